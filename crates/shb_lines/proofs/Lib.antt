@@ -8,9 +8,10 @@ pub mod TakingLemmas
 pub mod Scanning
 pub mod FirstFault
 pub mod Held
+pub mod Numbers
 pub mod CutText
 pub mod GrammarLaw
-pub mod Conflicts
+pub mod ConflictTests
 pub mod Counts
 pub mod Decide
 pub mod Events

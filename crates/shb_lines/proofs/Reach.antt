@@ -12,7 +12,7 @@ use Rattle.shb_lines.specs.Tests.{is_hb_rule, is_conflict, forks_thread}
 use Rattle.shb_lines.specs.Reach.{any_below, numbers_where, of_thread, writes_at, forks_at, both_events, is_last_write, is_shb_edge, is_shb_below, is_pred, is_below_pred, is_race}
 use Rattle.shb_lines.specs.Order.{HbRule, HbEdge, LastWrite, ShbEdge, happens_before, read_from, here, step, ShbBelow, IsPred, in_thread, by_fork, BelowPred}
 use Rattle.shb_lines.specs.Race.{Conflict, Race, variable_at}
-use Rattle.shb_lines.proofs.Conflicts.{conflict_from_test, test_from_conflict}
+use Rattle.shb_lines.proofs.ConflictTests.{conflict_from_test, test_from_conflict}
 use Rattle.shb_lines.proofs.Decide.{rule_from_test, test_from_rule, rule_ends, path_cases, forks_thread_true}
 use Rattle.shb_lines.proofs.Events.{event_of_thread, event_of_op}
 use Rattle.shb_lines.proofs.Listed.{IsListed, listed_none, listed_more_yes, listed_more_no}
@@ -69,8 +69,8 @@ reflect_any f P n each = (
 
 reflect_none : (f g : ℕ → Bool) (P : ℕ → Type 0) (low n : ℕ) → ((k : ℕ) → Reflects (g k) (P k)) → Reflects (not (any_below (λ k. nat_lt low k && g k) n)) ((k : ℕ) → low < k → k < n → P k → ⊥)
 reflect_none f g P low n each = reflect_same _ _ _
-  (reflect_not _ _ (reflect_any (λ k. nat_lt low k && g k) (λ k. (low < k) × P k) n (λ k. reflect_and _ _ _ _ (reflect_lt low k) (each k))))
-  ((λ none k above below p. none (k, below, (above, p))), (λ none h. none h.0 h.2.0 h.1 h.2.1))
+    (reflect_not _ _ (reflect_any (λ k. nat_lt low k && g k) (λ k. (low < k) × P k) n (λ k. reflect_and _ _ _ _ (reflect_lt low k) (each k))))
+    ((λ none k above below p. none (k, below, (above, p))), (λ none h. none h.0 h.2.0 h.1 h.2.1))
 
 -- the numbers that pass are listed
 pub numbers_listed : (f : ℕ → Bool) (n : ℕ) → IsListed (λ k. f k ≡ true) n (numbers_where f n)
@@ -197,8 +197,8 @@ reflect_pred trace p e = go (thread_at trace e) refl
 
     go : (o : Option ℕ) → thread_at trace e ≡ o → Reflects (is_pred trace p e o) (IsPred trace p e)
     go (Some t) is = reflect_same _ (Before trace p e t ⊎ Forked trace p e t) _ (reflect_or _ _ (Before trace p e t) (Forked trace p e t)
-      (reflect_and _ _ _ _ (reflect_of_thread trace t p) (reflect_and _ _ _ _ (reflect_lt p e) (reflect_none (of_thread trace t) (of_thread trace t) (λ k. thread_at trace k ≡ Some t) p e (reflect_of_thread trace t))))
-      (reflect_and _ _ _ _ (reflect_forks trace t p) (reflect_not _ _ (reflect_any (of_thread trace t) (λ k. thread_at trace k ≡ Some t) e (reflect_of_thread trace t))))) (forth t is, back t is)
+        (reflect_and _ _ _ _ (reflect_of_thread trace t p) (reflect_and _ _ _ _ (reflect_lt p e) (reflect_none (of_thread trace t) (of_thread trace t) (λ k. thread_at trace k ≡ Some t) p e (reflect_of_thread trace t))))
+        (reflect_and _ _ _ _ (reflect_forks trace t p) (reflect_not _ _ (reflect_any (of_thread trace t) (λ k. thread_at trace k ≡ Some t) e (reflect_of_thread trace t))))) (forth t is, back t is)
     go None is = ((λ h. absurd (let f : ⊥ = cc in f)), (λ pred. absurd (no_thread is pred)))
 
 pub reflect_below_pred : (trace : List Event) (a e : ℕ) → Reflects (is_below_pred trace a e) (BelowPred trace a e)

@@ -5,6 +5,7 @@ pub mod Limits
 pub mod Names
 pub mod Text
 pub mod Faults
+pub mod Words
 pub mod Reader
 pub mod Parsed
 pub mod Progress

@@ -1,0 +1,67 @@
+//! Which events conflict: accesses of one variable by different threads, at least one a write.
+ghost use Rattle.std.specs.Prelude.{◌≡◌, ◌<◌, ◌↔◌, IsTrue, length};
+ghost use Rattle.shb_lines.specs.Events.{variable_of};
+ghost use Rattle.shb_lines.specs.Race.{Conflict};
+ghost use Rattle.shb_lines.specs.Tests.{is_conflict, is_write, same_variable};
+
+use crate::event::{Event, Op};
+use crate::trace::Trace;
+
+/// The variable that an operation reads or writes, if it is an access.
+pub fn variable(op: Op) -> Option<u32>
+    ensures { result ≡ variable_of op }
+{
+    match op {
+        Op::Read(x) => Some(x),
+        Op::Write(x) => Some(x),
+        _ => None,
+    }
+}
+
+/// Whether an operation is a write.
+fn writes(op: Op) -> bool
+    ensures { result ≡ is_write op }
+{
+    match op {
+        Op::Write(_) => true,
+        _ => false,
+    }
+}
+
+/// Whether both are variables, and the same one.
+fn equal_variables(first: Option<u32>, second: Option<u32>) -> bool
+    ensures { result ≡ same_variable first second }
+{
+    match (first, second) {
+        (Some(x), Some(y)) => x == y,
+        _ => false,
+    }
+}
+
+/// Whether two events conflict: they access one variable, their threads differ, and at least one of
+/// them writes (conflicting events as in the OOPSLA 2018 paper of Mathur, Kini and Viswanathan).
+pub fn events_conflict(first: Event, second: Event) -> bool
+    ensures { result ≡ is_conflict first second }
+{
+    equal_variables(variable(first.op), variable(second.op))
+        && (writes(first.op) || writes(second.op))
+        && !(first.thread == second.thread)
+}
+
+/// Whether two events of a list conflict, by their positions from 0.
+pub fn events_conflict_at(events: &[Event], first: u32, second: u32) -> bool
+    requires first { first < length events.now }
+    requires second { second < length events.now }
+    ensures { IsTrue result ↔ Conflict events.now first second }
+{
+    events_conflict(events[first as usize], events[second as usize])
+}
+
+/// Whether two events of a trace conflict, by their numbers from 0.
+pub fn conflicts(trace: &Trace, first: u32, second: u32) -> bool
+    requires first { first < length trace.now.events }
+    requires second { second < length trace.now.events }
+    ensures { IsTrue result ↔ Conflict trace.now.events first second }
+{
+    events_conflict_at(trace.events(), first, second)
+}
