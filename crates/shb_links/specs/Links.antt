@@ -1,23 +1,36 @@
--- What the tables of links hold, for the first n events.
-use Rattle.std.specs.Prelude.{◌≡◌, ℕ, ◌<◌, List, Option, Some, None, length, slice_index_or}
+-- What the tables of links hold.
+use Rattle.std.specs.Prelude.{◌≡◌, ℕ, zero, suc, ◌<◌, ◌≤◌, List, Option, Some, None, length, slice_index_or}
 use Rattle.shb_lines.specs.declared.event.Event.{Event}
 use Rattle.shb_lines.specs.Events.{thread_at}
 use Rattle.shb_lines.specs.Discipline.{place_in_thread}
-use Rattle.shb_lines.specs.Order.{IsPred, LastWrite}
+use Rattle.shb_lines.specs.Order.{IsPred, LastWrite, IsNumberOf}
 use Rattle.shb_links.specs.Latest.{ForksThread}
 
+-- the position that a number stands for: one less than it, and none for 0
+abbrev pub link_from : ℕ → Option ℕ
+link_from zero = None
+link_from (suc p) = Some p
+
+-- a position that has the property, or None exactly where no position has it
 abbrev pub Exactly : (ℕ → Type 0) → Option ℕ → Type 0
 Exactly P (Some k) = P k
 Exactly P None = (k : ℕ) → ¬ P k
 
+-- n is how many events of the thread of the event at e stand at e or before it
+abbrev pub IsLocal : List Event → ℕ → ℕ → Type 0
+IsLocal trace e n = IsNumberOf (λ k. (k ≤ e) × (thread_at trace k ≡ thread_at trace e)) n
+
+-- the places in their threads, from 1, of the first n events
 pub record HasLocals (trace : List Event) (n : ℕ) (locals : List ℕ) : Type 0 where
   pub as_long : length locals ≡ n
   pub each : (e t : ℕ) → e < n → thread_at trace e ≡ Some t → slice_index_or locals e 0 ≡ place_in_thread trace t e
 
+-- the predecessors of the first n events
 pub record HasPreds (trace : List Event) (n : ℕ) (preds : List (Option ℕ)) : Type 0 where
   pub as_long : length preds ≡ n
   pub each : (e : ℕ) → e < n → Exactly (λ p. IsPred trace p e) (slice_index_or preds e None)
 
+-- the last writes of the first n events
 pub record HasLastWrites (trace : List Event) (n : ℕ) (writes : List (Option ℕ)) : Type 0 where
   pub as_long : length writes ≡ n
   pub each : (e : ℕ) → e < n → Exactly (λ w. LastWrite trace w e) (slice_index_or writes e None)
@@ -25,3 +38,10 @@ pub record HasLastWrites (trace : List Event) (n : ℕ) (writes : List (Option �
 -- the forks of all threads, of which those past the table's end have none
 pub record HasForks (trace : List Event) (forks : List (Option ℕ)) : Type 0 where
   pub each : (t : ℕ) → Exactly (ForksThread trace t) (slice_index_or forks t None)
+
+-- the links of the whole trace
+pub record HasLinks (trace : List Event) (locals : List ℕ) (preds writes forks : List (Option ℕ)) : Type 0 where
+  pub places : HasLocals trace (length trace) locals
+  pub predecessors : HasPreds trace (length trace) preds
+  pub last_writes : HasLastWrites trace (length trace) writes
+  pub forks_of_threads : HasForks trace forks

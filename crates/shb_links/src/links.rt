@@ -1,30 +1,30 @@
 //! The links of a trace: places in threads, predecessors, last writes and forks.
 
-ghost use Rattle.std.specs.Prelude.{◌≡◌, ℕ, ◌<◌, ◌+◌, ◌^◌, List, Option, Some, None, IfSome, IfOk, IfNone, length};
-ghost use Rattle.std.specs.Option.{option_or};
+ghost use Rattle.std.specs.Prelude.{◌≡◌, ℕ, ◌<◌, ◌≤◌, ◌+◌, List, Option, Some, None, IfOk, length};
 ghost use Rattle.shb_lines.specs.declared.event.Event.{Event};
-ghost use Rattle.shb_lines.specs.declared.event.Op.TheVariants.{Fork};
 ghost use Rattle.shb_lines.specs.Discipline.{place_in_thread};
 ghost use Rattle.shb_lines.specs.Order.{IsPred, LastWrite};
-ghost use Rattle.shb_lines.specs.Events.{thread_at, op_at};
-ghost use Rattle.shb_links.specs.Latest.{Latest, IsLatestTable, OfThread, WritesVariable, ForksThread};
-ghost use Rattle.shb_links.specs.Links.{Exactly, HasLocals, HasPreds, HasLastWrites, HasForks};
+ghost use Rattle.shb_lines.specs.Events.{thread_at};
 ghost use Rattle.shb_lines.specs.Sizes.{IsWithin};
+ghost use Rattle.shb_links.specs.Latest.{IsLatestTable, OfThread, WritesVariable, ForksThread};
+ghost use Rattle.shb_links.specs.Links.{Exactly, IsLocal, HasLocals, HasLinks};
 
 use crate::latest::empty_table;
+use crate::link::Link;
 use shb_discipline::Disciplined;
-use shb_lines::{Event, Op, Sizes};
 use shb_io::NoMemory;
+use shb_lines::{Event, Op, Sizes};
 use std::alloc::Global;
 use std::marker::Model;
 
-/// The links of a trace. It is seen as the trace.
+/// The links of a trace. Contracts see it as the list of the trace's events, since that list fixes
+/// every link.
 #[derive(Drop)]
 pub struct Links<'a> {
     trace: &'a Disciplined<'a>,
     locals: Vec<u32>,
-    preds: Vec<Option<u32>>,
-    last_writes: Vec<Option<u32>>,
+    preds: Vec<Link>,
+    last_writes: Vec<Link>,
     forks: Vec<Option<u32>>,
 }
 
@@ -33,27 +33,32 @@ impl<'a> Model for Links<'a> {
 
     ghost view = { λ l. l.trace.now.events.now };
 
-    ghost invariant = { λ l. HasLocals l.trace.now.events.now (length l.trace.now.events.now) l.locals.items × HasPreds l.trace.now.events.now (length l.trace.now.events.now) l.preds.items × HasLastWrites l.trace.now.events.now (length l.trace.now.events.now) l.last_writes.items × HasForks l.trace.now.events.now l.forks.items };
+    ghost invariant = { λ l. HasLinks l.trace.now.events.now l.locals.items l.preds.items l.last_writes.items l.forks.items };
 }
 
 impl<'a> Links<'a> {
-    /// The place of an event in its thread, from 1.
+    /// The place of event `e` in its thread: how many events of that thread stand at `e` or before
+    /// it, so 1 for the thread's first event.
     pub fn local(&self, e: u32) -> u32
         requires { e < length self.now }
-        ensures { (t : ℕ) → thread_at self.now e ≡ Some t → result ≡ place_in_thread self.now t e }
+        ensures place { (t : ℕ) → thread_at self.now e ≡ Some t → result ≡ place_in_thread self.now t e }
+        ensures number { IsLocal self.now e result }
     {
         self.locals[e as usize]
     }
 
-    /// The event before e in its thread or, for a thread's first event, its fork.
+    /// The predecessor of event `e`: the event before `e` in its thread or, where `e` is the first
+    /// of its thread, the fork of that thread. `None` exactly where `e` has neither. That a fork
+    /// precedes the first event of its thread is this project's profile.
     pub fn pred(&self, e: u32) -> Option<u32>
         requires { e < length self.now }
         ensures { Exactly (λ p. IsPred self.now p e) result }
     {
-        self.preds[e as usize]
+        self.preds[e as usize].position()
     }
 
-    /// The fork of a thread.
+    /// The fork of thread `t`. `None` exactly where no event forks it, as for every number that
+    /// names no thread.
     pub fn forked_by(&self, t: u32) -> Option<u32>
         ensures { Exactly (ForksThread self.now t) result }
     {
@@ -63,53 +68,59 @@ impl<'a> Links<'a> {
         }
     }
 
-    /// The write that a read reads from.
+    /// The last write of event `e`: where `e` reads a variable, the latest earlier write of that
+    /// variable, by any thread. `None` exactly where there is none, as for every event that is no
+    /// read.
     pub fn last_write(&self, e: u32) -> Option<u32>
         requires { e < length self.now }
         ensures { Exactly (λ w. LastWrite self.now w e) result }
     {
-        self.last_writes[e as usize]
+        self.last_writes[e as usize].position()
     }
 }
 
-/// The place in its thread of an event, from that of the last event of the thread.
-fn next_local(events: &[Event], locals: &[u32], last: Option<u32>, e: u32) -> u32
+/// The place of an event in its thread, from the places before it and the last event of each thread.
+fn next_local(events: &[Event], sizes: Sizes, locals: &[u32], last: &[Option<u32>], e: u32) -> u32
     requires in_range { e < length events.now }
-    requires small { length events.now < 2 ^ 32 }
+    requires few { length events.now ≤ 4194304 }
+    requires within { IsWithin events.now sizes }
     requires locals { HasLocals events.now e locals.now }
-    requires last { (t : ℕ) → thread_at events.now e ≡ Some t → Latest (OfThread events.now t) e last }
+    requires last { IsLatestTable (OfThread events.now) e sizes.threads last.now }
     ensures { (t : ℕ) → thread_at events.now e ≡ Some t → result ≡ place_in_thread events.now t e }
 {
-    match last {
+    match last[events[e as usize].thread as usize] {
         Some(p) => locals[p as usize] + 1,
         None => 1,
     }
 }
 
-/// The predecessor of an event, from the last event and the fork of its thread.
-fn pred_from(last: Option<u32>, fork: Option<u32>) -> Option<u32>
-    ensures { result ≡ option_or last fork }
+/// The predecessor of an event, from the last event and the fork of each thread.
+fn pred_of(trace: &Disciplined<'_>, last: &[Option<u32>], forks: &[Option<u32>], e: u32) -> Link
+    requires in_range { e < length trace.now.events.now }
+    requires last { IsLatestTable (OfThread trace.now.events.now) e trace.now.sizes.threads last.now }
+    requires forks { IsLatestTable (ForksThread trace.now.events.now) e trace.now.sizes.threads forks.now }
+    ensures { Exactly (λ p. IsPred trace.now.events.now p e) result }
 {
-    match last {
-        Some(p) => Some(p),
-        None => fork,
-    }
+    let thread = trace.events[e as usize].thread as usize;
+    Link::new(last[thread].or(forks[thread]))
 }
 
-/// The write that a read reads from, from the last write of each variable.
-fn last_write_from(events: &[Event], sizes: Sizes, writes: &[Option<u32>], e: u32) -> Option<u32>
+/// The write that an event reads from, from the last write of each variable.
+fn last_write_of(events: &[Event], sizes: Sizes, writes: &[Option<u32>], e: u32) -> Link
     requires in_range { e < length events.now }
+    requires few { length events.now ≤ 4194304 }
     requires within { IsWithin events.now sizes }
     requires writes { IsLatestTable (WritesVariable events.now) e sizes.variables writes.now }
     ensures { Exactly (λ w. LastWrite events.now w e) result }
 {
     match events[e as usize].op {
-        Op::Read(variable) => writes[variable as usize],
-        _ => None,
+        Op::Read(variable) => Link::new(writes[variable as usize]),
+        _ => Link::new(None),
     }
 }
 
-/// Notes the event as the last of its thread.
+/// Notes event `e` as the last of its thread, in a table of the last event of each thread before
+/// `e`.
 pub fn note_thread(events: &[Event], sizes: Sizes, last: &mut Vec<Option<u32>>, e: u32)
     requires in_range { e < length events.now }
     requires within { IsWithin events.now sizes }
@@ -143,28 +154,25 @@ fn note_fork(events: &[Event], sizes: Sizes, forks: &mut Vec<Option<u32>>, e: u3
     }
 }
 
-/// The links of a trace, by one forward pass.
-pub fn links_of<'a>(
-    alloc: Global,
-    trace: &'a Disciplined<'a>,
-) -> Result<Links<'a>, NoMemory>
+/// The links of a trace, by one forward pass, in twelve bytes an event. `NoMemory` where memory was
+/// refused.
+pub fn links_of<'a>(alloc: Global, trace: &'a Disciplined<'a>) -> Result<Links<'a>, NoMemory>
     ensures { IfOk result (λ links. links ≡ trace.now.events.now) }
 {
-    let sizes = trace.sizes;
+    let (events, sizes) = (trace.events, trace.sizes);
     let mut last = empty_table(alloc, sizes.threads)?;
     let mut writes = empty_table(alloc, sizes.variables)?;
     let mut forks = empty_table(alloc, sizes.threads)?;
-    let mut locals = Vec::new(alloc);
-    let mut preds = Vec::new(alloc);
-    let mut last_writes = Vec::new(alloc);
-    for e in 0..trace.events.len() as u32 {
-        let thread = trace.events[e as usize].thread as usize;
-        locals.push(next_local(trace.events, locals.as_slice(), last[thread], e))?;
-        preds.push(pred_from(last[thread], forks[thread]))?;
-        last_writes.push(last_write_from(trace.events, sizes, writes.as_slice(), e))?;
-        note_thread(trace.events, sizes, &mut last, e);
-        note_write(trace.events, sizes, &mut writes, e);
-        note_fork(trace.events, sizes, &mut forks, e);
+    let mut locals = Vec::with_capacity(alloc, events.len())?;
+    let mut preds = Vec::with_capacity(alloc, events.len())?;
+    let mut last_writes = Vec::with_capacity(alloc, events.len())?;
+    for e in 0..events.len() as u32 {
+        locals.push(next_local(events, sizes, locals.as_slice(), last.as_slice(), e))?;
+        preds.push(pred_of(trace, last.as_slice(), forks.as_slice(), e))?;
+        last_writes.push(last_write_of(events, sizes, writes.as_slice(), e))?;
+        note_thread(events, sizes, &mut last, e);
+        note_write(events, sizes, &mut writes, e);
+        note_fork(events, sizes, &mut forks, e);
     }
     Ok(Links {
         trace,

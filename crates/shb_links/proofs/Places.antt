@@ -1,0 +1,35 @@
+-- The place of an event in its thread, as a number of events.
+use Rattle.std.proofs.Common.{◌≡◌, ℕ, zero, suc, ◌+◌, ◌<◌, ◌≤◌, ◌⊎◌, inl, inr, true, false, List, Some, length, take, arith, sym, ◌∙◌, ap, add-one}
+use Rattle.std.specs.Prelude.{count_by, slice_get}
+use Rattle.std.proofs.lemmas.Bool.{cases_Bool}
+use Rattle.std.proofs.lemmas.Option.{slice_get_cases}
+use Rattle.shb_lines.specs.declared.event.Event.{Event}
+use Rattle.shb_lines.specs.Events.{thread_at}
+use Rattle.shb_lines.specs.Discipline.{is_of, place_in_thread}
+use Rattle.shb_lines.specs.Order.{IsNumberOf}
+use Rattle.shb_lines.proofs.Counts.{count_more_yes, count_more_no}
+use Rattle.shb_lines.proofs.Events.{thread_is, is_of_true}
+use Rattle.shb_lines.proofs.Listed.{number_none, number_more_yes, number_more_no, number_same}
+use Rattle.shb_lines.proofs.Prefix.{is_of_thread}
+use Rattle.shb_links.specs.Latest.{OfThread}
+use Rattle.shb_links.specs.Links.{IsLocal}
+
+-- one more event, of the thread or of another
+number_more : (trace : List Event) (t n : ℕ) (d : Event) → slice_get trace n ≡ Some d → (is_of t d ≡ true) ⊎ (is_of t d ≡ false) → IsNumberOf (λ k. (k < n) × OfThread trace t k) (count_by (is_of t) (take n trace)) → IsNumberOf (λ k. (k < n + 1) × OfThread trace t k) (count_by (is_of t) (take (n + 1) trace))
+number_more trace t n d at (inl is) before = rw (count_more_yes (is_of t) trace n d at is) (number_more_yes (OfThread trace t) n _ (thread_is trace n d at ∙ ap (λ u. Some u) (is_of_thread t d is)) before)
+number_more trace t n d at (inr other) before = rw (count_more_no (is_of t) trace n d at other) (number_more_no (OfThread trace t) n _ (λ of_n. let same : Some d.thread ≡ Some t = sym (thread_is trace n d at) ∙ of_n in let passes = is_of_true t d (let g : d.thread ≡ t = cc in g) in (let f : ⊥ = cc in f)) before)
+
+-- the count of a thread's events before n is how many there are
+count_is_number : (trace : List Event) (t n : ℕ) → n ≤ length trace → IsNumberOf (λ k. (k < n) × OfThread trace t k) (count_by (is_of t) (take n trace))
+count_is_number trace t zero le = number_none (OfThread trace t)
+count_is_number trace t (suc n) le = elim (slice_get_cases trace n).1 [
+  | inl c ↦ rw add-one at (number_more trace t n c.0 c.2 (cases_Bool (is_of t c.0)) (count_is_number trace t n (omega arith)))
+  | inr c ↦ (let past = c.0 in absurd (omega arith))
+]
+
+-- the place of an event in its thread is how many events of the thread stand at it or before it
+pub place_is_number : (trace : List Event) (e t : ℕ) → e < length trace → thread_at trace e ≡ Some t → IsLocal trace e (place_in_thread trace t e)
+place_is_number trace e t lt of_e = number_same _ _ _ (λ k. (
+  (λ h. ((let below = h.0 in omega arith), h.1 ∙ sym of_e)),
+  (λ h. ((let le = h.0 in omega arith), h.1 ∙ of_e)),
+)) (count_is_number trace t (e + 1) (omega arith))

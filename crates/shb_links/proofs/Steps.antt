@@ -1,0 +1,97 @@
+-- What the pass finds of one event.
+use Rattle.std.proofs.Common.{◌≡◌, ◌≢◌, ℕ, ◌+◌, ◌<◌, ◌≤◌, ◌⊎◌, inl, inr, true, false, List, Option, Some, None, length, get_or, take, arith, subst, ap, sym, ◌∙◌}
+use Rattle.std.specs.Prelude.{count_by, slice_get}
+use Rattle.std.specs.Option.{option_or}
+use Rattle.std.proofs.lemmas.Bool.{cases_Bool}
+use Rattle.std.proofs.lemmas.List.{length-take}
+use Rattle.std.proofs.lemmas.List.Sums.{count_by-le-length}
+use Rattle.std.proofs.lemmas.Option.{slice_get-get_or}
+use Rattle.shb_lines.specs.declared.event.Event.{Event}
+use Rattle.shb_lines.specs.declared.event.Op.TheVariants.{Read, Fork}
+use Rattle.shb_lines.specs.Events.{thread_at, op_at}
+use Rattle.shb_lines.specs.Discipline.{IsDisciplined, is_of, place_in_thread}
+use Rattle.shb_lines.specs.Order.{IsPred, in_thread, by_fork, LastWrite}
+use Rattle.shb_lines.proofs.Counts.{count_more_yes, count_gap}
+use Rattle.shb_lines.proofs.Events.{thread_is, event_of_thread, is_of_true, fork_earlier}
+use Rattle.shb_lines.proofs.Prefix.{is_of_thread}
+use Rattle.shb_lines.proofs.Items.{thread_item, op_item}
+use Rattle.shb_links.proofs.Tables.{thread_alone, op_within}
+use Rattle.shb_links.specs.Latest.{IsLatestBefore, Latest, IsLatestTable, OfThread, WritesVariable, ForksThread}
+use Rattle.shb_links.specs.Links.{Exactly, HasLocals}
+use Rattle.shb_lines.specs.Sizes.{IsWithin}
+use Rattle.shb_lines.specs.declared.event.Sizes.{Sizes}
+
+pub place_bound : (trace : List Event) (t e : ℕ) → place_in_thread trace t e ≤ e + 1
+place_bound trace t e =
+    let all = count_by-le-length (is_of t) (take (e + 1) trace) in
+    let front = length-take {A = Event} (e + 1) trace in
+    omega (arith, all, front)
+
+-- the place of an event, from the last event of its thread
+module _ (trace : List Event) (e t : ℕ) (of_e : thread_at trace e ≡ Some t) where
+  place_here : place_in_thread trace t e ≡ count_by (is_of t) (take e trace) + 1
+  place_here = let d = event_of_thread trace e t of_e in count_more_yes (is_of t) trace e d.0 d.1 (is_of_true t d.0 d.2)
+
+  none_of : (a : ℕ) → ((m : ℕ) → a ≤ m → m < e → thread_at trace m ≢ Some t) → a ≤ e → count_by (is_of t) (take e trace) ≡ count_by (is_of t) (take a trace)
+  none_of a none le = count_gap (is_of t) trace a e le (λ k d low high at_k. other k d low high at_k (cases_Bool (is_of t d)))
+    where
+      other : (k : ℕ) (d : Event) → a ≤ k → k < e → slice_get trace k ≡ Some d → (is_of t d ≡ true) ⊎ (is_of t d ≡ false) → is_of t d ≡ false
+      other k d low high at_k (inr fails) = fails
+      other k d low high at_k (inl is) = absurd (none k low high (thread_is trace k d at_k ∙ ap (λ x. Some x) (is_of_thread t d is)))
+
+  pub place_first : ((m : ℕ) → m < e → thread_at trace m ≢ Some t) → place_in_thread trace t e ≡ 1
+  place_first none = let gap = none_of 0 (λ m low high. none m high) (omega arith) in let own = place_here in omega (arith, gap, own)
+
+  pub place_after : (p : ℕ) → IsLatestBefore (OfThread trace t) e p → place_in_thread trace t e ≡ place_in_thread trace t p + 1
+  place_after p latest = let gap = none_of (p + 1) (λ m low high. latest.last m (omega arith) high) (let lt = latest.earlier in omega arith) in let own = place_here in omega (arith, gap, own)
+
+  pub pred_link : IsDisciplined trace → (last fork : Option ℕ) → Latest (OfThread trace t) e last → Latest (ForksThread trace t) e fork → Exactly (λ p. IsPred trace p e) (option_or last fork)
+  pred_link disciplined (Some p) fork latest forks = in_thread t latest.holds of_e latest.earlier latest.last
+  pred_link disciplined None (Some f) none latest = by_fork t latest.holds of_e none
+  pred_link disciplined None None none no_fork = λ p pred. refuse p pred
+    where
+      refuse : (p : ℕ) → IsPred trace p e → ⊥
+      refuse p (in_thread u of_p of_e' lt last) = let same : u ≡ t = cc in none p lt (rw (← same) of_p)
+      refuse p (by_fork u forks of_e' last) =
+          let same : u ≡ t = cc in
+          let forks_t : op_at trace p ≡ Some (Fork t) = rw (← same) forks in
+          no_fork p (fork_earlier trace disciplined t p e forks_t of_e) forks_t
+
+-- the last write of a read, and of what is no read
+pub write_link : (trace : List Event) (e x : ℕ) → op_at trace e ≡ Some (Read x) → (o : Option ℕ) → Latest (WritesVariable trace x) e o → Exactly (λ w. LastWrite trace w e) o
+write_link trace e x reads (Some w) latest = record { variable = x; reads = reads; writes = latest.holds; earlier = latest.earlier; latest = latest.last }
+write_link trace e x reads None none = λ w last. (let a = last.reads in let same : last.variable ≡ x = cc in none w last.earlier (rw (← same) last.writes))
+
+-- the entry of an event's thread in a table of latest positions
+pub thread_entry : (P : ℕ → ℕ → Type 0) (trace : List Event) (sizes : Sizes) (table : List (Option ℕ)) (e t : ℕ) (d : Event) → IsWithin trace sizes → e < length trace → IsLatestTable P e sizes.threads table → thread_at trace e ≡ Some t → Latest (P t) e (get_or table (get_or trace e d).thread None)
+thread_entry P trace sizes table e t d within lt has of_e =
+    let same : (get_or trace e d).thread ≡ t = thread_alone trace e t (get_or trace e d).thread of_e (thread_item trace e d lt) in
+    subst (λ (u : ℕ). Latest (P u) e (get_or table (get_or trace e d).thread None)) same (has.each (get_or trace e d).thread (within e (get_or trace e d) (slice_get-get_or trace e d lt)).thread)
+
+-- what the pass finds of the event at e, from the tables of what stands before it
+module _ (trace : List Event) (sizes : Sizes) (e : ℕ) (d : Event) (within : IsWithin trace sizes) (lt : e < length trace) where
+  pub place_next : (locals : List ℕ) (last : List (Option ℕ)) (p : ℕ) → HasLocals trace e locals → IsLatestTable (OfThread trace) e sizes.threads last → get_or last (get_or trace e d).thread None ≡ Some p → (t : ℕ) → thread_at trace e ≡ Some t → get_or locals p 0 + 1 ≡ place_in_thread trace t e
+  place_next locals last p places has is t of_e =
+      let latest : IsLatestBefore (OfThread trace t) e p = subst (λ (o : Option ℕ). Latest (OfThread trace t) e o) is (thread_entry (OfThread trace) trace sizes last e t d within lt has of_e) in
+      let known = places.each p t latest.earlier latest.holds in
+      let after = place_after trace e t of_e p latest in
+      omega (arith, known, after)
+
+  pub place_start : (last : List (Option ℕ)) → IsLatestTable (OfThread trace) e sizes.threads last → get_or last (get_or trace e d).thread None ≡ None → (t : ℕ) → thread_at trace e ≡ Some t → 1 ≡ place_in_thread trace t e
+  place_start last has is t of_e = sym (place_first trace e t of_e (subst (λ (o : Option ℕ). Latest (OfThread trace t) e o) is (thread_entry (OfThread trace) trace sizes last e t d within lt has of_e)))
+
+  pub place_small : (locals : List ℕ) (last : List (Option ℕ)) (p : ℕ) → HasLocals trace e locals → IsLatestTable (OfThread trace) e sizes.threads last → get_or last (get_or trace e d).thread None ≡ Some p → get_or locals p 0 < length trace
+  place_small locals last p places has is =
+      let next = place_next locals last p places has is (get_or trace e d).thread (thread_item trace e d lt) in
+      let low = place_bound trace (get_or trace e d).thread e in
+      omega (arith, next, low, lt)
+
+  pub pred_found : (last forks : List (Option ℕ)) → IsDisciplined trace → IsLatestTable (OfThread trace) e sizes.threads last → IsLatestTable (ForksThread trace) e sizes.threads forks → Exactly (λ p. IsPred trace p e) (option_or (get_or last (get_or trace e d).thread None) (get_or forks (get_or trace e d).thread None))
+  pred_found last forks disciplined has has_forks =
+      let of_e = thread_item trace e d lt in
+      pred_link trace e (get_or trace e d).thread of_e disciplined _ _ (thread_entry (OfThread trace) trace sizes last e _ d within lt has of_e) (thread_entry (ForksThread trace) trace sizes forks e _ d within lt has_forks of_e)
+
+  pub write_found : (writes : List (Option ℕ)) (x : ℕ) → IsLatestTable (WritesVariable trace) e sizes.variables writes → (get_or trace e d).op ≡ Read x → Exactly (λ w. LastWrite trace w e) (get_or writes x None)
+  write_found writes x has is =
+      let low : x < sizes.variables = op_within trace sizes e d (Read x) within lt is in
+      write_link trace e x (op_item trace e d lt ∙ ap (λ o. Some o) is) (get_or writes x None) (has.each x low)
