@@ -1,0 +1,4 @@
+pub mod Fronts
+pub mod Marks
+pub mod Past
+pub mod Rows

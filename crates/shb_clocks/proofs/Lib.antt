@@ -1,0 +1,5 @@
+pub mod Fronts
+pub mod Locals
+pub mod MarksLemmas
+pub mod PastLemmas
+pub mod Sources

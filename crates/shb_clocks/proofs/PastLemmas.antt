@@ -1,0 +1,262 @@
+-- One step of the sweep: rows of clocks, lock clocks, and the clock of an event.
+use Rattle.std.proofs.Common.{◌≡◌, ◌≢◌, ℕ, suc, ◌+◌, ◌*◌, ◌<◌, ◌≤◌, ◌⊎◌, inl, inr, List, [], ◌++◌, Option, Some, None, length, get_or, take, drop, arith, subst, ap, sym, ◌∙◌, refl, get_or-set_same, get_or-set_other, length-drop, length-append}
+use Rattle.std.specs.Prelude.{◌↔◌, max, replicate}
+use Rattle.std.proofs.Math.ListN.{set, length-set, length-replicate, get_or-replicate}
+use Rattle.std.proofs.Math.Nat.{mul-le-mul_right, suc-mul}
+use Rattle.std.proofs.lemmas.Bool.{cases_lt, cases_eq}
+use Rattle.std.proofs.lemmas.List.{take-append-le, drop-append-le, length-take-le, take_all, get_or_past, get_or_read}
+use Rattle.std.proofs.Math.Seq.{drop-append_seam}
+use Rattle.std.proofs.lemmas.Option.{slice_get-get_or}
+use Rattle.shb_lines.specs.declared.event.Event.{Event}
+use Rattle.shb_lines.specs.declared.event.Op.{Op}
+use Rattle.shb_lines.specs.declared.event.Op.TheVariants.{Read, Acquire, Release, Join}
+use Rattle.shb_lines.specs.Events.{thread_at, op_at}
+use Rattle.shb_lines.specs.Discipline.{IsDisciplined, place_in_thread}
+use Rattle.shb_lines.specs.Order.{LastWrite, ShbBelow, here, step, same_thread, happens_before, IsPred, BelowPred, IsBelowPredCount}
+use Rattle.shb_lines.proofs.Decide.{pred_unique, last_write_unique}
+use Rattle.shb_lines.proofs.Schedulable.{pred_earlier}
+use Rattle.shb_links.specs.Latest.{IsLatestBefore, Latest, IsLatestTable, OfThread}
+use Rattle.shb_links.specs.Links.{Exactly}
+use Rattle.shb_lines.specs.Sizes.{IsOpWithin, IsWithin}
+use Rattle.shb_lines.specs.declared.event.Sizes.{Sizes}
+use Rattle.shb_lines.proofs.Items.{thread_item, op_item}
+use Rattle.shb_clocks.specs.Fronts.{IsFront, BelowRelease, BelowThread, BelowLastWrite, Learns, by_acquire, by_join, by_read, StrictlyBelow}
+use Rattle.shb_clocks.specs.Rows.{row_at}
+use Rattle.shb_clocks.specs.Past.{HasClocks, HasLockClocks}
+use Rattle.shb_clocks.proofs.Fronts.{front_none, front_same, front_join, front_own, number_from_front}
+use Rattle.shb_clocks.proofs.Sources.{path_append, strictly_below_below, below_cases}
+
+-- rows of a flat list
+pub row_end : (threads place n : ℕ) → place < n → place * threads + threads ≤ n * threads
+row_end threads place n lt =
+    let le = mul-le-mul_right {m = suc place} {n = n} threads (omega arith) in
+    let more = suc-mul place threads in
+    omega (arith, le, more)
+
+pub row_long : (threads place n : ℕ) (clocks : List ℕ) → place < n → length clocks ≡ n * threads → length (row_at threads clocks place) ≡ threads
+unfolding row_at
+row_long threads place n clocks lt long = length-take-le threads (drop (place * threads) clocks) (simp length-drop (let fits = row_end threads place n lt in omega (arith, fits, long)))
+
+row_kept : (threads place n : ℕ) (clocks more : List ℕ) → place < n → length clocks ≡ n * threads → row_at threads (clocks ++ more) place ≡ row_at threads clocks place
+unfolding row_at
+row_kept threads place n clocks more lt long =
+    let fits = row_end threads place n lt in
+    ap (take threads) (drop-append-le (place * threads) clocks more (omega (arith, fits, long))) ∙ take-append-le threads (drop (place * threads) clocks) more (simp length-drop (omega (arith, fits, long)))
+
+row_new : (threads n : ℕ) (clocks more : List ℕ) → length clocks ≡ n * threads → length more ≡ threads → row_at threads (clocks ++ more) n ≡ more
+unfolding row_at
+row_new threads n clocks more long wide =
+    let seam : drop (n * threads) (clocks ++ more) ≡ more = subst (λ (m : ℕ). drop m (clocks ++ more) ≡ more) long (drop-append_seam clocks more) in
+    ap (take threads) seam ∙ take_all threads more (omega (arith, wide))
+
+pub clocks_more : (trace : List Event) (n threads : ℕ) (clocks clock : List ℕ) → length clock ≡ threads → IsFront trace (λ k. ShbBelow trace k n) clock → HasClocks trace n threads clocks → HasClocks trace (n + 1) threads (clocks ++ clock)
+clocks_more trace n threads clocks clock wide front old = record {
+  as_long = length-append clocks clock ∙ (let long = old.as_long in let more = suc-mul n threads in let total : length clocks + length clock ≡ (n + 1) * threads = omega (arith, long, wide, more) in total);
+  each = λ e lt. go e lt (cases_lt e n);
+}
+  where
+    go : (e : ℕ) → e < n + 1 → (e < n) ⊎ (n ≤ e) → IsFront trace (λ k. ShbBelow trace k e) (row_at threads (clocks ++ clock) e)
+    go e lt (inl low) = subst (IsFront trace (λ k. ShbBelow trace k e)) (sym (row_kept threads e n clocks clock low old.as_long)) (old.each e low)
+    go e lt (inr le) =
+        let same : n ≡ e = omega arith in
+        subst (λ (x : ℕ). IsFront trace (λ k. ShbBelow trace k x) (row_at threads (clocks ++ clock) x)) same (subst (IsFront trace (λ k. ShbBelow trace k n)) (sym (row_new threads n clocks clock old.as_long wide)) front)
+
+-- releases before n + 1
+release_same : (trace : List Event) (l n k : ℕ) → op_at trace n ≢ Some (Release l) → BelowRelease trace l n k ↔ BelowRelease trace l (n + 1) k
+release_same trace l n k other = (
+  (λ h. record { release = h.release; releases = h.releases; earlier = (let lt = h.earlier in omega arith); below = h.below }),
+  (λ h. record { release = h.release; releases = h.releases; earlier = go h (cases_lt h.release n); below = h.below }),
+)
+  where
+    go : (h : BelowRelease trace l (n + 1) k) → (h.release < n) ⊎ (n ≤ h.release) → h.release < n
+    go h (inl lt) = lt
+    go h (inr le) = let at_n : h.release ≡ n = (let lt = h.earlier in omega (arith, lt, le)) in absurd (other (subst (λ (x : ℕ). op_at trace x ≡ Some (Release l)) at_n h.releases))
+
+release_more : (trace : List Event) (l n k : ℕ) → op_at trace n ≡ Some (Release l) → (BelowRelease trace l n k ⊎ ShbBelow trace k n) ↔ BelowRelease trace l (n + 1) k
+release_more trace l n k releases = (up, (λ h. down h (cases_lt h.release n)))
+  where
+    up : BelowRelease trace l n k ⊎ ShbBelow trace k n → BelowRelease trace l (n + 1) k
+    up (inl h) = record { release = h.release; releases = h.releases; earlier = (let lt = h.earlier in omega (arith, lt)); below = h.below }
+    up (inr path) = record { release = n; releases = releases; earlier = omega arith; below = path }
+
+    down : (h : BelowRelease trace l (n + 1) k) → (h.release < n) ⊎ (n ≤ h.release) → BelowRelease trace l n k ⊎ ShbBelow trace k n
+    down h (inl lt) = inl (record { release = h.release; releases = h.releases; earlier = lt; below = h.below })
+    down h (inr le) = let at_n : h.release ≡ n = (let lt = h.earlier in omega (arith, lt, le)) in inr (subst (λ (x : ℕ). ShbBelow trace k x) at_n h.below)
+
+pub locks_skip : (trace : List Event) (n threads locks : ℕ) (clocks : List (List ℕ)) → ((l : ℕ) → op_at trace n ≢ Some (Release l)) → HasLockClocks trace n threads locks clocks → HasLockClocks trace (n + 1) threads locks clocks
+locks_skip trace n threads locks clocks other old = record {
+  as_many = old.as_many;
+  as_long = old.as_long;
+  each = λ l lt. front_same trace (BelowRelease trace l n) (BelowRelease trace l (n + 1)) (get_or clocks l []) (λ k. release_same trace l n k (other l)) (old.each l lt);
+}
+
+pub locks_release : (trace : List Event) (n threads locks l : ℕ) (clocks : List (List ℕ)) (clock joined : List ℕ) → op_at trace n ≡ Some (Release l) → l < locks → length joined ≡ threads → ((t : ℕ) → get_or joined t 0 ≡ max (get_or (get_or clocks l []) t 0) (get_or clock t 0)) → IsFront trace (λ k. ShbBelow trace k n) clock → HasLockClocks trace n threads locks clocks → HasLockClocks trace (n + 1) threads locks (set clocks l joined)
+locks_release trace n threads locks l clocks clock joined releases lt long each front old = record {
+  as_many = length-set clocks l joined ∙ old.as_many;
+  as_long = λ m within. wide m within (cases_eq m l);
+  each = λ m within. go m within (cases_eq m l);
+}
+  where
+    there : get_or (set clocks l joined) l [] ≡ joined
+    there = get_or-set_same clocks l joined [] (let many = old.as_many in omega (arith, many, lt))
+
+    wide : (m : ℕ) → m < locks → (m ≡ l) ⊎ (m ≡ l → ⊥) → length (get_or (set clocks l joined) m []) ≡ threads
+    wide m within (inl is) = rw is (rw there long)
+    wide m within (inr ne) = rw (get_or-set_other clocks l m joined [] ne) (old.as_long m within)
+
+    go : (m : ℕ) → m < locks → (m ≡ l) ⊎ (m ≡ l → ⊥) → IsFront trace (BelowRelease trace m (n + 1)) (get_or (set clocks l joined) m [])
+    go m within (inl is) = subst (λ (x : ℕ). IsFront trace (BelowRelease trace x (n + 1)) (get_or (set clocks l joined) x [])) (sym is) (subst (IsFront trace (BelowRelease trace l (n + 1))) (sym there) (front_same trace _ (BelowRelease trace l (n + 1)) joined (λ k. release_more trace l n k releases) (front_join trace (BelowRelease trace l n) (λ k. ShbBelow trace k n) (get_or clocks l []) clock joined (old.each l lt) front each)))
+    go m within (inr ne) = subst (IsFront trace (BelowRelease trace m (n + 1))) (sym (get_or-set_other clocks l m joined [] ne)) (front_same trace (BelowRelease trace m n) (BelowRelease trace m (n + 1)) (get_or clocks m []) (λ k. release_same trace m n k (λ h. ne (let s : Some (Release m) ≡ Some (Release l) = sym h ∙ releases in cc))) (old.each m within))
+
+zero_entry : (n t : ℕ) → ◌≡◌ {A = ℕ} (get_or (replicate n 0) t 0) 0
+zero_entry n t = elim (cases_lt t n) [ inl lt ↦ get_or-replicate n t 0 0 lt | inr le ↦ get_or_past (replicate n 0) t 0 (let long = length-replicate {A = ℕ} n 0 in omega (arith, long, le)) ]
+
+pub locks_start : (trace : List Event) (threads locks : ℕ) (clocks : List (List ℕ)) → clocks ≡ replicate locks (replicate threads 0) → HasLockClocks trace 0 threads locks clocks
+locks_start trace threads locks clocks same = record {
+  as_many = ap length same ∙ length-replicate locks (replicate threads 0);
+  as_long = λ l lt. ap length (there l lt) ∙ length-replicate threads 0;
+  each = λ l lt. front_none trace (BelowRelease trace l 0) (get_or clocks l []) (λ k h. (let past = h.earlier in omega arith)) (λ t. ap (λ (xs : List ℕ). get_or xs t 0) (there l lt) ∙ zero_entry threads t);
+}
+  where
+    there : (l : ℕ) → l < locks → get_or clocks l [] ≡ replicate threads 0
+    there l lt = ap (λ (xs : List (List ℕ)). get_or xs l []) same ∙ get_or-replicate locks l (replicate threads 0) [] lt
+
+module _ (trace : List Event) (disciplined : IsDisciplined trace) (e : ℕ) where
+  pub front_pred : (p : ℕ) (clock : List ℕ) → IsPred trace p e → IsFront trace (λ k. ShbBelow trace k p) clock → IsFront trace (λ k. BelowPred trace k e) clock
+  front_pred p clock pred front = front_same trace (λ k. ShbBelow trace k p) (λ k. BelowPred trace k e) clock (λ k. ((λ path. (p, pred, path)), (λ below. subst (λ (q : ℕ). ShbBelow trace k q) (pred_unique trace disciplined below.0 p e below.1 pred) below.2))) front
+
+  pub front_no_pred : (clock : List ℕ) → ((p : ℕ) → IsPred trace p e → ⊥) → ((t : ℕ) → get_or clock t 0 ≡ 0) → IsFront trace (λ k. BelowPred trace k e) clock
+  front_no_pred clock none zeros = front_none trace (λ k. BelowPred trace k e) clock (λ k below. none below.0 below.1) zeros
+
+  -- what an event learns, by its operation
+  learns_acquire : (l k : ℕ) → op_at trace e ≡ Some (Acquire l) → Learns trace e k → BelowRelease trace l e k
+  learns_acquire l k acquires (by_acquire m h from) = let s : Some (Acquire m) ≡ Some (Acquire l) = sym h ∙ acquires in subst (λ (x : ℕ). BelowRelease trace x e k) (let g : m ≡ l = cc in g) from
+  learns_acquire l k acquires (by_join u h from) = absurd (let f : ⊥ = cc in f)
+  learns_acquire l k acquires (by_read from) = let h = from.last.reads in absurd (let f : ⊥ = cc in f)
+
+  learns_join : (u k : ℕ) → op_at trace e ≡ Some (Join u) → Learns trace e k → BelowThread trace u e k
+  learns_join u k joins (by_acquire m h from) = absurd (let f : ⊥ = cc in f)
+  learns_join u k joins (by_join v h from) = let s : Some (Join v) ≡ Some (Join u) = sym h ∙ joins in subst (λ (x : ℕ). BelowThread trace x e k) (let g : v ≡ u = cc in g) from
+  learns_join u k joins (by_read from) = let h = from.last.reads in absurd (let f : ⊥ = cc in f)
+
+  learns_read : (x k : ℕ) → op_at trace e ≡ Some (Read x) → Learns trace e k → BelowLastWrite trace e k
+  learns_read x k reads (by_acquire m h from) = absurd (let f : ⊥ = cc in f)
+  learns_read x k reads (by_join v h from) = absurd (let f : ⊥ = cc in f)
+  learns_read x k reads (by_read from) = from
+
+  pub learns_nothing : (o : Op) (k : ℕ) → op_at trace e ≡ Some o → ((l : ℕ) → o ≡ Acquire l → ⊥) → ((u : ℕ) → o ≡ Join u → ⊥) → ((x : ℕ) → o ≡ Read x → ⊥) → Learns trace e k → ⊥
+  learns_nothing o k is no_acquire no_join no_read (by_acquire m h from) = no_acquire m (let s : Some o ≡ Some (Acquire m) = sym is ∙ h in cc)
+  learns_nothing o k is no_acquire no_join no_read (by_join v h from) = no_join v (let s : Some o ≡ Some (Join v) = sym is ∙ h in cc)
+  learns_nothing o k is no_acquire no_join no_read (by_read from) = no_read from.last.variable (let s : Some o ≡ Some (Read from.last.variable) = sym is ∙ from.last.reads in cc)
+
+  pub front_learns_nothing : (clock : List ℕ) → ((k : ℕ) → Learns trace e k → ⊥) → IsFront trace (λ k. BelowPred trace k e) clock → IsFront trace (StrictlyBelow trace e) clock
+  front_learns_nothing clock nothing front = front_same trace (λ k. BelowPred trace k e) (StrictlyBelow trace e) clock (λ k. ((λ h. inl h), (λ h. elim h [ inl below ↦ below | inr learns ↦ absurd (nothing k learns) ]))) front
+
+  -- the clock after a join of what the event learns
+  pub front_learns : (P : ℕ → Type 0) (one other clock : List ℕ) → ((k : ℕ) → P k ↔ Learns trace e k) → IsFront trace P other → ((t : ℕ) → get_or clock t 0 ≡ max (get_or one t 0) (get_or other t 0)) → IsFront trace (λ k. BelowPred trace k e) one → IsFront trace (StrictlyBelow trace e) clock
+  front_learns P one other clock same second each first = front_join trace (λ k. BelowPred trace k e) (Learns trace e) one other clock first (front_same trace P (Learns trace e) other same second) each
+
+  pub acquire_learns : (l k : ℕ) → op_at trace e ≡ Some (Acquire l) → BelowRelease trace l e k ↔ Learns trace e k
+  acquire_learns l k acquires = ((λ h. by_acquire l acquires h), learns_acquire l k acquires)
+
+  pub join_learns : (u b k : ℕ) → op_at trace e ≡ Some (Join u) → IsLatestBefore (OfThread trace u) e b → ShbBelow trace k b ↔ Learns trace e k
+  join_learns u b k joins latest = (
+    (λ path. by_join u joins (record { event = b; of_thread = latest.holds; earlier = latest.earlier; below = path })),
+    (λ learns. let from = learns_join u k joins learns in path_append trace k from.event b from.below (reach from.event from.of_thread from.earlier (cases_lt from.event b))),
+  )
+    where
+      reach : (c : ℕ) → thread_at trace c ≡ Some u → c < e → (c < b) ⊎ (b ≤ c) → ShbBelow trace c b
+      reach c of_c lt (inl low) = step (happens_before (record { earlier = low; rule = same_thread u of_c latest.holds })) here
+      reach c of_c lt (inr le) = last c of_c lt le (cases_lt b c)
+        where
+          last : (c : ℕ) → thread_at trace c ≡ Some u → c < e → b ≤ c → (b < c) ⊎ (c ≤ b) → ShbBelow trace c b
+          last c of_c lt le (inl above) = absurd (latest.last c above lt of_c)
+          last c of_c lt le (inr ge) = subst (λ (x : ℕ). ShbBelow trace x b) (let g : b ≡ c = omega arith in g) here
+
+  pub join_learns_nothing : (u k : ℕ) → op_at trace e ≡ Some (Join u) → ((m : ℕ) → m < e → thread_at trace m ≢ Some u) → Learns trace e k → ⊥
+  join_learns_nothing u k joins none learns = let from = learns_join u k joins learns in none from.event from.earlier from.of_thread
+
+  pub read_learns : (x w k : ℕ) → op_at trace e ≡ Some (Read x) → LastWrite trace w e → ShbBelow trace k w ↔ Learns trace e k
+  read_learns x w k reads last = (
+    (λ path. by_read (record { write = w; last = last; below = path })),
+    (λ learns. let from = learns_read x k reads learns in subst (λ (v : ℕ). ShbBelow trace k v) (last_write_unique trace from.write w e from.last last) from.below),
+  )
+
+  pub read_learns_nothing : (x k : ℕ) → op_at trace e ≡ Some (Read x) → ((w : ℕ) → LastWrite trace w e → ⊥) → Learns trace e k → ⊥
+  read_learns_nothing x k reads none learns = let from = learns_read x k reads learns in none from.write from.last
+
+  -- the clock of the event
+  pub front_event : (u : ℕ) (clock : List ℕ) → thread_at trace e ≡ Some u → u < length clock → IsFront trace (StrictlyBelow trace e) clock → IsFront trace (λ k. ShbBelow trace k e) (set clock u (place_in_thread trace u e))
+  front_event u clock of_e within front = front_own trace (StrictlyBelow trace e) e u clock of_e within same (λ t ne. front.within t) (λ t k of_k ne. front.exact t k of_k)
+    where
+      other : (t k : ℕ) → thread_at trace k ≡ Some t → t ≢ u → (k ≡ e) ⊎ StrictlyBelow trace e k → StrictlyBelow trace e k
+      other t k of_k ne (inr below) = below
+      other t k of_k ne (inl is) = absurd (ne (let of_e_too : thread_at trace e ≡ Some t = rw is at of_k in let s : Some t ≡ Some u = sym of_e_too ∙ of_e in cc))
+
+      same : (t k : ℕ) → thread_at trace k ≡ Some t → t ≢ u → StrictlyBelow trace e k ↔ ShbBelow trace k e
+      same t k of_k ne = (strictly_below_below trace disciplined k e, (λ path. other t k of_k ne (below_cases trace disciplined k e path)))
+
+-- the order's answer
+pub count_from_clock : (trace seen : List Event) (e t p n : ℕ) (clock : List ℕ) → trace ≡ seen → IsDisciplined trace → IsPred trace p e → IsFront trace (λ k. ShbBelow trace k p) clock → n ≡ get_or clock t 0 → IsBelowPredCount seen t e n
+count_from_clock trace seen e t p n clock same disciplined pred front is =
+    subst (λ (tr : List Event). IsBelowPredCount tr t e n) same (subst (λ (m : ℕ). IsBelowPredCount trace t e m) (sym is) (number_from_front trace (λ k. BelowPred trace k e) clock t (front_pred trace disciplined e p clock pred front)))
+
+pub count_without_pred : (seen : List Event) (e t : ℕ) → ((p : ℕ) → IsPred seen p e → ⊥) → IsBelowPredCount seen t e 0
+count_without_pred seen e t none = number_from_front seen (λ k. BelowPred seen k e) [] t (front_none seen (λ k. BelowPred seen k e) [] (λ k below. none below.0 below.1) (λ t. refl))
+
+-- a row that the code reads
+pub row_fits : (threads place n : ℕ) (clocks : List ℕ) → place < n → length clocks ≡ n * threads → (place + 1) * threads ≤ length clocks
+row_fits threads place n clocks lt long = let fits = row_end threads place n lt in let more = suc-mul place threads in omega (arith, fits, more, long)
+
+module _ (trace : List Event) (n threads place : ℕ) (clocks seen row : List ℕ) (has : HasClocks trace n threads clocks) (lt : place < n) (same : seen ≡ clocks) (is : row ≡ row_at threads seen place) where
+  row_is : row ≡ row_at threads clocks place
+  row_is = is ∙ ap (λ (xs : List ℕ). row_at threads xs place) same
+
+  pub row_wide : length row ≡ threads
+  row_wide = ap length row_is ∙ row_long threads place n clocks lt has.as_long
+
+  pub row_front : IsFront trace (λ k. ShbBelow trace k place) row
+  row_front = subst (IsFront trace (λ k. ShbBelow trace k place)) (sym row_is) (has.each place lt)
+
+-- the clock of a lock, as the code reads it
+pub lock_front : (trace : List Event) (n threads locks l : ℕ) (clocks : List (List ℕ)) (item seen : List ℕ) → HasLockClocks trace n threads locks clocks → l < locks → item ≡ get_or clocks l item → seen ≡ item → IsFront trace (BelowRelease trace l n) seen
+lock_front trace n threads locks l clocks item seen has lt is same = subst (IsFront trace (BelowRelease trace l n)) (sym (same ∙ get_or_read clocks l item (let many = has.as_many in omega (arith, many, lt)) is [])) (has.each l lt)
+
+pub lock_step : (trace : List Event) (n threads locks l : ℕ) (clocks : List (List ℕ)) (clock item seen joined : List ℕ) → op_at trace n ≡ Some (Release l) → l < locks → item ≡ get_or clocks l item → seen ≡ clock → length joined ≡ length item → ((t : ℕ) → get_or joined t 0 ≡ max (get_or item t 0) (get_or seen t 0)) → IsFront trace (λ k. ShbBelow trace k n) clock → HasLockClocks trace n threads locks clocks → HasLockClocks trace (n + 1) threads locks (set clocks l joined)
+lock_step trace n threads locks l clocks clock item seen joined releases lt is same long each front has =
+    let there : item ≡ get_or clocks l [] = get_or_read clocks l item (let many = has.as_many in omega (arith, many, lt)) is [] in
+    locks_release trace n threads locks l clocks clock joined releases lt (long ∙ (ap length there ∙ has.as_long l lt)) (λ t. each t ∙ (ap (λ (xs : List ℕ). max (get_or xs t 0) (get_or seen t 0)) there ∙ ap (λ (xs : List ℕ). max (get_or (get_or clocks l []) t 0) (get_or xs t 0)) same)) front has
+
+-- an item of a table of latest positions, as the code reads it
+pub latest_some : (P : ℕ → ℕ → Type 0) (n size t b : ℕ) (table : List (Option ℕ)) (item : Option ℕ) → IsLatestTable P n size table → t < size → item ≡ get_or table t item → item ≡ Some b → IsLatestBefore (P t) n b
+latest_some P n size t b table item has lt is some = subst (λ (o : Option ℕ). Latest (P t) n o) (sym (get_or_read table t item (let long = has.as_long in omega (arith, long, lt)) is None) ∙ some) (has.each t lt)
+
+none_of : (P : ℕ → Type 0) (n : ℕ) (o : Option ℕ) → ((b : ℕ) → o ≡ Some b → ⊥) → Latest P n o → (m : ℕ) → m < n → P m → ⊥
+none_of P n None other h = h
+none_of P n (Some b) other h = absurd (other b refl)
+
+pub latest_none : (P : ℕ → ℕ → Type 0) (n size t : ℕ) (table : List (Option ℕ)) (item : Option ℕ) → IsLatestTable P n size table → t < size → item ≡ get_or table t item → ((b : ℕ) → item ≡ Some b → ⊥) → (m : ℕ) → m < n → P t m → ⊥
+latest_none P n size t table item has lt is other = none_of (P t) n item other (subst (λ (o : Option ℕ). Latest (P t) n o) (sym (get_or_read table t item (let long = has.as_long in omega (arith, long, lt)) is None)) (has.each t lt))
+
+pub exactly_none : (P : ℕ → Type 0) (o : Option ℕ) → Exactly P o → ((b : ℕ) → o ≡ Some b → ⊥) → (k : ℕ) → P k → ⊥
+exactly_none P None h other = h
+exactly_none P (Some b) h other = absurd (other b refl)
+
+-- the operation of an event is within the sizes
+pub op_within : (trace : List Event) (sizes : Sizes) (e : ℕ) (d : Event) (op : Op) → IsWithin trace sizes → e < length trace → (get_or trace e d).op ≡ op → IsOpWithin sizes op
+op_within trace sizes e d op within lt is = subst (IsOpWithin sizes) is (within e (get_or trace e d) (slice_get-get_or trace e d lt)).operation
+
+-- the own entry
+pub tick_front : (trace links : List Event) (sizes : Sizes) (e x : ℕ) (d : Event) (clock put : List ℕ) → IsDisciplined trace → links ≡ trace → IsWithin trace sizes → e < length trace → ((t : ℕ) → thread_at links e ≡ Some t → x ≡ place_in_thread links t e) → length clock ≡ sizes.threads → IsFront trace (StrictlyBelow trace e) clock → put ≡ set clock (get_or trace e d).thread x → IsFront trace (λ k. ShbBelow trace k e) put
+tick_front trace links sizes e x d clock put disciplined same within lt place long front is =
+    let u : ℕ = (get_or trace e d).thread in
+    let of_e : thread_at trace e ≡ Some u = thread_item trace e d lt in
+    let own : x ≡ place_in_thread trace u e = subst (λ (tr : List Event). (t : ℕ) → thread_at tr e ≡ Some t → x ≡ place_in_thread tr t e) same place u of_e in
+    let low = (within e (get_or trace e d) (slice_get-get_or trace e d lt)).thread in
+    subst (IsFront trace (λ k. ShbBelow trace k e)) (sym (is ∙ ap (λ (n : ℕ). set clock u n) own)) (front_event trace disciplined e u clock of_e (omega (arith, low, long)) front)
+
+pub op_other : (trace : List Event) (e : ℕ) (d : Event) (op : Op) → e < length trace → ((get_or trace e d).op ≡ op → ⊥) → op_at trace e ≢ Some op
+op_other trace e d op lt other is = other (let s : Some (get_or trace e d).op ≡ Some op = sym (op_item trace e d lt) ∙ is in cc)
+
+pub clock_pred_range : (trace seen : List Event) (p e : ℕ) → IsDisciplined trace → trace ≡ seen → e < length seen → IsPred trace p e → p < length trace
+clock_pred_range trace seen p e disciplined same lt pred = let size = ap length same in let earlier = pred_earlier trace disciplined p e pred in omega (arith, size, lt, earlier)

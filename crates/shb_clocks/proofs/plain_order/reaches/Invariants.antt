@@ -1,0 +1,6 @@
+use Rattle.std.proofs.Common.{◌≡◌, ℕ, ◌<◌, true, false, get_or}
+use Rattle.shb_lines.specs.Order.{ShbEdge}
+use Rattle.shb_clocks.proofs.plain_order.reaches.Given as goal
+
+abbrev pub invariant-loop-b : goal.invariant-loop-b
+invariant-loop-b l = (m : ℕ) → l.a < m → m < l.b → get_or l.marks m false ≡ true → ShbEdge l.events l.a m → ⊥

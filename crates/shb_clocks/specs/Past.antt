@@ -1,0 +1,24 @@
+-- What a sweep over the first n events keeps.
+use Rattle.std.specs.Prelude.{◌≡◌, ℕ, ◌*◌, ◌<◌, List, [], Option, length, slice_index_or}
+use Rattle.shb_lines.specs.declared.event.Event.{Event}
+use Rattle.shb_lines.specs.Order.{ShbBelow}
+use Rattle.shb_links.specs.Latest.{IsLatestTable, OfThread}
+use Rattle.shb_lines.specs.declared.event.Sizes.{Sizes}
+use Rattle.shb_clocks.specs.Fronts.{IsFront, BelowRelease}
+use Rattle.shb_clocks.specs.Rows.{row_at}
+
+-- one clock for each event
+pub record HasClocks (trace : List Event) (n threads : ℕ) (clocks : List ℕ) : Type 0 where
+  pub as_long : length clocks ≡ n * threads
+  pub each : (e : ℕ) → e < n → IsFront trace (λ k. ShbBelow trace k e) (row_at threads clocks e)
+
+-- one clock for each lock, of all that is below its releases
+pub record HasLockClocks (trace : List Event) (n threads locks : ℕ) (clocks : List (List ℕ)) : Type 0 where
+  pub as_many : length clocks ≡ locks
+  pub as_long : (l : ℕ) → l < locks → length (slice_index_or clocks l []) ≡ threads
+  pub each : (l : ℕ) → l < locks → IsFront trace (BelowRelease trace l n) (slice_index_or clocks l [])
+
+pub record IsPast (trace : List Event) (n : ℕ) (sizes : Sizes) (clocks : List ℕ) (locks : List (List ℕ)) (last : List (Option ℕ)) : Type 0 where
+  pub event_clocks : HasClocks trace n sizes.threads clocks
+  pub lock_clocks : HasLockClocks trace n sizes.threads sizes.locks locks
+  pub last_events : IsLatestTable (OfThread trace) n sizes.threads last

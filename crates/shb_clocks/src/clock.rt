@@ -1,0 +1,99 @@
+//! A clock: one number for each thread.
+
+ghost use Rattle.std.specs.Prelude.{◌≡◌, ℕ, ◌+◌, ◌*◌, ◌<◌, ◌≤◌, List, IfOk, length, max, replicate, set, slice_index_or};
+ghost use Rattle.shb_clocks.specs.Rows.{row_at};
+
+use shb_io::NoMemory;
+use std::alloc::Global;
+use std::marker::Model;
+
+/// One entry for each thread, seen as the list of entries.
+#[derive(Drop)]
+pub struct Clock {
+    entries: Vec<u32>,
+}
+
+impl Model for Clock {
+    ghost Value = { List ℕ };
+
+    ghost view = { λ c. c.entries.items };
+}
+
+impl Clock {
+    /// A clock of zeros.
+    pub fn new(alloc: Global, threads: usize) -> Result<Self, NoMemory>
+        ensures { IfOk result (λ clock. clock ≡ replicate threads 0) }
+    {
+        Ok(Clock {
+            entries: vec![in alloc; 0; threads]?,
+        })
+    }
+
+    /// Sets all entries to zero.
+    pub fn clear(&mut self)
+        ensures long { length self.new ≡ length self.old }
+        ensures zeros { (t : ℕ) → slice_index_or self.new t 0 ≡ 0 }
+    {
+        clear(self.entries.as_mut_slice());
+    }
+
+    /// Takes over the entries of another clock.
+    pub fn copy(&mut self, other: &[u32])
+        requires { length other.now ≡ length self.old }
+        ensures { self.new ≡ other.now }
+    {
+        self.entries.copy_from_slice(other);
+    }
+
+    /// Raises each entry to that of another clock.
+    pub fn join(&mut self, other: &[u32])
+        requires { length other.now ≡ length self.old }
+        ensures long { length self.new ≡ length self.old }
+        ensures joined { (t : ℕ) → slice_index_or self.new t 0 ≡ max (slice_index_or self.old t 0) (slice_index_or other.now t 0) }
+    {
+        join(self.entries.as_mut_slice(), other);
+    }
+
+    /// Sets one entry.
+    pub fn put(&mut self, t: usize, value: u32)
+        requires { t < length self.old }
+        ensures { self.new ≡ set self.old t value }
+    {
+        self.entries[t] = value;
+    }
+
+    pub fn as_slice(&self) -> &[u32]
+        ensures { result.now ≡ self.now }
+    {
+        self.entries.as_slice()
+    }
+}
+
+/// Sets all entries of a clock to zero.
+fn clear(clock: &mut [u32])
+    ensures long { length clock.new ≡ length clock.old }
+    ensures zeros { (t : ℕ) → slice_index_or clock.new t 0 ≡ 0 }
+{
+    for t in 0..clock.len() {
+        clock[t] = 0;
+    }
+}
+
+/// Raises each entry of a clock to that of another.
+fn join(clock: &mut [u32], other: &[u32])
+    requires { length other.now ≡ length clock.old }
+    ensures long { length clock.new ≡ length clock.old }
+    ensures joined { (t : ℕ) → slice_index_or clock.new t 0 ≡ max (slice_index_or clock.old t 0) (slice_index_or other.now t 0) }
+{
+    for t in 0..clock.len() {
+        clock[t] = clock[t].max(other[t]);
+    }
+}
+
+/// The clock at a place of a flat list of clocks.
+pub fn row(clocks: &[u32], threads: usize, place: usize) -> &[u32]
+    requires { (place + 1) * threads ≤ length clocks.now }
+    ensures { result.now ≡ row_at threads clocks.now place }
+{
+    &clocks[place * threads..place * threads + threads]
+}

@@ -1,0 +1,58 @@
+//! Edges between events, by their operations and threads.
+
+ghost use Rattle.std.specs.Prelude.{◌≡◌, ◌<◌, ◌↔◌, IsTrue, length};
+ghost use Rattle.shb_lines.specs.Order.{ShbEdge};
+ghost use Rattle.shb_lines.specs.Tests.{is_hb_rule, passes_lock, forks_thread, joins_thread};
+
+use shb_lines::{Event, Op};
+use shb_links::Links;
+
+fn forks(op: Op, thread: u32) -> bool
+    ensures { result ≡ forks_thread op thread }
+{
+    match op {
+        Op::Fork(forked) => forked == thread,
+        _ => false,
+    }
+}
+
+fn joins(op: Op, thread: u32) -> bool
+    ensures { result ≡ joins_thread op thread }
+{
+    match op {
+        Op::Join(joined) => joined == thread,
+        _ => false,
+    }
+}
+
+fn passes(first: Op, second: Op) -> bool
+    ensures { result ≡ passes_lock first second }
+{
+    match (first, second) {
+        (Op::Release(released), Op::Acquire(acquired)) => released == acquired,
+        _ => false,
+    }
+}
+
+/// Whether an earlier event happens before a later one by an edge.
+fn happens_first(e: Event, d: Event) -> bool
+    ensures { result ≡ is_hb_rule e d }
+{
+    e.thread == d.thread || passes(e.op, d.op) || forks(e.op, d.thread) || joins(d.op, e.thread)
+}
+
+/// Whether an SHB edge leads from a to b.
+pub fn is_edge(events: &[Event], links: &Links<'_>, a: u32, b: u32) -> bool
+    requires of_trace { links.now ≡ events.now }
+    requires earlier { a < b }
+    requires in_range { b < length events.now }
+    ensures { IsTrue result ↔ ShbEdge events.now a b }
+{
+    if happens_first(events[a as usize], events[b as usize]) {
+        return true;
+    }
+    match links.last_write(b) {
+        Some(w) => w == a,
+        None => false,
+    }
+}

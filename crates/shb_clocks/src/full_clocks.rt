@@ -1,0 +1,86 @@
+//! An order by one clock for each event.
+
+ghost use Rattle.std.specs.Prelude.{◌≡◌, ℕ, ◌<◌, List, IfOk, length, slice_index_or};
+ghost use Rattle.shb_lines.specs.declared.event.Event.{Event};
+ghost use Rattle.shb_clocks.specs.Past.{HasClocks};
+
+use crate::clock::{Clock, row};
+use crate::order::Order;
+use crate::past::{Past, add};
+use shb_discipline::Disciplined;
+use shb_io::NoMemory;
+use shb_lines::Event;
+use shb_links::Links;
+use std::alloc::Global;
+use std::marker::Model;
+
+/// The clock of each event. It is seen as the trace that it orders.
+#[derive(Drop)]
+pub struct FullClocks<'a> {
+    trace: &'a Disciplined<'a>,
+    links: &'a Links<'a>,
+    threads: u32,
+    clocks: Vec<u32>,
+}
+
+impl<'a> Model for FullClocks<'a> {
+    ghost Value = { List Event };
+
+    ghost view = { λ o. o.trace.now.events.now };
+
+    ghost invariant = { λ o. (o.links.now ≡ o.trace.now.events.now) × HasClocks o.trace.now.events.now (length o.trace.now.events.now) o.threads o.clocks.items };
+}
+
+/// The order of a trace, with a clock for each event. It takes time and memory that grow with the
+/// number of events times the number of threads.
+///
+/// # Errors
+///
+/// `NoMemory` where memory is refused; nothing is kept then.
+pub fn full<'a>(
+    alloc: Global,
+    trace: &'a Disciplined<'a>,
+    links: &'a Links<'a>,
+) -> Result<FullClocks<'a>, NoMemory>
+    requires of_trace { links.now ≡ trace.now.events.now }
+    ensures { IfOk result (λ order. order ≡ trace.now.events.now) }
+{
+    let sizes = trace.sizes;
+    let mut clock = Clock::new(alloc, sizes.threads as usize)?;
+    let mut past = Past::new(alloc, trace.events, sizes)?;
+    for e in 0..trace.events.len() as u32 {
+        past.tick(trace, links, sizes, e, &mut clock);
+        add(&mut past, trace.events, sizes, e, &clock)?;
+    }
+    let Past { clocks, .. } = past;
+    Ok(FullClocks {
+        trace,
+        links,
+        threads: sizes.threads,
+        clocks,
+    })
+}
+
+/// The entry of a thread, 0 where the clock has none.
+fn entry(clock: &[u32], t: u32) -> u32
+    ensures { result ≡ slice_index_or clock.now t 0 }
+{
+    match clock.get(t as usize) {
+        Some(number) => *number,
+        None => 0,
+    }
+}
+
+impl<'a> Order for FullClocks<'a> {
+    ghost trace = { λ o. o };
+
+    fn below_pred(&self, e: u32, t: u32) -> u32 {
+        match self.links.pred(e) {
+            Some(p) => entry(
+                row(self.clocks.as_slice(), self.threads as usize, p as usize),
+                t,
+            ),
+            None => 0,
+        }
+    }
+}

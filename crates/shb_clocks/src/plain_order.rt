@@ -1,0 +1,139 @@
+//! An order by one row of marks for each event, for small traces and tests.
+
+ghost use Rattle.std.specs.Prelude.{◌≡◌, ℕ, ◌+◌, ◌<◌, ◌≤◌, ◌^◌, Bool, true, false, List, IsTrue, IfOk, ◌↔◌, length, slice_index_or, replicate};
+ghost use Rattle.shb_lines.specs.declared.event.Event.{Event};
+ghost use Rattle.shb_lines.specs.Events.{thread_at};
+ghost use Rattle.shb_lines.specs.Order.{ShbBelow, IsNumberOf};
+ghost use Rattle.shb_clocks.specs.Marks.{MarksFrom, IsRowOf, HasRows};
+
+use crate::edges::is_edge;
+use crate::order::Order;
+use crate::row::Row;
+use shb_discipline::Disciplined;
+use shb_io::NoMemory;
+use shb_lines::Event;
+use shb_links::Links;
+use std::alloc::Global;
+use std::marker::Model;
+
+/// Which events are SHB-below the predecessor of each event. It is seen as the trace that it orders.
+#[derive(Drop)]
+pub struct PlainOrder<'a> {
+    trace: &'a Disciplined<'a>,
+    rows: Vec<Row>,
+}
+
+impl<'a> Model for PlainOrder<'a> {
+    ghost Value = { List Event };
+
+    ghost view = { λ o. o.trace.now.events.now };
+
+    ghost invariant = { λ o. HasRows o.trace.now.events.now (length o.trace.now.events.now) o.rows.items };
+}
+
+/// No marks.
+fn unmarked(alloc: Global, n: usize) -> Result<Vec<bool>, NoMemory>
+    ensures { IfOk result (λ marks. marks.items ≡ replicate n false) }
+{
+    Ok(vec![in alloc; false; n]?)
+}
+
+/// Whether a is SHB-below p, from the marks after a.
+fn reaches(events: &[Event], links: &Links<'_>, marks: &[bool], a: u32, p: u32) -> bool
+    requires of_trace { links.now ≡ events.now }
+    requires earlier { a < p }
+    requires in_range { p < length events.now }
+    requires as_long { length marks.now ≡ length events.now }
+    requires small { length events.now < 2 ^ 32 }
+    requires known { (k : ℕ) → a < k → k < length events.now → (slice_index_or marks.now k false ≡ true) ↔ ShbBelow events.now k p }
+    ensures { IsTrue result ↔ ShbBelow events.now a p }
+{
+    for b in a + 1..p + 1 {
+        if marks[b as usize] && is_edge(events, links, a, b) {
+            return true;
+        }
+    }
+    false
+}
+
+/// Marks the events that are SHB-below p, by a backward sweep.
+fn marks_below(
+    alloc: Global,
+    trace: &Disciplined<'_>,
+    links: &Links<'_>,
+    p: u32,
+) -> Result<Vec<bool>, NoMemory>
+    requires of_trace { links.now ≡ trace.now.events.now }
+    requires in_range { p < length trace.now.events.now }
+    ensures { IfOk result (λ marks. MarksFrom trace.now.events.now p 0 marks.items) }
+{
+    let mut marks = unmarked(alloc, trace.events.len())?;
+    marks[p as usize] = true;
+    for a in (0..p).rev() {
+        if reaches(trace.events, links, marks.as_slice(), a, p) {
+            marks[a as usize] = true;
+        }
+    }
+    Ok(marks)
+}
+
+/// The marks of one event.
+fn row_of(
+    alloc: Global,
+    trace: &Disciplined<'_>,
+    links: &Links<'_>,
+    e: u32,
+) -> Result<Row, NoMemory>
+    requires of_trace { links.now ≡ trace.now.events.now }
+    requires in_range { e < length trace.now.events.now }
+    ensures { IfOk result (λ row. IsRowOf trace.now.events.now e row) }
+{
+    match links.pred(e) {
+        Some(p) => Ok(Row::new(marks_below(alloc, trace, links, p)?)),
+        None => Ok(Row::new(unmarked(alloc, trace.events.len())?)),
+    }
+}
+
+/// The order of a trace, with a row of marks for each event. It takes time that grows with the cube
+/// of the trace's length and memory that grows with its square.
+///
+/// # Errors
+///
+/// `NoMemory` where memory is refused; nothing is kept then.
+pub fn plain<'a>(
+    alloc: Global,
+    trace: &'a Disciplined<'a>,
+    links: &'a Links<'a>,
+) -> Result<PlainOrder<'a>, NoMemory>
+    requires { links.now ≡ trace.now.events.now }
+    ensures { IfOk result (λ order. order ≡ trace.now.events.now) }
+{
+    let mut rows = Vec::new(alloc);
+    for e in 0..trace.events.len() as u32 {
+        rows.push(row_of(alloc, trace, links, e)?)?;
+    }
+    Ok(PlainOrder { trace, rows })
+}
+
+/// How many events of a thread are marked.
+fn count_marked(events: &[Event], row: &Row, t: u32) -> u32
+    requires as_long { length row.now ≡ length events.now }
+    requires small { length events.now < 2 ^ 32 }
+    ensures { IsNumberOf (λ k. (thread_at events.now k ≡ Some t) × (slice_index_or row.now k false ≡ true)) result }
+{
+    let mut count = 0;
+    for k in 0..events.len() as u32 {
+        if events[k as usize].thread == t && row.is_marked(k as usize) {
+            count += 1;
+        }
+    }
+    count
+}
+
+impl<'a> Order for PlainOrder<'a> {
+    ghost trace = { λ o. o };
+
+    fn below_pred(&self, e: u32, t: u32) -> u32 {
+        count_marked(self.trace.events, &self.rows[e as usize], t)
+    }
+}
