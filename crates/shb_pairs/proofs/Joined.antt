@@ -1,0 +1,78 @@
+-- The values of all pieces, joined, are the races of all variables.
+use Rattle.std.proofs.Common.{◌≡◌, ℕ, zero, suc, ◌+◌, ◌-◌, ◌*◌, ◌≤◌, List, [], ◌∷◌, ◌++◌, length, get_or, take, drop, refl, arith, subst, ap, sym, ◌∙◌, add-one}
+use Rattle.std.specs.Prelude.{flat_map, map, min}
+use Rattle.std.specs.Int.{div_ceil}
+use Rattle.std.proofs.Math.Nat.{min_comm}
+use Rattle.std.proofs.Math.Seq.{take-add}
+use Rattle.std.proofs.lemmas.Grind.{flat_map-append}
+use Rattle.std.proofs.lemmas.List.{append-nil, length-drop, take_all, take_min, map_more}
+use Rattle.shb_fan.specs.Values.{values_of}
+use Rattle.shb_lines.specs.declared.event.Event.{Event}
+use Rattle.shb_lines.specs.Race.{IsRaceList}
+use Rattle.shb_lines.specs.Reach.{numbers_where}
+use Rattle.shb_lines.specs.Sizes.{IsNumberedByAccess}
+use Rattle.shb_pairs.specs.Accesses.{accesses_in, variables_in}
+use Rattle.shb_pairs.specs.Pieces.{run_at, runs_of, pieces_below, pieces_in}
+use Rattle.shb_pairs.specs.Races.{races_with, races_of, races_at, joined}
+use Rattle.shb_pairs.proofs.Listing.{numbers_below, races_on, all_races, all_is_race_list}
+
+joined-map : {X A : Type 0} (f : X → List A) (xs : List X) → joined (map f xs) ≡ flat_map f xs
+joined-map f [] = refl
+joined-map f (x ∷ xs) = ap (λ (rest : List _). f x ++ rest) (joined-map f xs)
+
+values_of_front : {X M : Type 0} (f : X → M) (xs : List X) (d : X) (n : ℕ) → n ≤ length xs → values_of (λ k. f (get_or xs k d)) n ≡ map f (take n xs)
+values_of_front f xs d zero le = refl
+values_of_front {X} {M} f xs d (suc n) le =
+    let ih = values_of_front f xs d n (omega arith) in
+    let more : map f (take (suc n) xs) ≡ map f (take n xs) ++ f (get_or xs n d) ∷ [] = rw (← add-one) (map_more f xs n d (omega arith)) in
+    ap (λ (ms : List M). ms ++ f (get_or xs n d) ∷ []) ih ∙ sym more
+
+joined_values : {X A : Type 0} (f : X → List A) (xs : List X) (d : X) → joined (values_of (λ k. f (get_or xs k d)) (length xs)) ≡ flat_map f xs
+joined_values f xs d = ap (λ lists. joined lists) (values_of_front f xs d (length xs) (omega arith) ∙ ap (λ (ys : List _). map f ys) (take_all (length xs) xs (omega arith))) ∙ joined-map f xs
+
+-- the runs of one variable
+run_span : (xs : List ℕ) (k : ℕ) → take ((64 * k + min (length xs - 64 * k) 64) - 64 * k) (drop (64 * k) xs) ≡ take 64 (drop (64 * k) xs)
+run_span xs k =
+    let size : (64 * k + min (length xs - 64 * k) 64) - 64 * k ≡ min 64 (length (drop (64 * k) xs)) = rw (length-drop (64 * k) xs, min_comm 64 (length xs - 64 * k)) (omega arith) in
+    ap (λ (n : ℕ). take n (drop (64 * k) xs)) size ∙ take_min 64 (drop (64 * k) xs)
+
+run_races : (trace : List Event) (x k : ℕ) → races_of trace (run_at x (length (accesses_in trace x)) k) ≡ flat_map (races_with trace) (take 64 (drop (64 * k) (accesses_in trace x)))
+unfolding races_of
+run_races trace x k = ap (λ (ys : List ℕ). flat_map (races_with trace) ys) (run_span (accesses_in trace x) k)
+
+runs_joined : (trace : List Event) (x k : ℕ) → flat_map (races_of trace) (runs_of x (length (accesses_in trace x)) k) ≡ flat_map (races_with trace) (take (64 * k) (accesses_in trace x))
+unfolding runs_of
+runs_joined trace x zero = refl
+runs_joined trace x (suc k) =
+    let xs : List ℕ = accesses_in trace x in
+    let front = runs_joined trace x k in
+    let last = run_races trace x k in
+    let size : 64 * suc k ≡ 64 * k + 64 = omega arith in
+    flat_map-append (races_of trace) (runs_of x (length xs) k) (run_at x (length xs) k ∷ [])
+    ∙ (ap (λ (ys : List (ℕ × ℕ)). flat_map (races_of trace) (runs_of x (length xs) k) ++ ys) (append-nil (races_of trace (run_at x (length xs) k)) ∙ last)
+    ∙ (ap (λ (ys : List (ℕ × ℕ)). ys ++ flat_map (races_with trace) (take 64 (drop (64 * k) xs))) front
+    ∙ (sym (flat_map-append (races_with trace) (take (64 * k) xs) (take 64 (drop (64 * k) xs)))
+    ∙ (ap (λ (ys : List ℕ). flat_map (races_with trace) ys) (sym (take-add (64 * k) 64 xs))
+    ∙ ap (λ (n : ℕ). flat_map (races_with trace) (take n xs)) (sym size)))))
+
+pub runs_enough : (n : ℕ) → n ≤ 64 * div_ceil n 64
+runs_enough n = omega arith
+
+variable_joined : (trace : List Event) (x : ℕ) → flat_map (races_of trace) (runs_of x (length (accesses_in trace x)) (div_ceil (length (accesses_in trace x)) 64)) ≡ races_on trace x
+variable_joined trace x = runs_joined trace x _ ∙ ap (λ (ys : List ℕ). flat_map (races_with trace) ys) (take_all _ (accesses_in trace x) (runs_enough (length (accesses_in trace x))))
+
+pieces_joined : (trace : List Event) (n : ℕ) → flat_map (races_of trace) (pieces_below trace n) ≡ flat_map (races_on trace) (numbers_below n)
+unfolding pieces_below numbers_where
+pieces_joined trace zero = refl
+pieces_joined trace (suc x) =
+    flat_map-append (races_of trace) (pieces_below trace x) (runs_of x (length (accesses_in trace x)) (div_ceil (length (accesses_in trace x)) 64))
+    ∙ (ap (λ (ys : List (ℕ × ℕ)). ys ++ flat_map (races_of trace) (runs_of x (length (accesses_in trace x)) (div_ceil (length (accesses_in trace x)) 64))) (pieces_joined trace x)
+    ∙ (ap (λ (ys : List (ℕ × ℕ)). flat_map (races_on trace) (numbers_below x) ++ ys) (variable_joined trace x ∙ sym (append-nil (races_on trace x)))
+    ∙ sym (flat_map-append (races_on trace) (numbers_below x) (x ∷ []))))
+
+pub values_joined : (trace : List Event) → joined (values_of (races_at trace) (length (pieces_in trace))) ≡ all_races trace
+unfolding races_at
+values_joined trace = joined_values (races_of trace) (pieces_in trace) _ ∙ pieces_joined trace (variables_in trace)
+
+pub values_are_race_list : (trace : List Event) → IsNumberedByAccess trace → IsRaceList trace (joined (values_of (races_at trace) (length (pieces_in trace))))
+values_are_race_list trace numbered = subst (IsRaceList trace) (sym (values_joined trace)) (all_is_race_list trace numbered)

@@ -1,0 +1,159 @@
+-- The races by variable, later access and earlier access are the race list.
+use Rattle.std.proofs.Common.{◌≡◌, ◌≢◌, ℕ, zero, suc, ◌<◌, ◌⊎◌, inl, inr, true, false, List, Some, length, get_or, refl, arith, subst}
+use Rattle.std.specs.Prelude.{Contains, AllPairs, flat_map, ◌↔◌}
+use Rattle.std.proofs.lemmas.Bool.{cases_Bool, cases_lt, cases_order}
+use Rattle.std.proofs.lemmas.List.Elements.{Contains-get_or}
+use Rattle.std.proofs.lemmas.List.Kept.{AllPairs-from_increasing}
+use Rattle.std.proofs.lemmas.Option.{slice_get_within}
+use Rattle.shb_lines.specs.declared.event.Event.{Event}
+use Rattle.shb_lines.specs.Race.{variable_at, Race, FirstAccess, KeyBefore, RaceBefore, IsRaceList}
+use Rattle.shb_lines.specs.Reach.{numbers_where, is_race}
+use Rattle.shb_lines.specs.Sizes.{IsNumberedByAccess}
+use Rattle.shb_lines.proofs.Reach.{numbers_listed, reflect_race, event_at_access}
+use Rattle.shb_pairs.specs.Accesses.{accesses_at, accesses_in, variables_in}
+use Rattle.shb_pairs.specs.Races.{races_with}
+use Rattle.shb_pairs.proofs.Counting.{access_from_test, test_from_access, variable_within, lower_accessed}
+use Rattle.shb_pairs.proofs.Ordered.{flat_map_parts, flat_map_contains, flat_map_ordered, map_parts, map_contains, map_ordered, same_in_order}
+
+-- all numbers below n
+abbrev pub numbers_below : ℕ → List ℕ
+numbers_below n = numbers_where (λ k. true) n
+
+abbrev pub races_on : List Event → ℕ → List (ℕ × ℕ)
+races_on trace x = flat_map (races_with trace) (accesses_in trace x)
+
+abbrev pub all_races : List Event → List (ℕ × ℕ)
+all_races trace = flat_map (races_on trace) (numbers_below (variables_in trace))
+
+-- members
+pub access_member : (trace : List Event) (x k : ℕ) → Contains (accesses_in trace x) k → variable_at trace k ≡ Some x
+access_member trace x k c = access_from_test trace x k (((numbers_listed (accesses_at trace x) (length trace)).members k).0 c).1
+
+access_contained : (trace : List Event) (x k : ℕ) → variable_at trace k ≡ Some x → Contains (accesses_in trace x) k
+access_contained trace x k h = ((numbers_listed (accesses_at trace x) (length trace)).members k).1 (access_in_range trace x k h, test_from_access trace x k h)
+  where
+    access_in_range : (trace : List Event) (x k : ℕ) → variable_at trace k ≡ Some x → k < length trace
+    access_in_range trace x k h = let e = event_at_access trace k x h in slice_get_within trace k e.0 e.1
+
+-- what stands in the races of j
+pub record IsRaceOf (trace : List Event) (j : ℕ) (p : ℕ × ℕ) : Type 0 where
+  pub later : p.1 ≡ j
+  pub race : Race trace p.0 p.1
+
+pub race_parts : (trace : List Event) (j : ℕ) (p : ℕ × ℕ) → Contains (races_with trace j) p → IsRaceOf trace j p
+unfolding races_with
+race_parts trace j p c =
+    let there = map_parts (λ i. (i, j)) (numbers_where (λ i. is_race trace i j) j) p c in
+    let passing = (((numbers_listed (λ i. is_race trace i j) j).members there.0).0 there.1).1 in
+    subst (IsRaceOf trace j) there.2 (record { later = refl; race = (reflect_race trace there.0 j).0 passing })
+
+race_contained : (trace : List Event) (i j : ℕ) → Race trace i j → Contains (races_with trace j) (i, j)
+unfolding races_with
+race_contained trace i j race = map_contains (λ i. (i, j)) (numbers_where (λ i. is_race trace i j) j) i (((numbers_listed (λ i. is_race trace i j) j).members i).1 (race.earlier, (reflect_race trace i j).1 race))
+
+races_on_parts : (trace : List Event) (x : ℕ) (p : ℕ × ℕ) → Contains (races_on trace x) p → (variable_at trace p.1 ≡ Some x) × Race trace p.0 p.1
+races_on_parts trace x p c =
+    let there = flat_map_parts (races_with trace) (accesses_in trace x) p c in
+    let parts = race_parts trace there.0 p there.2 in
+    (rw parts.later (access_member trace x there.0 there.1), parts.race)
+
+pub all_member : (trace : List Event) (i j : ℕ) → Contains (all_races trace) (i, j) ↔ Race trace i j
+all_member trace i j = (
+  (λ c. let there = flat_map_parts (races_on trace) (numbers_below (variables_in trace)) (i, j) c in (races_on_parts trace there.0 (i, j) there.2).1),
+  (λ race.
+      let x = race.conflict.variable in
+      let accessed : variable_at trace j ≡ Some x = race.conflict.second_accesses in
+      let event = event_at_access trace j x accessed in
+      let within = slice_get_within trace j event.0 event.1 in
+      flat_map_contains (races_on trace) (numbers_below (variables_in trace)) x (i, j)
+      (((numbers_listed (λ k. true) (variables_in trace)).members x).1 (variable_within trace j (length trace) x within accessed, refl))
+      (flat_map_contains (races_with trace) (accesses_in trace x) j (i, j) (access_contained trace x j accessed) (race_contained trace i j race))),
+)
+
+-- first accesses
+first_unique : (trace : List Event) (x f g : ℕ) → FirstAccess trace x f → FirstAccess trace x g → f ≡ g
+first_unique trace x f g hf hg = elim (cases_order f g) [
+  | inl e ↦ e
+  | inr h ↦ elim h [ inl lt ↦ absurd (hg.first f lt hf.accesses) | inr gt ↦ absurd (hf.first g gt hg.accesses) ]
+]
+
+first_below : (trace : List Event) (x n : ℕ) → ((f : ℕ) × FirstAccess trace x f) ⊎ ((k : ℕ) → k < n → variable_at trace k ≢ Some x)
+first_below trace x zero = inr (λ k lt h. omega arith)
+first_below trace x (suc n) = go (first_below trace x n) (cases_Bool (accesses_at trace x n))
+  where
+    go : ((f : ℕ) × FirstAccess trace x f) ⊎ ((k : ℕ) → k < n → variable_at trace k ≢ Some x) → (accesses_at trace x n ≡ true) ⊎ (accesses_at trace x n ≡ false) → ((f : ℕ) × FirstAccess trace x f) ⊎ ((k : ℕ) → k < suc n → variable_at trace k ≢ Some x)
+    go (inl found) here = inl found
+    go (inr none) (inl yes_it) = inl (n, record { accesses = access_from_test trace x n yes_it; first = none })
+    go (inr none) (inr not_it) = inr (λ k lt h. elim (cases_lt k n) [ inl below ↦ none k below h | inr at ↦ (let e : k ≡ n = omega arith in let g = test_from_access trace x n (subst (λ (m : ℕ). variable_at trace m ≡ Some x) e h) in (let f : ⊥ = cc in f)) ])
+
+first_exists : (trace : List Event) (x k : ℕ) → variable_at trace k ≡ Some x → (f : ℕ) × FirstAccess trace x f
+first_exists trace x k h = elim (first_below trace x (suc k)) [ inl found ↦ found | inr none ↦ absurd (none k (omega arith) h) ]
+
+-- a variable with a lower number is accessed first
+first_rising : (trace : List Event) → IsNumberedByAccess trace → (x y f g : ℕ) → x < y → FirstAccess trace x f → FirstAccess trace y g → f < g
+first_rising trace numbered x y f g lt hf hg =
+    let there = lower_accessed trace numbered g y x hg.accesses lt in
+    elim (cases_lt f g) [ inl h ↦ h | inr past ↦ absurd (hf.first there.0 (let below = there.1 in omega arith) there.2) ]
+
+-- two races on one variable stand in the order of their later accesses, then their earlier ones
+on_variable : (trace : List Event) (z : ℕ) (p q : ℕ × ℕ) → variable_at trace p.1 ≡ Some z → variable_at trace q.1 ≡ Some z → (p.1 < q.1) ⊎ ((p.1 ≡ q.1) × (p.0 < q.0)) → RaceBefore trace p q
+on_variable trace z p q at_p at_q order = λ x y f g of_x of_y first_x first_y.
+    let same_x : x ≡ z = cc in
+    let same_y : y ≡ z = cc in
+    inr (first_unique trace z f g (subst (λ (v : ℕ). FirstAccess trace v f) same_x first_x) (subst (λ (v : ℕ). FirstAccess trace v g) same_y first_y), order)
+
+with_ordered : (trace : List Event) (z j : ℕ) → variable_at trace j ≡ Some z → AllPairs (RaceBefore trace) (races_with trace j)
+unfolding races_with
+with_ordered trace z j accessed = map_ordered (RaceBefore trace) (λ i. (i, j)) (numbers_where (λ i. is_race trace i j) j) (λ a b d lt within. on_variable trace z _ _ accessed accessed (inr (refl, AllPairs-from_increasing (numbers_where (λ i. is_race trace i j) j) (numbers_listed (λ i. is_race trace i j) j).rising a b d lt within)))
+
+on_ordered : (trace : List Event) (x : ℕ) → AllPairs (RaceBefore trace) (races_on trace x)
+on_ordered trace x = flat_map_ordered (RaceBefore trace) (races_with trace) (accesses_in trace x)
+    (λ j c. with_ordered trace x j (access_member trace x j c))
+    (λ a b d lt within p q cp cq.
+    let first = access_member trace x (get_or (accesses_in trace x) a d) (Contains-get_or (accesses_in trace x) a d (omega arith)) in
+    let second = access_member trace x (get_or (accesses_in trace x) b d) (Contains-get_or (accesses_in trace x) b d within) in
+    let later_p = (race_parts trace _ p cp).later in
+    let later_q = (race_parts trace _ q cq).later in
+    let rising = AllPairs-from_increasing (accesses_in trace x) (numbers_listed (accesses_at trace x) (length trace)).rising a b d lt within in
+    on_variable trace x p q (rw later_p first) (rw later_q second) (inl (omega (arith, later_p, later_q, rising))))
+
+pub all_ordered : (trace : List Event) → IsNumberedByAccess trace → AllPairs (RaceBefore trace) (all_races trace)
+all_ordered trace numbered = flat_map_ordered (RaceBefore trace) (races_on trace) (numbers_below (variables_in trace))
+    (λ x c. on_ordered trace x)
+    (λ a b d lt within p q cp cq x y f g of_x of_y first_x first_y.
+    let at_p = (races_on_parts trace _ p cp).0 in
+    let at_q = (races_on_parts trace _ q cq).0 in
+    let rising = AllPairs-from_increasing (numbers_below (variables_in trace)) (numbers_listed (λ k. true) (variables_in trace)).rising a b d lt within in
+    let same_x : x ≡ get_or (numbers_below (variables_in trace)) a d = cc in
+    let same_y : y ≡ get_or (numbers_below (variables_in trace)) b d = cc in
+    inl (first_rising trace numbered x y f g (omega (arith, same_x, same_y, rising)) first_x first_y))
+
+pub all_is_race_list : (trace : List Event) → IsNumberedByAccess trace → IsRaceList trace (all_races trace)
+all_is_race_list trace numbered = record { all = all_member trace; in_order = all_ordered trace numbered }
+
+-- the order of races is strict
+key_strict : (p q : ℕ × ℕ × ℕ) → KeyBefore p q → KeyBefore q p → ⊥
+key_strict p q (inl a) (inl b) = omega arith
+key_strict p q (inl a) (inr b) = let e = b.0 in omega arith
+key_strict p q (inr a) (inl b) = let e = a.0 in omega arith
+key_strict p q (inr a) (inr b) = elim a.1 [
+  | inl lt ↦ elim b.1 [ inl gt ↦ omega arith | inr h ↦ (let e = h.0 in omega arith) ]
+  | inr g ↦ (let e = g.0 in let lt = g.1 in elim b.1 [ inl gt ↦ omega arith | inr h ↦ (let gt = h.1 in omega arith) ])
+]
+
+race_order_strict : (trace : List Event) (p q : ℕ × ℕ) → Race trace p.0 p.1 → Race trace q.0 q.1 → RaceBefore trace p q → RaceBefore trace q p → ⊥
+race_order_strict trace p q race_p race_q before after =
+    let x = race_p.conflict.variable in
+    let y = race_q.conflict.variable in
+    let at_p : variable_at trace p.1 ≡ Some x = race_p.conflict.second_accesses in
+    let at_q : variable_at trace q.1 ≡ Some y = race_q.conflict.second_accesses in
+    let f = first_exists trace x p.1 at_p in
+    let g = first_exists trace y q.1 at_q in
+    key_strict (f.0, p.1, p.0) (g.0, q.1, q.0) (before x y f.0 g.0 at_p at_q f.1 g.1) (after y x g.0 f.0 at_q at_p g.1 f.1)
+
+pub race_list_unique : (trace : List Event) (races others : List (ℕ × ℕ)) → IsRaceList trace races → IsRaceList trace others → races ≡ others
+race_list_unique trace races others h g = same_in_order (RaceBefore trace) races others
+    (λ p q cp cq. race_order_strict trace p q ((h.all p.0 p.1).0 cp) ((h.all q.0 q.1).0 cq))
+    h.in_order
+    g.in_order
+    (λ p. ((λ c. (g.all p.0 p.1).1 ((h.all p.0 p.1).0 c)), (λ c. (h.all p.0 p.1).1 ((g.all p.0 p.1).0 c))))

@@ -1,0 +1,169 @@
+-- Runs of accesses, and the races of a run one access at a time.
+use Rattle.std.proofs.Common.{◌≡◌, ℕ, zero, suc, ◌+◌, ◌-◌, ◌*◌, ◌<◌, ◌≤◌, ◌⊎◌, inl, inr, Bool, true, false, List, [], ◌∷◌, ◌++◌, Some, length, get_or, take, drop, refl, arith, subst, ap, sym, ◌∙◌, add-one}
+use Rattle.std.specs.Prelude.{All, filter, flat_map, map, min, cond, slice_range}
+use Rattle.std.specs.Int.{div_ceil}
+use Rattle.std.proofs.lemmas.Bool.{cases_Bool, cases_lt}
+use Rattle.std.proofs.lemmas.Grind.{flat_map-append}
+use Rattle.std.proofs.lemmas.List.{append-nil, append_assoc, length_push, get_or_append_left, get_or_push, take_all, take_at, take-append-le, take_more, map_push, length-drop, get_or-drop}
+use Rattle.std.proofs.lemmas.List.Elements.{All-append, All-push, All-nil, filter-append, filter_more, Contains-get_or}
+use Rattle.shb_lines.specs.declared.event.Event.{Event}
+use Rattle.shb_lines.specs.Race.{variable_at, Race}
+use Rattle.shb_lines.specs.Reach.{numbers_where, is_race}
+use Rattle.shb_lines.proofs.Reach.{numbers_listed, reflect_race}
+use Rattle.shb_lines.specs.declared.event.Pair.{Pair}
+use Rattle.shb_pairs.specs.declared.piece.Piece.{Piece}
+use Rattle.shb_pairs.specs.Accesses.{accesses_at, accesses_in, variables_in}
+use Rattle.shb_pairs.specs.Pieces.{run_at, runs_of, pieces_below, pieces_in}
+use Rattle.shb_pairs.specs.Races.{ends, races_with, races_of, races_at}
+use Rattle.shb_pairs.proofs.Counting.{access_from_test, test_from_access}
+
+-- a run lies within the accesses of its variable
+pub record IsRun (trace : List Event) (p : Piece) : Type 0 where
+  pub variable : p.variable < variables_in trace
+  pub forward : p.from ≤ p.to
+  pub within : p.to ≤ length (accesses_in trace p.variable)
+
+pub run_start : (n k : ℕ) → k < div_ceil n 64 → 64 * k < n
+run_start n k lt = omega arith
+
+runs_within : (trace : List Event) (x k : ℕ) → x < variables_in trace → k ≤ div_ceil (length (accesses_in trace x)) 64 → All (IsRun trace) (runs_of x (length (accesses_in trace x)) k)
+unfolding runs_of
+runs_within trace x zero below le = All-nil (IsRun trace)
+runs_within trace x (suc k) below le =
+    let start = run_start (length (accesses_in trace x)) k (omega arith) in
+    All-push (IsRun trace) (runs_of x (length (accesses_in trace x)) k) (run_at x (length (accesses_in trace x)) k) (runs_within trace x k below (omega arith)) (record { variable = below; forward = omega arith; within = omega arith })
+
+pieces_within : (trace : List Event) (n : ℕ) → n ≤ variables_in trace → All (IsRun trace) (pieces_below trace n)
+unfolding pieces_below
+pieces_within trace zero le = All-nil (IsRun trace)
+pieces_within trace (suc x) le = All-append (IsRun trace) (pieces_below trace x) (runs_of x (length (accesses_in trace x)) (div_ceil (length (accesses_in trace x)) 64)) (pieces_within trace x (omega arith)) (runs_within trace x _ (omega arith) (omega arith))
+
+pub piece_within : (trace : List Event) (k : ℕ) (d : Piece) → k < length (pieces_in trace) → IsRun trace (get_or (pieces_in trace) k d)
+piece_within trace k d lt = pieces_within trace (variables_in trace) (omega arith) k d lt
+
+-- one run more, and one variable more
+pub runs_more : (x n k : ℕ) → runs_of x n (k + 1) ≡ runs_of x n k ++ run_at x n k ∷ []
+unfolding runs_of
+runs_more x n k = rw add-one refl
+
+pub pieces_more : (trace : List Event) (x : ℕ) → pieces_below trace (x + 1) ≡ pieces_below trace x ++ runs_of x (length (accesses_in trace x)) (div_ceil (length (accesses_in trace x)) 64)
+unfolding pieces_below
+pieces_more trace x = rw add-one refl
+
+-- the numbers before the one at q are the first q
+pub numbers_front : (f : ℕ → Bool) (n q : ℕ) → q < length (numbers_where f n) → take q (numbers_where f n) ≡ numbers_where f (get_or (numbers_where f n) q 0)
+unfolding numbers_where
+numbers_front f zero q lt = absurd (omega arith)
+numbers_front f (suc n) q lt = go (cases_Bool (f n)) (cases_lt q (length (numbers_where f n))) (λ h. numbers_front f n q h) lt
+  where
+    go : (f n ≡ true) ⊎ (f n ≡ false) → (q < length (numbers_where f n)) ⊎ (length (numbers_where f n) ≤ q) → (q < length (numbers_where f n) → take q (numbers_where f n) ≡ numbers_where f (get_or (numbers_where f n) q 0)) → q < length (numbers_where f n ++ cond (f n) (n ∷ []) []) → take q (numbers_where f n ++ cond (f n) (n ∷ []) []) ≡ numbers_where f (get_or (numbers_where f n ++ cond (f n) (n ∷ []) []) q 0)
+    go e (inl below) ih within =
+        let here : get_or (numbers_where f n ++ cond (f n) (n ∷ []) []) q 0 ≡ get_or (numbers_where f n) q 0 = get_or_append_left (numbers_where f n) (cond (f n) (n ∷ []) []) 0 q below in
+        take-append-le q (numbers_where f n) (cond (f n) (n ∷ []) []) (omega arith) ∙ (ih below ∙ ap (λ (m : ℕ). numbers_where f m) (sym here))
+    go (inl e) (inr past) ih within =
+        let size : length (numbers_where f n ++ cond (f n) (n ∷ []) []) ≡ length (numbers_where f n) + 1 = rw e (length_push (numbers_where f n) n) in
+        let at : length (numbers_where f n) ≡ q = omega (arith, size) in
+        let here : get_or (numbers_where f n ++ cond (f n) (n ∷ []) []) q 0 ≡ n = rw e (get_or_push (numbers_where f n) n 0 q at) in
+        take_at (numbers_where f n) (cond (f n) (n ∷ []) []) q at ∙ ap (λ (m : ℕ). numbers_where f m) (sym here)
+    go (inr e) (inr past) ih within = absurd (let size : length (numbers_where f n ++ cond (f n) (n ∷ []) []) ≡ length (numbers_where f n) = rw (e, append-nil) refl in omega (arith, size))
+
+-- a sharper test keeps the same numbers of all as of those that pass a weaker one
+filter_numbers : (f g : ℕ → Bool) (n : ℕ) → ((k : ℕ) → f k ≡ true → g k ≡ true) → filter f (numbers_where g n) ≡ numbers_where f n
+unfolding numbers_where
+filter_numbers f g zero sharper = refl
+filter_numbers f g (suc n) sharper = filter-append f (numbers_where g n) (cond (g n) (n ∷ []) []) ∙ (ap (λ (xs : List ℕ). xs ++ filter f (cond (g n) (n ∷ []) [])) (filter_numbers f g n sharper) ∙ ap (λ (xs : List ℕ). numbers_where f n ++ xs) (last (cases_Bool (f n)) (cases_Bool (g n))))
+  where
+    last : (f n ≡ true) ⊎ (f n ≡ false) → (g n ≡ true) ⊎ (g n ≡ false) → filter f (cond (g n) (n ∷ []) []) ≡ cond (f n) (n ∷ []) []
+    last (inl a) (inl b) = rw (a, b) (rw a refl)
+    last (inl a) (inr b) = absurd (let c = sharper n a in let h : ⊥ = cc in h)
+    last (inr a) (inl b) = rw (a, b) (rw a refl)
+    last (inr a) (inr b) = rw (a, b) refl
+
+race_accesses : (trace : List Event) (x i j : ℕ) → variable_at trace j ≡ Some x → is_race trace i j ≡ true → accesses_at trace x i ≡ true
+race_accesses trace x i j of_j h =
+    let race = (reflect_race trace i j).0 h in
+    let second = race.conflict.second_accesses in
+    let first = race.conflict.first_accesses in
+    test_from_access trace x i (let same : race.conflict.variable ≡ x = cc in rw (← same) first)
+
+-- the races of j with the accesses of its variable before it are all
+pub races_with_earlier : (trace : List Event) (x j : ℕ) → variable_at trace j ≡ Some x → map (λ i. (i, j)) (filter (λ i. is_race trace i j) (numbers_where (accesses_at trace x) j)) ≡ races_with trace j
+unfolding races_with
+races_with_earlier trace x j of_j = ap (λ (xs : List ℕ). map (λ i. (i, j)) xs) (filter_numbers (λ i. is_race trace i j) (accesses_at trace x) j (λ i h. race_accesses trace x i j of_j h))
+
+pub number_below : (f : ℕ → Bool) (n q d : ℕ) (xs : List ℕ) → xs ≡ numbers_where f n → q < length xs → get_or xs q d < n
+number_below f n q d xs is lt =
+    let within : q < length (numbers_where f n) = (let size = ap length is in omega (arith, size)) in
+    rw is (((numbers_listed f n).members (get_or (numbers_where f n) q d)).0 (Contains-get_or (numbers_where f n) q d within)).0
+
+-- the races of j with the first accesses of a list, one access more
+pub pairs_more_yes : (trace : List Event) (old : List (ℕ × ℕ)) (pairs : List Pair) (xs : List ℕ) (k j i : ℕ) → k < length xs → get_or xs k 0 ≡ i → Race trace i j → map ends pairs ≡ old ++ map (λ i. (i, j)) (filter (λ i. is_race trace i j) (take k xs)) → map ends (pairs ++ record { first = i; second = j } ∷ []) ≡ old ++ map (λ i. (i, j)) (filter (λ i. is_race trace i j) (take (k + 1) xs))
+pairs_more_yes trace old pairs xs k j i lt at race so =
+    let test : is_race trace (get_or xs k 0) j ≡ true = rw at ((reflect_race trace i j).1 race) in
+    let kept : filter (λ i. is_race trace i j) (take (k + 1) xs) ≡ filter (λ i. is_race trace i j) (take k xs) ++ i ∷ [] = filter_more (λ i. is_race trace i j) xs k 0 lt ∙ rw (test, at) refl in
+    map_push ends pairs (record { first = i; second = j })
+    ∙ (ap (λ (ps : List (ℕ × ℕ)). ps ++ (i, j) ∷ []) so
+    ∙ (append_assoc old (map (λ i. (i, j)) (filter (λ i. is_race trace i j) (take k xs))) ((i, j) ∷ [])
+    ∙ (ap (λ (ps : List (ℕ × ℕ)). old ++ ps) (sym (map_push (λ i. (i, j)) (filter (λ i. is_race trace i j) (take k xs)) i))
+    ∙ ap (λ (ns : List ℕ). old ++ map (λ i. (i, j)) ns) (sym kept))))
+
+pub pairs_more_no : (trace : List Event) (old : List (ℕ × ℕ)) (pairs : List Pair) (xs : List ℕ) (k j i : ℕ) → k < length xs → get_or xs k 0 ≡ i → (Race trace i j → ⊥) → map ends pairs ≡ old ++ map (λ i. (i, j)) (filter (λ i. is_race trace i j) (take k xs)) → map ends pairs ≡ old ++ map (λ i. (i, j)) (filter (λ i. is_race trace i j) (take (k + 1) xs))
+pairs_more_no trace old pairs xs k j i lt at none so =
+    let test : is_race trace (get_or xs k 0) j ≡ false = rw at (elim (cases_Bool (is_race trace i j)) [ inl h ↦ absurd (none ((reflect_race trace i j).0 h)) | inr h ↦ h ]) in
+    let kept : filter (λ i. is_race trace i j) (take (k + 1) xs) ≡ filter (λ i. is_race trace i j) (take k xs) = filter_more (λ i. is_race trace i j) xs k 0 lt ∙ rw (test, append-nil) refl in
+    so ∙ ap (λ (ns : List ℕ). old ++ map (λ i. (i, j)) ns) (sym kept)
+
+pub pairs_all : (trace : List Event) (x j k : ℕ) (xs : List ℕ) → variable_at trace j ≡ Some x → xs ≡ numbers_where (accesses_at trace x) j → length xs ≤ k → map (λ i. (i, j)) (filter (λ i. is_race trace i j) (take k xs)) ≡ races_with trace j
+pairs_all trace x j k xs of_j is all = ap (λ (ns : List ℕ). map (λ i. (i, j)) (filter (λ i. is_race trace i j) ns)) (take_all k xs all ∙ is) ∙ races_with_earlier trace x j of_j
+
+-- the races of a run, one access more
+pub run_more : (trace : List Event) (xs : List ℕ) (from q : ℕ) → from ≤ q → q < length xs → flat_map (races_with trace) (take ((q + 1) - from) (drop from xs)) ≡ flat_map (races_with trace) (take (q - from) (drop from xs)) ++ races_with trace (get_or xs q 0)
+run_more trace xs from q le lt =
+    let size = length-drop from xs in
+    let one : take ((q + 1) - from) (drop from xs) ≡ take (q - from) (drop from xs) ++ get_or xs q 0 ∷ [] =
+    (let e : (q + 1) - from ≡ (q - from) + 1 = omega arith in
+    let there : get_or (drop from xs) (q - from) 0 ≡ get_or xs q 0 = get_or-drop from xs (q - from) 0 ∙ ap (λ (m : ℕ). get_or xs m 0) (let s : from + (q - from) ≡ q = omega arith in s) in
+    rw e (take_more (drop from xs) (q - from) 0 (omega (arith, size)) ∙ ap (λ (y : ℕ). take (q - from) (drop from xs) ++ y ∷ []) there)) in
+    ap (λ (ys : List ℕ). flat_map (races_with trace) ys) one ∙ (flat_map-append (races_with trace) (take (q - from) (drop from xs)) (get_or xs q 0 ∷ []) ∙ ap (λ (ps : List (ℕ × ℕ)). flat_map (races_with trace) (take (q - from) (drop from xs)) ++ ps) (append-nil (races_with trace (get_or xs q 0))))
+
+-- the accesses before the one at q, and its variable
+pub access_front : (trace : List Event) (x q : ℕ) → q < length (accesses_in trace x) → (variable_at trace (get_or (accesses_in trace x) q 0) ≡ Some x) × (take q (accesses_in trace x) ≡ numbers_where (accesses_at trace x) (get_or (accesses_in trace x) q 0)) × (get_or (accesses_in trace x) q 0 < length trace)
+access_front trace x q lt =
+    let member = ((numbers_listed (accesses_at trace x) (length trace)).members (get_or (accesses_in trace x) q 0)).0 (Contains-get_or (accesses_in trace x) q 0 lt) in
+    (access_from_test trace x (get_or (accesses_in trace x) q 0) member.1, numbers_front (accesses_at trace x) (length trace) q lt, member.0)
+
+-- a run is pushed
+pub run_pushed : (old pieces new : List Piece) (x n k m : ℕ) → new ≡ pieces ++ record { variable = x; from = 64 * k; to = 64 * k + m } ∷ [] → m ≡ min (n - 64 * k) 64 → pieces ≡ old ++ runs_of x n k → new ≡ old ++ runs_of x n (k + 1)
+run_pushed old pieces new x n k m is least so =
+    let last : pieces ++ record { variable = x; from = 64 * k; to = 64 * k + m } ∷ [] ≡ pieces ++ run_at x n k ∷ [] = ap (λ (l : ℕ). pieces ++ record { variable = x; from = 64 * k; to = 64 * k + l } ∷ []) least in
+    is ∙ (last ∙ (ap (λ (ps : List Piece). ps ++ run_at x n k ∷ []) so ∙ (append_assoc old (runs_of x n k) (run_at x n k ∷ []) ∙ ap (λ (ps : List Piece). old ++ ps) (sym (runs_more x n k)))))
+
+-- what the call on the access at q asks
+pub front_of : (trace : List Event) (xs : List ℕ) (x q : ℕ) → xs ≡ accesses_in trace x → q < length xs → (get_or xs q 0 < length trace) × ((x : ℕ) × (variable_at trace (get_or xs q 0) ≡ Some x) × (take q xs ≡ numbers_where (accesses_at trace x) (get_or xs q 0)))
+front_of trace xs x q is lt =
+    let within : q < length (accesses_in trace x) = (let size = ap length is in omega (arith, size)) in
+    let front = access_front trace x q within in
+    rw is (front.2, (x, front.0, front.1))
+
+pub run_first : (trace : List Event) (xs : List ℕ) (pairs : List Pair) (from : ℕ) → pairs ≡ [] → map ends pairs ≡ flat_map (races_with trace) (take (from - from) (drop from xs))
+run_first trace xs pairs from none = let e : from - from ≡ 0 = omega arith in rw (none, e) refl
+
+-- the run and the races of piece k
+abbrev pub piece_at : List Piece → ℕ → Piece
+piece_at pieces k = get_or pieces k (record { variable = 0; from = 0; to = 0 })
+
+pub piece_value : (trace seen : List Event) (pieces : List Piece) (k : ℕ) → trace ≡ seen → pieces ≡ pieces_in trace → k < length (pieces_in seen) → IsRun seen (piece_at pieces k) × (races_at seen k ≡ races_of seen (piece_at pieces k))
+unfolding races_at
+piece_value trace seen pieces k same is lt =
+    let own : piece_at pieces k ≡ piece_at (pieces_in seen) k = ap (λ (ps : List Piece). piece_at ps k) (is ∙ ap (λ (tr : List Event). pieces_in tr) same) in
+    (subst (IsRun seen) (sym own) (piece_within seen k _ lt), ap (λ (q : Piece). races_of seen q) (sym own))
+
+pub run_fits : (seen other : List Event) (list : List ℕ) (p : Piece) → other ≡ seen → IsRun seen p → list ≡ accesses_in other p.variable → p.to ≤ length list
+run_fits seen other list p same run is =
+    let size = ap length (is ∙ ap (λ (tr : List Event). accesses_in tr p.variable) same) in
+    let within = run.within in
+    omega (arith, size, within)
+
+pub run_value : (trace seen other : List Event) (list : List ℕ) (p : Piece) (found : List (ℕ × ℕ)) → trace ≡ seen → other ≡ seen → list ≡ accesses_in other p.variable → found ≡ flat_map (races_with trace) (slice_range list p.from p.to) → found ≡ races_of seen p
+unfolding races_of
+run_value trace seen other list p found same same_other is so = so ∙ (ap (λ (tr : List Event). flat_map (races_with tr) (slice_range list p.from p.to)) same ∙ ap (λ (ns : List ℕ). flat_map (races_with seen) (slice_range ns p.from p.to)) (is ∙ ap (λ (tr : List Event). accesses_in tr p.variable) same_other))

@@ -1,0 +1,10 @@
+use Rattle.std.proofs.Common.{sym, ◌∙◌}
+use Rattle.std.proofs.lemmas.Option.{slice_get-get_or}
+use Rattle.shb_lines.proofs.Conflicts.{conflict_from_test, test_from_conflict}
+use Rattle.shb_pairs.proofs.race.conflicts.Goals as goal
+
+pub returns : goal.returns
+returns c =
+    let first = slice_get-get_or c.args.events.now c.args.first _ c.requires.first in
+    let second = slice_get-get_or c.args.events.now c.args.second _ c.requires.second in
+    ((λ h. conflict_from_test _ _ _ _ _ first second (sym c.events_conflict.ensures ∙ h)), (λ conflict. c.events_conflict.ensures ∙ test_from_conflict _ _ _ _ _ first second conflict))

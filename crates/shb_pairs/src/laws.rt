@@ -1,0 +1,42 @@
+//! The laws of races, schedules and the race list, over the definitions alone. Each function does
+//! nothing: its contract is the law.
+
+ghost use Rattle.std.specs.Prelude.{◌≡◌, ◌<◌, ℕ, List, length};
+ghost use Rattle.shb_fan.specs.Values.{values_of};
+ghost use Rattle.shb_lines.specs.declared.event.Event.{Event};
+ghost use Rattle.shb_lines.specs.Discipline.{IsDisciplined};
+ghost use Rattle.shb_lines.specs.Race.{Conflict, IsRaceList, Race};
+ghost use Rattle.shb_lines.specs.Schedule.{IsPrintedSchedule, IsSchedule};
+ghost use Rattle.shb_lines.specs.Sizes.{IsNumberedByAccess};
+ghost use Rattle.shb_pairs.specs.Pieces.{pieces_in};
+ghost use Rattle.shb_pairs.specs.Races.{races_at, joined};
+
+/// The values of all pieces, joined, are the race list.
+pub fn pieces_give_race_list()
+    ensures { (trace : List Event) → IsNumberedByAccess trace → IsRaceList trace (joined (values_of (races_at trace) (length (pieces_in trace)))) }
+{}
+
+/// A trace has one race list.
+pub fn race_list_is_unique()
+    ensures { (trace : List Event) (races others : List (ℕ × ℕ)) → IsRaceList trace races → IsRaceList trace others → races ≡ others }
+{}
+
+/// The printed schedule of a race is a schedule of it.
+pub fn printed_schedule_is_schedule()
+    ensures { (trace : List Event) (s : List ℕ) (i j : ℕ) → IsDisciplined trace → Race trace i j → IsPrintedSchedule trace s i j → IsSchedule trace s i j }
+{}
+
+/// A conflicting pair that is no race has no schedule at all.
+pub fn no_schedule_without_race()
+    ensures { (trace : List Event) (s : List ℕ) (i j : ℕ) → Conflict trace i j → i < j → ¬ Race trace i j → ¬ IsSchedule trace s i j }
+{}
+
+/// A race has a schedule.
+pub fn race_has_schedule()
+    ensures { (trace : List Event) (i j : ℕ) → IsDisciplined trace → Race trace i j → (s : List ℕ) × IsSchedule trace s i j }
+{}
+
+/// A pair has one printed schedule.
+pub fn printed_schedule_is_unique()
+    ensures { (trace : List Event) (s other : List ℕ) (i j : ℕ) → IsPrintedSchedule trace s i j → IsPrintedSchedule trace other i j → s ≡ other }
+{}

@@ -1,0 +1,13 @@
+//! The race test, the accesses of each variable, and the races of a trace in pieces of work.
+#![tactic(auto)]
+
+mod accesses;
+mod job;
+pub mod laws;
+mod piece;
+mod race;
+
+pub use accesses::{Accesses, accesses_of};
+pub use job::PairJob;
+pub use piece::{Piece, pieces};
+pub use race::is_race;

@@ -1,0 +1,40 @@
+//! Runs of accesses.
+
+ghost use Rattle.std.specs.Prelude.{◌≡◌, ◌++◌, IfOk};
+ghost use Rattle.std.specs.Int.{div_ceil};
+ghost use Rattle.shb_pairs.specs.Pieces.{runs_of, pieces_in};
+
+use crate::accesses::Accesses;
+use shb_io::NoMemory;
+use std::alloc::{AllocError, Global};
+
+/// The run of accesses of a variable from one place up to and without another.
+#[derive(Clone, Copy, Debug, Drop, PartialEq, Eq)]
+pub struct Piece {
+    pub variable: u32,
+    pub from: u32,
+    pub to: u32,
+}
+
+/// Cuts a list of accesses into runs of at most 64.
+fn cut(pieces: &mut Vec<Piece>, variable: u32, accesses: u32) -> Result<(), AllocError>
+    ensures { IfOk result (λ _. pieces.new.items ≡ pieces.old.items ++ runs_of variable accesses (div_ceil accesses 64)) }
+{
+    for k in 0..accesses.div_ceil(64) {
+        let from = 64 * k;
+        let to = from + (accesses - from).min(64);
+        pieces.push(Piece { variable, from, to })?;
+    }
+    Ok(())
+}
+
+/// Cuts the accesses of each variable into runs of at most 64.
+pub fn pieces(alloc: Global, accesses: &Accesses<'_>) -> Result<Vec<Piece>, NoMemory>
+    ensures { IfOk result (λ v. v.items ≡ pieces_in accesses.now) }
+{
+    let mut pieces = Vec::new(alloc);
+    for x in 0..accesses.variables() {
+        cut(&mut pieces, x, accesses.of(x).len() as u32)?;
+    }
+    Ok(pieces)
+}
