@@ -1,0 +1,19 @@
+# Two commands: `make run` builds the program and runs it, `make test` runs what the gate runs.
+
+.PHONY: build run test bench
+
+# Proves and builds the program (rt leaves it beside the crate) and copies it to bin/shb.
+build:
+	cd crates/shb && rt run > /dev/null
+	mkdir -p bin
+	cp crates/shb/out/shb bin/shb
+
+run: build
+	bin/shb races examples/two-lines.std
+
+test:
+	.ci/run
+
+# Run by hand: it times the built program and prints ratios.
+bench: build
+	python3 bench/measure.py

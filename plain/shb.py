@@ -1,0 +1,199 @@
+#!/usr/bin/env python3
+"""The definitions as a plain program: slow, short, and written apart from the proved code.
+
+Reads a trace from standard input and writes the full report (or, with --list, the list report) to
+standard output; a refused trace ends with status 2 and its fault on standard error.
+"""
+
+import sys
+
+WORDS = {b"r", b"w", b"acq", b"rel", b"fork", b"join", b"begin", b"end"}
+MARKS = {b"begin", b"end"}
+TEXT, LINE, EVENTS, THREADS = 1_073_741_824, 4_096, 4_194_304, 1_024
+
+
+class Refused(Exception):
+    def __init__(self, line, words):
+        super().__init__(f"line {line}: {words}")
+
+
+def read_line(line):
+    """Nothing, (thread, word, name), or the words of the line's fault."""
+    if line == b"":
+        return None
+    fields = line.split(b"|", 2)
+    if len(fields) < 2:
+        return "the line has no operation field"
+    thread, operation = fields[0], fields[1]
+    if thread == b"":
+        return "the thread name is empty"
+    word = operation.split(b"(", 1)[0]
+    if word not in WORDS:
+        return "the operation is not known"
+    operand = operation[len(word):]
+    if word in MARKS:
+        if operand != b"" and not operand.endswith(b")"):
+            return "the operand is not a name in parentheses"
+        return thread, word, None
+    if len(operand) < 3 or not operand.endswith(b")"):
+        return "the operand is not a name in parentheses"
+    return thread, word, operand[1:-1]
+
+
+def names_of(event):
+    thread, word, name = event
+    return [thread, name] if word in (b"fork", b"join") else [thread]
+
+
+def discipline_fault(past, event):
+    """The words of the lowest fault that the event has after these events, or None."""
+    thread, word, name = event
+
+    def count(kind, what, by=lambda t: True):
+        return sum(1 for t, w, n in past if w == kind and n == what and by(t))
+
+    if count(b"join", thread) > 0:
+        return "the thread was joined before"
+    if word == b"acq":
+        others = lambda t: t != thread
+        if count(b"acq", name, others) != count(b"rel", name, others):
+            return "the lock is held by another thread"
+    if word == b"rel":
+        own = lambda t: t == thread
+        if count(b"acq", name, own) <= count(b"rel", name, own):
+            return "the lock is not held by this thread"
+    if word == b"fork":
+        if name == thread:
+            return "a thread cannot fork itself"
+        if any(t == name for t, _, _ in past):
+            return "the forked thread has started already"
+        if count(b"fork", name) > 0:
+            return "the thread was forked before"
+        if count(b"join", name) > 0:
+            return "the forked thread was joined before"
+    if word == b"join" and name == thread:
+        return "a thread cannot join itself"
+    return None
+
+
+def read_trace(text):
+    """The events, each with the bytes of its line; or Refused with the first fault of the text."""
+    pieces = text.split(b"\n")
+    events, lines, threads, start = [], [], set(), 0
+    for number, piece in enumerate(pieces, 1):
+        end = start + len(piece)
+        if len(text) > TEXT and start <= TEXT < end + 1:
+            raise Refused(number, f"the text is longer than {TEXT} bytes")
+        start = end + 1
+        if len(piece) > LINE:
+            raise Refused(number, f"the line is longer than {LINE} bytes")
+        line = piece[:-1] if piece.endswith(b"\r") else piece
+        event = read_line(line)
+        if event is None:
+            continue
+        if isinstance(event, str):
+            raise Refused(number, event)
+        if len(events) == EVENTS:
+            raise Refused(number, f"there are more than {EVENTS} events")
+        if len(threads | set(names_of(event))) > THREADS:
+            raise Refused(number, f"there are more than {THREADS} threads")
+        fault = discipline_fault(events, event)
+        if fault is not None:
+            raise Refused(number, fault)
+        threads |= set(names_of(event))
+        events.append(event)
+        lines.append(line)
+    return events, lines
+
+
+def last_write(events, r):
+    if events[r][1] != b"r":
+        return None
+    writes = [w for w in range(r) if events[w][1:] == (b"w", events[r][2])]
+    return writes[-1] if writes else None
+
+
+def is_edge(events, a, b):
+    (thread, word, name), (later_thread, later_word, later_name) = events[a], events[b]
+    return (
+        thread == later_thread
+        or (word == b"rel" and later_word == b"acq" and name == later_name)
+        or (word == b"fork" and name == later_thread)
+        or (later_word == b"join" and later_name == thread)
+        or last_write(events, b) == a
+    )
+
+
+def below_sets(events):
+    """For each event, the events SHB-below it or equal to it."""
+    below = []
+    for b in range(len(events)):
+        members = {b}
+        for a in range(b):
+            if is_edge(events, a, b):
+                members |= below[a]
+        below.append(members)
+    return below
+
+
+def predecessor(events, e):
+    earlier = [k for k in range(e) if events[k][0] == events[e][0]]
+    if earlier:
+        return earlier[-1]
+    forks = [k for k in range(len(events)) if events[k][1:] == (b"fork", events[e][0])]
+    return forks[0] if forks else None
+
+
+def conflict(first, second):
+    return (
+        first[1] in (b"r", b"w")
+        and second[1] in (b"r", b"w")
+        and first[2] == second[2]
+        and first[0] != second[0]
+        and b"w" in (first[1], second[1])
+    )
+
+
+def races_and_schedules(events):
+    below = below_sets(events)
+    preds = [predecessor(events, e) for e in range(len(events))]
+    learned = [below[p] if p is not None else set() for p in preds]
+    found = []
+    for j, later in enumerate(events):
+        for i in range(j):
+            if conflict(events[i], later) and i not in learned[j]:
+                first_access = next(k for k, e in enumerate(events) if e[1] in (b"r", b"w") and e[2] == later[2])
+                found.append((first_access, j, i, sorted(learned[i] | learned[j])))
+    return [(i, j, schedule) for _, j, i, schedule in sorted(found)]
+
+
+def report(text, schedules):
+    events, lines = read_trace(text)
+    threads = {name for event in events for name in names_of(event)}
+    locks = {name for _, word, name in events if word in (b"acq", b"rel")}
+    variables = {name for _, word, name in events if word in (b"r", b"w")}
+    races = races_and_schedules(events)
+    out = [
+        b"shb-report 1\n",
+        b"events %d threads %d locks %d variables %d\n" % (len(events), len(threads), len(locks), len(variables)),
+        b"races %d\n" % len(races),
+    ]
+    for k, (i, j, schedule) in enumerate(races, 1):
+        out.append(b"race %d: %d %d\n" % (k, i + 1, j + 1))
+        out.append(b"first " + lines[i] + b"\nsecond " + lines[j] + b"\n")
+        if schedules:
+            out.append(b"schedule %d:" % len(schedule) + b"".join(b" %d" % (e + 1) for e in schedule) + b"\n")
+    out.append(b"end\n")
+    return b"".join(out)
+
+
+def main():
+    try:
+        sys.stdout.buffer.write(report(sys.stdin.buffer.read(), "--list" not in sys.argv))
+    except Refused as refused:
+        print(refused, file=sys.stderr)
+        sys.exit(2)
+
+
+if __name__ == "__main__":
+    main()
