@@ -1,0 +1,49 @@
+//! The command line that is read.
+use crate::help::ABOUT_TRACES;
+use clap::{Arg, ArgAction, Command, value_parser};
+use std::alloc::{AllocError, Global};
+
+/// `races [--workers N] [--list] [TRACE]`
+fn races_command<'a>(alloc: Global) -> Result<Command<'a>, AllocError> {
+    let workers = Arg::new(alloc, "workers")
+        .long("workers")
+        .value_name("N")
+        .help("How many workers look for races, 1 to 64 [default: 4]")
+        .value_parser(value_parser!(u32).range(1..=64));
+    let list = Arg::new(alloc, "list")
+        .long("list")
+        .help("Leave the schedules out of the report")
+        .action(ArgAction::SetTrue);
+    let trace = Arg::new(alloc, "trace").value_name("TRACE").help(
+        "The file of the trace; standard input where it is left out",
+    );
+    Command::new(alloc, "races")
+        .about("Writes the report of a trace to standard output")
+        .after_help(ABOUT_TRACES)
+        .arg(workers)?
+        .arg(list)?
+        .arg(trace)
+}
+
+/// `check TRACE`
+fn check_command<'a>(alloc: Global) -> Result<Command<'a>, AllocError> {
+    let trace = Arg::new(alloc, "trace")
+        .value_name("TRACE")
+        .help("The file of the trace")
+        .required(true);
+    Command::new(alloc, "check")
+        .about("Checks a report with schedules, on standard input, against its trace")
+        .arg(trace)
+}
+
+/// The whole command line, whose first word is the program's own name.
+pub fn command<'a>(alloc: Global) -> Result<Command<'a>, AllocError> {
+    Command::new(alloc, "shb")
+        .about(
+            "Finds the races of a trace, and gives each a schedule. With no words at all it does what 'shb races --list' does",
+        )
+        .after_help(ABOUT_TRACES)
+        .subcommand_required(true)
+        .subcommand(races_command(alloc)?)?
+        .subcommand(check_command(alloc)?)
+}

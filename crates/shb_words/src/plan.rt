@@ -1,0 +1,130 @@
+//! The plan that some words ask for.
+use crate::command::command;
+use clap::error::ErrorKind;
+use clap::{ArgMatches, Error};
+use shb_fan::Workers;
+use std::alloc::{AllocError, AllocFailed, Global};
+
+/// What the words ask for.
+#[derive(Debug, Drop)]
+pub enum Plan {
+    /// Write the report of a trace, of standard input where `trace` is `None`; with `list`, without
+    /// schedules.
+    Races {
+        workers: Workers,
+        list: bool,
+        trace: Option<String>,
+    },
+    /// Check the report on standard input against a trace.
+    Check {
+        trace: String,
+    },
+    /// Print this help on standard output.
+    Help {
+        text: String,
+    },
+}
+
+/// Why the words give no plan.
+#[derive(Debug, Drop)]
+pub enum WordsFault {
+    /// The words ask for nothing that there is. The text says why, and ends in a line feed.
+    Refused { text: String },
+    /// Memory was refused.
+    Memory,
+}
+
+impl From<AllocError> for WordsFault {
+    fn from(_error: AllocError) -> WordsFault {
+        WordsFault::Memory
+    }
+}
+
+impl<T: Drop> From<AllocFailed<T>> for WordsFault {
+    fn from(_error: AllocFailed<T>) -> WordsFault {
+        WordsFault::Memory
+    }
+}
+
+/// The number of workers where the words name none: 4.
+fn default_workers() -> Workers {
+    match Workers::new(4) {
+        Some(workers) => workers,
+        None => unreachable!(),
+    }
+}
+
+/// The plan of the words behind `races`.
+fn races_plan(alloc: Global, matches: &ArgMatches<'_>) -> Result<Plan, WordsFault> {
+    let workers = matches
+        .get_one::<u32>("workers")
+        .and_then(Workers::new)
+        .unwrap_or(default_workers());
+    let trace = match matches.get_str("trace") {
+        Some(path) => Some(path.to_string(alloc)?),
+        None => None,
+    };
+    Ok(Plan::Races {
+        workers,
+        list: matches.get_flag("list"),
+        trace,
+    })
+}
+
+/// The plan of the words behind `check`.
+fn check_plan(alloc: Global, matches: &ArgMatches<'_>) -> Result<Plan, WordsFault> {
+    match matches.get_str("trace") {
+        Some(path) => Ok(Plan::Check {
+            trace: path.to_string(alloc)?,
+        }),
+        None => refused(alloc, "error: no TRACE was given\n"),
+    }
+}
+
+/// Words refused for this reason.
+fn refused(alloc: Global, reason: &str) -> Result<Plan, WordsFault> {
+    Err(WordsFault::Refused {
+        text: reason.to_string(alloc)?,
+    })
+}
+
+/// What stands for an error of the command line: help that was asked for is no error.
+fn plan_of_error(alloc: Global, error: Error) -> Result<Plan, WordsFault> {
+    match error.kind() {
+        ErrorKind::OutOfMemory => Err(WordsFault::Memory),
+        ErrorKind::DisplayHelp => Ok(Plan::Help {
+            text: error.to_string(alloc)?,
+        }),
+        _ => Err(WordsFault::Refused {
+            text: error.to_string(alloc)?,
+        }),
+    }
+}
+
+/// The plan that the words of a command line ask for, the program's own name left out.
+///
+/// No words at all ask for the races of standard input without schedules.
+/// After an error nothing has changed.
+pub fn plan_of(alloc: Global, words: &[String]) -> Result<Plan, WordsFault> {
+    if words.is_empty() {
+        return Ok(Plan::Races {
+            workers: default_workers(),
+            list: true,
+            trace: None,
+        });
+    }
+    let mut line: Vec<&str> = Vec::with_capacity(alloc, words.len() + 1)?;
+    line.push("shb")?;
+    for word in words {
+        line.push(word.as_str())?;
+    }
+    let matches = match command(alloc)?.try_get_matches_from(line.as_slice()) {
+        Ok(matches) => matches,
+        Err(error) => return plan_of_error(alloc, error),
+    };
+    match matches.subcommand() {
+        Some(("races", inner)) => races_plan(alloc, inner),
+        Some(("check", inner)) => check_plan(alloc, inner),
+        _ => refused(alloc, "error: no command was given\n"),
+    }
+}
