@@ -1,7 +1,7 @@
 -- How growths of known bytes join: for callers that write in several calls.
-use Rattle.std.proofs.Common.{ℕ, ◌+◌, ◌<◌, List, [], ◌++◌, length, take, Option, None, Some, Result, Ok, Err, IsErrAnd, OnOk, OnErr, refl, sym, ap, subst, ◌∙◌, append_assoc, append-nil, arith, length-append}
-use Rattle.std.proofs.lemmas.List.{take-append-le}
-use Rattle.std.proofs.Math.Seq.{take-append-add, take-append_seam}
+use Rattle.std.proofs.Common.{◌≡◌, ℕ, ◌+◌, ◌<◌, List, [], ◌++◌, length, take, drop, ◌-◌, length-drop, Option, None, Some, Result, Ok, Err, IsErrAnd, OnOk, OnErr, refl, sym, ap, subst, ◌∙◌, append_assoc, append-nil, arith, length-append}
+use Rattle.std.proofs.lemmas.List.{take_all, take-append-le}
+use Rattle.std.proofs.Math.Seq.{take-add, take-append-add, take-append_seam}
 use Rattle.std.specs.Io.KnownBytes.{Appends, Keeps}
 use Rattle.shb_io.specs.Devices.{AppendsPrefix, Writes, HoldsBack}
 
@@ -24,6 +24,12 @@ Appends-trans None b c xs ys p q = tt
 Appends-trans (Some x) None c xs ys p q = absurd p
 Appends-trans (Some x) (Some y) None xs ys p q = absurd q
 Appends-trans (Some x) (Some y) (Some z) xs ys p q = q ∙ ap (λ l. l ++ ys) p ∙ append_assoc x xs ys
+
+-- the first i bytes of xs, and then n bytes of `&xs[i..]`
+pub Appends-next : (a b c : Option (List ℕ)) (i n : ℕ) (xs : List ℕ) → Appends a b (take i xs) → Appends b c (take n (take (length xs - i) (drop i xs))) → Appends a c (take (i + n) xs)
+Appends-next a b c i n xs p q =
+    let rest : take (length xs - i) (drop i xs) ≡ drop i xs = take_all (length xs - i) (drop i xs) (omega (arith, length-drop i xs)) in
+    subst (Appends a c) (ap (λ l. take i xs ++ take n l) rest ∙ sym (take-add i n xs)) (Appends-trans a b c _ _ p q)
 
 -- ---- the first of the bytes
 

@@ -1,0 +1,144 @@
+//! What no contract says: that calls succeed, which errors of a reader or a writer are tried again, and the
+//! bytes that arrive behind a writer that is let go.
+use crate::*;
+use std::io::{self, BufWriter, ErrorKind, Read, Write};
+use std::process::Abort;
+use std::test::Fail;
+
+/// A reader that is interrupted some times, and then gives one byte at each read.
+#[derive(Drop)]
+struct Interrupted {
+    times: u32,
+}
+
+impl Read for Interrupted {
+    fn read(&mut self, buf: &mut [u8]) -> io::Result<usize> {
+        if self.times > 0 {
+            self.times -= 1;
+            return Err(io::Error::from(ErrorKind::Interrupted));
+        }
+        match buf.first_mut() {
+            Some(byte) => {
+                *byte = b'x';
+                Ok(1)
+            }
+            None => Ok(0),
+        }
+    }
+}
+
+/// A writer that takes no bytes.
+#[derive(Drop)]
+struct Full;
+
+impl Write for Full {
+    fn write(&mut self, _buf: &[u8]) -> io::Result<usize> {
+        Ok(0)
+    }
+
+    fn flush(&mut self) -> io::Result<()> {
+        Ok(())
+    }
+}
+
+/// Reads into a buffer of 10 bytes.
+fn expect_read<S: Source>(rt: &impl Abort, source: &mut S, want: Result<&[u8], Failed>) {
+    let mut buf = [0; 10];
+    assert!(rt; source.failures() < 9);
+    match source.read(&mut buf) {
+        Ok(count) => assert_eq!(rt; Ok(&buf[..count]), want),
+        Err(error) => assert_eq!(rt; Err(error), want),
+    }
+}
+
+/// Writes all bytes, and looks at what the page holds.
+fn expect_write(
+    rt: &impl Abort,
+    page: &mut Page,
+    bytes: &[u8],
+    want: Result<(), Failed>,
+    held: &[u8],
+) {
+    assert!(rt; page.failures() < 9);
+    assert_eq!(rt; write_all(page, bytes), want);
+    assert_eq!(rt; page.bytes(), held);
+}
+
+#[test]
+fn texts_fail_in_mid_stream(rt: HostRuntime) {
+    let mut by_one = Text::new(b"abc", 1, Some(2));
+    for want in [
+        Ok(b"a".as_slice()),
+        Err(Failed),
+        Ok(b"b"),
+        Ok(b"c"),
+        Ok(b""),
+    ] {
+        expect_read(&rt, &mut by_one, want);
+    }
+    assert_eq!(rt; by_one.failures(), 1);
+    let mut by_seven = Text::new(b"abcdefghijk", 7, Some(2));
+    for want in [Ok(b"abcdefg".as_slice()), Err(Failed), Ok(b"hijk"), Ok(b"")] {
+        expect_read(&rt, &mut by_seven, want);
+    }
+    assert_eq!(rt; by_seven.failures(), 1);
+    let mut never = Text::new(b"ab", 1, Some(0));
+    for want in [Ok(b"a".as_slice()), Ok(b"b"), Ok(b"")] {
+        expect_read(&rt, &mut never, want);
+    }
+}
+
+#[test]
+fn pages_fail_in_mid_stream(rt: HostRuntime) -> Result<(), Fail> {
+    let mut by_one = Page::new(rt.alloc(), 3, 1, Some(2))?;
+    expect_write(&rt, &mut by_one, b"abcd", Err(Failed), b"a");
+    expect_write(&rt, &mut by_one, b"bc", Ok(()), b"abc");
+    expect_write(&rt, &mut by_one, b"d", Err(Failed), b"abc");
+    assert_eq!(rt; by_one.failures(), 2);
+    let mut by_seven = Page::new(rt.alloc(), 10, 7, Some(2))?;
+    expect_write(&rt, &mut by_seven, b"abcdefghijk", Err(Failed), b"abcdefg");
+    expect_write(&rt, &mut by_seven, b"hijk", Err(Failed), b"abcdefghij");
+    assert_eq!(rt; by_seven.failures(), 2);
+    Ok(())
+}
+
+#[test]
+fn interruptions_are_tried_again(rt: HostRuntime) {
+    let mut patient = FromRead::new(Interrupted { times: 1_000 });
+    expect_read(&rt, &mut patient, Ok(b"x"));
+    assert_eq!(rt; patient.failures(), 0);
+    let mut too_many = FromRead::new(Interrupted { times: 1_001 });
+    expect_read(&rt, &mut too_many, Err(Failed));
+    assert_eq!(rt; too_many.failures(), 1);
+}
+
+#[test]
+fn a_write_of_no_bytes_is_a_failure(rt: HostRuntime) {
+    let mut sink = ToWrite::new(Full);
+    assert_eq!(rt; sink.write(b"a"), Err(Failed));
+    assert_eq!(rt; sink.failures(), 1);
+}
+
+#[test]
+fn all_bytes_arrive_behind_a_buffer(rt: HostRuntime) -> Result<(), Fail> {
+    let mut memory = Vec::new(rt.alloc());
+    let mut sink = ToWrite::new(BufWriter::with_capacity(rt.alloc(), 4, &mut memory)?);
+    write_all(&mut sink, b"abc")?;
+    write_all(&mut sink, b"defghi")?;
+    write_all(&mut sink, b"j")?;
+    sink.finish()?;
+    assert_eq!(rt; memory.as_slice(), b"abcdefghij".as_slice());
+    let mut owner = ToWrite::new(BufWriter::with_capacity(rt.alloc(), 4, Vec::new(rt.alloc()))?);
+    write_all(&mut owner, b"abc")?;
+    let writer = owner.into_writer()?;
+    assert_eq!(rt; writer.get_ref().as_slice(), b"abc".as_slice());
+    Ok(())
+}
+
+#[test]
+fn the_endless_source_counts(rt: HostRuntime) {
+    let mut source = Endless::new(b'x');
+    expect_read(&rt, &mut source, Ok(b"xxxxxxxxxx"));
+    expect_read(&rt, &mut source, Ok(b"xxxxxxxxxx"));
+    assert_eq!(rt; source.given(), 20);
+}
