@@ -1,6 +1,6 @@
 -- Different names have different numbers, and the variables are numbered as they are first accessed.
 use Rattle.std.proofs.Common.{◌≡◌, ◌⊎◌, inl, inr, ◌+◌, ◌<◌, ◌≤◌, ℕ, Bool, true, false, cond, not, zero, suc, List, [], ◌∷◌, ◌++◌, length, map, nat_lt, Option, None, Some, slice_get, refl, sym, ap, subst, ◌∙◌, arith}
-use Rattle.std.specs.List.{AllByRecursion, AllZip, IsDistinct, flat_map, list_any, position_or_len}
+use Rattle.std.specs.List.{AllByRecursion, AllZip, IsDistinct, flat_map, position_or_len}
 use Rattle.std.specs.Str.{bytes_eq}
 use Rattle.std.proofs.Math.Numerals.{one-add}
 use Rattle.std.proofs.lemmas.Bool.Decides.{nat_tests}
@@ -20,7 +20,7 @@ use Rattle.shb_lines.specs.Reader.{IsOperation, Tables, with_names}
 use Rattle.shb_lines.specs.Sizes.{IsEventWithin, IsNumberedByAccess, IsOpWithin, IsWithin}
 use Rattle.shb_lines.specs.Text.{LocatedEvent, trace_of, variables_among}
 use Rattle.shb_lines.specs.TraceData.{IsTraceOf, IsWellFormed, TraceData, sizes_of, tables_in}
-use Rattle.shb_lines.proofs.NameLemmas.{length-with_name, slice_get-with_names, with_name-at}
+use Rattle.shb_lines.proofs.NameLemmas.{length-with_name_le, slice_get-with_names, with_name-at}
 
 lt_or_le : (m n : ℕ) → (m < n) ⊎ (n ≤ m)
 lt_or_le m n = by (nat_lt m n) refl
@@ -99,13 +99,6 @@ place_within (known ∷ names) name = by (bytes_eq name known) (place_within nam
     by : (b : Bool) → position_or_len (bytes_eq name) names ≤ length names → cond (not b) (1 + position_or_len (bytes_eq name) names) 0 ≤ length (known ∷ names)
     by true rest = omega arith
     by false rest = omega arith
-
-length-with_name_le : (names : List (List ℕ)) (name : List ℕ) → length (with_name names name) ≤ length names + 1
-length-with_name_le names name = omega (arith, length-with_name names name, at_most (list_any (bytes_eq name) names))
-  where
-    at_most : (b : Bool) → cond b 0 1 ≤ 1
-    at_most true = omega arith
-    at_most false = omega arith
 
 -- what an operation says of variables: it names none, or one, whose number it has
 data OfVariable (table : List (List ℕ)) (op : Op) (kind : Kind) (name : List ℕ) : Type 0 where

@@ -1,0 +1,8 @@
+-- A remembered name changes no table.
+use Rattle.std.proofs.Common.{sym}
+use Rattle.shb_lines.specs.Names.{names_in}
+use Rattle.shb_lines.proofs.NameLemmas.{with_name-known}
+use Rattle.shb_lines.proofs.names.Names.number_of.Goals as goal
+
+pub returns-in-Some-clause-names : goal.returns-in-Some-clause-names
+returns-in-Some-clause-names c = sym (with_name-known (names_in c.args.self.now.table.entries) c.args.name.now _ c.in-Some.ensures.number)
