@@ -1,0 +1,3 @@
+pub mod StandIn
+pub mod Faults
+pub mod State

@@ -2,5 +2,7 @@
 #![tactic(auto)]
 
 mod disciplined;
+mod fault;
+mod state;
 
 pub use disciplined::Disciplined;
