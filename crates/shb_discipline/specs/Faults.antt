@@ -1,11 +1,14 @@
 -- The faults of the discipline: which of them an event has, and the first of a trace.
-use Rattle.std.specs.Prelude.{◌≡◌, ◌≢◌, ℕ, ◌<◌, ◌≤◌, List, Some, slice_get, count_by, take}
+use Rattle.std.specs.Prelude.{◌≡◌, ◌≢◌, ℕ, ◌<◌, ◌≤◌, List, Option, Some, None, slice_get, count_by, take}
 use Rattle.shb_lines.specs.declared.event.Event.{Event}
+use Rattle.shb_lines.specs.declared.event.LineFault.{LineFault}
 use Rattle.shb_lines.specs.declared.event.Op.TheVariants.{Acquire, Release, Fork, Join}
-use Rattle.shb_lines.specs.Discipline.{acquires, is_fork, is_join, is_of, only, other_than, releases, MayCome}
-use Rattle.shb_discipline.specs.declared.fault.Fault.{Fault}
-use Rattle.shb_discipline.specs.declared.fault.Fault.TheVariants as faults
-use Rattle.shb_discipline.specs.StandIn.{IsLowest}
+use Rattle.shb_lines.specs.Discipline.{acquires, is_fork, is_join, is_of, only, other_than, releases, IsDisciplined, MayCome}
+use Rattle.shb_lines.specs.declared.event.Fault.{Fault}
+use Rattle.shb_lines.specs.declared.event.Fault.TheVariants as faults
+use Rattle.shb_lines.specs.Faults.{IsLowest}
+use Rattle.shb_discipline.specs.declared.checking.CheckError.{CheckError}
+use Rattle.shb_discipline.specs.declared.checking.CheckError.TheVariants.{Undisciplined, Memory}
 
 -- the event has the fault, after these events
 abbrev pub HasDisciplineFault : List Event → Event → Fault → Type 0
@@ -27,3 +30,13 @@ pub record IsFirstDisciplineFault (trace : List Event) (line : ℕ) (fault : Fau
   pub line_is : line ≡ event.line
   pub lowest : IsLowest (HasDisciplineFault (take position trace) event) (Some fault)
   pub earlier : (k : ℕ) (e : Event) → k < position → slice_get trace k ≡ Some e → MayCome (take k trace) e
+
+-- the first fault of a trace, if it has one
+abbrev pub IsFirstIfAny : List Event → Option LineFault → Type 0
+IsFirstIfAny trace None = IsDisciplined trace
+IsFirstIfAny trace (Some found) = IsFirstDisciplineFault trace found.line found.fault
+
+-- the answer to a trace that is refused
+abbrev pub IsRefusal : List Event → CheckError → Type 0
+IsRefusal trace (Undisciplined line fault) = IsFirstDisciplineFault trace line fault
+IsRefusal trace Memory = Unit {0}

@@ -1,3 +1,2 @@
-pub mod StandIn
 pub mod Faults
 pub mod State

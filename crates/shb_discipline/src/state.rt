@@ -1,15 +1,16 @@
 //! What the events so far did to each lock and each thread.
-ghost use Rattle.std.specs.Prelude.{◌≡◌, ◌<◌, ◌↔◌, ◌^◌, ◌+◌, ℕ, List, IsTrue, IfOk, Some, slice_get, take, length, count_by, vec_len, All};
+ghost use Rattle.std.specs.Prelude.{◌≡◌, ◌<◌, ◌↔◌, ◌^◌, ◌+◌, ℕ, List, IsTrue, IfOk, Some, slice_get, take, length, count_by, vec_len, All, false, replicate, []};
 ghost use Rattle.shb_lines.specs.declared.event.Event.{Event};
 ghost use Rattle.shb_lines.specs.declared.event.Op.TheVariants.{Acquire, Release, Fork, Join};
 ghost use Rattle.shb_lines.specs.Discipline.{MayCome, acquires, is_fork, is_join, is_of, only, other_than, releases};
 ghost use Rattle.shb_lines.specs.Sizes.{IsWithin};
-ghost use Rattle.shb_discipline.specs.StandIn.{IsLowest};
+ghost use Rattle.shb_lines.specs.Faults.{IsLowest};
 ghost use Rattle.shb_discipline.specs.Faults.{HasDisciplineFault};
 ghost use Rattle.shb_discipline.specs.State.{Covers, IsLockAfter, IsStateAfter, Tells};
 
-use crate::fault::Fault;
-use shb_lines::{Event, Op};
+use shb_io::NoMemory;
+use shb_lines::{Event, Fault, Op, Sizes};
+use std::alloc::Global;
 
 /// A lock after some events: its holder, and how many of the holder's acquires are not yet
 /// released, 0 where the lock is free.
@@ -29,6 +30,24 @@ pub(crate) struct State {
     pub(crate) forked: Vec<bool>,
     /// Whether a thread was joined.
     pub(crate) joined: Vec<bool>,
+}
+
+/// As many locks that are free.
+fn free_locks(alloc: Global, size: u32) -> Result<Vec<LockState>, NoMemory>
+    ensures { IfOk result (λ locks. locks.items ≡ replicate size record { holder = 0; depth = 0 }) }
+{
+    let free = LockState {
+        holder: 0,
+        depth: 0,
+    };
+    Ok(vec![in alloc; free; size as usize]?)
+}
+
+/// As many flags that are false.
+fn unset_flags(alloc: Global, size: u32) -> Result<Vec<bool>, NoMemory>
+    ensures { IfOk result (λ flags. flags.items ≡ replicate size false) }
+{
+    Ok(vec![in alloc; false; size as usize]?)
 }
 
 impl LockState {
@@ -88,6 +107,19 @@ fn join_fault(thread: u32, child: u32) -> Option<Fault>
 }
 
 impl State {
+    /// Before all events: each lock is free, and no thread has begun.
+    pub(crate) fn new(alloc: Global, sizes: Sizes) -> Result<State, NoMemory>
+        ensures covers { (trace : List Event) → IsWithin trace sizes → IfOk result (λ state. All (Covers state) trace) }
+        ensures state { IfOk result (IsStateAfter []) }
+    {
+        Ok(State {
+            locks: free_locks(alloc, sizes.locks)?,
+            started: unset_flags(alloc, sizes.threads)?,
+            forked: unset_flags(alloc, sizes.threads)?,
+            joined: unset_flags(alloc, sizes.threads)?,
+        })
+    }
+
     /// Whether the thread had an event.
     fn is_started(&self, thread: u32) -> bool
         requires { thread < vec_len self.now.started }
