@@ -1,0 +1,84 @@
+//! The schedules of races as work in pieces.
+
+ghost use Rattle.std.specs.Prelude.{◌≡◌, ℕ, List, All, length};
+ghost use Rattle.shb_lines.specs.Race.{Race};
+ghost use Rattle.shb_lines.specs.declared.event.Event.{Event};
+ghost use Rattle.shb_lines.specs.declared.event.Pair.{Pair};
+ghost use Rattle.shb_witness.specs.Schedules.{Asked, AreRaces, schedule_at};
+
+use crate::schedules::schedule;
+use shb_clocks::Order;
+use shb_discipline::Disciplined;
+use shb_fan::Job;
+use shb_io::NoMemory;
+use shb_lines::Pair;
+use shb_links::Links;
+use std::alloc::Global;
+use std::collections::LinkedList;
+use std::marker::Model;
+
+/// Makes the schedules of races: piece k is the printed schedule of race k. Contracts see it as the
+/// trace and its races, which fix every schedule.
+#[derive(Drop)]
+pub struct WitnessJob<'a, O: Order> {
+    order: &'a O,
+    trace: &'a Disciplined<'a>,
+    links: &'a Links<'a>,
+    pairs: &'a [Pair],
+}
+
+impl<'a, O: Order> Model for WitnessJob<'a, O> {
+    ghost Value = { Asked };
+
+    ghost view = { λ j. record { trace = j.trace.now.events.now; races = j.pairs.now } };
+
+    ghost invariant = { λ j. (O.trace j.order.now ≡ j.trace.now.events.now) × (j.links.now ≡ j.trace.now.events.now) × AreRaces j.trace.now.events.now j.pairs.now };
+}
+
+impl<'a, O: Order> WitnessJob<'a, O> {
+    /// The work of making a schedule for each of these races.
+    pub fn new(
+        order: &'a O,
+        trace: &'a Disciplined<'a>,
+        links: &'a Links<'a>,
+        pairs: &'a [Pair],
+    ) -> Self
+        requires of_trace { O.trace order.now ≡ trace.now.events.now }
+        requires linked { links.now ≡ trace.now.events.now }
+        requires races { AreRaces trace.now.events.now pairs.now }
+        ensures { result ≡ record { trace = trace.now.events.now; races = pairs.now } }
+    {
+        WitnessJob {
+            order,
+            trace,
+            links,
+            pairs,
+        }
+    }
+}
+
+impl<'a, O: Order> Job for WitnessJob<'a, O> {
+    type Out = Vec<u32>;
+
+    type Meaning = LinkedList<u32>;
+
+    ghost meaning = { λ positions. positions.items };
+
+    ghost value = { λ asked k. schedule_at asked.trace asked.races k };
+
+    ghost count = { λ asked. length asked.races };
+
+    fn pieces(&self) -> u64 {
+        self.pairs.len() as u64
+    }
+
+    fn run(&self, alloc: Global, k: u64) -> Result<Vec<u32>, NoMemory> {
+        schedule(
+            alloc,
+            self.order,
+            self.trace,
+            self.links,
+            self.pairs[k as usize],
+        )
+    }
+}

@@ -1,0 +1,10 @@
+//! Schedules: for each race, an order of events in which both accesses come next.
+#![tactic(auto)]
+
+mod cuts;
+mod job;
+pub mod laws;
+mod schedules;
+
+pub use job::WitnessJob;
+pub use schedules::schedule;

@@ -1,0 +1,44 @@
+//! The printed schedule of a race.
+
+ghost use Rattle.std.specs.Prelude.{◌≡◌, IfOk};
+ghost use Rattle.shb_lines.specs.Race.{Race};
+ghost use Rattle.shb_lines.specs.Schedule.{IsPrintedSchedule, IsSchedule};
+
+use crate::cuts::{cuts_of, end_of};
+use shb_clocks::Order;
+use shb_discipline::Disciplined;
+use shb_io::NoMemory;
+use shb_lines::Pair;
+use shb_links::Links;
+use std::alloc::Global;
+
+/// The printed schedule of a race: the positions, rising, of all events that are SHB-below the
+/// predecessor of either access or are it. After it both accesses are next, and it is a correct
+/// reordering that keeps happens-before. Which of the schedules of a race is printed is this
+/// project's profile. `NoMemory` where memory was refused.
+///
+/// It asks the order twice for each thread, and goes once over the events up to the later of the two
+/// predecessors.
+pub fn schedule<O: Order>(
+    alloc: Global,
+    order: &O,
+    trace: &Disciplined<'_>,
+    links: &Links<'_>,
+    pair: Pair,
+) -> Result<Vec<u32>, NoMemory>
+    requires of_trace { O.trace order.now ≡ trace.now.events.now }
+    requires linked { links.now ≡ trace.now.events.now }
+    requires race { Race trace.now.events.now pair.first pair.second }
+    ensures printed { IfOk result (λ s. IsPrintedSchedule trace.now.events.now s.items pair.first pair.second) }
+    ensures schedule { IfOk result (λ s. IsSchedule trace.now.events.now s.items pair.first pair.second) }
+{
+    let cuts = cuts_of(alloc, order, trace, pair)?;
+    let mut positions = Vec::new(alloc);
+    for k in 0..end_of(trace, links, pair) {
+        let thread = trace.events[k as usize].thread;
+        if links.local(k) <= cuts[thread as usize] {
+            positions.push(k)?;
+        }
+    }
+    Ok(positions)
+}
