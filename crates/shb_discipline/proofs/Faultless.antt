@@ -1,0 +1,74 @@
+-- An event may come after others exactly where it has no fault.
+use Rattle.std.proofs.Common.{◌≡◌, ℕ, ◌+◌, ◌<◌, ◌≤◌, ◌⊎◌, inl, inr, List, Option, Some, None, length, take, get_or, refl, sym, ◌∙◌, ap, arith, subst}
+use Rattle.std.specs.Prelude.{slice_get, count_by}
+use Rattle.std.proofs.lemmas.Bool.{cases_eq, cases_lt}
+use Rattle.std.proofs.lemmas.Option.{slice_get-get_or, slice_get_within, get_or_from_slice_get}
+use Rattle.shb_lines.specs.declared.event.Event.{Event}
+use Rattle.shb_lines.specs.declared.event.Fault.{Fault}
+use Rattle.shb_lines.specs.declared.event.Fault.TheVariants as faults
+use Rattle.shb_lines.specs.declared.event.Op.{Op}
+use Rattle.shb_lines.specs.declared.event.Op.TheVariants.{Acquire, Release, Fork, Join}
+use Rattle.shb_lines.specs.Discipline.{acquires, is_fork, is_join, is_of, only, other_than, releases, MayCome, MayDo, MayFork}
+use Rattle.shb_lines.proofs.Locks.{DisciplinedBelow}
+use Rattle.shb_discipline.specs.Faults.{HasDisciplineFault}
+
+none_of : (n : ℕ) → (0 < n → ⊥) → n ≡ 0
+none_of n h = go (cases_lt 0 n)
+  where
+    go : (0 < n) ⊎ (n ≤ 0) → n ≡ 0
+    go (inl some) = absurd (h some)
+    go (inr none) = omega arith
+
+module _ (past : List Event) (e : Event) where
+  module _ (clean : (f : Fault) → HasDisciplineFault past e f → ⊥) where
+    may_do : (op : Op) → e.op ≡ op → MayDo past e.thread op
+    may_do (Acquire l) is = go (cases_eq (acquires (other_than e.thread) l past) (releases (other_than e.thread) l past))
+      where
+        go : (acquires (other_than e.thread) l past ≡ releases (other_than e.thread) l past) ⊎ (acquires (other_than e.thread) l past ≡ releases (other_than e.thread) l past → ⊥) → acquires (other_than e.thread) l past ≡ releases (other_than e.thread) l past
+        go (inl same) = same
+        go (inr differ) = absurd (clean faults.LockHeld (l, is, differ))
+    may_do (Release l) is = go (cases_lt (releases (only e.thread) l past) (acquires (only e.thread) l past))
+      where
+        go : (releases (only e.thread) l past < acquires (only e.thread) l past) ⊎ (acquires (only e.thread) l past ≤ releases (only e.thread) l past) → releases (only e.thread) l past < acquires (only e.thread) l past
+        go (inl held) = held
+        go (inr free) = absurd (clean faults.NotHeld (l, is, free))
+    may_do (Fork u) is = record {
+      other = λ own. clean faults.ForkSelf (is ∙ ap (λ t. Fork t) own);
+      not_started = none_of _ (λ some. clean faults.ForkStarted (u, is, some));
+      not_forked = none_of _ (λ some. clean faults.ForkTwice (u, is, some));
+      not_joined = none_of _ (λ some. clean faults.ForkJoined (u, is, some));
+    }
+    may_do (Join u) is = λ own. clean faults.JoinSelf (is ∙ ap (λ t. Join t) own)
+    may_do _ is = tt
+
+    pub may_come : MayCome past e
+    may_come = record { not_joined = none_of _ (λ some. clean faults.AfterJoin some); may_do = may_do e.op refl }
+
+  -- and it has no fault where it may come
+  allowed : MayCome past e → (op : Op) → e.op ≡ op → MayDo past e.thread op
+  allowed may op is = subst (MayDo past e.thread) is may.may_do
+
+  fork_allowed : MayCome past e → (u : ℕ) → e.op ≡ Fork u → MayFork past e.thread u
+  fork_allowed may u is = allowed may (Fork u) is
+
+  pub no_fault : MayCome past e → (f : Fault) → HasDisciplineFault past e f → ⊥
+  no_fault may faults.AfterJoin h = let none = may.not_joined in omega arith
+  no_fault may faults.LockHeld h = h.2 (allowed may (Acquire h.0) h.1)
+  no_fault may faults.NotHeld h = let held = allowed may (Release h.0) h.1 in let free = h.2 in omega (arith, held, free)
+  no_fault may faults.ForkSelf h = (fork_allowed may e.thread h).other refl
+  no_fault may faults.ForkStarted h = let none = (fork_allowed may h.0 h.1).not_started in let some = h.2 in omega (arith, none, some)
+  no_fault may faults.ForkTwice h = let none = (fork_allowed may h.0 h.1).not_forked in let some = h.2 in omega (arith, none, some)
+  no_fault may faults.ForkJoined h = let none = (fork_allowed may h.0 h.1).not_joined in let some = h.2 in omega (arith, none, some)
+  no_fault may faults.JoinSelf h = allowed may (Join e.thread) h refl
+  no_fault may _ h = h
+
+-- one more event that may come
+pub disciplined_more : (trace : List Event) (k : ℕ) (d : Event) → k < length trace → DisciplinedBelow trace k → MayCome (take k trace) (get_or trace k d) → DisciplinedBelow trace (k + 1)
+disciplined_more trace k d within all here m e lt at_m = go (cases_lt m k)
+  where
+    go : (m < k) ⊎ (k ≤ m) → MayCome (take m trace) e
+    go (inl low) = all m e low at_m
+    go (inr le) =
+        let same : k ≡ m = omega arith in
+        let item : get_or trace k d ≡ e = ap (λ n. get_or trace n d) same ∙ get_or_from_slice_get trace m e d at_m in
+        subst (λ n. MayCome (take n trace) e) same (subst (MayCome (take k trace)) item here)

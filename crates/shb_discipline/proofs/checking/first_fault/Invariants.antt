@@ -1,0 +1,11 @@
+use Rattle.std.proofs.Common.{All, take}
+use Rattle.shb_lines.proofs.Locks.{DisciplinedBelow}
+use Rattle.shb_discipline.specs.State.{Covers, IsStateAfter}
+use Rattle.shb_discipline.proofs.checking.first_fault.Given as goal
+
+abbrev pub invariant-loop-e : goal.invariant-loop-e
+invariant-loop-e l = record {
+  covers : All (Covers l.state) l.events;
+  state : IsStateAfter (take l.e l.events) l.state;
+  disciplined : DisciplinedBelow l.events l.e;
+}

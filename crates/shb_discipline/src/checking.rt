@@ -1,0 +1,77 @@
+//! The check of the discipline, by one pass over the events.
+ghost use Rattle.std.specs.Prelude.{◌≡◌, ◌≤◌, IfErr, IfOk, length};
+ghost use Rattle.shb_lines.specs.Sizes.{IsWithin};
+ghost use Rattle.shb_discipline.specs.Faults.{IsFirstIfAny, IsRefusal};
+
+use crate::disciplined::Disciplined;
+use crate::state::State;
+use shb_io::NoMemory;
+use shb_lines::{Event, Fault, LineFault, Sizes, Trace};
+use std::alloc::Global;
+
+/// Why a trace is not known to meet the discipline.
+#[derive(Clone, Copy, Debug, PartialEq, Eq)]
+pub enum CheckError {
+    /// It does not: an event may not come after those before it. The line of the first such event,
+    /// counted from 1, and its fault of lowest number.
+    Undisciplined { line: u32, fault: Fault },
+    /// There is no memory for the check. Nothing is said of the trace.
+    Memory,
+}
+
+impl From<NoMemory> for CheckError {
+    ghost use Rattle.shb_discipline.specs.declared.checking.CheckError.TheVariants.{Memory};
+
+    ghost from_gives = { λ _ e. e ≡ Memory };
+
+    fn from(_error: NoMemory) -> CheckError {
+        CheckError::Memory
+    }
+}
+
+/// The first event that may not come after those before it: its line and its fault of lowest
+/// number.
+fn first_fault(alloc: Global, events: &[Event], sizes: Sizes) -> Result<Option<LineFault>, NoMemory>
+    requires few { length events.now ≤ 4194304 }
+    requires within { IsWithin events.now sizes }
+    ensures { IfOk result (IsFirstIfAny events.now) }
+{
+    let mut state = State::new(alloc, sizes)?;
+    for e in 0..events.len() as u32 {
+        let event = events[e as usize];
+        if let Some(fault) = state.fault(event) {
+            let line = event.line;
+            return Ok(Some(LineFault { line, fault }));
+        }
+        state.note(events, e);
+    }
+    Ok(None)
+}
+
+/// Checks that a trace meets the discipline of locks, forks and joins: a thread does nothing after
+/// it was joined; it acquires a lock only while no other thread holds it, and releases one only
+/// while it holds it itself; it forks another thread once, before that thread's first event and
+/// before any join of it; it doesn't join itself. The rules are this project's profile.
+///
+/// A trace that meets it comes back as a [`Disciplined`], which borrows it. The trace stays as it
+/// is in each case. One pass over the events; memory for the locks and threads alone.
+///
+/// # Errors
+///
+/// [`CheckError::Undisciplined`] exactly where some event breaks a rule, with the line of the first
+/// one and its fault of lowest number. [`CheckError::Memory`] where no memory is left.
+pub fn check<'a>(alloc: Global, trace: &'a Trace) -> Result<Disciplined<'a>, CheckError>
+    ensures disciplined { IfOk result (λ d. d.trace.now ≡ trace.now) }
+    ensures refused { IfErr result (IsRefusal trace.now.events) }
+{
+    let events = trace.events();
+    let sizes = trace.sizes();
+    match first_fault(alloc, events, sizes)? {
+        None => Ok(Disciplined {
+            trace,
+            events,
+            sizes,
+        }),
+        Some(LineFault { line, fault }) => Err(CheckError::Undisciplined { line, fault }),
+    }
+}
