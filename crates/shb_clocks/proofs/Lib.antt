@@ -1,5 +1,9 @@
 pub mod Fronts
+pub mod KeptLemmas
+pub mod LearnedLemmas
 pub mod Locals
 pub mod MarksLemmas
+pub mod MayLearn
 pub mod PastLemmas
+pub mod RowsLemmas
 pub mod Sources

@@ -1,4 +1,5 @@
 pub mod Fronts
+pub mod Learned
 pub mod Marks
 pub mod Past
 pub mod Rows

@@ -1,4 +1,4 @@
-//! A clock: one number for each thread.
+//! Clocks: one number for each thread.
 
 ghost use Rattle.std.specs.Prelude.{◌≡◌, ℕ, ◌+◌, ◌*◌, ◌<◌, ◌≤◌, List, IfOk, length, max, replicate, set, slice_index_or};
 ghost use Rattle.shb_clocks.specs.Rows.{row_at};
@@ -54,6 +54,26 @@ impl Clock {
         join(self.entries.as_mut_slice(), other);
     }
 
+    /// Takes over the entries of an event's clock.
+    pub fn copy_event(&mut self, other: &EventClock<'_>)
+        requires { length other.now ≡ length self.old }
+        ensures { self.new ≡ other.now }
+    {
+        self.entries.copy_from_slice(other.row);
+        self.entries[other.thread as usize] = other.place;
+    }
+
+    /// Raises each entry to that of an event's clock.
+    pub fn join_event(&mut self, other: &EventClock<'_>)
+        requires { length other.now ≡ length self.old }
+        ensures long { length self.new ≡ length self.old }
+        ensures joined { (t : ℕ) → slice_index_or self.new t 0 ≡ max (slice_index_or self.old t 0) (slice_index_or other.now t 0) }
+    {
+        let own = self.entries[other.thread as usize].max(other.place);
+        join(self.entries.as_mut_slice(), other.row);
+        self.entries[other.thread as usize] = own;
+    }
+
     /// Sets one entry.
     pub fn put(&mut self, t: usize, value: u32)
         requires { t < length self.old }
@@ -66,6 +86,54 @@ impl Clock {
         ensures { result.now ≡ self.now }
     {
         self.entries.as_slice()
+    }
+}
+
+/// The clock of an event: a row that other events may share, and the event's own place as the entry
+/// of its thread. It is seen as the list of entries.
+#[derive(Drop)]
+pub struct EventClock<'a> {
+    row: &'a [u32],
+    thread: u32,
+    place: u32,
+}
+
+impl<'a> Model for EventClock<'a> {
+    ghost Value = { List ℕ };
+
+    ghost view = { λ c. set c.row.now c.thread c.place };
+
+    ghost invariant = { λ c. c.thread < length c.row.now };
+}
+
+impl<'a> EventClock<'a> {
+    /// The clock of the event at this place of the thread.
+    pub fn new(row: &'a [u32], thread: u32, place: u32) -> Self
+        requires { thread < length row.now }
+        ensures { result ≡ set row.now thread place }
+    {
+        EventClock { row, thread, place }
+    }
+
+    /// The entry of a thread, 0 where the clock has none.
+    pub fn entry(&self, t: u32) -> u32
+        ensures { result ≡ slice_index_or self.now t 0 }
+    {
+        if t == self.thread {
+            self.place
+        } else {
+            entry(self.row, t)
+        }
+    }
+}
+
+/// The entry of a thread, 0 where the clock has none.
+pub fn entry(clock: &[u32], t: u32) -> u32
+    ensures { result ≡ slice_index_or clock.now t 0 }
+{
+    match clock.get(t as usize) {
+        Some(number) => *number,
+        None => 0,
     }
 }
 

@@ -1,10 +1,10 @@
 //! An order by one clock for each event.
 
-ghost use Rattle.std.specs.Prelude.{◌≡◌, ℕ, ◌<◌, List, IfOk, length, slice_index_or};
+ghost use Rattle.std.specs.Prelude.{◌≡◌, ℕ, ◌<◌, List, IfOk, length};
 ghost use Rattle.shb_lines.specs.declared.event.Event.{Event};
 ghost use Rattle.shb_clocks.specs.Past.{HasClocks};
 
-use crate::clock::{Clock, row};
+use crate::clock::{Clock, entry, row};
 use crate::order::Order;
 use crate::past::{Past, add};
 use shb_discipline::Disciplined;
@@ -59,16 +59,6 @@ pub fn full<'a>(
         threads: sizes.threads,
         clocks,
     })
-}
-
-/// The entry of a thread, 0 where the clock has none.
-fn entry(clock: &[u32], t: u32) -> u32
-    ensures { result ≡ slice_index_or clock.now t 0 }
-{
-    match clock.get(t as usize) {
-        Some(number) => *number,
-        None => 0,
-    }
 }
 
 impl<'a> Order for FullClocks<'a> {

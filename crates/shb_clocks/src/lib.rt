@@ -2,13 +2,19 @@
 #![tactic(auto)]
 
 mod clock;
+mod clock_versions;
 mod edges;
 mod full_clocks;
+mod kept;
+mod kept_clocks;
+mod learned_past;
 mod order;
 mod past;
 mod plain_order;
 mod row;
+mod rows;
 
+pub use clock_versions::{ClockVersions, versions};
 pub use full_clocks::{FullClocks, full};
 pub use order::Order;
 pub use plain_order::{PlainOrder, plain};

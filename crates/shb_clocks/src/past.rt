@@ -24,7 +24,7 @@ pub struct Past {
 }
 
 /// A clock of zeros for each lock.
-fn lock_clocks(alloc: Global, events: &[Event], sizes: Sizes) -> Result<Vec<Clock>, NoMemory>
+pub fn lock_clocks(alloc: Global, events: &[Event], sizes: Sizes) -> Result<Vec<Clock>, NoMemory>
     ensures { IfOk result (λ locks. HasLockClocks events.now 0 sizes.threads sizes.locks locks.items) }
 {
     let mut locks = Vec::new(alloc);

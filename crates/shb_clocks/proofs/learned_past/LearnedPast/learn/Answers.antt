@@ -1,0 +1,45 @@
+use Rattle.std.proofs.Common.{List, Some, ◌∙◌, sym, ap, subst}
+use Rattle.shb_lines.specs.declared.event.Event.{Event}
+use Rattle.shb_lines.specs.Order.{LastWrite, ShbBelow}
+use Rattle.shb_lines.proofs.Items.{op_item}
+use Rattle.shb_links.specs.Latest.{OfThread}
+use Rattle.shb_clocks.specs.Fronts.{BelowRelease}
+use Rattle.shb_clocks.proofs.PastLemmas.{lock_front, latest_some, latest_none, exactly_none, op_within, learns_nothing, front_learns_nothing, front_learns, acquire_learns, join_learns, join_learns_nothing, read_learns_nothing}
+use Rattle.shb_clocks.proofs.learned_past.LearnedPast.learn.Goals as goal
+
+pub returns-in-Acquire-clause-front : goal.returns-in-Acquire-clause-front
+returns-in-Acquire-clause-front c =
+    let low = op_within c.args.trace.now.events.now c.args.trace.now.sizes c.args.e _ _ c.args.trace.now.within c.requires.in_range c.in-Acquire.is in
+    front_learns c.args.trace.now.events.now c.args.trace.now.meets c.args.e (BelowRelease c.args.trace.now.events.now c.in-Acquire.lock c.args.e) c.args.clock.now c.as_slice.result.now _
+    (λ k. acquire_learns c.args.trace.now.events.now c.args.trace.now.meets c.args.e c.in-Acquire.lock k (op_item c.args.trace.now.events.now c.args.e _ c.requires.in_range ∙ ap (λ o. Some o) c.in-Acquire.is))
+    (lock_front c.args.trace.now.events.now c.args.e c.args.trace.now.sizes.threads c.args.trace.now.sizes.locks c.in-Acquire.lock c.args.self.now.locks.items c.index.result.now c.as_slice.result.now c.requires.past.lock_clocks low c.index.ensures c.as_slice.ensures)
+    c.join.ensures.joined c.requires.front
+
+pub returns-in-Some-clause-front : goal.returns-in-Some-clause-front
+returns-in-Some-clause-front c =
+    let low = op_within c.args.trace.now.events.now c.args.trace.now.sizes c.args.e _ _ c.args.trace.now.within c.requires.in_range c.in-Join.is in
+    let latest = latest_some (OfThread c.args.trace.now.events.now) c.args.e c.args.trace.now.sizes.threads c.in-Join.thread c.in-Some.last _ _ c.requires.past.last_events low c.index-in-Join.ensures c.in-Some.is in
+    front_learns c.args.trace.now.events.now c.args.trace.now.meets c.args.e (λ k. ShbBelow c.args.trace.now.events.now k c.in-Some.last) c.args.clock.now c.clock_of.result _
+    (λ k. join_learns c.args.trace.now.events.now c.args.trace.now.meets c.args.e c.in-Join.thread c.in-Some.last k (op_item c.args.trace.now.events.now c.args.e _ c.requires.in_range ∙ ap (λ o. Some o) c.in-Join.is) latest)
+    c.clock_of.ensures.front
+    c.join_event.ensures.joined c.requires.front
+
+pub returns-in_default-index-clause-front : goal.returns-in_default-index-clause-front
+returns-in_default-index-clause-front c =
+    let low = op_within c.args.trace.now.events.now c.args.trace.now.sizes c.args.e _ _ c.args.trace.now.within c.requires.in_range c.in-Join.is in
+    front_learns_nothing c.args.trace.now.events.now c.args.trace.now.meets c.args.e c.args.clock.now
+    (λ k. join_learns_nothing c.args.trace.now.events.now c.args.trace.now.meets c.args.e c.in-Join.thread k (op_item c.args.trace.now.events.now c.args.e _ c.requires.in_range ∙ ap (λ o. Some o) c.in-Join.is) (latest_none (OfThread c.args.trace.now.events.now) c.args.e c.args.trace.now.sizes.threads c.in-Join.thread _ _ c.requires.past.last_events low c.index-in-Join.ensures c.in_default-index.not-Some))
+    c.requires.front
+
+pub returns-in_default-last_write-clause-front : goal.returns-in_default-last_write-clause-front
+returns-in_default-last_write-clause-front c =
+    let absent = exactly_none (λ w. LastWrite c.args.links.now w c.args.e) c.last_write.result c.last_write.ensures c.in_default-last_write.not-Some in
+    front_learns_nothing c.args.trace.now.events.now c.args.trace.now.meets c.args.e c.args.clock.now
+    (λ k. read_learns_nothing c.args.trace.now.events.now c.args.trace.now.meets c.args.e c.in-Read.field-0 k (op_item c.args.trace.now.events.now c.args.e _ c.requires.in_range ∙ ap (λ o. Some o) c.in-Read.is) (λ w last. absent w (subst (λ (tr : List Event). LastWrite tr w c.args.e) (sym c.requires.of_trace) last)))
+    c.requires.front
+
+pub returns-in_default : goal.returns-in_default
+returns-in_default c = record {
+  long = c.requires.long;
+  front = front_learns_nothing c.args.trace.now.events.now c.args.trace.now.meets c.args.e c.args.clock.now (λ k. learns_nothing c.args.trace.now.events.now c.args.trace.now.meets c.args.e _ k (op_item c.args.trace.now.events.now c.args.e _ c.requires.in_range) c.in_default.not-Acquire c.in_default.not-Join c.in_default.not-Read) c.requires.front;
+}

@@ -1,0 +1,85 @@
+//! An order by clocks that are kept only where a thread may learn of others.
+
+ghost use Rattle.std.specs.Prelude.{◌≡◌, ◌<◌, List, IfOk, length};
+ghost use Rattle.shb_lines.specs.declared.event.Event.{Event};
+ghost use Rattle.shb_clocks.specs.Learned.{AreKept, AreLearnedPlaces};
+
+use crate::clock::Clock;
+use crate::kept_clocks::KeptClocks;
+use crate::learned_past::LearnedPast;
+use crate::order::Order;
+use shb_discipline::Disciplined;
+use shb_io::NoMemory;
+use shb_lines::Event;
+use shb_links::Links;
+use std::alloc::Global;
+use std::marker::Model;
+
+/// The clocks at which a thread may learn of others. It is seen as the trace that it orders.
+#[derive(Drop)]
+pub struct ClockVersions<'a> {
+    trace: &'a Disciplined<'a>,
+    links: &'a Links<'a>,
+    clocks: KeptClocks,
+}
+
+impl<'a> Model for ClockVersions<'a> {
+    ghost Value = { List Event };
+
+    ghost view = { λ o. o.trace.now.events.now };
+
+    ghost invariant = { λ o. (o.links.now ≡ o.trace.now.events.now) × AreKept o.trace.now.events.now (length o.trace.now.events.now) o.trace.now.sizes.threads o.clocks.rows o.clocks.threads.items };
+}
+
+/// The order of a trace, with a clock only where a thread may learn of others: at its first event,
+/// at each acquire, each join and each read that has a last write. Where a thread learned nothing
+/// new its clock is shared, so memory grows with what threads really learn.
+///
+/// # Errors
+///
+/// `NoMemory` where memory is refused; nothing is kept then.
+pub fn versions<'a>(
+    alloc: Global,
+    trace: &'a Disciplined<'a>,
+    links: &'a Links<'a>,
+) -> Result<ClockVersions<'a>, NoMemory>
+    requires of_trace { links.now ≡ trace.now.events.now }
+    ensures { IfOk result (λ order. order ≡ trace.now.events.now) }
+{
+    let mut clock = Clock::new(alloc, trace.sizes.threads as usize)?;
+    let mut past = LearnedPast::new(alloc, trace)?;
+    for e in 0..trace.events.len() as u32 {
+        past.take(trace, links, e, &mut clock)?;
+    }
+    let LearnedPast { clocks, .. } = past;
+    Ok(ClockVersions {
+        trace,
+        links,
+        clocks,
+    })
+}
+
+impl<'a> ClockVersions<'a> {
+    /// The places in thread t, from 1 and rising, of the events at which it may learn of other
+    /// threads: its first event, and each acquire, each join and each read that has a last write.
+    /// There are none for a thread that the trace doesn't have.
+    pub fn learned(&self, t: u32) -> &[u32]
+        ensures { AreLearnedPlaces self.now t result.now }
+    {
+        match self.clocks.threads.get(t as usize) {
+            Some(kept) => kept.places(),
+            None => &[],
+        }
+    }
+}
+
+impl<'a> Order for ClockVersions<'a> {
+    ghost trace = { λ o. o };
+
+    fn below_pred(&self, e: u32, t: u32) -> u32 {
+        match self.links.pred(e) {
+            Some(p) => self.clocks.clock_of(self.trace, self.links, p).entry(t),
+            None => 0,
+        }
+    }
+}

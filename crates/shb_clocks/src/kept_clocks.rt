@@ -1,0 +1,87 @@
+//! The clocks of the events so far, of which those are kept at which a thread may learn.
+
+ghost use Rattle.std.specs.Prelude.{◌≡◌, ℕ, ◌+◌, ◌<◌, ◌≤◌, IfOk, Some, length, replicate};
+ghost use Rattle.shb_lines.specs.Discipline.{place_in_thread};
+ghost use Rattle.shb_lines.specs.Events.{thread_at};
+ghost use Rattle.shb_lines.specs.Order.{ShbBelow};
+ghost use Rattle.shb_clocks.specs.Fronts.{IsFront};
+ghost use Rattle.shb_clocks.specs.Learned.{AreKept, IsFrontBut, IsLearning, nothing_kept};
+
+use crate::clock::{Clock, EventClock};
+use crate::kept::Kept;
+use crate::rows::Rows;
+use shb_discipline::Disciplined;
+use shb_io::NoMemory;
+use shb_links::Links;
+use std::alloc::Global;
+
+/// The kept rows, and what is kept of each thread.
+#[derive(Drop)]
+pub struct KeptClocks {
+    pub rows: Rows,
+    pub threads: Vec<Kept>,
+}
+
+/// Nothing kept of any thread.
+fn no_places(alloc: Global, threads: u32) -> Result<Vec<Kept>, NoMemory>
+    ensures { IfOk result (λ kept. kept.items ≡ replicate threads nothing_kept) }
+{
+    let mut kept = Vec::new(alloc);
+    for t in 0..threads {
+        kept.push(Kept::new(alloc))?;
+    }
+    Ok(kept)
+}
+
+impl KeptClocks {
+    /// What is kept before the first event: the row of zeros.
+    pub fn new(alloc: Global, trace: &Disciplined<'_>) -> Result<Self, NoMemory>
+        ensures { IfOk result (λ kept. AreKept trace.now.events.now 0 trace.now.sizes.threads kept.rows kept.threads.items) }
+    {
+        let zeros = Clock::new(alloc, trace.sizes.threads as usize)?;
+        let mut rows = Rows::new(alloc, trace.sizes.threads);
+        rows.push(zeros.as_slice())?;
+        Ok(KeptClocks {
+            rows,
+            threads: no_places(alloc, trace.sizes.threads)?,
+        })
+    }
+
+    /// The clock of an event that was taken.
+    pub fn clock_of(&self, trace: &Disciplined<'_>, links: &Links<'_>, e: u32) -> EventClock<'_>
+        requires of_trace { links.now ≡ trace.now.events.now }
+        requires in_range { e < length trace.now.events.now }
+        requires taken { (n : ℕ) × (e < n) × AreKept trace.now.events.now n trace.now.sizes.threads self.now.rows self.now.threads.items }
+        ensures long { length result ≡ trace.now.sizes.threads }
+        ensures front { IsFront trace.now.events.now (λ k. ShbBelow trace.now.events.now k e) result }
+    {
+        let thread = trace.events[e as usize].thread;
+        let place = links.local(e);
+        let row = self.threads[thread as usize].row_up_to(place);
+        EventClock::new(self.rows.row(row), thread, place)
+    }
+
+    /// Takes the event e, at which its thread may learn and which has this clock but for the entry of
+    /// its own thread.
+    pub fn keep(
+        &mut self,
+        trace: &Disciplined<'_>,
+        links: &Links<'_>,
+        e: u32,
+        clock: &Clock,
+    ) -> Result<(), NoMemory>
+        requires of_trace { links.now ≡ trace.now.events.now }
+        requires in_range { e < length trace.now.events.now }
+        requires learning { IsLearning trace.now.events.now e }
+        requires long { length clock.now ≡ trace.now.sizes.threads }
+        requires front { (t : ℕ) → thread_at trace.now.events.now e ≡ Some t → IsFrontBut trace.now.events.now t (λ k. ShbBelow trace.now.events.now k e) clock.now }
+        requires kept { AreKept trace.now.events.now e trace.now.sizes.threads self.old.rows self.old.threads.items }
+        ensures { IfOk result (λ _. AreKept trace.now.events.now (e + 1) trace.now.sizes.threads self.new.rows self.new.threads.items) }
+    {
+        let thread = trace.events[e as usize].thread as usize;
+        let given = self.threads[thread].last_row();
+        let row = self.rows.number_like(given, clock.as_slice())?;
+        self.threads[thread].push(links.local(e), row)?;
+        Ok(())
+    }
+}

@@ -1,0 +1,175 @@
+//! What a sweep over a trace has learned so far, where clocks are kept only where a thread may learn.
+
+ghost use Rattle.std.specs.Prelude.{◌≡◌, ℕ, ◌+◌, ◌<◌, ◌↔◌, IsTrue, IfOk, OnOk, Some, length};
+ghost use Rattle.shb_lines.specs.Events.{thread_at};
+ghost use Rattle.shb_lines.specs.Order.{ShbBelow, BelowPred};
+ghost use Rattle.shb_clocks.specs.Fronts.{IsFront, StrictlyBelow};
+ghost use Rattle.shb_clocks.specs.Learned.{AreKept, IsFrontBut, IsLearnedPast, IsLearning};
+ghost use Rattle.shb_clocks.specs.Past.{HasLockClocks};
+
+use crate::clock::Clock;
+use crate::kept_clocks::KeptClocks;
+use crate::past::lock_clocks;
+use shb_discipline::Disciplined;
+use shb_io::NoMemory;
+use shb_lines::Op;
+use shb_links::Links;
+use shb_links::latest::empty_table;
+use shb_links::links::note_thread;
+use std::alloc::Global;
+
+/// The clocks of the events so far and of the locks, and the last event of each thread.
+#[derive(Drop)]
+pub struct LearnedPast {
+    pub clocks: KeptClocks,
+    pub locks: Vec<Clock>,
+    pub last: Vec<Option<u32>>,
+}
+
+/// Whether it is the first event of its thread, an acquire, a join, or a read of a last write.
+fn may_learn(trace: &Disciplined<'_>, links: &Links<'_>, e: u32) -> bool
+    requires of_trace { links.now ≡ trace.now.events.now }
+    requires in_range { e < length trace.now.events.now }
+    ensures { IsTrue result ↔ IsLearning trace.now.events.now e }
+{
+    if links.local(e) == 1 {
+        return true;
+    }
+    match trace.events[e as usize].op {
+        Op::Acquire(_) => true,
+        Op::Join(_) => true,
+        Op::Read(_) => links.last_write(e).is_some(),
+        _ => false,
+    }
+}
+
+impl LearnedPast {
+    pub fn new(alloc: Global, trace: &Disciplined<'_>) -> Result<Self, NoMemory>
+        ensures { IfOk result (λ past. IsLearnedPast trace.now.events.now 0 trace.now.sizes past.clocks.rows past.clocks.threads.items past.locks.items past.last.items) }
+    {
+        Ok(LearnedPast {
+            clocks: KeptClocks::new(alloc, trace)?,
+            locks: lock_clocks(alloc, trace.events, trace.sizes)?,
+            last: empty_table(alloc, trace.sizes.threads)?,
+        })
+    }
+
+    /// Sets the clock to that of the predecessor of e.
+    fn start(&self, trace: &Disciplined<'_>, links: &Links<'_>, e: u32, clock: &mut Clock)
+        requires of_trace { links.now ≡ trace.now.events.now }
+        requires in_range { e < length trace.now.events.now }
+        requires past { IsLearnedPast trace.now.events.now e trace.now.sizes self.now.clocks.rows self.now.clocks.threads.items self.now.locks.items self.now.last.items }
+        requires long { length clock.old ≡ trace.now.sizes.threads }
+        ensures long { length clock.new ≡ trace.now.sizes.threads }
+        ensures front { IsFront trace.now.events.now (λ k. BelowPred trace.now.events.now k e) clock.new }
+    {
+        match links.pred(e) {
+            Some(p) => clock.copy_event(&self.clocks.clock_of(trace, links, p)),
+            None => clock.clear(),
+        }
+    }
+
+    /// Raises the clock by what e itself learns of other threads.
+    fn learn(&self, trace: &Disciplined<'_>, links: &Links<'_>, e: u32, clock: &mut Clock)
+        requires of_trace { links.now ≡ trace.now.events.now }
+        requires in_range { e < length trace.now.events.now }
+        requires past { IsLearnedPast trace.now.events.now e trace.now.sizes self.now.clocks.rows self.now.clocks.threads.items self.now.locks.items self.now.last.items }
+        requires long { length clock.old ≡ trace.now.sizes.threads }
+        requires front { IsFront trace.now.events.now (λ k. BelowPred trace.now.events.now k e) clock.old }
+        ensures long { length clock.new ≡ trace.now.sizes.threads }
+        ensures front { IsFront trace.now.events.now (StrictlyBelow trace.now.events.now e) clock.new }
+    {
+        match trace.events[e as usize].op {
+            Op::Acquire(lock) => clock.join(self.locks[lock as usize].as_slice()),
+            Op::Join(thread) => {
+                if let Some(last) = self.last[thread as usize] {
+                    clock.join_event(&self.clocks.clock_of(trace, links, last));
+                }
+            }
+            Op::Read(_) => {
+                if let Some(write) = links.last_write(e) {
+                    clock.join_event(&self.clocks.clock_of(trace, links, write));
+                }
+            }
+            _ => {}
+        }
+    }
+
+    /// Sets the clock to that of e, but for the entry of its own thread, which is 0.
+    fn tick(&self, trace: &Disciplined<'_>, links: &Links<'_>, e: u32, clock: &mut Clock)
+        requires of_trace { links.now ≡ trace.now.events.now }
+        requires in_range { e < length trace.now.events.now }
+        requires past { IsLearnedPast trace.now.events.now e trace.now.sizes self.now.clocks.rows self.now.clocks.threads.items self.now.locks.items self.now.last.items }
+        requires long { length clock.old ≡ trace.now.sizes.threads }
+        ensures long { length clock.new ≡ trace.now.sizes.threads }
+        ensures front { (t : ℕ) → thread_at trace.now.events.now e ≡ Some t → IsFrontBut trace.now.events.now t (λ k. ShbBelow trace.now.events.now k e) clock.new }
+    {
+        self.start(trace, links, e, clock);
+        self.learn(trace, links, e, clock);
+        clock.put(trace.events[e as usize].thread as usize, 0);
+    }
+
+    /// Keeps the clock of e where its thread may learn.
+    fn keep(
+        &mut self,
+        trace: &Disciplined<'_>,
+        links: &Links<'_>,
+        e: u32,
+        clock: &mut Clock,
+    ) -> Result<(), NoMemory>
+        requires of_trace { links.now ≡ trace.now.events.now }
+        requires in_range { e < length trace.now.events.now }
+        requires past { IsLearnedPast trace.now.events.now e trace.now.sizes self.old.clocks.rows self.old.clocks.threads.items self.old.locks.items self.old.last.items }
+        requires long { length clock.old ≡ trace.now.sizes.threads }
+        ensures long { length clock.new ≡ trace.now.sizes.threads }
+        ensures kept { IfOk result (λ _. AreKept trace.now.events.now (e + 1) trace.now.sizes.threads self.new.clocks.rows self.new.clocks.threads.items) }
+        ensures locks { OnOk result (self.new.locks ≡ self.old.locks) }
+        ensures last { OnOk result (self.new.last ≡ self.old.last) }
+    {
+        if may_learn(trace, links, e) {
+            self.tick(trace, links, e, clock);
+            self.clocks.keep(trace, links, e, clock)?;
+        }
+        Ok(())
+    }
+
+    /// Takes the event e. The clock is scratch space.
+    pub fn take(
+        &mut self,
+        trace: &Disciplined<'_>,
+        links: &Links<'_>,
+        e: u32,
+        clock: &mut Clock,
+    ) -> Result<(), NoMemory>
+        requires of_trace { links.now ≡ trace.now.events.now }
+        requires in_range { e < length trace.now.events.now }
+        requires past { IsLearnedPast trace.now.events.now e trace.now.sizes self.old.clocks.rows self.old.clocks.threads.items self.old.locks.items self.old.last.items }
+        requires long { length clock.old ≡ trace.now.sizes.threads }
+        ensures long { length clock.new ≡ trace.now.sizes.threads }
+        ensures past { IfOk result (λ _. IsLearnedPast trace.now.events.now (e + 1) trace.now.sizes self.new.clocks.rows self.new.clocks.threads.items self.new.locks.items self.new.last.items) }
+    {
+        self.keep(trace, links, e, clock)?;
+        release(trace, links, &self.clocks, e, &mut self.locks);
+        note_thread(trace.events, trace.sizes, &mut self.last, e);
+        Ok(())
+    }
+}
+
+/// Raises the clock of a lock that e releases to that of e.
+fn release(
+    trace: &Disciplined<'_>,
+    links: &Links<'_>,
+    clocks: &KeptClocks,
+    e: u32,
+    locks: &mut Vec<Clock>,
+)
+    requires of_trace { links.now ≡ trace.now.events.now }
+    requires in_range { e < length trace.now.events.now }
+    requires kept { AreKept trace.now.events.now (e + 1) trace.now.sizes.threads clocks.now.rows clocks.now.threads.items }
+    requires locks { HasLockClocks trace.now.events.now e trace.now.sizes.threads trace.now.sizes.locks locks.old.items }
+    ensures { HasLockClocks trace.now.events.now (e + 1) trace.now.sizes.threads trace.now.sizes.locks locks.new.items }
+{
+    if let Op::Release(lock) = trace.events[e as usize].op {
+        locks[lock as usize].join_event(&clocks.clock_of(trace, links, e));
+    }
+}

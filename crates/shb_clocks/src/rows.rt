@@ -1,0 +1,81 @@
+//! Clocks of one width in one flat list.
+
+ghost use Rattle.std.specs.Prelude.{◌≡◌, ℕ, ◌+◌, ◌*◌, ◌<◌, ◌≤◌, ◌^◌, [], ◌∷◌, ◌++◌, IfOk, OnOk, length, slice_index_or};
+ghost use Rattle.shb_clocks.specs.Rows.{RowsData, rows_data};
+
+use crate::clock::row;
+use shb_io::NoMemory;
+use std::alloc::Global;
+use std::marker::Model;
+
+/// Clocks of one width, one behind the other, seen as the width and the list of clocks.
+#[derive(Drop)]
+pub struct Rows {
+    width: u32,
+    count: u32,
+    entries: Vec<u32>,
+}
+
+impl Model for Rows {
+    ghost Value = { RowsData };
+
+    ghost view = { λ r. rows_data r.width r.count r.entries.items };
+
+    ghost invariant = { λ r. length r.entries.items ≡ r.count * r.width };
+}
+
+impl Rows {
+    /// No clocks yet.
+    pub fn new(alloc: Global, width: u32) -> Self
+        ensures width { result.width ≡ width }
+        ensures rows { result.rows ≡ [] }
+    {
+        Rows {
+            width,
+            count: 0,
+            entries: Vec::new(alloc),
+        }
+    }
+
+    /// The clock of a number.
+    pub fn row(&self, number: u32) -> &[u32]
+        requires { number < length self.now.rows }
+        ensures row { result.now ≡ slice_index_or self.now.rows number [] }
+        ensures long { length result.now ≡ self.now.width }
+    {
+        row(
+            self.entries.as_slice(),
+            self.width as usize,
+            number as usize,
+        )
+    }
+
+    /// Adds a clock, and gives its number.
+    pub fn push(&mut self, clock: &[u32]) -> Result<u32, NoMemory>
+        requires long { length clock.now ≡ self.old.width }
+        requires few { length self.old.rows + 1 < 2 ^ 32 }
+        ensures width { OnOk result (self.new.width ≡ self.old.width) }
+        ensures rows { OnOk result (self.new.rows ≡ self.old.rows ++ clock.now ∷ []) }
+        ensures number { IfOk result (λ number. number ≡ length self.old.rows) }
+    {
+        self.entries.extend_from_slice(clock)?;
+        self.count += 1;
+        Ok(self.count - 1)
+    }
+
+    /// The number of a row that is this clock: the given one, or a new one.
+    pub fn number_like(&mut self, given: u32, clock: &[u32]) -> Result<u32, NoMemory>
+        requires in_range { given < length self.old.rows }
+        requires long { length clock.now ≡ self.old.width }
+        requires few { length self.old.rows + 1 < 2 ^ 32 }
+        ensures width { OnOk result (self.new.width ≡ self.old.width) }
+        ensures more { OnOk result ((length self.old.rows ≤ length self.new.rows) × (length self.new.rows ≤ length self.old.rows + 1)) }
+        ensures kept { (i : ℕ) → i < length self.old.rows → OnOk result (slice_index_or self.new.rows i [] ≡ slice_index_or self.old.rows i []) }
+        ensures row { IfOk result (λ number. (number < length self.new.rows) × (slice_index_or self.new.rows number [] ≡ clock.now)) }
+    {
+        if self.row(given) == clock {
+            return Ok(given);
+        }
+        self.push(clock)
+    }
+}
