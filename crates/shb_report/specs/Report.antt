@@ -1,0 +1,98 @@
+-- The bytes of a report in version 1, and which bytes are the report of a trace or of a text.
+use Rattle.std.specs.Prelude.{◌≡◌, ℕ, ◌+◌, Bool, MatchBool, List, [], ◌∷◌, ◌++◌, length, map, All, slice_get, codes, decimal, Option, None, Some, IsSomeAnd, unwrap_or}
+use Rattle.shb_lines.specs.Race.{IsRaceList}
+use Rattle.shb_lines.specs.Schedule.{IsPrintedSchedule}
+use Rattle.shb_lines.specs.Text.{lines_of}
+use Rattle.shb_lines.specs.TraceData.{IsTraceOf, TraceData}
+use Rattle.shb_report.specs.declared.writer.Counts.{Counts}
+
+-- a label, a text and a line feed
+abbrev pub labelled_line : List ℕ → List ℕ → List ℕ
+labelled_line label text = label ++ (text ++ codes "\n")
+
+-- the lines before the first block: the version, the counts of the trace and the number of races
+abbrev pub head_bytes : Counts → ℕ → List ℕ
+head_bytes counts races =
+    codes "shb-report 1\nevents " ++ (decimal counts.events
+    ++ (codes " threads " ++ (decimal counts.threads
+    ++ (codes " locks " ++ (decimal counts.locks
+    ++ (codes " variables " ++ (decimal counts.variables
+    ++ (codes "\nraces " ++ (decimal races ++ codes "\n")))))))))
+
+-- the number of a race, and the numbers of its two events, which are counted from 1
+abbrev pub race_line : ℕ → ℕ × ℕ → List ℕ
+race_line number pair =
+    codes "race " ++ (decimal number ++ (codes ": " ++ (decimal (pair.0 + 1) ++ (codes " " ++ (decimal (pair.1 + 1) ++ codes "\n")))))
+
+-- the numbers of some events, which are counted from 1, each after a space
+abbrev pub event_numbers : List ℕ → List ℕ
+event_numbers [] = []
+event_numbers (event ∷ events) = codes " " ++ (decimal (event + 1) ++ event_numbers events)
+
+-- how many events a schedule has, and their numbers
+abbrev pub schedule_line : List ℕ → List ℕ
+schedule_line events = codes "schedule " ++ (decimal (length events) ++ (codes ":" ++ (event_numbers events ++ codes "\n")))
+
+abbrev pub schedule_bytes : Option (List ℕ) → List ℕ
+schedule_bytes None = []
+schedule_bytes (Some events) = schedule_line events
+
+-- the line of an event as the text has it; every event of a trace has one
+abbrev pub line_at : TraceData → ℕ → List ℕ
+line_at trace event = unwrap_or (slice_get trace.lines event) []
+
+-- the block of a race: its numbers, the lines of its two events, and its schedule if there is one
+abbrev pub block_bytes : TraceData → ℕ → ℕ × ℕ → Option (List ℕ) → List ℕ
+block_bytes trace number pair schedule =
+    race_line number pair
+    ++ (labelled_line (codes "first ") (line_at trace pair.0)
+    ++ (labelled_line (codes "second ") (line_at trace pair.1)
+    ++ schedule_bytes schedule))
+
+abbrev pub tail_bytes : List ℕ
+tail_bytes = codes "end\n"
+
+-- a race as a report shows it: its two events, counted from 0, and its schedule if there is one
+pub record ShownRace : Type 0 where
+  pub pair : ℕ × ℕ
+  pub schedule : Option (List ℕ)
+
+-- the blocks of some races, of which the first has this number
+abbrev pub blocks_from : TraceData → ℕ → List ShownRace → List ℕ
+blocks_from trace number [] = []
+blocks_from trace number (race ∷ races) = block_bytes trace number race.pair race.schedule ++ blocks_from trace (number + 1) races
+
+-- the schedule shown is the printed one of the pair, or none in the form without schedules
+abbrev pub HasSchedule : Bool → TraceData → ShownRace → Type 0
+HasSchedule with_schedules trace race =
+    MatchBool with_schedules (IsSomeAnd race.schedule (λ s. IsPrintedSchedule trace.events s race.pair.0 race.pair.1)) (race.schedule ≡ None)
+
+-- the bytes are the blocks of these races, numbered from 1
+pub record AreBlocks (with_schedules : Bool) (trace : TraceData) (races : List (ℕ × ℕ)) (bytes : List ℕ) : Type 0 where
+  pub shown : List ShownRace
+  pub races_are : map (λ race. race.pair) shown ≡ races
+  pub schedules_are : All (HasSchedule with_schedules trace) shown
+  pub bytes_are : bytes ≡ blocks_from trace 1 shown
+
+-- how much there is in a trace; threads that are only forked or joined count as well
+abbrev pub counts_of : TraceData → Counts
+counts_of trace = record {
+  events = length trace.events;
+  threads = length trace.threads;
+  locks = length trace.locks;
+  variables = length trace.variables;
+}
+
+-- the bytes are the report of a trace: the head, a block for each race of the race list in order, and the tail
+pub record IsReport (with_schedules : Bool) (trace : TraceData) (bytes : List ℕ) : Type 0 where
+  pub races : List (ℕ × ℕ)
+  pub blocks : List ℕ
+  pub races_are : IsRaceList trace.events races
+  pub blocks_are : AreBlocks with_schedules trace races blocks
+  pub bytes_are : bytes ≡ head_bytes (counts_of trace) (length races) ++ (blocks ++ tail_bytes)
+
+-- the bytes are the report of a text: that of the trace of all its lines
+pub record IsReportOf (with_schedules : Bool) (text bytes : List ℕ) : Type 0 where
+  pub trace : TraceData
+  pub trace_is : IsTraceOf (lines_of text) trace
+  pub report : IsReport with_schedules trace bytes
