@@ -1,0 +1,163 @@
+-- The blocks of a report one after another, and that a trace has just one report.
+use Rattle.std.proofs.Common.{◌≡◌, ℕ, suc, ◌+◌, ◌<◌, ◌≤◌, Bool, true, false, List, [], ◌∷◌, ◌++◌, length, map, get_or, take, drop, Option, None, Some, refl, sym, ap, subst, ◌∙◌, arith, append_assoc, append-nil, take-append-drop, length-append, length-take}
+use Rattle.std.specs.Prelude.{All}
+use Rattle.std.proofs.lemmas.List.{take_more}
+use Rattle.std.proofs.lemmas.List.Elements.{All-nil, All-cons, All-head, All-tail, All-push}
+use Rattle.shb_lines.specs.declared.event.Event.{Event}
+use Rattle.shb_lines.specs.Discipline.{IsDisciplined}
+use Rattle.shb_lines.specs.Race.{IsRaceList}
+use Rattle.shb_lines.specs.Schedule.{IsPrintedSchedule}
+use Rattle.shb_lines.specs.TraceData.{TraceData}
+use Rattle.shb_lines.proofs.Decide.{printed_exists}
+use Rattle.shb_report.specs.Report.{AreBlocks, HasSchedule, IsReport, ShownRace, block_bytes, blocks_from, counts_of, head_bytes, tail_bytes}
+use Rattle.shb_report.proofs.Increasing.{increasing_unique}
+
+-- the pairs of some races that are shown
+abbrev pairs_of : List ShownRace → List (ℕ × ℕ)
+pairs_of shown = map (λ race. race.pair) shown
+
+-- no blocks yet
+pub AreBlocks-none : (with_schedules : Bool) (trace : TraceData) → AreBlocks with_schedules trace [] []
+AreBlocks-none with_schedules trace = record { shown = []; races_are = refl; schedules_are = All-nil (HasSchedule with_schedules trace); bytes_are = refl }
+
+pairs_of-push : (shown : List ShownRace) (race : ShownRace) → pairs_of (shown ++ race ∷ []) ≡ pairs_of shown ++ race.pair ∷ []
+pairs_of-push [] race = refl
+pairs_of-push (first ∷ shown) race = ap (λ l. first.pair ∷ l) (pairs_of-push shown race)
+
+length-pairs_of : (shown : List ShownRace) → length (pairs_of shown) ≡ length shown
+length-pairs_of [] = refl
+length-pairs_of (race ∷ shown) = ap suc (length-pairs_of shown)
+
+blocks_from-append : (trace : TraceData) (number : ℕ) (shown more : List ShownRace) → blocks_from trace number (shown ++ more) ≡ blocks_from trace number shown ++ blocks_from trace (number + length shown) more
+blocks_from-append trace number [] more = ap (λ n. blocks_from trace n more) (omega arith)
+blocks_from-append trace number (race ∷ shown) more =
+    let block = block_bytes trace number race.pair race.schedule in
+    let count : number + 1 + length shown ≡ number + length (race ∷ shown) = omega arith in
+    ap (λ l. block ++ l) (blocks_from-append trace (number + 1) shown more ∙ ap (λ n. blocks_from trace (number + 1) shown ++ blocks_from trace n more) count)
+    ∙ sym (append_assoc block (blocks_from trace (number + 1) shown) (blocks_from trace (number + length (race ∷ shown)) more))
+
+-- one block more
+pub AreBlocks-push : (with_schedules : Bool) (trace : TraceData) (races : List (ℕ × ℕ)) (bytes : List ℕ) (race : ShownRace) → AreBlocks with_schedules trace races bytes → HasSchedule with_schedules trace race
+    → AreBlocks with_schedules trace (races ++ race.pair ∷ []) (bytes ++ block_bytes trace (length races + 1) race.pair race.schedule)
+AreBlocks-push with_schedules trace races bytes race blocks has =
+    let shown = blocks.shown in
+    let block = block_bytes trace (length races + 1) race.pair race.schedule in
+    let count : 1 + length shown ≡ length races + 1 = omega (arith, sym (length-pairs_of shown) ∙ ap length blocks.races_are) in record {
+      shown = shown ++ race ∷ [];
+      races_are = pairs_of-push shown race ∙ ap (λ l. l ++ race.pair ∷ []) blocks.races_are;
+      schedules_are = All-push (HasSchedule with_schedules trace) shown race blocks.schedules_are has;
+      bytes_are =
+          ap (λ l. l ++ block) blocks.bytes_are
+          ∙ ap (λ l. blocks_from trace 1 shown ++ l) (sym (append-nil block) ∙ ap (λ n. blocks_from trace n (race ∷ [])) (sym count))
+          ∙ sym (blocks_from-append trace 1 shown (race ∷ []));
+    }
+
+-- one block more, of the next of some races
+pub AreBlocks-next : (with_schedules : Bool) (trace : TraceData) (races : List (ℕ × ℕ)) (k : ℕ) (bytes : List ℕ) (pair : ℕ × ℕ) (schedule : Option (List ℕ)) → k < length races → get_or races k pair ≡ pair
+    → AreBlocks with_schedules trace (take k races) bytes → HasSchedule with_schedules trace (record { pair = pair; schedule = schedule })
+    → AreBlocks with_schedules trace (take (k + 1) races) (bytes ++ block_bytes trace (k + 1) pair schedule)
+AreBlocks-next with_schedules trace races k bytes pair schedule within is blocks has =
+    let race : ShownRace = record { pair = pair; schedule = schedule } in
+    let races_are : take k races ++ pair ∷ [] ≡ take (k + 1) races = sym (take_more races k pair within ∙ ap (λ p. take k races ++ p ∷ []) is) in
+    let count : length (take k races) ≡ k = omega (arith, length-take k races) in
+    subst (λ l. AreBlocks with_schedules trace l (bytes ++ block_bytes trace (k + 1) pair schedule)) races_are
+    (subst (λ n. AreBlocks with_schedules trace (take k races ++ pair ∷ []) (bytes ++ block_bytes trace (n + 1) pair schedule)) count
+    (AreBlocks-push with_schedules trace (take k races) bytes race blocks has))
+
+-- a pair has one printed schedule
+printed_unique : (trace : List Event) (s t : List ℕ) (i j : ℕ) → IsPrintedSchedule trace s i j → IsPrintedSchedule trace t i j → s ≡ t
+printed_unique trace s t i j hs ht = increasing_unique s t hs.in_order ht.in_order
+    (λ k. ((λ c. (ht.members k).1 ((hs.members k).0 c)), (λ c. (hs.members k).1 ((ht.members k).0 c))))
+
+-- a race is shown with one schedule, or with none
+schedule_unique : (with_schedules : Bool) (trace : TraceData) (pair : ℕ × ℕ) (s t : Option (List ℕ)) → HasSchedule with_schedules trace (record { pair = pair; schedule = s }) → HasSchedule with_schedules trace (record { pair = pair; schedule = t }) → s ≡ t
+schedule_unique false trace pair s t h g = h ∙ sym g
+schedule_unique true trace pair None t h g = absurd h
+schedule_unique true trace pair (Some s) None h g = absurd g
+schedule_unique true trace pair (Some s) (Some t) h g = ap Some (printed_unique trace.events s t pair.0 pair.1 h g)
+
+-- the blocks of the first of some races are the first of their blocks
+front : (with_schedules : Bool) (trace : TraceData) (number : ℕ) (shown all : List ShownRace) (rest : List (ℕ × ℕ)) → pairs_of all ≡ pairs_of shown ++ rest
+    → All (HasSchedule with_schedules trace) shown → All (HasSchedule with_schedules trace) all → (more : List ℕ) × (blocks_from trace number all ≡ blocks_from trace number shown ++ more)
+front with_schedules trace number [] all rest same h g = (blocks_from trace number all, refl)
+front with_schedules trace number (race ∷ shown) [] rest same h g = absurd (let lengths = ap length same in omega arith)
+front with_schedules trace number (race ∷ shown) (other ∷ all) rest same h g =
+    let Has = HasSchedule with_schedules trace in
+    let pairs : other.pair ≡ race.pair = cc in
+    let tails : pairs_of all ≡ pairs_of shown ++ rest = cc in
+    let later = front with_schedules trace (number + 1) shown all rest tails (All-tail Has race shown h) (All-tail Has other all g) in
+    let has : Has (record { pair = race.pair; schedule = other.schedule }) = subst (λ p. Has (record { pair = p; schedule = other.schedule })) pairs (All-head Has other all g) in
+    let schedules = schedule_unique with_schedules trace race.pair other.schedule race.schedule has (All-head Has race shown h) in
+    let block = block_bytes trace number race.pair race.schedule in
+    let blocks : block_bytes trace number other.pair other.schedule ≡ block = ap (λ p. block_bytes trace number p other.schedule) pairs ∙ ap (λ s. block_bytes trace number race.pair s) schedules in (
+      later.0,
+      ap (λ l. l ++ blocks_from trace (number + 1) all) blocks ∙ ap (λ l. block ++ l) later.1 ∙ sym (append_assoc block (blocks_from trace (number + 1) shown) later.0),
+    )
+
+-- the blocks of all of some races begin with those of the first of them
+pub AreBlocks-front : (with_schedules : Bool) (trace : TraceData) (races rest : List (ℕ × ℕ)) (blocks all : List ℕ) → AreBlocks with_schedules trace races blocks → AreBlocks with_schedules trace (races ++ rest) all → (more : List ℕ) × (all ≡ blocks ++ more)
+AreBlocks-front with_schedules trace races rest blocks all h g =
+    let split = front with_schedules trace 1 h.shown g.shown rest (g.races_are ∙ ap (λ l. l ++ rest) (sym h.races_are)) h.schedules_are g.schedules_are in
+    (split.0, g.bytes_are ∙ split.1 ∙ ap (λ l. l ++ split.0) (sym h.bytes_are))
+
+-- the blocks of the first k of some races are the first of their blocks
+pub AreBlocks-take : (with_schedules : Bool) (trace : TraceData) (races : List (ℕ × ℕ)) (k : ℕ) (blocks all : List ℕ) → AreBlocks with_schedules trace (take k races) blocks → AreBlocks with_schedules trace races all → (more : List ℕ) × (all ≡ blocks ++ more)
+AreBlocks-take with_schedules trace races k blocks all h g =
+    AreBlocks-front with_schedules trace (take k races) (drop k races) blocks all h (subst (λ l. AreBlocks with_schedules trace l all) (sym (take-append-drop k races)) g)
+
+-- a list that another begins with, and that is as long, is that other
+same_if_long : (blocks all more : List ℕ) → all ≡ blocks ++ more → length all ≤ length blocks → all ≡ blocks
+same_if_long blocks all [] is le = is ∙ append-nil blocks
+same_if_long blocks all (x ∷ more) is le = absurd (let lengths = ap length is in omega (arith, length-append blocks (x ∷ more)))
+
+-- some races have one list of blocks
+pub AreBlocks-unique : (with_schedules : Bool) (trace : TraceData) (races : List (ℕ × ℕ)) (blocks others : List ℕ) → AreBlocks with_schedules trace races blocks → AreBlocks with_schedules trace races others → blocks ≡ others
+AreBlocks-unique with_schedules trace races blocks others h g =
+    let same = sym (append-nil races) in
+    let before = AreBlocks-front with_schedules trace races [] others blocks g (subst (λ l. AreBlocks with_schedules trace l blocks) same h) in
+    let after = AreBlocks-front with_schedules trace races [] blocks others h (subst (λ l. AreBlocks with_schedules trace l others) same g) in
+    let lengths = ap length after.1 in
+    same_if_long others blocks before.0 before.1 (omega (arith, length-append blocks after.0))
+
+-- A trace has one report, since it has one race list. That is proved where race lists are made, so it is handed in here.
+pub IsReport-unique : (with_schedules : Bool) (trace : TraceData) (bytes others : List ℕ) → ((races more : List (ℕ × ℕ)) → IsRaceList trace.events races → IsRaceList trace.events more → races ≡ more)
+    → IsReport with_schedules trace bytes → IsReport with_schedules trace others → bytes ≡ others
+IsReport-unique with_schedules trace bytes others one_list h g =
+    let same : h.races ≡ g.races = one_list h.races g.races h.races_are g.races_are in
+    let blocks : h.blocks ≡ g.blocks = AreBlocks-unique with_schedules trace g.races h.blocks g.blocks (subst (λ l. AreBlocks with_schedules trace l h.blocks) same h.blocks_are) g.blocks_are in
+    h.bytes_are
+    ∙ ap (λ l. head_bytes (counts_of trace) (length l) ++ (h.blocks ++ tail_bytes)) same
+    ∙ ap (λ l. head_bytes (counts_of trace) (length g.races) ++ (l ++ tail_bytes)) blocks
+    ∙ sym g.bytes_are
+
+-- what is written before the block of race k is the front of the report
+pub IsReport-front : (with_schedules : Bool) (trace : TraceData) (bytes : List ℕ) (races : List (ℕ × ℕ)) (k : ℕ) (blocks : List ℕ) → ((races more : List (ℕ × ℕ)) → IsRaceList trace.events races → IsRaceList trace.events more → races ≡ more)
+    → IsReport with_schedules trace bytes → IsRaceList trace.events races → AreBlocks with_schedules trace (take k races) blocks → (more : List ℕ) × (bytes ≡ head_bytes (counts_of trace) (length races) ++ (blocks ++ more))
+IsReport-front with_schedules trace bytes races k blocks one_list h list first =
+    let same : h.races ≡ races = one_list h.races races h.races_are list in
+    let split = AreBlocks-take with_schedules trace races k blocks h.blocks first (subst (λ l. AreBlocks with_schedules trace l h.blocks) same h.blocks_are) in (
+      split.0 ++ tail_bytes,
+      h.bytes_are
+          ∙ ap (λ l. head_bytes (counts_of trace) (length l) ++ (h.blocks ++ tail_bytes)) same
+          ∙ ap (λ l. head_bytes (counts_of trace) (length races) ++ l) (ap (λ l. l ++ tail_bytes) split.1 ∙ append_assoc blocks split.0 tail_bytes),
+    )
+
+-- some pairs, each with its printed schedule or with none
+shown_of : (with_schedules : Bool) (trace : TraceData) → IsDisciplined trace.events → (races : List (ℕ × ℕ)) → (shown : List ShownRace) × (pairs_of shown ≡ races) × All (HasSchedule with_schedules trace) shown
+shown_of with_schedules trace disciplined [] = ([], refl, All-nil (HasSchedule with_schedules trace))
+shown_of with_schedules trace disciplined (pair ∷ races) =
+    let later = shown_of with_schedules trace disciplined races in
+    let here = one with_schedules in
+    (record { pair = pair; schedule = here.0 } ∷ later.0, ap (λ l. pair ∷ l) later.1, All-cons (HasSchedule with_schedules trace) (record { pair = pair; schedule = here.0 }) later.0 here.1 later.2)
+  where
+    one : (b : Bool) → (schedule : Option (List ℕ)) × HasSchedule b trace (record { pair = pair; schedule = schedule })
+    one false = (None, refl)
+    one true = let printed = printed_exists trace.events disciplined pair.0 pair.1 in (Some printed.0, printed.1)
+
+-- a disciplined trace with a race list has a report, in both forms
+pub IsReport-exists : (with_schedules : Bool) (trace : TraceData) (races : List (ℕ × ℕ)) → IsDisciplined trace.events → IsRaceList trace.events races → (bytes : List ℕ) × IsReport with_schedules trace bytes
+IsReport-exists with_schedules trace races disciplined list =
+    let shown = shown_of with_schedules trace disciplined races in
+    let blocks = blocks_from trace 1 shown.0 in
+    let are : AreBlocks with_schedules trace races blocks = record { shown = shown.0; races_are = shown.1; schedules_are = shown.2; bytes_are = refl } in
+    (head_bytes (counts_of trace) (length races) ++ (blocks ++ tail_bytes), record { races = races; blocks = blocks; races_are = list; blocks_are = are; bytes_are = refl })
