@@ -1,5 +1,5 @@
 //! A short text that is put together before it is written.
-ghost use Rattle.std.specs.Prelude.{◌≡◌, ◌+◌, ◌<◌, ◌≤◌, ◌++◌, [], length, decimal};
+ghost use Rattle.std.specs.Prelude.{◌≡◌, ◌+◌, ◌<◌, ◌≤◌, ◌++◌, ◌∷◌, [], length, decimal};
 ghost use Rattle.shb_report.specs.declared.buffer.TheConstants.{ROOM};
 
 use itoa::write_digits;
@@ -70,6 +70,15 @@ impl TextBuffer {
         let end = self.len + bytes.len();
         self.bytes[self.len..end].copy_from_slice(bytes);
         self.len = end;
+    }
+
+    /// Adds one byte.
+    pub(crate) fn push_byte(&mut self, byte: u8)
+        requires { length self.old + 1 ≤ ROOM }
+        ensures { self.new ≡ self.old ++ byte ∷ [] }
+    {
+        self.bytes[self.len] = byte;
+        self.len += 1;
     }
 
     /// Adds the digits of a number, which are written in their place.

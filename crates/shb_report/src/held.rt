@@ -70,7 +70,7 @@ fn put_schedule_start<S: Sink>(
 {
     make_room(sink, held, DIGITS + 10)?;
     held.push_labelled(b"schedule ", count);
-    held.push_bytes(b":");
+    held.push_byte(b':');
     Ok(())
 }
 
@@ -81,7 +81,8 @@ fn put_event<S: Sink>(sink: &mut S, held: &mut TextBuffer, event: u32) -> Result
     ensures counted { IsCounted (S.failure_count sink.old) (S.failure_count sink.new) result }
 {
     make_room(sink, held, DIGITS + 1)?;
-    held.push_labelled(b" ", u64::from(event) + 1);
+    held.push_byte(b' ');
+    held.push_number(u64::from(event) + 1);
     Ok(())
 }
 

@@ -1,7 +1,8 @@
 //! The parts of a report, each written by one call.
-ghost use Rattle.std.specs.Prelude.{◌≡◌, ◌+◌, ◌-◌, ◌^◌, ◌<◌, ◌≤◌, [], length};
+ghost use Rattle.std.specs.Prelude.{◌≡◌, ◌+◌, ◌-◌, ◌^◌, ◌<◌, ◌≤◌, ◌++◌, length};
 ghost use Rattle.std.specs.Option.{option_map};
 ghost use Rattle.shb_io.specs.Devices.{IsCounted, Writes};
+ghost use Rattle.shb_report.specs.declared.buffer.TheConstants.{ROOM};
 ghost use Rattle.shb_report.specs.Held.{Puts};
 ghost use Rattle.shb_report.specs.Report.{block_bytes, event_lines, head_bytes, race_line, tail_bytes};
 
@@ -30,7 +31,7 @@ fn head_text(counts: &Counts, races: u64) -> TextBuffer
     text.push_labelled(b" locks ", counts.locks);
     text.push_labelled(b" variables ", counts.variables);
     text.push_labelled(b"\nraces ", races);
-    text.push_bytes(b"\n");
+    text.push_byte(b'\n');
     text
 }
 
@@ -48,16 +49,15 @@ pub fn head<S: Sink>(sink: &mut S, counts: &Counts, races: u64) -> Result<(), Fa
     write_all(sink, text.as_slice())
 }
 
-/// The line with the numbers of a race and of its events, which are counted from 1.
-fn race_text(number: u64, pair: Pair) -> TextBuffer
-    ensures { result ≡ race_line number (pair.first, pair.second) }
+/// Adds the line with the numbers of a race and of its events, which are counted from 1.
+fn push_race_line(text: &mut TextBuffer, number: u64, pair: Pair)
+    requires { length text.old + 80 ≤ ROOM }
+    ensures { text.new ≡ text.old ++ race_line number (pair.first, pair.second) }
 {
-    let mut text = TextBuffer::new();
     text.push_labelled(b"race ", number);
     text.push_labelled(b": ", u64::from(pair.first) + 1);
     text.push_labelled(b" ", u64::from(pair.second) + 1);
-    text.push_bytes(b"\n");
-    text
+    text.push_byte(b'\n');
 }
 
 /// Puts the lines of the events of a race behind what is held back.
@@ -96,7 +96,8 @@ pub fn block<S: Sink>(
         (block_bytes trace.now number (pair.first, pair.second) (option_map (λ s. s.now) schedule.entry)) }
     ensures counted { IsCounted (S.failure_count sink.old) (S.failure_count sink.new) result }
 {
-    let mut held = race_text(number, pair);
+    let mut held = TextBuffer::new();
+    push_race_line(&mut held, number, pair);
     put_event_lines(sink, &mut held, trace, pair)?;
     put_schedule(sink, &mut held, schedule)?;
     write_all(sink, held.as_slice())

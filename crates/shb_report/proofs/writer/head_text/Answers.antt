@@ -11,7 +11,7 @@ pub returns : goal.returns
 returns c =
     let counts = c.args.counts.now in
     rw (
-      c.push_bytes.ensures,
+      c.push_byte.ensures,
       c.push_labelled-5.ensures.text,
       c.push_labelled-4.ensures.text,
       c.push_labelled-3.ensures.text,
