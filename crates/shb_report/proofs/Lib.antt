@@ -1,2 +1,4 @@
 pub mod Increasing
 pub mod Blocks
+mod HeldLemmas
+mod DigitLemmas

@@ -1,5 +1,5 @@
 -- The bytes of a report in version 1, and which bytes are the report of a trace or of a text.
-use Rattle.std.specs.Prelude.{◌≡◌, ℕ, ◌+◌, Bool, MatchBool, List, [], ◌∷◌, ◌++◌, length, map, All, slice_get, codes, decimal, Option, None, Some, IsSomeAnd, unwrap_or}
+use Rattle.std.specs.Prelude.{◌≡◌, ℕ, ◌+◌, Bool, MatchBool, List, [], ◌∷◌, ◌++◌, length, map, flat_map, All, slice_get, codes, decimal, Option, None, Some, IsSomeAnd, unwrap_or}
 use Rattle.shb_lines.specs.Race.{IsRaceList}
 use Rattle.shb_lines.specs.Schedule.{IsPrintedSchedule}
 use Rattle.shb_lines.specs.Text.{lines_of}
@@ -24,14 +24,20 @@ abbrev pub race_line : ℕ → ℕ × ℕ → List ℕ
 race_line number pair =
     codes "race " ++ (decimal number ++ (codes ": " ++ (decimal (pair.0 + 1) ++ (codes " " ++ (decimal (pair.1 + 1) ++ codes "\n")))))
 
--- the numbers of some events, which are counted from 1, each after a space
+-- a space and the number of an event, which is counted from 1
+abbrev pub event_number : ℕ → List ℕ
+event_number event = codes " " ++ decimal (event + 1)
+
 abbrev pub event_numbers : List ℕ → List ℕ
-event_numbers [] = []
-event_numbers (event ∷ events) = codes " " ++ (decimal (event + 1) ++ event_numbers events)
+event_numbers events = flat_map event_number events
+
+-- how many events a schedule has
+abbrev pub schedule_start : ℕ → List ℕ
+schedule_start count = codes "schedule " ++ (decimal count ++ codes ":")
 
 -- how many events a schedule has, and their numbers
 abbrev pub schedule_line : List ℕ → List ℕ
-schedule_line events = codes "schedule " ++ (decimal (length events) ++ (codes ":" ++ (event_numbers events ++ codes "\n")))
+schedule_line events = schedule_start (length events) ++ (event_numbers events ++ codes "\n")
 
 abbrev pub schedule_bytes : Option (List ℕ) → List ℕ
 schedule_bytes None = []
@@ -41,13 +47,12 @@ schedule_bytes (Some events) = schedule_line events
 abbrev pub line_at : TraceData → ℕ → List ℕ
 line_at trace event = unwrap_or (slice_get trace.lines event) []
 
+abbrev pub event_lines : TraceData → ℕ × ℕ → List ℕ
+event_lines trace pair = labelled_line (codes "first ") (line_at trace pair.0) ++ labelled_line (codes "second ") (line_at trace pair.1)
+
 -- the block of a race: its numbers, the lines of its two events, and its schedule if there is one
 abbrev pub block_bytes : TraceData → ℕ → ℕ × ℕ → Option (List ℕ) → List ℕ
-block_bytes trace number pair schedule =
-    race_line number pair
-    ++ (labelled_line (codes "first ") (line_at trace pair.0)
-    ++ (labelled_line (codes "second ") (line_at trace pair.1)
-    ++ schedule_bytes schedule))
+block_bytes trace number pair schedule = race_line number pair ++ (event_lines trace pair ++ schedule_bytes schedule)
 
 abbrev pub tail_bytes : List ℕ
 tail_bytes = codes "end\n"

@@ -1,10 +1,15 @@
 //! The parts of a report, each written by one call.
-ghost use Rattle.std.specs.Prelude.{◌-◌, ◌^◌, ◌<◌, OnErr, OnOk};
-ghost use Rattle.std.specs.Io.KnownBytes.{Appends};
-ghost use Rattle.shb_io.specs.Devices.{AppendsPrefix, IsCounted};
-ghost use Rattle.shb_report.specs.Report.{tail_bytes};
+ghost use Rattle.std.specs.Prelude.{◌≡◌, ◌+◌, ◌-◌, ◌^◌, ◌<◌, ◌≤◌, ◌++◌, length};
+ghost use Rattle.std.specs.Option.{option_map};
+ghost use Rattle.shb_io.specs.Devices.{IsCounted, Writes};
+ghost use Rattle.shb_report.specs.declared.buffer.TheConstants.{ROOM};
+ghost use Rattle.shb_report.specs.Held.{Puts};
+ghost use Rattle.shb_report.specs.Report.{block_bytes, event_lines, head_bytes, race_line, tail_bytes};
 
+use crate::buffer::TextBuffer;
+use crate::held::{put_line, put_schedule};
 use shb_io::{Failed, Sink, write_all};
+use shb_lines::{Pair, Trace};
 
 /// How many events, threads, locks and variables a trace has. Threads that are only forked or
 /// joined count as well.
@@ -16,12 +21,95 @@ pub struct Counts {
     pub variables: u64,
 }
 
-/// Writes the last line of a report, `end`. On `Failed` the sink took less than that, a prefix, and
-/// its count of failures rose by one.
+/// The lines of a report before its first block.
+fn head_text(counts: &Counts, races: u64) -> TextBuffer
+    ensures { result ≡ head_bytes counts.now races }
+{
+    let mut text = TextBuffer::new();
+    text.push_labelled(b"shb-report 1\nevents ", counts.events);
+    text.push_labelled(b" threads ", counts.threads);
+    text.push_labelled(b" locks ", counts.locks);
+    text.push_labelled(b" variables ", counts.variables);
+    text.push_labelled(b"\nraces ", races);
+    text.push_byte(b'\n');
+    text
+}
+
+/// Writes the lines of a report before its first block: the version, the counts of the trace and
+/// the number of races.
+///
+/// On `Failed` the sink took a prefix of these lines that lacks at least one byte, and its count
+/// of failures rose by one.
+pub fn head<S: Sink>(sink: &mut S, counts: &Counts, races: u64) -> Result<(), Failed>
+    requires countable { S.failure_count sink.old < 2 ^ 64 - 1 }
+    ensures written { Writes (S.taken sink.old) (S.taken sink.new) result (head_bytes counts.now races) }
+    ensures counted { IsCounted (S.failure_count sink.old) (S.failure_count sink.new) result }
+{
+    let text = head_text(counts, races);
+    write_all(sink, text.as_slice())
+}
+
+/// Adds the line with the numbers of a race and of its events, which are counted from 1.
+fn push_race_line(text: &mut TextBuffer, number: u64, pair: Pair)
+    requires { length text.old + 80 ≤ ROOM }
+    ensures { text.new ≡ text.old ++ race_line number (pair.first, pair.second) }
+{
+    text.push_labelled(b"race ", number);
+    text.push_labelled(b": ", u64::from(pair.first) + 1);
+    text.push_labelled(b" ", u64::from(pair.second) + 1);
+    text.push_byte(b'\n');
+}
+
+/// Puts the lines of the events of a race behind what is held back.
+fn put_event_lines<S: Sink>(
+    sink: &mut S,
+    held: &mut TextBuffer,
+    trace: &Trace,
+    pair: Pair,
+) -> Result<(), Failed>
+    requires countable { S.failure_count sink.old < 2 ^ 64 - 1 }
+    requires first { pair.first < length trace.now.events }
+    requires second { pair.second < length trace.now.events }
+    ensures put { Puts (S.taken sink.old) (S.taken sink.new) result held.old held.new (event_lines trace.now (pair.first, pair.second)) }
+    ensures counted { IsCounted (S.failure_count sink.old) (S.failure_count sink.new) result }
+{
+    put_line(sink, held, b"first ", trace.line_text(pair.first))?;
+    put_line(sink, held, b"second ", trace.line_text(pair.second))
+}
+
+/// Writes the block of race number `number`, counted from 1: the numbers of its events, which are
+/// counted from 1, their lines as the text has them, and the schedule if there is one.
+///
+/// On `Failed` the sink took a prefix of the block that lacks at least one byte, and its count of
+/// failures rose by one.
+pub fn block<S: Sink>(
+    sink: &mut S,
+    trace: &Trace,
+    number: u64,
+    pair: Pair,
+    schedule: Option<&[u32]>,
+) -> Result<(), Failed>
+    requires countable { S.failure_count sink.old < 2 ^ 64 - 1 }
+    requires first { pair.first < length trace.now.events }
+    requires second { pair.second < length trace.now.events }
+    ensures written { Writes (S.taken sink.old) (S.taken sink.new) result
+        (block_bytes trace.now number (pair.first, pair.second) (option_map (λ s. s.now) schedule.entry)) }
+    ensures counted { IsCounted (S.failure_count sink.old) (S.failure_count sink.new) result }
+{
+    let mut held = TextBuffer::new();
+    push_race_line(&mut held, number, pair);
+    put_event_lines(sink, &mut held, trace, pair)?;
+    put_schedule(sink, &mut held, schedule)?;
+    write_all(sink, held.as_slice())
+}
+
+/// Writes the last line of a report.
+///
+/// On `Failed` the sink took a prefix of the line that lacks at least one byte, and its count of
+/// failures rose by one.
 pub fn tail<S: Sink>(sink: &mut S) -> Result<(), Failed>
     requires countable { S.failure_count sink.old < 2 ^ 64 - 1 }
-    ensures ok { OnOk result (Appends (S.taken sink.old) (S.taken sink.new) tail_bytes) }
-    ensures err { OnErr result (AppendsPrefix (S.taken sink.old) (S.taken sink.new) tail_bytes) }
+    ensures written { Writes (S.taken sink.old) (S.taken sink.new) result tail_bytes }
     ensures counted { IsCounted (S.failure_count sink.old) (S.failure_count sink.new) result }
 {
     write_all(sink, b"end\n")

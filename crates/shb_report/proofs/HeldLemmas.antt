@@ -1,0 +1,54 @@
+-- Text put behind what is held back, one piece after another.
+use Rattle.std.proofs.Common.{◌≡◌, ◌+◌, ◌<◌, List, [], ◌∷◌, ◌++◌, ℕ, length, get_or, take, drop, Option, Result, Ok, Err, IsErrAnd, OnOk, OnErr, sym, ap, ◌∙◌, subst, append_assoc, append-nil, take-append-drop}
+use Rattle.std.proofs.lemmas.List.{take_more}
+use Rattle.std.proofs.lemmas.List.Concat.{flat_map-append}
+use Rattle.std.specs.Io.KnownBytes.{Appends}
+use Rattle.shb_io.specs.Devices.{AppendsPrefix, HoldsBack}
+use Rattle.shb_io.proofs.Growth.{Appends-trans, AppendsPrefix-front, AppendsPrefix-after, HoldsBack-push, HoldsBack-trans}
+use Rattle.shb_report.specs.Held.{Puts}
+use Rattle.shb_report.specs.Report.{event_number, event_numbers}
+
+-- xs, and then ys
+pub HoldsBack-then : (a b c : Option (List ℕ)) (held mid now xs ys : List ℕ) → HoldsBack a b mid (held ++ xs) → HoldsBack b c now (mid ++ ys) → HoldsBack a c now (held ++ (xs ++ ys))
+HoldsBack-then a b c held mid now xs ys p q =
+    subst (HoldsBack a c now) (append_assoc held xs ys) (HoldsBack-trans a b c (mid ++ ys) now ((held ++ xs) ++ ys) (HoldsBack-push a b mid (held ++ xs) ys p) q)
+
+-- the first bytes of what is held back and xs, where ys were still to come
+pub PutsPrefix-front : (a b : Option (List ℕ)) (held xs ys : List ℕ) → AppendsPrefix a b (held ++ xs) → AppendsPrefix a b (held ++ (xs ++ ys))
+PutsPrefix-front a b held xs ys p = subst (AppendsPrefix a b) (append_assoc held xs ys) (AppendsPrefix-front a b (held ++ xs) ys p)
+
+-- xs, and then the first bytes of what is held back and ys
+pub PutsPrefix-after : (a b c : Option (List ℕ)) (held mid xs ys : List ℕ) → HoldsBack a b mid (held ++ xs) → AppendsPrefix b c (mid ++ ys) → AppendsPrefix a c (held ++ (xs ++ ys))
+PutsPrefix-after a b c held mid xs ys p q =
+    let pushed = HoldsBack-push a b mid (held ++ xs) ys p in
+    let after = AppendsPrefix-after a b c pushed.sent (mid ++ ys) pushed.appended q in
+    subst (AppendsPrefix a c) (append_assoc held xs ys) (subst (AppendsPrefix a c) pushed.joined after)
+
+-- xs, and then ys or the first bytes of what is held back and ys
+pub Puts-then : {T E : Type 0} (r : Result T E) (a b c : Option (List ℕ)) (held mid now xs ys : List ℕ) → HoldsBack a b mid (held ++ xs) → Puts b c r mid now ys → Puts a c r held now (xs ++ ys)
+Puts-then (Ok _) a b c held mid now xs ys p q = HoldsBack-then a b c held mid now xs ys p q
+Puts-then (Err _) a b c held mid now xs ys p q = PutsPrefix-after a b c held mid xs ys p q
+
+-- at the exit of a `?`
+pub Puts-err : {T E : Type 0} (Q : E → Type 0) (r : Result T E) (a b : Option (List ℕ)) (held now xs : List ℕ) → IsErrAnd r Q → AppendsPrefix a b (held ++ xs) → Puts a b r held now xs
+Puts-err Q (Ok _) a b held now xs is p = absurd is
+Puts-err Q (Err _) a b held now xs is p = p
+
+-- what is held back is sent, and then bs or the first bytes of bs
+pub Puts-sent : {T E : Type 0} (r : Result T E) (a b c : Option (List ℕ)) (held now bs : List ℕ) → Appends a b held → OnOk r (Appends b c bs) → OnErr r (AppendsPrefix b c bs) → now ≡ [] → Puts a c r held now bs
+Puts-sent (Ok _) a b c held now bs p ok err none = record { sent = held ++ bs; appended = Appends-trans a b c held bs p ok; joined = ap (λ l. (held ++ bs) ++ l) none ∙ append-nil (held ++ bs) }
+Puts-sent (Err _) a b c held now bs p ok err none = AppendsPrefix-after a b c held bs p err
+
+-- the numbers of one event more
+pub numbers-next : (events : List ℕ) (k : ℕ) → k < length events → event_numbers (take k events) ++ event_number (get_or events k 0) ≡ event_numbers (take (k + 1) events)
+numbers-next events k within =
+    let last : event_numbers (get_or events k 0 ∷ []) ≡ event_number (get_or events k 0) = append-nil (event_number (get_or events k 0)) in
+    ap (λ l. event_numbers (take k events) ++ l) (sym last) ∙ sym (flat_map-append event_number (take k events) (get_or events k 0 ∷ [])) ∙ ap event_numbers (sym (take_more events k 0 within))
+
+-- the numbers of the first events, of the next one, and of those behind it
+pub numbers-split : (events : List ℕ) (k : ℕ) → k < length events → event_numbers (take k events) ++ (event_number (get_or events k 0) ++ event_numbers (drop (k + 1) events)) ≡ event_numbers events
+numbers-split events k within =
+    sym (append_assoc (event_numbers (take k events)) (event_number (get_or events k 0)) (event_numbers (drop (k + 1) events)))
+    ∙ ap (λ l. l ++ event_numbers (drop (k + 1) events)) (numbers-next events k within)
+    ∙ sym (flat_map-append event_number (take (k + 1) events) (drop (k + 1) events))
+    ∙ ap event_numbers (take-append-drop (k + 1) events)
