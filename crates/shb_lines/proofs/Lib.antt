@@ -7,8 +7,10 @@ pub mod LineLemmas
 pub mod TakingLemmas
 pub mod Scanning
 pub mod FirstFault
+pub mod Taken
 pub mod Held
 pub mod Numbers
+pub mod Named
 pub mod CutText
 pub mod GrammarLaw
 pub mod ConflictTests

@@ -18,7 +18,7 @@ use Rattle.shb_lines.specs.Parsed.{IsEventOf, events_of}
 use Rattle.shb_lines.specs.Race.{variable_at}
 use Rattle.shb_lines.specs.Reader.{IsOperation, Tables, with_names}
 use Rattle.shb_lines.specs.Sizes.{IsEventWithin, IsNumberedByAccess, IsOpWithin, IsWithin}
-use Rattle.shb_lines.specs.Text.{LocatedEvent, trace_of, variables_among}
+use Rattle.shb_lines.specs.Text.{LocatedEvent, locks_among, threads_among, trace_of, variables_among}
 use Rattle.shb_lines.specs.TraceData.{IsTraceOf, IsWellFormed, TraceData, sizes_of, tables_in}
 use Rattle.shb_lines.proofs.NameLemmas.{length-with_name_le, slice_get-with_names, with_name-at}
 
@@ -205,10 +205,17 @@ module _ (lines : List (List ℕ)) (trace : TraceData) (h : IsTraceOf lines trac
   pub numbered_by_access : (k x y : ℕ) → variable_at trace.events k ≡ Some x → y < x → (j : ℕ) × (j < k) × (variable_at trace.events j ≡ Some y)
   numbered_by_access k x y at_k lt = elim (earlier (tables_in trace) variables_distinct [] trace.events (trace_of lines) h.events_are table_is x y lt k at_k) [ inl none_known ↦ absurd (omega arith) | inr h ↦ h ]
 
+  -- the names of a table are different
+  differ : (names table : List (List ℕ)) → table ≡ table_of names → IsDistinct bytes_eq table
+  differ names table is = subst (IsDistinct bytes_eq) (sym is) (IsDistinct-table_of names)
+
   -- what every trace of some lines meets
   pub well_formed : length trace.events ≤ 4194304 → IsWellFormed trace
   well_formed few = record {
     few = few;
     within = events_within (tables_in trace) trace.events (trace_of lines) h.events_are;
     numbered = λ k x y at_k lt absent. let h = numbered_by_access k x y at_k lt in absent h.0 h.1 h.2;
+    threads_differ = differ (flat_map (λ e. e.thread ∷ threads_among e.kind e.operand) (events_of lines)) trace.threads (ap (λ t. t.threads) h.tables_are);
+    locks_differ = differ (flat_map (λ e. locks_among e.kind e.operand) (events_of lines)) trace.locks (ap (λ t. t.locks) h.tables_are);
+    variables_differ = differ (flat_map (λ e. variables_among e.kind e.operand) (events_of lines)) trace.variables (ap (λ t. t.variables) h.tables_are);
   }

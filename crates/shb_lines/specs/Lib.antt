@@ -8,7 +8,6 @@ pub mod Faults
 pub mod Words
 pub mod Reader
 pub mod Parsed
-pub mod Progress
 pub mod Taking
 pub mod TraceData
 pub mod Events

@@ -4,7 +4,7 @@ use Rattle.std.proofs.lemmas.Bool.Decides.{nat_tests}
 use Rattle.std.proofs.lemmas.List.{length-map}
 use Rattle.shb_lines.proofs.LineLemmas.{length-threads_le}
 use Rattle.shb_lines.specs.Names.{names_in}
-use Rattle.shb_lines.proofs.read.Reader.has_too_many_threads.Goals as goal
+use Rattle.shb_lines.proofs.reader.Reader.has_too_many_threads.Goals as goal
 
 not_less : (most n : ℕ) → n ≤ most → false ≡ nat_lt most n
 not_less most n h = grind (arith, nat_tests)

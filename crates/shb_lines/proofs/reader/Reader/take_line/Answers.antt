@@ -1,0 +1,79 @@
+-- Each return answers the lowest fault of the line, and keeps or lengthens the trace.
+use Rattle.std.proofs.Common.{[], ◌∷◌, ◌++◌, ◌≡◌, ◌+◌, ◌<◌, ◌≤◌, Bool, IfSome, List, None, Ok, Some, Option, Result, ap, arith, false, length, nat_lt, refl, subst, sym, true, ℕ, ◌∙◌}
+use Rattle.std.proofs.lemmas.Bool.Decides.{nat_tests}
+use Rattle.std.specs.Str.Lines.{strip_carriage_return}
+use Rattle.shb_lines.specs.declared.names.Span.{Span}
+use Rattle.shb_lines.specs.Grammar.{Meaning}
+use Rattle.shb_lines.specs.Meaning.{meaning}
+use Rattle.shb_lines.specs.Names.{StandsAt}
+use Rattle.shb_lines.specs.Parsed.{events_of, part}
+use Rattle.shb_lines.specs.Reader.{AddsEvent}
+use Rattle.shb_lines.specs.Reading.{IsPlaced, meaning_of, named}
+use Rattle.shb_lines.proofs.FaultLemmas.{accepted, refused, too_many_events, too_many_threads}
+use Rattle.shb_lines.proofs.LineLemmas.{StandsAt-front, StandsAt-inner, StandsAt-part, length-events_of, length-threads_of}
+use Rattle.shb_lines.proofs.TraceLemmas.{HasRead-none, HasRead-some}
+use Rattle.shb_lines.proofs.reader.Reader.take_line.Goals as goal
+
+-- what the test of the threads says of their count
+more_threads : (most n m : ℕ) → n ≡ m → nat_lt most m ≡ true → most < n
+more_threads most n m e h = grind (arith, nat_tests)
+
+few_threads : (most n m : ℕ) → n ≡ m → nat_lt most m ≡ false → n ≤ most
+few_threads most n m e h = grind (arith, nat_tests)
+
+-- what a test that fails denies
+denied : (b : Bool) (P : Type 0) → (P → b ≡ true) → b ≡ false → P → ⊥
+denied b P to fails p = let passes = to p in cc
+
+-- what the bytes of the line mean
+gives : (line bytes : List ℕ) (m n : Meaning) → bytes ≡ strip_carriage_return line → m ≡ meaning bytes → m ≡ n → meaning (strip_carriage_return line) ≡ n
+gives line bytes m n bytes_are is same = ap meaning (sym bytes_are) ∙ sym is ∙ same
+
+pub returns-in-Ok-None-clause-read : goal.returns-in-Ok-None-clause-read
+returns-in-Ok-None-clause-read c = λ lines h line_is.
+    HasRead-none _ _ lines _ (gives (part c.args.text.now c.args.start c.args.end) c.without_carriage_return-bytes.result.now _ _ c.without_carriage_return-bytes.ensures.value c.in-Ok-None.ensures.meaning (ap (λ o. meaning_of (Ok o)) c.in-Ok-None.field-0-is)) h
+
+pub returns-in-Err-clause-fault : goal.returns-in-Err-clause-fault
+returns-in-Err-clause-fault c = λ lines h.
+    refused c.args.limits.now _ (events_of lines) _ (denied _ _ c.passes_limit.ensures.1 c.if-passes_limit.false)
+    c.if-raw-limits.false c.in-Err.fault (gives (part c.args.text.now c.args.start c.args.end) c.without_carriage_return-bytes.result.now _ _ c.without_carriage_return-bytes.ensures.value c.in-Err.ensures.meaning refl)
+
+pub returns-then-len-limits-clause-fault : goal.returns-then-len-limits-clause-fault
+returns-then-len-limits-clause-fault c = λ lines h.
+    let event = gives (part c.args.text.now c.args.start c.args.end) c.without_carriage_return-bytes.result.now _ (Ok (Some (named c.in-Ok-Some.found))) c.without_carriage_return-bytes.ensures.value c.in-Ok-Some.ensures.meaning (ap (λ o. meaning_of (Ok o)) c.in-Ok-Some.field-0-is) in
+    let self = c.args.self.now in
+    too_many_events c.args.limits.now _ (events_of lines) _ (denied _ _ c.passes_limit.ensures.1 c.if-passes_limit.false)
+    c.if-raw-limits.false _ event (omega (arith, length-events_of _ _ lines h, self.events.ok.0, c.len.ensures, c.if-len-limits.true))
+
+pub returns-then-has_too_many_threads-clause-fault : goal.returns-then-has_too_many_threads-clause-fault
+returns-then-has_too_many_threads-clause-fault c = λ lines h.
+    let event = gives (part c.args.text.now c.args.start c.args.end) c.without_carriage_return-bytes.result.now _ (Ok (Some (named c.in-Ok-Some.found))) c.without_carriage_return-bytes.ensures.value c.in-Ok-Some.ensures.meaning (ap (λ o. meaning_of (Ok o)) c.in-Ok-Some.field-0-is) in
+    let self = c.args.self.now in
+    too_many_threads c.args.limits.now _ (events_of lines) _ (denied _ _ c.passes_limit.ensures.1 c.if-passes_limit.false)
+    c.if-raw-limits.false _ event (omega (arith, length-events_of _ _ lines h, self.events.ok.0, c.len.ensures, c.if-len-limits.false))
+    (more_threads _ _ _ (length-threads_of _ _ lines (named c.in-Ok-Some.found) h) (sym c.has_too_many_threads.ensures ∙ c.if-has_too_many_threads.true))
+
+pub returns-clause-fault : goal.returns-clause-fault
+returns-clause-fault c = λ lines h.
+    let event = gives (part c.args.text.now c.args.start c.args.end) c.without_carriage_return-bytes.result.now _ (Ok (Some (named c.in-Ok-Some.found))) c.without_carriage_return-bytes.ensures.value c.in-Ok-Some.ensures.meaning (ap (λ o. meaning_of (Ok o)) c.in-Ok-Some.field-0-is) in
+    let self = c.args.self.now in
+    accepted c.args.limits.now _ (events_of lines) _ (denied _ _ c.passes_limit.ensures.1 c.if-passes_limit.false)
+    c.if-raw-limits.false _ event (omega (arith, length-events_of _ _ lines h, self.events.ok.0, c.len.ensures, c.if-len-limits.false))
+    (few_threads _ _ _ (length-threads_of _ _ lines (named c.in-Ok-Some.found) h) (sym c.has_too_many_threads.ensures ∙ c.if-has_too_many_threads.false))
+
+pub returns-clause-read : goal.returns-clause-read
+returns-clause-read c = λ lines h line_is.
+    let event = gives (part c.args.text.now c.args.start c.args.end) c.without_carriage_return-bytes.result.now _ (Ok (Some (named c.in-Ok-Some.found))) c.without_carriage_return-bytes.ensures.value c.in-Ok-Some.ensures.meaning (ap (λ o. meaning_of (Ok o)) c.in-Ok-Some.field-0-is) in
+    let text = c.args.text.now in
+    let start = c.args.start in
+    let found = c.in-Ok-Some.found in
+    let bytes : List ℕ = c.without_carriage_return-bytes.result.now in
+    let span : Span = record { start = start; len = length bytes } in
+    let stands = StandsAt-part text (strip_carriage_return (part text start c.args.end)) start c.args.end span c.requires.order c.requires.within refl refl (ap length c.without_carriage_return-bytes.ensures.value) in
+    let here = subst (λ l. StandsAt text l span) (sym c.without_carriage_return-bytes.ensures.value) stands in
+    let placed = subst (λ o. IfSome o (IsPlaced bytes)) c.in-Ok-Some.field-0-is c.in-Ok-Some.ensures.placed in
+    let stand = c.in_ok-add_event.ensures.stand text h.stand
+        (StandsAt-front text bytes start found.thread.now here placed.thread_within placed.thread)
+        (StandsAt-inner text bytes start found.operand_at found.operand.now here placed.operand_within placed.operand) in
+    let adds = subst (λ n. AddsEvent c.args.self.now c.add_event.new.self n (named found) span) line_is c.in_ok-add_event.ensures.added in
+    HasRead-some text c.args.self.now c.add_event.new.self lines (part text start c.args.end) (named found) span event stands adds stand h

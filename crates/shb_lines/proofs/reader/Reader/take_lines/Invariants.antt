@@ -1,0 +1,23 @@
+-- The lines before the place where the next one begins are read, and have no fault.
+use Rattle.std.proofs.Common.{◌+◌, ◌-◌, ◌<◌, ◌≤◌, length, take, vec_len}
+use Rattle.shb_lines.specs.Faults.{IsFaultless}
+use Rattle.shb_lines.specs.Parsed.{HasRead}
+use Rattle.shb_lines.specs.Reader.{HasRoom}
+use Rattle.shb_lines.specs.Text.{lines_of}
+use Rattle.shb_lines.proofs.Scanning.{IsStart}
+use Rattle.shb_lines.proofs.reader.Reader.take_lines.Given as goal
+
+abbrev pub invariant-loop-start : goal.invariant-loop-start
+invariant-loop-start l = record {
+  counted : l.line ≤ l.start;
+  within : l.start ≤ length l.text + 1;
+  room : HasRoom l.self;
+  few : vec_len l.self.events ≤ l.limits.events;
+  begins : IsStart l.text l.line l.start;
+  read : HasRead l.text l.self (take l.line (lines_of l.text));
+  faultless : IsFaultless l.limits l.text l.line;
+  inside : l.limits.text < length l.text → l.start ≤ l.limits.text;
+}
+
+abbrev pub decreases-loop-start : goal.decreases-loop-start
+decreases-loop-start l = length l.text + 1 - l.start

@@ -1,0 +1,269 @@
+//! Reads the lines of a text, one after the other.
+ghost use Rattle.std.specs.Prelude.{◌≡◌, ◌+◌, ◌*◌, ◌^◌, ◌<◌, ◌≤◌, ◌==◌, ◌↔◌, ℕ, List, [], ◌∷◌, length, drop, nat_lt, not, vec_len, IsTrue, IfOk, OnOk};
+ghost use Rattle.std.specs.List.{list_any, position_or_len};
+ghost use Rattle.std.specs.Str.{bytes_eq};
+ghost use Rattle.std.specs.Str.Lines.{strip_carriage_return};
+ghost use Rattle.indexmap.specs.IndexMap.{index_map_len};
+ghost use Rattle.shb_lines.specs.Faults.{HasLineFault, IsLowest};
+ghost use Rattle.shb_lines.specs.Limits.{AreStandard};
+ghost use Rattle.shb_lines.specs.Names.{StandsAt, spans_in};
+ghost use Rattle.shb_lines.specs.Parsed.{HasRead, events_of, lines_read, part};
+ghost use Rattle.shb_lines.specs.Reader.{AddsEvent, AllStand, HasNames, HasRoom, IsOperation, tables_of, with_names, with_operand};
+ghost use Rattle.shb_lines.specs.Reading.{named};
+ghost use Rattle.shb_lines.specs.Text.{threads_among};
+ghost use Rattle.shb_lines.specs.TraceData.{IsReading};
+
+use crate::event::{Event, Fault, Kind, Limits, LineFault, Op};
+use crate::grammar::{LineEvent, read_line};
+use crate::names::{Names, Span};
+use crate::trace::Places;
+use memchr::memchr;
+use shb_io::NoMemory;
+use std::alloc::Global;
+use std::random::RandomSource;
+
+/// The line without the carriage return at its end.
+fn without_carriage_return(line: &[u8]) -> &[u8]
+    ensures value { result.now ≡ strip_carriage_return line.now }
+    ensures within { length result.now ≤ length line.now }
+{
+    match line {
+        [front @ .., b'\r'] => front,
+        _ => line,
+    }
+}
+
+/// Whether the byte behind the limit of the text stands in a line that ends at `end`, where no line
+/// before it has it.
+fn passes_limit(text: &[u8], limits: &Limits, end: usize) -> bool
+    ensures { IsTrue result ↔ ((limits.now.text ≤ end) × (limits.now.text < length text.now)) }
+{
+    end as u64 >= limits.text && text.len() as u64 > limits.text
+}
+
+/// Where the line that begins at `start` ends: at its line feed, or at the end of the text.
+fn line_end(text: &[u8], start: usize) -> usize
+    requires { start ≤ length text.now }
+    ensures place { result ≡ start + position_or_len (λ b. b == 10) (drop start text.now) }
+    ensures within { result ≤ length text.now }
+{
+    let (_, rest) = text.split_at(start);
+    match memchr(b'\n', rest) {
+        Some(len) => start + len,
+        None => text.len(),
+    }
+}
+
+/// What was read of a text so far.
+#[derive(Drop)]
+pub struct Reader<'t> {
+    events: Vec<Event>,
+    texts: Vec<Span>,
+    threads: Names<'t>,
+    locks: Names<'t>,
+    variables: Names<'t>,
+}
+
+impl<'t> Reader<'t> {
+    /// Nothing read yet.
+    pub fn new<R: RandomSource>(alloc: Global, rt: &R) -> Result<Reader<'t>, NoMemory>
+        ensures room { IfOk result HasRoom }
+        ensures empty { IfOk result (λ reader. vec_len reader.events ≡ 0) }
+        ensures begun { (text : List ℕ) → IfOk result (λ reader. HasRead text reader []) }
+    {
+        Ok(Reader {
+            events: Vec::new(alloc),
+            texts: Vec::new(alloc),
+            threads: Names::new(alloc, rt)?,
+            locks: Names::new(alloc, rt)?,
+            variables: Names::new(alloc, rt)?,
+        })
+    }
+
+    /// Whether no event has named the thread.
+    fn is_new_thread(&self, name: &'t [u8]) -> bool
+        ensures { result ≡ not (list_any (bytes_eq name.now) (tables_of self.now).threads) }
+    {
+        !self.threads.contains(name)
+    }
+
+    /// How many new threads an event would name.
+    fn new_threads(&self, kind: Kind, thread: &'t [u8], operand: &'t [u8]) -> usize
+        ensures bound { result ≤ 2 }
+        ensures count { length (with_names (tables_of self.now).threads
+            (thread.now ∷ threads_among kind operand.now))
+            ≡ index_map_len self.now.threads.table + result }
+    {
+        let own = usize::from(self.is_new_thread(thread));
+        match kind {
+            Kind::Fork | Kind::Join => {
+                if operand == thread {
+                    own
+                } else {
+                    own + usize::from(self.is_new_thread(operand))
+                }
+            }
+            _ => own,
+        }
+    }
+
+    /// Whether there are more threads than the limit with those of an event.
+    fn has_too_many_threads(&self, limits: &Limits, found: &LineEvent<'t>) -> bool
+        ensures { result ≡ nat_lt limits.now.threads (length (with_names (tables_of self.now).threads
+            (found.now.thread.now ∷ threads_among found.now.kind found.now.operand.now))) }
+    {
+        let known = self.threads.len();
+        let most = limits.threads as usize;
+        // An event names two threads at most, so mostly they need not be looked up.
+        if known + 2 <= most {
+            return false;
+        }
+        known + self.new_threads(found.kind, found.thread, found.operand) > most
+    }
+
+    /// The operation of an event, with the number of its name.
+    fn operation(&mut self, kind: Kind, name: &'t [u8], span: Span) -> Result<Op, NoMemory>
+        requires room { HasNames self.old 16777216 }
+        ensures room { (n : ℕ) → HasNames self.old n → HasNames self.new (n + 1) }
+        ensures events { self.new.events ≡ self.old.events }
+        ensures texts { self.new.texts ≡ self.old.texts }
+        ensures tables { OnOk result
+            (tables_of self.new ≡ with_operand (tables_of self.old) kind name.now) }
+        ensures operation { IfOk result (λ op. IsOperation (tables_of self.new) op kind name.now) }
+        ensures stand { (text : List ℕ) → AllStand text self.old → StandsAt text name.now span
+            → OnOk result (AllStand text self.new) }
+    {
+        match kind {
+            Kind::Read => Ok(Op::Read(self.variables.number_of(name, span)?)),
+            Kind::Write => Ok(Op::Write(self.variables.number_of(name, span)?)),
+            Kind::Acquire => Ok(Op::Acquire(self.locks.number_of(name, span)?)),
+            Kind::Release => Ok(Op::Release(self.locks.number_of(name, span)?)),
+            Kind::Fork => Ok(Op::Fork(self.threads.number_of(name, span)?)),
+            Kind::Join => Ok(Op::Join(self.threads.number_of(name, span)?)),
+            Kind::BeginMark => Ok(Op::BeginMark),
+            Kind::EndMark => Ok(Op::EndMark),
+        }
+    }
+
+    /// Adds the event of a line that stands at `text`.
+    fn add_event(&mut self, found: &LineEvent<'t>, line: u32, text: Span) -> Result<(), NoMemory>
+        requires room { HasNames self.old 8388608 }
+        requires thread { text.start + length found.now.thread.now < 2 ^ 31 }
+        requires operand { text.start + found.now.operand_at + length found.now.operand.now < 2 ^ 31 }
+        ensures room { (n : ℕ) → HasNames self.old n → OnOk result (HasNames self.new (n + 2)) }
+        ensures len { OnOk result (vec_len self.new.events ≡ vec_len self.old.events + 1) }
+        ensures added { OnOk result (AddsEvent self.old self.new line (named found.now) text) }
+        ensures stand { (bytes : List ℕ) → AllStand bytes self.old
+            → StandsAt bytes found.now.thread.now (record { start = text.start; len = length found.now.thread.now })
+            → StandsAt bytes found.now.operand.now (record { start = text.start + found.now.operand_at; len = length found.now.operand.now })
+            → OnOk result (AllStand bytes self.new) }
+    {
+        let thread_span = Span {
+            start: text.start,
+            len: found.thread.len() as u32,
+        };
+        let operand_span = Span {
+            start: text.start + found.operand_at as u32,
+            len: found.operand.len() as u32,
+        };
+        let thread = self.threads.number_of(found.thread, thread_span)?;
+        let op = self.operation(found.kind, found.operand, operand_span)?;
+        self.events.push(Event { thread, op, line })?;
+        self.texts.push(text)?;
+        Ok(())
+    }
+
+    /// Takes the line from `start` to `end`, and answers its fault if it has one.
+    fn take_line(
+        &mut self,
+        text: &'t [u8],
+        limits: &Limits,
+        line: u32,
+        start: usize,
+        end: usize,
+    ) -> Result<Option<Fault>, NoMemory>
+        requires standard { AreStandard limits.now }
+        requires order { start ≤ end }
+        requires within { end ≤ length text.now }
+        requires short { length text.now < 2 ^ 31 }
+        requires room { HasRoom self.old }
+        ensures room { OnOk result (HasRoom self.new) }
+        ensures few { vec_len self.old.events ≤ limits.now.events → OnOk result (vec_len self.new.events ≤ limits.now.events) }
+        // Behind the events of some lines, the fault is the lowest that the line has.
+        ensures fault { (lines : List (List ℕ)) → HasRead text.now self.old lines
+            → IfOk result (IsLowest (HasLineFault limits.now
+            ((limits.now.text ≤ end) × (limits.now.text < length text.now))
+            (events_of lines) (part text.now start end))) }
+        // A line with no fault is read.
+        ensures read { (lines : List (List ℕ)) → HasRead text.now self.old lines → line ≡ 1 + length lines
+            → IfOk result (λ found. HasRead text.now self.new
+            (lines_read lines found (part text.now start end))) }
+    {
+        if passes_limit(text, limits, end) {
+            return Ok(Some(Fault::TextTooLong));
+        }
+        let raw = &text[start..end];
+        if raw.len() > limits.line as usize {
+            return Ok(Some(Fault::LineTooLong));
+        }
+        let bytes = without_carriage_return(raw);
+        let found = match read_line(bytes) {
+            Ok(None) => return Ok(None),
+            Ok(Some(found)) => found,
+            Err(fault) => return Ok(Some(fault)),
+        };
+        if self.events.len() >= limits.events as usize {
+            return Ok(Some(Fault::TooManyEvents));
+        }
+        if self.has_too_many_threads(limits, &found) {
+            return Ok(Some(Fault::TooManyThreads));
+        }
+        let span = Span {
+            start: start as u32,
+            len: bytes.len() as u32,
+        };
+        self.add_event(&found, line, span)?;
+        Ok(None)
+    }
+
+    /// Takes the lines of the text up to the first fault, and answers it.
+    pub fn take_lines(&mut self, text: &'t [u8], limits: &Limits) -> Result<Option<LineFault>, NoMemory>
+        requires standard { AreStandard limits.now }
+        requires short { length text.now ≤ limits.now.text + 1 }
+        requires empty { vec_len self.old.events ≡ 0 }
+        requires room { HasRoom self.old }
+        requires begun { HasRead text.now self.old [] }
+        ensures room { OnOk result (HasRoom self.new) }
+        ensures few { OnOk result (vec_len self.new.events ≤ limits.now.events) }
+        ensures reading { IfOk result (IsReading limits.now text.now (HasRead text.now self.new)) }
+    {
+        let mut start = 0;
+        let mut line = 0u32;
+        while start <= text.len() {
+            line += 1;
+            let end = line_end(text, start);
+            if let Some(fault) = self.take_line(text, limits, line, start, end)? {
+                return Ok(Some(LineFault { line, fault }));
+            }
+            start = end + 1;
+        }
+        Ok(None)
+    }
+
+    /// Where what was read stands.
+    pub fn into_places(self, alloc: Global) -> Result<Places, NoMemory>
+        ensures events { IfOk result (λ places. places.events ≡ self.entry.events) }
+        ensures texts { IfOk result (λ places. places.texts ≡ self.entry.texts) }
+        ensures threads { IfOk result (λ places. places.threads.items ≡ spans_in self.entry.threads.table.entries) }
+        ensures locks { IfOk result (λ places. places.locks.items ≡ spans_in self.entry.locks.table.entries) }
+        ensures variables { IfOk result (λ places. places.variables.items ≡ spans_in self.entry.variables.table.entries) }
+    {
+        Ok(Places {
+            threads: self.threads.spans(alloc)?,
+            locks: self.locks.spans(alloc)?,
+            variables: self.variables.spans(alloc)?,
+            events: self.events,
+            texts: self.texts,
+        })
+    }
+}

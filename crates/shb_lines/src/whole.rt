@@ -1,0 +1,67 @@
+//! Reads the bytes of a source.
+ghost use Rattle.std.specs.Prelude.{◌≡◌, ◌+◌, ◌-◌, ◌^◌, ◌<◌, ◌≤◌, ◌++◌, ℕ, List, length, vec_len, IfOk};
+ghost use Rattle.std.specs.Io.KnownBytes.{Consumes, IsAtEnd};
+ghost use Rattle.shb_lines.specs.Taking.{IsSourceCounted, TakesAtMost};
+
+use crate::read::ReadError;
+use shb_io::{NoMemory, Source};
+use std::alloc::Global;
+
+/// How many bytes are read at once.
+const PIECE: usize = 1 << 20;
+
+/// Room for one piece.
+fn new_piece(alloc: Global) -> Result<Vec<u8>, NoMemory>
+    ensures { IfOk result (λ piece. vec_len piece ≡ 1048576) }
+{
+    Ok(vec![in alloc; 0; PIECE]?)
+}
+
+/// Reads once, at most `room` bytes, puts them behind the text, and says how many there were.
+fn read_onto<S: Source>(
+    source: &mut S,
+    text: &mut Vec<u8>,
+    piece: &mut [u8],
+    room: usize,
+) -> Result<usize, ReadError>
+    requires countable { S.failure_count source.old < 2 ^ 64 - 1 }
+    requires some { 0 < room }
+    requires within { room ≤ length piece.old }
+    ensures bound { IfOk result (λ count. count ≤ room) }
+    ensures grown { IfOk result (λ count. vec_len text.new ≡ vec_len text.old + count) }
+    ensures bytes { IfOk result (λ count. (bytes : List ℕ) × (text.new.items ≡ text.old.items ++ bytes)
+        × Consumes (S.remaining source.old) (S.remaining source.new) bytes) }
+    ensures end { IfOk result (λ count. count ≡ 0 → IsAtEnd (S.remaining source.new)) }
+    ensures taken { TakesAtMost room (S.remaining source.old) (S.remaining source.new) }
+    ensures counted { IsSourceCounted (S.failure_count source.old) (S.failure_count source.new) result }
+{
+    let Ok(count) = source.read(&mut piece[..room]) else {
+        return Err(ReadError::Source);
+    };
+    let Ok(()) = text.extend_from_slice(&piece[..count]) else {
+        return Err(ReadError::Memory);
+    };
+    Ok(count)
+}
+
+/// Reads the source to its end, or to one byte more than the limit.
+pub fn read_whole<S: Source>(alloc: Global, source: &mut S, limit: u64) -> Result<Vec<u8>, ReadError>
+    requires standard { limit ≤ 1073741824 }
+    requires countable { S.failure_count source.old < 2 ^ 64 - 1 }
+    ensures ok { IfOk result (λ text. (vec_len text ≤ limit + 1)
+        × Consumes (S.remaining source.old) (S.remaining source.new) text.items
+        × (vec_len text ≤ limit → IsAtEnd (S.remaining source.new))) }
+    ensures taken { TakesAtMost (limit + 1) (S.remaining source.old) (S.remaining source.new) }
+    ensures counted { IsSourceCounted (S.failure_count source.old) (S.failure_count source.new) result }
+{
+    let most = limit as usize + 1;
+    let mut text = Vec::new(alloc);
+    let mut piece = new_piece(alloc)?;
+    while text.len() < most {
+        let room = PIECE.min(most - text.len());
+        if read_onto(source, &mut text, &mut piece, room)? == 0 {
+            break;
+        }
+    }
+    Ok(text)
+}
