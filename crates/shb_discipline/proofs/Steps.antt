@@ -1,6 +1,6 @@
 -- What one event more does to what is known of locks and threads.
-use Rattle.std.proofs.Common.{◌≡◌, ◌≢◌, ℕ, ◌+◌, ◌-◌, ◌^◌, ◌<◌, ◌≤◌, ◌⊎◌, inl, inr, Bool, true, false, List, Option, Some, length, get_or, take, refl, sym, ◌∙◌, ap, arith, subst, get_or-set_same, get_or-set_other}
-use Rattle.std.specs.Prelude.{slice_get, count_by, cond, not, ◌==◌, ◌&&◌, vec_len}
+use Rattle.std.proofs.Common.{◌≡◌, ◌≢◌, ℕ, ◌+◌, ◌-◌, ◌^◌, ◌<◌, ◌≤◌, ◌⊎◌, inl, inr, Bool, true, false, List, Some, length, get_or, take, refl, sym, ◌∙◌, ap, arith, subst, get_or-set_same, get_or-set_other}
+use Rattle.std.specs.Prelude.{slice_get, count_by, cond, not, ◌==◌, ◌&&◌}
 use Rattle.std.proofs.Math.ListN.{set, length-set}
 use Rattle.std.proofs.Math.Bool.{and-false, and-true}
 use Rattle.std.proofs.lemmas.Bool.{cases_Bool, cases_eq, eqb-true, eq-eqb, ne_eqb}
@@ -12,7 +12,6 @@ use Rattle.shb_lines.specs.declared.event.Event.{Event}
 use Rattle.shb_lines.specs.declared.event.Op.{Op}
 use Rattle.shb_lines.specs.declared.event.Op.TheVariants.{Acquire, Release, Fork, Join}
 use Rattle.shb_lines.specs.Discipline.{acquires, anyone, is_acquire, is_fork, is_join, is_of, is_release, op_is_acquire, op_is_fork, op_is_join, op_is_release, other_than, only, releases, MayCome, MayDo}
-use Rattle.shb_lines.specs.Sizes.{IsOpWithin, IsWithin}
 use Rattle.shb_lines.proofs.Counts.{count_more_yes, count_more_no}
 use Rattle.shb_discipline.specs.declared.state.LockState.{LockState}
 use Rattle.shb_discipline.specs.declared.state.State.{State}

@@ -1,5 +1,6 @@
 //! The check of the discipline, by one pass over the events.
-ghost use Rattle.std.specs.Prelude.{◌≡◌, ◌≤◌, IfErr, IfOk, length};
+ghost use Rattle.std.specs.Prelude.{◌≡◌, ◌≤◌, IfErr, IfOk, OnOk, length};
+ghost use Rattle.shb_lines.specs.Discipline.{IsDisciplined};
 ghost use Rattle.shb_lines.specs.Sizes.{IsWithin};
 ghost use Rattle.shb_discipline.specs.Faults.{IsFirstIfAny, IsRefusal};
 
@@ -61,7 +62,8 @@ fn first_fault(alloc: Global, events: &[Event], sizes: Sizes) -> Result<Option<L
 /// [`CheckError::Undisciplined`] exactly where some event breaks a rule, with the line of the first
 /// one and its fault of lowest number. [`CheckError::Memory`] where no memory is left.
 pub fn check<'a>(alloc: Global, trace: &'a Trace) -> Result<Disciplined<'a>, CheckError>
-    ensures disciplined { IfOk result (λ d. d.trace.now ≡ trace.now) }
+    ensures trace { IfOk result (λ d. d.trace.now ≡ trace.now) }
+    ensures disciplined { OnOk result (IsDisciplined trace.now.events) }
     ensures refused { IfErr result (IsRefusal trace.now.events) }
 {
     let events = trace.events();

@@ -174,21 +174,31 @@ impl State {
         }
     }
 
-    /// The fault of lowest number of an event, if it has one.
-    pub(crate) fn fault(&self, event: Event) -> Option<Fault>
+    /// The fault of lowest number of what a thread does that was not joined, if it has one.
+    fn operation_fault(&self, event: Event) -> Option<Fault>
         requires covers { Covers self.now event }
-        ensures { (past : List Event) → IsStateAfter past self.now → IsLowest (HasDisciplineFault past event) result }
+        ensures { (past : List Event) → count_by (is_join event.thread) past ≡ 0
+            → IsStateAfter past self.now → IsLowest (HasDisciplineFault past event) result }
     {
         let Event { thread, op, .. } = event;
-        if self.is_joined(thread) {
-            return Some(Fault::AfterJoin);
-        }
         match op {
             Op::Acquire(lock) => self.lock(lock).acquire_fault(thread, lock),
             Op::Release(lock) => self.lock(lock).release_fault(thread, lock),
             Op::Fork(child) => self.fork_fault(thread, child),
             Op::Join(child) => join_fault(thread, child),
             _ => None,
+        }
+    }
+
+    /// The fault of lowest number of an event, if it has one.
+    pub(crate) fn fault(&self, event: Event) -> Option<Fault>
+        requires covers { Covers self.now event }
+        ensures { (past : List Event) → IsStateAfter past self.now → IsLowest (HasDisciplineFault past event) result }
+    {
+        if self.is_joined(event.thread) {
+            Some(Fault::AfterJoin)
+        } else {
+            self.operation_fault(event)
         }
     }
 

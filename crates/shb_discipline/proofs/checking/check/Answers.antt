@@ -1,4 +1,5 @@
 use Rattle.std.proofs.Common.{◌≤◌, length, sym, subst}
+use Rattle.shb_lines.specs.Discipline.{IsDisciplined}
 use Rattle.shb_lines.specs.Sizes.{IsNumberedByAccess, IsWithin}
 use Rattle.shb_discipline.specs.Faults.{IsFirstIfAny}
 use Rattle.shb_discipline.proofs.checking.check.Goals as goal
@@ -14,3 +15,6 @@ invariant_of-result-clause-numbered c = subst IsNumberedByAccess (sym c.events-e
 
 pub invariant_of-result-clause-meets : goal.invariant_of-result-clause-meets
 invariant_of-result-clause-meets c = subst (IsFirstIfAny c.events-events.result.now) c.in-None.is c.in_ok-first_fault.ensures
+
+pub returns-in-None-clause-disciplined : goal.returns-in-None-clause-disciplined
+returns-in-None-clause-disciplined c = subst IsDisciplined c.events-events.ensures.value (subst (IsFirstIfAny c.events-events.result.now) c.in-None.is c.in_ok-first_fault.ensures)

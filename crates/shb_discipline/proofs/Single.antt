@@ -1,0 +1,71 @@
+-- A trace and a text have at most one first fault.
+use Rattle.std.proofs.Common.{◌≡◌, ◌+◌, ◌<◌, inl, inr, ℕ, List, [], ◌∷◌, Some, get_or, take, refl, sym, ap, subst, ◌∙◌, arith}
+use Rattle.std.specs.Prelude.{slice_get}
+use Rattle.std.proofs.lemmas.Bool.{cases_order}
+use Rattle.shb_lines.specs.declared.event.Event.{Event}
+use Rattle.shb_lines.specs.declared.event.Fault.{Fault}
+use Rattle.shb_lines.specs.declared.event.Fault.TheVariants as faults
+use Rattle.shb_lines.specs.declared.event.Limits.{Limits}
+use Rattle.shb_lines.specs.Discipline.{IsDisciplined}
+use Rattle.shb_lines.specs.Faults.{IsLowest, number_of}
+use Rattle.shb_discipline.specs.Faults.{HasDisciplineFault, IsFirstDisciplineFault}
+use Rattle.shb_discipline.specs.FirstFault.{HasAnyFault, HasFirstFault}
+use Rattle.shb_discipline.proofs.Faultless.{no_fault}
+
+-- the faults by their numbers; 0 and 11 are no fault's
+abbrev by_number : List Fault
+by_number =
+    faults.TextTooLong ∷ faults.TextTooLong ∷ faults.LineTooLong ∷ faults.MissingField ∷ faults.EmptyThread ∷ faults.UnknownOperation ∷ faults.BadOperand ∷ faults.TooManyEvents ∷ faults.TooManyThreads
+    ∷ faults.AfterJoin ∷ faults.LockHeld ∷ faults.TextTooLong ∷ faults.NotHeld ∷ faults.ForkSelf ∷ faults.ForkStarted ∷ faults.ForkTwice ∷ faults.ForkJoined ∷ faults.JoinSelf ∷ []
+
+found : (f : Fault) → get_or by_number (number_of f) faults.TextTooLong ≡ f
+found faults.TextTooLong = refl
+found faults.LineTooLong = refl
+found faults.MissingField = refl
+found faults.EmptyThread = refl
+found faults.UnknownOperation = refl
+found faults.BadOperand = refl
+found faults.TooManyEvents = refl
+found faults.TooManyThreads = refl
+found faults.AfterJoin = refl
+found faults.LockHeld = refl
+found faults.NotHeld = refl
+found faults.ForkSelf = refl
+found faults.ForkStarted = refl
+found faults.ForkTwice = refl
+found faults.ForkJoined = refl
+found faults.JoinSelf = refl
+
+one_lowest : (Has : Fault → Type 0) (f g : Fault) → IsLowest Has (Some f) → IsLowest Has (Some g) → f ≡ g
+one_lowest Has f g low_f low_g =
+    let le = low_f.1 g low_g.0 in
+    let ge = low_g.1 f low_f.0 in
+    let same : number_of f ≡ number_of g = omega (arith, le, ge) in
+    sym (found f) ∙ (ap (λ n. get_or by_number n faults.TextTooLong) same ∙ found g)
+
+module _ (trace : List Event) where
+  pub disciplined_or_not : (line : ℕ) (f : Fault) → IsDisciplined trace → IsFirstDisciplineFault trace line f → ⊥
+  disciplined_or_not line f disciplined first = no_fault (take first.position trace) first.event (disciplined first.position first.event first.at) f first.lowest.0
+
+  not_earlier : (line other : ℕ) (f g : Fault) (a : IsFirstDisciplineFault trace line f) (b : IsFirstDisciplineFault trace other g) → a.position < b.position → ⊥
+  not_earlier line other f g a b lt = no_fault (take a.position trace) a.event (b.earlier a.position a.event lt a.at) f a.lowest.0
+
+  pub one_in_trace : (line other : ℕ) (f g : Fault) → IsFirstDisciplineFault trace line f → IsFirstDisciplineFault trace other g → (line ≡ other) × (f ≡ g)
+  one_in_trace line other f g a b = elim (cases_order a.position b.position) [
+    | inl same ↦ here same
+    | inr differ ↦ elim differ [ inl low ↦ absurd (not_earlier line other f g a b low) | inr high ↦ absurd (not_earlier other line g f b a high) ]
+  ]
+    where
+      here : a.position ≡ b.position → (line ≡ other) × (f ≡ g)
+      here same =
+          let both : Some a.event ≡ Some b.event = sym a.at ∙ (ap (slice_get trace) same ∙ b.at) in
+          let event : a.event ≡ b.event = cc in
+          let moved : IsLowest (HasDisciplineFault (take b.position trace) b.event) (Some f) = subst (λ e. IsLowest (HasDisciplineFault (take b.position trace) e) (Some f)) event (subst (λ p. IsLowest (HasDisciplineFault (take p trace) a.event) (Some f)) same a.lowest) in
+          (a.line_is ∙ (ap (λ e. e.line) event ∙ sym b.line_is), one_lowest (HasDisciplineFault (take b.position trace) b.event) f g moved b.lowest)
+
+module _ (limits : Limits) (text : List ℕ) where
+  pub one_in_text : (line other : ℕ) (f g : Fault) → HasFirstFault limits text line f → HasFirstFault limits text other g → (line ≡ other) × (f ≡ g)
+  one_in_text line other f g a b = elim (cases_order a.before b.before) [
+    | inl same ↦ (a.line_is ∙ (ap (λ n. n + 1) same ∙ sym b.line_is), one_lowest (HasAnyFault limits text b.before) f g (subst (λ i. IsLowest (HasAnyFault limits text i) (Some f)) same a.lowest) b.lowest)
+    | inr differ ↦ elim differ [ inl low ↦ absurd (b.earlier a.before f low a.lowest.0) | inr high ↦ absurd (a.earlier b.before g high b.lowest.0) ]
+  ]
