@@ -7,3 +7,6 @@ mod link;
 pub mod links;
 
 pub use links::{Links, links_of};
+
+#[cfg(test)]
+mod tests;
