@@ -14,8 +14,15 @@ rising_order xs rising i j d le lt = go (cases_lt i j)
     go (inl low) = let less = AllPairs-from_increasing xs rising i j d low lt in omega (arith, less)
     go (inr ge) = let same : i ≡ j = omega (arith, le, ge) in subst (λ (k : ℕ). get_or xs i d ≤ get_or xs k d) same (omega arith)
 
--- the search finds the last place up to the given one
-module _ (kept : KeptData) (place n row : ℕ) (seen rows : List ℕ) (same : seen ≡ kept.places) (point : IsPartitionPoint (λ y. leb y place ≡ true) (λ y. leb y place ≡ false) seen n) (bound : n ≤ length seen) (some : 0 < length kept.places) (first : get_or kept.places 0 0 ≤ place) where
+-- where the last number is up to a bound, all are
+pub all_low : (xs : List ℕ) (last bound k : ℕ) → IsStrictlyIncreasing xs → last ≡ get_or xs (length xs - 1) 0 → last ≤ bound → k < length xs → get_or xs k 0 ≤ bound
+all_low xs last bound k rising is low lt = let up = rising_order xs rising k (length xs - 1) 0 (omega (arith, lt)) (omega (arith, lt)) in omega (arith, up, is, low)
+
+-- the row beside the last of the places that are up to the given one
+module _ (kept : KeptData) (place n : ℕ) (places : List ℕ) (same : places ≡ kept.places) (bound : n ≤ length places) (low : (k : ℕ) → k < n → get_or places k 0 ≤ place) (high : (k : ℕ) → n ≤ k → k < length places → place < get_or places k 0) (some : 0 < length kept.places) (first : get_or kept.places 0 0 ≤ place) where
+  at_place : (k : ℕ) → get_or places k 0 ≡ get_or kept.places k 0
+  at_place k = ap (λ (xs : List ℕ). get_or xs k 0) same
+
   pub found_some : 1 ≤ n
   found_some = go (cases_lt 0 n)
     where
@@ -23,19 +30,19 @@ module _ (kept : KeptData) (place n row : ℕ) (seen rows : List ℕ) (same : se
       go (inl lt) = omega (arith, lt)
       go (inr le) =
           let size = ap length same in
-          let above = leb-false (get_or seen 0 0) place (point.1 0 0 (omega (arith, le)) (omega (arith, size, some))) in
-          let at_first : get_or seen 0 0 ≡ get_or kept.places 0 0 = ap (λ (xs : List ℕ). get_or xs 0 0) same in
-          absurd (omega (arith, above, first, at_first))
+          let above = high 0 (omega (arith, le)) (omega (arith, size, some)) in
+          let here = at_place 0 in
+          absurd (omega (arith, above, first, here))
 
-  pub found_row : length kept.rows ≡ length kept.places → rows ≡ kept.rows → row ≡ get_or rows (n - 1) row → IsRowUpTo kept place row
-  found_row many as_rows is =
+  pub found_row : (row : ℕ) (rows : List ℕ) → length kept.rows ≡ length kept.places → rows ≡ kept.rows → row ≡ get_or rows (n - 1) row → IsRowUpTo kept place row
+  found_row row rows many as_rows is =
       let size = ap length same in
       let pos = found_some in
       let long = ap length as_rows in
       record {
         index = n - 1;
         in_range = omega (arith, size, pos, bound);
-        up_to = (let low = leb-true (get_or seen (n - 1) 0) place (point.0 (n - 1) 0 (omega arith) (omega (arith, pos))) in let here : get_or seen (n - 1) 0 ≡ get_or kept.places (n - 1) 0 = ap (λ (xs : List ℕ). get_or xs (n - 1) 0) same in omega (arith, low, here));
-        last = λ j above within. (let high = leb-false (get_or seen j 0) place (point.1 j 0 (omega (arith, above)) (omega (arith, within, size))) in let here : get_or seen j 0 ≡ get_or kept.places j 0 = ap (λ (xs : List ℕ). get_or xs j 0) same in omega (arith, high, here));
+        up_to = (let le = low (n - 1) (omega (arith, pos)) in let here = at_place (n - 1) in omega (arith, le, here));
+        last = λ j above within. (let lt = high j (omega (arith, above)) (omega (arith, within, size)) in let here = at_place j in omega (arith, lt, here));
         row_is = ap (λ (xs : List ℕ). get_or xs (n - 1) 0) (sym as_rows) ∙ sym (get_or_read rows (n - 1) row (omega (arith, long, many, size, pos, bound)) is 0);
       }

@@ -15,12 +15,11 @@ use Rattle.shb_lines.proofs.Events.{event_of_thread}
 use Rattle.shb_lines.proofs.Listed.{IsListed, listed_more_yes, listed_more_no}
 use Rattle.shb_lines.proofs.Prefix.{is_of_thread}
 use Rattle.shb_lines.proofs.Schedulable.{thread_below_pred}
-use Rattle.shb_links.proofs.Tables.{place_after}
 use Rattle.shb_clocks.specs.Fronts.{IsFront, Learns, by_acquire, by_join, by_read, StrictlyBelow}
 use Rattle.shb_clocks.specs.Learned.{IsLearning, first, acquires, joins, reads, LearnsAt, KeptData, nothing_kept, IsRowUpTo, IsFrontBut, number_before, IsKept, AreKept}
 use Rattle.shb_clocks.specs.Rows.{RowsData}
 use Rattle.shb_clocks.proofs.Fronts.{front_own}
-use Rattle.shb_clocks.proofs.Locals.{place_at, place_rises, place_order}
+use Rattle.shb_clocks.proofs.Locals.{place_at, place_rises, place_order, place_after}
 use Rattle.shb_clocks.proofs.Sources.{below_cases, path_append}
 
 -- rows that stay as they are, with more behind them
@@ -220,7 +219,7 @@ module _ (trace : List Event) where
         down (inr (inr learns)) = absurd (not_learning (learns_learning n k learns))
 
     place_next : place_in_thread trace u n ≡ place_in_thread trace u p + 1
-    place_next = place_after trace n u of_n p (record { earlier = after.earlier; holds = after.of_thread; last = after.last })
+    place_next = place_after trace u p n of_n after.earlier after.last
 
     up_before : (r : ℕ) → IsRowUpTo kept (place_in_thread trace u n) r → IsRowUpTo kept (place_in_thread trace u p) r
     up_before r up = record {

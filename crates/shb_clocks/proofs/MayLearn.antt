@@ -14,11 +14,10 @@ use Rattle.shb_lines.specs.Order.{LastWrite, ShbBelow}
 use Rattle.shb_lines.specs.Sizes.{IsWithin}
 use Rattle.shb_lines.proofs.Events.{event_of_thread}
 use Rattle.shb_links.specs.Links.{Exactly}
-use Rattle.shb_links.proofs.Tables.{place_first}
 use Rattle.shb_clocks.specs.Fronts.{IsFront, StrictlyBelow}
 use Rattle.shb_clocks.specs.Learned.{IsLearning, first, acquires, joins, reads, LearnsAt, AreLearnedPlaces, KeptData, IsFrontBut, number_before, IsKept}
 use Rattle.shb_clocks.proofs.Fronts.{thread_in_range}
-use Rattle.shb_clocks.proofs.Locals.{place_at, place_rises, place_within}
+use Rattle.shb_clocks.proofs.Locals.{place_at, place_rises, place_within, place_first}
 use Rattle.shb_clocks.proofs.Sources.{strictly_below_below, below_cases}
 
 module _ (trace : List Event) (e u : ℕ) (of_e : thread_at trace e ≡ Some u) where
@@ -26,7 +25,7 @@ module _ (trace : List Event) (e u : ℕ) (of_e : thread_at trace e ≡ Some u) 
   first_from_place one = first u of_e (λ k lt of_k. (let rises = place_rises trace u k e of_e lt in let own = place_at trace u k of_k in omega (arith, one, rises, own)))
 
   first_place : (t : ℕ) → thread_at trace e ≡ Some t → ((k : ℕ) → k < e → thread_at trace k ≢ Some t) → place_in_thread trace u e ≡ 1
-  first_place t of_t none = let s : Some t ≡ Some u = sym of_t ∙ of_e in let same : t ≡ u = cc in subst (λ (x : ℕ). place_in_thread trace x e ≡ 1) same (place_first trace e t of_t none)
+  first_place t of_t none = let s : Some t ≡ Some u = sym of_t ∙ of_e in let same : t ≡ u = cc in subst (λ (x : ℕ). place_in_thread trace x e ≡ 1) same (place_first trace t e of_t none)
 
   pub learning_read : (x : ℕ) → op_at trace e ≡ Some (Read x) → (place_in_thread trace u e ≡ 1 → ⊥) → IsLearning trace e → (w : ℕ) × LastWrite trace w e
   learning_read x is later (first t of_t none) = absurd (later (first_place t of_t none))

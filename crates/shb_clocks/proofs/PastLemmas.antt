@@ -182,6 +182,19 @@ module _ (trace : List Event) (disciplined : IsDisciplined trace) (e : ℕ) wher
     (λ learns. let from = learns_read x k reads learns in subst (λ (v : ℕ). ShbBelow trace k v) (last_write_unique trace from.write w e from.last last) from.below),
   )
 
+  -- a read whose last write is below its predecessor learns nothing of it
+  pub front_known_write : (w u n : ℕ) (clock : List ℕ) → LastWrite trace w e → thread_at trace w ≡ Some u → n ≡ place_in_thread trace u w → n ≤ get_or clock u 0 → IsFront trace (λ k. BelowPred trace k e) clock → IsFront trace (StrictlyBelow trace e) clock
+  front_known_write w u n clock last of_w place known front = front_same trace (λ k. BelowPred trace k e) (StrictlyBelow trace e) clock (λ k. ((λ h. inl h), (λ h. down k h))) front
+    where
+      write_below : BelowPred trace w e
+      write_below = (front.exact u w of_w).0 (omega (arith, place, known))
+
+      down : (k : ℕ) → StrictlyBelow trace e k → BelowPred trace k e
+      down k (inl below) = below
+      down k (inr learns) =
+          let path = (read_learns last.variable w k last.reads last).1 learns in
+          (write_below.0, write_below.1, path_append trace k w write_below.0 path write_below.2)
+
   pub read_learns_nothing : (x k : ℕ) → op_at trace e ≡ Some (Read x) → ((w : ℕ) → LastWrite trace w e → ⊥) → Learns trace e k → ⊥
   read_learns_nothing x k reads none learns = let from = learns_read x k reads learns in none from.write from.last
 

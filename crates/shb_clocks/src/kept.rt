@@ -1,6 +1,6 @@
 //! The places of one thread at which a clock is kept.
 
-ghost use Rattle.std.specs.Prelude.{◌≡◌, ◌-◌, ◌<◌, ◌≤◌, [], ◌∷◌, ◌++◌, OnOk, length, slice_index_or};
+ghost use Rattle.std.specs.Prelude.{◌≡◌, ℕ, ◌-◌, ◌<◌, ◌≤◌, [], ◌∷◌, ◌++◌, OnOk, length, slice_index_or};
 ghost use Rattle.std.specs.List.Sorted.{IsStrictlyIncreasing};
 ghost use Rattle.shb_clocks.specs.Learned.{KeptData, IsRowUpTo, nothing_kept};
 
@@ -67,7 +67,19 @@ impl Kept {
         requires first { slice_index_or self.now.places 0 0 ≤ place }
         ensures { IsRowUpTo self.now place result }
     {
-        let behind = self.places.partition_point(|kept| *kept <= place);
-        self.rows[behind - 1]
+        self.rows[number_up_to(self.places.as_slice(), place) - 1]
+    }
+}
+
+/// How many of the places are up to this one. In a sweep it is mostly all of them.
+fn number_up_to(places: &[u32], place: u32) -> usize
+    requires { IsStrictlyIncreasing places.now }
+    ensures bound { result ≤ length places.now }
+    ensures low { (k : ℕ) → k < result → slice_index_or places.now k 0 ≤ place }
+    ensures high { (k : ℕ) → result ≤ k → k < length places.now → place < slice_index_or places.now k 0 }
+{
+    match places.last() {
+        Some(last) if *last <= place => places.len(),
+        _ => places.partition_point(|kept| *kept <= place),
     }
 }

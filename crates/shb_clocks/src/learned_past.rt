@@ -2,12 +2,12 @@
 
 ghost use Rattle.std.specs.Prelude.{◌≡◌, ℕ, ◌+◌, ◌<◌, ◌↔◌, IsTrue, IfOk, OnOk, Some, length};
 ghost use Rattle.shb_lines.specs.Events.{thread_at};
-ghost use Rattle.shb_lines.specs.Order.{ShbBelow, BelowPred};
+ghost use Rattle.shb_lines.specs.Order.{LastWrite, ShbBelow, BelowPred};
 ghost use Rattle.shb_clocks.specs.Fronts.{IsFront, StrictlyBelow};
 ghost use Rattle.shb_clocks.specs.Learned.{AreKept, IsFrontBut, IsLearnedPast, IsLearning};
 ghost use Rattle.shb_clocks.specs.Past.{HasLockClocks};
 
-use crate::clock::Clock;
+use crate::clock::{Clock, entry};
 use crate::kept_clocks::KeptClocks;
 use crate::past::lock_clocks;
 use shb_discipline::Disciplined;
@@ -69,6 +69,31 @@ impl LearnedPast {
         }
     }
 
+    /// Raises the clock by what a read learns of its last write. Where the write is below the
+    /// predecessor of the read, that is nothing.
+    fn learn_write(
+        &self,
+        trace: &Disciplined<'_>,
+        links: &Links<'_>,
+        e: u32,
+        write: u32,
+        clock: &mut Clock,
+    )
+        requires of_trace { links.now ≡ trace.now.events.now }
+        requires in_range { e < length trace.now.events.now }
+        requires write { LastWrite trace.now.events.now write e }
+        requires past { IsLearnedPast trace.now.events.now e trace.now.sizes self.now.clocks.rows self.now.clocks.threads.items self.now.locks.items self.now.last.items }
+        requires long { length clock.old ≡ trace.now.sizes.threads }
+        requires front { IsFront trace.now.events.now (λ k. BelowPred trace.now.events.now k e) clock.old }
+        ensures long { length clock.new ≡ trace.now.sizes.threads }
+        ensures front { IsFront trace.now.events.now (StrictlyBelow trace.now.events.now e) clock.new }
+    {
+        let thread = trace.events[write as usize].thread;
+        if entry(clock.as_slice(), thread) < links.local(write) {
+            clock.join_event(&self.clocks.clock_of(trace, links, write));
+        }
+    }
+
     /// Raises the clock by what e itself learns of other threads.
     fn learn(&self, trace: &Disciplined<'_>, links: &Links<'_>, e: u32, clock: &mut Clock)
         requires of_trace { links.now ≡ trace.now.events.now }
@@ -88,7 +113,7 @@ impl LearnedPast {
             }
             Op::Read(_) => {
                 if let Some(write) = links.last_write(e) {
-                    clock.join_event(&self.clocks.clock_of(trace, links, write));
+                    self.learn_write(trace, links, e, write, clock);
                 }
             }
             _ => {}

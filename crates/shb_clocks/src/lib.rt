@@ -18,3 +18,6 @@ pub use clock_versions::{ClockVersions, versions};
 pub use full_clocks::{FullClocks, full};
 pub use order::Order;
 pub use plain_order::{PlainOrder, plain};
+
+#[cfg(test)]
+mod tests;

@@ -23,7 +23,7 @@ row_up_to-row-requires-clause-first c =
     let of_e = thread_item c.args.trace.now.events.now c.args.e d c.requires.in_range in
     let low = (c.args.trace.now.within c.args.e _ (slice_get-get_or c.args.trace.now.events.now c.args.e d c.requires.in_range)).thread in
     let kept = kept_item c.args.trace.now.events.now c.requires.taken.0 _ c.args.trace.now.sizes.threads c.args.self.now.rows _ _ c.requires.taken.2 low c.index.ensures in
-    let place = local_is c.args.trace.now.events.now c.args.links.now c.args.e c.local-place.result _ c.requires.of_trace c.local-place.ensures of_e in
+    let place = local_is c.args.trace.now.events.now c.args.links.now c.args.e c.local-place.result _ c.requires.of_trace c.local-place.ensures.place of_e in
     let least = (kept.begun c.args.e c.requires.taken.1 of_e).1 in
     omega (arith, place, least)
 
@@ -51,7 +51,7 @@ returns-clause-front c =
     let long = c.row.ensures.long in
     let width = c.requires.taken.2.width in
     let kept = kept_item c.args.trace.now.events.now c.requires.taken.0 u c.args.trace.now.sizes.threads c.args.self.now.rows _ _ c.requires.taken.2 low c.index.ensures in
-    let place = local_is c.args.trace.now.events.now c.args.links.now c.args.e c.local-place.result u c.requires.of_trace c.local-place.ensures of_e in
+    let place = local_is c.args.trace.now.events.now c.args.links.now c.args.e c.local-place.result u c.requires.of_trace c.local-place.ensures.place of_e in
     let but = kept.clocks c.args.e c.row_up_to-row.result c.requires.taken.1 of_e (subst (λ (m : ℕ). IsRowUpTo c.index.result.now m c.row_up_to-row.result) place c.row_up_to-row.ensures) in
     let whole = front_whole c.args.trace.now.events.now c.args.e u c.row.result.now of_e (omega (arith, low, long, width)) (subst (IsFrontBut c.args.trace.now.events.now u (λ k. ShbBelow c.args.trace.now.events.now k c.args.e)) (sym c.row.ensures.row) but) in
     subst (IsFront c.args.trace.now.events.now (λ k. ShbBelow c.args.trace.now.events.now k c.args.e)) (sym (c.new.ensures ∙ ap (λ (m : ℕ). set c.row.result.now u m) place)) whole

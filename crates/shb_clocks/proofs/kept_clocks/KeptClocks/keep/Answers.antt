@@ -29,7 +29,7 @@ returns c =
     let of_e = thread_item c.args.trace.now.events.now c.args.e d c.requires.in_range in
     let low = (c.args.trace.now.within c.args.e _ (slice_get-get_or c.args.trace.now.events.now c.args.e d c.requires.in_range)).thread in
     let old = kept_item c.args.trace.now.events.now c.args.e u c.args.trace.now.sizes.threads c.args.self.now.rows _ _ c.requires.kept low c.index_mut.ensures.value in
-    let place = local_is c.args.trace.now.events.now c.args.links.now c.args.e c.local.result u c.requires.of_trace c.local.ensures of_e in
+    let place = local_is c.args.trace.now.events.now c.args.links.now c.args.e c.local.result u c.requires.of_trace c.local.ensures.place of_e in
     let more = c.in_ok-row.ensures.more in
     let grown : AreMore c.args.self.now.rows.rows c.number_like.new.self.rows = record { as_long = more.0; same = c.in_ok-row.ensures.kept } in
     let front = subst (IsFrontBut c.args.trace.now.events.now u (λ k. ShbBelow c.args.trace.now.events.now k c.args.e)) (sym (c.in_ok-row.ensures.row.1 ∙ c.as_slice.ensures)) (c.requires.front u of_e) in
