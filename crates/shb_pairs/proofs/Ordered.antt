@@ -23,7 +23,7 @@ pairs_tail R x xs h = λ i j d lt within. h (suc i) (suc j) d (omega arith) (ome
 pub pairs_head : {X : Type 0} (R : X → X → Type 0) (x : X) (xs : List X) → AllPairs R (x ∷ xs) → (y : X) → Contains xs y → R x y
 pairs_head R x xs h y c = subst (R x) c.2 (h zero (suc c.0) y (omega arith) (let lt = c.1 in omega arith))
 
-pairs_append : {X : Type 0} (R : X → X → Type 0) (xs ys : List X) → AllPairs R xs → AllPairs R ys → ((x y : X) → Contains xs x → Contains ys y → R x y) → AllPairs R (xs ++ ys)
+pub pairs_append : {X : Type 0} (R : X → X → Type 0) (xs ys : List X) → AllPairs R xs → AllPairs R ys → ((x y : X) → Contains xs x → Contains ys y → R x y) → AllPairs R (xs ++ ys)
 pairs_append R [] ys hx hy cross = hy
 pairs_append R (x ∷ xs) ys hx hy cross = AllPairs-cons R x (xs ++ ys)
     (All-append (R x) xs ys (λ k d lt. pairs_head R x xs hx (get_or xs k d) (Contains-get_or xs k d lt)) (λ k d lt. cross x (get_or ys k d) (contains_head x xs) (Contains-get_or ys k d lt)))

@@ -2,6 +2,7 @@
 #![tactic(auto)]
 
 mod accesses;
+mod buckets;
 mod job;
 pub mod laws;
 mod piece;
