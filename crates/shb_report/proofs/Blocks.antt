@@ -119,9 +119,12 @@ AreBlocks-unique with_schedules trace races blocks others h g =
     let lengths = ap length after.1 in
     same_if_long others blocks before.0 before.1 (omega (arith, length-append blocks after.0))
 
--- A trace has one report, since it has one race list. That is proved where race lists are made, so it is handed in here.
-pub IsReport-unique : (with_schedules : Bool) (trace : TraceData) (bytes others : List ℕ) → ((races more : List (ℕ × ℕ)) → IsRaceList trace.events races → IsRaceList trace.events more → races ≡ more)
-    → IsReport with_schedules trace bytes → IsReport with_schedules trace others → bytes ≡ others
+-- There is one race list. That is proved where race lists are made, so it is handed in here.
+abbrev pub HasOneRaceList : TraceData → Type 0
+HasOneRaceList trace = (races more : List (ℕ × ℕ)) → IsRaceList trace.events races → IsRaceList trace.events more → races ≡ more
+
+-- a trace has one report
+pub IsReport-unique : (with_schedules : Bool) (trace : TraceData) (bytes others : List ℕ) → HasOneRaceList trace → IsReport with_schedules trace bytes → IsReport with_schedules trace others → bytes ≡ others
 IsReport-unique with_schedules trace bytes others one_list h g =
     let same : h.races ≡ g.races = one_list h.races g.races h.races_are g.races_are in
     let blocks : h.blocks ≡ g.blocks = AreBlocks-unique with_schedules trace g.races h.blocks g.blocks (subst (λ l. AreBlocks with_schedules trace l h.blocks) same h.blocks_are) g.blocks_are in
@@ -130,17 +133,18 @@ IsReport-unique with_schedules trace bytes others one_list h g =
     ∙ ap (λ l. head_bytes (counts_of trace) (length g.races) ++ (l ++ tail_bytes)) blocks
     ∙ sym g.bytes_are
 
--- what is written before the block of race k is the front of the report
-pub IsReport-front : (with_schedules : Bool) (trace : TraceData) (bytes : List ℕ) (races : List (ℕ × ℕ)) (k : ℕ) (blocks : List ℕ) → ((races more : List (ℕ × ℕ)) → IsRaceList trace.events races → IsRaceList trace.events more → races ≡ more)
-    → IsReport with_schedules trace bytes → IsRaceList trace.events races → AreBlocks with_schedules trace (take k races) blocks → (more : List ℕ) × (bytes ≡ head_bytes (counts_of trace) (length races) ++ (blocks ++ more))
-IsReport-front with_schedules trace bytes races k blocks one_list h list first =
+-- a report begins with the head and the blocks of the first k races, and goes on
+pub IsReport-front : (with_schedules : Bool) (trace : TraceData) (report : List ℕ) (races : List (ℕ × ℕ)) (k : ℕ) (blocks : List ℕ) → HasOneRaceList trace
+    → IsReport with_schedules trace report → IsRaceList trace.events races → AreBlocks with_schedules trace (take k races) blocks
+    → (more : List ℕ) × (report ≡ head_bytes (counts_of trace) (length races) ++ (blocks ++ more)) × (0 < length more)
+IsReport-front with_schedules trace report races k blocks one_list h list first =
     let same : h.races ≡ races = one_list h.races races h.races_are list in
-    let split = AreBlocks-take with_schedules trace races k blocks h.blocks first (subst (λ l. AreBlocks with_schedules trace l h.blocks) same h.blocks_are) in (
-      split.0 ++ tail_bytes,
-      h.bytes_are
-          ∙ ap (λ l. head_bytes (counts_of trace) (length l) ++ (h.blocks ++ tail_bytes)) same
-          ∙ ap (λ l. head_bytes (counts_of trace) (length races) ++ l) (ap (λ l. l ++ tail_bytes) split.1 ∙ append_assoc blocks split.0 tail_bytes),
-    )
+    let split = AreBlocks-take with_schedules trace races k blocks h.blocks first (subst (λ l. AreBlocks with_schedules trace l h.blocks) same h.blocks_are) in
+    let joined : report ≡ head_bytes (counts_of trace) (length races) ++ (blocks ++ (split.0 ++ tail_bytes)) =
+    h.bytes_are
+    ∙ ap (λ l. head_bytes (counts_of trace) (length l) ++ (h.blocks ++ tail_bytes)) same
+    ∙ ap (λ l. head_bytes (counts_of trace) (length races) ++ l) (ap (λ l. l ++ tail_bytes) split.1 ∙ append_assoc blocks split.0 tail_bytes) in
+    (split.0 ++ tail_bytes, joined, omega (arith, length-append split.0 tail_bytes))
 
 -- some pairs, each with its printed schedule or with none
 shown_of : (with_schedules : Bool) (trace : TraceData) → IsDisciplined trace.events → (races : List (ℕ × ℕ)) → (shown : List ShownRace) × (pairs_of shown ≡ races) × All (HasSchedule with_schedules trace) shown

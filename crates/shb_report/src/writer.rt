@@ -11,13 +11,16 @@ use crate::held::{put_line, put_schedule};
 use shb_io::{Failed, Sink, write_all};
 use shb_lines::{Pair, Trace};
 
-/// How many events, threads, locks and variables a trace has. Threads that are only forked or
-/// joined count as well.
+/// How much there is in a trace: the second line of its report.
 #[derive(Clone, Copy, Debug, PartialEq, Eq)]
 pub struct Counts {
+    /// How many events there are.
     pub events: u64,
+    /// How many threads are named, those that are only forked or joined counted as well.
     pub threads: u64,
+    /// How many locks are named.
     pub locks: u64,
+    /// How many variables are named.
     pub variables: u64,
 }
 
@@ -36,10 +39,11 @@ fn head_text(counts: &Counts, races: u64) -> TextBuffer
 }
 
 /// Writes the lines of a report before its first block: the version, the counts of the trace and
-/// the number of races.
+/// how many races there are.
 ///
-/// On `Failed` the sink took a prefix of these lines that lacks at least one byte, and its count
-/// of failures rose by one.
+/// On `Ok` the sink took exactly these lines. On `Failed` it took a prefix of them that lacks at
+/// least one byte, and its count of failures rose by one. The sink's count of failures must be
+/// below the greatest `u64`.
 pub fn head<S: Sink>(sink: &mut S, counts: &Counts, races: u64) -> Result<(), Failed>
     requires countable { S.failure_count sink.old < 2 ^ 64 - 1 }
     ensures written { Writes (S.taken sink.old) (S.taken sink.new) result (head_bytes counts.now races) }
@@ -77,11 +81,15 @@ fn put_event_lines<S: Sink>(
     put_line(sink, held, b"second ", trace.line_text(pair.second))
 }
 
-/// Writes the block of race number `number`, counted from 1: the numbers of its events, which are
-/// counted from 1, their lines as the text has them, and the schedule if there is one.
+/// Writes the block of a race: its number in the report, counted from 1, the numbers of its two
+/// events, their lines as the text has them, and the line of its schedule if there is one.
 ///
-/// On `Failed` the sink took a prefix of the block that lacks at least one byte, and its count of
-/// failures rose by one.
+/// `pair` and `schedule` count events from 0, and the report counts them from 1. Both events of the
+/// pair must be events of the trace. No test is made of the pair, the number and the schedule.
+///
+/// On `Ok` the sink took exactly the block. On `Failed` it took a prefix of it that lacks at least
+/// one byte, and its count of failures rose by one. The sink's count of failures must be below the
+/// greatest `u64`.
 pub fn block<S: Sink>(
     sink: &mut S,
     trace: &Trace,
@@ -105,8 +113,9 @@ pub fn block<S: Sink>(
 
 /// Writes the last line of a report.
 ///
-/// On `Failed` the sink took a prefix of the line that lacks at least one byte, and its count of
-/// failures rose by one.
+/// On `Ok` the sink took exactly this line. On `Failed` it took a prefix of it that lacks at least
+/// one byte, and its count of failures rose by one. The sink's count of failures must be below the
+/// greatest `u64`.
 pub fn tail<S: Sink>(sink: &mut S) -> Result<(), Failed>
     requires countable { S.failure_count sink.old < 2 ^ 64 - 1 }
     ensures written { Writes (S.taken sink.old) (S.taken sink.new) result tail_bytes }
