@@ -227,7 +227,11 @@ impl<'t> Reader<'t> {
     }
 
     /// Takes the lines of the text up to the first fault, and answers it.
-    pub fn take_lines(&mut self, text: &'t [u8], limits: &Limits) -> Result<Option<LineFault>, NoMemory>
+    pub fn take_lines(
+        &mut self,
+        text: &'t [u8],
+        limits: &Limits,
+    ) -> Result<Option<LineFault>, NoMemory>
         requires standard { AreStandard limits.now }
         requires short { length text.now ≤ limits.now.text + 1 }
         requires empty { vec_len self.old.events ≡ 0 }

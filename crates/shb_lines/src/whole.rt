@@ -45,7 +45,11 @@ fn read_onto<S: Source>(
 }
 
 /// Reads the source to its end, or to one byte more than the limit.
-pub fn read_whole<S: Source>(alloc: Global, source: &mut S, limit: u64) -> Result<Vec<u8>, ReadError>
+pub fn read_whole<S: Source>(
+    alloc: Global,
+    source: &mut S,
+    limit: u64,
+) -> Result<Vec<u8>, ReadError>
     requires standard { limit ≤ 1073741824 }
     requires countable { S.failure_count source.old < 2 ^ 64 - 1 }
     ensures ok { IfOk result (λ text. (vec_len text ≤ limit + 1)

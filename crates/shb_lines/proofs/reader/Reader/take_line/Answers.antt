@@ -73,7 +73,7 @@ returns-clause-read c = λ lines h line_is.
     let here = subst (λ l. StandsAt text l span) (sym c.without_carriage_return-bytes.ensures.value) stands in
     let placed = subst (λ o. IfSome o (IsPlaced bytes)) c.in-Ok-Some.field-0-is c.in-Ok-Some.ensures.placed in
     let stand = c.in_ok-add_event.ensures.stand text h.stand
-        (StandsAt-front text bytes start found.thread.now here placed.thread_within placed.thread)
-        (StandsAt-inner text bytes start found.operand_at found.operand.now here placed.operand_within placed.operand) in
+    (StandsAt-front text bytes start found.thread.now here placed.thread_within placed.thread)
+    (StandsAt-inner text bytes start found.operand_at found.operand.now here placed.operand_within placed.operand) in
     let adds = subst (λ n. AddsEvent c.args.self.now c.add_event.new.self n (named found) span) line_is c.in_ok-add_event.ensures.added in
     HasRead-some text c.args.self.now c.add_event.new.self lines (part text start c.args.end) (named found) span event stands adds stand h

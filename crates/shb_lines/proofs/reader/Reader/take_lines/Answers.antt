@@ -16,12 +16,16 @@ returns-in-Some-clause-reading c =
     let end = c.line_end-end.result in
     let lines = take loop.line (lines_of text) in
     let line = taken limits text loop.line loop.start end loop.invariant.begins c.loop-start-test.true c.line_end-end.ensures.within c.line_end-end.ensures.place loop.invariant.inside in
-    let lowest = subst (IsLowest (HasLineFault limits ((limits.text ≤ end) × (limits.text < length text)) (events_of lines) (part text loop.start end))) c.in-Some.is (c.in_ok-fault.ensures.fault lines loop.invariant.read) in
-    (loop.line, refl, record {
-      within = line.within;
-      lowest = line.lowest (Some c.in-Some.fault) lowest;
-      earlier = loop.invariant.faultless;
-    }, subst (λ o. HasRead text c.take_line.new.self (lines_read lines o (part text loop.start end))) c.in-Some.is (c.in_ok-fault.ensures.read lines loop.invariant.read line.number))
+    let lowest = subst (IsLowest (HasLineFault limits ((limits.text ≤ end) × (limits.text < length text)) (events_of lines) (part text loop.start end))) c.in-Some.is (c.in_ok-fault.ensures.fault lines loop.invariant.read) in (
+      loop.line,
+      refl,
+      record {
+        within = line.within;
+        lowest = line.lowest (Some c.in-Some.fault) lowest;
+        earlier = loop.invariant.faultless;
+      },
+      subst (λ o. HasRead text c.take_line.new.self (lines_read lines o (part text loop.start end))) c.in-Some.is (c.in_ok-fault.ensures.read lines loop.invariant.read line.number),
+    )
 
 pub loop-start-preserved : goal.loop-start-preserved
 loop-start-preserved c =

@@ -7,4 +7,4 @@ pub returns-clause-alone : goal.returns-clause-alone
 returns-clause-alone c =
     let inside = c.self.inside in
     alone inside.text.items inside.places.locks.items c.args.self.now.locks c.args.l c.index.result.now c.as_slice.result.now c.bytes_in.result.now
-        (ap (λ trace. trace.locks) c.self.view_is) c.requires c.index.ensures c.as_slice.ensures.value c.bytes_in.ensures c.self.invariant.well_formed.locks_differ
+    (ap (λ trace. trace.locks) c.self.view_is) c.requires c.index.ensures c.as_slice.ensures.value c.bytes_in.ensures c.self.invariant.well_formed.locks_differ
