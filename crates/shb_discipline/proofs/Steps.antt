@@ -50,17 +50,17 @@ is_join_test u e b is = is
 
 -- w and v say whether the thread and the holder are of a set, s whether they are one
 acquire_cases : (w v s : Bool) (d : ℕ) → (s ≡ true → v ≡ w) → cond (not s) d 0 ≡ 0 → cond w 1 0 + cond v d 0 ≡ 0 + cond w (d + 1) 0
-acquire_cases w v true d same open_now = rw (same refl) (by w)
+acquire_cases w v true d same no_other = rw (same refl) (by w)
   where
     by : (b : Bool) → cond b 1 0 + cond b d 0 ≡ 0 + cond b (d + 1) 0
     by true = omega arith
     by false = refl
-acquire_cases w v false d same open_now = by w v
+acquire_cases w v false d same no_other = by w v
   where
     by : (a b : Bool) → cond a 1 0 + cond b d 0 ≡ 0 + cond a (d + 1) 0
-    by true true = omega (arith, open_now)
-    by true false = omega (arith, open_now)
-    by false true = omega (arith, open_now)
+    by true true = omega (arith, no_other)
+    by true false = omega (arith, no_other)
+    by false true = omega (arith, no_other)
     by false false = refl
 
 release_cases : (w v s : Bool) (d : ℕ) → (s ≡ true → v ≡ w) → 0 < cond s d 0 → 0 + cond v d 0 ≡ cond w 1 0 + cond v (d - 1) 0
@@ -134,8 +134,8 @@ module _ (trace : List Event) (k : ℕ) (e : Event) (at : slice_get trace k ≡ 
     where
       step : (who : ℕ → Bool) → cond (is_acquire who l e) 1 0 + cond (who lock.holder) lock.depth 0 ≡ cond (is_release who l e) 1 0 + cond (who e.thread) (lock.depth + 1) 0
       step who =
-          let open_now : cond (not (e.thread == lock.holder)) lock.depth 0 ≡ 0 = let h = known (other_than e.thread) in omega (arith, h, may) in
-          rw (acquire_test who l e true (ap (op_is_acquire l) is ∙ eq-eqb l l refl), release_test who l e false (ap (op_is_release l) is), and-false, and-true) (acquire_cases (who e.thread) (who lock.holder) (e.thread == lock.holder) lock.depth (λ h. ap who (sym (eqb-true e.thread lock.holder h))) open_now)
+          let no_other : cond (not (e.thread == lock.holder)) lock.depth 0 ≡ 0 = let h = known (other_than e.thread) in omega (arith, h, may) in
+          rw (acquire_test who l e true (ap (op_is_acquire l) is ∙ eq-eqb l l refl), release_test who l e false (ap (op_is_release l) is), and-false, and-true) (acquire_cases (who e.thread) (who lock.holder) (e.thread == lock.holder) lock.depth (λ h. ap who (sym (eqb-true e.thread lock.holder h))) no_other)
 
   pub locks_acquired : (locks : List LockState) (l : ℕ) (lock : LockState) → e.op ≡ Acquire l → MayCome (take k trace) e → slice_get locks l ≡ Some lock → AreLocks (take k trace) locks → AreLocks (take (k + 1) trace) (set locks l record { holder = e.thread; depth = lock.depth + 1 })
   locks_acquired locks l lock is may at_l old m new at_m = go (set_cases locks l m record { holder = e.thread; depth = lock.depth + 1 } new (slice_get_within locks l lock at_l) at_m)

@@ -5,12 +5,21 @@ ghost use Rattle.shb_lines.specs.Sizes.{IsNumberedByAccess, IsNumberedByAccess-p
 
 use shb_lines::{Event, Sizes, Trace};
 
-/// A trace that meets the discipline of locks, forks and joins, and what else is known of it.
+/// A trace that meets the discipline of locks, forks and joins, and what else is known of it: it
+/// has few events, its numbers are below its sizes, and its variables are numbered in the order of
+/// their first accesses. Only [`check`](crate::check) tests this; the type keeps it, so that nobody
+/// above asks again. It borrows the trace, and can be copied.
+///
+/// The discipline, for each event after those before it: its thread was not joined; a lock is
+/// acquired only while no other thread holds it (its holder may acquire it again) and released only
+/// by its holder; a thread is forked by another, once, before its first event and before any join of
+/// it; no thread joins itself. Locks that are held at the end, threads without a fork, and a second
+/// join of a thread are in order. The rules are this project's profile.
 #[derive(Clone, Copy)]
 pub struct Disciplined<'a> {
     /// The trace.
     pub trace: &'a Trace,
-    /// Its events, in order.
+    /// Its events, in the order of the text.
     pub events: &'a [Event],
     /// How many threads, locks and variables it names.
     pub sizes: Sizes,

@@ -1,6 +1,6 @@
 //! The laws of the discipline and of the first fault of a text. Each function does nothing: its
 //! contract is the law.
-ghost use Rattle.std.specs.Prelude.{◌≡◌, ◌↔◌, ℕ, List, Option, None, Some, slice_get, take};
+ghost use Rattle.std.specs.Prelude.{◌≡◌, ◌↔◌, ℕ, List, Option, None, Some};
 ghost use Rattle.shb_lines.specs.declared.event.Event.{Event};
 ghost use Rattle.shb_lines.specs.declared.event.Fault.{Fault};
 ghost use Rattle.shb_lines.specs.declared.event.Limits.{Limits};
@@ -12,7 +12,7 @@ ghost use Rattle.shb_discipline.specs.Faults.{HasDisciplineFault, IsFirstDiscipl
 ghost use Rattle.shb_discipline.specs.FirstFault.{HasFirstFault, HasNoFault};
 
 /// An event may come after others exactly where it has no fault of the discipline after them.
-pub fn faults_are_what_is_not_allowed()
+pub fn event_without_fault_may_come()
     ensures { (past : List Event) (e : Event)
         → MayCome past e ↔ ((fault : Fault) → HasDisciplineFault past e fault → ⊥) }
 {}

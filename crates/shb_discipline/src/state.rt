@@ -52,7 +52,7 @@ fn unset_flags(alloc: Global, size: u32) -> Result<Vec<bool>, NoMemory>
 
 impl LockState {
     /// Whether no other thread than this holds the lock.
-    fn is_open_to(self, thread: u32) -> bool
+    fn is_available_to(self, thread: u32) -> bool
         ensures { (past : List Event) (l : ℕ) → IsLockAfter past l self → IsTrue result
             ↔ (acquires (other_than thread) l past ≡ releases (other_than thread) l past) }
     {
@@ -73,7 +73,7 @@ impl LockState {
             → count_by (is_join thread) past ≡ 0 → IsLockAfter past lock self
             → IsLowest (HasDisciplineFault past e) result }
     {
-        if self.is_open_to(thread) {
+        if self.is_available_to(thread) {
             None
         } else {
             Some(Fault::LockHeld)
