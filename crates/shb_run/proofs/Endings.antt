@@ -1,0 +1,104 @@
+-- From what the parts of a run answer to what the run says of the text.
+use Rattle.std.proofs.Common.{◌≡◌, ℕ, ◌<◌, ◌⊎◌, inl, inr, Bool, List, length, map, Contains, None, Some, Option, Ok, Err, IfSome, refl, sym, ap, subst, ◌∙◌}
+use Rattle.std.proofs.lemmas.List.{length-map}
+use Rattle.std.proofs.lemmas.Option.{IfSome_then}
+use Rattle.std.specs.Io.KnownBytes.{Appends, Keeps}
+use Rattle.shb_lines.specs.declared.event.Event.{Event}
+use Rattle.shb_lines.specs.declared.event.Fault.{Fault}
+use Rattle.shb_lines.specs.declared.event.LineFault.{LineFault}
+use Rattle.shb_lines.specs.declared.event.Pair.{Pair}
+use Rattle.shb_lines.specs.Discipline.{IsDisciplined}
+use Rattle.shb_lines.specs.Race.{IsRaceList}
+use Rattle.shb_lines.specs.Text.{lines_of}
+use Rattle.shb_lines.specs.TraceData.{IsReadingOf, IsTraceOf, TraceData}
+use Rattle.shb_lines.proofs.Schedulable.{printed_is_schedule}
+use Rattle.shb_lines.proofs.Unschedulable.{race_of_schedule}
+use Rattle.shb_discipline.specs.FirstFault.{HasFirstFault, HasNoFault}
+use Rattle.shb_discipline.proofs.FirstFault.{accepted, stopped}
+use Rattle.shb_report.specs.Report.{IsReport, IsReportOf}
+use Rattle.shb_pairs.specs.Races.{ends}
+use Rattle.shb_run.specs.declared.errors.RunError.{RunError}
+use Rattle.shb_run.specs.declared.errors.RunError.TheVariants.{Trace, Source, Sink, Memory}
+use Rattle.shb_run.specs.declared.settings.Summary.{Summary}
+use Rattle.shb_run.specs.Runs.{IsAccepted, IsCutShort, IsFirstFaultOf, IsRefusalOf, IsReported, ListsSchedulable, OnTrace, limits}
+use Rattle.shb_run.specs.Written.{IsCutOff, ReportsTrace, WritesReport, summary_of}
+
+-- known bytes that nothing was done to
+pub Keeps-same : (a : Option (List ℕ)) → Keeps a a
+Keeps-same None = tt
+Keeps-same (Some x) = refl
+
+-- a text with no fault has no first one
+pub no_first_fault : (text : List ℕ) (line : ℕ) (fault : Fault) → HasNoFault limits text → IsFirstFaultOf text line fault → ⊥
+no_first_fault text line fault none first = none first.before fault first.within first.lowest.0
+
+pub schedulable_of : (events : List Event) (races : List (ℕ × ℕ)) → IsDisciplined events → IsRaceList events races → ListsSchedulable events races
+schedulable_of events races disciplined are = record {
+  listed = λ i j is s printed. printed_is_schedule events s i j disciplined ((are.all i j).0 is) printed;
+  unlisted = λ i j earlier conflict absent s schedule. absent ((are.all i j).1 (race_of_schedule events s i j conflict earlier schedule));
+}
+
+abbrev pub report_of_text : (ws : Bool) (text bytes : List ℕ) (read : TraceData) (stop : Option LineFault) (trace : TraceData)
+    → IsAccepted read stop trace → IsReadingOf limits text read stop → IsReport ws trace bytes → IsReportOf ws text bytes
+report_of_text ws text bytes read stop trace accepted reading report = record {
+  trace = trace;
+  trace_is = subst (IsTraceOf (lines_of text)) (sym accepted.same) (accepted.whole text reading);
+  report = report;
+}
+
+pub reported_of : (ws : Bool) (text : List ℕ) (read : TraceData) (stop : Option LineFault) (events : List Event) (trace : TraceData) (summary : Summary) (old new : Option (List ℕ))
+    → IsDisciplined events → events ≡ trace.events → IsAccepted read stop trace → ReportsTrace ws trace summary old new → IsReadingOf limits text read stop → IsReported ws text summary old new
+reported_of ws text read stop events trace summary old new disciplined same accepted written reading = record {
+  faultless = accepted.faultless text reading;
+  bytes = written.bytes;
+  report = report_of_text ws text written.bytes read stop trace accepted reading written.report;
+  written = written.written;
+  summary_is = written.summary_is;
+  schedulable = schedulable_of trace.events written.report.races (subst IsDisciplined same disciplined) written.report.races_are;
+}
+
+pub cut_short_of : (ws : Bool) (text : List ℕ) (read : TraceData) (stop : Option LineFault) (trace : TraceData) (old new : Option (List ℕ))
+    → IsAccepted read stop trace → IsCutOff ws trace old new → IsReadingOf limits text read stop → IsCutShort ws text old new
+cut_short_of ws text read stop trace old new accepted (inl kept) reading = inl kept
+cut_short_of ws text read stop trace old new accepted (inr front) reading = inr (front.0, report_of_text ws text front.0 read stop trace accepted reading front.1, front.2)
+
+-- the lines were stopped, and no event before that breaks the discipline
+pub stopped_of : (read : TraceData) (stop : Option LineFault) (found : LineFault) (events : List Event) (trace : TraceData)
+    → IsDisciplined events → events ≡ trace.events → trace ≡ read → stop ≡ Some found → (text : List ℕ) → IsReadingOf limits text read stop → IsFirstFaultOf text found.line found.fault
+stopped_of read stop found events trace disciplined same as_read is text reading =
+    stopped limits text read found (subst (IsReadingOf limits text read) is reading) (subst (λ t. IsDisciplined t.events) as_read (subst IsDisciplined same disciplined))
+
+-- neither a line nor an event has a fault
+pub accepted_of : (read : TraceData) (stop : Option LineFault) (events : List Event) (trace : TraceData)
+    → IsDisciplined events → events ≡ trace.events → trace ≡ read → stop ≡ None → IsAccepted read stop trace
+accepted_of read stop events trace disciplined same as_read is = record {
+  same = as_read;
+  faultless = λ text reading. (all text reading).0;
+  whole = λ text reading. (all text reading).1;
+}
+  where
+    all : (text : List ℕ) → IsReadingOf limits text read stop → HasNoFault limits text × IsTraceOf (lines_of text) read
+    all text reading = accepted limits text read (subst (IsReadingOf limits text read) is reading) (subst (λ t. IsDisciplined t.events) as_read (subst IsDisciplined same disciplined))
+
+-- the summary of the report that was written
+pub reports_of : {T : Type 0} (ws : Bool) (trace : TraceData) (races : List Pair) (count : ℕ) (summary : Summary) (old new : Option (List ℕ)) (x : T)
+    → summary ≡ summary_of trace count → count ≡ length races → WritesReport ws trace (map ends races) old new (Ok x) → ReportsTrace ws trace summary old new
+reports_of ws trace races count summary old new x is counted written = record {
+  bytes = written.bytes;
+  report = written.report;
+  written = written.written;
+  summary_is = is ∙ ap (summary_of trace) (counted ∙ sym (length-map races ends) ∙ sym (ap length written.races_are));
+}
+
+-- what a refusal says of the text that was read
+pub refusal_told : (read : TraceData) (stop : Option LineFault) (error : RunError) (known : Option (List ℕ))
+    → IsRefusalOf read stop error → IfSome known (λ text. IsReadingOf limits text read stop) → OnTrace {T = Summary} (Err error) (λ line fault. IfSome known (λ text. IsFirstFaultOf text line fault))
+refusal_told read stop (Trace line fault) known told reading = IfSome_then known reading told
+refusal_told read stop Source known told reading = tt
+refusal_told read stop Sink known told reading = tt
+refusal_told read stop Memory known told reading = tt
+
+-- a text with no fault has none to be silent on
+pub not_silent : (read : TraceData) (stop : Option LineFault) (trace : TraceData) (known old new : Option (List ℕ))
+    → IsAccepted read stop trace → IfSome known (λ text. IsReadingOf limits text read stop) → IfSome known (λ text. (line : ℕ) (fault : Fault) → IsFirstFaultOf text line fault → Keeps old new)
+not_silent read stop trace known old new accepted reading = IfSome_then known reading (λ text one line fault first. absurd (no_first_fault text line fault (accepted.faultless text one) first))

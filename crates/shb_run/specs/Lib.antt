@@ -1,0 +1,3 @@
+pub mod Words
+pub mod Written
+pub mod Runs

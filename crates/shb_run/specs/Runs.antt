@@ -1,0 +1,84 @@
+-- What a run says of the text that it read, and what it leaves in the sink.
+use Rattle.std.specs.Prelude.{◌≡◌, ℕ, ◌+◌, ◌<◌, ◌⊎◌, Bool, List, length, Contains, Option, Result, Ok, Err, ⊤}
+use Rattle.std.specs.Io.KnownBytes.{Appends, Keeps}
+use Rattle.shb_io.specs.Devices.{AppendsPrefix}
+use Rattle.shb_lines.specs.declared.event.Event.{Event}
+use Rattle.shb_lines.specs.declared.event.Fault.{Fault}
+use Rattle.shb_lines.specs.declared.event.Limits.{Limits}
+use Rattle.shb_lines.specs.declared.event.LineFault.{LineFault}
+use Rattle.shb_lines.specs.Text.{lines_of}
+use Rattle.shb_lines.specs.TraceData.{IsReadingOf, IsTraceOf, TraceData}
+use Rattle.shb_lines.specs.Race.{Conflict}
+use Rattle.shb_lines.specs.Schedule.{IsPrintedSchedule, IsSchedule}
+use Rattle.shb_discipline.specs.FirstFault.{HasFirstFault, HasNoFault}
+use Rattle.shb_report.specs.Report.{IsReportOf}
+use Rattle.shb_run.specs.declared.errors.RunError.{RunError}
+use Rattle.shb_run.specs.declared.errors.RunError.TheVariants.{Trace, Source, Sink, Memory}
+use Rattle.shb_run.specs.declared.settings.Summary.{Summary}
+use Rattle.shb_run.specs.Written.{summary_of}
+
+-- how much a text may hold
+abbrev pub limits : Limits
+limits = record { text = 1073741824; line = 4096; events = 4194304; threads = 1024 }
+
+-- the line is the least with a fault, counted from 1, and this is its fault of lowest number
+abbrev pub IsFirstFaultOf : List ℕ → ℕ → Fault → Type 0
+IsFirstFaultOf text line fault = HasFirstFault limits text line fault
+
+-- each listed pair's printed schedule is a schedule of it, and a conflicting pair that is not listed has none
+pub record ListsSchedulable (events : List Event) (races : List (ℕ × ℕ)) : Type 0 where
+  pub listed : (i j : ℕ) → Contains races (i, j) → (s : List ℕ) → IsPrintedSchedule events s i j → IsSchedule events s i j
+  pub unlisted : (i j : ℕ) → i < j → Conflict events i j → ¬ Contains races (i, j) → (s : List ℕ) → ¬ IsSchedule events s i j
+
+-- the text has no fault, its report was written and nothing else, and the summary is that of the report
+pub record IsReported (with_schedules : Bool) (text : List ℕ) (summary : Summary) (old new : Option (List ℕ)) : Type 0 where
+  pub faultless : HasNoFault limits text
+  pub bytes : List ℕ
+  pub report : IsReportOf with_schedules text bytes
+  pub written : Appends old new bytes
+  pub summary_is : summary ≡ summary_of report.trace (length report.report.races)
+  pub schedulable : ListsSchedulable report.trace.events report.report.races
+
+-- nothing was written, or the front of the report of the text, which lacks some bytes of it
+abbrev pub IsCutShort : Bool → List ℕ → Option (List ℕ) → Option (List ℕ) → Type 0
+IsCutShort with_schedules text old new = Keeps old new ⊎ ((bytes : List ℕ) × IsReportOf with_schedules text bytes × AppendsPrefix old new bytes)
+
+-- for a refused trace, P of the line and its fault
+abbrev pub OnTrace : {T : Type 0} → Result T RunError → (ℕ → Fault → Type 0) → Type 0
+OnTrace (Err (Trace line fault)) P = P line fault
+OnTrace _ P = ⊤
+
+-- for a trace that was refused or not read
+abbrev pub OnNoTrace : {T : Type 0} → Result T RunError → Type 0 → Type 0
+OnNoTrace (Err (Trace line fault)) P = P
+OnNoTrace (Err Source) P = P
+OnNoTrace _ P = ⊤
+
+-- for a run that ended while it worked on a trace
+abbrev pub OnBrokenOff : {T : Type 0} → Result T RunError → Type 0 → Type 0
+OnBrokenOff (Err Sink) P = P
+OnBrokenOff (Err Memory) P = P
+OnBrokenOff _ P = ⊤
+
+-- the source failed once where that is the answer, and else not at all
+abbrev pub CountsSource : {T : Type 0} → ℕ → ℕ → Result T RunError → Type 0
+CountsSource old new (Err Source) = new ≡ old + 1
+CountsSource old new _ = new ≡ old
+
+-- the sink failed once where that is the answer, and else not at all
+abbrev pub CountsSink : {T : Type 0} → ℕ → ℕ → Result T RunError → Type 0
+CountsSink old new (Err Sink) = new ≡ old + 1
+CountsSink old new _ = new ≡ old
+
+-- the text that was read so has no fault, and this is its trace
+pub record IsAccepted (read : TraceData) (stop : Option LineFault) (trace : TraceData) : Type 0 where
+  pub same : trace ≡ read
+  pub faultless : (text : List ℕ) → IsReadingOf limits text read stop → HasNoFault limits text
+  pub whole : (text : List ℕ) → IsReadingOf limits text read stop → IsTraceOf (lines_of text) read
+
+-- a text that was read so is refused for its first fault, or there was no memory to judge it
+abbrev pub IsRefusalOf : TraceData → Option LineFault → RunError → Type 0
+IsRefusalOf read stop (Trace line fault) = (text : List ℕ) → IsReadingOf limits text read stop → IsFirstFaultOf text line fault
+IsRefusalOf read stop Memory = ⊤
+IsRefusalOf read stop Source = ⊥
+IsRefusalOf read stop Sink = ⊥

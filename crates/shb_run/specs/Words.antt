@@ -1,0 +1,19 @@
+-- What a program says of an error, and the status that it ends with.
+use Rattle.std.specs.Prelude.{ℕ, List, ◌++◌, codes, decimal}
+use Rattle.shb_lines.specs.Words.{words_of}
+use Rattle.shb_run.specs.declared.errors.RunError.{RunError}
+use Rattle.shb_run.specs.declared.errors.RunError.TheVariants.{Trace, Source, Sink, Memory}
+
+-- a refused trace ends with 2, a device or the memory with 4
+abbrev pub exit_status_of : RunError → ℕ
+exit_status_of (Trace line fault) = 2
+exit_status_of Source = 4
+exit_status_of Sink = 4
+exit_status_of Memory = 4
+
+-- the line of the fault and its words, or the device
+abbrev pub fault_line_of : RunError → List ℕ
+fault_line_of (Trace line fault) = codes "line " ++ (decimal line ++ (codes ": " ++ words_of fault))
+fault_line_of Source = codes "cannot read"
+fault_line_of Sink = codes "cannot write"
+fault_line_of Memory = codes "out of memory"

@@ -1,0 +1,55 @@
+-- What the writing of a report leaves in a sink.
+use Rattle.std.specs.Prelude.{◌≡◌, ℕ, ◌+◌, ◌⊎◌, Bool, List, length, Option, Result, Ok, Err}
+use Rattle.std.specs.Io.KnownBytes.{Appends, Keeps}
+use Rattle.shb_io.specs.Devices.{AppendsPrefix, Writes}
+use Rattle.shb_lines.specs.TraceData.{TraceData}
+use Rattle.shb_report.specs.Report.{AreBlocks, HasSchedule, IsReport, block_bytes}
+use Rattle.shb_run.specs.declared.errors.WriteError.{WriteError}
+use Rattle.shb_run.specs.declared.errors.WriteError.TheVariants.{Sink, Memory}
+use Rattle.shb_run.specs.declared.settings.Summary.{Summary}
+
+-- the sink failed once where that is the answer, and else not at all
+abbrev pub IsSinkCounted : {T : Type 0} → ℕ → ℕ → Result T WriteError → Type 0
+IsSinkCounted old new (Ok x) = new ≡ old
+IsSinkCounted old new (Err Sink) = new ≡ old + 1
+IsSinkCounted old new (Err Memory) = new ≡ old
+
+-- the block of a race was written or, on an error, the front of it
+pub record WritesBlock {T : Type 0} (with_schedules : Bool) (trace : TraceData) (number : ℕ) (pair : ℕ × ℕ) (old new : Option (List ℕ)) (r : Result T WriteError) : Type 0 where
+  pub schedule : Option (List ℕ)
+  pub shown : HasSchedule with_schedules trace (record { pair = pair; schedule = schedule })
+  pub written : Writes old new r (block_bytes trace number pair schedule)
+
+-- the blocks of some races were written or, on an error, the front of them
+pub record WritesBlocks {T : Type 0} (with_schedules : Bool) (trace : TraceData) (races : List (ℕ × ℕ)) (old new : Option (List ℕ)) (r : Result T WriteError) : Type 0 where
+  pub bytes : List ℕ
+  pub blocks : AreBlocks with_schedules trace races bytes
+  pub written : Writes old new r bytes
+
+-- the report of a trace that has these races was written or, on an error, the front of it
+pub record WritesReport {T : Type 0} (with_schedules : Bool) (trace : TraceData) (races : List (ℕ × ℕ)) (old new : Option (List ℕ)) (r : Result T WriteError) : Type 0 where
+  pub bytes : List ℕ
+  pub report : IsReport with_schedules trace bytes
+  pub races_are : report.races ≡ races
+  pub written : Writes old new r bytes
+
+-- what a run says of a trace with so many races
+abbrev pub summary_of : TraceData → ℕ → Summary
+summary_of trace races = record {
+  events = length trace.events;
+  threads = length trace.threads;
+  locks = length trace.locks;
+  variables = length trace.variables;
+  races = races;
+}
+
+-- the report of a trace was written, and the summary is that of the report
+pub record ReportsTrace (with_schedules : Bool) (trace : TraceData) (summary : Summary) (old new : Option (List ℕ)) : Type 0 where
+  pub bytes : List ℕ
+  pub report : IsReport with_schedules trace bytes
+  pub written : Appends old new bytes
+  pub summary_is : summary ≡ summary_of trace (length report.races)
+
+-- nothing was written, or the front of the report of a trace, which lacks some bytes of it
+abbrev pub IsCutOff : Bool → TraceData → Option (List ℕ) → Option (List ℕ) → Type 0
+IsCutOff with_schedules trace old new = Keeps old new ⊎ ((bytes : List ℕ) × IsReport with_schedules trace bytes × AppendsPrefix old new bytes)

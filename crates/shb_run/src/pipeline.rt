@@ -1,0 +1,159 @@
+//! The whole run: read, judge, find the races, write.
+ghost use Rattle.std.specs.Prelude.{◌≡◌, ◌-◌, ◌^◌, ◌<◌, ℕ, List, IfErr, IfOk, IfSome, OnErr};
+ghost use Rattle.std.specs.Io.KnownBytes.{Keeps};
+ghost use Rattle.shb_lines.specs.declared.event.Fault.{Fault};
+ghost use Rattle.shb_run.specs.Runs.{CountsSink, CountsSource, IsAccepted, IsCutShort, IsFirstFaultOf, IsRefusalOf, IsReported, OnBrokenOff, OnNoTrace, OnTrace};
+ghost use Rattle.shb_run.specs.Written.{IsCutOff, IsSinkCounted, ReportsTrace, summary_of};
+
+use crate::errors::{RunError, WriteError};
+use crate::ordered::Ordered;
+use crate::races::races_of;
+use crate::settings::{Settings, Summary};
+use crate::write::write_report;
+use shb_clocks::{Order, full};
+use shb_discipline::{CheckError, Disciplined, check};
+use shb_io::{Sink, Source};
+use shb_lines::{Limits, Parsed, ReadError, Trace, parse};
+use shb_links::{Links, links_of};
+use std::alloc::Global;
+use std::random::RandomSource;
+
+/// The trace of a text that has no fault, or the first fault of the text.
+fn judge<'a>(alloc: Global, parsed: &'a Parsed) -> Result<Disciplined<'a>, RunError>
+    ensures accepted { IfOk result (λ trace. IsAccepted parsed.now.trace parsed.now.stop trace.trace.now) }
+    ensures refused { IfErr result (IsRefusalOf parsed.now.trace parsed.now.stop) }
+{
+    let trace = match check(alloc, &parsed.trace) {
+        Ok(trace) => trace,
+        Err(CheckError::Undisciplined { line, fault }) => {
+            return Err(RunError::Trace { line, fault });
+        }
+        Err(CheckError::Memory) => return Err(RunError::Memory),
+    };
+    match parsed.stop {
+        Some(stop) => Err(RunError::Trace {
+            line: stop.line,
+            fault: stop.fault,
+        }),
+        None => Ok(trace),
+    }
+}
+
+/// What a run says of a trace that has so many races.
+fn summary_of(trace: &Trace, races: u64) -> Summary
+    ensures { result ≡ summary_of trace.now races }
+{
+    Summary {
+        events: u64::from(trace.len()),
+        threads: u64::from(trace.threads()),
+        locks: u64::from(trace.locks()),
+        variables: u64::from(trace.variables()),
+        races,
+    }
+}
+
+/// Finds the races of a trace by an order of it, and writes its report.
+fn report_by<K: Sink, O: Order>(
+    alloc: Global,
+    sink: &mut K,
+    trace: &Disciplined<'_>,
+    links: &Links<'_>,
+    order: &O,
+    schedules: bool,
+) -> Result<Summary, WriteError>
+    requires countable { K.failure_count sink.old < 2 ^ 64 - 1 }
+    requires linked { links.now ≡ trace.now.events.now }
+    requires of_trace { O.trace order.now ≡ trace.now.events.now }
+    ensures report { IfOk result (λ summary. ReportsTrace schedules trace.now.trace.now summary
+        (K.taken sink.old) (K.taken sink.new)) }
+    ensures cut { OnErr result (IsCutOff schedules trace.now.trace.now (K.taken sink.old) (K.taken sink.new)) }
+    ensures counted { IsSinkCounted (K.failure_count sink.old) (K.failure_count sink.new) result }
+{
+    let found = Ordered {
+        trace: &*trace,
+        links: &*links,
+        order: &*order,
+    };
+    let races = races_of(alloc, &found)?;
+    write_report(alloc, sink, &found, &races, schedules)?;
+    Ok(summary_of(trace.trace, races.len() as u64))
+}
+
+/// Finds the races of a trace, and writes its report.
+fn report<K: Sink>(
+    alloc: Global,
+    sink: &mut K,
+    trace: &Disciplined<'_>,
+    schedules: bool,
+) -> Result<Summary, WriteError>
+    requires countable { K.failure_count sink.old < 2 ^ 64 - 1 }
+    ensures report { IfOk result (λ summary. ReportsTrace schedules trace.now.trace.now summary
+        (K.taken sink.old) (K.taken sink.new)) }
+    ensures cut { OnErr result (IsCutOff schedules trace.now.trace.now (K.taken sink.old) (K.taken sink.new)) }
+    ensures counted { IsSinkCounted (K.failure_count sink.old) (K.failure_count sink.new) result }
+{
+    let links = links_of(alloc, &*trace)?;
+    let order = full(alloc, &*trace, &links)?;
+    report_by(alloc, sink, trace, &links, &order, schedules)
+}
+
+/// Reads a trace, finds its races, and writes its report.
+///
+/// The text is read whole, then judged, then its races are looked for, and only then is anything
+/// written; from then on each block goes out as soon as it is made. So a source that fails is
+/// answered before a trace that is refused, and neither leaves anything written.
+///
+/// # Errors
+///
+/// - [`RunError::Source`]: the source failed. Nothing was written.
+/// - [`RunError::Trace`]: the text has a fault, and this is the first. Nothing was written.
+/// - [`RunError::Sink`]: the sink failed. It took less than the report, the front of it.
+/// - [`RunError::Memory`]: memory was refused. The sink took less than the report, the front of it
+///   or nothing.
+///
+/// What was read of the source stays read.
+pub fn run<S: Source, K: Sink, R: RandomSource>(
+    alloc: Global,
+    rt: &R,
+    source: &mut S,
+    sink: &mut K,
+    settings: Settings,
+) -> Result<Summary, RunError>
+    requires source_countable { S.failure_count source.old < 2 ^ 64 - 1 }
+    requires sink_countable { K.failure_count sink.old < 2 ^ 64 - 1 }
+
+    // The text has no fault, and its report was written. Each listed pair has its schedule, and a
+    // conflicting pair that isn't listed has none.
+    ensures reported { IfOk result (λ summary. IfSome (S.remaining source.old) (λ text.
+        IsReported settings.schedules text summary (K.taken sink.old) (K.taken sink.new))) }
+
+    // A refused trace has this fault first.
+    ensures refused { OnTrace result (λ line fault. IfSome (S.remaining source.old) (λ text.
+        IsFirstFaultOf text line fault)) }
+
+    // What is written where no report is. Where the text has a fault, that is nothing.
+    ensures unwritten { OnNoTrace result (Keeps (K.taken sink.old) (K.taken sink.new)) }
+    ensures cut { OnBrokenOff result (IfSome (S.remaining source.old) (λ text.
+        IsCutShort settings.schedules text (K.taken sink.old) (K.taken sink.new))) }
+    ensures silent { IfSome (S.remaining source.old) (λ text. (line : ℕ) (fault : Fault) →
+        IsFirstFaultOf text line fault → Keeps (K.taken sink.old) (K.taken sink.new)) }
+
+    // An error of a device comes with one failure more of that device, and no other answer does.
+    ensures source { CountsSource (S.failure_count source.old) (S.failure_count source.new) result }
+    ensures sink { CountsSink (K.failure_count sink.old) (K.failure_count sink.new) result }
+{
+    let parsed = match parse(alloc, rt, source, &Limits::standard()) {
+        Ok(parsed) => parsed,
+        Err(ReadError::Source) => return Err(RunError::Source),
+        Err(ReadError::Memory) => return Err(RunError::Memory),
+    };
+    let trace = match judge(alloc, &parsed) {
+        Ok(trace) => trace,
+        Err(error) => return Err(error),
+    };
+    match report(alloc, sink, &trace, settings.schedules) {
+        Ok(summary) => Ok(summary),
+        Err(WriteError::Sink) => Err(RunError::Sink),
+        Err(WriteError::Memory) => Err(RunError::Memory),
+    }
+}
