@@ -20,7 +20,8 @@ def arguments():
     parser.add_argument("--variables", type=int, default=4096)
     parser.add_argument("--private", type=int, default=30, help="accesses of own variables, in 100")
     parser.add_argument("--section", type=int, default=6, help="accesses in a locked section")
-    parser.add_argument("--races", type=int, default=0, help="unprotected writes, in a million accesses")
+    parser.add_argument("--races", type=int, default=0, help="unprotected pairs of writes, in a million steps")
+    parser.add_argument("--open", type=int, default=16, help="variables that nothing protects")
     parser.add_argument("--hot", action="store_true", help="one variable under one lock")
     parser.add_argument("--late", action="store_true", help="one unprotected write by each of two threads at the very end")
     parser.add_argument("--seed", type=int, default=1)
@@ -91,12 +92,19 @@ class Program:
         number = self.numbers.below(variables)
         self.access(thread, f"shared{lock}.{number}")
 
+    def unprotected_pair(self, thread):
+        """Two threads write a variable right after one another."""
+        variable = f"open{self.numbers.below(self.options.open)}"
+        other = (thread + 1) % self.options.threads
+        self.event(thread, f"w({variable})")
+        self.event(other, f"w({variable})")
+
     def step(self):
         thread = self.numbers.below(self.options.threads)
         if self.held[thread] is not None:
             self.go_on(thread)
         elif self.numbers.below(1_000_000) < self.options.races:
-            self.event(thread, f"w(open{self.numbers.below(self.options.variables)})")
+            self.unprotected_pair(thread)
         elif not self.options.hot and self.numbers.below(100) < self.options.private:
             self.access(thread, f"own{thread}.{self.numbers.below(64)}")
         else:

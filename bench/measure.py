@@ -17,7 +17,7 @@ HERE = pathlib.Path(__file__).resolve().parent
 PROGRAM = HERE.parent / "bin" / "shb"
 REPEATS = 3
 
-SPREAD = ["--races", "20"]
+SPREAD = ["--races", "1000"]
 CASES = [
     ("10 thousand, 16 threads", ["--events", "10000", *SPREAD]),
     ("100 thousand, 16 threads", ["--events", "100000", *SPREAD]),
