@@ -206,3 +206,25 @@ fn long_trace(rt: HostRuntime) -> Result<(), Fail> {
     assert_eq!(rt; difference(&rt, text.as_bytes())?, None);
     Ok(())
 }
+
+/// A text of one line for each of so many threads.
+fn line_of_each(alloc: Global, threads: u32, operation: &str) -> Result<String, NoMemory> {
+    let mut text = String::new(alloc);
+    for t in 0..threads {
+        text.push_str(format!(in alloc; "T{t}|{operation}\n")?.as_str())?;
+    }
+    Ok(text)
+}
+
+#[test]
+fn many_threads(rt: HostRuntime) -> Result<(), Fail> {
+    for (threads, operation) in [(65, "w(x)"), (1024, "r(a)")] {
+        let text = line_of_each(rt.alloc(), threads, operation)?;
+        assert_eq!(rt;
+            difference(&rt, text.as_bytes())?,
+            None,
+            "of {threads} threads"
+        );
+    }
+    Ok(())
+}
