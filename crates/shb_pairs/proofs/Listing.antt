@@ -47,7 +47,7 @@ race_parts trace j p c =
     let passing = (((numbers_listed (λ i. is_race trace i j) j).members there.0).0 there.1).1 in
     subst (IsRaceOf trace j) there.2 (record { later = refl; race = (reflect_race trace there.0 j).0 passing })
 
-race_contained : (trace : List Event) (i j : ℕ) → Race trace i j → Contains (races_with trace j) (i, j)
+pub race_contained : (trace : List Event) (i j : ℕ) → Race trace i j → Contains (races_with trace j) (i, j)
 unfolding races_with
 race_contained trace i j race = map_contains (λ i. (i, j)) (numbers_where (λ i. is_race trace i j) j) i (((numbers_listed (λ i. is_race trace i j) j).members i).1 (race.earlier, (reflect_race trace i j).1 race))
 

@@ -4,7 +4,7 @@ use Rattle.std.specs.Prelude.{All, filter, flat_map, map, min, cond, slice_range
 use Rattle.std.specs.Int.{div_ceil}
 use Rattle.std.proofs.lemmas.Bool.{cases_Bool, cases_lt}
 use Rattle.std.proofs.lemmas.Grind.{flat_map-append}
-use Rattle.std.proofs.lemmas.List.{append-nil, append_assoc, length_push, get_or_append_left, get_or_push, take_all, take_at, take-append-le, take_more, map_push, length-drop, get_or-drop}
+use Rattle.std.proofs.lemmas.List.{append-nil, append_assoc, length_push, get_or_append_left, get_or_push, take_at, take-append-le, take_more, map_push, length-drop, get_or-drop}
 use Rattle.std.proofs.lemmas.List.Elements.{All-append, All-push, All-nil, filter-append, filter_more, Contains-get_or}
 use Rattle.shb_lines.specs.declared.event.Event.{Event}
 use Rattle.shb_lines.specs.Race.{variable_at, Race}
@@ -15,7 +15,7 @@ use Rattle.shb_pairs.specs.declared.piece.Piece.{Piece}
 use Rattle.shb_pairs.specs.Accesses.{accesses_at, accesses_in, variables_in}
 use Rattle.shb_pairs.specs.Pieces.{run_at, runs_of, pieces_below, pieces_in}
 use Rattle.shb_pairs.specs.Races.{ends, races_with, races_of, races_at}
-use Rattle.shb_pairs.proofs.Counting.{access_from_test, test_from_access}
+use Rattle.shb_pairs.proofs.Counting.{numbers_few, access_from_test, test_from_access}
 
 -- a run lies within the accesses of its variable
 pub record IsRun (trace : List Event) (p : Piece) : Type 0 where
@@ -79,7 +79,7 @@ filter_numbers f g (suc n) sharper = filter-append f (numbers_where g n) (cond (
     last (inr a) (inl b) = rw (a, b) (rw a refl)
     last (inr a) (inr b) = rw (a, b) refl
 
-race_accesses : (trace : List Event) (x i j : ℕ) → variable_at trace j ≡ Some x → is_race trace i j ≡ true → accesses_at trace x i ≡ true
+pub race_accesses : (trace : List Event) (x i j : ℕ) → variable_at trace j ≡ Some x → is_race trace i j ≡ true → accesses_at trace x i ≡ true
 race_accesses trace x i j of_j h =
     let race = (reflect_race trace i j).0 h in
     let second = race.conflict.second_accesses in
@@ -113,8 +113,14 @@ pairs_more_no trace old pairs xs k j i lt at none so =
     let kept : filter (λ i. is_race trace i j) (take (k + 1) xs) ≡ filter (λ i. is_race trace i j) (take k xs) = filter_more (λ i. is_race trace i j) xs k 0 lt ∙ rw (test, append-nil) refl in
     so ∙ ap (λ (ns : List ℕ). old ++ map (λ i. (i, j)) ns) (sym kept)
 
-pub pairs_all : (trace : List Event) (x j k : ℕ) (xs : List ℕ) → variable_at trace j ≡ Some x → xs ≡ numbers_where (accesses_at trace x) j → length xs ≤ k → map (λ i. (i, j)) (filter (λ i. is_race trace i j) (take k xs)) ≡ races_with trace j
-pairs_all trace x j k xs of_j is all = ap (λ (ns : List ℕ). map (λ i. (i, j)) (filter (λ i. is_race trace i j) ns)) (take_all k xs all ∙ is) ∙ races_with_earlier trace x j of_j
+-- one pair more
+pub pairs_pushed : (old : List (ℕ × ℕ)) (pairs : List Pair) (xs : List ℕ) (k j : ℕ) → k < length xs → map ends pairs ≡ old ++ map (λ i. (i, j)) (take k xs) → map ends (pairs ++ record { first = get_or xs k 0; second = j } ∷ []) ≡ old ++ map (λ i. (i, j)) (take (k + 1) xs)
+pairs_pushed old pairs xs k j lt so =
+    map_push ends pairs (record { first = get_or xs k 0; second = j })
+    ∙ (ap (λ (ps : List (ℕ × ℕ)). ps ++ (get_or xs k 0, j) ∷ []) so
+    ∙ (append_assoc old (map (λ i. (i, j)) (take k xs)) ((get_or xs k 0, j) ∷ [])
+    ∙ (ap (λ (ps : List (ℕ × ℕ)). old ++ ps) (sym (map_push (λ i. (i, j)) (take k xs) (get_or xs k 0)))
+    ∙ ap (λ (ns : List ℕ). old ++ map (λ i. (i, j)) ns) (sym (take_more xs k 0 lt)))))
 
 -- the races of a run, one access more
 pub run_more : (trace : List Event) (xs : List ℕ) (from q : ℕ) → from ≤ q → q < length xs → flat_map (races_with trace) (take ((q + 1) - from) (drop from xs)) ≡ flat_map (races_with trace) (take (q - from) (drop from xs)) ++ races_with trace (get_or xs q 0)
@@ -152,18 +158,19 @@ run_first trace xs pairs from none = let e : from - from ≡ 0 = omega arith in 
 abbrev pub piece_at : List Piece → ℕ → Piece
 piece_at pieces k = get_or pieces k (record { variable = 0; from = 0; to = 0 })
 
-pub piece_value : (trace seen : List Event) (pieces : List Piece) (k : ℕ) → trace ≡ seen → pieces ≡ pieces_in trace → k < length (pieces_in seen) → IsRun seen (piece_at pieces k) × (races_at seen k ≡ races_of seen (piece_at pieces k))
+pub piece_value : (trace seen : List Event) (pieces : List Piece) (k : ℕ) → trace ≡ seen → pieces ≡ pieces_in trace → k < length (pieces_in seen) → IsRun trace (piece_at pieces k) × (races_at seen k ≡ races_of seen (piece_at pieces k))
 unfolding races_at
 piece_value trace seen pieces k same is lt =
     let own : piece_at pieces k ≡ piece_at (pieces_in seen) k = ap (λ (ps : List Piece). piece_at ps k) (is ∙ ap (λ (tr : List Event). pieces_in tr) same) in
-    (subst (IsRun seen) (sym own) (piece_within seen k _ lt), ap (λ (q : Piece). races_of seen q) (sym own))
+    (subst (λ (tr : List Event). IsRun tr (piece_at pieces k)) (sym same) (subst (IsRun seen) (sym own) (piece_within seen k _ lt)), ap (λ (q : Piece). races_of seen q) (sym own))
 
-pub run_fits : (seen other : List Event) (list : List ℕ) (p : Piece) → other ≡ seen → IsRun seen p → list ≡ accesses_in other p.variable → p.to ≤ length list
-run_fits seen other list p same run is =
-    let size = ap length (is ∙ ap (λ (tr : List Event). accesses_in tr p.variable) same) in
+pub run_small : (trace : List Event) (p : Piece) → IsRun trace p → (p.from ≤ length trace) × (p.to ≤ length trace)
+run_small trace p run =
+    let few = numbers_few (accesses_at trace p.variable) (length trace) in
+    let forward = run.forward in
     let within = run.within in
-    omega (arith, size, within)
+    (omega (arith, few, forward, within), omega (arith, few, within))
 
-pub run_value : (trace seen other : List Event) (list : List ℕ) (p : Piece) (found : List (ℕ × ℕ)) → trace ≡ seen → other ≡ seen → list ≡ accesses_in other p.variable → found ≡ flat_map (races_with trace) (slice_range list p.from p.to) → found ≡ races_of seen p
+pub run_value : (trace seen : List Event) (p : Piece) (found : List (ℕ × ℕ)) → trace ≡ seen → found ≡ flat_map (races_with trace) (slice_range (accesses_in trace p.variable) p.from p.to) → found ≡ races_of seen p
 unfolding races_of
-run_value trace seen other list p found same same_other is so = so ∙ (ap (λ (tr : List Event). flat_map (races_with tr) (slice_range list p.from p.to)) same ∙ ap (λ (ns : List ℕ). flat_map (races_with seen) (slice_range ns p.from p.to)) (is ∙ ap (λ (tr : List Event). accesses_in tr p.variable) same_other))
+run_value trace seen p found same so = so ∙ ap (λ (tr : List Event). flat_map (races_with tr) (slice_range (accesses_in tr p.variable) p.from p.to)) same

@@ -1,23 +1,20 @@
 //! The races of a trace as work in pieces.
 
-ghost use Rattle.std.specs.Prelude.{◌≡◌, ◌++◌, ℕ, ◌<◌, ◌≤◌, List, Some, IfOk, length, map, flat_map, slice_range};
-ghost use Rattle.shb_lines.specs.Race.{variable_at};
+ghost use Rattle.std.specs.Prelude.{◌≡◌, List, length, map};
 ghost use Rattle.shb_lines.specs.declared.event.Event.{Event};
-ghost use Rattle.shb_lines.specs.Reach.{numbers_where};
-ghost use Rattle.shb_pairs.specs.Accesses.{accesses_at, accesses_in};
 ghost use Rattle.shb_pairs.specs.Pieces.{pieces_in};
-ghost use Rattle.shb_pairs.specs.Races.{ends, races_with, races_at};
+ghost use Rattle.shb_pairs.specs.Races.{ends, races_at};
 
 use crate::accesses::Accesses;
 use crate::piece::Piece;
-use crate::race::is_race;
+use crate::races::races_in;
 use shb_clocks::Order;
 use shb_discipline::Disciplined;
 use shb_fan::Job;
 use shb_io::NoMemory;
 use shb_lines::Pair;
 use shb_links::Links;
-use std::alloc::{AllocError, Global};
+use std::alloc::Global;
 use std::collections::LinkedList;
 use std::marker::Model;
 
@@ -64,57 +61,6 @@ impl<'a, O: Order> PairJob<'a, O> {
     }
 }
 
-/// Adds the races of a later access j with the accesses before it.
-fn add_races<O: Order>(
-    races: &mut Vec<Pair>,
-    order: &O,
-    trace: &Disciplined<'_>,
-    links: &Links<'_>,
-    earlier: &[u32],
-    j: u32,
-) -> Result<(), AllocError>
-    requires of_trace { O.trace order.now ≡ trace.now.events.now }
-    requires linked { links.now ≡ trace.now.events.now }
-    requires in_range { j < length trace.now.events.now }
-    requires earlier { (x : ℕ) × (variable_at trace.now.events.now j ≡ Some x) × (earlier.now ≡ numbers_where (accesses_at trace.now.events.now x) j) }
-    ensures { IfOk result (λ _. map ends races.new.items ≡ map ends races.old.items ++ races_with trace.now.events.now j) }
-{
-    for i in earlier {
-        if is_race(order, trace, links, *i, j) {
-            races.push(Pair {
-                first: *i,
-                second: j,
-            })?;
-        }
-    }
-    Ok(())
-}
-
-/// The races whose later access is in a run of the accesses of one variable.
-fn races_in<O: Order>(
-    alloc: Global,
-    order: &O,
-    trace: &Disciplined<'_>,
-    links: &Links<'_>,
-    accesses: &[u32],
-    from: usize,
-    to: usize,
-) -> Result<Vec<Pair>, AllocError>
-    requires of_trace { O.trace order.now ≡ trace.now.events.now }
-    requires linked { links.now ≡ trace.now.events.now }
-    requires accesses { (x : ℕ) × (accesses.now ≡ accesses_in trace.now.events.now x) }
-    requires forward { from ≤ to }
-    requires within { to ≤ length accesses.now }
-    ensures { IfOk result (λ v. map ends v.items ≡ flat_map (races_with trace.now.events.now) (slice_range accesses.now from to)) }
-{
-    let mut races = Vec::new(alloc);
-    for place in from..to {
-        let (earlier, _) = accesses.split_at(place);
-        add_races(&mut races, order, trace, links, earlier, accesses[place])?;
-    }
-    Ok(races)
-}
-
 impl<'a, O: Order> Job for PairJob<'a, O> {
     type Out = Vec<Pair>;
 
@@ -133,10 +79,8 @@ impl<'a, O: Order> Job for PairJob<'a, O> {
     fn run(&self, alloc: Global, k: u64) -> Result<Vec<Pair>, NoMemory> {
         let pieces = self.pieces;
         let piece = pieces[k as usize];
-        let accesses = self.accesses.of(piece.variable);
-        let (from, to) = (piece.from as usize, piece.to as usize);
-        Ok(races_in(
-            alloc, self.order, self.trace, self.links, accesses, from, to,
-        )?)
+        let (variable, from, to) = (piece.variable, piece.from as usize, piece.to as usize);
+        let (order, trace, links, accesses) = (self.order, self.trace, self.links, self.accesses);
+        Ok(races_in(alloc, order, trace, links, accesses, variable, from, to)?)
     }
 }

@@ -7,6 +7,8 @@ mod job;
 pub mod laws;
 mod piece;
 mod race;
+mod races;
+mod rivals;
 
 pub use accesses::{Accesses, accesses_of};
 pub use job::PairJob;

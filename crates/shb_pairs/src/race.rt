@@ -13,7 +13,7 @@ use shb_lines::{Event, Op};
 use shb_links::Links;
 
 /// The variable that an operation accesses.
-pub(crate) fn variable(op: Op) -> Option<u32>
+pub fn variable(op: Op) -> Option<u32>
     ensures { result ≡ variable_of op }
 {
     match op {
@@ -23,7 +23,7 @@ pub(crate) fn variable(op: Op) -> Option<u32>
     }
 }
 
-fn writes_any(op: Op) -> bool
+pub fn writes_any(op: Op) -> bool
     ensures { result ≡ is_write op }
 {
     match op {
@@ -59,7 +59,7 @@ fn conflicts(events: &[Event], first: u32, second: u32) -> bool
 }
 
 /// Whether an event is SHB-below the predecessor of a later one.
-fn is_below_pred<O: Order>(
+pub fn is_below_pred<O: Order>(
     order: &O,
     trace: &Disciplined<'_>,
     links: &Links<'_>,

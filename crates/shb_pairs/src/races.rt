@@ -1,0 +1,235 @@
+//! The races with the accesses of one variable.
+
+ghost use Rattle.std.specs.Prelude.{◌≡◌, ◌++◌, ℕ, ◌+◌, ◌<◌, ◌≤◌, Some, All, IfOk, IfSome, IsTrue, ◌↔◌, flat_map, length, map, slice_index_or, slice_range};
+ghost use Rattle.shb_lines.specs.Order.{BelowPred};
+ghost use Rattle.shb_lines.specs.Race.{Race, variable_at};
+ghost use Rattle.shb_pairs.specs.Accesses.{accesses_in, variables_in};
+ghost use Rattle.shb_pairs.specs.Races.{ends, races_with};
+ghost use Rattle.shb_pairs.specs.Search.{IsSettled, racing};
+
+use crate::accesses::Accesses;
+use crate::race::{is_below_pred, is_race, writes_any};
+use crate::rivals::rivals_of;
+use shb_clocks::Order;
+use shb_discipline::Disciplined;
+use shb_lines::Pair;
+use shb_links::Links;
+use std::alloc::{AllocError, Global};
+
+/// Adds the pairs of some positions with a later one.
+fn add_pairs(races: &mut Vec<Pair>, firsts: &[u32], second: u32) -> Result<(), AllocError>
+    ensures { IfOk result (λ _. map ends races.new.items ≡ map ends races.old.items ++ map (λ i. (i, second)) firsts.now) }
+{
+    for first in firsts {
+        races.push(Pair {
+            first: *first,
+            second,
+        })?;
+    }
+    Ok(())
+}
+
+/// Adds the races of a later access with all accesses before it, thread by thread.
+fn add_races<O: Order>(
+    alloc: Global,
+    races: &mut Vec<Pair>,
+    order: &O,
+    trace: &Disciplined<'_>,
+    links: &Links<'_>,
+    accesses: &Accesses<'_>,
+    variable: u32,
+    second: u32,
+) -> Result<(), AllocError>
+    requires of_trace { O.trace order.now ≡ trace.now.events.now }
+    requires linked { links.now ≡ trace.now.events.now }
+    requires accesses { accesses.now ≡ trace.now.events.now }
+    requires accessed { variable_at trace.now.events.now second ≡ Some variable }
+    ensures { IfOk result (λ _. map ends races.new.items ≡ map ends races.old.items ++ races_with trace.now.events.now second) }
+{
+    let firsts = rivals_of(alloc, order, trace, links, accesses, variable, second)?;
+    add_pairs(races, firsts.as_slice(), second)
+}
+
+/// Adds the races of a later access with some accesses before it, one by one.
+pub fn add_races_among<O: Order>(
+    races: &mut Vec<Pair>,
+    order: &O,
+    trace: &Disciplined<'_>,
+    links: &Links<'_>,
+    firsts: &[u32],
+    second: u32,
+) -> Result<(), AllocError>
+    requires of_trace { O.trace order.now ≡ trace.now.events.now }
+    requires linked { links.now ≡ trace.now.events.now }
+    requires in_range { second < length trace.now.events.now }
+    requires earlier { All (λ i. i < second) firsts.now }
+    ensures { IfOk result (λ _. map ends races.new.items ≡ map ends races.old.items ++ map (λ i. (i, second)) (racing trace.now.events.now second firsts.now)) }
+{
+    for first in firsts {
+        if is_race(order, trace, links, *first, second) {
+            races.push(Pair {
+                first: *first,
+                second,
+            })?;
+        }
+    }
+    Ok(())
+}
+
+/// Whether an earlier access is SHB-below the predecessor of a later one.
+fn is_ordered<O: Order>(
+    order: &O,
+    trace: &Disciplined<'_>,
+    links: &Links<'_>,
+    first: u32,
+    second: u32,
+) -> bool
+    requires of_trace { O.trace order.now ≡ trace.now.events.now }
+    requires linked { links.now ≡ trace.now.events.now }
+    requires earlier { first < second }
+    requires in_range { second < length trace.now.events.now }
+    ensures { IsTrue result ↔ BelowPred trace.now.events.now first second }
+{
+    trace.events[first as usize].thread == trace.events[second as usize].thread
+        || is_below_pred(order, trace, links, first, second)
+}
+
+/// Adds the races of the access at a place, where the last write before it has no race and is
+/// SHB-below its predecessor: then it races with reads behind that write alone.
+fn add_races_since<O: Order>(
+    races: &mut Vec<Pair>,
+    order: &O,
+    trace: &Disciplined<'_>,
+    links: &Links<'_>,
+    accesses: &[u32],
+    write: usize,
+    place: usize,
+) -> Result<(), AllocError>
+    requires of_trace { O.trace order.now ≡ trace.now.events.now }
+    requires linked { links.now ≡ trace.now.events.now }
+    requires inside { place < length accesses.now }
+    requires settled { (x : ℕ) × (accesses.now ≡ accesses_in trace.now.events.now x) × IsSettled trace.now.events.now x accesses.now place write }
+    requires ordered { BelowPred trace.now.events.now (slice_index_or accesses.now write 0) (slice_index_or accesses.now place 0) }
+    ensures { IfOk result (λ _. map ends races.new.items ≡ map ends races.old.items ++ races_with trace.now.events.now (slice_index_or accesses.now place 0)) }
+{
+    let second = accesses[place];
+    if writes_any(trace.events[second as usize].op) {
+        let (earlier, _) = accesses.split_at(place);
+        let (_, since) = earlier.split_at(write + 1);
+        add_races_among(races, order, trace, links, since, second)?;
+    }
+    Ok(())
+}
+
+/// The last write before a place, where it has no race and is SHB-below the predecessor of the
+/// access at the place.
+fn ordered_write<O: Order>(
+    order: &O,
+    trace: &Disciplined<'_>,
+    links: &Links<'_>,
+    accesses: &[u32],
+    settled: Option<usize>,
+    place: usize,
+) -> Option<usize>
+    requires of_trace { O.trace order.now ≡ trace.now.events.now }
+    requires linked { links.now ≡ trace.now.events.now }
+    requires inside { place < length accesses.now }
+    requires settled { (x : ℕ) × (accesses.now ≡ accesses_in trace.now.events.now x) × IfSome settled (λ s. IsSettled trace.now.events.now x accesses.now place s) }
+    ensures settled { (x : ℕ) → IfSome settled (λ s. IsSettled trace.now.events.now x accesses.now place s) → IfSome result (λ s. IsSettled trace.now.events.now x accesses.now place s) }
+    ensures ordered { IfSome result (λ s. BelowPred trace.now.events.now (slice_index_or accesses.now s 0) (slice_index_or accesses.now place 0)) }
+{
+    match settled {
+        Some(write) if is_ordered(order, trace, links, accesses[write], accesses[place]) => {
+            Some(write)
+        }
+        _ => None,
+    }
+}
+
+/// The last write before the place after this one, where it is known to have no race.
+fn next_settled(
+    trace: &Disciplined<'_>,
+    accesses: &[u32],
+    settled: Option<usize>,
+    place: usize,
+    free: bool,
+) -> Option<usize>
+    requires inside { place < length accesses.now }
+    requires accesses { (x : ℕ) × (accesses.now ≡ accesses_in trace.now.events.now x) }
+    requires free { IsTrue free → (i : ℕ) → ¬ Race trace.now.events.now i (slice_index_or accesses.now place 0) }
+    ensures { (x : ℕ) → accesses.now ≡ accesses_in trace.now.events.now x → IfSome settled (λ s. IsSettled trace.now.events.now x accesses.now place s) → IfSome result (λ s. IsSettled trace.now.events.now x accesses.now (place + 1) s) }
+{
+    if !writes_any(trace.events[accesses[place] as usize].op) {
+        settled
+    } else if free {
+        Some(place)
+    } else {
+        None
+    }
+}
+
+/// Adds the races of the access at a place of the accesses of a variable. `settled` is the place of
+/// the last write before it, where that is known to have no race.
+fn add_races_at<O: Order>(
+    alloc: Global,
+    races: &mut Vec<Pair>,
+    order: &O,
+    trace: &Disciplined<'_>,
+    links: &Links<'_>,
+    accesses: &Accesses<'_>,
+    variable: u32,
+    settled: Option<usize>,
+    place: usize,
+) -> Result<(), AllocError>
+    requires of_trace { O.trace order.now ≡ trace.now.events.now }
+    requires linked { links.now ≡ trace.now.events.now }
+    requires accesses { accesses.now ≡ trace.now.events.now }
+    requires variable { variable < variables_in trace.now.events.now }
+    requires inside { place < length (accesses_in trace.now.events.now variable) }
+    requires settled { IfSome settled (λ s. IsSettled trace.now.events.now variable (accesses_in trace.now.events.now variable) place s) }
+    ensures { IfOk result (λ _. map ends races.new.items ≡ map ends races.old.items ++ races_with trace.now.events.now (slice_index_or (accesses_in trace.now.events.now variable) place 0)) }
+{
+    let places = accesses.of(variable);
+    match ordered_write(order, trace, links, places, settled, place) {
+        Some(write) => add_races_since(races, order, trace, links, places, write, place),
+        None => {
+            let second = places[place];
+            add_races(
+                alloc, races, order, trace, links, accesses, variable, second,
+            )
+        }
+    }
+}
+
+/// The races whose later access is in a run of the accesses of one variable.
+pub fn races_in<O: Order>(
+    alloc: Global,
+    order: &O,
+    trace: &Disciplined<'_>,
+    links: &Links<'_>,
+    accesses: &Accesses<'_>,
+    variable: u32,
+    from: usize,
+    to: usize,
+) -> Result<Vec<Pair>, AllocError>
+    requires of_trace { O.trace order.now ≡ trace.now.events.now }
+    requires linked { links.now ≡ trace.now.events.now }
+    requires accesses { accesses.now ≡ trace.now.events.now }
+    requires variable { variable < variables_in trace.now.events.now }
+    requires forward { from ≤ to }
+    requires within { to ≤ length (accesses_in trace.now.events.now variable) }
+    ensures { IfOk result (λ v. map ends v.items ≡ flat_map (races_with trace.now.events.now) (slice_range (accesses_in trace.now.events.now variable) from to)) }
+{
+    let places = accesses.of(variable);
+    let mut races = Vec::new(alloc);
+    let mut settled = None;
+    for place in from..to {
+        let count = races.len();
+        add_races_at(
+            alloc, &mut races, order, trace, links, accesses, variable, settled, place,
+        )?;
+        let free = races.len() == count;
+        settled = next_settled(trace, places, settled, place, free);
+    }
+    Ok(races)
+}

@@ -1,0 +1,148 @@
+//! The accesses that race with a later one, found thread by thread.
+
+ghost use Rattle.std.specs.Prelude.{◌≡◌, ◌++◌, ℕ, ◌+◌, ◌<◌, ◌≤◌, Some, All, AllPairs, IfOk, length, slice_index_or};
+ghost use Rattle.shb_lines.specs.Discipline.{place_in_thread};
+ghost use Rattle.shb_lines.specs.Events.{thread_at};
+ghost use Rattle.shb_lines.specs.Race.{variable_at};
+ghost use Rattle.shb_lines.specs.Reach.{is_race, numbers_where};
+ghost use Rattle.shb_pairs.specs.Accesses.{IsBeforeByThread};
+ghost use Rattle.shb_pairs.specs.Buckets.{key_at};
+ghost use Rattle.shb_pairs.specs.Search.{AreRivals, IsOfOneThread, racing};
+ghost use Rattle.shb_pairs.specs.declared.buckets.Key.TheVariants.{Thread};
+
+use crate::accesses::Accesses;
+use crate::buckets::part;
+use crate::race::writes_any;
+use shb_clocks::Order;
+use shb_discipline::Disciplined;
+use shb_lines::Event;
+use shb_links::Links;
+use std::alloc::{AllocError, Global};
+
+/// Where the positions of one thread end that start at a place, among positions by thread.
+fn run_end(events: &[Event], positions: &[u32], start: usize) -> usize
+    requires in_range { All (λ k. k < length events.now) positions.now }
+    requires sorted { AllPairs (IsBeforeByThread events.now) positions.now }
+    requires inside { start < length positions.now }
+    ensures more { start < result }
+    ensures within { result ≤ length positions.now }
+    ensures same_thread { (k : ℕ) → start ≤ k → k < result → key_at events.now Thread (slice_index_or positions.now k 0) ≡ key_at events.now Thread (slice_index_or positions.now start 0) }
+{
+    let thread = events[positions[start] as usize].thread;
+    let mut end = start + 1;
+    let mut limit = positions.len();
+    while end < limit {
+        let middle = end + (limit - end) / 2;
+        if events[positions[middle] as usize].thread == thread {
+            end = middle + 1;
+        } else {
+            limit = middle;
+        }
+    }
+    end
+}
+
+/// Where the positions start, among the first `end` of one thread, that are not among the first
+/// `below` events of the thread.
+fn tail_start(links: &Links<'_>, positions: &[u32], end: usize, below: u32) -> usize
+    requires in_range { All (λ k. k < length links.now) positions.now }
+    requires within { end ≤ length positions.now }
+    ensures start { result ≤ end }
+    ensures above { (t k : ℕ) → result ≤ k → k < end → thread_at links.now (slice_index_or positions.now k 0) ≡ Some t → below < place_in_thread links.now t (slice_index_or positions.now k 0) }
+    ensures under { (t k : ℕ) → k + 1 ≡ result → thread_at links.now (slice_index_or positions.now k 0) ≡ Some t → place_in_thread links.now t (slice_index_or positions.now k 0) ≤ below }
+{
+    for k in (0..end).rev() {
+        if links.local(positions[k]) <= below {
+            return k + 1;
+        }
+    }
+    0
+}
+
+/// Adds the positions, all of one thread, that race with a later access.
+fn add_tail<O: Order>(
+    found: &mut Vec<u32>,
+    order: &O,
+    trace: &Disciplined<'_>,
+    links: &Links<'_>,
+    positions: &[u32],
+    second: u32,
+) -> Result<(), AllocError>
+    requires of_trace { O.trace order.now ≡ trace.now.events.now }
+    requires linked { links.now ≡ trace.now.events.now }
+    requires in_range { second < length trace.now.events.now }
+    requires some { 0 < length positions.now }
+    requires rivals { AreRivals trace.now.events.now second positions.now }
+    requires one_thread { IsOfOneThread trace.now.events.now positions.now }
+    ensures { IfOk result (λ _. found.new.items ≡ found.old.items ++ racing trace.now.events.now second positions.now) }
+{
+    let thread = trace.events[positions[0] as usize].thread;
+    if thread == trace.events[second as usize].thread {
+        return Ok(());
+    }
+    let end = positions.partition_point(|first| *first < second);
+    let below = order.below_pred(second, thread);
+    let start = tail_start(links, positions, end, below);
+    found.extend_from_slice(part(positions, start, end))?;
+    Ok(())
+}
+
+/// Adds the positions, by thread, that race with a later access.
+fn add_rivals<O: Order>(
+    found: &mut Vec<u32>,
+    order: &O,
+    trace: &Disciplined<'_>,
+    links: &Links<'_>,
+    positions: &[u32],
+    second: u32,
+) -> Result<(), AllocError>
+    requires of_trace { O.trace order.now ≡ trace.now.events.now }
+    requires linked { links.now ≡ trace.now.events.now }
+    requires in_range { second < length trace.now.events.now }
+    requires rivals { AreRivals trace.now.events.now second positions.now }
+    requires each_in_range { All (λ k. k < length trace.now.events.now) positions.now }
+    requires sorted { AllPairs (IsBeforeByThread trace.now.events.now) positions.now }
+    ensures { IfOk result (λ _. found.new.items ≡ found.old.items ++ racing trace.now.events.now second positions.now) }
+{
+    let mut start = 0;
+    while start < positions.len() {
+        let end = run_end(trace.events, positions, start);
+        add_tail(
+            found,
+            order,
+            trace,
+            links,
+            part(positions, start, end),
+            second,
+        )?;
+        start = end;
+    }
+    Ok(())
+}
+
+/// The accesses that race with a later access of a variable, in trace order.
+pub fn rivals_of<O: Order>(
+    alloc: Global,
+    order: &O,
+    trace: &Disciplined<'_>,
+    links: &Links<'_>,
+    accesses: &Accesses<'_>,
+    variable: u32,
+    second: u32,
+) -> Result<Vec<u32>, AllocError>
+    requires of_trace { O.trace order.now ≡ trace.now.events.now }
+    requires linked { links.now ≡ trace.now.events.now }
+    requires accesses { accesses.now ≡ trace.now.events.now }
+    requires accessed { variable_at trace.now.events.now second ≡ Some variable }
+    ensures { IfOk result (λ v. v.items ≡ numbers_where (λ i. is_race trace.now.events.now i second) second) }
+{
+    let mut found = Vec::new(alloc);
+    let writes = accesses.writes_by_thread(variable);
+    add_rivals(&mut found, order, trace, links, writes, second)?;
+    if writes_any(trace.events[second as usize].op) {
+        let reads = accesses.reads_by_thread(variable);
+        add_rivals(&mut found, order, trace, links, reads, second)?;
+    }
+    found.sort_unstable();
+    Ok(found)
+}
