@@ -8,3 +8,6 @@ mod schedules;
 
 pub use job::WitnessJob;
 pub use schedules::schedule;
+
+#[cfg(test)]
+mod tests;

@@ -1,0 +1,78 @@
+//! The schedules of worked traces.
+ghost use Rattle.std.specs.Prelude.{◌≡◌, ◌<◌, IsTrue, length};
+ghost use Rattle.shb_lines.specs.Race.{Race};
+
+use crate::*;
+use shb_clocks::{Order, full};
+use shb_discipline::{Disciplined, check};
+use shb_fan::Job;
+use shb_io::Text;
+use shb_lines::{Limits, Pair, events_conflict_at, parse};
+use shb_links::{Links, links_of};
+use std::test::Fail;
+
+/// Whether a pair is a race.
+fn is_race<O: Order>(order: &O, trace: &Disciplined<'_>, links: &Links<'_>, pair: Pair) -> bool
+    requires of_trace { O.trace order.now ≡ trace.now.events.now }
+    requires linked { links.now ≡ trace.now.events.now }
+    requires earlier { pair.first < pair.second }
+    requires in_range { pair.second < length trace.now.events.now }
+    ensures { IsTrue result → Race trace.now.events.now pair.first pair.second }
+{
+    let thread = trace.events[pair.first as usize].thread;
+    let below = order.below_pred(pair.second, thread);
+    events_conflict_at(trace.events, pair.first, pair.second) && below < links.local(pair.first)
+}
+
+/// The schedule of a race of the text, as a piece of work. None where the pair is no race.
+fn scheduled(
+    rt: &HostRuntime,
+    text: &[u8],
+    first: u32,
+    second: u32,
+) -> Result<Option<Vec<u32>>, Fail> {
+    let mut source = Text::new(text, 4096, None);
+    let parsed = parse(rt.alloc(), rt, &mut source, &Limits::standard())?;
+    let trace = check(rt.alloc(), &parsed.trace)?;
+    let links = links_of(rt.alloc(), &trace)?;
+    let order = full(rt.alloc(), &trace, &links)?;
+    let pair = Pair { first, second };
+    if first >= second || second as usize >= trace.events.len() {
+        return Ok(None);
+    }
+    if !is_race(&order, &trace, &links, pair) {
+        return Ok(None);
+    }
+    let pairs = [pair];
+    let job = WitnessJob::new(&order, &trace, &links, &pairs);
+    Ok(Some(job.run(rt.alloc(), 0)?))
+}
+
+#[test]
+fn worked_schedules(rt: HostRuntime) -> Result<(), Fail> {
+    let two_variables = b"T1|w(x)\nT1|w(y)\nT2|r(y)\nT2|w(x)\n";
+    let held = b"T1|acq(l)\nT1|w(x)\nT1|rel(l)\nT2|w(x)\n";
+    let forked = b"T1|fork(T2)\nT1|w(x)\nT2|w(x)\n";
+    let crossed = b"T1|w(x)\nT1|w(y)\nT2|w(y)\nT2|w(x)\n";
+    let passed = b"T1|acq(l)\nT1|w(x)\nT1|rel(l)\nT2|acq(l)\nT2|r(x)\nT2|rel(l)\nT3|w(x)\n";
+    let joined = b"T1|fork(T3)\nT2|join(T3)\nT1|w(x)\nT2|w(x)\n";
+    let read = b"T1|w(x)\nT2|r(x)\nT2|w(y)\nT3|w(y)\n";
+    let rows: [(&[u8], u32, u32, &[u32]); 10] = [
+        (two_variables, 1, 2, &[0]),
+        (held, 1, 3, &[0]),
+        (forked, 1, 2, &[0]),
+        (crossed, 0, 3, &[2]),
+        (crossed, 1, 2, &[0]),
+        (passed, 1, 6, &[0]),
+        (passed, 4, 6, &[0, 1, 2, 3]),
+        (joined, 2, 3, &[0, 1]),
+        (read, 0, 1, &[]),
+        (read, 2, 3, &[0, 1]),
+    ];
+    for (row, (text, first, second, wanted)) in rows.iter().enumerate() {
+        let positions = scheduled(&rt, text, *first, *second)?;
+        let positions = positions.as_ref().map(|positions| positions.as_slice());
+        assert_eq!(rt; positions, Some(*wanted), "row {row}");
+    }
+    Ok(())
+}
