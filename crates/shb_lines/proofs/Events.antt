@@ -5,7 +5,7 @@ use Rattle.std.proofs.lemmas.Bool.{eqb-true, eq-eqb, cases_order}
 use Rattle.std.proofs.lemmas.Option.{slice_get_cases}
 use Rattle.shb_lines.specs.declared.event.Event.{Event}
 use Rattle.shb_lines.specs.declared.event.Op.{Op}
-use Rattle.shb_lines.specs.declared.event.Op.TheVariants.{Read, Write, Acquire, Release, Fork, Join}
+use Rattle.shb_lines.specs.declared.event.Op.TheVariants.{Acquire, Release, Fork, Join}
 use Rattle.shb_lines.specs.Events.{thread_at, op_at}
 use Rattle.shb_lines.specs.Discipline.{IsDisciplined, MayCome, MayDo, MayFork, is_of, is_join, is_fork, is_acquire, is_release, op_is_acquire, op_is_release, op_is_join, op_is_fork}
 use Rattle.shb_lines.proofs.Counts.{counted_before}

@@ -1,9 +1,8 @@
 -- Different names have different numbers, and the variables are numbered as they are first accessed.
-use Rattle.std.proofs.Common.{◌≡◌, ◌⊎◌, inl, inr, ◌+◌, ◌<◌, ◌≤◌, ℕ, Bool, true, false, cond, not, zero, suc, List, [], ◌∷◌, ◌++◌, length, map, nat_lt, Option, None, Some, slice_get, refl, sym, ap, subst, ◌∙◌, arith}
+use Rattle.std.proofs.Common.{◌≡◌, ◌⊎◌, inl, inr, ◌+◌, ◌<◌, ◌≤◌, ℕ, Bool, true, false, cond, not, zero, suc, List, [], ◌∷◌, ◌++◌, length, map, None, Some, slice_get, refl, sym, ap, subst, ◌∙◌, arith}
 use Rattle.std.specs.List.{AllByRecursion, AllZip, IsDistinct, flat_map, position_or_len}
 use Rattle.std.specs.Str.{bytes_eq}
-use Rattle.std.proofs.Math.Numerals.{one-add}
-use Rattle.std.proofs.lemmas.Bool.Decides.{nat_tests}
+use Rattle.std.proofs.lemmas.Bool.{cases_lt}
 use Rattle.std.proofs.lemmas.List.Sums.{fold-append}
 use Rattle.std.proofs.lemmas.Option.{slice_get_within}
 use Rattle.std.proofs.lemmas.Slice.Eq.{bytes_eq-Decides}
@@ -11,23 +10,15 @@ use Rattle.shb_lines.specs.declared.event.Event.{Event}
 use Rattle.shb_lines.specs.declared.event.Kind.{Kind}
 use Rattle.shb_lines.specs.declared.event.Op.{Op}
 use Rattle.shb_lines.specs.declared.event.Op.TheVariants as ops
-use Rattle.shb_lines.specs.declared.event.Sizes.{Sizes}
 use Rattle.shb_lines.specs.Events.{op_at, variable_of}
 use Rattle.shb_lines.specs.Names.{table_of, with_name}
 use Rattle.shb_lines.specs.Parsed.{IsEventOf, events_of}
 use Rattle.shb_lines.specs.Race.{variable_at}
 use Rattle.shb_lines.specs.Reader.{IsOperation, Tables, with_names}
-use Rattle.shb_lines.specs.Sizes.{IsEventWithin, IsNumberedByAccess, IsOpWithin, IsWithin}
+use Rattle.shb_lines.specs.Sizes.{IsEventWithin, IsOpWithin, IsWithin}
 use Rattle.shb_lines.specs.Text.{LocatedEvent, locks_among, threads_among, trace_of, variables_among}
-use Rattle.shb_lines.specs.TraceData.{IsTraceOf, IsWellFormed, TraceData, sizes_of, tables_in}
+use Rattle.shb_lines.specs.TraceData.{IsTraceOf, IsWellFormed, TraceData, tables_in}
 use Rattle.shb_lines.proofs.NameLemmas.{length-with_name_le, slice_get-with_names, with_name-at}
-
-lt_or_le : (m n : ℕ) → (m < n) ⊎ (n ≤ m)
-lt_or_le m n = by (nat_lt m n) refl
-  where
-    by : (b : Bool) → nat_lt m n ≡ b → (m < n) ⊎ (n ≤ m)
-    by true e = inl (grind (arith, nat_tests))
-    by false e = inr (grind (arith, nat_tests))
 
 -- a test that fails fails the other way round
 differs : (a b : List ℕ) → bytes_eq a b ≡ false → bytes_eq b a ≡ false
@@ -146,7 +137,7 @@ module _ (tables : Tables) (distinct : IsDistinct bytes_eq tables.variables) whe
       let same : number ≡ x = (let both : Some number ≡ Some x = sym variable ∙ at_k in cc) in
       inl (omega (arith, place, same, lt, place_within names name))
   earlier_step names rest e events kind name (of_one number variable named has) table x y lt back (suc k) at_k =
-      go (lt_or_le y (length names)) (subst (λ more. HasEarlier (length (with_names names more)) events k y) named (back k at_k))
+      go (cases_lt y (length names)) (subst (λ more. HasEarlier (length (with_names names more)) events k y) named (back k at_k))
     where
       place : number ≡ position_or_len (bytes_eq name) names
       place = with_first names rest name number (table ∙ ap (λ more. with_names (with_names names more) rest) named) has

@@ -1,16 +1,16 @@
 -- The tests that compute are true exactly where the relations hold.
-use Rattle.std.proofs.Common.{◌≡◌, ◌≢◌, ℕ, zero, suc, ◌+◌, ◌<◌, ◌≤◌, ◌⊎◌, inl, inr, Bool, true, false, List, [], ◌∷◌, ◌++◌, Option, Some, None, length, refl, arith, subst, ap, sym, ◌∙◌, add-one}
-use Rattle.std.specs.Prelude.{slice_get, Contains, ◌↔◌, ◌==◌, nat_lt, ◌&&◌, ◌||◌, not, cond, option_and_then}
+use Rattle.std.proofs.Common.{◌≡◌, ℕ, zero, suc, ◌+◌, ◌<◌, ◌≤◌, ◌⊎◌, inl, inr, Bool, true, false, List, [], ◌∷◌, ◌++◌, Option, Some, None, length, refl, arith, subst, ap, sym, ◌∙◌, add-one}
+use Rattle.std.specs.Prelude.{slice_get, ◌↔◌, ◌==◌, nat_lt, ◌&&◌, ◌||◌, not, cond, option_and_then}
 use Rattle.std.proofs.lemmas.Bool.{cases_Bool, cases_lt, eqb-true, eq-eqb, ltb-true, lt-ltb}
 use Rattle.std.proofs.lemmas.List.{append-nil}
-use Rattle.std.proofs.lemmas.Option.{slice_get_within, slice_get_cases}
+use Rattle.std.proofs.lemmas.Option.{slice_get_within}
 use Rattle.shb_lines.specs.declared.event.Event.{Event}
 use Rattle.shb_lines.specs.declared.event.Op.{Op}
 use Rattle.shb_lines.specs.declared.event.Op.TheVariants.{Read, Write, Fork}
 use Rattle.shb_lines.specs.Events.{thread_at, op_at, variable_of}
 use Rattle.shb_lines.specs.Tests.{is_hb_rule, is_conflict, forks_thread}
 use Rattle.shb_lines.specs.Reach.{any_below, numbers_where, of_thread, writes_at, forks_at, both_events, is_last_write, is_shb_edge, is_shb_below, is_pred, is_below_pred, is_race}
-use Rattle.shb_lines.specs.Order.{HbRule, HbEdge, LastWrite, ShbEdge, happens_before, read_from, here, step, ShbBelow, IsPred, in_thread, by_fork, BelowPred}
+use Rattle.shb_lines.specs.Order.{HbRule, LastWrite, ShbEdge, happens_before, read_from, here, step, ShbBelow, IsPred, in_thread, by_fork, BelowPred}
 use Rattle.shb_lines.specs.Race.{Conflict, Race, variable_at}
 use Rattle.shb_lines.proofs.ConflictTests.{conflict_from_test, test_from_conflict}
 use Rattle.shb_lines.proofs.Decide.{rule_from_test, test_from_rule, rule_ends, path_cases, forks_thread_true}

@@ -6,7 +6,7 @@ use Rattle.std.proofs.lemmas.Bool.{cases_lt, eqb-true}
 use Rattle.std.proofs.lemmas.Option.{slice_get_within, slice_get-get_or, slice_get_cases}
 use Rattle.shb_lines.specs.declared.event.Event.{Event}
 use Rattle.shb_lines.specs.declared.event.Op.{Op}
-use Rattle.shb_lines.specs.declared.event.Op.TheVariants.{Read, Write, Acquire, Release, Fork, Join}
+use Rattle.shb_lines.specs.declared.event.Op.TheVariants.{Acquire, Release, Fork, Join}
 use Rattle.shb_lines.specs.Events.{thread_at, events_at}
 use Rattle.shb_lines.specs.Discipline.{IsDisciplined, MayCome, MayDo, other_than, only, is_of, is_fork, is_join, is_acquire, is_release}
 use Rattle.shb_lines.specs.Order.{HbEdge, same_thread, lock_passed}

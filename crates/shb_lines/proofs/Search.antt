@@ -4,7 +4,7 @@ use Rattle.std.specs.Prelude.{◌==◌}
 use Rattle.std.proofs.lemmas.Bool.{cases_Bool, cases_lt, eqb-true, eq-eqb}
 use Rattle.shb_lines.specs.declared.event.Event.{Event}
 use Rattle.shb_lines.specs.declared.event.Op.{Op}
-use Rattle.shb_lines.specs.declared.event.Op.TheVariants.{Read, Write, Acquire, Release, Fork, Join}
+use Rattle.shb_lines.specs.declared.event.Op.TheVariants.{Write}
 use Rattle.shb_lines.specs.Events.{thread_at, op_at}
 use Rattle.shb_lines.specs.Tests.{writes_variable}
 use Rattle.shb_lines.specs.Reach.{of_thread, writes_at}

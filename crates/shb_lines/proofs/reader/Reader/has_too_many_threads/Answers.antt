@@ -1,5 +1,5 @@
 -- Two names more than there are threads are within the limit, or the new ones are counted.
-use Rattle.std.proofs.Common.{◌≡◌, ◌+◌, ◌∙◌, ◌≤◌, ap, arith, false, length, nat_lt, sym, ℕ}
+use Rattle.std.proofs.Common.{◌≡◌, ◌+◌, ◌∙◌, ◌≤◌, ap, arith, false, nat_lt, sym, ℕ}
 use Rattle.std.proofs.lemmas.Bool.Decides.{nat_tests}
 use Rattle.std.proofs.lemmas.List.{length-map}
 use Rattle.shb_lines.proofs.LineLemmas.{length-threads_le}

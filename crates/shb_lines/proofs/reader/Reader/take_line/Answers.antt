@@ -1,5 +1,5 @@
 -- Each return answers the lowest fault of the line, and keeps or lengthens the trace.
-use Rattle.std.proofs.Common.{[], ◌∷◌, ◌++◌, ◌≡◌, ◌+◌, ◌<◌, ◌≤◌, Bool, IfSome, List, None, Ok, Some, Option, Result, ap, arith, false, length, nat_lt, refl, subst, sym, true, ℕ, ◌∙◌}
+use Rattle.std.proofs.Common.{◌≡◌, ◌<◌, ◌≤◌, Bool, IfSome, List, Ok, Some, ap, arith, false, length, nat_lt, refl, subst, sym, true, ℕ, ◌∙◌}
 use Rattle.std.proofs.lemmas.Bool.Decides.{nat_tests}
 use Rattle.std.specs.Str.Lines.{strip_carriage_return}
 use Rattle.shb_lines.specs.declared.names.Span.{Span}

@@ -1,5 +1,5 @@
 -- Each line that is taken is the next one of the text.
-use Rattle.std.proofs.Common.{◌≡◌, ◌+◌, ◌<◌, ◌≤◌, None, Some, ap, arith, length, refl, subst, sym, take, ◌∙◌}
+use Rattle.std.proofs.Common.{◌<◌, ◌≤◌, None, Some, arith, length, refl, subst, sym, take}
 use Rattle.shb_lines.specs.declared.event.Fault.TheVariants as faults
 use Rattle.shb_lines.specs.Faults.{HasLineFault, IsLowest}
 use Rattle.shb_lines.specs.Parsed.{HasRead, events_of, lines_read, part}
