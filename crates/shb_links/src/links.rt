@@ -33,7 +33,8 @@ impl<'a> Model for Links<'a> {
 
     ghost view = { λ l. l.trace.now.events.now };
 
-    ghost invariant = { λ l. HasLinks l.trace.now.events.now l.locals.items l.preds.items l.last_writes.items l.forks.items };
+    ghost invariant = { λ l. HasLinks l.trace.now.events.now l.locals.items l.preds.items
+        l.last_writes.items l.forks.items };
 }
 
 impl<'a> Links<'a> {
@@ -41,7 +42,8 @@ impl<'a> Links<'a> {
     /// it, so 1 for the thread's first event.
     pub fn local(&self, e: u32) -> u32
         requires { e < length self.now }
-        ensures place { (t : ℕ) → thread_at self.now e ≡ Some t → result ≡ place_in_thread self.now t e }
+        ensures place { (t : ℕ) → thread_at self.now e ≡ Some t
+            → result ≡ place_in_thread self.now t e }
         ensures number { IsLocal self.now e result }
     {
         self.locals[e as usize]
@@ -79,14 +81,16 @@ impl<'a> Links<'a> {
     }
 }
 
-/// The place of an event in its thread, from the places before it and the last event of each thread.
+/// The place of an event in its thread, from the places before it and the last event of each
+/// thread.
 fn next_local(events: &[Event], sizes: Sizes, locals: &[u32], last: &[Option<u32>], e: u32) -> u32
     requires in_range { e < length events.now }
     requires few { length events.now ≤ 4194304 }
     requires within { IsWithin events.now sizes }
     requires locals { HasLocals events.now e locals.now }
     requires last { IsLatestTable (OfThread events.now) e sizes.threads last.now }
-    ensures { (t : ℕ) → thread_at events.now e ≡ Some t → result ≡ place_in_thread events.now t e }
+    ensures { (t : ℕ) → thread_at events.now e ≡ Some t
+        → result ≡ place_in_thread events.now t e }
 {
     match last[events[e as usize].thread as usize] {
         Some(p) => locals[p as usize] + 1,
@@ -97,8 +101,10 @@ fn next_local(events: &[Event], sizes: Sizes, locals: &[u32], last: &[Option<u32
 /// The predecessor of an event, from the last event and the fork of each thread.
 fn pred_of(trace: &Disciplined<'_>, last: &[Option<u32>], forks: &[Option<u32>], e: u32) -> Link
     requires in_range { e < length trace.now.events.now }
-    requires last { IsLatestTable (OfThread trace.now.events.now) e trace.now.sizes.threads last.now }
-    requires forks { IsLatestTable (ForksThread trace.now.events.now) e trace.now.sizes.threads forks.now }
+    requires last { IsLatestTable (OfThread trace.now.events.now) e trace.now.sizes.threads
+        last.now }
+    requires forks { IsLatestTable (ForksThread trace.now.events.now) e trace.now.sizes.threads
+        forks.now }
     ensures { Exactly (λ p. IsPred trace.now.events.now p e) result }
 {
     let thread = trace.events[e as usize].thread as usize;
