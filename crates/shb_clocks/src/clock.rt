@@ -45,7 +45,7 @@ impl Clock {
         self.entries.copy_from_slice(other);
     }
 
-    /// Raises each entry to that of another clock.
+    /// Raises each entry to that of another clock, where that is greater.
     pub fn join(&mut self, other: &[u32])
         requires { length other.now ≡ length self.old }
         ensures long { length self.new ≡ length self.old }
@@ -63,7 +63,7 @@ impl Clock {
         self.entries[other.thread as usize] = other.place;
     }
 
-    /// Raises each entry to that of an event's clock.
+    /// Raises each entry to that of an event's clock, where that is greater.
     pub fn join_event(&mut self, other: &EventClock<'_>)
         requires { length other.now ≡ length self.old }
         ensures long { length self.new ≡ length self.old }
@@ -82,6 +82,7 @@ impl Clock {
         self.entries[t] = value;
     }
 
+    /// The entries.
     pub fn as_slice(&self) -> &[u32]
         ensures { result.now ≡ self.now }
     {

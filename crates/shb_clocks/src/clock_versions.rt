@@ -15,7 +15,8 @@ use shb_links::Links;
 use std::alloc::Global;
 use std::marker::Model;
 
-/// The clocks at which a thread may learn of others. It is seen as the trace that it orders.
+/// An order by vector clocks that are kept only where a thread may learn of others. Contracts see it
+/// as the list of events of the trace that it orders. It may be shared between threads.
 #[derive(Drop)]
 pub struct ClockVersions<'a> {
     trace: &'a Disciplined<'a>,
@@ -31,9 +32,11 @@ impl<'a> Model for ClockVersions<'a> {
     ghost invariant = { λ o. (o.links.now ≡ o.trace.now.events.now) × AreKept o.trace.now.events.now (length o.trace.now.events.now) o.trace.now.sizes.threads o.clocks.rows o.clocks.threads.items };
 }
 
-/// The order of a trace, with a clock only where a thread may learn of others: at its first event,
-/// at each acquire, each join and each read that has a last write. Where a thread learned nothing
-/// new its clock is shared, so memory grows with what threads really learn.
+/// The order of a trace by vector clocks, found by one forward pass. A clock is kept only where a
+/// thread may learn of others: at its first event, at each acquire, each join and each read that has
+/// a last write. Where the thread learned nothing new there, it keeps the clock that it had, so
+/// memory grows with the events, and with the number of threads only at events at which a thread
+/// really learned something.
 ///
 /// # Errors
 ///
@@ -60,9 +63,9 @@ pub fn versions<'a>(
 }
 
 impl<'a> ClockVersions<'a> {
-    /// The places in thread t, from 1 and rising, of the events at which it may learn of other
+    /// The places in thread `t`, from 1 and rising, of the events at which it may learn of other
     /// threads: its first event, and each acquire, each join and each read that has a last write.
-    /// There are none for a thread that the trace doesn't have.
+    /// None for a number that names no thread.
     pub fn learned(&self, t: u32) -> &[u32]
         ensures { AreLearnedPlaces self.now t result.now }
     {

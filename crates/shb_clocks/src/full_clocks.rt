@@ -14,7 +14,8 @@ use shb_links::Links;
 use std::alloc::Global;
 use std::marker::Model;
 
-/// The clock of each event. It is seen as the trace that it orders.
+/// An order by a vector clock for each event. Contracts see it as the list of events of the trace
+/// that it orders. It may be shared between threads.
 #[derive(Drop)]
 pub struct FullClocks<'a> {
     trace: &'a Disciplined<'a>,
@@ -31,8 +32,8 @@ impl<'a> Model for FullClocks<'a> {
     ghost invariant = { λ o. (o.links.now ≡ o.trace.now.events.now) × HasClocks o.trace.now.events.now (length o.trace.now.events.now) o.threads o.clocks.items };
 }
 
-/// The order of a trace, with a clock for each event. It takes time and memory that grow with the
-/// number of events times the number of threads.
+/// The order of a trace by a vector clock for each event, found by one forward pass. Time and memory
+/// grow with the number of events times the number of threads.
 ///
 /// # Errors
 ///

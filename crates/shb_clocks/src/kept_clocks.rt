@@ -47,7 +47,7 @@ impl KeptClocks {
         })
     }
 
-    /// The clock of an event that was taken.
+    /// The clock of an event that was taken: the row of its thread's last kept place up to its own.
     pub fn clock_of(&self, trace: &Disciplined<'_>, links: &Links<'_>, e: u32) -> EventClock<'_>
         requires of_trace { links.now ≡ trace.now.events.now }
         requires in_range { e < length trace.now.events.now }

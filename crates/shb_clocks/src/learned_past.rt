@@ -1,4 +1,4 @@
-//! What a sweep over a trace has learned so far, where clocks are kept only where a thread may learn.
+//! The sweep that keeps clocks only where a thread may learn of others.
 
 ghost use Rattle.std.specs.Prelude.{◌≡◌, ℕ, ◌+◌, ◌<◌, ◌↔◌, IsTrue, IfOk, OnOk, Some, length};
 ghost use Rattle.shb_lines.specs.Events.{thread_at};
@@ -44,6 +44,7 @@ fn may_learn(trace: &Disciplined<'_>, links: &Links<'_>, e: u32) -> bool
 }
 
 impl LearnedPast {
+    /// What is known before the first event.
     pub fn new(alloc: Global, trace: &Disciplined<'_>) -> Result<Self, NoMemory>
         ensures { IfOk result (λ past. IsLearnedPast trace.now.events.now 0 trace.now.sizes past.clocks.rows past.clocks.threads.items past.locks.items past.last.items) }
     {
@@ -158,7 +159,8 @@ impl LearnedPast {
         Ok(())
     }
 
-    /// Takes the event e. The clock is scratch space.
+    /// Takes the event e. The clock is space to work in, and what it holds before and after is of no
+    /// matter.
     pub fn take(
         &mut self,
         trace: &Disciplined<'_>,

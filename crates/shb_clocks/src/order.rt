@@ -5,12 +5,21 @@ ghost use Rattle.shb_lines.specs.declared.event.Event.{Event};
 ghost use Rattle.shb_lines.specs.Order.{IsBelowPredCount};
 
 /// How far each thread is SHB-below the predecessor of an event.
+///
+/// Schedulable happens-before (SHB) is the order by paths of edges: thread order, a release to a
+/// later acquire of its lock, a fork to the forked thread, a thread to a join of it, and a write to
+/// each read whose last write it is. It comes from the OOPSLA 2018 paper of Mathur, Kini and
+/// Viswanathan. The predecessor of an event is the event before it in its thread or, for a thread's
+/// first event, the fork of the thread.
 pub trait Order {
     /// The trace that is ordered.
     ghost trace: { Self → List Event };
 
-    /// The number of events of thread t that are SHB-below the predecessor of e, or are it; 0 where
-    /// e has none.
+    /// The number of events of thread `t` that are SHB-below the predecessor of event `e`, or are
+    /// it; 0 where `e` has none, and for every `t` that names no thread. Events and threads count
+    /// from 0. These events are the first ones of their thread, so an earlier event of thread `t` is
+    /// SHB-below the predecessor exactly where its place in the thread, from 1, is at most this
+    /// number.
     fn below_pred(&self, e: u32, t: u32) -> u32
         requires { e < length (trace self.now) }
         ensures { IsBelowPredCount (trace self.now) t e result };

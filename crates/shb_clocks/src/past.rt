@@ -1,4 +1,4 @@
-//! What a sweep over a trace has learned so far.
+//! The sweep that makes a clock for each event.
 
 ghost use Rattle.std.specs.Prelude.{◌≡◌, ℕ, ◌+◌, ◌<◌, IfOk, Some, length};
 ghost use Rattle.shb_lines.specs.Order.{ShbBelow, BelowPred};
@@ -35,6 +35,7 @@ pub fn lock_clocks(alloc: Global, events: &[Event], sizes: Sizes) -> Result<Vec<
 }
 
 impl Past {
+    /// What is known before the first event.
     pub fn new(alloc: Global, events: &[Event], sizes: Sizes) -> Result<Self, NoMemory>
         ensures { IfOk result (λ past. IsPast events.now 0 sizes past.clocks.items past.locks.items past.last.items) }
     {

@@ -16,7 +16,8 @@ use shb_links::Links;
 use std::alloc::Global;
 use std::marker::Model;
 
-/// Which events are SHB-below the predecessor of each event. It is seen as the trace that it orders.
+/// An order by marks: which events are SHB-below the predecessor of each event. Contracts see it as
+/// the list of events of the trace that it orders. It may be shared between threads.
 #[derive(Drop)]
 pub struct PlainOrder<'a> {
     trace: &'a Disciplined<'a>,
@@ -94,8 +95,9 @@ fn row_of(
     }
 }
 
-/// The order of a trace, with a row of marks for each event. It takes time that grows with the cube
-/// of the trace's length and memory that grows with its square.
+/// The order of a trace by a row of marks for each event, which a backward sweep over the SHB edges
+/// sets. Its time may grow with the cube of the trace's length and its memory grows with the square:
+/// it is for small traces and tests.
 ///
 /// # Errors
 ///

@@ -50,7 +50,7 @@ impl Rows {
         )
     }
 
-    /// Adds a clock, and gives its number.
+    /// Adds a clock, and gives its number. Numbers count from 0.
     pub fn push(&mut self, clock: &[u32]) -> Result<u32, NoMemory>
         requires long { length clock.now ≡ self.old.width }
         requires few { length self.old.rows + 1 < 2 ^ 32 }
