@@ -14,3 +14,6 @@ pub use accesses::{Accesses, accesses_of};
 pub use job::PairJob;
 pub use piece::{Piece, pieces};
 pub use race::is_race;
+
+#[cfg(test)]
+mod tests;

@@ -10,5 +10,5 @@ use Rattle.shb_pairs.proofs.race.is_below_pred.Goals as goal
 pub returns : goal.returns
 returns g c =
     let of_first = thread_item c.args.trace.now.events.now c.args.first _ c.requires.first in
-    let place = subst (λ (tr : List Event). (t : ℕ) → thread_at tr c.args.first ≡ Some t → c.local.result ≡ place_in_thread tr t c.args.first) c.requires.linked c.local.ensures in
+    let place = subst (λ (tr : List Event). (t : ℕ) → thread_at tr c.args.first ≡ Some t → c.local.result ≡ place_in_thread tr t c.args.first) c.requires.linked c.local.ensures.place in
     below_pred_test _ _ _ _ _ _ _ c.requires.of_trace c.below_pred.ensures of_first (place _ of_first)
