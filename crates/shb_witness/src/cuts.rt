@@ -1,8 +1,8 @@
 //! How far each thread is below the predecessors of a pair.
 
-ghost use Rattle.std.specs.Prelude.{◌≡◌, ℕ, ◌<◌, ◌≤◌, ◌⊎◌, IfOk, length};
+ghost use Rattle.std.specs.Prelude.{◌≡◌, ℕ, ◌<◌, ◌≤◌, IfOk, length};
 ghost use Rattle.shb_lines.specs.Order.{BelowPred};
-ghost use Rattle.shb_witness.specs.Cuts.{HasCuts};
+ghost use Rattle.shb_witness.specs.Cuts.{BelowEither, HasCuts};
 
 use shb_clocks::Order;
 use shb_discipline::Disciplined;
@@ -11,8 +11,8 @@ use shb_lines::Pair;
 use shb_links::Links;
 use std::alloc::Global;
 
-/// For each thread, the greatest place in it of an event that is below a predecessor of the pair, or
-/// 0 where none is.
+/// For each thread, the greatest place in it of an event that is below a predecessor of the pair,
+/// or 0 where none is.
 pub fn cuts_of<O: Order>(
     alloc: Global,
     order: &O,
@@ -22,7 +22,8 @@ pub fn cuts_of<O: Order>(
     requires of_trace { O.trace order.now ≡ trace.now.events.now }
     requires first { pair.first < length trace.now.events.now }
     requires second { pair.second < length trace.now.events.now }
-    ensures { IfOk result (λ cuts. HasCuts trace.now.events.now pair.first pair.second trace.now.sizes.threads cuts.items) }
+    ensures { IfOk result (λ cuts. HasCuts trace.now.events.now pair.first pair.second
+        trace.now.sizes.threads cuts.items) }
 {
     let mut cuts = Vec::with_capacity(alloc, trace.sizes.threads as usize)?;
     for thread in 0..trace.sizes.threads {
@@ -52,7 +53,8 @@ pub fn end_of(trace: &Disciplined<'_>, links: &Links<'_>, pair: Pair) -> u32
     requires first { pair.first < length trace.now.events.now }
     requires second { pair.second < length trace.now.events.now }
     ensures within { result ≤ length trace.now.events.now }
-    ensures above { (k : ℕ) → BelowPred trace.now.events.now k pair.first ⊎ BelowPred trace.now.events.now k pair.second → k < result }
+    ensures above { (k : ℕ) → BelowEither trace.now.events.now pair.first pair.second k
+        → k < result }
 {
     after_pred(trace, links, pair.first).max(after_pred(trace, links, pair.second))
 }

@@ -32,7 +32,9 @@ impl<'a, O: Order> Model for WitnessJob<'a, O> {
 
     ghost view = { λ j. record { trace = j.trace.now.events.now; races = j.pairs.now } };
 
-    ghost invariant = { λ j. (O.trace j.order.now ≡ j.trace.now.events.now) × (j.links.now ≡ j.trace.now.events.now) × AreRaces j.trace.now.events.now j.pairs.now };
+    ghost invariant = { λ j. (O.trace j.order.now ≡ j.trace.now.events.now)
+        × (j.links.now ≡ j.trace.now.events.now)
+        × AreRaces j.trace.now.events.now j.pairs.now };
 }
 
 impl<'a, O: Order> WitnessJob<'a, O> {

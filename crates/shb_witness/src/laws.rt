@@ -10,16 +10,22 @@ ghost use Rattle.shb_witness.specs.Schedules.{schedule_at};
 
 /// The printed schedule of a race is a schedule of it.
 pub fn printed_schedule_is_schedule()
-    ensures { (trace : List Event) (s : List ℕ) (i j : ℕ) → IsDisciplined trace → Race trace i j → IsPrintedSchedule trace s i j → IsSchedule trace s i j }
+    ensures { (trace : List Event) (s : List ℕ) (i j : ℕ) → IsDisciplined trace → Race trace i j
+        → IsPrintedSchedule trace s i j → IsSchedule trace s i j }
 {}
 
 /// There is just one printed schedule of a pair.
 pub fn printed_schedule_is_unique()
-    ensures { (trace : List Event) (s other : List ℕ) (i j : ℕ) → IsPrintedSchedule trace s i j → IsPrintedSchedule trace other i j → s ≡ other }
+    ensures { (trace : List Event) (s other : List ℕ) (i j : ℕ) → IsPrintedSchedule trace s i j
+        → IsPrintedSchedule trace other i j → s ≡ other }
 {}
 
 /// Piece k of the work on races is the printed schedule of race k, and a schedule of it.
 pub fn pieces_are_schedules()
-    ensures printed { (trace : List Event) (races : List Pair) (k : ℕ) (p : Pair) → slice_get races k ≡ Some p → IsPrintedSchedule trace (schedule_at trace races k) p.first p.second }
-    ensures schedule { (trace : List Event) (races : List Pair) (k : ℕ) (p : Pair) → IsDisciplined trace → slice_get races k ≡ Some p → Race trace p.first p.second → IsSchedule trace (schedule_at trace races k) p.first p.second }
+    ensures printed { (trace : List Event) (races : List Pair) (k : ℕ) (p : Pair)
+        → slice_get races k ≡ Some p
+        → IsPrintedSchedule trace (schedule_at trace races k) p.first p.second }
+    ensures schedule { (trace : List Event) (races : List Pair) (k : ℕ) (p : Pair)
+        → IsDisciplined trace → slice_get races k ≡ Some p → Race trace p.first p.second
+        → IsSchedule trace (schedule_at trace races k) p.first p.second }
 {}

@@ -17,8 +17,8 @@ use std::alloc::Global;
 /// reordering that keeps happens-before. Which of the schedules of a race is printed is this
 /// project's profile. `NoMemory` where memory was refused.
 ///
-/// It asks the order twice for each thread, and goes once over the events up to the later of the two
-/// predecessors.
+/// It asks the order twice for each thread, and goes once over the events up to the later of the
+/// two predecessors.
 pub fn schedule<O: Order>(
     alloc: Global,
     order: &O,
@@ -29,8 +29,10 @@ pub fn schedule<O: Order>(
     requires of_trace { O.trace order.now ≡ trace.now.events.now }
     requires linked { links.now ≡ trace.now.events.now }
     requires race { Race trace.now.events.now pair.first pair.second }
-    ensures printed { IfOk result (λ s. IsPrintedSchedule trace.now.events.now s.items pair.first pair.second) }
-    ensures schedule { IfOk result (λ s. IsSchedule trace.now.events.now s.items pair.first pair.second) }
+    ensures printed { IfOk result (λ s. IsPrintedSchedule trace.now.events.now s.items
+        pair.first pair.second) }
+    ensures schedule { IfOk result (λ s. IsSchedule trace.now.events.now s.items
+        pair.first pair.second) }
 {
     let cuts = cuts_of(alloc, order, trace, pair)?;
     let mut positions = Vec::new(alloc);
