@@ -10,7 +10,7 @@ use crate::ordered::Ordered;
 use crate::races::races_of;
 use crate::settings::{Settings, Summary};
 use crate::write::write_report;
-use shb_clocks::{Order, full};
+use shb_clocks::{Order, versions};
 use shb_discipline::{CheckError, Disciplined, check};
 use shb_io::{Sink, Source};
 use shb_lines::{Limits, Parsed, ReadError, Trace, parse};
@@ -93,7 +93,7 @@ fn report<K: Sink>(
     ensures counted { IsSinkCounted (K.failure_count sink.old) (K.failure_count sink.new) result }
 {
     let links = links_of(alloc, &*trace)?;
-    let order = full(alloc, &*trace, &links)?;
+    let order = versions(alloc, &*trace, &links)?;
     report_by(alloc, sink, trace, &links, &order, schedules)
 }
 
