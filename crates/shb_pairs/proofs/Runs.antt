@@ -91,11 +91,6 @@ pub races_with_earlier : (trace : List Event) (x j : ℕ) → variable_at trace 
 unfolding races_with
 races_with_earlier trace x j of_j = ap (λ (xs : List ℕ). map (λ i. (i, j)) xs) (filter_numbers (λ i. is_race trace i j) (accesses_at trace x) j (λ i h. race_accesses trace x i j of_j h))
 
-pub number_below : (f : ℕ → Bool) (n q d : ℕ) (xs : List ℕ) → xs ≡ numbers_where f n → q < length xs → get_or xs q d < n
-number_below f n q d xs is lt =
-    let within : q < length (numbers_where f n) = (let size = ap length is in omega (arith, size)) in
-    rw is (((numbers_listed f n).members (get_or (numbers_where f n) q d)).0 (Contains-get_or (numbers_where f n) q d within)).0
-
 -- the races of j with the first accesses of a list, one access more
 pub pairs_more_yes : (trace : List Event) (old : List (ℕ × ℕ)) (pairs : List Pair) (xs : List ℕ) (k j i : ℕ) → k < length xs → get_or xs k 0 ≡ i → Race trace i j → map ends pairs ≡ old ++ map (λ i. (i, j)) (filter (λ i. is_race trace i j) (take k xs)) → map ends (pairs ++ record { first = i; second = j } ∷ []) ≡ old ++ map (λ i. (i, j)) (filter (λ i. is_race trace i j) (take (k + 1) xs))
 pairs_more_yes trace old pairs xs k j i lt at race so =
@@ -143,13 +138,6 @@ pub run_pushed : (old pieces new : List Piece) (x n k m : ℕ) → new ≡ piece
 run_pushed old pieces new x n k m is least so =
     let last : pieces ++ record { variable = x; from = 64 * k; to = 64 * k + m } ∷ [] ≡ pieces ++ run_at x n k ∷ [] = ap (λ (l : ℕ). pieces ++ record { variable = x; from = 64 * k; to = 64 * k + l } ∷ []) least in
     is ∙ (last ∙ (ap (λ (ps : List Piece). ps ++ run_at x n k ∷ []) so ∙ (append_assoc old (runs_of x n k) (run_at x n k ∷ []) ∙ ap (λ (ps : List Piece). old ++ ps) (sym (runs_more x n k)))))
-
--- what the call on the access at q asks
-pub front_of : (trace : List Event) (xs : List ℕ) (x q : ℕ) → xs ≡ accesses_in trace x → q < length xs → (get_or xs q 0 < length trace) × ((x : ℕ) × (variable_at trace (get_or xs q 0) ≡ Some x) × (take q xs ≡ numbers_where (accesses_at trace x) (get_or xs q 0)))
-front_of trace xs x q is lt =
-    let within : q < length (accesses_in trace x) = (let size = ap length is in omega (arith, size)) in
-    let front = access_front trace x q within in
-    rw is (front.2, (x, front.0, front.1))
 
 pub run_first : (trace : List Event) (xs : List ℕ) (pairs : List Pair) (from : ℕ) → pairs ≡ [] → map ends pairs ≡ flat_map (races_with trace) (take (from - from) (drop from xs))
 run_first trace xs pairs from none = let e : from - from ≡ 0 = omega arith in rw (none, e) refl

@@ -18,7 +18,13 @@ use std::alloc::Global;
 use std::collections::LinkedList;
 use std::marker::Model;
 
-/// Finds the races of a trace, a piece at a time. It is seen as the trace.
+/// The search for the races of a trace, as work in pieces: the value of a piece is the races whose
+/// later access is in its run, by the later access, then by the earlier one. The values of all pieces
+/// joined are the race list. Clauses see it as the events of the trace.
+///
+/// A piece costs its accesses times the threads that access the variable, and a step for each race;
+/// where its accesses are ordered, about one look-up of the order for each. Running a piece takes
+/// memory only for the races that it finds, and changes nothing.
 #[derive(Drop)]
 pub struct PairJob<'a, O: Order> {
     order: &'a O,
@@ -37,7 +43,8 @@ impl<'a, O: Order> Model for PairJob<'a, O> {
 }
 
 impl<'a, O: Order> PairJob<'a, O> {
-    /// The work on these pieces of these accesses.
+    /// The search on these pieces of these accesses. The order, the links, the accesses and the pieces
+    /// are of the trace, and the pieces are all of its pieces.
     pub fn new(
         order: &'a O,
         trace: &'a Disciplined<'a>,

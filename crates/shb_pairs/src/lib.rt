@@ -1,4 +1,5 @@
-//! The race test, the accesses of each variable, and the races of a trace in pieces of work.
+//! The races of a trace: the race test, the accesses of each variable, and the search for all races
+//! in pieces of work.
 #![tactic(auto)]
 
 mod accesses;

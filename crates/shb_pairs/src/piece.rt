@@ -1,4 +1,4 @@
-//! Runs of accesses.
+//! Runs of accesses of one variable.
 
 ghost use Rattle.std.specs.Prelude.{◌≡◌, ◌++◌, IfOk};
 ghost use Rattle.std.specs.Int.{div_ceil};
@@ -8,11 +8,15 @@ use crate::accesses::Accesses;
 use shb_io::NoMemory;
 use std::alloc::{AllocError, Global};
 
-/// The run of accesses of a variable from one place up to and without another.
+/// A run of the accesses of a variable, as [`Accesses::of`] lists them: at most 64 of them. It stands
+/// for the races whose later access is in the run.
 #[derive(Clone, Copy, Debug, Drop, PartialEq, Eq)]
 pub struct Piece {
+    /// The number of the variable.
     pub variable: u32,
+    /// The place of its first access in the list, from 0.
     pub from: u32,
+    /// The place behind its last access.
     pub to: u32,
 }
 
@@ -28,7 +32,12 @@ fn cut(pieces: &mut Vec<Piece>, variable: u32, accesses: u32) -> Result<(), Allo
     Ok(())
 }
 
-/// Cuts the accesses of each variable into runs of at most 64.
+/// Cuts the accesses of each variable into runs of 64, the last one of what is left, by variable and
+/// then by place. The length 64 is this project's profile.
+///
+/// # Errors
+///
+/// `NoMemory` where a growth was refused.
 pub fn pieces(alloc: Global, accesses: &Accesses<'_>) -> Result<Vec<Piece>, NoMemory>
     ensures { IfOk result (λ v. v.items ≡ pieces_in accesses.now) }
 {

@@ -4,7 +4,7 @@ ghost use Rattle.std.specs.Prelude.{◌≡◌, ◌<◌, ℕ, List, IsTrue, ◌�
 ghost use Rattle.shb_lines.specs.Order.{BelowPred};
 ghost use Rattle.shb_lines.specs.Race.{Conflict, Race};
 ghost use Rattle.shb_lines.specs.Schedule.{IsSchedule};
-ghost use Rattle.shb_lines.specs.Tests.{is_write};
+ghost use Rattle.shb_lines.specs.Tests.{is_write as is_write_op};
 
 use shb_clocks::Order;
 use shb_discipline::Disciplined;
@@ -12,8 +12,8 @@ use shb_lines::{Op, events_conflict_at};
 use shb_links::Links;
 
 /// Whether an operation is a write.
-pub fn writes_any(op: Op) -> bool
-    ensures { result ≡ is_write op }
+pub(crate) fn is_write(op: Op) -> bool
+    ensures { result ≡ is_write_op op }
 {
     match op {
         Op::Write(_) => true,
@@ -21,8 +21,9 @@ pub fn writes_any(op: Op) -> bool
     }
 }
 
-/// Whether an event is SHB-below the predecessor of a later one.
-pub fn is_below_pred<O: Order>(
+/// Whether an event is SHB-below the predecessor of a later one, or is it: whether its place in its
+/// thread is at most the number of events of that thread that the order answers.
+pub(crate) fn is_below_pred<O: Order>(
     order: &O,
     trace: &Disciplined<'_>,
     links: &Links<'_>,
@@ -39,7 +40,13 @@ pub fn is_below_pred<O: Order>(
     links.local(first) <= order.below_pred(second, thread)
 }
 
-/// Whether a pair is a race: whether it conflicts and some schedule makes both accesses next.
+/// Whether two events are a race: they conflict, and the earlier one is not SHB-below the
+/// predecessor of the later one. This is so exactly where they conflict and have a schedule: a
+/// correct reordering of events of the trace that keeps happens-before, after which both are next
+/// (schedulable races as in the OOPSLA 2018 paper of Mathur, Kini and Viswanathan).
+///
+/// The events are positions from 0, the earlier one first. The order and the links are of the same
+/// trace. Two look-ups, whatever the length of the trace.
 pub fn is_race<O: Order>(
     order: &O,
     trace: &Disciplined<'_>,

@@ -8,7 +8,7 @@ ghost use Rattle.shb_pairs.specs.Races.{ends, races_with};
 ghost use Rattle.shb_pairs.specs.Search.{IsSettled, racing};
 
 use crate::accesses::Accesses;
-use crate::race::{is_below_pred, is_race, writes_any};
+use crate::race::{is_below_pred, is_race, is_write};
 use crate::rivals::rivals_of;
 use shb_clocks::Order;
 use shb_discipline::Disciplined;
@@ -51,7 +51,7 @@ fn add_races<O: Order>(
 }
 
 /// Adds the races of a later access with some accesses before it, one by one.
-pub fn add_races_among<O: Order>(
+fn add_races_among<O: Order>(
     races: &mut Vec<Pair>,
     order: &O,
     trace: &Disciplined<'_>,
@@ -113,7 +113,7 @@ fn add_races_since<O: Order>(
     ensures { IfOk result (λ _. map ends races.new.items ≡ map ends races.old.items ++ races_with trace.now.events.now (slice_index_or accesses.now place 0)) }
 {
     let second = accesses[place];
-    if writes_any(trace.events[second as usize].op) {
+    if is_write(trace.events[second as usize].op) {
         let (earlier, _) = accesses.split_at(place);
         let (_, since) = earlier.split_at(write + 1);
         add_races_among(races, order, trace, links, since, second)?;
@@ -159,7 +159,7 @@ fn next_settled(
     requires free { IsTrue free → (i : ℕ) → ¬ Race trace.now.events.now i (slice_index_or accesses.now place 0) }
     ensures { (x : ℕ) → accesses.now ≡ accesses_in trace.now.events.now x → IfSome settled (λ s. IsSettled trace.now.events.now x accesses.now place s) → IfSome result (λ s. IsSettled trace.now.events.now x accesses.now (place + 1) s) }
 {
-    if !writes_any(trace.events[accesses[place] as usize].op) {
+    if !is_write(trace.events[accesses[place] as usize].op) {
         settled
     } else if free {
         Some(place)
@@ -201,8 +201,13 @@ fn add_races_at<O: Order>(
     }
 }
 
-/// The races whose later access is in a run of the accesses of one variable.
-pub fn races_in<O: Order>(
+/// The races whose later access is in a run of the accesses of one variable, by the later access,
+/// then by the earlier one.
+///
+/// A write without a race orders all accesses before it. So for an access behind such a write, which
+/// is SHB-below its predecessor, only the accesses between the two are tested; for any other the
+/// accesses of each other thread are searched.
+pub(crate) fn races_in<O: Order>(
     alloc: Global,
     order: &O,
     trace: &Disciplined<'_>,

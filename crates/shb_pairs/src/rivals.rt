@@ -12,7 +12,7 @@ ghost use Rattle.shb_pairs.specs.declared.buckets.Key.TheVariants.{Thread};
 
 use crate::accesses::Accesses;
 use crate::buckets::part;
-use crate::race::writes_any;
+use crate::race::is_write;
 use shb_clocks::Order;
 use shb_discipline::Disciplined;
 use shb_lines::Event;
@@ -59,7 +59,9 @@ fn tail_start(links: &Links<'_>, positions: &[u32], end: usize, below: u32) -> u
     0
 }
 
-/// Adds the positions, all of one thread, that race with a later access.
+/// Adds the positions, all of one thread, that race with a later access. Places in a thread rise with
+/// positions, so the races are the last ones before it: those behind the events of the thread that
+/// are SHB-below its predecessor.
 fn add_tail<O: Order>(
     found: &mut Vec<u32>,
     order: &O,
@@ -121,7 +123,7 @@ fn add_rivals<O: Order>(
 }
 
 /// The accesses that race with a later access of a variable, in trace order.
-pub fn rivals_of<O: Order>(
+pub(crate) fn rivals_of<O: Order>(
     alloc: Global,
     order: &O,
     trace: &Disciplined<'_>,
@@ -139,7 +141,7 @@ pub fn rivals_of<O: Order>(
     let mut found = Vec::new(alloc);
     let writes = accesses.writes_by_thread(variable);
     add_rivals(&mut found, order, trace, links, writes, second)?;
-    if writes_any(trace.events[second as usize].op) {
+    if is_write(trace.events[second as usize].op) {
         let reads = accesses.reads_by_thread(variable);
         add_rivals(&mut found, order, trace, links, reads, second)?;
     }

@@ -7,7 +7,7 @@ use Rattle.shb_pairs.specs.Accesses.{IsByThread, variables_in}
 use Rattle.shb_pairs.proofs.Counting.{variable_within}
 use Rattle.shb_pairs.proofs.Found.{HasFound, accessed_within, found_all, found_of_read, found_of_write, range_by_thread, reads_are_rivals, write_at, writes_are_rivals}
 use Rattle.shb_pairs.proofs.rivals.rivals_of.Goals as goal
-use Rattle.shb_pairs.proofs.rivals.rivals_of.Goals.{then-writes_any+in_ok-add_rivals-2, else-writes_any}
+use Rattle.shb_pairs.proofs.rivals.rivals_of.Goals.{then-is_write+in_ok-add_rivals-2, else-is_write}
 
 variable_seen : (trace seen : List Event) (j x : ℕ) → seen ≡ trace → variable_at trace j ≡ Some x → x < variables_in seen
 variable_seen trace seen j x same accessed = subst (λ (tr : List Event). x < variables_in tr) (sym same) (variable_within trace j (length trace) x (accessed_within trace j x accessed) accessed)
@@ -33,26 +33,26 @@ bounds-trace-second g c = accessed_within c.args.trace.now.events.now c.args.sec
 pub reads_by_thread-reads-requires : goal.reads_by_thread-reads-requires
 reads_by_thread-reads-requires g c = variable_seen c.args.trace.now.events.now c.args.accesses.now c.args.second c.args.variable c.requires.accesses c.requires.accessed
 
-pub add_rivals-requires-then-writes_any-clause-rivals : goal.add_rivals-requires-then-writes_any-clause-rivals
-add_rivals-requires-then-writes_any-clause-rivals g c =
+pub add_rivals-requires-then-is_write-clause-rivals : goal.add_rivals-requires-then-is_write-clause-rivals
+add_rivals-requires-then-is_write-clause-rivals g c =
     let within = accessed_within c.args.trace.now.events.now c.args.second c.args.variable c.requires.accessed in
-    let writes = write_at c.args.trace.now.events.now c.args.second c.args.variable _ within (sym c.writes_any.ensures ∙ c.if-writes_any.true) c.requires.accessed in
+    let writes = write_at c.args.trace.now.events.now c.args.second c.args.variable _ within (sym c.is_write.ensures ∙ c.if-is_write.true) c.requires.accessed in
     reads_are_rivals c.args.trace.now.events.now c.args.variable c.args.second c.reads_by_thread-reads.result.now c.requires.accessed writes (subst (λ (tr : List Event). IsByThread tr Reads c.args.variable c.reads_by_thread-reads.result.now) c.requires.accesses c.reads_by_thread-reads.ensures)
 
-pub add_rivals-requires-then-writes_any-clause-each_in_range : goal.add_rivals-requires-then-writes_any-clause-each_in_range
-add_rivals-requires-then-writes_any-clause-each_in_range g c = range_by_thread c.args.trace.now.events.now Reads c.args.variable c.reads_by_thread-reads.result.now (subst (λ (tr : List Event). IsByThread tr Reads c.args.variable c.reads_by_thread-reads.result.now) c.requires.accesses c.reads_by_thread-reads.ensures)
+pub add_rivals-requires-then-is_write-clause-each_in_range : goal.add_rivals-requires-then-is_write-clause-each_in_range
+add_rivals-requires-then-is_write-clause-each_in_range g c = range_by_thread c.args.trace.now.events.now Reads c.args.variable c.reads_by_thread-reads.result.now (subst (λ (tr : List Event). IsByThread tr Reads c.args.variable c.reads_by_thread-reads.result.now) c.requires.accesses c.reads_by_thread-reads.ensures)
 
-pub add_rivals-requires-then-writes_any-clause-sorted : goal.add_rivals-requires-then-writes_any-clause-sorted
-add_rivals-requires-then-writes_any-clause-sorted g c = (subst (λ (tr : List Event). IsByThread tr Reads c.args.variable c.reads_by_thread-reads.result.now) c.requires.accesses c.reads_by_thread-reads.ensures).sorted
+pub add_rivals-requires-then-is_write-clause-sorted : goal.add_rivals-requires-then-is_write-clause-sorted
+add_rivals-requires-then-is_write-clause-sorted g c = (subst (λ (tr : List Event). IsByThread tr Reads c.args.variable c.reads_by_thread-reads.result.now) c.requires.accesses c.reads_by_thread-reads.ensures).sorted
 
 pub returns : goal.returns
 returns g c =
     let of_writes = subst (λ (tr : List Event). IsByThread tr Writes c.args.variable c.writes_by_thread-writes.result.now) c.requires.accesses c.writes_by_thread-writes.ensures in
     let within = accessed_within c.args.trace.now.events.now c.args.second c.args.variable c.requires.accessed in
-    let found : HasFound c.args.trace.now.events.now c.args.variable c.args.second c.writes_by_thread-writes.result.now c.if-writes_any.found.items = elim c.if-writes_any.branch [
-      | then-writes_any+in_ok-add_rivals-2 w ↦
-          found_of_write c.args.trace.now.events.now c.args.variable c.args.second c.writes_by_thread-writes.result.now w.reads_by_thread-reads.result.now _ _ c.if-writes_any.found.items c.new-found.ensures.items c.in_ok-add_rivals.ensures (ap (λ (v : Vec ℕ Global). v.items) w.found-is ∙ w.in_ok-add_rivals-2.ensures) (subst (λ (tr : List Event). IsByThread tr Reads c.args.variable w.reads_by_thread-reads.result.now) c.requires.accesses w.reads_by_thread-reads.ensures)
-      | else-writes_any w ↦
-          found_of_read c.args.trace.now.events.now c.args.variable c.args.second _ c.writes_by_thread-writes.result.now _ _ c.if-writes_any.found.items within (sym c.writes_any.ensures ∙ w.if-writes_any.false) c.new-found.ensures.items c.in_ok-add_rivals.ensures (ap (λ (v : Vec ℕ Global). v.items) w.found-is)
+    let found : HasFound c.args.trace.now.events.now c.args.variable c.args.second c.writes_by_thread-writes.result.now c.if-is_write.found.items = elim c.if-is_write.branch [
+      | then-is_write+in_ok-add_rivals-2 w ↦
+          found_of_write c.args.trace.now.events.now c.args.variable c.args.second c.writes_by_thread-writes.result.now w.reads_by_thread-reads.result.now _ _ c.if-is_write.found.items c.new-found.ensures.items c.in_ok-add_rivals.ensures (ap (λ (v : Vec ℕ Global). v.items) w.found-is ∙ w.in_ok-add_rivals-2.ensures) (subst (λ (tr : List Event). IsByThread tr Reads c.args.variable w.reads_by_thread-reads.result.now) c.requires.accesses w.reads_by_thread-reads.ensures)
+      | else-is_write w ↦
+          found_of_read c.args.trace.now.events.now c.args.variable c.args.second _ c.writes_by_thread-writes.result.now _ _ c.if-is_write.found.items within (sym c.is_write.ensures ∙ w.if-is_write.false) c.new-found.ensures.items c.in_ok-add_rivals.ensures (ap (λ (v : Vec ℕ Global). v.items) w.found-is)
     ] in
-    found_all c.args.trace.now.events.now c.args.variable c.args.second c.writes_by_thread-writes.result.now c.requires.accessed of_writes c.if-writes_any.found.items c.sort_unstable.new.self.items found c.sort_unstable.ensures.permutation (IsNonDecreasingBy-from_sort (λ (n : ℕ). n) c.sort_unstable.new.self.items c.sort_unstable.ensures.sorted)
+    found_all c.args.trace.now.events.now c.args.variable c.args.second c.writes_by_thread-writes.result.now c.requires.accessed of_writes c.if-is_write.found.items c.sort_unstable.new.self.items found c.sort_unstable.ensures.permutation (IsNonDecreasingBy-from_sort (λ (n : ℕ). n) c.sort_unstable.new.self.items c.sort_unstable.ensures.sorted)
