@@ -8,7 +8,7 @@ fn races_command<'a>(alloc: Global) -> Result<Command<'a>, AllocError> {
     let workers = Arg::new(alloc, "workers")
         .long("workers")
         .value_name("N")
-        .help("How many workers look for races, 1 to 64 [default: 4]")
+        .help("How many workers may look for races, 1 to 64 [default: 4]")
         .value_parser(value_parser!(u32).range(1..=64));
     let list = Arg::new(alloc, "list")
         .long("list")
@@ -32,7 +32,7 @@ fn check_command<'a>(alloc: Global) -> Result<Command<'a>, AllocError> {
         .help("The file of the trace")
         .required(true);
     Command::new(alloc, "check")
-        .about("Checks a report with schedules, on standard input, against its trace")
+        .about("Checks a report on standard input against its trace (not built yet)")
         .arg(trace)
 }
 

@@ -1,4 +1,7 @@
 //! The plan that some words ask for.
+ghost use Rattle.std.specs.Prelude.{◌≡◌, [], IsOkAnd};
+ghost use Rattle.shb_words.specs.Plans.{ListsInput};
+
 use crate::command::command;
 use clap::error::ErrorKind;
 use clap::{ArgMatches, Error};
@@ -101,11 +104,18 @@ fn plan_of_error(alloc: Global, error: Error) -> Result<Plan, WordsFault> {
     }
 }
 
-/// The plan that the words of a command line ask for, the program's own name left out.
+/// The plan that the words of a command line ask for, the program's own name left out:
+/// `races [--workers N] [--list] [TRACE]` with N from 1 to 64, `check TRACE`, or help. No words at
+/// all are `races --list`.
 ///
-/// No words at all ask for the races of standard input without schedules.
-/// After an error nothing has changed.
-pub fn plan_of(alloc: Global, words: &[String]) -> Result<Plan, WordsFault> {
+/// # Errors
+///
+/// [`WordsFault::Refused`] where the words ask for nothing of this, with the text that says so;
+/// [`WordsFault::Memory`] where memory was refused. The words stay as they are.
+pub fn plan_of(alloc: Global, words: &[String]) -> Result<Plan, WordsFault>
+    // No words ask for the report of standard input without schedules, and need no memory.
+    ensures no_words { words.now ≡ [] → IsOkAnd result ListsInput }
+{
     if words.is_empty() {
         return Ok(Plan::Races {
             workers: default_workers(),

@@ -1,0 +1,9 @@
+-- Plans that a clause speaks of.
+use Rattle.std.specs.Prelude.{◌≡◌, true, None}
+use Rattle.shb_words.specs.declared.plan.Plan.{Plan}
+use Rattle.shb_words.specs.declared.plan.Plan.TheVariants.{Races}
+
+-- the report of standard input, without schedules
+abbrev pub ListsInput : Plan → Type 0
+ListsInput (Races workers list trace) = (list ≡ true) × (trace ≡ None)
+ListsInput _ = ⊥
