@@ -1,7 +1,7 @@
 -- Which row is kept up to a place, and what more is kept event by event.
-use Rattle.std.proofs.Common.{◌≡◌, ℕ, ◌-◌, ◌<◌, ◌≤◌, ◌⊎◌, inl, inr, true, false, leb, List, length, get_or, arith, subst, sym, ◌∙◌, ap}
-use Rattle.std.specs.List.Sorted.{IsStrictlyIncreasing, IsNonDecreasing, IsPartitionPoint}
-use Rattle.std.proofs.lemmas.Bool.{cases_lt, leb-true, leb-false}
+use Rattle.std.proofs.Common.{◌≡◌, ℕ, ◌-◌, ◌<◌, ◌≤◌, ◌⊎◌, inl, inr, List, length, get_or, arith, subst, sym, ◌∙◌, ap}
+use Rattle.std.specs.List.Sorted.{IsStrictlyIncreasing, IsNonDecreasing}
+use Rattle.std.proofs.lemmas.Bool.{cases_lt}
 use Rattle.std.proofs.lemmas.List.{get_or_read}
 use Rattle.std.proofs.lemmas.List.Kept.{AllPairs-from_increasing}
 use Rattle.shb_clocks.specs.Learned.{KeptData, IsRowUpTo}

@@ -1,5 +1,5 @@
 -- The sweep that marks what is SHB-below an event.
-use Rattle.std.proofs.Common.{◌≡◌, ◌≢◌, ℕ, ◌+◌, ◌-◌, ◌<◌, ◌≤◌, ◌⊎◌, inl, inr, Bool, true, false, List, [], ◌∷◌, ◌++◌, Some, length, get_or, sym, ◌∙◌, ap, arith, subst, get_or-set_same, get_or-set_other}
+use Rattle.std.proofs.Common.{◌≡◌, ◌≢◌, ℕ, ◌+◌, ◌<◌, ◌≤◌, ◌⊎◌, inl, inr, Bool, true, false, List, [], ◌∷◌, ◌++◌, Some, length, get_or, sym, ◌∙◌, ap, arith, subst, get_or-set_same, get_or-set_other}
 use Rattle.std.specs.Prelude.{◌↔◌, replicate}
 use Rattle.std.proofs.Math.ListN.{set, length-set, length-replicate, get_or-append, get_or-replicate}
 use Rattle.std.proofs.lemmas.List.{get_or_push, length_push, get_or_past, get_or_default}
@@ -42,38 +42,6 @@ marks_start trace p xs within same = record {
       (λ h. let other = get_or-set_other xs p k true false ne in let no_mark = unmarked (length trace) k xs same in absurd (let f : ⊥ = cc in f)),
       (λ path. absurd (let le = path_forward trace k p path in ne (omega arith))),
     )
-
--- a step of the sweep, where the event reaches p and where it does not
-pub marks_step_yes : (trace : List Event) (p a : ℕ) (xs : List Bool) → 0 < a → a ≤ length trace → ShbBelow trace (a - 1) p → MarksFrom trace p a xs → MarksFrom trace p (a - 1) (set xs (a - 1) true)
-marks_step_yes trace p a xs pos within path marks = record {
-  as_long = length-set xs (a - 1) true ∙ marks.as_long;
-  exact = λ k low high. exact k low high (cases_eq k (a - 1));
-  none_before = λ k lt. let ne : k ≢ a - 1 = (λ e. omega arith) in get_or-set_other xs (a - 1) k true false ne ∙ marks.none_before k (omega arith);
-}
-  where
-    exact : (k : ℕ) → a - 1 ≤ k → k < length trace → (k ≡ a - 1) ⊎ (k ≡ a - 1 → ⊥) → (get_or (set xs (a - 1) true) k false ≡ true) ↔ ShbBelow trace k p
-    exact k low high (inl e) = (
-      (λ h. subst (λ x. ShbBelow trace x p) (sym e) path),
-      (λ h. ap (λ x. get_or (set xs (a - 1) true) x false) e ∙ get_or-set_same xs (a - 1) true false (let t = marks.as_long in omega arith)),
-    )
-    exact k low high (inr ne) =
-        let old = marks.exact k (omega arith) high in
-        let same = get_or-set_other xs (a - 1) k true false ne in
-        ((λ h. old.0 (sym same ∙ h)), (λ h. same ∙ old.1 h))
-
-pub marks_step_no : (trace : List Event) (p a : ℕ) (xs : List Bool) → 0 < a → a ≤ length trace → (ShbBelow trace (a - 1) p → ⊥) → MarksFrom trace p a xs → MarksFrom trace p (a - 1) xs
-marks_step_no trace p a xs pos within not_path marks = record {
-  as_long = marks.as_long;
-  exact = λ k low high. exact k low high (cases_eq k (a - 1));
-  none_before = λ k lt. marks.none_before k (omega arith);
-}
-  where
-    exact : (k : ℕ) → a - 1 ≤ k → k < length trace → (k ≡ a - 1) ⊎ (k ≡ a - 1 → ⊥) → (get_or xs k false ≡ true) ↔ ShbBelow trace k p
-    exact k low high (inl e) = (
-      (λ h. let no_mark = marks.none_before k (omega arith) in absurd (let f : ⊥ = cc in f)),
-      (λ h. absurd (not_path (subst (λ x. ShbBelow trace x p) e h))),
-    )
-    exact k low high (inr ne) = marks.exact k (omega arith) high
 
 -- an event from which no edge leads to a marked one does not reach p
 pub no_reach : (trace : List Event) (a p : ℕ) (xs : List Bool) → a < p → p < length trace → ((k : ℕ) → a < k → k < length trace → (get_or xs k false ≡ true) ↔ ShbBelow trace k p) → ((m : ℕ) → a < m → m < p + 1 → get_or xs m false ≡ true → ShbEdge trace a m → ⊥) → ShbBelow trace a p → ⊥

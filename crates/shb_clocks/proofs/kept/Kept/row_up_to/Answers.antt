@@ -1,7 +1,6 @@
-use Rattle.std.proofs.Common.{ap, subst, sym, ◌∙◌}
-use Rattle.std.specs.List.Sorted.{IsStrictlyIncreasing}
+use Rattle.std.proofs.Common.{ap, ◌∙◌}
 use Rattle.shb_clocks.specs.Learned.{KeptData}
-use Rattle.shb_clocks.proofs.KeptLemmas.{found_some, found_row}
+use Rattle.shb_clocks.proofs.KeptLemmas.{found_row}
 use Rattle.shb_clocks.proofs.kept.Kept.row_up_to.Goals as goal
 
 pub returns : goal.returns
