@@ -2,7 +2,7 @@
 use shb_fan::Workers;
 
 /// How a run is made.
-#[derive(Clone, Copy, Debug)]
+#[derive(Clone, Copy, Debug, PartialEq, Eq)]
 pub struct Settings {
     /// How many workers look for races. The report is the same for every number of them.
     pub workers: Workers,
