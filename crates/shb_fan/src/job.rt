@@ -13,7 +13,9 @@ pub trait Job {
     type Meaning;
 
     ghost meaning: { Self.Out → Self.Meaning };
+
     ghost value: { Self → ℕ → Self.Meaning };
+
     ghost count: { Self → ℕ };
 
     /// How many pieces there are, at most 2 to the 60th.
