@@ -1,4 +1,5 @@
-//! Laws of schedules. Each is the contract of a function that does nothing.
+//! A law of the work on schedules, as the contract of a function that does nothing. That the printed
+//! schedule of a race is a schedule, and the only printed one, are laws of `shb_pairs`.
 
 ghost use Rattle.std.specs.Prelude.{◌≡◌, ℕ, ◌<◌, List, Some, slice_get};
 ghost use Rattle.shb_lines.specs.declared.event.Event.{Event};
@@ -7,18 +8,6 @@ ghost use Rattle.shb_lines.specs.Discipline.{IsDisciplined};
 ghost use Rattle.shb_lines.specs.Race.{Race};
 ghost use Rattle.shb_lines.specs.Schedule.{IsPrintedSchedule, IsSchedule};
 ghost use Rattle.shb_witness.specs.Schedules.{schedule_at};
-
-/// The printed schedule of a race is a schedule of it.
-pub fn printed_schedule_is_schedule()
-    ensures { (trace : List Event) (s : List ℕ) (i j : ℕ) → IsDisciplined trace → Race trace i j
-        → IsPrintedSchedule trace s i j → IsSchedule trace s i j }
-{}
-
-/// There is just one printed schedule of a pair.
-pub fn printed_schedule_is_unique()
-    ensures { (trace : List Event) (s other : List ℕ) (i j : ℕ) → IsPrintedSchedule trace s i j
-        → IsPrintedSchedule trace other i j → s ≡ other }
-{}
 
 /// Piece k of the work on races is the printed schedule of race k, and a schedule of it.
 pub fn pieces_are_schedules()
