@@ -1,8 +1,8 @@
 -- From what the parts of a run answer to what the run says of the text.
-use Rattle.std.proofs.Common.{◌≡◌, ℕ, ◌<◌, ◌⊎◌, inl, inr, Bool, List, length, map, Contains, None, Some, Option, Ok, Err, IfSome, refl, sym, ap, subst, ◌∙◌}
+use Rattle.std.proofs.Common.{◌≡◌, ℕ, inl, inr, Bool, List, length, map, None, Some, Option, Result, Ok, Err, IfSome, IfErr, IsErrAnd, refl, sym, ap, subst, ◌∙◌}
 use Rattle.std.proofs.lemmas.List.{length-map}
 use Rattle.std.proofs.lemmas.Option.{IfSome_then}
-use Rattle.std.specs.Io.KnownBytes.{Appends, Keeps}
+use Rattle.std.specs.Io.KnownBytes.{Keeps}
 use Rattle.shb_lines.specs.declared.event.Event.{Event}
 use Rattle.shb_lines.specs.declared.event.Fault.{Fault}
 use Rattle.shb_lines.specs.declared.event.LineFault.{LineFault}
@@ -13,14 +13,18 @@ use Rattle.shb_lines.specs.Text.{lines_of}
 use Rattle.shb_lines.specs.TraceData.{IsReadingOf, IsTraceOf, TraceData}
 use Rattle.shb_lines.proofs.Schedulable.{printed_is_schedule}
 use Rattle.shb_lines.proofs.Unschedulable.{race_of_schedule}
-use Rattle.shb_discipline.specs.FirstFault.{HasFirstFault, HasNoFault}
-use Rattle.shb_discipline.proofs.FirstFault.{accepted, stopped}
+use Rattle.shb_discipline.specs.FirstFault.{HasNoFault}
+use Rattle.shb_discipline.specs.declared.checking.CheckError.{CheckError}
+use Rattle.shb_discipline.specs.declared.checking.CheckError.TheVariants as checking
+use Rattle.shb_discipline.specs.Faults.{IsRefusal}
+use Rattle.shb_discipline.proofs.FirstFault.{accepted, stopped, undisciplined}
 use Rattle.shb_report.specs.Report.{IsReport, IsReportOf}
 use Rattle.shb_pairs.specs.Races.{ends}
 use Rattle.shb_run.specs.declared.errors.RunError.{RunError}
 use Rattle.shb_run.specs.declared.errors.RunError.TheVariants.{Trace, Source, Sink, Memory}
 use Rattle.shb_run.specs.declared.settings.Summary.{Summary}
-use Rattle.shb_run.specs.Runs.{IsAccepted, IsCutShort, IsFirstFaultOf, IsRefusalOf, IsReported, ListsSchedulable, OnTrace, limits}
+use Rattle.shb_run.specs.Errors.{error_of_checking}
+use Rattle.shb_run.specs.Runs.{IsAccepted, IsCutShort, IsFirstFaultOf, IsRefusalOf, IsReported, ListsSchedulable, OnBrokenOff, limits}
 use Rattle.shb_run.specs.Written.{IsCutOff, ReportsTrace, WritesReport, summary_of}
 
 -- known bytes that nothing was done to
@@ -90,13 +94,23 @@ reports_of ws trace races count summary old new x is counted written = record {
   summary_is = is ∙ ap (summary_of trace) (counted ∙ sym (length-map races ends) ∙ sym (ap length written.races_are));
 }
 
--- what a refusal says of the text that was read
-pub refusal_told : (read : TraceData) (stop : Option LineFault) (error : RunError) (known : Option (List ℕ))
-    → IsRefusalOf read stop error → IfSome known (λ text. IsReadingOf limits text read stop) → OnTrace {T = Summary} (Err error) (λ line fault. IfSome known (λ text. IsFirstFaultOf text line fault))
-refusal_told read stop (Trace line fault) known told reading = IfSome_then known reading told
-refusal_told read stop Source known told reading = tt
-refusal_told read stop Sink known told reading = tt
-refusal_told read stop Memory known told reading = tt
+-- what the check of the discipline refuses is refused for its first fault
+pub refused_of : {T : Type 0} (read : TraceData) (stop : Option LineFault) (error : CheckError) (r : Result T RunError)
+    → IsErrAnd r (λ e. e ≡ error_of_checking error) → IsRefusal read.events error → IfErr r (IsRefusalOf read stop)
+refused_of read stop error (Ok x) is refusal = absurd is
+refused_of read stop error (Err e) is refusal = subst (IsRefusalOf read stop) (sym is) (told error refusal)
+  where
+    told : (error : CheckError) → IsRefusal read.events error → IsRefusalOf read stop (error_of_checking error)
+    told (checking.Undisciplined line fault) first = λ text reading. undisciplined limits text read stop line fault reading first
+    told checking.Memory first = tt
+
+-- what holds of each run that ended while it worked on a trace
+pub broken_off : {T : Type 0} (r : Result T RunError) (P : Type 0) → P → OnBrokenOff r P
+broken_off (Ok x) P p = tt
+broken_off (Err (Trace line fault)) P p = tt
+broken_off (Err Source) P p = tt
+broken_off (Err Sink) P p = p
+broken_off (Err Memory) P p = p
 
 -- a text with no fault has none to be silent on
 pub not_silent : (read : TraceData) (stop : Option LineFault) (trace : TraceData) (known old new : Option (List ℕ))

@@ -1,5 +1,5 @@
 -- What a run says of the text that it read, and what it leaves in the sink.
-use Rattle.std.specs.Prelude.{◌≡◌, ℕ, ◌+◌, ◌<◌, ◌⊎◌, Bool, List, length, Contains, Option, Result, Ok, Err, ⊤}
+use Rattle.std.specs.Prelude.{◌≡◌, ℕ, ◌+◌, ◌<◌, ◌⊎◌, Bool, List, length, Contains, Option, Result, Err, ⊤}
 use Rattle.std.specs.Io.KnownBytes.{Appends, Keeps}
 use Rattle.shb_io.specs.Devices.{AppendsPrefix}
 use Rattle.shb_lines.specs.declared.event.Event.{Event}

@@ -1,6 +1,7 @@
 //! Why a run gives no report.
+use shb_discipline::CheckError;
 use shb_io::{Failed, NoMemory};
-use shb_lines::Fault;
+use shb_lines::{Fault, ReadError};
 use thiserror::Error;
 
 /// Why a run gave no report.
@@ -18,6 +19,48 @@ pub enum RunError {
     /// Memory was refused. What was written is less than the report, the front of it, perhaps nothing.
     #[error("out of memory")]
     Memory,
+}
+
+impl From<ReadError> for RunError {
+    ghost use Rattle.std.specs.Prelude.{◌≡◌};
+    ghost use Rattle.shb_run.specs.Errors.{error_of_reading};
+
+    ghost from_gives = { λ error e. e ≡ error_of_reading error };
+
+    fn from(error: ReadError) -> RunError {
+        match error {
+            ReadError::Source => RunError::Source,
+            ReadError::Memory => RunError::Memory,
+        }
+    }
+}
+
+impl From<CheckError> for RunError {
+    ghost use Rattle.std.specs.Prelude.{◌≡◌};
+    ghost use Rattle.shb_run.specs.Errors.{error_of_checking};
+
+    ghost from_gives = { λ error e. e ≡ error_of_checking error };
+
+    fn from(error: CheckError) -> RunError {
+        match error {
+            CheckError::Undisciplined { line, fault } => RunError::Trace { line, fault },
+            CheckError::Memory => RunError::Memory,
+        }
+    }
+}
+
+impl From<WriteError> for RunError {
+    ghost use Rattle.std.specs.Prelude.{◌≡◌};
+    ghost use Rattle.shb_run.specs.Errors.{error_of_writing};
+
+    ghost from_gives = { λ error e. e ≡ error_of_writing error };
+
+    fn from(error: WriteError) -> RunError {
+        match error {
+            WriteError::Sink => RunError::Sink,
+            WriteError::Memory => RunError::Memory,
+        }
+    }
 }
 
 /// Why not all of a report was written.

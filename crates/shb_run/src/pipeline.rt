@@ -11,9 +11,9 @@ use crate::races::races_of;
 use crate::settings::{Settings, Summary};
 use crate::write::write_report;
 use shb_clocks::{Order, versions};
-use shb_discipline::{CheckError, Disciplined, check};
+use shb_discipline::{Disciplined, check};
 use shb_io::{Sink, Source};
-use shb_lines::{Limits, Parsed, ReadError, Trace, parse};
+use shb_lines::{Limits, Parsed, Trace, parse};
 use shb_links::{Links, links_of};
 use std::alloc::Global;
 use std::random::RandomSource;
@@ -23,13 +23,7 @@ fn judge<'a>(alloc: Global, parsed: &'a Parsed) -> Result<Disciplined<'a>, RunEr
     ensures accepted { IfOk result (λ trace. IsAccepted parsed.now.trace parsed.now.stop trace.trace.now) }
     ensures refused { IfErr result (IsRefusalOf parsed.now.trace parsed.now.stop) }
 {
-    let trace = match check(alloc, &parsed.trace) {
-        Ok(trace) => trace,
-        Err(CheckError::Undisciplined { line, fault }) => {
-            return Err(RunError::Trace { line, fault });
-        }
-        Err(CheckError::Memory) => return Err(RunError::Memory),
-    };
+    let trace = check(alloc, &parsed.trace)?;
     match parsed.stop {
         Some(stop) => Err(RunError::Trace {
             line: stop.line,
@@ -142,18 +136,7 @@ pub fn run<S: Source, K: Sink, R: RandomSource>(
     ensures source { CountsSource (S.failure_count source.old) (S.failure_count source.new) result }
     ensures sink { CountsSink (K.failure_count sink.old) (K.failure_count sink.new) result }
 {
-    let parsed = match parse(alloc, rt, source, &Limits::standard()) {
-        Ok(parsed) => parsed,
-        Err(ReadError::Source) => return Err(RunError::Source),
-        Err(ReadError::Memory) => return Err(RunError::Memory),
-    };
-    let trace = match judge(alloc, &parsed) {
-        Ok(trace) => trace,
-        Err(error) => return Err(error),
-    };
-    match report(alloc, sink, &trace, settings.schedules) {
-        Ok(summary) => Ok(summary),
-        Err(WriteError::Sink) => Err(RunError::Sink),
-        Err(WriteError::Memory) => Err(RunError::Memory),
-    }
+    let parsed = parse(alloc, rt, source, &Limits::standard())?;
+    let trace = judge(alloc, &parsed)?;
+    Ok(report(alloc, sink, &trace, settings.schedules)?)
 }

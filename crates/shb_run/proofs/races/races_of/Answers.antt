@@ -1,4 +1,4 @@
-use Rattle.std.proofs.Common.{◌≡◌, sym, subst}
+use Rattle.std.proofs.Common.{sym, subst}
 use Rattle.shb_lines.specs.Sizes.{IsNumberedByAccess}
 use Rattle.shb_run.proofs.races.races_of.Goals as goal
 

@@ -1,4 +1,4 @@
-use Rattle.std.proofs.Common.{rules, ◌≡◌, ◌+◌, arith, refl, subst}
+use Rattle.std.proofs.Common.{rules, ◌+◌, arith, refl, subst}
 use Rattle.shb_lines.specs.Discipline.{IsDisciplined}
 use Rattle.shb_run.proofs.Blocks.{HasBlocks-push, WritesBlocks-stop}
 use Rattle.shb_run.proofs.write.write_blocks.Goals as goal

@@ -1,6 +1,4 @@
-use Rattle.std.proofs.Common.{◌≡◌, ℕ, List, map, take}
-use Rattle.std.specs.Io.KnownBytes.{Appends}
-use Rattle.shb_report.specs.Report.{AreBlocks}
+use Rattle.std.proofs.Common.{◌≡◌, map, take}
 use Rattle.shb_pairs.specs.Races.{ends}
 use Rattle.shb_run.proofs.Blocks.{HasBlocks}
 use Rattle.shb_run.proofs.write.write_blocks.Given as goal

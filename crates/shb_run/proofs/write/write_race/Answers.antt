@@ -1,4 +1,4 @@
-use Rattle.std.proofs.Common.{◌≡◌, None, Some, subst, sym}
+use Rattle.std.proofs.Common.{None, Some, subst}
 use Rattle.shb_io.proofs.Growth.{AppendsPrefix-nil, Writes-err}
 use Rattle.shb_lines.specs.Discipline.{IsDisciplined}
 use Rattle.shb_lines.specs.Schedule.{IsPrintedSchedule}

@@ -1,4 +1,4 @@
-use Rattle.std.proofs.Common.{◌≡◌, map, subst}
+use Rattle.std.proofs.Common.{map, subst}
 use Rattle.shb_io.proofs.Growth.{Appends-trans, AppendsPrefix-after, AppendsPrefix-front, Writes-err}
 use Rattle.shb_lines.specs.Discipline.{IsDisciplined}
 use Rattle.shb_pairs.specs.Races.{ends}
