@@ -19,5 +19,6 @@ unfoldable pub pieces_below : List Event → ℕ → List Piece
 pieces_below trace zero = []
 pieces_below trace (suc x) = pieces_below trace x ++ runs_of x (length (accesses_in trace x)) (div_ceil (length (accesses_in trace x)) 64)
 
+-- all runs of all variables
 abbrev pub pieces_in : List Event → List Piece
 pieces_in trace = pieces_below trace (variables_in trace)

@@ -7,6 +7,7 @@ use Rattle.shb_pairs.specs.declared.piece.Piece.{Piece}
 use Rattle.shb_pairs.specs.Accesses.{accesses_in}
 use Rattle.shb_pairs.specs.Pieces.{pieces_in}
 
+-- the two positions of a pair
 abbrev pub ends : Pair → ℕ × ℕ
 ends p = (p.first, p.second)
 
