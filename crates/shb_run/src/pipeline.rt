@@ -63,13 +63,13 @@ fn report_by<K: Sink, O: Order>(
     ensures cut { OnErr result (IsCutOff schedules trace.now.trace.now (K.taken sink.old) (K.taken sink.new)) }
     ensures counted { IsSinkCounted (K.failure_count sink.old) (K.failure_count sink.new) result }
 {
-    let found = Ordered {
+    let ordered = Ordered {
         trace: &*trace,
         links: &*links,
         order: &*order,
     };
-    let races = races_of(alloc, &found)?;
-    write_report(alloc, sink, &found, &races, schedules)?;
+    let races = races_of(alloc, &ordered)?;
+    write_report(alloc, sink, &ordered, &races, schedules)?;
     Ok(summary_of(trace.trace, races.len() as u64))
 }
 

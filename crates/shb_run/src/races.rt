@@ -26,11 +26,17 @@ fn join<O: Order>(alloc: Global, job: &PairJob<'_, O>) -> Result<Vec<Pair>, NoMe
 }
 
 /// All races of a trace, in the order in which a report lists them.
-pub fn races_of<O: Order>(alloc: Global, found: &Ordered<'_, O>) -> Result<Vec<Pair>, NoMemory>
-    ensures listed { IfOk result (λ races. IsRaceList found.now.trace.now.events.now (map ends races.items)) }
+pub fn races_of<O: Order>(alloc: Global, ordered: &Ordered<'_, O>) -> Result<Vec<Pair>, NoMemory>
+    ensures listed { IfOk result (λ races. IsRaceList ordered.now.trace.now.events.now (map ends races.items)) }
 {
-    let accesses = accesses_of(alloc, found.trace)?;
+    let accesses = accesses_of(alloc, ordered.trace)?;
     let pieces = pieces(alloc, &accesses)?;
-    let job = PairJob::new(found.order, found.trace, found.links, &accesses, &pieces);
+    let job = PairJob::new(
+        ordered.order,
+        ordered.trace,
+        ordered.links,
+        &accesses,
+        &pieces,
+    );
     join(alloc, &job)
 }

@@ -10,12 +10,17 @@ pub struct Settings {
     pub schedules: bool,
 }
 
-/// What a run found: how many events, threads, locks and variables the trace has, and how many races.
+/// What a run found in the trace.
 #[derive(Clone, Copy, Debug, PartialEq, Eq)]
 pub struct Summary {
+    /// How many events there are.
     pub events: u64,
+    /// How many threads are named, those that are only forked or joined too.
     pub threads: u64,
+    /// How many locks are named.
     pub locks: u64,
+    /// How many variables are named.
     pub variables: u64,
+    /// How many races are listed.
     pub races: u64,
 }

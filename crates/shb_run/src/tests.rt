@@ -1,5 +1,7 @@
 //! Whole runs, with the report or the refusal that the rules of the format and of the discipline
 //! give for each trace.
+ghost use Rattle.std.specs.Prelude.{◌<◌};
+
 use crate::{RunError, Settings, Summary, Workers, exit_status, fault_line, run};
 use shb_io::{NoMemory, Page, Text};
 use std::alloc::Global;

@@ -18,20 +18,20 @@ use std::alloc::Global;
 fn write_race<K: Sink, O: Order>(
     alloc: Global,
     sink: &mut K,
-    found: &Ordered<'_, O>,
+    ordered: &Ordered<'_, O>,
     number: u64,
     pair: Pair,
     schedules: bool,
 ) -> Result<(), WriteError>
     requires countable { K.failure_count sink.old < 2 ^ 64 - 1 }
-    requires race { Race found.now.trace.now.events.now pair.first pair.second }
-    ensures block { WritesBlock schedules found.now.trace.now.trace.now number (ends pair)
+    requires race { Race ordered.now.trace.now.events.now pair.first pair.second }
+    ensures block { WritesBlock schedules ordered.now.trace.now.trace.now number (ends pair)
         (K.taken sink.old) (K.taken sink.new) result }
     ensures counted { IsSinkCounted (K.failure_count sink.old) (K.failure_count sink.new) result }
 {
-    let trace = found.trace.trace;
+    let trace = ordered.trace.trace;
     if schedules {
-        let events = schedule(alloc, found.order, found.trace, found.links, pair)?;
+        let events = schedule(alloc, ordered.order, ordered.trace, ordered.links, pair)?;
         block(sink, trace, number, pair, Some(&events))?;
         return Ok(());
     }
@@ -43,20 +43,20 @@ fn write_race<K: Sink, O: Order>(
 fn write_blocks<K: Sink, O: Order>(
     alloc: Global,
     sink: &mut K,
-    found: &Ordered<'_, O>,
+    ordered: &Ordered<'_, O>,
     races: &[Pair],
     schedules: bool,
 ) -> Result<(), WriteError>
     requires countable { K.failure_count sink.old < 2 ^ 64 - 1 }
-    requires races { All (λ pair. Race found.now.trace.now.events.now pair.first pair.second) races.now }
-    ensures blocks { WritesBlocks schedules found.now.trace.now.trace.now (map ends races.now)
+    requires races { All (λ pair. Race ordered.now.trace.now.events.now pair.first pair.second) races.now }
+    ensures blocks { WritesBlocks schedules ordered.now.trace.now.trace.now (map ends races.now)
         (K.taken sink.old) (K.taken sink.new) result }
     ensures counted { IsSinkCounted (K.failure_count sink.old) (K.failure_count sink.new) result }
 {
     let mut number: u64 = 0;
     for pair in races {
         number += 1;
-        write_race(alloc, sink, found, number, *pair, schedules)?;
+        write_race(alloc, sink, ordered, number, *pair, schedules)?;
     }
     Ok(())
 }
@@ -77,19 +77,19 @@ fn counts_of(trace: &Trace) -> Counts
 pub fn write_report<K: Sink, O: Order>(
     alloc: Global,
     sink: &mut K,
-    found: &Ordered<'_, O>,
+    ordered: &Ordered<'_, O>,
     races: &[Pair],
     schedules: bool,
 ) -> Result<(), WriteError>
     requires countable { K.failure_count sink.old < 2 ^ 64 - 1 }
-    requires races { IsRaceList found.now.trace.now.events.now (map ends races.now) }
-    ensures report { WritesReport schedules found.now.trace.now.trace.now (map ends races.now)
+    requires races { IsRaceList ordered.now.trace.now.events.now (map ends races.now) }
+    ensures report { WritesReport schedules ordered.now.trace.now.trace.now (map ends races.now)
         (K.taken sink.old) (K.taken sink.new) result }
     ensures counted { IsSinkCounted (K.failure_count sink.old) (K.failure_count sink.new) result }
 {
-    let counts = counts_of(found.trace.trace);
+    let counts = counts_of(ordered.trace.trace);
     head(sink, &counts, races.len() as u64)?;
-    write_blocks(alloc, sink, found, races, schedules)?;
+    write_blocks(alloc, sink, ordered, races, schedules)?;
     tail(sink)?;
     Ok(())
 }

@@ -1,4 +1,4 @@
-use Rattle.std.proofs.Common.{◌≡◌, IfSome}
+use Rattle.std.proofs.Common.{IfSome}
 use Rattle.std.proofs.lemmas.Option.{IfSome_then}
 use Rattle.shb_lines.specs.TraceData.{IsReadingOf}
 use Rattle.shb_run.specs.Runs.{limits}

@@ -6,6 +6,6 @@ use Rattle.shb_run.proofs.write.write_blocks.Given as goal
 abbrev pub invariant-loop-pair : goal.invariant-loop-pair
 invariant-loop-pair g l = record {
   numbered : l.number ≡ l.pair-index;
-  written : HasBlocks l.schedules l.found.trace.now.trace.now (map ends (take l.pair-index l.races)) (g.K.Sink.taken l.initial.sink) (g.K.Sink.taken l.sink);
+  written : HasBlocks l.schedules l.ordered.trace.now.trace.now (map ends (take l.pair-index l.races)) (g.K.Sink.taken l.initial.sink) (g.K.Sink.taken l.sink);
   counted : g.K.Sink.failure_count l.sink ≡ g.K.Sink.failure_count l.initial.sink;
 }

@@ -9,27 +9,27 @@ use Rattle.shb_run.proofs.write.write_race.Goals as goal
 
 pub block-requires-clause-first : goal.block-requires-clause-first
 block-requires-clause-first g c =
-    let trace = c.args.found.now.trace.now in
+    let trace = c.args.ordered.now.trace.now in
     first_in_range trace.events.now _ c.args.pair.first c.args.pair.second trace.of_trace c.requires.race
 
 pub block-requires-clause-second : goal.block-requires-clause-second
 block-requires-clause-second g c =
-    let trace = c.args.found.now.trace.now in
+    let trace = c.args.ordered.now.trace.now in
     second_in_range trace.events.now _ c.args.pair.first c.args.pair.second trace.of_trace c.requires.race
 
 pub block-requires-2-clause-first : goal.block-requires-2-clause-first
 block-requires-2-clause-first g c =
-    let trace = c.args.found.now.trace.now in
+    let trace = c.args.ordered.now.trace.now in
     first_in_range trace.events.now _ c.args.pair.first c.args.pair.second trace.of_trace c.requires.race
 
 pub block-requires-2-clause-second : goal.block-requires-2-clause-second
 block-requires-2-clause-second g c =
-    let trace = c.args.found.now.trace.now in
+    let trace = c.args.ordered.now.trace.now in
     second_in_range trace.events.now _ c.args.pair.first c.args.pair.second trace.of_trace c.requires.race
 
 pub returns-in_err-events-clause-block : goal.returns-in_err-events-clause-block
 returns-in_err-events-clause-block g c =
-    let trace = c.args.found.now.trace.now in
+    let trace = c.args.ordered.now.trace.now in
     let next = shown_exists c.args.schedules trace.trace.now (ends c.args.pair) (subst IsDisciplined trace.of_trace trace.meets) in
     record {
       schedule = next.0;
@@ -40,7 +40,7 @@ returns-in_err-events-clause-block g c =
 
 pub returns-in_err-block-clause-block : goal.returns-in_err-block-clause-block
 returns-in_err-block-clause-block g c =
-    let trace = c.args.found.now.trace.now in
+    let trace = c.args.ordered.now.trace.now in
     let printed : IsPrintedSchedule trace.events.now c.deref.result.now c.args.pair.first c.args.pair.second = rw c.deref.ensures.value c.in_ok-events.ensures.printed in
     record {
       schedule = Some c.deref.result.now;
@@ -50,7 +50,7 @@ returns-in_err-block-clause-block g c =
 
 pub returns-then-schedules-clause-block : goal.returns-then-schedules-clause-block
 returns-then-schedules-clause-block g c =
-    let trace = c.args.found.now.trace.now in
+    let trace = c.args.ordered.now.trace.now in
     let printed : IsPrintedSchedule trace.events.now c.deref.result.now c.args.pair.first c.args.pair.second = rw c.deref.ensures.value c.in_ok-events.ensures.printed in
     record {
       schedule = Some c.deref.result.now;
@@ -61,13 +61,13 @@ returns-then-schedules-clause-block g c =
 pub returns-in_err-block-2-clause-block : goal.returns-in_err-block-2-clause-block
 returns-in_err-block-2-clause-block g c = record {
   schedule = None;
-  shown = shows_none c.args.schedules c.args.found.now.trace.now.trace.now (ends c.args.pair) c.if-schedules.false;
+  shown = shows_none c.args.schedules c.args.ordered.now.trace.now.trace.now (ends c.args.pair) c.if-schedules.false;
   written = Writes-err _ _ _ _ _ c.from_residual-in_err-block-2.ensures.1 c.in_err-block-2.ensures.written;
 }
 
 pub returns-clause-block : goal.returns-clause-block
 returns-clause-block g c = record {
   schedule = None;
-  shown = shows_none c.args.schedules c.args.found.now.trace.now.trace.now (ends c.args.pair) c.if-schedules.false;
+  shown = shows_none c.args.schedules c.args.ordered.now.trace.now.trace.now (ends c.args.pair) c.if-schedules.false;
   written = c.in_ok-block-2.ensures.written;
 }
