@@ -13,6 +13,8 @@ use std::io::{BufWriter, ErrorKind, Write, writer};
 use std::process::ExitCode;
 use std::random::RandomSource;
 use std::rt::{Env, Files};
+use std::sync::Wait;
+use std::thread::Threads;
 
 /// How many bytes of a report are written at once.
 const REPORT_BUFFER: usize = 1 << 16;
@@ -40,7 +42,7 @@ fn complain_of<R: Eprint + AllocGlobal>(rt: &R, error: &RunError) -> u8 {
 }
 
 /// Writes the report of a source to standard output.
-fn write_report<R: Print + Eprint + AllocGlobal + RandomSource, S: Source>(
+fn write_report<R: Print + Eprint + AllocGlobal + RandomSource + Threads + Wait + Sync, S: Source>(
     rt: &R,
     source: &mut S,
     settings: Settings,
@@ -61,7 +63,7 @@ fn write_report<R: Print + Eprint + AllocGlobal + RandomSource, S: Source>(
 }
 
 /// Writes the report of a file, or of standard input where none is named.
-fn races<R: Print + Eprint + Input + AllocGlobal + Files + RandomSource>(
+fn races<R: Print + Eprint + Input + AllocGlobal + Files + RandomSource + Threads + Wait + Sync>(
     rt: &R,
     trace: Option<&str>,
     settings: Settings,
@@ -76,7 +78,7 @@ fn races<R: Print + Eprint + Input + AllocGlobal + Files + RandomSource>(
 }
 
 /// Does what the words ask for.
-fn follow<R: Print + Eprint + Input + AllocGlobal + Files + RandomSource>(
+fn follow<R: Print + Eprint + Input + AllocGlobal + Files + RandomSource + Threads + Wait + Sync>(
     rt: &R,
     words: &[String],
 ) -> u8 {
@@ -108,7 +110,9 @@ fn follow<R: Print + Eprint + Input + AllocGlobal + Files + RandomSource>(
 }
 
 /// Reads the words, and does what they ask for.
-fn launch<R: Print + Eprint + Input + AllocGlobal + Files + Env + RandomSource>(rt: &R) -> u8 {
+fn launch<
+    R: Print + Eprint + Input + AllocGlobal + Files + Env + RandomSource + Threads + Wait + Sync,
+>(rt: &R) -> u8 {
     let words: Vec<String> = match env::args(rt) {
         Ok(words) => match words.skip(1).collect(rt.alloc()) {
             Ok(words) => words,

@@ -45,7 +45,7 @@ module _ (trace : List Event) where
   number_own : (n t : ℕ) → thread_at trace n ≡ Some t → number_before trace t (n + 1) ≡ number_before trace t n + 1
   number_own n t of_n = place_at trace t n of_n
 
-  number_other : (n t u : ℕ) → thread_at trace n ≡ Some u → t ≢ u → number_before trace t (n + 1) ≡ number_before trace t n
+  pub number_other : (n t u : ℕ) → thread_at trace n ≡ Some u → t ≢ u → number_before trace t (n + 1) ≡ number_before trace t n
   number_other n t u of_n ne = let d = event_of_thread trace n u of_n in count_more_no (is_of t) trace n d.0 d.1 (fails d.0 d.2 (cases_Bool (is_of t d.0)))
     where
       fails : (d : Event) → d.thread ≡ u → (is_of t d ≡ true) ⊎ (is_of t d ≡ false) → is_of t d ≡ false

@@ -7,3 +7,4 @@ pub mod MayLearn
 pub mod PastLemmas
 pub mod RowsLemmas
 pub mod Sources
+pub mod Passing

@@ -1,3 +1,4 @@
+pub mod Before
 pub mod Fronts
 pub mod Learned
 pub mod Marks

@@ -4,9 +4,8 @@ ghost use Rattle.std.specs.Prelude.{◌≡◌, ◌<◌, List, IfOk, length};
 ghost use Rattle.shb_lines.specs.declared.event.Event.{Event};
 ghost use Rattle.shb_clocks.specs.Learned.{AreKept, AreLearnedPlaces};
 
-use crate::clock::Clock;
 use crate::kept_clocks::KeptClocks;
-use crate::learned_past::LearnedPast;
+use crate::learned_past::sweep;
 use crate::order::Order;
 use shb_discipline::Disciplined;
 use shb_io::NoMemory;
@@ -49,12 +48,7 @@ pub fn versions<'a>(
     requires of_trace { links.now ≡ trace.now.events.now }
     ensures { IfOk result (λ order. order ≡ trace.now.events.now) }
 {
-    let mut clock = Clock::new(alloc, trace.sizes.threads as usize)?;
-    let mut past = LearnedPast::new(alloc, trace)?;
-    for e in 0..trace.events.len() as u32 {
-        past.take(trace, links, e, &mut clock)?;
-    }
-    let LearnedPast { clocks, .. } = past;
+    let clocks = sweep(alloc, trace, links)?;
     Ok(ClockVersions {
         trace,
         links,
@@ -80,9 +74,6 @@ impl<'a> Order for ClockVersions<'a> {
     ghost trace = { λ o. o };
 
     fn below_pred(&self, e: u32, t: u32) -> u32 {
-        match self.links.pred(e) {
-            Some(p) => self.clocks.clock_of(self.trace, self.links, p).entry(t),
-            None => 0,
-        }
+        self.clocks.below_pred(self.trace, self.links, e, t)
     }
 }

@@ -3,7 +3,7 @@
 ghost use Rattle.std.specs.Prelude.{◌≡◌, ℕ, ◌+◌, ◌<◌, ◌≤◌, IfOk, Some, length, replicate};
 ghost use Rattle.shb_lines.specs.Discipline.{place_in_thread};
 ghost use Rattle.shb_lines.specs.Events.{thread_at};
-ghost use Rattle.shb_lines.specs.Order.{ShbBelow};
+ghost use Rattle.shb_lines.specs.Order.{IsBelowPredCount, ShbBelow};
 ghost use Rattle.shb_clocks.specs.Fronts.{IsFront};
 ghost use Rattle.shb_clocks.specs.Learned.{AreKept, IsFrontBut, IsLearning, nothing_kept};
 
@@ -59,6 +59,19 @@ impl KeptClocks {
         let place = links.local(e);
         let row = self.threads[thread as usize].row_up_to(place);
         EventClock::new(self.rows.row(row), thread, place)
+    }
+
+    /// How many events of thread t are SHB-below the predecessor of e, where all events were taken.
+    pub fn below_pred(&self, trace: &Disciplined<'_>, links: &Links<'_>, e: u32, t: u32) -> u32
+        requires of_trace { links.now ≡ trace.now.events.now }
+        requires in_range { e < length trace.now.events.now }
+        requires whole { AreKept trace.now.events.now (length trace.now.events.now) trace.now.sizes.threads self.now.rows self.now.threads.items }
+        ensures { IsBelowPredCount trace.now.events.now t e result }
+    {
+        match links.pred(e) {
+            Some(p) => self.clock_of(trace, links, p).entry(t),
+            None => 0,
+        }
     }
 
     /// Takes the event e, at which its thread may learn and which has this clock but for the entry of

@@ -182,6 +182,24 @@ impl LearnedPast {
     }
 }
 
+/// The kept clocks of a trace, found by one forward pass.
+pub fn sweep(
+    alloc: Global,
+    trace: &Disciplined<'_>,
+    links: &Links<'_>,
+) -> Result<KeptClocks, NoMemory>
+    requires of_trace { links.now ≡ trace.now.events.now }
+    ensures { IfOk result (λ clocks. AreKept trace.now.events.now (length trace.now.events.now) trace.now.sizes.threads clocks.rows clocks.threads.items) }
+{
+    let mut clock = Clock::new(alloc, trace.sizes.threads as usize)?;
+    let mut past = LearnedPast::new(alloc, trace)?;
+    for e in 0..trace.events.len() as u32 {
+        past.take(trace, links, e, &mut clock)?;
+    }
+    let LearnedPast { clocks, .. } = past;
+    Ok(clocks)
+}
+
 /// Raises the clock of a lock that e releases to that of e.
 fn release(
     trace: &Disciplined<'_>,

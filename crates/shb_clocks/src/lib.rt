@@ -4,6 +4,7 @@
 mod clock;
 mod clock_versions;
 mod edges;
+mod event_rows;
 mod full_clocks;
 mod kept;
 mod kept_clocks;
@@ -15,6 +16,7 @@ mod row;
 mod rows;
 
 pub use clock_versions::{ClockVersions, versions};
+pub use event_rows::{EventRows, by_event};
 pub use full_clocks::{FullClocks, full};
 pub use order::Order;
 pub use plain_order::{PlainOrder, plain};

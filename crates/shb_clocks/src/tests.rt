@@ -1,4 +1,4 @@
-//! What the orders answer on small traces, and that all three answer alike.
+//! What the orders answer on small traces, and that all four answer alike.
 ghost use Rattle.std.specs.Prelude.{◌≡◌, ◌<◌, ◌≤◌, length};
 ghost use Rattle.shb_lines.specs.Limits.{AreStandard};
 
@@ -32,22 +32,25 @@ fn answer<O: Order>(order: &O, trace: &Disciplined<'_>, e: u32, t: u32) -> u32
     }
 }
 
-/// What the plain order, the full clocks and the versions answer for an event and a thread.
-fn answers(rt: &HostRuntime, text: &[u8], e: u32, t: u32) -> Result<[u32; 3], Fail> {
+/// What the plain order, the full clocks, the versions and the rows by event answer for an event and
+/// a thread.
+fn answers(rt: &HostRuntime, text: &[u8], e: u32, t: u32) -> Result<[u32; 4], Fail> {
     let parsed = parsed(rt, text)?;
     let trace = check(rt.alloc(), &parsed.trace)?;
     let links = links_of(rt.alloc(), &trace)?;
     let plain = plain(rt.alloc(), &trace, &links)?;
     let full = full(rt.alloc(), &trace, &links)?;
     let versions = versions(rt.alloc(), &trace, &links)?;
+    let rows = by_event(rt.alloc(), &trace, &links)?;
     Ok([
         answer(&plain, &trace, e, t),
         answer(&full, &trace, e, t),
         answer(&versions, &trace, e, t),
+        answer(&rows, &trace, e, t),
     ])
 }
 
-/// An event and a thread for which the three forms don't answer alike.
+/// An event and a thread for which the four forms don't answer alike.
 fn difference(rt: &HostRuntime, text: &[u8]) -> Result<Option<(u32, u32)>, Fail> {
     let parsed = parsed(rt, text)?;
     let trace = check(rt.alloc(), &parsed.trace)?;
@@ -55,10 +58,14 @@ fn difference(rt: &HostRuntime, text: &[u8]) -> Result<Option<(u32, u32)>, Fail>
     let plain = plain(rt.alloc(), &trace, &links)?;
     let full = full(rt.alloc(), &trace, &links)?;
     let versions = versions(rt.alloc(), &trace, &links)?;
+    let rows = by_event(rt.alloc(), &trace, &links)?;
     for e in 0..trace.events.len() as u32 {
         for t in 0..trace.sizes.threads {
             let want = plain.below_pred(e, t);
-            if full.below_pred(e, t) != want || versions.below_pred(e, t) != want {
+            if full.below_pred(e, t) != want
+                || versions.below_pred(e, t) != want
+                || rows.below_pred(e, t) != want
+            {
                 return Ok(Some((e, t)));
             }
         }
@@ -96,7 +103,7 @@ fn values(rt: HostRuntime) -> Result<(), Fail> {
         for (t, want) in wants.into_iter().enumerate() {
             assert_eq!(rt;
                 answers(&rt, text, e, t as u32)?,
-                [want; 3],
+                [want; 4],
                 "event {e} thread {t} of {text:?}"
             );
         }

@@ -6,8 +6,8 @@ use std::alloc::Global;
 
 /// Work in pieces, each of which has a value.
 pub trait Job {
-    /// What running a piece gives.
-    type Out: Drop + Send;
+    /// What running a piece gives. `gather` and `stream` ask that it may move between threads.
+    type Out: Drop;
 
     /// What a value of `Out` stands for, as a list for a `Vec`. No value of it is made.
     type Meaning;

@@ -1,10 +1,35 @@
-//! Work in numbered pieces, and how many workers share it.
+//! Work shared out to threads by tickets, and its results in order through 64 slots.
 #![tactic(auto)]
 
+mod berth;
+mod beside;
+mod board;
 mod gate;
+mod gathered;
 mod job;
+pub mod machine;
+mod moves;
+mod pass;
+mod plays;
+mod ring;
+mod shares;
+mod step;
+mod streaming;
+mod taker;
+mod tickets;
 mod workers;
 
 pub use gate::{FreeGate, Gate};
+pub use gathered::gather;
 pub use job::Job;
+pub use pass::Pass;
+pub use shares::{Ring, Seat};
+pub use streaming::stream;
+pub use taker::{StreamError, Taker};
+pub use tickets::{Closed, Tickets};
 pub use workers::Workers;
+
+#[cfg(test)]
+mod machine_tests;
+#[cfg(test)]
+mod tests;

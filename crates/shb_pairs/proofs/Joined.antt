@@ -1,9 +1,10 @@
 -- The values of all pieces, joined, are the races of all variables.
-use Rattle.std.proofs.Common.{◌≡◌, ℕ, zero, suc, ◌+◌, ◌-◌, ◌*◌, ◌≤◌, List, [], ◌∷◌, ◌++◌, length, get_or, take, drop, refl, arith, subst, ap, sym, ◌∙◌, add-one}
-use Rattle.std.specs.Prelude.{flat_map, map, min}
+use Rattle.std.proofs.Common.{◌≡◌, ℕ, zero, suc, ◌+◌, ◌-◌, ◌*◌, ◌≤◌, inl, inr, List, [], ◌∷◌, ◌++◌, length, get_or, take, drop, refl, arith, subst, ap, sym, ◌∙◌, add-one}
+use Rattle.std.specs.Prelude.{Contains, flat_map, map, min}
 use Rattle.std.specs.Int.{div_ceil}
 use Rattle.std.proofs.Math.Nat.{min_comm}
 use Rattle.std.proofs.Math.Seq.{take-add}
+use Rattle.std.proofs.lemmas.Bool.{cases_Bool}
 use Rattle.std.proofs.lemmas.Grind.{flat_map-append}
 use Rattle.std.proofs.lemmas.List.{append-nil, length-drop, take_all, take_min, map_more}
 use Rattle.shb_fan.specs.Values.{values_of}
@@ -11,10 +12,15 @@ use Rattle.shb_lines.specs.declared.event.Event.{Event}
 use Rattle.shb_lines.specs.Race.{IsRaceList}
 use Rattle.shb_lines.specs.Reach.{numbers_where}
 use Rattle.shb_lines.specs.Sizes.{IsNumberedByAccess}
-use Rattle.shb_pairs.specs.Accesses.{accesses_in, variables_in}
+use Rattle.shb_pairs.specs.declared.piece.Piece.{Piece}
+use Rattle.shb_pairs.specs.Accesses.{accesses_in, listed_accesses, variables_in}
+use Rattle.shb_pairs.specs.Listed.{AreOpen, Listed, is_open}
 use Rattle.shb_pairs.specs.Pieces.{run_at, runs_of, pieces_below, pieces_in}
 use Rattle.shb_pairs.specs.Races.{races_with, races_of, races_at, joined}
-use Rattle.shb_pairs.proofs.Listing.{numbers_below, races_on, all_races, all_is_race_list}
+use Rattle.shb_pairs.proofs.Listing.{numbers_below, races_on, races_on_parts, all_races, all_is_race_list}
+use Rattle.shb_pairs.proofs.ByThread.{listed_closed, listed_open}
+use Rattle.shb_pairs.proofs.Ordered.{contains_head}
+use Rattle.shb_pairs.proofs.Runs.{no_runs, runs_on}
 
 joined-map : {X A : Type 0} (f : X → List A) (xs : List X) → joined (map f xs) ≡ flat_map f xs
 joined-map f [] = refl
@@ -58,21 +64,32 @@ runs_joined trace x (suc k) =
 pub runs_enough : (n : ℕ) → n ≤ 64 * div_ceil n 64
 runs_enough n = omega arith
 
-variable_joined : (trace : List Event) (x : ℕ) → flat_map (races_of trace) (runs_of x (length (accesses_in trace x)) (div_ceil (length (accesses_in trace x)) 64)) ≡ races_on trace x
-variable_joined trace x = runs_joined trace x _ ∙ ap (λ (ys : List ℕ). flat_map (races_with trace) ys) (take_all _ (accesses_in trace x) (runs_enough (length (accesses_in trace x))))
+open_joined : (trace : List Event) (x : ℕ) → flat_map (races_of trace) (runs_of x (length (accesses_in trace x)) (div_ceil (length (accesses_in trace x)) 64)) ≡ races_on trace x
+open_joined trace x = runs_joined trace x _ ∙ ap (λ (ys : List ℕ). flat_map (races_with trace) ys) (take_all _ (accesses_in trace x) (runs_enough (length (accesses_in trace x))))
 
-pieces_joined : (trace : List Event) (n : ℕ) → flat_map (races_of trace) (pieces_below trace n) ≡ flat_map (races_on trace) (numbers_below n)
+-- a variable without races adds none
+no_members : {X : Type 0} (xs : List X) → ((p : X) → Contains xs p → ⊥) → xs ≡ []
+no_members [] none = refl
+no_members (x ∷ xs) none = absurd (none x (contains_head x xs))
+
+variable_joined : (a : Listed) → AreOpen a.trace a.flags → (x : ℕ) → flat_map (races_of a.trace) (runs_on x (listed_accesses a x)) ≡ races_on a.trace x
+variable_joined a settled x = elim (cases_Bool (is_open a.flags x)) [
+  | inl h ↦ ap (λ (ks : List ℕ). flat_map (races_of a.trace) (runs_on x ks)) (listed_open a x h) ∙ open_joined a.trace x
+  | inr h ↦ ap (λ (ks : List ℕ). flat_map (races_of a.trace) (runs_on x ks)) (listed_closed a x h) ∙ (ap (λ (ps : List Piece). flat_map (races_of a.trace) ps) (no_runs x) ∙ sym (no_members (races_on a.trace x) (λ p c. let there = races_on_parts a.trace x p c in settled x h p.0 p.1 there.0 there.1)))
+]
+
+pieces_joined : (a : Listed) → AreOpen a.trace a.flags → (n : ℕ) → flat_map (races_of a.trace) (pieces_below a n) ≡ flat_map (races_on a.trace) (numbers_below n)
 unfolding pieces_below numbers_where
-pieces_joined trace zero = refl
-pieces_joined trace (suc x) =
-    flat_map-append (races_of trace) (pieces_below trace x) (runs_of x (length (accesses_in trace x)) (div_ceil (length (accesses_in trace x)) 64))
-    ∙ (ap (λ (ys : List (ℕ × ℕ)). ys ++ flat_map (races_of trace) (runs_of x (length (accesses_in trace x)) (div_ceil (length (accesses_in trace x)) 64))) (pieces_joined trace x)
-    ∙ (ap (λ (ys : List (ℕ × ℕ)). flat_map (races_on trace) (numbers_below x) ++ ys) (variable_joined trace x ∙ sym (append-nil (races_on trace x)))
-    ∙ sym (flat_map-append (races_on trace) (numbers_below x) (x ∷ []))))
+pieces_joined a settled zero = refl
+pieces_joined a settled (suc x) =
+    flat_map-append (races_of a.trace) (pieces_below a x) (runs_on x (listed_accesses a x))
+    ∙ (ap (λ (ys : List (ℕ × ℕ)). ys ++ flat_map (races_of a.trace) (runs_on x (listed_accesses a x))) (pieces_joined a settled x)
+    ∙ (ap (λ (ys : List (ℕ × ℕ)). flat_map (races_on a.trace) (numbers_below x) ++ ys) (variable_joined a settled x ∙ sym (append-nil (races_on a.trace x)))
+    ∙ sym (flat_map-append (races_on a.trace) (numbers_below x) (x ∷ []))))
 
-pub values_joined : (trace : List Event) → joined (values_of (races_at trace) (length (pieces_in trace))) ≡ all_races trace
+pub values_joined : (a : Listed) → AreOpen a.trace a.flags → joined (values_of (races_at a) (length (pieces_in a))) ≡ all_races a.trace
 unfolding races_at
-values_joined trace = joined_values (races_of trace) (pieces_in trace) _ ∙ pieces_joined trace (variables_in trace)
+values_joined a settled = joined_values (races_of a.trace) (pieces_in a) _ ∙ pieces_joined a settled (variables_in a.trace)
 
-pub values_are_race_list : (trace : List Event) → IsNumberedByAccess trace → IsRaceList trace (joined (values_of (races_at trace) (length (pieces_in trace))))
-values_are_race_list trace numbered = subst (IsRaceList trace) (sym (values_joined trace)) (all_is_race_list trace numbered)
+pub values_are_race_list : (a : Listed) → IsNumberedByAccess a.trace → AreOpen a.trace a.flags → IsRaceList a.trace (joined (values_of (races_at a) (length (pieces_in a))))
+values_are_race_list a numbered settled = subst (IsRaceList a.trace) (sym (values_joined a settled)) (all_is_race_list a.trace numbered)

@@ -51,7 +51,7 @@ pub race_contained : (trace : List Event) (i j : ℕ) → Race trace i j → Con
 unfolding races_with
 race_contained trace i j race = map_contains (λ i. (i, j)) (numbers_where (λ i. is_race trace i j) j) i (((numbers_listed (λ i. is_race trace i j) j).members i).1 (race.earlier, (reflect_race trace i j).1 race))
 
-races_on_parts : (trace : List Event) (x : ℕ) (p : ℕ × ℕ) → Contains (races_on trace x) p → (variable_at trace p.1 ≡ Some x) × Race trace p.0 p.1
+pub races_on_parts : (trace : List Event) (x : ℕ) (p : ℕ × ℕ) → Contains (races_on trace x) p → (variable_at trace p.1 ≡ Some x) × Race trace p.0 p.1
 races_on_parts trace x p c =
     let there = flat_map_parts (races_with trace) (accesses_in trace x) p c in
     let parts = race_parts trace there.0 p there.2 in

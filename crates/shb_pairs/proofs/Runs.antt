@@ -12,43 +12,63 @@ use Rattle.shb_lines.specs.Reach.{numbers_where, is_race}
 use Rattle.shb_lines.proofs.Reach.{numbers_listed, reflect_race}
 use Rattle.shb_lines.specs.declared.event.Pair.{Pair}
 use Rattle.shb_pairs.specs.declared.piece.Piece.{Piece}
-use Rattle.shb_pairs.specs.Accesses.{accesses_at, accesses_in, variables_in}
+use Rattle.shb_pairs.specs.Accesses.{accesses_at, accesses_in, listed_accesses, variables_in}
+use Rattle.shb_pairs.specs.Listed.{Listed, is_open}
 use Rattle.shb_pairs.specs.Pieces.{run_at, runs_of, pieces_below, pieces_in}
 use Rattle.shb_pairs.specs.Races.{ends, races_with, races_of, races_at}
+use Rattle.shb_pairs.proofs.ByThread.{listed_closed, listed_open}
 use Rattle.shb_pairs.proofs.Counting.{numbers_few, access_from_test, test_from_access}
 
--- a run lies within the accesses of its variable
-pub record IsRun (trace : List Event) (p : Piece) : Type 0 where
+-- a run lies within the accesses of its variable, which is open
+pub record IsRun (trace : List Event) (flags : List Bool) (p : Piece) : Type 0 where
   pub variable : p.variable < variables_in trace
+  pub listed : is_open flags p.variable ≡ true
   pub forward : p.from ≤ p.to
   pub within : p.to ≤ length (accesses_in trace p.variable)
 
 pub run_start : (n k : ℕ) → k < div_ceil n 64 → 64 * k < n
 run_start n k lt = omega arith
 
-runs_within : (trace : List Event) (x k : ℕ) → x < variables_in trace → k ≤ div_ceil (length (accesses_in trace x)) 64 → All (IsRun trace) (runs_of x (length (accesses_in trace x)) k)
+runs_within : (a : Listed) (x k : ℕ) → x < variables_in a.trace → is_open a.flags x ≡ true → k ≤ div_ceil (length (accesses_in a.trace x)) 64 → All (IsRun a.trace a.flags) (runs_of x (length (accesses_in a.trace x)) k)
 unfolding runs_of
-runs_within trace x zero below le = All-nil (IsRun trace)
-runs_within trace x (suc k) below le =
-    let start = run_start (length (accesses_in trace x)) k (omega arith) in
-    All-push (IsRun trace) (runs_of x (length (accesses_in trace x)) k) (run_at x (length (accesses_in trace x)) k) (runs_within trace x k below (omega arith)) (record { variable = below; forward = omega arith; within = omega arith })
+runs_within a x zero below opened le = All-nil (IsRun a.trace a.flags)
+runs_within a x (suc k) below opened le =
+    let start = run_start (length (accesses_in a.trace x)) k (omega arith) in
+    All-push (IsRun a.trace a.flags) (runs_of x (length (accesses_in a.trace x)) k) (run_at x (length (accesses_in a.trace x)) k) (runs_within a x k below opened (omega arith)) (record { variable = below; listed = opened; forward = omega arith; within = omega arith })
 
-pieces_within : (trace : List Event) (n : ℕ) → n ≤ variables_in trace → All (IsRun trace) (pieces_below trace n)
+-- the runs of the listed accesses of a variable
+abbrev pub runs_on : ℕ → List ℕ → List Piece
+runs_on x ks = runs_of x (length ks) (div_ceil (length ks) 64)
+
+zero_runs : (x n k : ℕ) → k ≡ 0 → runs_of x n k ≡ []
+unfolding runs_of
+zero_runs x n k e = rw e refl
+
+pub no_runs : (x : ℕ) → runs_on x [] ≡ []
+no_runs x = zero_runs x 0 (div_ceil 0 64) (omega arith)
+
+variable_within_runs : (a : Listed) (x : ℕ) → x < variables_in a.trace → All (IsRun a.trace a.flags) (runs_on x (listed_accesses a x))
+variable_within_runs a x below = elim (cases_Bool (is_open a.flags x)) [
+  | inl h ↦ subst (λ (ks : List ℕ). All (IsRun a.trace a.flags) (runs_on x ks)) (sym (listed_open a x h)) (runs_within a x _ below h (omega arith))
+  | inr h ↦ subst (λ (ks : List ℕ). All (IsRun a.trace a.flags) (runs_on x ks)) (sym (listed_closed a x h)) (rw (no_runs x) (All-nil (IsRun a.trace a.flags)))
+]
+
+pieces_within : (a : Listed) (n : ℕ) → n ≤ variables_in a.trace → All (IsRun a.trace a.flags) (pieces_below a n)
 unfolding pieces_below
-pieces_within trace zero le = All-nil (IsRun trace)
-pieces_within trace (suc x) le = All-append (IsRun trace) (pieces_below trace x) (runs_of x (length (accesses_in trace x)) (div_ceil (length (accesses_in trace x)) 64)) (pieces_within trace x (omega arith)) (runs_within trace x _ (omega arith) (omega arith))
+pieces_within a zero le = All-nil (IsRun a.trace a.flags)
+pieces_within a (suc x) le = All-append (IsRun a.trace a.flags) (pieces_below a x) (runs_on x (listed_accesses a x)) (pieces_within a x (omega arith)) (variable_within_runs a x (omega arith))
 
-pub piece_within : (trace : List Event) (k : ℕ) (d : Piece) → k < length (pieces_in trace) → IsRun trace (get_or (pieces_in trace) k d)
-piece_within trace k d lt = pieces_within trace (variables_in trace) (omega arith) k d lt
+pub piece_within : (a : Listed) (k : ℕ) (d : Piece) → k < length (pieces_in a) → IsRun a.trace a.flags (get_or (pieces_in a) k d)
+piece_within a k d lt = pieces_within a (variables_in a.trace) (omega arith) k d lt
 
 -- one run more, and one variable more
 pub runs_more : (x n k : ℕ) → runs_of x n (k + 1) ≡ runs_of x n k ++ run_at x n k ∷ []
 unfolding runs_of
 runs_more x n k = rw add-one refl
 
-pub pieces_more : (trace : List Event) (x : ℕ) → pieces_below trace (x + 1) ≡ pieces_below trace x ++ runs_of x (length (accesses_in trace x)) (div_ceil (length (accesses_in trace x)) 64)
+pub pieces_more : (a : Listed) (x : ℕ) → pieces_below a (x + 1) ≡ pieces_below a x ++ runs_on x (listed_accesses a x)
 unfolding pieces_below
-pieces_more trace x = rw add-one refl
+pieces_more a x = rw add-one refl
 
 -- the numbers before the one at q are the first q
 pub numbers_front : (f : ℕ → Bool) (n q : ℕ) → q < length (numbers_where f n) → take q (numbers_where f n) ≡ numbers_where f (get_or (numbers_where f n) q 0)
@@ -146,14 +166,14 @@ run_first trace xs pairs from none = let e : from - from ≡ 0 = omega arith in 
 abbrev pub piece_at : List Piece → ℕ → Piece
 piece_at pieces k = get_or pieces k (record { variable = 0; from = 0; to = 0 })
 
-pub piece_value : (trace seen : List Event) (pieces : List Piece) (k : ℕ) → trace ≡ seen → pieces ≡ pieces_in trace → k < length (pieces_in seen) → IsRun trace (piece_at pieces k) × (races_at seen k ≡ races_of seen (piece_at pieces k))
+pub piece_value : (a seen : Listed) (trace : List Event) (pieces : List Piece) (k : ℕ) → a ≡ seen → a.trace ≡ trace → pieces ≡ pieces_in a → k < length (pieces_in seen) → IsRun trace a.flags (piece_at pieces k) × (races_at seen k ≡ races_of seen.trace (piece_at pieces k))
 unfolding races_at
-piece_value trace seen pieces k same is lt =
-    let own : piece_at pieces k ≡ piece_at (pieces_in seen) k = ap (λ (ps : List Piece). piece_at ps k) (is ∙ ap (λ (tr : List Event). pieces_in tr) same) in
-    (subst (λ (tr : List Event). IsRun tr (piece_at pieces k)) (sym same) (subst (IsRun seen) (sym own) (piece_within seen k _ lt)), ap (λ (q : Piece). races_of seen q) (sym own))
+piece_value a seen trace pieces k same of_trace is lt =
+    let own : piece_at pieces k ≡ piece_at (pieces_in seen) k = ap (λ (ps : List Piece). piece_at ps k) (is ∙ ap (λ (b : Listed). pieces_in b) same) in
+    (subst (λ (tr : List Event). IsRun tr a.flags (piece_at pieces k)) of_trace (subst (λ (b : Listed). IsRun b.trace b.flags (piece_at pieces k)) (sym same) (subst (IsRun seen.trace seen.flags) (sym own) (piece_within seen k _ lt))), ap (λ (q : Piece). races_of seen.trace q) (sym own))
 
-pub run_small : (trace : List Event) (p : Piece) → IsRun trace p → (p.from ≤ length trace) × (p.to ≤ length trace)
-run_small trace p run =
+pub run_small : (trace : List Event) (flags : List Bool) (p : Piece) → IsRun trace flags p → (p.from ≤ length trace) × (p.to ≤ length trace)
+run_small trace flags p run =
     let few = numbers_few (accesses_at trace p.variable) (length trace) in
     let forward = run.forward in
     let within = run.within in

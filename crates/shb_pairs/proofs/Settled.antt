@@ -36,7 +36,7 @@ path_below : (trace : List Event) (a b e : ℕ) → ShbBelow trace a b → Below
 path_below trace a b e here below = below
 path_below trace a b e (step {b = c} edge rest) below = below_pred_closed trace a c e edge (path_below trace c b e rest below)
 
-chain_below : (trace : List Event) → IsDisciplined trace → (i w j : ℕ) → BelowPred trace i w → BelowPred trace w j → BelowPred trace i j
+pub chain_below : (trace : List Event) → IsDisciplined trace → (i w j : ℕ) → BelowPred trace i w → BelowPred trace w j → BelowPred trace i j
 chain_below trace disciplined i w j below after = path_below trace i below.0 j below.2 (pred_below trace disciplined below.0 w j below.1 after)
 
 -- nothing up to a write without a race, below the predecessor of j, races with j

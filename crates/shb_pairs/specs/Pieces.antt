@@ -1,9 +1,9 @@
 -- The runs that the accesses of each variable are cut into.
 use Rattle.std.specs.Prelude.{ℕ, zero, suc, ◌+◌, ◌-◌, ◌*◌, min, List, [], ◌∷◌, ◌++◌, length}
 use Rattle.std.specs.Int.{div_ceil}
-use Rattle.shb_lines.specs.declared.event.Event.{Event}
 use Rattle.shb_pairs.specs.declared.piece.Piece.{Piece}
-use Rattle.shb_pairs.specs.Accesses.{accesses_in, variables_in}
+use Rattle.shb_pairs.specs.Accesses.{listed_accesses, variables_in}
+use Rattle.shb_pairs.specs.Listed.{Listed}
 
 -- run number k of the accesses of x, of which there are n: 64 of them, or all that are left
 abbrev pub run_at : ℕ → ℕ → ℕ → Piece
@@ -14,11 +14,11 @@ unfoldable pub runs_of : ℕ → ℕ → ℕ → List Piece
 runs_of x n zero = []
 runs_of x n (suc k) = runs_of x n k ++ run_at x n k ∷ []
 
--- all runs of the variables with numbers below x
-unfoldable pub pieces_below : List Event → ℕ → List Piece
-pieces_below trace zero = []
-pieces_below trace (suc x) = pieces_below trace x ++ runs_of x (length (accesses_in trace x)) (div_ceil (length (accesses_in trace x)) 64)
+-- all runs of the open variables with numbers below x
+unfoldable pub pieces_below : Listed → ℕ → List Piece
+pieces_below a zero = []
+pieces_below a (suc x) = pieces_below a x ++ runs_of x (length (listed_accesses a x)) (div_ceil (length (listed_accesses a x)) 64)
 
--- all runs of all variables
-abbrev pub pieces_in : List Event → List Piece
-pieces_in trace = pieces_below trace (variables_in trace)
+-- all runs of all open variables
+abbrev pub pieces_in : Listed → List Piece
+pieces_in a = pieces_below a (variables_in a.trace)

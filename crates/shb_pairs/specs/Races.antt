@@ -5,6 +5,7 @@ use Rattle.shb_lines.specs.Reach.{numbers_where, is_race}
 use Rattle.shb_lines.specs.declared.event.Pair.{Pair}
 use Rattle.shb_pairs.specs.declared.piece.Piece.{Piece}
 use Rattle.shb_pairs.specs.Accesses.{accesses_in}
+use Rattle.shb_pairs.specs.Listed.{Listed}
 use Rattle.shb_pairs.specs.Pieces.{pieces_in}
 
 -- the two positions of a pair
@@ -20,8 +21,8 @@ unfoldable pub races_of : List Event → Piece → List (ℕ × ℕ)
 races_of trace p = flat_map (races_with trace) (slice_range (accesses_in trace p.variable) p.from p.to)
 
 -- the races of piece k
-unfoldable pub races_at : List Event → ℕ → List (ℕ × ℕ)
-races_at trace k = races_of trace (slice_index_or (pieces_in trace) k (record { variable = 0; from = 0; to = 0 }))
+unfoldable pub races_at : Listed → ℕ → List (ℕ × ℕ)
+races_at a k = races_of a.trace (slice_index_or (pieces_in a) k (record { variable = 0; from = 0; to = 0 }))
 
 -- lists one after the other
 abbrev pub joined : {X : Type 0} → List (List X) → List X

@@ -1,7 +1,7 @@
 //! The races of a trace as work in pieces.
 
-ghost use Rattle.std.specs.Prelude.{◌≡◌, List, length, map};
-ghost use Rattle.shb_lines.specs.declared.event.Event.{Event};
+ghost use Rattle.std.specs.Prelude.{◌≡◌, length, map};
+ghost use Rattle.shb_pairs.specs.Listed.{Listed};
 ghost use Rattle.shb_pairs.specs.Pieces.{pieces_in};
 ghost use Rattle.shb_pairs.specs.Races.{ends, races_at};
 
@@ -20,7 +20,8 @@ use std::marker::Model;
 
 /// The search for the races of a trace, as work in pieces: the value of a piece is the races whose
 /// later access is in its run, by the later access, then by the earlier one. The values of all pieces
-/// joined are the race list. Clauses see it as the events of the trace.
+/// joined are the race list, where a variable that isn't open has no race. Clauses see it as the
+/// accesses.
 ///
 /// A piece costs its accesses times the threads that access the variable, and a step for each race;
 /// where its accesses are ordered, about one look-up of the order for each. Running a piece takes
@@ -35,11 +36,11 @@ pub struct PairJob<'a, O: Order> {
 }
 
 impl<'a, O: Order> Model for PairJob<'a, O> {
-    ghost Value = { List Event };
+    ghost Value = { Listed };
 
-    ghost view = { λ j. j.trace.now.events.now };
+    ghost view = { λ j. j.accesses.now };
 
-    ghost invariant = { λ j. (O.trace j.order.now ≡ j.trace.now.events.now) × (j.links.now ≡ j.trace.now.events.now) × (j.accesses.now ≡ j.trace.now.events.now) × (j.pieces.now ≡ pieces_in j.trace.now.events.now) };
+    ghost invariant = { λ j. (O.trace j.order.now ≡ j.trace.now.events.now) × (j.links.now ≡ j.trace.now.events.now) × (j.accesses.now.trace ≡ j.trace.now.events.now) × (j.pieces.now ≡ pieces_in j.accesses.now) };
 }
 
 impl<'a, O: Order> PairJob<'a, O> {
@@ -54,9 +55,9 @@ impl<'a, O: Order> PairJob<'a, O> {
     ) -> Self
         requires of_trace { O.trace order.now ≡ trace.now.events.now }
         requires linked { links.now ≡ trace.now.events.now }
-        requires accesses { accesses.now ≡ trace.now.events.now }
-        requires pieces { pieces.now ≡ pieces_in trace.now.events.now }
-        ensures { result ≡ trace.now.events.now }
+        requires accesses { accesses.now.trace ≡ trace.now.events.now }
+        requires pieces { pieces.now ≡ pieces_in accesses.now }
+        ensures { result ≡ accesses.now }
     {
         PairJob {
             order,
@@ -77,7 +78,7 @@ impl<'a, O: Order> Job for PairJob<'a, O> {
 
     ghost value = { races_at };
 
-    ghost count = { λ trace. length (pieces_in trace) };
+    ghost count = { λ a. length (pieces_in a) };
 
     fn pieces(&self) -> u64 {
         self.pieces.len() as u64

@@ -8,12 +8,13 @@ ghost use Rattle.shb_lines.specs.Discipline.{IsDisciplined};
 ghost use Rattle.shb_lines.specs.Race.{Conflict, IsRaceList, Race};
 ghost use Rattle.shb_lines.specs.Schedule.{IsPrintedSchedule, IsSchedule};
 ghost use Rattle.shb_lines.specs.Sizes.{IsNumberedByAccess};
+ghost use Rattle.shb_pairs.specs.Listed.{AreOpen, Listed};
 ghost use Rattle.shb_pairs.specs.Pieces.{pieces_in};
 ghost use Rattle.shb_pairs.specs.Races.{races_at, joined};
 
-/// The values of all pieces, joined, are the race list.
+/// The values of all pieces, joined, are the race list, where a variable that isn't open has no race.
 pub fn pieces_give_race_list()
-    ensures { (trace : List Event) → IsNumberedByAccess trace → IsRaceList trace (joined (values_of (races_at trace) (length (pieces_in trace)))) }
+    ensures { (a : Listed) → IsNumberedByAccess a.trace → AreOpen a.trace a.flags → IsRaceList a.trace (joined (values_of (races_at a) (length (pieces_in a)))) }
 {}
 
 /// A trace has one race list.

@@ -10,11 +10,13 @@ mod piece;
 mod race;
 mod races;
 mod rivals;
+mod screen;
 
-pub use accesses::{Accesses, accesses_of};
+pub use accesses::{Accesses, accesses_of, accesses_of_open};
 pub use job::PairJob;
 pub use piece::{Piece, pieces};
 pub use race::is_race;
+pub use screen::open_variables;
 
 #[cfg(test)]
 mod tests;

@@ -1,9 +1,10 @@
 //! The races with the accesses of one variable.
 
-ghost use Rattle.std.specs.Prelude.{◌≡◌, ◌++◌, ℕ, ◌+◌, ◌<◌, ◌≤◌, Some, All, IfOk, IfSome, IsTrue, ◌↔◌, flat_map, length, map, slice_index_or, slice_range};
+ghost use Rattle.std.specs.Prelude.{◌≡◌, ◌++◌, ℕ, ◌+◌, ◌<◌, ◌≤◌, true, Some, All, IfOk, IfSome, IsTrue, ◌↔◌, flat_map, length, map, slice_index_or, slice_range};
 ghost use Rattle.shb_lines.specs.Order.{BelowPred};
 ghost use Rattle.shb_lines.specs.Race.{Race, variable_at};
 ghost use Rattle.shb_pairs.specs.Accesses.{accesses_in, variables_in};
+ghost use Rattle.shb_pairs.specs.Listed.{is_open};
 ghost use Rattle.shb_pairs.specs.Races.{ends, races_with};
 ghost use Rattle.shb_pairs.specs.Search.{IsSettled, racing};
 
@@ -42,7 +43,8 @@ fn add_races<O: Order>(
 ) -> Result<(), AllocError>
     requires of_trace { O.trace order.now ≡ trace.now.events.now }
     requires linked { links.now ≡ trace.now.events.now }
-    requires accesses { accesses.now ≡ trace.now.events.now }
+    requires accesses { accesses.now.trace ≡ trace.now.events.now }
+    requires listed { is_open accesses.now.flags variable ≡ true }
     requires accessed { variable_at trace.now.events.now second ≡ Some variable }
     ensures { IfOk result (λ _. map ends races.new.items ≡ map ends races.old.items ++ races_with trace.now.events.now second) }
 {
@@ -183,7 +185,8 @@ fn add_races_at<O: Order>(
 ) -> Result<(), AllocError>
     requires of_trace { O.trace order.now ≡ trace.now.events.now }
     requires linked { links.now ≡ trace.now.events.now }
-    requires accesses { accesses.now ≡ trace.now.events.now }
+    requires accesses { accesses.now.trace ≡ trace.now.events.now }
+    requires listed { is_open accesses.now.flags variable ≡ true }
     requires variable { variable < variables_in trace.now.events.now }
     requires inside { place < length (accesses_in trace.now.events.now variable) }
     requires settled { IfSome settled (λ s. IsSettled trace.now.events.now variable (accesses_in trace.now.events.now variable) place s) }
@@ -219,7 +222,8 @@ pub(crate) fn races_in<O: Order>(
 ) -> Result<Vec<Pair>, AllocError>
     requires of_trace { O.trace order.now ≡ trace.now.events.now }
     requires linked { links.now ≡ trace.now.events.now }
-    requires accesses { accesses.now ≡ trace.now.events.now }
+    requires accesses { accesses.now.trace ≡ trace.now.events.now }
+    requires listed { is_open accesses.now.flags variable ≡ true }
     requires variable { variable < variables_in trace.now.events.now }
     requires forward { from ≤ to }
     requires within { to ≤ length (accesses_in trace.now.events.now variable) }

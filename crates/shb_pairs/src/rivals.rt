@@ -1,12 +1,13 @@
 //! The accesses that race with a later one, found thread by thread.
 
-ghost use Rattle.std.specs.Prelude.{◌≡◌, ◌++◌, ℕ, ◌+◌, ◌<◌, ◌≤◌, Some, All, AllPairs, IfOk, length, slice_index_or};
+ghost use Rattle.std.specs.Prelude.{◌≡◌, ◌++◌, ℕ, ◌+◌, ◌<◌, ◌≤◌, true, Some, All, AllPairs, IfOk, length, slice_index_or};
 ghost use Rattle.shb_lines.specs.Discipline.{place_in_thread};
 ghost use Rattle.shb_lines.specs.Events.{thread_at};
 ghost use Rattle.shb_lines.specs.Race.{variable_at};
 ghost use Rattle.shb_lines.specs.Reach.{is_race, numbers_where};
 ghost use Rattle.shb_pairs.specs.Accesses.{IsBeforeByThread};
 ghost use Rattle.shb_pairs.specs.Buckets.{key_at};
+ghost use Rattle.shb_pairs.specs.Listed.{is_open};
 ghost use Rattle.shb_pairs.specs.Search.{AreRivals, IsOfOneThread, racing};
 ghost use Rattle.shb_pairs.specs.declared.buckets.Key.TheVariants.{Thread};
 
@@ -134,7 +135,8 @@ pub(crate) fn rivals_of<O: Order>(
 ) -> Result<Vec<u32>, AllocError>
     requires of_trace { O.trace order.now ≡ trace.now.events.now }
     requires linked { links.now ≡ trace.now.events.now }
-    requires accesses { accesses.now ≡ trace.now.events.now }
+    requires accesses { accesses.now.trace ≡ trace.now.events.now }
+    requires listed { is_open accesses.now.flags variable ≡ true }
     requires accessed { variable_at trace.now.events.now second ≡ Some variable }
     ensures { IfOk result (λ v. v.items ≡ numbers_where (λ i. is_race trace.now.events.now i second) second) }
 {

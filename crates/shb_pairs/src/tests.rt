@@ -24,18 +24,32 @@ fn parsed(rt: &HostRuntime, text: &[u8]) -> Result<Parsed, ReadError> {
     parse(rt.alloc(), rt, &mut source, &Limits::standard())
 }
 
-/// What the search finds.
-fn search(rt: &HostRuntime, text: &[u8]) -> Result<Found, Fail> {
+/// Which variables of a trace are open.
+fn open_flags(rt: &HostRuntime, text: &[u8]) -> Result<Vec<bool>, Fail> {
     let alloc = rt.alloc();
     let parsed = parsed(rt, text)?;
     let trace = check(alloc, &parsed.trace)?;
     let links = links_of(alloc, &trace)?;
     let order = versions(alloc, &trace, &links)?;
-    let accesses = accesses_of(alloc, &trace)?;
-    let pieces = pieces(alloc, &accesses)?;
+    Ok(open_variables(alloc, &order, &trace, &links)?)
+}
+
+/// What the search finds among these accesses.
+fn found_among<O: Order>(
+    alloc: Global,
+    order: &O,
+    trace: &Disciplined<'_>,
+    links: &Links<'_>,
+    accesses: &Accesses<'_>,
+) -> Result<Found, NoMemory>
+    requires of_trace { O.trace order.now ≡ trace.now.events.now }
+    requires linked { links.now ≡ trace.now.events.now }
+    requires accesses { accesses.now.trace ≡ trace.now.events.now }
+{
+    let pieces = pieces(alloc, accesses)?;
     let mut counts = Vec::new(alloc);
     let mut races = Vec::new(alloc);
-    let job = PairJob::new(&order, &trace, &links, &accesses, pieces.as_slice());
+    let job = PairJob::new(&*order, &*trace, &*links, &*accesses, pieces.as_slice());
     for k in 0..job.pieces() {
         let value = job.run(alloc, k)?;
         counts.push(value.len())?;
@@ -46,6 +60,29 @@ fn search(rt: &HostRuntime, text: &[u8]) -> Result<Found, Fail> {
         races,
         pieces,
     })
+}
+
+/// What the search finds among all accesses.
+fn search(rt: &HostRuntime, text: &[u8]) -> Result<Found, Fail> {
+    let alloc = rt.alloc();
+    let parsed = parsed(rt, text)?;
+    let trace = check(alloc, &parsed.trace)?;
+    let links = links_of(alloc, &trace)?;
+    let order = versions(alloc, &trace, &links)?;
+    let accesses = accesses_of(alloc, &trace)?;
+    Ok(found_among(alloc, &order, &trace, &links, &accesses)?)
+}
+
+/// What the search finds among the accesses of open variables.
+fn search_open(rt: &HostRuntime, text: &[u8]) -> Result<Found, Fail> {
+    let alloc = rt.alloc();
+    let parsed = parsed(rt, text)?;
+    let trace = check(alloc, &parsed.trace)?;
+    let links = links_of(alloc, &trace)?;
+    let order = versions(alloc, &trace, &links)?;
+    let flags = open_variables(alloc, &order, &trace, &links)?;
+    let accesses = accesses_of_open(alloc, &trace, flags.as_slice())?;
+    Ok(found_among(alloc, &order, &trace, &links, &accesses)?)
 }
 
 /// All races by variable, later access and earlier access, by a test of each pair.
@@ -97,7 +134,52 @@ fn small_traces(rt: HostRuntime) -> Result<(), Fail> {
         let found = search(&rt, text)?;
         let races = ends(rt.alloc(), found.races.as_slice())?;
         assert_eq!(rt; races.as_slice(), want, "in {text:?}");
+        let found = search_open(&rt, text)?;
+        let races = ends(rt.alloc(), found.races.as_slice())?;
+        assert_eq!(rt; races.as_slice(), want, "of open variables in {text:?}");
     }
+    Ok(())
+}
+
+#[test]
+fn open_variables_of_small_traces(rt: HostRuntime) -> Result<(), Fail> {
+    let rows: [(&[u8], &[bool]); 8] = [
+        (b"T1|w(y)\nT2|r(y)\n", &[true]),
+        (b"T1|w(x)\nT1|w(y)\nT2|w(y)\nT1|r(x)\n", &[false, true]),
+        (
+            b"T1|acq(l)\nT1|w(x)\nT1|rel(l)\nT2|acq(l)\nT2|r(x)\nT2|w(x)\nT2|rel(l)\n",
+            &[false],
+        ),
+        (b"T1|r(x)\nT2|r(x)\nT3|r(x)\n", &[false]),
+        (b"T1|r(x)\nT2|r(x)\nT2|w(x)\n", &[true]),
+        (b"T1|w(x)\nT1|fork(T2)\nT2|r(x)\nT1|r(x)\n", &[false]),
+        (
+            b"T1|w(x)\nT1|fork(T2)\nT2|r(x)\nT1|join(T2)\nT1|w(x)\n",
+            &[false],
+        ),
+        // No pair races, but the two reads aren't ordered.
+        (
+            b"T1|w(x)\nT1|fork(T2)\nT2|r(x)\nT1|r(x)\nT1|join(T2)\nT1|w(x)\n",
+            &[true],
+        ),
+    ];
+    for (text, want) in rows {
+        let flags = open_flags(&rt, text)?;
+        assert_eq!(rt; flags.as_slice(), want, "in {text:?}");
+    }
+    Ok(())
+}
+
+#[test]
+fn settled_variables_have_no_piece(rt: HostRuntime) -> Result<(), Fail> {
+    let found = search_open(&rt, b"T1|w(x)\nT1|w(y)\nT2|w(y)\nT1|r(x)\n")?;
+    let piece = Piece {
+        variable: 1,
+        from: 0,
+        to: 2,
+    };
+    assert_eq!(rt; found.pieces.as_slice(), [piece].as_slice());
+    assert_eq!(rt; found.counts.as_slice(), [1].as_slice());
     Ok(())
 }
 
@@ -212,5 +294,7 @@ fn search_and_scan(rt: HostRuntime) -> Result<(), Fail> {
     let plain = plain_races(&rt, text.as_bytes())?;
     assert!(rt; plain.len() > 1_000);
     assert_eq!(rt; found.races.as_slice(), plain.as_slice());
+    let of_open = search_open(&rt, text.as_bytes())?;
+    assert_eq!(rt; of_open.races.as_slice(), plain.as_slice());
     Ok(())
 }

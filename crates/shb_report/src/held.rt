@@ -10,7 +10,11 @@ use crate::buffer::{DIGITS, ROOM, TextBuffer};
 use shb_io::{Failed, Sink, write_all};
 
 /// Sends what is held back where `more` bytes have no room behind it.
-fn make_room<S: Sink>(sink: &mut S, held: &mut TextBuffer, more: usize) -> Result<(), Failed>
+pub(crate) fn make_room<S: Sink>(
+    sink: &mut S,
+    held: &mut TextBuffer,
+    more: usize,
+) -> Result<(), Failed>
     requires fits { more ≤ ROOM }
     requires countable { S.failure_count sink.old < 2 ^ 64 - 1 }
     ensures room { OnOk result (length held.new + more ≤ ROOM) }

@@ -1,10 +1,16 @@
 //! The laws of reports, over the definitions alone. Each function does nothing: its contract is the
 //! law.
-ghost use Rattle.std.specs.Prelude.{◌≡◌, ℕ, Bool, List};
+ghost use Rattle.std.specs.Prelude.{◌≡◌, ◌↔◌, ℕ, All, Bool, List, length, map, true};
 ghost use Rattle.shb_lines.specs.Discipline.{IsDisciplined};
 ghost use Rattle.shb_lines.specs.Race.{IsRaceList};
 ghost use Rattle.shb_lines.specs.TraceData.{TraceData};
-ghost use Rattle.shb_report.specs.Report.{AreBlocks, IsReport};
+ghost use Rattle.shb_report.specs.Reading.{IsBadLine, IsReportText};
+ghost use Rattle.shb_report.specs.Report.{AreBlocks, HasSchedule, IsReport, ShownRace};
+ghost use Rattle.shb_report.specs.Value.{IsReportValue, ReportValue, report_text};
+ghost use Rattle.shb_report.specs.Verdicts.{IsGoodReport, IsVerdict};
+ghost use Rattle.shb_report.specs.Written.{written_report};
+ghost use Rattle.shb_report.specs.declared.verdict.Verdict.{Verdict};
+ghost use Rattle.shb_report.specs.declared.verdict.Verdict.TheVariants.{Good};
 
 /// A trace has at most one report in each form, since it has at most one race list.
 pub fn report_is_unique()
@@ -18,4 +24,39 @@ pub fn report_exists()
     ensures { (with_schedules : Bool) (trace : TraceData) (races : List (ℕ × ℕ))
         → IsDisciplined trace.events → IsRaceList trace.events races
         → (bytes : List ℕ) × IsReport with_schedules trace bytes }
+{}
+
+/// A text is the text of at most one report in the grammar. So what is read of the text of a report is
+/// that report.
+pub fn report_of_a_text_is_unique()
+    ensures { (report other : ReportValue) → IsReportValue report → IsReportValue other → report_text report ≡ report_text other → report ≡ other }
+{}
+
+/// A text has at most one bad line, and none where it is a report within the limit.
+pub fn bad_line_is_unique()
+    ensures one { (limit : ℕ) (text : List ℕ) (m n : ℕ) → IsBadLine limit text m → IsBadLine limit text n → m ≡ n }
+    ensures no_report { (limit : ℕ) (text : List ℕ) (n : ℕ) (report : ReportValue) → IsReportText limit text report → IsBadLine limit text n → ⊥ }
+{}
+
+/// The report of a trace that the writer's parts are, with schedules, is the text of a report as it is
+/// read: of version 1, with the counts of the trace and a block for each race of its race list.
+pub fn written_report_is_a_text()
+    ensures { (trace : TraceData) (bytes : List ℕ) → IsReport true trace bytes → (shown : List ShownRace)
+        × IsRaceList trace.events (map (λ race. race.pair) shown) × All (HasSchedule true trace) shown
+        × (bytes ≡ report_text (written_report trace shown)) }
+{}
+
+/// What is said of a report is `Good`, with the number of its races, exactly where it is good for the
+/// trace: its counts are those of the trace; each block is about two events that conflict, the earlier
+/// one first, has their lines and a schedule of the two; and its places, where it has any, are those of
+/// the listed pairs.
+pub fn good_reports_are_called_good()
+    ensures { (trace : TraceData) (report : ReportValue) (verdict : Verdict) → IsDisciplined trace.events → IsVerdict trace report verdict
+        → (verdict ≡ Good (length report.blocks)) ↔ IsGoodReport trace report }
+{}
+
+/// A report has at most one verdict.
+pub fn verdict_is_one()
+    ensures { (trace : TraceData) (report : ReportValue) (verdict other : Verdict) → IsDisciplined trace.events
+        → IsVerdict trace report verdict → IsVerdict trace report other → verdict ≡ other }
 {}

@@ -1,16 +1,45 @@
-//! Writes the report of a trace, in version 1 of this project's report format.
+//! Writes the report of a trace and reads reports, in this project's report format.
 //!
 //! A report is the head, a block for each race of the race list in order, and the tail. Each of the
-//! three has a call that writes it into any sink. A call puts its text together in a buffer of 1 KiB
-//! and sends that when it is full and at the end; it takes no memory.
+//! three has a call that writes it, in version 1, into any sink. A call puts its text together in a
+//! buffer of 1 KiB and sends that when it is full and at the end; it takes no memory. Version 2 has
+//! places, the pairs of locations of the races, before the blocks: `places_of` finds them and
+//! `place_lines` writes them.
+//!
+//! `read_report` reads both versions, with schedules, and names the first bad line of any other text.
 #![tactic(auto)]
 
 mod buffer;
+mod checking;
+mod entries;
+mod grammar;
 mod held;
 pub mod laws;
+mod lines;
+mod listed;
+mod parts;
+mod place_writer;
+mod places;
+mod reader;
+mod report;
+mod scan;
+mod scanning;
+mod schedule;
+mod verdict;
+mod verdict_writer;
 pub mod writer;
 
+pub use checking::check_report;
+pub use place_writer::place_lines;
+pub use places::{PlaceCount, Places, places_of};
+pub use report::{Report, ReportError, read_report, read_report_within};
+pub use verdict::{RaceFault, Verdict};
+pub use verdict_writer::verdict_line;
 pub use writer::{Counts, block, head, tail};
 
+#[cfg(test)]
+mod place_tests;
+#[cfg(test)]
+mod read_tests;
 #[cfg(test)]
 mod tests;

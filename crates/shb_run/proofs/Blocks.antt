@@ -1,10 +1,12 @@
 -- The blocks of some races, one race more at a time.
-use Rattle.std.proofs.Common.{◌≡◌, ℕ, ◌+◌, ◌<◌, ◌≤◌, Bool, true, false, List, [], ◌∷◌, ◌++◌, length, map, take, drop, get_or, Option, None, Some, Result, Ok, Err, IsErrAnd, refl, sym, ap, subst, ◌∙◌, append_assoc, append-nil, arith}
+use Rattle.std.proofs.Common.{◌≡◌, ◌⊎◌, inl, inr, ℕ, ◌+◌, ◌<◌, ◌≤◌, Bool, true, false, List, [], ◌∷◌, ◌++◌, length, map, take, drop, get_or, Option, None, Some, Result, Ok, Err, IsErrAnd, refl, sym, ap, subst, ◌∙◌, append_assoc, append-nil, arith}
+use Rattle.std.specs.Prelude.{MatchResult}
+use Rattle.std.proofs.lemmas.Bool.{cases_lt}
 use Rattle.std.proofs.lemmas.List.{map-append, length-map, take_all, take_more, take-append-drop, length-take-le}
 use Rattle.std.proofs.lemmas.List.Elements.{All-nil, All-push}
 use Rattle.std.specs.Io.KnownBytes.{Appends}
 use Rattle.shb_io.specs.Devices.{AppendsPrefix}
-use Rattle.shb_io.proofs.Growth.{Appends-nil, Appends-trans, AppendsPrefix-after, AppendsPrefix-front, Writes-err}
+use Rattle.shb_io.proofs.Growth.{Appends-nil, Appends-trans, AppendsPrefix-after, AppendsPrefix-front, AppendsPrefix-whole}
 use Rattle.shb_lines.specs.declared.event.Event.{Event}
 use Rattle.shb_lines.specs.declared.event.Pair.{Pair}
 use Rattle.shb_lines.specs.Discipline.{IsDisciplined}
@@ -14,10 +16,10 @@ use Rattle.shb_lines.proofs.Decide.{printed_exists}
 use Rattle.shb_report.specs.Report.{AreBlocks, HasSchedule, ShownRace, block_bytes, blocks_from}
 use Rattle.shb_run.specs.declared.errors.WriteError.{WriteError}
 use Rattle.shb_pairs.specs.Races.{ends}
-use Rattle.shb_run.specs.Written.{WritesBlock, WritesBlocks}
+use Rattle.shb_run.specs.Written.{AppendsFront, WritesBlocks}
 
 -- the block of the last race stands last
-blocks_from-push : (trace : TraceData) (number place : ℕ) (shown : List ShownRace) (race : ShownRace) → place ≡ number + length shown
+pub blocks_from-push : (trace : TraceData) (number place : ℕ) (shown : List ShownRace) (race : ShownRace) → place ≡ number + length shown
     → blocks_from trace number (shown ++ race ∷ []) ≡ blocks_from trace number shown ++ block_bytes trace place race.pair race.schedule
 blocks_from-push trace number place [] race is =
     let same : place ≡ number = omega arith in
@@ -92,11 +94,23 @@ ends-take races i d lt = ap (map ends) (take_more races i d lt) ∙ map-append e
 length-ends-take : (races : List Pair) (i : ℕ) → i < length races → length (map ends (take i races)) ≡ i
 length-ends-take races i lt = length-map (take i races) ends ∙ length-take-le i races (omega arith)
 
+-- the block of a race was written
+pub record AddsBlock (ws : Bool) (trace : TraceData) (number : ℕ) (pair : ℕ × ℕ) (old new : Option (List ℕ)) : Type 0 where
+  pub schedule : Option (List ℕ)
+  pub shown : HasSchedule ws trace (record { pair = pair; schedule = schedule })
+  pub written : Appends old new (block_bytes trace number pair schedule)
+
+-- less than the block of a race was written
+pub record CutsBlock (ws : Bool) (trace : TraceData) (number : ℕ) (pair : ℕ × ℕ) (old new : Option (List ℕ)) : Type 0 where
+  pub schedule : Option (List ℕ)
+  pub shown : HasSchedule ws trace (record { pair = pair; schedule = schedule })
+  pub cut : AppendsPrefix old new (block_bytes trace number pair schedule)
+
 -- and the block of the next race was written
-pub HasBlocks-push : {T : Type 0} (ws : Bool) (trace : TraceData) (races : List Pair) (i number : ℕ) (pair d : Pair) (old now new : Option (List ℕ)) (x : T)
-    → i < length races → pair ≡ get_or races i d → number ≡ i + 1 → HasBlocks ws trace (map ends (take i races)) old now → WritesBlock ws trace number (ends pair) now new (Ok x)
+pub HasBlocks-push : (ws : Bool) (trace : TraceData) (races : List Pair) (i number : ℕ) (pair d : Pair) (old now new : Option (List ℕ))
+    → i < length races → pair ≡ get_or races i d → number ≡ i + 1 → HasBlocks ws trace (map ends (take i races)) old now → AddsBlock ws trace number (ends pair) now new
     → HasBlocks ws trace (map ends (take (i + 1) races)) old new
-HasBlocks-push ws trace races i number pair d old now new x lt is numbered before next =
+HasBlocks-push ws trace races i number pair d old now new lt is numbered before next =
     let place : number ≡ 1 + length (map ends (take i races)) = omega (arith, length-ends-take races i lt) in
     let block = block_bytes trace (1 + length (map ends (take i races))) (ends pair) next.schedule in
     let pushed = AreBlocks-push ws trace (map ends (take i races)) before.bytes (record { pair = ends pair; schedule = next.schedule }) before.blocks next.shown in
@@ -106,11 +120,28 @@ HasBlocks-push ws trace races i number pair d old now new x lt is numbered befor
       appended = Appends-trans old now new before.bytes block before.appended (subst (λ n. Appends now new (block_bytes trace n (ends pair) next.schedule)) place next.written);
     }
 
--- the next race failed
-pub WritesBlocks-stop : {T U : Type 0} (ws : Bool) (trace : TraceData) (races : List Pair) (i number : ℕ) (pair d : Pair) (old now new : Option (List ℕ)) (e : WriteError) (Q : WriteError → Type 0) (r : Result U WriteError)
-    → IsDisciplined trace.events → i < length races → pair ≡ get_or races i d → number ≡ i + 1 → HasBlocks ws trace (map ends (take i races)) old now → WritesBlock {T = T} ws trace number (ends pair) now new (Err e)
+-- less than all bytes are the front of them
+pub front_of : (old new : Option (List ℕ)) (bs : List ℕ) → AppendsPrefix old new bs → AppendsFront old new bs
+front_of old new bs p = (p.0, p.2)
+
+front_written : {U : Type 0} (Q : WriteError → Type 0) (r : Result U WriteError) (old new : Option (List ℕ)) (bs : List ℕ) → IsErrAnd r Q → AppendsFront old new bs
+    → MatchResult r (λ _. Appends old new bs) (λ _. AppendsFront old new bs)
+front_written Q (Ok x) old new bs failed front = absurd failed
+front_written Q (Err e) old new bs failed front = front
+
+-- what was written of the blocks lacks what comes behind them
+pub AppendsFront-then : (old new : Option (List ℕ)) (xs ys : List ℕ) → 0 < length ys → AppendsFront old new xs → AppendsPrefix old new (xs ++ ys)
+AppendsFront-then old new xs ys some front = cases (cases_lt front.0 (length xs))
+  where
+    cases : (front.0 < length xs) ⊎ (length xs ≤ front.0) → AppendsPrefix old new (xs ++ ys)
+    cases (inl lt) = AppendsPrefix-front old new xs ys (front.0, lt, front.1)
+    cases (inr le) = AppendsPrefix-whole old new xs ys some (subst (Appends old new) (take_all front.0 xs le) front.1)
+
+-- the block of the next race was not written whole
+pub WritesBlocks-stop : {U : Type 0} (ws : Bool) (trace : TraceData) (races : List Pair) (i number : ℕ) (pair d : Pair) (old now new : Option (List ℕ)) (Q : WriteError → Type 0) (r : Result U WriteError)
+    → IsDisciplined trace.events → i < length races → pair ≡ get_or races i d → number ≡ i + 1 → HasBlocks ws trace (map ends (take i races)) old now → CutsBlock ws trace number (ends pair) now new
     → IsErrAnd r Q → WritesBlocks ws trace (map ends races) old new r
-WritesBlocks-stop ws trace races i number pair d old now new e Q r disciplined lt is numbered before next failed =
+WritesBlocks-stop ws trace races i number pair d old now new Q r disciplined lt is numbered before next failed =
     let place : number ≡ 1 + length (map ends (take i races)) = omega (arith, length-ends-take races i lt) in
     let block = block_bytes trace (1 + length (map ends (take i races))) (ends pair) next.schedule in
     let pushed = AreBlocks-push ws trace (map ends (take i races)) before.bytes (record { pair = ends pair; schedule = next.schedule }) before.blocks next.shown in
@@ -120,11 +151,11 @@ WritesBlocks-stop ws trace races i number pair d old now new e Q r disciplined l
     ∙ ap (λ l. l ++ map ends (drop (i + 1) races)) (sym (ends-take races i d lt))
     ∙ sym (map-append ends (take (i + 1) races) (drop (i + 1) races))
     ∙ ap (map ends) (take-append-drop (i + 1) races) in
-    let prefix : AppendsPrefix now new block = subst (λ n. AppendsPrefix now new (block_bytes trace n (ends pair) next.schedule)) place next.written in
+    let prefix : AppendsPrefix now new block = subst (λ n. AppendsPrefix now new (block_bytes trace n (ends pair) next.schedule)) place next.cut in
     record {
       bytes = (before.bytes ++ block) ++ more.0;
       blocks = subst (λ l. AreBlocks ws trace l ((before.bytes ++ block) ++ more.0)) whole more.1;
-      written = Writes-err Q r old new _ failed (AppendsPrefix-front old new (before.bytes ++ block) more.0 (AppendsPrefix-after old now new before.bytes block before.appended prefix));
+      written = front_written Q r old new _ failed (front_of old new _ (AppendsPrefix-front old new (before.bytes ++ block) more.0 (AppendsPrefix-after old now new before.bytes block before.appended prefix)));
     }
 
 -- all races have their blocks

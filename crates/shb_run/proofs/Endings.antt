@@ -1,8 +1,9 @@
 -- From what the parts of a run answer to what the run says of the text.
-use Rattle.std.proofs.Common.{◌≡◌, ℕ, inl, inr, Bool, List, length, map, None, Some, Option, Result, Ok, Err, IfSome, IfErr, IsErrAnd, refl, sym, ap, subst, ◌∙◌}
+use Rattle.std.proofs.Common.{◌≡◌, ℕ, inl, inr, Bool, List, [], length, map, None, Some, Option, Result, Ok, Err, IfSome, IfErr, IsErrAnd, refl, sym, ap, subst, ◌∙◌}
 use Rattle.std.proofs.lemmas.List.{length-map}
 use Rattle.std.proofs.lemmas.Option.{IfSome_then}
 use Rattle.std.specs.Io.KnownBytes.{Keeps}
+use Rattle.shb_io.proofs.Growth.{Appends-kept, Appends-nil}
 use Rattle.shb_lines.specs.declared.event.Event.{Event}
 use Rattle.shb_lines.specs.declared.event.Fault.{Fault}
 use Rattle.shb_lines.specs.declared.event.LineFault.{LineFault}
@@ -11,6 +12,7 @@ use Rattle.shb_lines.specs.Discipline.{IsDisciplined}
 use Rattle.shb_lines.specs.Race.{IsRaceList}
 use Rattle.shb_lines.specs.Text.{lines_of}
 use Rattle.shb_lines.specs.TraceData.{IsReadingOf, IsTraceOf, TraceData}
+use Rattle.shb_lines.proofs.Decide.{printed_exists}
 use Rattle.shb_lines.proofs.Schedulable.{printed_is_schedule}
 use Rattle.shb_lines.proofs.Unschedulable.{race_of_schedule}
 use Rattle.shb_discipline.specs.FirstFault.{HasNoFault}
@@ -23,8 +25,10 @@ use Rattle.shb_pairs.specs.Races.{ends}
 use Rattle.shb_run.specs.declared.errors.RunError.{RunError}
 use Rattle.shb_run.specs.declared.errors.RunError.TheVariants.{Trace, Source, Sink, Memory}
 use Rattle.shb_run.specs.declared.settings.Summary.{Summary}
-use Rattle.shb_run.specs.Errors.{error_of_checking}
-use Rattle.shb_run.specs.Runs.{IsAccepted, IsCutShort, IsFirstFaultOf, IsRefusalOf, IsReported, ListsSchedulable, OnBrokenOff, limits}
+use Rattle.shb_lines.specs.declared.read.ReadError.{ReadError}
+use Rattle.shb_lines.specs.declared.read.ReadError.TheVariants as reading
+use Rattle.shb_run.specs.Errors.{error_of_checking, error_of_reading}
+use Rattle.shb_run.specs.Runs.{IsAccepted, IsCutShort, IsFirstFaultOf, IsRefusalOf, IsReported, Grows, ListsSchedulable, OnBrokenOff, OnJudged, limits}
 use Rattle.shb_run.specs.Written.{IsCutOff, ReportsTrace, WritesReport, summary_of}
 
 -- known bytes that nothing was done to
@@ -38,7 +42,9 @@ no_first_fault text line fault none first = none first.before fault first.within
 
 pub schedulable_of : (events : List Event) (races : List (ℕ × ℕ)) → IsDisciplined events → IsRaceList events races → ListsSchedulable events races
 schedulable_of events races disciplined are = record {
-  listed = λ i j is s printed. printed_is_schedule events s i j disciplined ((are.all i j).0 is) printed;
+  listed = λ i j is.
+      let printed = printed_exists events disciplined i j in
+      (printed.0, printed.1, printed_is_schedule events printed.0 i j disciplined ((are.all i j).0 is) printed.1);
   unlisted = λ i j earlier conflict absent s schedule. absent ((are.all i j).1 (race_of_schedule events s i j conflict earlier schedule));
 }
 
@@ -56,6 +62,7 @@ reported_of ws text read stop events trace summary old new disciplined same acce
   faultless = accepted.faultless text reading;
   bytes = written.bytes;
   report = report_of_text ws text written.bytes read stop trace accepted reading written.report;
+  disciplined = subst IsDisciplined same disciplined;
   written = written.written;
   summary_is = written.summary_is;
   schedulable = schedulable_of trace.events written.report.races (subst IsDisciplined same disciplined) written.report.races_are;
@@ -116,3 +123,29 @@ broken_off (Err Memory) P p = p
 pub not_silent : (read : TraceData) (stop : Option LineFault) (trace : TraceData) (known old new : Option (List ℕ))
     → IsAccepted read stop trace → IfSome known (λ text. IsReadingOf limits text read stop) → IfSome known (λ text. (line : ℕ) (fault : Fault) → IsFirstFaultOf text line fault → Keeps old new)
 not_silent read stop trace known old new accepted reading = IfSome_then known reading (λ text one line fault first. absurd (no_first_fault text line fault (accepted.faultless text one) first))
+
+-- what holds of each run that read its text
+pub judged : {T : Type 0} (r : Result T RunError) (P : Type 0) → P → OnJudged r P
+judged (Ok x) P p = p
+judged (Err (Trace line fault)) P p = p
+judged (Err Source) P p = tt
+judged (Err Sink) P p = tt
+judged (Err Memory) P p = tt
+
+-- a text that was not read was not judged
+pub not_judged : {T : Type 0} (error : ReadError) (r : Result T RunError) (P : Type 0) → IsErrAnd r (λ e. e ≡ error_of_reading error) → OnJudged r P
+not_judged error (Ok x) P is = absurd is
+not_judged {T} error (Err e) P is = subst (λ (e : RunError). OnJudged {T = T} (Err e) P) (sym is) (told error)
+  where
+    told : (error : ReadError) → OnJudged {T = T} (Err (error_of_reading error)) P
+    told reading.Source = tt
+    told reading.Memory = tt
+
+-- known bytes that nothing was done to
+pub Grows-same : (a : Option (List ℕ)) → Grows a a
+Grows-same a = ([], Appends-nil a)
+
+-- known bytes that grew by the front of a report
+pub grown_of_cut : (ws : Bool) (trace : TraceData) (old new : Option (List ℕ)) → IsCutOff ws trace old new → Grows old new
+grown_of_cut ws trace old new (inl kept) = ([], Appends-kept old new kept)
+grown_of_cut ws trace old new (inr front) = (_, front.2.2)

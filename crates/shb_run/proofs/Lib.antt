@@ -1,3 +1,5 @@
+pub mod OneReport
+pub mod Streamed
 pub mod Blocks
 pub mod Ranges
 pub mod Reports

@@ -1,4 +1,6 @@
+pub mod Scheduled
 pub mod Words
 pub mod Written
 pub mod Runs
 pub mod Errors
+pub mod Checks

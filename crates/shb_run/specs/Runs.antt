@@ -1,11 +1,12 @@
 -- What a run says of the text that it read, and what it leaves in the sink.
-use Rattle.std.specs.Prelude.{◌≡◌, ℕ, ◌+◌, ◌<◌, ◌⊎◌, Bool, List, length, Contains, Option, Result, Err, ⊤}
+use Rattle.std.specs.Prelude.{◌≡◌, ℕ, ◌+◌, ◌<◌, ◌⊎◌, Bool, List, length, Contains, Option, Result, Ok, Err, ⊤}
 use Rattle.std.specs.Io.KnownBytes.{Appends, Keeps}
 use Rattle.shb_io.specs.Devices.{AppendsPrefix}
 use Rattle.shb_lines.specs.declared.event.Event.{Event}
 use Rattle.shb_lines.specs.declared.event.Fault.{Fault}
 use Rattle.shb_lines.specs.declared.event.Limits.{Limits}
 use Rattle.shb_lines.specs.declared.event.LineFault.{LineFault}
+use Rattle.shb_lines.specs.Discipline.{IsDisciplined}
 use Rattle.shb_lines.specs.Text.{lines_of}
 use Rattle.shb_lines.specs.TraceData.{IsReadingOf, IsTraceOf, TraceData}
 use Rattle.shb_lines.specs.Race.{Conflict}
@@ -25,16 +26,17 @@ limits = record { text = 1073741824; line = 4096; events = 4194304; threads = 10
 abbrev pub IsFirstFaultOf : List ℕ → ℕ → Fault → Type 0
 IsFirstFaultOf text line fault = HasFirstFault limits text line fault
 
--- each listed pair's printed schedule is a schedule of it, and a conflicting pair that is not listed has none
+-- each listed pair has a printed schedule, which is a schedule of it, and a conflicting pair that is not listed has none
 pub record ListsSchedulable (events : List Event) (races : List (ℕ × ℕ)) : Type 0 where
-  pub listed : (i j : ℕ) → Contains races (i, j) → (s : List ℕ) → IsPrintedSchedule events s i j → IsSchedule events s i j
+  pub listed : (i j : ℕ) → Contains races (i, j) → (s : List ℕ) × IsPrintedSchedule events s i j × IsSchedule events s i j
   pub unlisted : (i j : ℕ) → i < j → Conflict events i j → ¬ Contains races (i, j) → (s : List ℕ) → ¬ IsSchedule events s i j
 
--- the text has no fault, its report was written and nothing else, and the summary is that of the report
+-- the text has no fault, its report was written and nothing else, the trace of the report is disciplined, and the summary is that of the report
 pub record IsReported (with_schedules : Bool) (text : List ℕ) (summary : Summary) (old new : Option (List ℕ)) : Type 0 where
   pub faultless : HasNoFault limits text
   pub bytes : List ℕ
   pub report : IsReportOf with_schedules text bytes
+  pub disciplined : IsDisciplined report.trace.events
   pub written : Appends old new bytes
   pub summary_is : summary ≡ summary_of report.trace (length report.report.races)
   pub schedulable : ListsSchedulable report.trace.events report.report.races
@@ -59,6 +61,16 @@ abbrev pub OnBrokenOff : {T : Type 0} → Result T RunError → Type 0 → Type 
 OnBrokenOff (Err Sink) P = P
 OnBrokenOff (Err Memory) P = P
 OnBrokenOff _ P = ⊤
+
+-- for a run that judged all that it read
+abbrev pub OnJudged : {T : Type 0} → Result T RunError → Type 0 → Type 0
+OnJudged (Ok x) P = P
+OnJudged (Err (Trace line fault)) P = P
+OnJudged _ P = ⊤
+
+-- known bytes have others behind them, or none
+abbrev pub Grows : Option (List ℕ) → Option (List ℕ) → Type 0
+Grows old new = (bytes : List ℕ) × Appends old new bytes
 
 -- the source failed once where that is the answer, and else not at all
 abbrev pub CountsSource : {T : Type 0} → ℕ → ℕ → Result T RunError → Type 0

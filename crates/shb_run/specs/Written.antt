@@ -1,9 +1,9 @@
 -- What the writing of a report leaves in a sink.
-use Rattle.std.specs.Prelude.{◌≡◌, ℕ, ◌+◌, ◌⊎◌, Bool, List, length, Option, Result, Ok, Err}
+use Rattle.std.specs.Prelude.{◌≡◌, ℕ, ◌+◌, ◌⊎◌, Bool, List, length, take, Option, Result, Ok, Err, MatchResult}
 use Rattle.std.specs.Io.KnownBytes.{Appends, Keeps}
 use Rattle.shb_io.specs.Devices.{AppendsPrefix, Writes}
 use Rattle.shb_lines.specs.TraceData.{TraceData}
-use Rattle.shb_report.specs.Report.{AreBlocks, HasSchedule, IsReport, block_bytes}
+use Rattle.shb_report.specs.Report.{AreBlocks, IsReport}
 use Rattle.shb_run.specs.declared.errors.WriteError.{WriteError}
 use Rattle.shb_run.specs.declared.errors.WriteError.TheVariants.{Sink, Memory}
 use Rattle.shb_run.specs.declared.settings.Summary.{Summary}
@@ -14,17 +14,15 @@ IsSinkCounted old new (Ok x) = new ≡ old
 IsSinkCounted old new (Err Sink) = new ≡ old + 1
 IsSinkCounted old new (Err Memory) = new ≡ old
 
--- the block of a race was written or, on an error, the front of it
-pub record WritesBlock {T : Type 0} (with_schedules : Bool) (trace : TraceData) (number : ℕ) (pair : ℕ × ℕ) (old new : Option (List ℕ)) (r : Result T WriteError) : Type 0 where
-  pub schedule : Option (List ℕ)
-  pub shown : HasSchedule with_schedules trace (record { pair = pair; schedule = schedule })
-  pub written : Writes old new r (block_bytes trace number pair schedule)
+-- known bytes grow by the first bytes of bs, perhaps by all of them
+abbrev pub AppendsFront : Option (List ℕ) → Option (List ℕ) → List ℕ → Type 0
+AppendsFront old new bs = (n : ℕ) × Appends old new (take n bs)
 
--- the blocks of some races were written or, on an error, the front of them
+-- the blocks of some races were written or, on an error, the front of them, perhaps all
 pub record WritesBlocks {T : Type 0} (with_schedules : Bool) (trace : TraceData) (races : List (ℕ × ℕ)) (old new : Option (List ℕ)) (r : Result T WriteError) : Type 0 where
   pub bytes : List ℕ
   pub blocks : AreBlocks with_schedules trace races bytes
-  pub written : Writes old new r bytes
+  pub written : MatchResult r (λ _. Appends old new bytes) (λ _. AppendsFront old new bytes)
 
 -- the report of a trace that has these races was written or, on an error, the front of it
 pub record WritesReport {T : Type 0} (with_schedules : Bool) (trace : TraceData) (races : List (ℕ × ℕ)) (old new : Option (List ℕ)) (r : Result T WriteError) : Type 0 where

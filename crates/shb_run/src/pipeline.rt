@@ -1,8 +1,9 @@
 //! The whole run: read, judge, find the races, write.
-ghost use Rattle.std.specs.Prelude.{◌≡◌, ◌-◌, ◌^◌, ◌<◌, ℕ, List, IfErr, IfOk, IfSome, OnErr};
+ghost use Rattle.std.specs.Prelude.{◌≡◌, ◌-◌, ◌^◌, ◌<◌, ℕ, List, Some, IfErr, IfOk, IfSome, OnErr, drop};
 ghost use Rattle.std.specs.Io.KnownBytes.{Keeps};
 ghost use Rattle.shb_lines.specs.declared.event.Fault.{Fault};
-ghost use Rattle.shb_run.specs.Runs.{CountsSink, CountsSource, IsAccepted, IsCutShort, IsFirstFaultOf, IsRefusalOf, IsReported, OnBrokenOff, OnNoTrace, OnTrace};
+ghost use Rattle.shb_lines.specs.Taking.{TakesAtMost};
+ghost use Rattle.shb_run.specs.Runs.{CountsSink, CountsSource, Grows, IsAccepted, IsCutShort, IsFirstFaultOf, IsRefusalOf, IsReported, OnBrokenOff, OnJudged, OnNoTrace, OnTrace};
 ghost use Rattle.shb_run.specs.Written.{IsCutOff, IsSinkCounted, ReportsTrace, summary_of};
 
 use crate::errors::{RunError, WriteError};
@@ -10,16 +11,19 @@ use crate::ordered::Ordered;
 use crate::races::races_of;
 use crate::settings::{Settings, Summary};
 use crate::write::write_report;
-use shb_clocks::{Order, versions};
+use shb_clocks::{Order, by_event};
 use shb_discipline::{Disciplined, check};
+use shb_fan::{FreeGate, Gate};
 use shb_io::{Sink, Source};
 use shb_lines::{Limits, Parsed, Trace, parse};
 use shb_links::{Links, links_of};
 use std::alloc::Global;
 use std::random::RandomSource;
+use std::sync::Wait;
+use std::thread::Threads;
 
 /// The trace of a text that has no fault, or the first fault of the text.
-fn judge<'a>(alloc: Global, parsed: &'a Parsed) -> Result<Disciplined<'a>, RunError>
+pub(crate) fn judge<'a>(alloc: Global, parsed: &'a Parsed) -> Result<Disciplined<'a>, RunError>
     ensures accepted { IfOk result (λ trace. IsAccepted parsed.now.trace parsed.now.stop trace.trace.now) }
     ensures refused { IfErr result (IsRefusalOf parsed.now.trace parsed.now.stop) }
 {
@@ -47,20 +51,23 @@ fn summary_of(trace: &Trace, races: u64) -> Summary
 }
 
 /// Finds the races of a trace by an order of it, and writes its report.
-fn report_by<K: Sink, O: Order>(
+fn report_by<R: Threads + Wait + Sync, K: Sink, O: Order + Sync, P: Gate + Sync, W: Gate + Sync>(
+    rt: &R,
     alloc: Global,
     sink: &mut K,
     trace: &Disciplined<'_>,
     links: &Links<'_>,
     order: &O,
-    schedules: bool,
+    settings: Settings,
+    pair_gate: &P,
+    witness_gate: &W,
 ) -> Result<Summary, WriteError>
     requires countable { K.failure_count sink.old < 2 ^ 64 - 1 }
     requires linked { links.now ≡ trace.now.events.now }
     requires of_trace { O.trace order.now ≡ trace.now.events.now }
-    ensures report { IfOk result (λ summary. ReportsTrace schedules trace.now.trace.now summary
+    ensures report { IfOk result (λ summary. ReportsTrace settings.schedules trace.now.trace.now summary
         (K.taken sink.old) (K.taken sink.new)) }
-    ensures cut { OnErr result (IsCutOff schedules trace.now.trace.now (K.taken sink.old) (K.taken sink.new)) }
+    ensures cut { OnErr result (IsCutOff settings.schedules trace.now.trace.now (K.taken sink.old) (K.taken sink.new)) }
     ensures counted { IsSinkCounted (K.failure_count sink.old) (K.failure_count sink.new) result }
 {
     let ordered = Ordered {
@@ -68,27 +75,40 @@ fn report_by<K: Sink, O: Order>(
         links: &*links,
         order: &*order,
     };
-    let races = races_of(alloc, &ordered)?;
-    write_report(alloc, sink, &ordered, &races, schedules)?;
+    let races = races_of(rt, alloc, &ordered, pair_gate, settings.workers)?;
+    write_report(rt, alloc, sink, &ordered, &races, witness_gate, settings)?;
     Ok(summary_of(trace.trace, races.len() as u64))
 }
 
 /// Finds the races of a trace, and writes its report.
-fn report<K: Sink>(
+fn report<R: Threads + Wait + Sync, K: Sink, P: Gate + Sync, W: Gate + Sync>(
+    rt: &R,
     alloc: Global,
     sink: &mut K,
     trace: &Disciplined<'_>,
-    schedules: bool,
+    settings: Settings,
+    pair_gate: &P,
+    witness_gate: &W,
 ) -> Result<Summary, WriteError>
     requires countable { K.failure_count sink.old < 2 ^ 64 - 1 }
-    ensures report { IfOk result (λ summary. ReportsTrace schedules trace.now.trace.now summary
+    ensures report { IfOk result (λ summary. ReportsTrace settings.schedules trace.now.trace.now summary
         (K.taken sink.old) (K.taken sink.new)) }
-    ensures cut { OnErr result (IsCutOff schedules trace.now.trace.now (K.taken sink.old) (K.taken sink.new)) }
+    ensures cut { OnErr result (IsCutOff settings.schedules trace.now.trace.now (K.taken sink.old) (K.taken sink.new)) }
     ensures counted { IsSinkCounted (K.failure_count sink.old) (K.failure_count sink.new) result }
 {
     let links = links_of(alloc, &*trace)?;
-    let order = versions(alloc, &*trace, &links)?;
-    report_by(alloc, sink, trace, &links, &order, schedules)
+    let order = by_event(alloc, &*trace, &links)?;
+    report_by(
+        rt,
+        alloc,
+        sink,
+        trace,
+        &links,
+        &order,
+        settings,
+        pair_gate,
+        witness_gate,
+    )
 }
 
 /// Reads a trace, finds its races, and writes its report.
@@ -106,7 +126,7 @@ fn report<K: Sink>(
 ///   or nothing.
 ///
 /// What was read of the source stays read.
-pub fn run<S: Source, K: Sink, R: RandomSource>(
+pub fn run<S: Source, K: Sink, R: Threads + Wait + Sync + RandomSource>(
     alloc: Global,
     rt: &R,
     source: &mut S,
@@ -116,7 +136,7 @@ pub fn run<S: Source, K: Sink, R: RandomSource>(
     requires source_countable { S.failure_count source.old < 2 ^ 64 - 1 }
     requires sink_countable { K.failure_count sink.old < 2 ^ 64 - 1 }
 
-    // The text has no fault, and its report was written. Each listed pair has its schedule, and a
+    // The text has no fault, and its report was written. Each listed pair has a schedule, and a
     // conflicting pair that isn't listed has none.
     ensures reported { IfOk result (λ summary. IfSome (S.remaining source.old) (λ text.
         IsReported settings.schedules text summary (K.taken sink.old) (K.taken sink.new))) }
@@ -132,11 +152,74 @@ pub fn run<S: Source, K: Sink, R: RandomSource>(
     ensures silent { IfSome (S.remaining source.old) (λ text. (line : ℕ) (fault : Fault) →
         IsFirstFaultOf text line fault → Keeps (K.taken sink.old) (K.taken sink.new)) }
 
+    // What the sink took before stays as it was, whether or not the source tells its bytes.
+    ensures grown { Grows (K.taken sink.old) (K.taken sink.new) }
+
+    // The source lost its first bytes, at most 1,073,741,825; exactly those where the text was judged.
+    ensures taken { TakesAtMost 1073741825 (S.remaining source.old) (S.remaining source.new) }
+    ensures left { OnJudged result (IfSome (S.remaining source.old) (λ text.
+        S.remaining source.new ≡ Some (drop 1073741825 text))) }
+
+    // An error of a device comes with one failure more of that device, and no other answer does.
+    ensures source { CountsSource (S.failure_count source.old) (S.failure_count source.new) result }
+    ensures sink { CountsSink (K.failure_count sink.old) (K.failure_count sink.new) result }
+{
+    run_gated(alloc, rt, source, sink, settings, &FreeGate, &FreeGate)
+}
+
+/// [`run`] with gates: a worker passes `pair_gate` before it looks for the races of a piece, and
+/// `witness_gate` before it makes the schedule of a race. Tests hold workers back with them.
+///
+/// # Errors
+///
+/// Those of [`run`].
+pub fn run_gated<
+    S: Source,
+    K: Sink,
+    R: Threads + Wait + Sync + RandomSource,
+    P: Gate + Sync,
+    W: Gate + Sync,
+>(
+    alloc: Global,
+    rt: &R,
+    source: &mut S,
+    sink: &mut K,
+    settings: Settings,
+    pair_gate: &P,
+    witness_gate: &W,
+) -> Result<Summary, RunError>
+    requires source_countable { S.failure_count source.old < 2 ^ 64 - 1 }
+    requires sink_countable { K.failure_count sink.old < 2 ^ 64 - 1 }
+
+    // The text has no fault, and its report was written. Each listed pair has a schedule, and a
+    // conflicting pair that isn't listed has none.
+    ensures reported { IfOk result (λ summary. IfSome (S.remaining source.old) (λ text.
+        IsReported settings.schedules text summary (K.taken sink.old) (K.taken sink.new))) }
+
+    // A refused trace has this fault first.
+    ensures refused { OnTrace result (λ line fault. IfSome (S.remaining source.old) (λ text.
+        IsFirstFaultOf text line fault)) }
+
+    // What is written where no report is. Where the text has a fault, that is nothing.
+    ensures unwritten { OnNoTrace result (Keeps (K.taken sink.old) (K.taken sink.new)) }
+    ensures cut { OnBrokenOff result (IfSome (S.remaining source.old) (λ text.
+        IsCutShort settings.schedules text (K.taken sink.old) (K.taken sink.new))) }
+    ensures silent { IfSome (S.remaining source.old) (λ text. (line : ℕ) (fault : Fault) →
+        IsFirstFaultOf text line fault → Keeps (K.taken sink.old) (K.taken sink.new)) }
+
+    // What the sink took before stays as it was, whether or not the source tells its bytes.
+    ensures grown { Grows (K.taken sink.old) (K.taken sink.new) }
+
+    // The source lost its first bytes, at most 1,073,741,825; exactly those where the text was judged.
+    ensures taken { TakesAtMost 1073741825 (S.remaining source.old) (S.remaining source.new) }
+    ensures left { OnJudged result (IfSome (S.remaining source.old) (λ text.
+        S.remaining source.new ≡ Some (drop 1073741825 text))) }
+
     // An error of a device comes with one failure more of that device, and no other answer does.
     ensures source { CountsSource (S.failure_count source.old) (S.failure_count source.new) result }
     ensures sink { CountsSink (K.failure_count sink.old) (K.failure_count sink.new) result }
 {
     let parsed = parse(alloc, rt, source, &Limits::standard())?;
     let trace = judge(alloc, &parsed)?;
-    Ok(report(alloc, sink, &trace, settings.schedules)?)
+    Ok(report(rt, alloc, sink, &trace, settings, pair_gate, witness_gate)?)
 }

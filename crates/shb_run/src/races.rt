@@ -1,35 +1,42 @@
 //! The races of a trace, from the pieces of its accesses.
-ghost use Rattle.std.specs.Prelude.{IfOk, map};
+ghost use Rattle.std.specs.Prelude.{◌≡◌, IfOk, map};
 ghost use Rattle.shb_lines.specs.Race.{IsRaceList};
-ghost use Rattle.shb_lines.specs.Sizes.{IsNumberedByAccess};
-ghost use Rattle.shb_pairs.specs.Races.{ends};
+ghost use Rattle.shb_pairs.specs.Races.{ends, joined};
 
 use crate::ordered::Ordered;
 use shb_clocks::Order;
-use shb_fan::Job;
+use shb_fan::{Gate, Workers, gather};
 use shb_io::NoMemory;
 use shb_lines::Pair;
-use shb_pairs::{PairJob, accesses_of, pieces};
+use shb_pairs::{PairJob, accesses_of_open, open_variables, pieces};
 use std::alloc::Global;
+use std::sync::Wait;
+use std::thread::Threads;
 
-/// The races of all pieces, one piece after the other.
-fn join<O: Order>(alloc: Global, job: &PairJob<'_, O>) -> Result<Vec<Pair>, NoMemory>
-    requires numbered { IsNumberedByAccess job.now }
-    ensures listed { IfOk result (λ races. IsRaceList job.now (map ends races.items)) }
+/// Lists of races, one after the other.
+fn join(alloc: Global, lists: Vec<Vec<Pair>>) -> Result<Vec<Pair>, NoMemory>
+    ensures joined { IfOk result (λ races. map ends races.items ≡ joined (map (λ list. map ends list.items) lists.items)) }
 {
     let mut races = Vec::new(alloc);
-    for k in 0..job.pieces() {
-        let found = job.run(alloc, k)?;
-        races.extend_from_slice(&found)?;
+    for list in lists {
+        races.extend_from_slice(&list)?;
     }
     Ok(races)
 }
 
-/// All races of a trace, in the order in which a report lists them.
-pub fn races_of<O: Order>(alloc: Global, ordered: &Ordered<'_, O>) -> Result<Vec<Pair>, NoMemory>
+/// All races of a trace, in the order in which a report lists them, found by workers that look at
+/// pieces at once. The variables that can't race are left out first, by one pass over the trace.
+pub fn races_of<R: Threads + Wait + Sync, O: Order + Sync, G: Gate + Sync>(
+    rt: &R,
+    alloc: Global,
+    ordered: &Ordered<'_, O>,
+    gate: &G,
+    workers: Workers,
+) -> Result<Vec<Pair>, NoMemory>
     ensures listed { IfOk result (λ races. IsRaceList ordered.now.trace.now.events.now (map ends races.items)) }
 {
-    let accesses = accesses_of(alloc, ordered.trace)?;
+    let flags = open_variables(alloc, ordered.order, ordered.trace, ordered.links)?;
+    let accesses = accesses_of_open(alloc, ordered.trace, &flags)?;
     let pieces = pieces(alloc, &accesses)?;
     let job = PairJob::new(
         ordered.order,
@@ -38,5 +45,6 @@ pub fn races_of<O: Order>(alloc: Global, ordered: &Ordered<'_, O>) -> Result<Vec
         &accesses,
         &pieces,
     );
-    join(alloc, &job)
+    let lists = gather(rt, alloc, &job, gate, workers)?;
+    join(alloc, lists)
 }

@@ -5,7 +5,10 @@ ghost use Rattle.std.specs.Prelude.{◌<◌};
 use crate::{RunError, Settings, Summary, Workers, exit_status, fault_line, run};
 use shb_io::{NoMemory, Page, Text};
 use std::alloc::Global;
+use std::random::RandomSource;
+use std::sync::Wait;
 use std::test::Fail;
+use std::thread::Threads;
 
 /// How a run is made, with schedules or without.
 fn settings(schedules: bool) -> Settings {
@@ -222,8 +225,8 @@ fn without_schedules(alloc: Global, report: &str) -> Result<String, NoMemory> {
 }
 
 /// Runs over a text, and gives what was answered and what was written.
-fn run_over(
-    rt: &HostRuntime,
+fn run_over<R: Threads + Wait + Sync + RandomSource + AllocGlobal>(
+    rt: &R,
     trace: &[u8],
     step: usize,
     schedules: bool,

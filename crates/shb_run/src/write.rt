@@ -1,64 +1,94 @@
 //! The report of a trace whose races are known.
-ghost use Rattle.std.specs.Prelude.{◌≡◌, ◌+◌, ◌-◌, ◌^◌, ◌<◌, All, map};
+ghost use Rattle.std.specs.Prelude.{◌≡◌, ◌-◌, ◌^◌, ◌<◌, All, false, map, true};
 ghost use Rattle.shb_lines.specs.Race.{IsRaceList, Race};
 ghost use Rattle.shb_pairs.specs.Races.{ends};
 ghost use Rattle.shb_report.specs.Report.{counts_of};
-ghost use Rattle.shb_run.specs.Written.{IsSinkCounted, WritesBlock, WritesBlocks, WritesReport};
+ghost use Rattle.shb_run.specs.Written.{IsSinkCounted, WritesBlocks, WritesReport};
 
+use crate::block_writer::BlockWriter;
 use crate::errors::WriteError;
 use crate::ordered::Ordered;
+use crate::settings::Settings;
 use shb_clocks::Order;
+use shb_fan::{Gate, StreamError, Workers, stream};
 use shb_io::Sink;
 use shb_lines::{Pair, Trace};
 use shb_report::{Counts, block, head, tail};
-use shb_witness::schedule;
+use shb_witness::WitnessJob;
 use std::alloc::Global;
+use std::sync::Wait;
+use std::thread::Threads;
 
-/// Writes the block of a race, with its schedule where schedules are wanted.
-fn write_race<K: Sink, O: Order>(
-    alloc: Global,
-    sink: &mut K,
-    ordered: &Ordered<'_, O>,
-    number: u64,
-    pair: Pair,
-    schedules: bool,
-) -> Result<(), WriteError>
-    requires countable { K.failure_count sink.old < 2 ^ 64 - 1 }
-    requires race { Race ordered.now.trace.now.events.now pair.first pair.second }
-    ensures block { WritesBlock schedules ordered.now.trace.now.trace.now number (ends pair)
-        (K.taken sink.old) (K.taken sink.new) result }
-    ensures counted { IsSinkCounted (K.failure_count sink.old) (K.failure_count sink.new) result }
-{
-    let trace = ordered.trace.trace;
-    if schedules {
-        let events = schedule(alloc, ordered.order, ordered.trace, ordered.links, pair)?;
-        block(sink, trace, number, pair, Some(&events))?;
-        return Ok(());
-    }
-    block(sink, trace, number, pair, None)?;
-    Ok(())
-}
-
-/// Writes the blocks of some races, numbered from 1, each as soon as it is made.
-fn write_blocks<K: Sink, O: Order>(
-    alloc: Global,
+/// Writes the blocks of some races, numbered from 1, without schedules.
+fn write_pairs<K: Sink, O: Order>(
     sink: &mut K,
     ordered: &Ordered<'_, O>,
     races: &[Pair],
-    schedules: bool,
 ) -> Result<(), WriteError>
     requires countable { K.failure_count sink.old < 2 ^ 64 - 1 }
     requires races { All (λ pair. Race ordered.now.trace.now.events.now pair.first pair.second) races.now }
-    ensures blocks { WritesBlocks schedules ordered.now.trace.now.trace.now (map ends races.now)
+    ensures blocks { WritesBlocks false ordered.now.trace.now.trace.now (map ends races.now)
         (K.taken sink.old) (K.taken sink.new) result }
     ensures counted { IsSinkCounted (K.failure_count sink.old) (K.failure_count sink.new) result }
 {
     let mut number: u64 = 0;
     for pair in races {
         number += 1;
-        write_race(alloc, sink, ordered, number, *pair, schedules)?;
+        block(sink, ordered.trace.trace, number, *pair, None)?;
     }
     Ok(())
+}
+
+/// Writes the blocks of some races, numbered from 1, each as soon as workers have made its schedule.
+fn write_schedules<R: Threads + Wait + Sync, K: Sink, O: Order + Sync, G: Gate + Sync>(
+    rt: &R,
+    alloc: Global,
+    sink: &mut K,
+    ordered: &Ordered<'_, O>,
+    races: &[Pair],
+    gate: &G,
+    workers: Workers,
+) -> Result<(), WriteError>
+    requires countable { K.failure_count sink.old < 2 ^ 64 - 1 }
+    requires races { All (λ pair. Race ordered.now.trace.now.events.now pair.first pair.second) races.now }
+    ensures blocks { WritesBlocks true ordered.now.trace.now.trace.now (map ends races.now)
+        (K.taken sink.old) (K.taken sink.new) result }
+    ensures counted { IsSinkCounted (K.failure_count sink.old) (K.failure_count sink.new) result }
+{
+    let job = WitnessJob::new(ordered.order, ordered.trace, ordered.links, races);
+    let mut writer = BlockWriter {
+        sink: &mut *sink,
+        trace: ordered.trace.trace,
+        races,
+        written: 0,
+    };
+    match stream(rt, alloc, &job, gate, workers, &mut writer) {
+        Ok(()) => Ok(()),
+        Err(StreamError::Taker(_)) => Err(WriteError::Sink),
+        Err(StreamError::Memory) => Err(WriteError::Memory),
+    }
+}
+
+/// Writes the blocks of some races, numbered from 1, with schedules or without.
+fn write_blocks<R: Threads + Wait + Sync, K: Sink, O: Order + Sync, G: Gate + Sync>(
+    rt: &R,
+    alloc: Global,
+    sink: &mut K,
+    ordered: &Ordered<'_, O>,
+    races: &[Pair],
+    gate: &G,
+    settings: Settings,
+) -> Result<(), WriteError>
+    requires countable { K.failure_count sink.old < 2 ^ 64 - 1 }
+    requires races { All (λ pair. Race ordered.now.trace.now.events.now pair.first pair.second) races.now }
+    ensures blocks { WritesBlocks settings.schedules ordered.now.trace.now.trace.now (map ends races.now)
+        (K.taken sink.old) (K.taken sink.new) result }
+    ensures counted { IsSinkCounted (K.failure_count sink.old) (K.failure_count sink.new) result }
+{
+    if settings.schedules {
+        return write_schedules(rt, alloc, sink, ordered, races, gate, settings.workers);
+    }
+    write_pairs(sink, ordered, races)
 }
 
 /// How many events and names a trace has.
@@ -74,22 +104,24 @@ fn counts_of(trace: &Trace) -> Counts
 }
 
 /// Writes the report of a trace whose races these are.
-pub fn write_report<K: Sink, O: Order>(
+pub fn write_report<R: Threads + Wait + Sync, K: Sink, O: Order + Sync, G: Gate + Sync>(
+    rt: &R,
     alloc: Global,
     sink: &mut K,
     ordered: &Ordered<'_, O>,
     races: &[Pair],
-    schedules: bool,
+    gate: &G,
+    settings: Settings,
 ) -> Result<(), WriteError>
     requires countable { K.failure_count sink.old < 2 ^ 64 - 1 }
     requires races { IsRaceList ordered.now.trace.now.events.now (map ends races.now) }
-    ensures report { WritesReport schedules ordered.now.trace.now.trace.now (map ends races.now)
+    ensures report { WritesReport settings.schedules ordered.now.trace.now.trace.now (map ends races.now)
         (K.taken sink.old) (K.taken sink.new) result }
     ensures counted { IsSinkCounted (K.failure_count sink.old) (K.failure_count sink.new) result }
 {
     let counts = counts_of(ordered.trace.trace);
     head(sink, &counts, races.len() as u64)?;
-    write_blocks(alloc, sink, ordered, races, schedules)?;
+    write_blocks(rt, alloc, sink, ordered, races, gate, settings)?;
     tail(sink)?;
     Ok(())
 }

@@ -2,10 +2,10 @@ use Rattle.std.proofs.Common.{◌≡◌, ◌-◌, ◌++◌, ℕ, List, get_or, a
 use Rattle.std.specs.Prelude.{flat_map, take, drop}
 use Rattle.std.proofs.lemmas.Bool.{eqb-true}
 use Rattle.std.proofs.lemmas.List.{length-map}
-use Rattle.shb_lines.specs.declared.event.Event.{Event}
 use Rattle.shb_lines.specs.Race.{Race}
 use Rattle.shb_pairs.specs.Accesses.{accesses_in}
 use Rattle.shb_pairs.specs.Races.{ends, races_with}
+use Rattle.shb_pairs.proofs.ByThread.{listed_of_trace}
 use Rattle.shb_pairs.proofs.Runs.{run_first, run_more}
 use Rattle.shb_pairs.proofs.Settled.{next_seen, none_added}
 use Rattle.shb_pairs.proofs.races.races_in.Goals as goal
@@ -20,7 +20,7 @@ loop-place-init g c = record {
 
 pub next_settled-settled-requires-clause-free : goal.next_settled-settled-requires-clause-free
 next_settled-settled-requires-clause-free g c same i race =
-    let is = c.of-places.ensures.exact ∙ ap (λ (tr : List Event). accesses_in tr c.args.variable) c.requires.accesses in
+    let is = c.of-places.ensures.exact ∙ listed_of_trace c.args.accesses.now c.args.trace.now.events.now c.args.variable c.requires.accesses c.requires.listed in
     let there = subst (λ (ks : List ℕ). Race c.args.trace.now.events.now i (get_or ks c.loop-place.place 0)) is race in
     let old = length-map c.loop-place.races.items ends in
     let new = length-map c.add_races_at.new.races.items ends in
@@ -37,7 +37,7 @@ loop-place-preserved g c = record {
       c.in_ok-add_races_at.ensures
       ∙ (ap (λ (ps : List (ℕ × ℕ)). ps ++ races_with c.args.trace.now.events.now (get_or (accesses_in c.args.trace.now.events.now c.args.variable) c.loop-place.place 0)) c.loop-place.invariant.found
       ∙ sym (run_more c.args.trace.now.events.now (accesses_in c.args.trace.now.events.now c.args.variable) c.args.from c.loop-place.place c.loop-place.invariant.low (omega (arith, le)))));
-  settled = next_seen c.args.trace.now.events.now c.args.variable c.of-places.result.now c.loop-place.place c.loop-place.settled c.next_settled-settled.result (c.of-places.ensures.exact ∙ ap (λ (tr : List Event). accesses_in tr c.args.variable) c.requires.accesses) c.next_settled-settled.ensures c.loop-place.invariant.settled;
+  settled = next_seen c.args.trace.now.events.now c.args.variable c.of-places.result.now c.loop-place.place c.loop-place.settled c.next_settled-settled.result (c.of-places.ensures.exact ∙ listed_of_trace c.args.accesses.now c.args.trace.now.events.now c.args.variable c.requires.accesses c.requires.listed) c.next_settled-settled.ensures c.loop-place.invariant.settled;
 }
 
 pub returns : goal.returns

@@ -12,8 +12,8 @@ use Rattle.shb_pairs.proofs.rivals.rivals_of.Goals.{then-is_write+in_ok-add_riva
 variable_seen : (trace seen : List Event) (j x : ℕ) → seen ≡ trace → variable_at trace j ≡ Some x → x < variables_in seen
 variable_seen trace seen j x same accessed = subst (λ (tr : List Event). x < variables_in tr) (sym same) (variable_within trace j (length trace) x (accessed_within trace j x accessed) accessed)
 
-pub writes_by_thread-writes-requires : goal.writes_by_thread-writes-requires
-writes_by_thread-writes-requires g c = variable_seen c.args.trace.now.events.now c.args.accesses.now c.args.second c.args.variable c.requires.accesses c.requires.accessed
+pub writes_by_thread-writes-requires-clause-accessed : goal.writes_by_thread-writes-requires-clause-accessed
+writes_by_thread-writes-requires-clause-accessed g c = variable_seen c.args.trace.now.events.now c.args.accesses.now.trace c.args.second c.args.variable c.requires.accesses c.requires.accessed
 
 pub add_rivals-requires-clause-in_range : goal.add_rivals-requires-clause-in_range
 add_rivals-requires-clause-in_range g c = accessed_within c.args.trace.now.events.now c.args.second c.args.variable c.requires.accessed
@@ -30,8 +30,8 @@ add_rivals-requires-clause-sorted g c = (subst (λ (tr : List Event). IsByThread
 pub bounds-trace-second : goal.bounds-trace-second
 bounds-trace-second g c = accessed_within c.args.trace.now.events.now c.args.second c.args.variable c.requires.accessed
 
-pub reads_by_thread-reads-requires : goal.reads_by_thread-reads-requires
-reads_by_thread-reads-requires g c = variable_seen c.args.trace.now.events.now c.args.accesses.now c.args.second c.args.variable c.requires.accesses c.requires.accessed
+pub reads_by_thread-reads-requires-clause-accessed : goal.reads_by_thread-reads-requires-clause-accessed
+reads_by_thread-reads-requires-clause-accessed g c = variable_seen c.args.trace.now.events.now c.args.accesses.now.trace c.args.second c.args.variable c.requires.accesses c.requires.accessed
 
 pub add_rivals-requires-then-is_write-clause-rivals : goal.add_rivals-requires-then-is_write-clause-rivals
 add_rivals-requires-then-is_write-clause-rivals g c =

@@ -1,16 +1,13 @@
-use Rattle.std.proofs.Common.{◌≡◌, length, arith, sym, subst}
-use Rattle.shb_lines.specs.Race.{IsRaceList}
-use Rattle.shb_fan.specs.Values.{values_of}
-use Rattle.shb_pairs.specs.Pieces.{pieces_in}
-use Rattle.shb_pairs.specs.Races.{joined, races_at}
-use Rattle.shb_pairs.proofs.Joined.{values_are_race_list}
+use Rattle.std.proofs.Common.{rules, ◌≡◌, length, ◌++◌, ap, ◌∙◌}
+use Rattle.shb_run.proofs.Joining.{joined_all, joined_next}
 use Rattle.shb_run.proofs.races.join.Goals as goal
 
+pub loop-list-preserved : goal.loop-list-preserved
+loop-list-preserved c =
+    joined_next _ c.in-Some.list c.loop-list.list-iterator.rest.items _ c.loop-list.races.items _ _ c.in-Some.ensures.steps.0
+    (c.in_ok-extend_from_slice.ensures.items ∙ ap (λ l. c.loop-list.races.items ++ l) c.deref.ensures.value) c.loop-list.invariant
+
 pub returns : goal.returns
-returns g c =
-    let whole : c.loop-k.k ≡ length (pieces_in c.args.job.now) = omega arith in
-    let all = values_are_race_list c.args.job.now c.requires.numbered in
-    record {
-      listed = subst (IsRaceList c.args.job.now) (sym c.loop-k.invariant)
-          (subst (λ n. IsRaceList c.args.job.now (joined (values_of (races_at c.args.job.now) n))) (sym whole) all);
-    }
+returns c =
+    let none : length c.loop-list.list-iterator.rest.items ≡ 0 = search rules in
+    record { joined = joined_all _ c.loop-list.list-iterator.rest.items c.loop-list.races.items _ none c.loop-list.invariant }

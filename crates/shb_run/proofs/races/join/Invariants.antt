@@ -1,7 +1,6 @@
-use Rattle.std.proofs.Common.{◌≡◌, map}
-use Rattle.shb_fan.specs.Values.{values_of}
-use Rattle.shb_pairs.specs.Races.{ends, joined, races_at}
+use Rattle.std.proofs.Common.{◌≡◌, ◌++◌, map}
+use Rattle.shb_pairs.specs.Races.{ends, joined}
 use Rattle.shb_run.proofs.races.join.Given as goal
 
-abbrev pub invariant-loop-k : goal.invariant-loop-k
-invariant-loop-k g l = map ends l.races.items ≡ joined (values_of (races_at l.job) l.k)
+abbrev pub invariant-loop-list : goal.invariant-loop-list
+invariant-loop-list l = map ends l.races.items ++ joined (map (λ v. map ends v.items) l.list-iterator.rest.items) ≡ joined (map (λ v. map ends v.items) l.fn.lists.items)

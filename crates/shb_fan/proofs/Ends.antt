@@ -1,0 +1,125 @@
+-- What is known when every pass has come back.
+use Rattle.std.proofs.Common.{◌≡◌, ℕ, zero, suc, ◌+◌, ◌<◌, ◌≤◌, Bool, true, false, List, [], ◌∷◌, ◌++◌, length, get_or, min, IsTrue, All, Any, sum_by, sym, refl, ap, ◌∙◌, subst, arith, not, eqb, Some}
+use Rattle.std.specs.List.Sorted.{IsStrictlyIncreasing}
+use Rattle.std.proofs.lemmas.Bool.Decides.{nat_tests}
+use Rattle.std.proofs.lemmas.List.Elements.{All-pop, All-push, All-same}
+use mathlib.Core.Logic.{dite}
+use native.Mathlib.Decide.{ℕ_discrete}
+use Rattle.std.proofs.lemmas.List.Sums.{sum_by_push, sum_by-cons, get_or-le-sum_by}
+use mathlib.Core.Option.{some, some-injective, some-ne-none}
+use lib.ListN.{get_elem?}
+use Rattle.atomic_table.specs.Table.{Final, Seen}
+use Rattle.atomic_table.specs.declared.shared.Seat.{Seat}
+use Rattle.shb_fan.specs.declared.board.Plan.{Plan}
+use Rattle.shb_fan.specs.declared.board.Hand.{Hand}
+use Rattle.shb_fan.specs.Numbers.{weight, times, once_below, total}
+use Rattle.shb_fan.specs.Drawing.{parts_of, spent_of, halted_of, times_of, Holds, Kept}
+use Rattle.shb_fan.specs.Passes.{Source, PassState, is_positive, state_of, times_in, halted_in, spent_in, IsPass}
+use Rattle.shb_fan.proofs.Counts.{total-whole}
+
+pub counted : (f : PassState → ℕ) (rest ys : List PassState) (p : PassState) (n m k : ℕ) → rest ≡ ys ++ p ∷ [] → n + sum_by f rest ≡ m → f p ≡ k → (n + k) + sum_by f ys ≡ m
+counted f rest ys p n m k longer was is = let a : sum_by f rest ≡ sum_by f ys + f p = ap (sum_by f) longer ∙ sum_by_push f ys p in omega arith
+
+pub first_counted : (f : PassState → ℕ) (all ys : List PassState) (p : PassState) (k : ℕ) → all ≡ ys ++ p ∷ [] → f p ≡ k → k + sum_by f ys ≡ sum_by f all
+first_counted f all ys p k longer is = let a : sum_by f all ≡ sum_by f ys + f p = ap (sum_by f) longer ∙ sum_by_push f ys p in omega arith
+
+weight-positive : (n : ℕ) → n ≤ 1 → weight (is_positive n) ≡ n
+weight-positive zero h = refl
+weight-positive (suc zero) h = refl
+weight-positive (suc (suc n)) h = absurd (omega arith)
+
+module _ (seat : Seat (Unit {0}) Hand) (spent : Bool) (p : PassState) (is : IsPass seat spent) (shown : state_of seat spent ≡ p) where
+  pub times-shown : (x : ℕ) → times_in x p ≡ times x seat.me.0.drawn
+  times-shown x = ap (times_in x) (sym shown)
+
+  pub halted-shown : halted_in p ≡ seat.me.0.halted
+  halted-shown = ap halted_in (sym shown) ∙ weight-positive seat.me.0.halted is.marked
+
+  pub spent-shown : spent_in p ≡ seat.me.0.spent
+  spent-shown = ap spent_in (sym shown) ∙ sym is.flag
+
+  pub rising-shown : IsStrictlyIncreasing p.drawn
+  rising-shown = subst (λ (q : PassState). IsStrictlyIncreasing q.drawn) shown is.rising
+
+-- with one list that rises, those before it rise too
+pub all_rising : (rest ys xs : List PassState) (p : PassState) → rest ≡ ys ++ p ∷ [] → IsStrictlyIncreasing p.drawn
+    → (All (λ q. IsStrictlyIncreasing q.drawn) rest → All (λ q. IsStrictlyIncreasing q.drawn) xs) → All (λ q. IsStrictlyIncreasing q.drawn) ys → All (λ q. IsStrictlyIncreasing q.drawn) xs
+all_rising rest ys xs p longer rises later all = later (All-same (λ (q : PassState). IsStrictlyIncreasing q.drawn) rest (ys ++ p ∷ []) longer (All-push (λ (q : PassState). IsStrictlyIncreasing q.drawn) ys p all rises))
+
+pub none_rising : (xs ys : List PassState) → length xs ≡ 0 → (All (λ q. IsStrictlyIncreasing q.drawn) xs → All (λ q. IsStrictlyIncreasing q.drawn) ys) → All (λ q. IsStrictlyIncreasing q.drawn) ys
+none_rising xs ys none_left h = h (λ k d inside. absurd (omega arith))
+
+index-at : (l : List ℕ) (i a : ℕ) → get_elem? l i ≡ some a → get_or l i 0 ≡ a
+index-at [] i a e = absurd (some-ne-none a (sym e))
+index-at (x ∷ xs) zero a e = some-injective x a e
+index-at (x ∷ xs) (suc i) a e = index-at xs i a e
+
+-- what the words tell a hand with every part
+pub record Told (plan : Plan) (v : Hand) (ticket stop : ℕ) : Type 0 where
+  pub each : (x : ℕ) → times x v.drawn ≡ once_below x (min plan.limit ticket)
+  pub running : v.halted ≡ 0 → stop ≡ 0
+  pub halted : 0 < v.halted → stop ≡ 1
+  pub ended : 0 < v.spent → stop ≡ 0 → plan.limit ≤ ticket
+
+told : (plan : Plan) (t z : ℕ) (views : List Hand) → Holds plan t z views → (id : ℕ) (v : Hand) → get_elem? views id ≡ some v → v.parts ≡ plan.passes → Told plan v t z
+told plan t z views r id v at whole =
+    let all : total parts_of views ≡ v.parts = r.parts ∙ sym whole in
+    let h = total-whole halted_of views id v at all (λ i w e empty. ((r.sound i w e).nothing empty).1) in
+    let s = total-whole spent_of views id v at all (λ i w e empty. let o = (r.sound i w e).once in omega arith) in record {
+      each = λ x. sym (total-whole (times_of x) views id v at all (λ i w e empty. ap (times x) ((r.sound i w e).nothing empty).0)) ∙ r.each x;
+      running = (let f = r.running in omega arith);
+      halted = (let f = r.halted in omega arith);
+      ended = (let f = r.ended in omega arith);
+    }
+
+pub closes : (plan : Plan) (id : ℕ) (v : Hand) (ws : List ℕ) (xs : List (Unit {0})) → Final (Seen (Kept plan) id v) ws xs → v.parts ≡ plan.passes
+    → (t z : ℕ) → get_elem? ws 0 ≡ some t → get_elem? ws 1 ≡ some z → Told plan v t z
+closes plan id v ws xs f whole t z first second = let s = f.0 in
+    subst (λ (w : ℕ × ℕ). Told plan v w.0 w.1) (λ i. ((ap (λ (l : List ℕ). get_or l 0 0) f.2 ∙ index-at ws 0 t first) i, (ap (λ (l : List ℕ). get_or l 1 0) f.2 ∙ index-at ws 1 z second) i))
+    (told plan (get_or s.words 0 0) (get_or s.words 1 0) s.views f.1.0.1 id v f.1.1 whole)
+
+weight-is : (b : Bool) → 0 < weight b → b ≡ true
+weight-is true h = refl
+weight-is false h = absurd (omega arith)
+
+any_here : (f : PassState → Bool) (x : PassState) (xs : List PassState) (b : Bool) → f x ≡ b → (0 < sum_by (λ p. weight (f p)) xs → Any (λ p. IsTrue (f p)) xs) → 0 < weight b + sum_by (λ p. weight (f p)) xs
+    → Any (λ p. IsTrue (f p)) (x ∷ xs)
+any_here f x xs true e later h = (0, x, omega arith, refl, e)
+any_here f x xs false e later h = let r = later (omega arith) in let l = r.2 in (suc r.0, r.1, omega arith, r.3, r.4)
+
+pub any_from : (f : PassState → Bool) (xs : List PassState) → 0 < sum_by (λ p. weight (f p)) xs → Any (λ p. IsTrue (f p)) xs
+any_from f [] h = absurd (omega arith)
+any_from f (x ∷ xs) h = let s = sum_by-cons (λ (p : PassState). weight (f p)) x xs in any_here f x xs (f x) refl (any_from f xs) (omega arith)
+
+pub any_to : (f : PassState → Bool) (xs : List PassState) → Any (λ p. IsTrue (f p)) xs → 0 < sum_by (λ p. weight (f p)) xs
+any_to f xs a = let le = get_or-le-sum_by (λ (p : PassState). weight (f p)) xs a.0 a.1 a.2 in
+    let one : weight (f (get_or xs a.0 a.1)) ≡ 1 = ap (λ (p : PassState). weight (f p)) a.3 ∙ ap weight a.4 in omega arith
+
+pub ours_before : (z : Source) (xs ys : List PassState) (p : PassState) → xs ≡ ys ++ p ∷ [] → All (λ q. q.source ≡ z) xs → All (λ q. q.source ≡ z) ys × (p.source ≡ z)
+ours_before z xs ys p longer all = All-pop (λ (q : PassState). q.source ≡ z) xs ys (Some p) longer all
+
+pub sum_nothing : (f : PassState → ℕ) (xs : List PassState) → length xs ≡ 0 → sum_by f xs ≡ 0
+sum_nothing f [] e = refl
+sum_nothing f (x ∷ xs) e = absurd (omega arith)
+
+unset_set : (z : ℕ) → z ≡ 0 → not (eqb z 0) ≡ true → ⊥
+unset_set z e set = grind (arith, nat_tests)
+
+unset_is : (z : ℕ) → not (eqb z 0) ≡ false → z ≡ 0
+unset_is z h = grind (arith, nat_tests)
+
+-- the words against all passes: of a seat whose hand stands for all of them
+module _ (plan : Plan) (v : Hand) (t z : ℕ) (passes : List PassState) (r : Told plan v t z) where
+  pub each_once : (x : ℕ) → times x v.drawn ≡ sum_by (times_in x) passes → sum_by (times_in x) passes ≡ once_below x (min t plan.limit)
+  each_once x e = sym e ∙ (r.each x ∙ ap (once_below x) (omega arith))
+
+  pub stop_seen : v.halted ≡ sum_by halted_in passes → not (eqb z 0) ≡ true → Any (λ p. IsTrue p.halted) passes
+  stop_seen e set = dite (ℕ_discrete v.halted 0)
+      (λ h. let a : z ≡ 0 = r.running h in absurd (unset_set z a set))
+      (λ h. any_from (λ (p : PassState). p.halted) passes (omega arith))
+
+  pub stop_set : v.halted ≡ sum_by halted_in passes → Any (λ p. IsTrue p.halted) passes → not (eqb z 0) ≡ true
+  stop_set e a = let more = any_to (λ (p : PassState). p.halted) passes a in let one = r.halted (omega arith) in ap (λ (n : ℕ). not (eqb n 0)) one
+
+  pub all_drawn : v.spent ≡ sum_by spent_in passes → not (eqb z 0) ≡ false → Any (λ p. IsTrue p.spent) passes → min t plan.limit ≡ plan.limit
+  all_drawn e unset a = let more = any_to (λ (p : PassState). p.spent) passes a in let over = r.ended (omega arith) (unset_is z unset) in omega arith

@@ -1,0 +1,16 @@
+pub mod Counts
+pub mod Keeps
+pub mod Seats
+pub mod Ends
+pub mod Values
+pub mod Words
+pub mod Rings
+pub mod Opens
+pub mod Streams
+pub mod Hires
+pub mod Turns
+pub mod Spans
+pub mod MachineFacts
+pub mod Starts
+pub mod Drawn
+pub mod MachineRuns

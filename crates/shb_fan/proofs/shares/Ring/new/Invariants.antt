@@ -1,0 +1,13 @@
+use Rattle.std.proofs.Common.{◌≡◌, ◌-◌, ◌+◌, [], All, length}
+use Rattle.shb_fan.specs.Slots.{berth}
+use Rattle.shb_fan.specs.Values.{values_of}
+use Rattle.shb_fan.specs.Seated.{Sits, claimed_of, lifted_of}
+use Rattle.shb_fan.proofs.shares.Ring.new.Given as goal
+
+abbrev pub invariant-loop : goal.invariant-loop
+invariant-loop g l = record {
+  table : l.first.table_id ≡ l.table.shared.table_id;
+  left : l.first.me ≡ (berth (65 - (l.counter - 1)) (values_of (g.J.Job.value l.job) (g.J.Job.count l.job)) [] [] [], []);
+  count : length l.seats.items + 1 ≡ l.counter;
+  sit : All (λ s. Sits l.table.shared.table_id (values_of (g.J.Job.value l.job) (g.J.Job.count l.job)) s × (claimed_of s ≡ []) × (lifted_of s ≡ [])) l.seats.items;
+}

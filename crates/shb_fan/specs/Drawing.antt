@@ -1,0 +1,80 @@
+-- The rule of the ticket table, and what each step tells. Word 0 is the ticket, word 1 the stop word.
+use Rattle.std.specs.Prelude.{◌≡◌, ℕ, ◌+◌, ◌-◌, ◌^◌, ◌<◌, ◌≤◌, List, [], ◌∷◌, ◌++◌, length, min, slice_index, All}
+use mathlib.Core.Option.{some}
+use lib.ListN.{get_elem?}
+use Rattle.atomic_table.specs.Table.{State, Me, Step}
+use Rattle.shb_fan.specs.declared.board.Plan.{Plan}
+use Rattle.shb_fan.specs.declared.board.Hand.{Hand}
+use Rattle.shb_fan.specs.Numbers.{times, once_below, total}
+
+abbrev pub hand : ℕ → Plan → List ℕ → ℕ → ℕ → Hand
+hand parts plan drawn spent halted = record { parts = parts; plan = plan; drawn = drawn; spent = spent; halted = halted }
+
+abbrev pub parts_of : Hand → ℕ
+parts_of v = v.parts
+
+abbrev pub spent_of : Hand → ℕ
+spent_of v = v.spent
+
+abbrev pub halted_of : Hand → ℕ
+halted_of v = v.halted
+
+abbrev pub times_of : ℕ → Hand → ℕ
+times_of x v = times x v.drawn
+
+-- a hand is spent no more often than it has parts, and with no part it has drawn nothing and stopped nothing
+pub record Sound (v : Hand) : Type 0 where
+  pub once : v.spent ≤ v.parts
+  pub nothing : v.parts ≡ 0 → (v.drawn ≡ []) × (v.halted ≡ 0)
+
+-- what holds between any two steps, of the ticket, the stop word and all hands
+pub record Holds (plan : Plan) (ticket stop : ℕ) (views : List Hand) : Type 0 where
+  pub small : (plan.limit ≤ 2 ^ 60) × (plan.passes ≤ 65)
+  pub parts : total parts_of views ≡ plan.passes
+  -- the numbers below the lesser of the ticket and the limit are drawn, each once, and no others
+  pub each : (x : ℕ) → total (times_of x) views ≡ once_below x (min plan.limit ticket)
+  pub low : ticket ≤ plan.limit + total spent_of views
+  -- the stop word is 1 where some hand is halted, else 0
+  pub running : total halted_of views ≡ 0 → stop ≡ 0
+  pub halted : 0 < total halted_of views → stop ≡ 1
+  -- where a hand is spent, the stop word isn't 0 or the ticket is at the limit or above
+  pub ended : 0 < total spent_of views → stop ≡ 0 → plan.limit ≤ ticket
+  pub sound : (id : ℕ) (v : Hand) → get_elem? views id ≡ some v → Sound v
+
+abbrev pub Kept : Plan → State (Unit {0}) Hand → Type 0
+Kept plan s = (length s.words ≡ 2) × Holds plan (slice_index s.words 0) (slice_index s.words 1) s.views
+
+abbrev M : Type 0
+M = Me (Unit {0}) Hand
+
+abbrev pub gained : Hand → ℕ → Hand
+gained v k = hand v.parts v.plan (v.drawn ++ k ∷ []) v.spent v.halted
+
+abbrev pub used_up : Hand → Hand
+used_up v = hand v.parts v.plan v.drawn (v.spent + 1) v.halted
+
+-- the number found is the pass's, where it is below the limit, and above all that it drew; else the pass is spent
+abbrev pub drew : Step (Unit {0}) → M → ℕ → M → Type 0
+drew st m r m' = (r < m.0.plan.limit → All (λ x. x < r) m.0.drawn × (m' ≡ (gained m.0 r, m.1))) × (m.0.plan.limit ≤ r → m' ≡ (used_up m.0, m.1))
+
+-- where the word isn't 0 the pass is spent, and it isn't 0 where the pass is halted
+abbrev pub saw : Step (Unit {0}) → M → ℕ → M → Type 0
+saw st m r m' = (r ≡ 0 → (m.0.halted ≡ 0) × (m' ≡ m)) × (0 < r → m' ≡ (used_up m.0, m.1))
+
+abbrev pub looked : Step (Unit {0}) → M → ℕ → M → Type 0
+looked st m r m' = (r ≡ 0 → m.0.halted ≡ 0) × (m' ≡ m)
+
+abbrev pub stopped : Step (Unit {0}) → M → ℕ → M → Type 0
+stopped st m r m' = m' ≡ (hand m.0.parts m.0.plan m.0.drawn m.0.spent 1, m.1)
+
+abbrev pub left_over : Hand → Hand
+left_over v = hand (v.parts - 1) v.plan v.drawn v.spent v.halted
+
+abbrev pub one_part : Hand → Hand
+one_part v = hand 1 v.plan [] 0 0
+
+abbrev pub joined : Hand → Hand → Hand
+joined v w = hand (v.parts + w.parts) v.plan (v.drawn ++ w.drawn) (v.spent + w.spent) (v.halted + w.halted)
+
+abbrev pub spent_hand : Hand
+spent_hand = hand 0 (record { limit = 0; passes = 0 }) [] 0 0

@@ -1,0 +1,65 @@
+-- What a caller sees of tickets and of a pass.
+use Rattle.std.specs.Prelude.{◌≡◌, ℕ, zero, suc, ◌≤◌, ◌<◌, Bool, true, false, eqb, List, [], length, slice_get, Some}
+use Rattle.std.specs.List.Sorted.{IsStrictlyIncreasing}
+use base.Stored.{Coded, coded×, coded_ℕ, coded_list, coded_via}
+use Rattle.std.specs.Coded.{coded_bool}
+use Rattle.atomic_table.specs.Seated.{TableId, table_id_coded}
+use Rattle.atomic_table.specs.declared.shared.Seat.{Seat}
+use Rattle.shb_fan.specs.declared.board.Plan.{Plan}
+use Rattle.shb_fan.specs.declared.board.Hand.{Hand}
+use Rattle.shb_fan.specs.Numbers.{weight, times, picked}
+
+-- which tickets these are, how many numbers they have, and how many passes draw them
+pub record Source : Type 0 where
+  pub table : TableId
+  pub limit : ℕ
+  pub passes : ℕ
+
+-- the tickets that made the pass, the numbers that it drew in order, whether it was told that there is no more, and whether it has stopped the draw
+pub record PassState : Type 0 where
+  pub source : Source
+  pub drawn : List ℕ
+  pub spent : Bool
+  pub halted : Bool
+
+abbrev pub source_coded : Coded Source
+source_coded = coded_via (coded× table_id_coded (coded× coded_ℕ coded_ℕ)) (λ (z : Source). (z.table, (z.limit, z.passes))) (λ x y e i. record { table = (e i).0; limit = (e i).1.0; passes = (e i).1.1 })
+
+abbrev pub pass_coded : Coded PassState
+pass_coded = coded_via (coded× source_coded (coded× (coded_list coded_ℕ) (coded× coded_bool coded_bool))) (λ (z : PassState). (z.source, (z.drawn, (z.spent, z.halted)))) (λ x y e i. record { source = (e i).0; drawn = (e i).1.0; spent = (e i).1.1.0; halted = (e i).1.1.1 })
+
+abbrev pub is_positive : ℕ → Bool
+is_positive zero = false
+is_positive (suc _) = true
+
+abbrev pub fresh : Source → PassState
+fresh z = record { source = z; drawn = []; spent = false; halted = false }
+
+abbrev pub source_of : TableId → Plan → Source
+source_of z plan = record { table = z; limit = plan.limit; passes = plan.passes }
+
+abbrev pub state_of : Seat (Unit {0}) Hand → Bool → PassState
+state_of seat spent = record { source = source_of seat.table_id seat.me.0.plan; drawn = seat.me.0.drawn; spent = spent; halted = is_positive seat.me.0.halted }
+
+-- a pass has one part, holds no slot, its numbers rise, and its flag says whether it is spent
+pub record IsPass (seat : Seat (Unit {0}) Hand) (spent : Bool) : Type 0 where
+  pub one : seat.me.0.parts ≡ 1
+  pub flag : seat.me.0.spent ≡ weight spent
+  pub marked : seat.me.0.halted ≤ 1
+  pub slots : seat.me.1 ≡ []
+  pub rising : IsStrictlyIncreasing seat.me.0.drawn
+
+abbrev pub times_in : ℕ → PassState → ℕ
+times_in x p = times x p.drawn
+
+abbrev pub halted_in : PassState → ℕ
+halted_in p = weight p.halted
+
+abbrev pub spent_in : PassState → ℕ
+spent_in p = weight p.spent
+
+-- the lists are those of draws in turn: each number below n, rising, by the pass that owns it
+pub record AreDrawnInTurn (n : ℕ) (passes : List PassState) : Type 0 where
+  pub owner : ℕ → ℕ
+  pub owned : (m : ℕ) → m < n → owner m < length passes
+  pub lists : (a : ℕ) (p : PassState) → slice_get passes a ≡ Some p → p.drawn ≡ picked (λ m. eqb (owner m) a) n

@@ -1,0 +1,101 @@
+-- The rule of the ring's table, and what each step tells. The word of piece k is 4k while its slot is empty, 4k+1 once it is claimed, 4k+2 once its value is placed, 4k+3 once it is lifted, and 4(k+64) once it is freed.
+use Rattle.std.specs.Prelude.{◌≡◌, ◌≢◌, ℕ, ◌+◌, ◌-◌, ◌*◌, ◌/◌, ◌%◌, ◌<◌, Bool, List, [], ◌∷◌, ◌++◌, length, slice_index, Option, Some, slice_get, eqb, leb}
+use mathlib.Core.Option.{some}
+use mathlib.Core.Option as maybe
+use lib.ListN.{get_elem?}
+use Rattle.atomic_table.specs.Table.{State, Me, Step, rest}
+use Rattle.shb_fan.specs.declared.berth.Berth.{Berth}
+use Rattle.shb_fan.specs.Numbers.{weight, times, total}
+
+-- what a step tells, of a table whose slots have an `Option T`
+abbrev pub Told : Type 0 → Type 0 → Type 1
+Told T M = Step (Option T) → Me (Option T) (Berth M) → ℕ → Me (Option T) (Berth M) → Type 0
+
+-- of a slot's word and a piece of that slot
+abbrev pub is_claimed : ℕ → ℕ → Bool
+is_claimed word k = eqb word (4 * k + 1)
+
+abbrev pub is_lifting : ℕ → ℕ → Bool
+is_lifting word k = eqb word (4 * k + 3)
+
+abbrev pub is_lifted : ℕ → ℕ → Bool
+is_lifted word k = leb (4 * k + 3) word
+
+module _ {M : Type 0} where
+  abbrev pub berth : ℕ → List M → List ℕ → List ℕ → List ℕ → Berth M
+  berth parts wanted claimed lifting lifted = record { parts = parts; wanted = wanted; claimed = claimed; lifting = lifting; lifted = lifted }
+
+  abbrev pub parts_of : Berth M → ℕ
+  parts_of v = v.parts
+
+  abbrev pub claimed_by : Berth M → List ℕ
+  claimed_by v = v.claimed
+
+  abbrev pub lifting_by : Berth M → List ℕ
+  lifting_by v = v.lifting
+
+  abbrev pub lifted_by : Berth M → List ℕ
+  lifted_by v = v.lifted
+
+  -- a piece stands once in the lists of all seats together where its slot's word is so, else nowhere
+  abbrev pub Counts : (Berth M → List ℕ) → (ℕ → ℕ → Bool) → List ℕ → List (Berth M) → Type 0
+  Counts f is words views = (k : ℕ) → total (λ v. times k (f v)) views ≡ weight (is (slice_index words (k % 64)) k)
+
+  module _ {T : Type 0} (meaning : T → M) where
+    -- the slot i, of which an empty one and a placed value are at home
+    pub record SlotKept (wanted : List M) (homes : List (maybe.Option (Option T))) (i word : ℕ) : Type 0 where
+      pub here : (word / 4) % 64 ≡ i
+      pub empty : word % 4 ≡ 0 → (x : Option T) × (get_elem? homes i ≡ some (some x))
+      pub full : word % 4 ≡ 2 → (x : T) × (get_elem? homes i ≡ some (some (Some x))) × (slice_get wanted (word / 4) ≡ Some (meaning x))
+
+    -- what holds between any two steps
+    pub record Kept (wanted : List M) (s : State (Option T) (Berth M)) : Type 0 where
+      pub wide : length s.words ≡ 64
+      pub deep : length s.homes ≡ 64
+      pub slots : (i : ℕ) → i < 64 → SlotKept wanted s.homes i (slice_index s.words i)
+      pub parts : total parts_of s.views ≡ 65
+      pub claims : Counts claimed_by is_claimed s.words s.views
+      pub lifts : Counts lifting_by is_lifting s.words s.views
+      pub each_lifted : Counts lifted_by is_lifted s.words s.views
+      pub same : (id : ℕ) (v : Berth M) → get_elem? s.views id ≡ some v → 0 < v.parts → v.wanted ≡ wanted
+
+  abbrev pub claiming : Berth M → ℕ → Berth M
+  claiming v k = berth v.parts v.wanted (k ∷ []) v.lifting v.lifted
+
+  abbrev pub placing : Berth M → Berth M
+  placing v = berth v.parts v.wanted [] v.lifting v.lifted
+
+  abbrev pub raising : Berth M → ℕ → Berth M
+  raising v k = berth v.parts v.wanted v.claimed (k ∷ []) (v.lifted ++ k ∷ [])
+
+  abbrev pub freeing : Berth M → Berth M
+  freeing v = berth v.parts v.wanted v.claimed [] v.lifted
+
+  abbrev pub left_over : Berth M → Berth M
+  left_over v = berth (v.parts - 1) v.wanted v.claimed v.lifting v.lifted
+
+  abbrev pub one_part : Berth M → Berth M
+  one_part v = berth 1 v.wanted [] [] []
+
+  abbrev pub joined : Berth M → Berth M → Berth M
+  joined v w = berth (v.parts + w.parts) v.wanted (v.claimed ++ w.claimed) (v.lifting ++ w.lifting) (v.lifted ++ w.lifted)
+
+  abbrev pub spent_berth : Berth M
+  spent_berth = berth 0 [] [] [] []
+
+  module _ {T : Type 0} where
+    -- where the word was found as the caller said, the piece and its slot are the seat's; else nothing changes
+    abbrev pub claimed : Told T M
+    claimed st m r m' = (r ≡ st.first → (x : Option T) × (m' ≡ (claiming m.0 (st.first / 4), (st.word, x) ∷ m.1))) × (r ≢ st.first → m' ≡ m)
+
+    abbrev pub placed : Told T M
+    placed st m r m' = m' ≡ (placing m.0, rest m.1)
+
+    -- where the word was found as the caller said, the piece is new to the seat, and its slot, with the piece's value, is the seat's; else nothing changes
+    abbrev pub raised : (T → M) → Told T M
+    raised meaning st m r m' =
+        (r ≡ st.first → (x : T) × (m' ≡ (raising m.0 (st.first / 4), (st.word, Some x) ∷ m.1)) × (slice_get m.0.wanted (st.first / 4) ≡ Some (meaning x)) × (times (st.first / 4) m.0.lifted ≡ 0))
+        × (r ≢ st.first → m' ≡ m)
+
+    abbrev pub freed : Told T M
+    freed st m r m' = m' ≡ (freeing m.0, rest m.1)

@@ -1,0 +1,45 @@
+-- The draws, one after the other, that lists of drawn numbers tell of.
+use Rattle.std.specs.Prelude.{◌≡◌, ℕ, ◌<◌, Bool, true, false, List, [], ◌∷◌, ◌++◌, Some, length, map, replicate, slice_get, slice_index_or, sum_by, Contains, IsTrue}
+use Rattle.std.specs.List.Sorted.{IsStrictlyIncreasing}
+use Rattle.shb_fan.specs.declared.step.PieceState.TheVariants.{Empty}
+use Rattle.shb_fan.specs.declared.step.Step.{Step}
+use Rattle.shb_fan.specs.declared.step.Step.TheVariants.{Draw, Stop}
+use Rattle.shb_fan.specs.Machine.{State, Runs, start}
+use Rattle.shb_fan.specs.Numbers.{times, once_below}
+use Rattle.shb_fan.specs.Passes.{PassState}
+
+-- each list rises, and together they are the numbers below `drawn`, each once
+pub record AreDrawn (lists : List (List ℕ)) (drawn : ℕ) : Type 0 where
+  pub rising : (a : ℕ) → IsStrictlyIncreasing (slice_index_or lists a [])
+  pub each_once : (x : ℕ) → sum_by (times x) lists ≡ once_below x drawn
+
+-- the actor whose list has m
+pub record IsDrawer (lists : List (List ℕ)) (m a : ℕ) : Type 0 where
+  pub actor : a < length lists
+  pub drew : Contains (slice_index_or lists a []) m
+
+-- for each m below `drawn`, rising, a draw by the actor whose list has m
+pub record AreDraws (lists : List (List ℕ)) (drawn : ℕ) (steps : List Step) : Type 0 where
+  pub as_long : length steps ≡ drawn
+  pub each : (m : ℕ) → m < drawn → (a : ℕ) × (slice_get steps m ≡ Some (Draw a)) × IsDrawer lists m a
+
+-- the actors drew these lists, one perhaps asked to stop, and nothing else happened
+abbrev pub drawn_state : List (List ℕ) → ℕ → ℕ → Bool → State
+drawn_state lists drawn pieces stopped = record { next = drawn; actors = map (λ xs. record { drawn = xs; spent = false }) lists; pieces = replicate pieces Empty; taken = 0; stopped = stopped }
+
+-- the list of each pass, in the order of the passes
+abbrev pub lists_of : List PassState → List (List ℕ)
+lists_of passes = map (λ p. p.drawn) passes
+
+-- where the draw was stopped, a stop by a halted pass, else nothing
+abbrev pub AreStops : List PassState → Bool → List Step → Type 0
+AreStops passes true steps = (a : ℕ) × (p : PassState) × (slice_get passes a ≡ Some p) × IsTrue p.halted × (steps ≡ Stop a ∷ [])
+AreStops passes false steps = steps ≡ []
+
+-- the machine with one actor for each pass comes to the passes' lists and to `stopped` by these steps: for each m below `drawn`, rising, a draw by the actor whose list has m; then, where the draw was stopped, a stop by a halted actor
+pub record IsMachineRun (limit : ℕ) (passes : List PassState) (drawn : ℕ) (stopped : Bool) : Type 0 where
+  pub draws : List Step
+  pub stops : List Step
+  pub are_draws : AreDraws (lists_of passes) drawn draws
+  pub are_stops : AreStops passes stopped stops
+  pub ends : Runs (start (length passes) limit) (draws ++ stops) (drawn_state (lists_of passes) drawn limit stopped)

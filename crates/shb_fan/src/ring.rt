@@ -1,0 +1,153 @@
+//! Results handed over through 64 slots.
+ghost use Rattle.std.specs.Prelude.{◌≡◌, ℕ, ◌+◌, ◌*◌, ◌∷◌, ◌++◌, [], ◌<◌, ◌≤◌, All, IsTrue, IsFalse, IfSome, IfNone, IfOk, length, slice_index, sum_by};
+ghost use Rattle.std.specs.Slots.{IsFull};
+ghost use Rattle.shb_fan.specs.Numbers.{times};
+ghost use Rattle.shb_fan.specs.Seated.{IsSeatOf, IsNewSeat, job_of, claimed_of, lifted_of};
+
+use crate::job::Job;
+use crate::moves::{Claim, CutSeat, Free, Lift, MergeSeats, Place};
+use crate::shares::{Ring, Seat};
+use atomic_table::{Closed, Table};
+use shb_io::NoMemory;
+use std::alloc::Global;
+use std::sync::Wait;
+use std::thread::yield_now;
+use std::time::Duration;
+
+const SLOTS: u64 = 64;
+
+/// How often a thread that waits looks again before it naps.
+const PATIENCE: u32 = 100;
+
+/// The words of 64 empty slots.
+fn empty_words(alloc: Global) -> Result<Vec<u64>, NoMemory>
+    ensures { IfOk result (λ v. (length v.items ≡ 64) × ((i : ℕ) → i < 64 → slice_index v.items i ≡ 4 * i)) }
+{
+    let mut words = Vec::with_capacity(alloc, SLOTS as usize)?;
+    for slot in 0..SLOTS {
+        words.push(4 * slot)?;
+    }
+    Ok(words)
+}
+
+/// Drops what the slots hold.
+fn drop_all<S: Drop>(mut closed: Closed<S, Global>)
+    requires { IsFull closed.words × IsFull closed.slots }
+{
+    let mut slot = 0;
+    while slot < closed.slot_count() {
+        drop(closed.take(slot));
+        slot += 1;
+    }
+    closed.free();
+}
+
+impl<T: Drop, M, J: Job<Out = T, Meaning = M>> Ring<T, M, J> {
+    /// A ring for the results of the job's pieces, and its seats.
+    pub fn new(
+        alloc: Global,
+        job: &J,
+        passes: u32,
+    ) -> Result<(Ring<T, M, J>, Vec<Seat<T, M>>), NoMemory>
+        requires { (1 ≤ passes) × (passes ≤ 65) }
+        ensures { IfOk result (λ r. (job_of r.0 ≡ job.now) × (length r.1.items ≡ passes) × All (IsNewSeat J.value J.count r.0) r.1.items) }
+    {
+        job.pieces();
+        let words = empty_words(alloc)?;
+        let (table, mut first) = Table::vacant(alloc, words.as_slice(), SLOTS as usize, job)?;
+        let mut seats = Vec::with_capacity(alloc, passes as usize)?;
+        for _ in 1..passes {
+            let place = table.shared.split_seat::<CutSeat>(&mut first);
+            seats.push(Seat { place })?;
+        }
+        seats.push(Seat { place: first })?;
+        Ok((Ring { table }, seats))
+    }
+
+    /// Ends the ring, once its seats have come back. What is still placed is dropped.
+    pub fn close(self, mut seats: Vec<Seat<T, M>>)
+        requires { All (λ s. IsSeatOf J.value J.count self s × (claimed_of s ≡ [])) seats.items }
+        ensures { (k : ℕ) → sum_by (λ s. times k (lifted_of s)) seats.items ≤ 1 }
+    {
+        let Ring { table } = self;
+        let Some(first) = seats.pop() else {
+            return;
+        };
+        let Seat { place: mut whole } = first;
+        while let Some(seat) = seats.pop() {
+            let Seat { place } = seat;
+            table.shared.join_seat::<MergeSeats>(&mut whole, place);
+        }
+        drop_all(table.close_with(whole));
+    }
+
+    /// One try to get the slot of piece k, which is empty once piece k - 64 has been lifted. Says whether the seat got it.
+    pub fn claim(&self, seat: &mut Seat<T, M>, k: u64) -> bool
+        requires seat { IsSeatOf J.value J.count self.now seat.old }
+        requires piece { k < J.count (job_of self.now) }
+        requires free { claimed_of seat.old ≡ [] }
+        ensures seat { IsSeatOf J.value J.count self.now seat.new }
+        ensures won { IsTrue result → claimed_of seat.new ≡ k ∷ [] }
+        ensures lost { IsFalse result → claimed_of seat.new ≡ [] }
+        ensures lifted { lifted_of seat.new ≡ lifted_of seat.old }
+    {
+        let empty = 4 * k;
+        self.table
+            .shared
+            .compare_exchange::<Claim>(&mut seat.place, (k % SLOTS) as usize, empty, empty + 1)
+            == empty
+    }
+
+    /// Lets other threads run: at first at once, and later by naps of up to a millisecond, unless the word of
+    /// piece k is the one that is waited for.
+    pub(crate) fn pause<R: Wait>(&self, rt: &R, k: u64, wanted: u64, turns: u32) {
+        if turns < PATIENCE {
+            yield_now();
+            return;
+        }
+        let slot = (k % SLOTS) as usize;
+        let found = self.table.shared.peek(slot);
+        if found != wanted {
+            let nap = Duration::from_nanos(1_000 << (turns - PATIENCE).min(10));
+            self.table
+                .shared
+                .park_timeout(rt, slot, (found % (1 << 32)) as u32, nap);
+        }
+    }
+
+    /// Places the value of the piece that the seat has claimed.
+    pub fn place(&self, seat: &mut Seat<T, M>, k: u64, value: T)
+        requires seat { IsSeatOf J.value J.count self.now seat.old }
+        requires piece { k < J.count (job_of self.now) }
+        requires claimed { claimed_of seat.old ≡ k ∷ [] }
+        requires value { J.meaning value ≡ J.value (job_of self.now) k }
+        ensures seat { IsSeatOf J.value J.count self.now seat.new }
+        ensures placed { claimed_of seat.new ≡ [] }
+        ensures lifted { lifted_of seat.new ≡ lifted_of seat.old }
+    {
+        let slot = (k % SLOTS) as usize;
+        let shared = &self.table.shared;
+        shared.exchange(&mut seat.place, slot, Some(value));
+        shared.store::<Place>(&mut seat.place, slot, 4 * k + 2);
+    }
+
+    /// One try to lift the value of piece k, which frees its slot for piece k + 64.
+    pub fn lift(&self, seat: &mut Seat<T, M>, k: u64) -> Option<T>
+        requires seat { IsSeatOf J.value J.count self.now seat.old }
+        requires piece { k < J.count (job_of self.now) }
+        ensures seat { IsSeatOf J.value J.count self.now seat.new }
+        ensures claimed { claimed_of seat.new ≡ claimed_of seat.old }
+        ensures some { IfSome result (λ out. (J.meaning out ≡ J.value (job_of self.now) k) × (times k (lifted_of seat.old) ≡ 0) × (lifted_of seat.new ≡ lifted_of seat.old ++ k ∷ [])) }
+        ensures none { IfNone result (lifted_of seat.new ≡ lifted_of seat.old) }
+    {
+        let slot = (k % SLOTS) as usize;
+        let full = 4 * k + 2;
+        let shared = &self.table.shared;
+        if shared.compare_exchange::<Lift<J>>(&mut seat.place, slot, full, full + 1) != full {
+            return None;
+        }
+        let out = shared.exchange(&mut seat.place, slot, None);
+        shared.store::<Free>(&mut seat.place, slot, 4 * (k + SLOTS));
+        out
+    }
+}

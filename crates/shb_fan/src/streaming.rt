@@ -1,0 +1,360 @@
+//! Results in the order of their pieces, while others are computed.
+ghost use Rattle.std.specs.Prelude.{◌≡◌, ◌∷◌, ◌<◌, [], None, All, IfOk, IfSome, IsTrue, IsFalse, length};
+ghost use Rattle.shb_fan.specs.Seated.{IsSeatOf, IsNewSeat, job_of, claimed_of};
+ghost use Rattle.shb_fan.specs.Streamed.{IsIdle, CanTake, HasTaken, Ended};
+
+use crate::beside::{Lead, Team, lead_and_work};
+use crate::gate::Gate;
+use crate::job::Job;
+use crate::pass::Pass;
+use crate::shares::{Ring, Seat};
+use crate::taker::{StreamError, Taker};
+use crate::tickets::Tickets;
+use crate::workers::Workers;
+use shb_io::NoMemory;
+use std::alloc::Global;
+use std::sync::Wait;
+use std::sync::atomic::{AtomicBool, Ordering};
+use std::thread::Threads;
+
+/// One thread's pass and seat.
+#[derive(Drop)]
+pub(crate) struct Worker<T, M> {
+    pub(crate) pass: Pass,
+    pub(crate) seat: Seat<T, M>,
+}
+
+/// The caller's own pass and seat, and a piece that it drew and has not run.
+#[derive(Drop)]
+pub(crate) struct Caller<T, M> {
+    pub(crate) own: Worker<T, M>,
+    pub(crate) kept: Option<u64>,
+}
+
+/// Whether the slot of piece k was got before a stop was seen.
+fn wait_to_claim<R: Wait, T: Drop, M, J: Job<Out = T, Meaning = M>>(
+    rt: &R,
+    tickets: &Tickets,
+    ring: &Ring<T, M, J>,
+    worker: &mut Worker<T, M>,
+    k: u64,
+) -> bool
+    requires idle { IsIdle J.value J.count tickets.now ring.now worker.old }
+    requires piece { k < J.count (job_of ring.now) }
+    ensures pass { worker.new.pass.source ≡ tickets.now }
+    ensures seat { IsSeatOf J.value J.count ring.now worker.new.seat }
+    ensures won { IsTrue result → claimed_of worker.new.seat ≡ k ∷ [] }
+    ensures stopped { IsFalse result → claimed_of worker.new.seat ≡ [] }
+{
+    let mut turns = 0u32;
+    for _ in rt.forever() {
+        if ring.claim(&mut worker.seat, k) {
+            return true;
+        }
+        if tickets.stopped(&mut worker.pass) {
+            return false;
+        }
+        ring.pause(rt, k, 4 * k, turns);
+        turns = turns.saturating_add(1);
+    }
+    unreachable!()
+}
+
+/// Runs piece k and places its value, unless memory runs out or a stop is seen. Says whether it did.
+fn make<R: Wait, T: Drop, M, J: Job<Out = T, Meaning = M>, G: Gate>(
+    rt: &R,
+    job: &J,
+    gate: &G,
+    tickets: &Tickets,
+    ring: &Ring<T, M, J>,
+    alloc: Global,
+    worker: &mut Worker<T, M>,
+    k: u64,
+) -> bool
+    requires idle { IsIdle J.value J.count tickets.now ring.now worker.old }
+    requires job { job_of ring.now ≡ job.now }
+    requires piece { k < J.count job.now }
+    ensures { IsIdle J.value J.count tickets.now ring.now worker.new }
+{
+    gate.enter(rt, k);
+    let Ok(out) = job.run(alloc, k) else {
+        tickets.stop(&mut worker.pass);
+        return false;
+    };
+    if !wait_to_claim(rt, tickets, ring, worker, k) {
+        return false;
+    }
+    ring.place(&mut worker.seat, k, out);
+    true
+}
+
+/// Draws, runs and places pieces until there is no more, memory runs out, or a stop is seen.
+fn work<R: Wait, T: Drop, M, J: Job<Out = T, Meaning = M>, G: Gate>(
+    rt: &R,
+    job: &J,
+    gate: &G,
+    tickets: &Tickets,
+    ring: &Ring<T, M, J>,
+    alloc: Global,
+    worker: &mut Worker<T, M>,
+)
+    requires idle { IsIdle J.value J.count tickets.now ring.now worker.old }
+    requires job { job_of ring.now ≡ job.now }
+    requires pieces { tickets.now.limit ≡ J.count job.now }
+    ensures { IsIdle J.value J.count tickets.now ring.now worker.new }
+{
+    for _ in rt.forever() {
+        let Some(k) = tickets.draw(&mut worker.pass) else {
+            return;
+        };
+        if !make(rt, job, gate, tickets, ring, alloc, worker, k) {
+            return;
+        }
+    }
+    unreachable!()
+}
+
+/// What all workers and the caller share. `begun` says that some worker has begun; it is a hint alone.
+#[derive(Drop)]
+pub(crate) struct Crew<'a, T: Drop, M, J: Job<Out = T, Meaning = M>, G> {
+    pub(crate) job: &'a J,
+    pub(crate) gate: &'a G,
+    pub(crate) tickets: &'a Tickets,
+    pub(crate) ring: &'a Ring<T, M, J>,
+    pub(crate) begun: &'a AtomicBool,
+    pub(crate) alloc: Global,
+    pub(crate) pieces: u64,
+}
+
+/// The value of piece k, unless memory runs out or a stop is seen first.
+///
+/// While no worker has begun, the caller draws a piece itself. It runs it when its turn comes, and draws
+/// no other before. So nothing is waited for that no thread will make.
+fn wait_to_lift<R: Wait, T: Drop, M, J: Job<Out = T, Meaning = M>, G: Gate>(
+    rt: &R,
+    crew: &Crew<'_, T, M, J, G>,
+    caller: &mut Caller<T, M>,
+    k: u64,
+) -> Option<T>
+    requires ready { CanTake J.value J.count crew.now caller.old }
+    requires piece { k < J.count crew.now.job.now }
+    ensures ready { CanTake J.value J.count crew.now caller.new }
+    ensures value { IfSome result (λ out. J.meaning out ≡ J.value crew.now.job.now k) }
+{
+    let mut turns = 0u32;
+    for _ in rt.forever() {
+        if caller.kept == Some(k) {
+            caller.kept = None;
+            if !make(
+                rt,
+                crew.job,
+                crew.gate,
+                crew.tickets,
+                crew.ring,
+                crew.alloc,
+                &mut caller.own,
+                k,
+            ) {
+                return None;
+            }
+        }
+        let lifted = crew.ring.lift(&mut caller.own.seat, k);
+        if lifted.is_some() {
+            return lifted;
+        }
+        if crew.tickets.stopped(&mut caller.own.pass) {
+            return None;
+        }
+        if caller.kept.is_none() && !crew.begun.load(Ordering::SeqCst) {
+            caller.kept = crew.tickets.draw(&mut caller.own.pass);
+        } else {
+            crew.ring.pause(rt, k, 4 * k + 2, turns);
+            turns = turns.saturating_add(1);
+        }
+    }
+    unreachable!()
+}
+
+/// Hands all results to the taker, in order, unless it refuses one, memory runs out or a stop is seen.
+fn take_all<R: Wait, T: Drop, M, J: Job<Out = T, Meaning = M>, G: Gate, E, K: Taker<T, Error = E>>(
+    rt: &R,
+    crew: &Crew<'_, T, M, J, G>,
+    caller: &mut Caller<T, M>,
+    taker: &mut K,
+) -> Result<(), StreamError<E>>
+    requires ready { CanTake J.value J.count crew.now caller.old }
+    ensures { Ended J.meaning (J.value crew.now.job.now) K.takes K.refuses (J.count crew.now.job.now) taker.old result taker.new }
+{
+    for k in 0..crew.pieces {
+        let Some(out) = wait_to_lift(rt, crew, caller, k) else {
+            return Err(StreamError::Memory);
+        };
+        match taker.take(k, out) {
+            Ok(()) => {}
+            Err(e) => {
+                crew.tickets.stop(&mut caller.own.pass);
+                return Err(StreamError::Taker(e));
+            }
+        }
+    }
+    Ok(())
+}
+
+impl<'a, T: Drop, M, J: Job<Out = T, Meaning = M>, G: Gate> Team<Worker<T, M>>
+    for Crew<'a, T, M, J, G> {
+    ghost use Rattle.shb_fan.specs.Streamed.{IsHired};
+
+    ghost ready = { λ crew worker. IsHired J.value J.count crew worker };
+
+    fn work<R: Wait>(&self, rt: &R, worker: &mut Worker<T, M>) {
+        self.begun.store(true, Ordering::SeqCst);
+        work(
+            rt,
+            self.job,
+            self.gate,
+            self.tickets,
+            self.ring,
+            self.alloc,
+            worker,
+        );
+    }
+}
+
+impl<'a, T: Drop, M, J: Job<Out = T, Meaning = M>, G: Gate, E, K: Taker<T, Error = E>> Lead<
+    Caller<T, M>,
+    K,
+> for Crew<'a, T, M, J, G> {
+    ghost use Rattle.shb_fan.specs.Streamed.{CanTake, Ended};
+
+    type Answer = Result<(), StreamError<E>>;
+
+    ghost can_lead = { λ crew caller _. CanTake J.value J.count crew caller };
+
+    ghost gives = { λ crew start answer end. Ended J.meaning (J.value crew.job.now) K.takes K.refuses (J.count crew.job.now) start answer end };
+
+    fn lead<R: Wait>(
+        &self,
+        rt: &R,
+        own: &mut Caller<T, M>,
+        goal: &mut K,
+    ) -> Result<(), StreamError<E>> {
+        take_all(rt, self, own, goal)
+    }
+}
+
+/// A worker for each pass and seat.
+fn hire<T: Drop, M, J: Job<Out = T, Meaning = M>>(
+    alloc: Global,
+    _tickets: &Tickets,
+    _ring: &Ring<T, M, J>,
+    passes: Vec<Pass>,
+    mut seats: Vec<Seat<T, M>>,
+) -> Result<Vec<Worker<T, M>>, NoMemory>
+    requires passes { All (λ p. p.source ≡ _tickets.now) passes.items }
+    requires seats { All (IsNewSeat J.value J.count _ring.now) seats.items }
+    requires count { length passes.items ≡ length seats.items }
+    ensures { IfOk result (λ v. (length v.items ≡ length passes.items) × All (IsIdle J.value J.count _tickets.now _ring.now) v.items) }
+{
+    let mut crew = Vec::with_capacity(alloc, passes.len())?;
+    for pass in passes {
+        let Some(seat) = seats.pop() else {
+            unreachable!()
+        };
+        crew.push(Worker { pass, seat })?;
+    }
+    Ok(crew)
+}
+
+/// The workers work, and the caller takes.
+fn work_and_take<
+    R: Threads + Wait + Sync,
+    T: Drop + Send,
+    M,
+    J: Job<Out = T, Meaning = M> + Sync,
+    G: Gate + Sync,
+    E,
+    K: Taker<T, Error = E>,
+>(
+    rt: &R,
+    alloc: Global,
+    job: &J,
+    gate: &G,
+    pieces: u64,
+    tickets: &Tickets,
+    ring: &Ring<T, M, J>,
+    begun: &AtomicBool,
+    workers: &mut [Worker<T, M>],
+    caller: &mut Caller<T, M>,
+    taker: &mut K,
+) -> Result<(), StreamError<E>>
+    requires pieces { pieces ≡ J.count job.now }
+    requires tickets { tickets.now.limit ≡ J.count job.now }
+    requires ring { job_of ring.now ≡ job.now }
+    requires workers { All (IsIdle J.value J.count tickets.now ring.now) workers.old }
+    requires caller { IsIdle J.value J.count tickets.now ring.now caller.old.own × (caller.old.kept ≡ None) }
+    ensures { Ended J.meaning (J.value job.now) K.takes K.refuses (J.count job.now) taker.old result taker.new }
+{
+    let crew = Crew {
+        job,
+        gate,
+        tickets,
+        ring,
+        begun,
+        alloc,
+        pieces,
+    };
+    lead_and_work(rt, &crew, workers, &crew, caller, taker)
+}
+
+/// Hands the values of all pieces to the taker, in order, while workers run pieces at once.
+///
+/// The caller's thread takes. After an `Err` the taker was given the values of the first pieces, and no call
+/// follows one that it refused.
+pub fn stream<
+    R: Threads + Wait + Sync,
+    T: Drop + Send,
+    M,
+    J: Job<Out = T, Meaning = M> + Sync,
+    G: Gate + Sync,
+    E,
+    K: Taker<T, Error = E>,
+>(
+    rt: &R,
+    alloc: Global,
+    job: &J,
+    gate: &G,
+    workers: Workers,
+    taker: &mut K,
+) -> Result<(), StreamError<E>>
+    ensures { Ended J.meaning (J.value job.now) K.takes K.refuses (J.count job.now) taker.old result taker.new }
+{
+    let pieces = job.pieces();
+    let seats = workers.get() + 1;
+    let Ok((tickets, passes)) = Tickets::new(alloc, pieces, seats) else {
+        return Err(StreamError::Memory);
+    };
+    let Ok((ring, seats)) = Ring::new(alloc, job, seats) else {
+        return Err(StreamError::Memory);
+    };
+    let Ok(mut crew) = hire(alloc, &tickets, &ring, passes, seats) else {
+        return Err(StreamError::Memory);
+    };
+    let Some(own) = crew.pop() else {
+        unreachable!()
+    };
+    let mut caller = Caller { own, kept: None };
+    let begun = AtomicBool::new(false);
+    work_and_take(
+        rt,
+        alloc,
+        job,
+        gate,
+        pieces,
+        &tickets,
+        &ring,
+        &begun,
+        crew.as_mut_slice(),
+        &mut caller,
+        taker,
+    )
+}

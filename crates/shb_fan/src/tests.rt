@@ -1,0 +1,515 @@
+//! Tickets, the ring, streaming and gathering, with the answers worked out by hand.
+ghost use Rattle.std.specs.Prelude.{◌≡◌, ℕ, ◌∷◌, ◌<◌, ◌≤◌, ◌^◌, IfOk, IfSome, [], length, All};
+ghost use Rattle.shb_fan.specs.Passes.{fresh};
+ghost use Rattle.shb_fan.specs.Seated.{IsNewSeat, job_of};
+
+use crate::*;
+use shb_io::NoMemory;
+use std::alloc::Global;
+use std::process::Abort;
+use std::sync::Wait;
+use std::sync::atomic::{AtomicBool, AtomicU64, Ordering};
+use std::test::Fail;
+use std::thread::{Threads, for_each_mut, yield_now};
+
+/// The value of piece k is k. Memory is refused at one piece, where there is one.
+#[derive(Drop)]
+struct Count {
+    pieces: u64,
+    refused: Option<u64>,
+    ghost few: { pieces ≤ 2 ^ 60 },
+}
+
+impl Job for Count {
+    type Out = u64;
+
+    type Meaning = u64;
+
+    ghost meaning = { λ out. out };
+
+    ghost value = { λ job k. k };
+
+    ghost count = { λ job. job.pieces };
+
+    fn pieces(&self) -> u64 {
+        self.pieces
+    }
+
+    fn run(&self, _alloc: Global, k: u64) -> Result<u64, NoMemory> {
+        if self.refused == Some(k) {
+            return Err(NoMemory);
+        }
+        Ok(k)
+    }
+}
+
+fn count_to(pieces: u32, refused: Option<u64>) -> Count
+    ensures { result.pieces ≡ pieces }
+{
+    Count {
+        pieces: u64::from(pieces),
+        refused,
+    }
+}
+
+/// Tickets with two passes.
+fn two(alloc: Global, limit: u32) -> Result<(Tickets, Pass, Pass), NoMemory>
+    ensures { IfOk result (λ r. (r.0.passes ≡ 2) × (r.1.source ≡ r.0) × (r.2.source ≡ r.0)) }
+{
+    let (tickets, mut passes) = Tickets::new(alloc, u64::from(limit), 2)?;
+    let Some(b) = passes.pop() else {
+        unreachable!()
+    };
+    let Some(a) = passes.pop() else {
+        unreachable!()
+    };
+    Ok((tickets, a, b))
+}
+
+fn close_two(alloc: Global, tickets: Tickets, a: Pass, b: Pass) -> Result<Closed, NoMemory>
+    requires { (tickets.passes ≡ 2) × (a.source ≡ tickets) × (b.source ≡ tickets) }
+{
+    let mut passes = Vec::new(alloc);
+    passes.push(a)?;
+    passes.push(b)?;
+    Ok(tickets.close(passes))
+}
+
+#[test]
+fn draws_in_turn(rt: HostRuntime) -> Result<(), Fail> {
+    let (tickets, mut a, mut b) = two(rt.alloc(), 3)?;
+    assert_eq!(rt; tickets.draw(&mut a), Some(0));
+    assert_eq!(rt; tickets.draw(&mut b), Some(1));
+    assert_eq!(rt; tickets.draw(&mut a), Some(2));
+    assert_eq!(rt; tickets.draw(&mut b), None);
+    assert_eq!(rt; tickets.draw(&mut a), None);
+    let closed = close_two(rt.alloc(), tickets, a, b)?;
+    assert_eq!(rt;
+        closed,
+        Closed {
+            drawn: 3,
+            stopped: false
+        }
+    );
+    Ok(())
+}
+
+#[test]
+fn stops_between(rt: HostRuntime) -> Result<(), Fail> {
+    let (tickets, mut a, mut b) = two(rt.alloc(), 3)?;
+    assert_eq!(rt; tickets.draw(&mut a), Some(0));
+    assert_eq!(rt; tickets.stopped(&mut a), false);
+    tickets.stop(&mut b);
+    assert_eq!(rt; tickets.stopped(&mut a), true);
+    assert_eq!(rt; tickets.draw(&mut a), None);
+    assert_eq!(rt; tickets.draw(&mut b), None);
+    let closed = close_two(rt.alloc(), tickets, a, b)?;
+    assert_eq!(rt;
+        closed,
+        Closed {
+            drawn: 1,
+            stopped: true
+        }
+    );
+    Ok(())
+}
+
+#[test]
+fn draws_from_nothing(rt: HostRuntime) -> Result<(), Fail> {
+    let (tickets, mut passes) = Tickets::new(rt.alloc(), 0, 1)?;
+    let Some(mut a) = passes.pop() else {
+        unreachable!()
+    };
+    assert_eq!(rt; tickets.draw(&mut a), None);
+    assert_eq!(rt; tickets.draw(&mut a), None);
+    passes.push(a)?;
+    assert_eq!(rt;
+        tickets.close(passes),
+        Closed {
+            drawn: 0,
+            stopped: false
+        }
+    );
+    Ok(())
+}
+
+#[test]
+fn stops_after_each_draw(rt: HostRuntime) -> Result<(), Fail> {
+    for drawn in 0..4u64 {
+        let (tickets, mut a, mut b) = two(rt.alloc(), 3)?;
+        for k in 0..drawn {
+            assert_eq!(rt; tickets.draw(&mut a), Some(k));
+        }
+        tickets.stop(&mut b);
+        assert_eq!(rt; tickets.draw(&mut a), None);
+        assert_eq!(rt; tickets.draw(&mut b), None);
+        assert_eq!(rt; tickets.draw(&mut a), None);
+        let closed = close_two(rt.alloc(), tickets, a, b)?;
+        assert_eq!(rt;
+            closed,
+            Closed {
+                drawn,
+                stopped: true
+            }
+        );
+    }
+    Ok(())
+}
+
+#[test]
+fn passes_one_slot_on(rt: HostRuntime) -> Result<(), Fail> {
+    let job = count_to(65, None);
+    let (ring, mut seats) = Ring::new(rt.alloc(), &job, 1)?;
+    let Some(mut seat) = seats.pop() else {
+        unreachable!()
+    };
+    assert!(rt; ring.claim(&mut seat, 0));
+    assert_eq!(rt; ring.lift(&mut seat, 0), None);
+    ring.place(&mut seat, 0, 0);
+    assert!(rt; !ring.claim(&mut seat, 64));
+    assert!(rt; !ring.claim(&mut seat, 0));
+    assert_eq!(rt; ring.lift(&mut seat, 0), Some(0));
+    assert_eq!(rt; ring.lift(&mut seat, 0), None);
+    assert!(rt; ring.claim(&mut seat, 64));
+    ring.place(&mut seat, 64, 64);
+    assert_eq!(rt; ring.lift(&mut seat, 64), Some(64));
+    seats.push(seat)?;
+    ring.close(seats);
+    Ok(())
+}
+
+/// Draws to the end, and counts how often each number came.
+fn draw_all(tickets: &Tickets, pass: &mut Pass, seen: &[AtomicU64])
+    requires { pass.old.source ≡ tickets.now }
+    ensures { pass.new.source ≡ tickets.now }
+{
+    for _ in 0..2_000u32 {
+        let Some(k) = tickets.draw(pass) else {
+            return;
+        };
+        if let Some(times) = seen.get(k as usize) {
+            times.fetch_add(1, Ordering::SeqCst);
+        }
+    }
+}
+
+/// All passes draw, each in a thread of its own.
+fn draw_each<R: Threads + Sync>(rt: &R, tickets: &Tickets, passes: &mut [Pass], seen: &[AtomicU64])
+    requires { All (λ p. p.source ≡ tickets.now) passes.old }
+    ensures { All (λ p. p.source ≡ tickets.now) passes.new }
+{
+    let draw = |_: usize, pass: &mut Pass|
+        requires { pass.old.source ≡ tickets.now }
+        ensures { pass.new.source ≡ tickets.entry.now }
+    { draw_all(tickets, pass, seen) };
+    for_each_mut(rt, passes, 4, &draw);
+}
+
+#[test]
+fn four_threads_draw(rt: HostRuntime) -> Result<(), Fail> {
+    let (tickets, mut passes) = Tickets::new(rt.alloc(), 1000, 4)?;
+    let mut seen = Vec::new(rt.alloc());
+    for _ in 0..1000u32 {
+        seen.push(AtomicU64::new(0))?;
+    }
+    draw_each(&rt, &tickets, passes.as_mut_slice(), seen.as_slice());
+    for times in &seen {
+        assert_eq!(rt; times.load(Ordering::SeqCst), 1);
+    }
+    assert_eq!(rt;
+        tickets.close(passes),
+        Closed {
+            drawn: 1000,
+            stopped: false
+        }
+    );
+    Ok(())
+}
+
+/// Keeps what it is given, but for one piece that it refuses, where there is one.
+#[derive(Drop)]
+struct Keeper {
+    pieces: Vec<u64>,
+    values: Vec<u64>,
+    refused: Option<u64>,
+}
+
+fn make_keeper(alloc: Global, refused: Option<u64>) -> Keeper {
+    Keeper {
+        pieces: Vec::new(alloc),
+        values: Vec::new(alloc),
+        refused,
+    }
+}
+
+impl Taker<u64> for Keeper {
+    type Error = u64;
+
+    ghost takes = { λ _ _ _. Unit {0} };
+
+    ghost refuses = { λ _ _ _ _ _. Unit {0} };
+
+    ghost nothing = { λ _. tt };
+
+    fn take(&mut self, k: u64, out: u64) -> Result<(), u64> {
+        if self.pieces.push(k).is_err() {
+            return Err(u64::MAX);
+        }
+        if self.refused == Some(k) {
+            return Err(k);
+        }
+        match self.values.push(out) {
+            Ok(()) => Ok(()),
+            Err(_) => Err(u64::MAX),
+        }
+    }
+}
+
+fn is_count(values: &[u64], len: u64) -> bool {
+    for (k, value) in values.iter().enumerate() {
+        if *value != k as u64 {
+            return false;
+        }
+    }
+    values.len() as u64 == len
+}
+
+fn so_many<R: Abort>(rt: &R, workers: u32) -> Workers {
+    Workers::new(workers).expect(rt, "1 to 64 workers")
+}
+
+#[test]
+fn numbers_of_workers(rt: HostRuntime) {
+    assert!(rt; Workers::new(0).is_none());
+    assert!(rt; Workers::new(65).is_none());
+    assert_eq!(rt; so_many(&rt, 64).get(), 64);
+}
+
+#[test]
+fn streams_in_order(rt: HostRuntime) -> Result<(), Fail> {
+    for pieces in [0, 1, 64, 65, 1000] {
+        for workers in [1, 2, 64] {
+            let job = count_to(pieces, None);
+            let mut taker = make_keeper(rt.alloc(), None);
+            let answer = stream(
+                &rt,
+                rt.alloc(),
+                &job,
+                &FreeGate,
+                so_many(&rt, workers),
+                &mut taker,
+            );
+            assert_eq!(rt; answer, Ok(()), "{pieces} pieces, {workers} workers");
+            assert!(rt; is_count(taker.pieces.as_slice(), u64::from(pieces)));
+            assert!(rt; is_count(taker.values.as_slice(), u64::from(pieces)));
+        }
+    }
+    Ok(())
+}
+
+#[test]
+fn gathers_in_order(rt: HostRuntime) -> Result<(), Fail> {
+    for pieces in [0, 1, 64, 65, 1000] {
+        for workers in [1, 2, 64] {
+            let job = count_to(pieces, None);
+            let values = gather(&rt, rt.alloc(), &job, &FreeGate, so_many(&rt, workers))?;
+            assert!(rt;
+                is_count(values.as_slice(), u64::from(pieces)),
+                "{pieces} pieces, {workers} workers"
+            );
+        }
+    }
+    Ok(())
+}
+
+#[test]
+fn taker_refuses_each(rt: HostRuntime) -> Result<(), Fail> {
+    for k in 0..70 {
+        let job = count_to(70, None);
+        let mut taker = make_keeper(rt.alloc(), Some(k));
+        let answer = stream(
+            &rt,
+            rt.alloc(),
+            &job,
+            &FreeGate,
+            so_many(&rt, 3),
+            &mut taker,
+        );
+        assert_eq!(rt; answer, Err(StreamError::Taker(k)));
+        assert!(rt; is_count(taker.pieces.as_slice(), k + 1));
+        assert!(rt; is_count(taker.values.as_slice(), k));
+    }
+    Ok(())
+}
+
+#[test]
+fn job_refuses_each(rt: HostRuntime) -> Result<(), Fail> {
+    for k in 0..70 {
+        let job = count_to(70, Some(k));
+        let mut taker = make_keeper(rt.alloc(), None);
+        let answer = stream(
+            &rt,
+            rt.alloc(),
+            &job,
+            &FreeGate,
+            so_many(&rt, 3),
+            &mut taker,
+        );
+        assert_eq!(rt; answer, Err(StreamError::Memory));
+        assert!(rt; taker.values.len() as u64 <= k);
+        assert!(rt; is_count(taker.values.as_slice(), taker.values.len() as u64));
+        assert!(rt; gather(&rt, rt.alloc(), &job, &FreeGate, so_many(&rt, 3)).is_err());
+    }
+    Ok(())
+}
+
+/// A value that counts its end.
+struct Counted<'a> {
+    piece: u64,
+    ended: &'a AtomicU64,
+}
+
+impl<'a> Drop for Counted<'a> {
+    fn drop(self) {
+        let Counted { piece: _, ended } = self;
+        ended.fetch_add(1, Ordering::SeqCst);
+    }
+}
+
+/// A job whose values are counted, as they are made and as they end.
+#[derive(Drop)]
+struct Counting<'a> {
+    pieces: u64,
+    made: &'a AtomicU64,
+    ended: &'a AtomicU64,
+    ghost few: { pieces ≤ 2 ^ 60 },
+}
+
+impl<'a> Job for Counting<'a> {
+    type Out = Counted<'a>;
+
+    type Meaning = u64;
+
+    ghost meaning = { λ out. out.piece };
+
+    ghost value = { λ job k. k };
+
+    ghost count = { λ job. job.pieces };
+
+    fn pieces(&self) -> u64 {
+        self.pieces
+    }
+
+    fn run(&self, _alloc: Global, k: u64) -> Result<Counted<'a>, NoMemory> {
+        self.made.fetch_add(1, Ordering::SeqCst);
+        Ok(Counted {
+            piece: k,
+            ended: self.ended,
+        })
+    }
+}
+
+/// Takes values up to one that it refuses.
+#[derive(Drop)]
+struct Limit {
+    refused: u64,
+    calls: u64,
+}
+
+impl<'a> Taker<Counted<'a>> for Limit {
+    type Error = u64;
+
+    ghost takes = { λ _ _ _. Unit {0} };
+
+    ghost refuses = { λ _ _ _ _ _. Unit {0} };
+
+    ghost nothing = { λ _. tt };
+
+    fn take(&mut self, k: u64, out: Counted<'a>) -> Result<(), u64> {
+        drop(out);
+        self.calls = self.calls.saturating_add(1);
+        if k == self.refused {
+            return Err(k);
+        }
+        Ok(())
+    }
+}
+
+fn seventy<'a>(made: &'a AtomicU64, ended: &'a AtomicU64) -> Counting<'a> {
+    Counting {
+        pieces: 70,
+        made,
+        ended,
+    }
+}
+
+#[test]
+fn values_end_once(rt: HostRuntime) -> Result<(), Fail> {
+    for k in 0..70 {
+        let made = AtomicU64::new(0);
+        let ended = AtomicU64::new(0);
+        let job = seventy(&made, &ended);
+        let mut taker = Limit {
+            refused: k,
+            calls: 0,
+        };
+        let answer = stream(
+            &rt,
+            rt.alloc(),
+            &job,
+            &FreeGate,
+            so_many(&rt, 3),
+            &mut taker,
+        );
+        assert_eq!(rt; answer, Err(StreamError::Taker(k)));
+        assert_eq!(rt; taker.calls, k + 1);
+        assert_eq!(rt; made.load(Ordering::SeqCst), ended.load(Ordering::SeqCst));
+    }
+    Ok(())
+}
+
+/// Holds pieces 0 to 6 until the nine from 7 to 15 have entered.
+#[derive(Drop)]
+struct SevenHeld {
+    late: AtomicU64,
+    missed: AtomicBool,
+}
+
+impl Gate for SevenHeld {
+    fn enter<R: Wait>(&self, _rt: &R, k: u64) {
+        if k >= 7 {
+            self.late.fetch_add(1, Ordering::SeqCst);
+            return;
+        }
+        for _ in 0..1_000_000_000u32 {
+            if self.late.load(Ordering::SeqCst) >= 9 {
+                return;
+            }
+            yield_now();
+        }
+        self.missed.store(true, Ordering::SeqCst);
+    }
+}
+
+fn seven_held() -> SevenHeld {
+    SevenHeld {
+        late: AtomicU64::new(0),
+        missed: AtomicBool::new(false),
+    }
+}
+
+#[test]
+fn seven_are_held(rt: HostRuntime) -> Result<(), Fail> {
+    let job = count_to(16, None);
+    let gate = seven_held();
+    let values = gather(&rt, rt.alloc(), &job, &gate, so_many(&rt, 8))?;
+    assert!(rt; is_count(values.as_slice(), 16));
+    assert!(rt; !gate.missed.load(Ordering::SeqCst));
+    let gate = seven_held();
+    let mut taker = make_keeper(rt.alloc(), None);
+    let answer = stream(&rt, rt.alloc(), &job, &gate, so_many(&rt, 8), &mut taker);
+    assert_eq!(rt; answer, Ok(()));
+    assert!(rt; is_count(taker.values.as_slice(), 16));
+    assert!(rt; !gate.missed.load(Ordering::SeqCst));
+    Ok(())
+}

@@ -1,0 +1,184 @@
+-- What is kept of a variable, an access at a time.
+use Rattle.std.proofs.Common.{◌≡◌, ◌≢◌, ℕ, ◌+◌, ◌<◌, ◌≤◌, ◌⊎◌, inl, inr, Bool, true, false, List, Option, Some, None, length, get_or, arith, subst, ap, sym, ◌∙◌, get_or-set_same, get_or-set_other}
+use Rattle.std.specs.Prelude.{◌==◌, map, replicate, option_and_then}
+use Rattle.std.proofs.Math.ListN.{set, length-set, length-replicate}
+use Rattle.std.proofs.lemmas.Bool.{cases_eq, eq-eqb}
+use Rattle.std.proofs.lemmas.List.{get_or-map}
+use Rattle.std.proofs.lemmas.Option.{slice_get-get_or, slice_get_within}
+use Rattle.shb_lines.specs.declared.event.Event.{Event}
+use Rattle.shb_lines.specs.declared.event.Op.{Op}
+use Rattle.shb_lines.specs.declared.event.Op.TheVariants.{Read, Write}
+use Rattle.shb_lines.specs.declared.event.Sizes.{Sizes}
+use Rattle.shb_lines.specs.Discipline.{IsDisciplined, is_of}
+use Rattle.shb_lines.specs.Events.{op_at, variable_of}
+use Rattle.shb_lines.specs.Order.{BelowPred}
+use Rattle.shb_lines.specs.Race.{Race, variable_at}
+use Rattle.shb_lines.specs.Sizes.{IsOpWithin, IsWithin}
+use Rattle.shb_lines.proofs.Counts.{count_more_yes}
+use Rattle.shb_lines.proofs.Events.{event_of_thread, is_of_true}
+use Rattle.shb_lines.proofs.Prefix.{below_from_local}
+use Rattle.shb_lines.proofs.Reach.{event_at_access}
+use Rattle.shb_lines.proofs.Schedulable.{thread_below_pred}
+use Rattle.shb_pairs.proofs.Counting.{variable_item}
+use Rattle.shb_pairs.specs.declared.screen.Latest.{Latest}
+use Rattle.shb_pairs.specs.declared.screen.Mark.{Mark}
+use Rattle.shb_pairs.specs.Listed.{AreOpen}
+use Rattle.shb_pairs.specs.Screen.{AreScreened, IsMarkOf, IsPast, IsScreened, no_place}
+use Rattle.shb_pairs.proofs.Settled.{chain_below}
+
+-- the event of a mark that is past
+pub mark_below : (trace : List Event) (mark : Mark) (e j : ℕ) → IsMarkOf trace mark e → e < j → IsPast trace mark j → BelowPred trace e j
+mark_below trace mark e j own lt past = elim past.below [
+  | inl none ↦ absurd (
+      let d = event_of_thread trace e mark.thread own.thread in
+      let more = count_more_yes (is_of mark.thread) trace e d.0 d.1 (is_of_true mark.thread d.0 d.2) in
+      let place = own.place in
+      omega (arith, none, more, place))
+  | inr some ↦ elim some [
+    | inl same ↦ thread_below_pred trace mark.thread e j lt own.thread same
+    | inr counted ↦ (let place = own.place in let le = counted.2 in below_from_local trace mark.thread j counted.0 counted.1 e own.thread (omega (arith, place, le)))
+  ]
+]
+
+write_accesses : (trace : List Event) (k x : ℕ) → op_at trace k ≡ Some (Write x) → variable_at trace k ≡ Some x
+write_accesses trace k x writes = ap (λ (o : Option Op). option_and_then variable_of o) writes
+
+write_alone : (trace : List Event) (k x y : ℕ) → op_at trace k ≡ Some (Write x) → op_at trace k ≡ Some (Write y) → y ≡ x
+write_alone trace k x y h g = let s : Some (Write x) ≡ Some (Write y) = sym h ∙ g in cc
+
+-- before the first event
+pub screened_none : (trace : List Event) (x : ℕ) (latest : Latest) → IsScreened trace 0 x latest
+screened_none trace x latest = record {
+  writes = λ k e lt le writes past. absurd (omega (arith, lt));
+  accesses = λ k e lt le access past also. absurd (omega (arith, lt));
+  free = λ i j lt access placed race. absurd (omega (arith, lt));
+}
+
+-- an open variable
+pub screened_open : (trace : List Event) (n x : ℕ) (latest : Latest) → latest.write.place ≡ no_place → IsScreened trace n x latest
+screened_open trace n x latest is = record {
+  writes = λ k e lt le writes past. absurd (past.placed is);
+  accesses = λ k e lt le access past also. absurd (past.placed is);
+  free = λ i j lt access placed race. placed is;
+}
+
+-- an event that doesn't access the variable
+pub screened_other : (trace : List Event) (n x : ℕ) (latest : Latest) → variable_at trace n ≢ Some x → IsScreened trace n x latest → IsScreened trace (n + 1) x latest
+screened_other trace n x latest other h = record {
+  writes = λ k e lt le writes past. h.writes k e (before k lt (write_accesses trace k x writes)) (omega arith) writes past;
+  accesses = λ k e lt le access past also. h.accesses k e (before k lt access) (omega arith) access past also;
+  free = λ i j lt access placed race. h.free i j (before j lt access) access placed race;
+}
+  where
+    before : (k : ℕ) → k < n + 1 → variable_at trace k ≡ Some x → k < n
+    before k lt access = elim (cases_eq k n) [ inl e ↦ absurd (other (subst (λ (m : ℕ). variable_at trace m ≡ Some x) e access)) | inr ne ↦ omega arith ]
+
+-- the variable of a race
+race_variable : (trace : List Event) (x i j : ℕ) → variable_at trace j ≡ Some x → (race : Race trace i j) → race.conflict.variable ≡ x
+race_variable trace x i j access race = let s : Some race.conflict.variable ≡ Some x = sym race.conflict.second_accesses ∙ access in cc
+
+race_accesses : (trace : List Event) (x i j : ℕ) → variable_at trace j ≡ Some x → Race trace i j → variable_at trace i ≡ Some x
+race_accesses trace x i j access race = subst (λ (y : ℕ). variable_at trace i ≡ Some y) (race_variable trace x i j access race) race.conflict.first_accesses
+
+-- a write that is ordered behind the last write and the reads since
+pub screened_write : (trace : List Event) → IsDisciplined trace → (n x : ℕ) (latest next : Latest) → variable_at trace n ≡ Some x → IsPast trace latest.write n → IsPast trace latest.read n → IsMarkOf trace next.write n → IsScreened trace n x latest → IsScreened trace (n + 1) x next
+screened_write trace disciplined n x latest next access past also own h = record {
+  writes = λ k e lt le writes later. below k e lt le (write_accesses trace k x writes) later;
+  accesses = λ k e lt le of_k later read. below k e lt le of_k later;
+  free = λ i j lt of_j placed race. elim (cases_eq j n) [
+    | inl same ↦ (let here : Race trace i n = subst (Race trace i) same race in here.unordered (h.accesses i n here.earlier (omega arith) (race_accesses trace x i n access here) past also))
+    | inr ne ↦ h.free i j (omega arith) of_j past.placed race
+  ];
+}
+  where
+    below : (k e : ℕ) → k < n + 1 → n + 1 ≤ e → variable_at trace k ≡ Some x → IsPast trace next.write e → BelowPred trace k e
+    below k e lt le of_k later = elim (cases_eq k n) [
+      | inl same ↦ subst (λ (m : ℕ). BelowPred trace m e) (sym same) (mark_below trace next.write n e own (omega arith) later)
+      | inr ne ↦ chain_below trace disciplined k n e (h.accesses k n (omega arith) (omega arith) of_k past also) (mark_below trace next.write n e own (omega arith) later)
+    ]
+
+-- a read that is ordered behind the last write: it races with no access
+module _ (trace : List Event) (disciplined : IsDisciplined trace) (n x : ℕ) (latest next : Latest) (access : variable_at trace n ≡ Some x) (reading : op_at trace n ≢ Some (Write x)) (past : IsPast trace latest.write n) (h : IsScreened trace n x latest) (same_write : next.write ≡ latest.write) where
+  read_writes : (k e : ℕ) → k < n + 1 → n + 1 ≤ e → op_at trace k ≡ Some (Write x) → IsPast trace next.write e → BelowPred trace k e
+  read_writes k e lt le writes later = elim (cases_eq k n) [
+    | inl same ↦ absurd (reading (subst (λ (m : ℕ). op_at trace m ≡ Some (Write x)) same writes))
+    | inr ne ↦ h.writes k e (omega arith) (omega arith) writes (subst (λ (m : Mark). IsPast trace m e) same_write later)
+  ]
+
+  read_free : (i j : ℕ) → j < n + 1 → variable_at trace j ≡ Some x → Race trace i j → ⊥
+  read_free i j lt of_j race = elim (cases_eq j n) [
+    | inl same ↦ here (subst (Race trace i) same race)
+    | inr ne ↦ h.free i j (omega arith) of_j past.placed race
+  ]
+    where
+      here : Race trace i n → ⊥
+      here race = elim race.conflict.one_writes [
+        | inl w ↦ race.unordered (h.writes i n race.earlier (omega arith) (subst (λ (y : ℕ). op_at trace i ≡ Some (Write y)) (race_variable trace x i n access race) w) past)
+        | inr w ↦ reading (subst (λ (y : ℕ). op_at trace n ≡ Some (Write y)) (race_variable trace x i n access race) w)
+      ]
+
+  -- and is behind the reads since, too
+  pub screened_read : IsPast trace latest.read n → IsMarkOf trace next.read n → IsScreened trace (n + 1) x next
+  screened_read also own = record {
+    writes = read_writes;
+    accesses = λ k e lt le of_k later read. elim (cases_eq k n) [
+      | inl same ↦ subst (λ (m : ℕ). BelowPred trace m e) (sym same) (mark_below trace next.read n e own (omega arith) read)
+      | inr ne ↦ chain_below trace disciplined k n e (h.accesses k n (omega arith) (omega arith) of_k past also) (mark_below trace next.read n e own (omega arith) read)
+    ];
+    free = λ i j lt of_j placed race. read_free i j lt of_j race;
+  }
+
+  -- or is not known to be
+  pub screened_unordered : next.read.place ≡ no_place → IsScreened trace (n + 1) x next
+  screened_unordered none = record {
+    writes = read_writes;
+    accesses = λ k e lt le of_k later read. absurd (read.placed none);
+    free = λ i j lt of_j placed race. read_free i j lt of_j race;
+  }
+
+-- the table
+pub table_start : (trace : List Event) (size : ℕ) (latest : Latest) (table : List Latest) → table ≡ replicate size latest → AreScreened trace 0 size table
+table_start trace size latest table is = record {
+  as_many = ap length is ∙ length-replicate size latest;
+  each = λ x d lt. screened_none trace x (get_or table x d);
+}
+
+pub table_other : (trace : List Event) (n size : ℕ) (table : List Latest) → ((x : ℕ) → variable_at trace n ≢ Some x) → AreScreened trace n size table → AreScreened trace (n + 1) size table
+table_other trace n size table other h = record {
+  as_many = h.as_many;
+  each = λ x d lt. screened_other trace n x (get_or table x d) (other x) (h.each x d lt);
+}
+
+pub table_access : (trace : List Event) (n size x : ℕ) (next : Latest) (table : List Latest) → x < size → variable_at trace n ≡ Some x → IsScreened trace (n + 1) x next → AreScreened trace n size table → AreScreened trace (n + 1) size (set table x next)
+table_access trace n size x next table within access screened h = record {
+  as_many = length-set table x next ∙ h.as_many;
+  each = λ y d lt. go y d lt (cases_eq y x);
+}
+  where
+    go : (y : ℕ) (d : Latest) → y < size → (y ≡ x) ⊎ (y ≢ x) → IsScreened trace (n + 1) y (get_or (set table x next) y d)
+    go y d lt (inl e) = rw e (rw (get_or-set_same table x next d (let long = h.as_many in omega (arith, long, within))) screened)
+    go y d lt (inr ne) = rw (get_or-set_other table x y next d ne) (screened_other trace n y (get_or table y d) (λ of_n. ne (let s : Some y ≡ Some x = sym of_n ∙ access in cc)) (h.each y d lt))
+
+-- the flags
+pub flags_open : (trace : List Event) (size : ℕ) (table : List Latest) (flags : List Bool) → ((k x : ℕ) → variable_at trace k ≡ Some x → (k < length trace) × (x < size)) → flags ≡ map (λ (latest : Latest). latest.write.place == no_place) table → AreScreened trace (length trace) size table → AreOpen trace flags
+flags_open trace size table flags within is h x shut i j of_j race =
+    let range = within j x of_j in
+    let d : Latest = record { write = record { place = 0; thread = 0 }; read = record { place = 0; thread = 0 } } in
+    let lt : x < length table = (let long = h.as_many in let low = range.1 in omega (arith, long, low)) in
+    let flag : get_or flags x true ≡ (get_or table x d).write.place == no_place = ap (λ (bs : List Bool). get_or bs x true) is ∙ get_or-map (λ (latest : Latest). latest.write.place == no_place) table x d true lt in
+    (h.each x d range.1).free i j range.0 of_j (λ e. (let yes_it = eq-eqb (get_or table x d).write.place no_place e in let f : true ≡ false = sym yes_it ∙ (sym flag ∙ shut) in (let g : ⊥ = cc in g))) race
+
+pub apart : (x : ℕ) → Some x ≡ None → ⊥
+apart x h = let f : ⊥ = cc in f
+
+-- an access and its variable are in range
+sized : (sizes : Sizes) (op : Op) (x : ℕ) → IsOpWithin sizes op → variable_of op ≡ Some x → x < sizes.variables
+sized sizes (Read y) x low is = let same : y ≡ x = cc in rw (← same) low
+sized sizes (Write y) x low is = let same : y ≡ x = cc in rw (← same) low
+sized sizes _ x low is = absurd (let f : ⊥ = cc in f)
+
+pub variable_sized : (trace : List Event) (sizes : Sizes) (k x : ℕ) → IsWithin trace sizes → variable_at trace k ≡ Some x → (k < length trace) × (x < sizes.variables)
+variable_sized trace sizes k x within access =
+    let e = event_at_access trace k x access in
+    let lt = slice_get_within trace k e.0 e.1 in
+    (lt, sized sizes (get_or trace k e.0).op x (within k (get_or trace k e.0) (slice_get-get_or trace k e.0 lt)).operation (sym (variable_item trace k e.0 lt) ∙ access))

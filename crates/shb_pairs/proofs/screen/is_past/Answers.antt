@@ -1,0 +1,14 @@
+use Rattle.std.proofs.Common.{inl, inr, sym, ◌∙◌}
+use Rattle.std.proofs.lemmas.Bool.{eqb-true}
+use Rattle.shb_lines.proofs.Items.{thread_item_is}
+use Rattle.shb_pairs.proofs.screen.is_past.Goals as goal
+use Rattle.shb_pairs.proofs.screen.is_past.Goals.{then-mark-eq0, else-mark-eq0}
+
+pub returns-then-mark-trace : goal.returns-then-mark-trace
+returns-then-mark-trace g c past = record {
+  placed = c.if-mark-eq4294967295.false;
+  below = elim c.if-mark-eq0.branch [
+    | then-mark-eq0 w ↦ inl w.if-mark-eq0.true
+    | else-mark-eq0 w ↦ inr (inl (thread_item_is c.args.trace.now.events.now c.args.e c.args.mark.thread _ c.requires.in_range (sym (eqb-true _ _ (sym w.value-is ∙ c.if-mark-trace.true)))))
+  ];
+}

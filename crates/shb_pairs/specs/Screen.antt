@@ -1,0 +1,35 @@
+-- What the pass that tells which variables may have a race keeps of each.
+use Rattle.std.specs.Prelude.{◌≡◌, ◌≢◌, ℕ, ◌<◌, ◌≤◌, ◌⊎◌, List, Some, length, slice_index_or}
+use Rattle.shb_lines.specs.declared.event.Event.{Event}
+use Rattle.shb_lines.specs.declared.event.Op.TheVariants.{Write}
+use Rattle.shb_lines.specs.Discipline.{place_in_thread}
+use Rattle.shb_lines.specs.Events.{thread_at, op_at}
+use Rattle.shb_lines.specs.Order.{BelowPred, IsBelowPredCount}
+use Rattle.shb_lines.specs.Race.{Race, variable_at}
+use Rattle.shb_pairs.specs.declared.screen.Latest.{Latest}
+use Rattle.shb_pairs.specs.declared.screen.Mark.{Mark}
+
+-- the place of no event: an access is not known to be ordered behind what such a mark stands for
+abbrev pub no_place : ℕ
+no_place = 4294967295
+
+-- what the mark stands for is SHB-below the predecessor of e: it is nothing, or an event of the thread of e, or its place is among those below
+pub record IsPast (trace : List Event) (mark : Mark) (e : ℕ) : Type 0 where
+  pub placed : mark.place ≢ no_place
+  pub below : (mark.place ≡ 0) ⊎ ((thread_at trace e ≡ Some mark.thread) ⊎ ((n : ℕ) × IsBelowPredCount trace mark.thread e n × (mark.place ≤ n)))
+
+-- the mark of the event at e
+pub record IsMarkOf (trace : List Event) (mark : Mark) (e : ℕ) : Type 0 where
+  pub thread : thread_at trace e ≡ Some mark.thread
+  pub place : mark.place ≡ place_in_thread trace mark.thread e
+
+-- an event at which the write is past is behind all writes of x before n, and one at which the read is past too is behind all accesses; unless the write is unordered, x has no race before n
+pub record IsScreened (trace : List Event) (n x : ℕ) (latest : Latest) : Type 0 where
+  pub writes : (k e : ℕ) → k < n → n ≤ e → op_at trace k ≡ Some (Write x) → IsPast trace latest.write e → BelowPred trace k e
+  pub accesses : (k e : ℕ) → k < n → n ≤ e → variable_at trace k ≡ Some x → IsPast trace latest.write e → IsPast trace latest.read e → BelowPred trace k e
+  pub free : (i j : ℕ) → j < n → variable_at trace j ≡ Some x → latest.write.place ≢ no_place → ¬ Race trace i j
+
+-- the same of each variable
+pub record AreScreened (trace : List Event) (n size : ℕ) (table : List Latest) : Type 0 where
+  pub as_many : length table ≡ size
+  pub each : (x : ℕ) (d : Latest) → x < size → IsScreened trace n x (slice_index_or table x d)

@@ -1,0 +1,224 @@
+//! The variables that may have a race, by one pass over a trace.
+
+ghost use Rattle.std.specs.Prelude.{◌≡◌, ◌≢◌, ◌==◌, ℕ, ◌+◌, ◌<◌, Some, IfOk, IsTrue, length, map};
+ghost use Rattle.shb_lines.specs.declared.event.Op.TheVariants.{Write};
+ghost use Rattle.shb_lines.specs.Events.{op_at};
+ghost use Rattle.shb_lines.specs.Race.{variable_at};
+ghost use Rattle.shb_pairs.specs.Listed.{AreOpen};
+ghost use Rattle.shb_pairs.specs.Screen.{AreScreened, IsMarkOf, IsPast, IsScreened, no_place};
+
+use crate::race::is_write;
+use shb_clocks::Order;
+use shb_discipline::Disciplined;
+use shb_io::NoMemory;
+use shb_lines::variable;
+use shb_links::Links;
+use std::alloc::{AllocError, Global};
+
+/// An event by its place in its thread, from 1, and the thread; or nothing, or an event that isn't
+/// known any more.
+#[derive(Clone, Copy)]
+struct Mark {
+    place: u32,
+    thread: u32,
+}
+
+/// What is kept of a variable: its last write, and the newest read since. Where the write is
+/// unordered, the variable is open; where the read is, not all reads since the write are ordered
+/// before one of them.
+#[derive(Clone, Copy)]
+struct Latest {
+    write: Mark,
+    read: Mark,
+}
+
+/// The mark of nothing, behind which each event is.
+fn nothing() -> Mark
+    ensures { result.place ≡ 0 }
+{
+    Mark {
+        place: 0,
+        thread: 0,
+    }
+}
+
+/// The mark behind which no event is.
+fn unordered() -> Mark
+    ensures { result.place ≡ no_place }
+{
+    Mark {
+        place: u32::MAX,
+        thread: 0,
+    }
+}
+
+/// The mark of an event.
+fn mark_of(trace: &Disciplined<'_>, links: &Links<'_>, e: u32) -> Mark
+    requires linked { links.now ≡ trace.now.events.now }
+    requires in_range { e < length trace.now.events.now }
+    ensures { IsMarkOf trace.now.events.now result e }
+{
+    Mark {
+        place: links.local(e),
+        thread: trace.events[e as usize].thread,
+    }
+}
+
+/// Whether what a mark stands for is SHB-below the predecessor of an event.
+fn is_past<O: Order>(order: &O, trace: &Disciplined<'_>, mark: Mark, e: u32) -> bool
+    requires of_trace { O.trace order.now ≡ trace.now.events.now }
+    requires in_range { e < length trace.now.events.now }
+    ensures { IsTrue result → IsPast trace.now.events.now mark e }
+{
+    if mark.place == u32::MAX {
+        false
+    } else {
+        mark.place == 0
+            || mark.thread == trace.events[e as usize].thread
+            || mark.place <= order.below_pred(e, mark.thread)
+    }
+}
+
+/// What is kept of an open variable.
+fn opened() -> Latest
+    ensures { result.write.place ≡ no_place }
+{
+    Latest {
+        write: unordered(),
+        read: nothing(),
+    }
+}
+
+/// What is kept of a variable behind a read of it that is ordered behind its last write.
+fn after_read<O: Order>(
+    order: &O,
+    trace: &Disciplined<'_>,
+    links: &Links<'_>,
+    latest: Latest,
+    e: u32,
+) -> Latest
+    requires of_trace { O.trace order.now ≡ trace.now.events.now }
+    requires linked { links.now ≡ trace.now.events.now }
+    requires in_range { e < length trace.now.events.now }
+    ensures { (x : ℕ) → variable_at trace.now.events.now e ≡ Some x → op_at trace.now.events.now e ≢ Some (Write x) → IsPast trace.now.events.now latest.write e → IsScreened trace.now.events.now e x latest → IsScreened trace.now.events.now (e + 1) x result }
+{
+    let Latest {
+        write,
+        read: newest,
+    } = latest;
+    if is_past(order, trace, newest, e) {
+        let read = mark_of(trace, links, e);
+        Latest { write, read }
+    } else {
+        let read = unordered();
+        Latest { write, read }
+    }
+}
+
+/// What is kept of a variable behind a write of it that is ordered behind its last write.
+fn after_write<O: Order>(
+    order: &O,
+    trace: &Disciplined<'_>,
+    links: &Links<'_>,
+    latest: Latest,
+    e: u32,
+) -> Latest
+    requires of_trace { O.trace order.now ≡ trace.now.events.now }
+    requires linked { links.now ≡ trace.now.events.now }
+    requires in_range { e < length trace.now.events.now }
+    ensures { (x : ℕ) → variable_at trace.now.events.now e ≡ Some x → IsPast trace.now.events.now latest.write e → IsScreened trace.now.events.now e x latest → IsScreened trace.now.events.now (e + 1) x result }
+{
+    if is_past(order, trace, latest.read, e) {
+        Latest {
+            write: mark_of(trace, links, e),
+            read: nothing(),
+        }
+    } else {
+        opened()
+    }
+}
+
+/// What is kept of a variable behind an access of it.
+fn after_access<O: Order>(
+    order: &O,
+    trace: &Disciplined<'_>,
+    links: &Links<'_>,
+    latest: Latest,
+    e: u32,
+) -> Latest
+    requires of_trace { O.trace order.now ≡ trace.now.events.now }
+    requires linked { links.now ≡ trace.now.events.now }
+    requires in_range { e < length trace.now.events.now }
+    ensures { (x : ℕ) → variable_at trace.now.events.now e ≡ Some x → IsScreened trace.now.events.now e x latest → IsScreened trace.now.events.now (e + 1) x result }
+{
+    if !is_past(order, trace, latest.write, e) {
+        opened()
+    } else if is_write(trace.events[e as usize].op) {
+        after_write(order, trace, links, latest, e)
+    } else {
+        after_read(order, trace, links, latest, e)
+    }
+}
+
+/// Takes the event at e into what is kept of its variable, if it is an access.
+fn screen<O: Order>(
+    order: &O,
+    trace: &Disciplined<'_>,
+    links: &Links<'_>,
+    table: &mut Vec<Latest>,
+    e: u32,
+)
+    requires of_trace { O.trace order.now ≡ trace.now.events.now }
+    requires linked { links.now ≡ trace.now.events.now }
+    requires in_range { e < length trace.now.events.now }
+    requires screened { AreScreened trace.now.events.now e trace.now.sizes.variables table.old.items }
+    ensures { AreScreened trace.now.events.now (e + 1) trace.now.sizes.variables table.new.items }
+{
+    if let Some(x) = variable(trace.events[e as usize].op) {
+        let latest = table[x as usize];
+        table[x as usize] = after_access(order, trace, links, latest, e);
+    }
+}
+
+/// Which variables are open, by what is kept of each.
+fn flags_of(alloc: Global, table: &[Latest]) -> Result<Vec<bool>, AllocError>
+    ensures { IfOk result (λ flags. flags.items ≡ map (λ latest. latest.write.place == no_place) table.now) }
+{
+    let mut flags = Vec::with_capacity(alloc, table.len())?;
+    for latest in table {
+        flags.push(latest.write.place == u32::MAX)?;
+    }
+    Ok(flags)
+}
+
+/// Which variables may have a race, a flag for each: where it is false, no pair of accesses of the
+/// variable is a race. One pass over the trace in its order, with at most two look-ups of the order
+/// for each access, and 16 bytes a variable.
+///
+/// A variable is settled where each access is SHB-below the predecessor of what is kept of those
+/// before it: its last write and, behind a write, the newest of the reads since, as long as each of
+/// them was ordered behind the one before it. A flag may be true though no pair races.
+///
+/// # Errors
+///
+/// `NoMemory` where memory was refused.
+pub fn open_variables<O: Order>(
+    alloc: Global,
+    order: &O,
+    trace: &Disciplined<'_>,
+    links: &Links<'_>,
+) -> Result<Vec<bool>, NoMemory>
+    requires of_trace { O.trace order.now ≡ trace.now.events.now }
+    requires linked { links.now ≡ trace.now.events.now }
+    ensures { IfOk result (λ flags. AreOpen trace.now.events.now flags.items) }
+{
+    let none = Latest {
+        write: nothing(),
+        read: nothing(),
+    };
+    let mut table = vec![in alloc; none; trace.sizes.variables as usize]?;
+    for e in 0..trace.events.len() as u32 {
+        screen(order, trace, links, &mut table, e);
+    }
+    Ok(flags_of(alloc, table.as_slice())?)
+}

@@ -1,0 +1,234 @@
+-- The reasons of an event by its operation, where no place before it has a reason.
+use Rattle.std.proofs.Common.{◌≡◌, ◌≢◌, ℕ, ◌<◌, ◌≤◌, ◌⊎◌, inl, inr, true, false, List, Option, Some, None, length, take, get_or, refl, sym, ◌∙◌, ap, arith, subst}
+use Rattle.std.specs.Prelude.{slice_get, ◌==◌, ◌↔◌, IfSome}
+use Rattle.std.specs.Option.{option_eq}
+use Rattle.std.proofs.Math.Dec.{eqb}
+use Rattle.std.proofs.lemmas.List.{get_or_read}
+use Rattle.std.proofs.lemmas.Bool.{cases_Bool, cases_eq, cases_lt, cases_order, eqb-true, eq-eqb, ne_eqb}
+use Rattle.std.proofs.lemmas.Option.{slice_get_within}
+use Rattle.shb_lines.specs.declared.event.Event.{Event}
+use Rattle.shb_lines.specs.declared.event.Op.{Op}
+use Rattle.shb_lines.specs.declared.event.Op.TheVariants.{Read, Acquire, Release, Fork, Join}
+use Rattle.shb_lines.specs.Events.{thread_at, op_at}
+use Rattle.shb_lines.specs.Discipline.{IsDisciplined, MayDo, acquires, releases, only, is_acquire, is_release}
+use Rattle.shb_lines.specs.Order.{LastWrite}
+use Rattle.shb_lines.proofs.Counts.{count_mono}
+use Rattle.shb_lines.proofs.Events.{thread_is, op_is, event_of_thread, event_of_op, is_acquire_parts}
+use Rattle.shb_links.specs.Latest.{Latest, IsLatestTable, OfThread}
+use Rattle.shb_links.specs.Links.{Exactly}
+use Rattle.shb_replay.specs.declared.broken.Why.{Why}
+use Rattle.shb_replay.specs.declared.broken.Why.TheVariants as whys
+use Rattle.shb_replay.specs.Reasons.{number_of, StandsEarlier, IsLatestWrite, HasReason, IsUnbroken}
+use Rattle.shb_replay.specs.Walks.{AreLatestWrites, HasHandovers, IsLowestIn, JoinStands, ReleasesLock, TellsLack}
+use Rattle.shb_replay.proofs.Standing.{widen}
+use Rattle.shb_replay.proofs.Closed.{thread_stands, release_stands}
+use Rattle.shb_replay.proofs.Balance.{HasHolder, IsPassing, balanced, disciplined_below, holder_after, some_counted}
+use Rattle.shb_replay.proofs.LastWrites.{writes_agree, writes_differ}
+
+module _ (trace : List Event) (disciplined : IsDisciplined trace) (s : List ℕ) (p : ℕ) (unbroken : IsUnbroken trace s p) where
+  -- the last event of a thread stands only where all of them do
+  ended_by : (q t a b : ℕ) → q < p → slice_get s q ≡ Some b → thread_at trace b ≡ Some t → thread_at trace a ≡ Some t → (b < a → ⊥) → (a ≡ b) ⊎ ((a < b) ⊎ (b < a)) → StandsEarlier s p a
+  ended_by q t a b lt at of_b of_a last (inl same) = record { place = q; earlier = lt; at = at ∙ ap (λ (n : ℕ). Some n) (sym same) }
+  ended_by q t a b lt at of_b of_a last (inr (inl low)) = widen s q p a (omega (arith, lt)) (thread_stands trace s p unbroken q b a t lt at low of_a of_b)
+  ended_by q t a b lt at of_b of_a last (inr (inr high)) = absurd (last high)
+
+  thread_ended : (t : ℕ) (o : Option ℕ) → Latest (OfThread trace t) (length trace) o → ((b : ℕ) → o ≡ Some b → StandsEarlier s p b) → (a : ℕ) → thread_at trace a ≡ Some t → StandsEarlier s p a
+  thread_ended t (Some b) latest stands a of_a =
+      let there = stands b refl in
+      let e = event_of_thread trace a t of_a in
+      ended_by there.place t a b there.earlier there.at latest.holds of_a (λ high. latest.last a high (slice_get_within trace a e.0 e.1) of_a) (cases_order a b)
+  thread_ended t None none stands a of_a = absurd (let e = event_of_thread trace a t of_a in none a (slice_get_within trace a e.0 e.1) of_a)
+
+  -- between two releases by different threads the later one acquires the lock
+  taken_between : (l r k : ℕ) (e d : Event) → slice_get trace r ≡ Some e → slice_get trace k ≡ Some d → e.op ≡ Release l → d.op ≡ Release l → k < r → (d.thread ≡ e.thread → ⊥) → (a : ℕ) × IsPassing (is_acquire (only e.thread) l) trace k r a
+  taken_between l r k e d at_r at_k releases_r releases_k lt ne = some_counted (is_acquire (only e.thread) l) trace k r more
+    where
+      may : (b : ℕ) (f : Event) → slice_get trace b ≡ Some f → f.op ≡ Release l → releases (only f.thread) l (take b trace) < acquires (only f.thread) l (take b trace)
+      may b f at is = subst (MayDo (take b trace) f.thread) is (disciplined b f at).may_do
+
+      free : acquires (only e.thread) l (take k trace) ≡ releases (only e.thread) l (take k trace)
+      free = go (holder_after trace l k (disciplined_below trace k disciplined))
+        where
+          go : HasHolder (take k trace) l → acquires (only e.thread) l (take k trace) ≡ releases (only e.thread) l (take k trace)
+          go held = by_holder (cases_Bool (d.thread == held.holder))
+            where
+              by_holder : ((d.thread == held.holder) ≡ true) ⊎ ((d.thread == held.holder) ≡ false) → acquires (only e.thread) l (take k trace) ≡ releases (only e.thread) l (take k trace)
+              by_holder (inl own) = balanced (take k trace) l e.thread held (ne_eqb e.thread held.holder (λ same. ne (eqb-true d.thread held.holder own ∙ sym same)))
+              by_holder (inr other) =
+                  let none = balanced (take k trace) l d.thread held other in
+                  let some = may k d at_k releases_k in
+                  absurd (omega (arith, none, some))
+
+      more : acquires (only e.thread) l (take k trace) < acquires (only e.thread) l (take r trace)
+      more =
+          let some = may r e at_r releases_r in
+          let same = free in
+          let mono = count_mono (is_release (only e.thread) l) trace k r (omega (arith, lt)) in
+          omega (arith, some, same, mono)
+
+  -- so an earlier release of the lock stands where a later one does
+  handed_by : (q l r k : ℕ) (e d : Event) → q < p → slice_get s q ≡ Some r → slice_get trace r ≡ Some e → slice_get trace k ≡ Some d → e.op ≡ Release l → d.op ≡ Release l → k < r → (d.thread ≡ e.thread) ⊎ (d.thread ≡ e.thread → ⊥) → StandsEarlier s q k
+  handed_by q l r k e d lq at at_r at_k releases_r releases_k lt (inl same) = thread_stands trace s p unbroken q r k e.thread lq at lt (thread_is trace k d at_k ∙ ap (λ (n : ℕ). Some n) same) (thread_is trace r e at_r)
+  handed_by q l r k e d lq at at_r at_k releases_r releases_k lt (inr ne) =
+      let found = taken_between l r k e d at_r at_k releases_r releases_k lt ne in
+      let a = found.0 in
+      let parts = is_acquire_parts (only e.thread) l found.1.event found.1.passes in
+      let own : found.1.event.thread ≡ e.thread = sym (eqb-true e.thread found.1.event.thread parts.0) in
+      let of_t : thread_at trace a ≡ Some e.thread = thread_is trace a found.1.event found.1.at ∙ ap (λ (n : ℕ). Some n) own in
+      let takes : op_at trace a ≡ Some (Acquire l) = op_is trace a found.1.event found.1.at ∙ ap (λ (o : Op). Some o) parts.1 in
+      let gives : op_at trace k ≡ Some (Release l) = op_is trace k d at_k ∙ ap (λ (o : Op). Some o) releases_k in
+      let stands = thread_stands trace s p unbroken q r a e.thread lq at found.1.below of_t (thread_is trace r e at_r) in
+      let first = stands.earlier in
+      widen s stands.place q k (omega (arith, first)) (release_stands trace s p unbroken stands.place a k l (omega (arith, first, lq)) stands.at takes gives (apart a takes gives found.1.from))
+    where
+      apart : (a : ℕ) → op_at trace a ≡ Some (Acquire l) → op_at trace k ≡ Some (Release l) → k ≤ a → k < a
+      apart a takes gives le = elim (cases_lt k a) [ inl low ↦ low | inr ge ↦ absurd (let same : a ≡ k = omega (arith, le, ge) in let both : Some (Acquire l) ≡ Some (Release l) = sym takes ∙ (ap (op_at trace) same ∙ gives) in (let f : ⊥ = cc in f)) ]
+
+  handed_on : (l r k : ℕ) → StandsEarlier s p r → op_at trace r ≡ Some (Release l) → op_at trace k ≡ Some (Release l) → k < r → StandsEarlier s p k
+  handed_on l r k stands releases_r releases_k lt =
+      let e = event_of_op trace r (Release l) releases_r in
+      let d = event_of_op trace k (Release l) releases_k in
+      widen s stands.place p k (let low = stands.earlier in omega (arith, low)) (handed_by stands.place l r k e.0 d.0 stands.earlier stands.at e.1 d.1 e.2 d.2 lt (cases_eq d.0.thread e.0.thread))
+
+  released_before : (l x : ℕ) (o : Option ℕ) → Latest (ReleasesLock trace l) x o → ((r : ℕ) → o ≡ Some r → StandsEarlier s p r) → (k : ℕ) → k < x → op_at trace k ≡ Some (Release l) → StandsEarlier s p k
+  released_before l x (Some r) latest stands k lt gives = go (cases_order k r)
+    where
+      go : (k ≡ r) ⊎ ((k < r) ⊎ (r < k)) → StandsEarlier s p k
+      go (inl same) = subst (λ (n : ℕ). StandsEarlier s p n) (sym same) (stands r refl)
+      go (inr (inl low)) = handed_on l r k (stands r refl) latest.holds gives low
+      go (inr (inr high)) = absurd (latest.last k high lt gives)
+  released_before l x None none stands k lt gives = absurd (none k lt gives)
+
+  module _ (x : ℕ) (op : Op) (does : op_at trace x ≡ Some op) where
+    is_op : (other : Op) → op_at trace x ≡ Some other → op ≡ other
+    is_op other is = let both : Some op ≡ Some other = sym does ∙ is in cc
+
+    none_of : (HasReason trace s p x whys.JoinEarly → ⊥) → (HasReason trace s p x whys.LockOrder → ⊥) → (HasReason trace s p x whys.LastWrite → ⊥) → IsLowestIn 5 8 (HasReason trace s p x) None
+    none_of five six seven whys.JoinEarly low high h = five h
+    none_of five six seven whys.LockOrder low high h = six h
+    none_of five six seven whys.LastWrite low high h = seven h
+    none_of five six seven whys.NotNext low high h = h
+    none_of five six seven whys.NoSuchEvent low high h = omega (arith, low)
+    none_of five six seven whys.Repeated low high h = omega (arith, low)
+    none_of five six seven whys.ThreadOrder low high h = omega (arith, low)
+    none_of five six seven whys.ForkMissing low high h = omega (arith, low)
+
+    first_five : HasReason trace s p x whys.JoinEarly → IsLowestIn 5 8 (HasReason trace s p x) (Some whys.JoinEarly)
+    first_five h = (h, omega arith, λ other low has. low)
+
+    first_six : HasReason trace s p x whys.LockOrder → (HasReason trace s p x whys.JoinEarly → ⊥) → IsLowestIn 5 8 (HasReason trace s p x) (Some whys.LockOrder)
+    first_six h five = (h, omega arith, above)
+      where
+        above : (other : Why) → 5 ≤ number_of other → HasReason trace s p x other → 6 ≤ number_of other
+        above whys.JoinEarly low has = absurd (five has)
+        above whys.LockOrder low has = omega arith
+        above whys.LastWrite low has = omega arith
+        above whys.NotNext low has = omega arith
+        above whys.NoSuchEvent low has = absurd (omega (arith, low))
+        above whys.Repeated low has = absurd (omega (arith, low))
+        above whys.ThreadOrder low has = absurd (omega (arith, low))
+        above whys.ForkMissing low has = absurd (omega (arith, low))
+
+    first_seven : HasReason trace s p x whys.LastWrite → (HasReason trace s p x whys.JoinEarly → ⊥) → (HasReason trace s p x whys.LockOrder → ⊥) → IsLowestIn 5 8 (HasReason trace s p x) (Some whys.LastWrite)
+    first_seven h five six = (h, omega arith, above)
+      where
+        above : (other : Why) → 5 ≤ number_of other → HasReason trace s p x other → 7 ≤ number_of other
+        above whys.JoinEarly low has = absurd (five has)
+        above whys.LockOrder low has = absurd (six has)
+        above whys.LastWrite low has = omega arith
+        above whys.NotNext low has = omega arith
+        above whys.NoSuchEvent low has = absurd (omega (arith, low))
+        above whys.Repeated low has = absurd (omega (arith, low))
+        above whys.ThreadOrder low has = absurd (omega (arith, low))
+        above whys.ForkMissing low has = absurd (omega (arith, low))
+
+    -- an operation of one kind has none of the reasons of the others
+    no_five : ((t : ℕ) → op ≢ Join t) → ((t : ℕ) → op ≢ Fork t) → HasReason trace s p x whys.JoinEarly → ⊥
+    no_five no_join no_fork (inl (a, h)) = no_join h.thread (is_op (Join h.thread) h.joins)
+    no_five no_join no_fork (inr (j, h)) = no_fork h.thread (is_op (Fork h.thread) h.forks)
+
+    no_six : ((l : ℕ) → op ≢ Acquire l) → HasReason trace s p x whys.LockOrder → ⊥
+    no_six no_acquire (r, h) = no_acquire h.lock (is_op (Acquire h.lock) h.acquires)
+
+    no_seven : ((y : ℕ) → op ≢ Read y) → HasReason trace s p x whys.LastWrite → ⊥
+    no_seven no_read (y, h) = no_read y (is_op (Read y) h.reads)
+
+    pub other_operation : ((t : ℕ) → op ≡ Join t → ⊥) → ((t : ℕ) → op ≡ Fork t → ⊥) → ((l : ℕ) → op ≡ Acquire l → ⊥) → ((y : ℕ) → op ≡ Read y → ⊥) → IsLowestIn 5 8 (HasReason trace s p x) None
+    other_operation no_join no_fork no_acquire no_read = none_of (no_five no_join no_fork) (no_six no_acquire) (no_seven no_read)
+
+  module _ (x : ℕ) where
+    pub join_reason : (t : ℕ) (o : Option ℕ) → op_at trace x ≡ Some (Join t) → Latest (OfThread trace t) (length trace) o → TellsLack s p o true → IsLowestIn 5 8 (HasReason trace s p x) (Some whys.JoinEarly)
+    join_reason t (Some b) joins latest (a, is, absent) = first_five x (Join t) joins (inl (a, record { thread = t; joins = joins; of = (let same : b ≡ a = cc in subst (λ (k : ℕ). thread_at trace k ≡ Some t) same latest.holds); absent = absent }))
+    join_reason t None joins latest (a, is, absent) = absurd (let f : ⊥ = cc in f)
+
+    pub join_no_reason : (t : ℕ) (o : Option ℕ) → op_at trace x ≡ Some (Join t) → Latest (OfThread trace t) (length trace) o → TellsLack s p o false → IsLowestIn 5 8 (HasReason trace s p x) None
+    join_no_reason t o joins latest all = none_of x (Join t) joins five (no_six x (Join t) joins (λ l is. (let f : ⊥ = cc in f))) (no_seven x (Join t) joins (λ y is. (let f : ⊥ = cc in f)))
+      where
+        five : HasReason trace s p x whys.JoinEarly → ⊥
+        five (inl (a, h)) = h.absent (thread_ended t o latest all a (h.of ∙ ap (λ (n : ℕ). Some n) (let same = is_op x (Join t) joins (Join h.thread) h.joins in let g : h.thread ≡ t = cc in g)))
+        five (inr (j, h)) = let same = is_op x (Join t) joins (Fork h.thread) h.forks in (let f : ⊥ = cc in f)
+
+    pub fork_reason : (t : ℕ) → op_at trace x ≡ Some (Fork t) → JoinStands trace s p t → IsLowestIn 5 8 (HasReason trace s p x) (Some whys.JoinEarly)
+    fork_reason t forks h = first_five x (Fork t) forks (inr (h.event, record { thread = t; forks = forks; joins = h.joins; stands = h.stands }))
+
+    pub fork_no_reason : (t : ℕ) → op_at trace x ≡ Some (Fork t) → (JoinStands trace s p t → ⊥) → IsLowestIn 5 8 (HasReason trace s p x) None
+    fork_no_reason t forks none = none_of x (Fork t) forks five (no_six x (Fork t) forks (λ l is. (let f : ⊥ = cc in f))) (no_seven x (Fork t) forks (λ y is. (let f : ⊥ = cc in f)))
+      where
+        five : HasReason trace s p x whys.JoinEarly → ⊥
+        five (inl (a, h)) = let same = is_op x (Fork t) forks (Join h.thread) h.joins in (let f : ⊥ = cc in f)
+        five (inr (j, h)) = none (record { event = j; joins = (let same = is_op x (Fork t) forks (Fork h.thread) h.forks in let g : h.thread ≡ t = cc in subst (λ (u : ℕ). op_at trace j ≡ Some (Join u)) g h.joins); stands = h.stands })
+
+    pub lock_reason : (l : ℕ) (o : Option ℕ) → op_at trace x ≡ Some (Acquire l) → Latest (ReleasesLock trace l) x o → TellsLack s p o true → IsLowestIn 5 8 (HasReason trace s p x) (Some whys.LockOrder)
+    lock_reason l (Some b) takes latest (a, is, absent) =
+        let same : b ≡ a = cc in
+        first_six x (Acquire l) takes (b, record { lock = l; acquires = takes; releases = latest.holds; earlier = latest.earlier; absent = subst (λ (k : ℕ). ¬ StandsEarlier s p k) (sym same) absent }) (no_five x (Acquire l) takes (λ t h. (let f : ⊥ = cc in f)) (λ t h. (let f : ⊥ = cc in f)))
+    lock_reason l None takes latest (a, is, absent) = absurd (let f : ⊥ = cc in f)
+
+    pub lock_no_reason : (l : ℕ) (o : Option ℕ) → op_at trace x ≡ Some (Acquire l) → Latest (ReleasesLock trace l) x o → TellsLack s p o false → IsLowestIn 5 8 (HasReason trace s p x) None
+    lock_no_reason l o takes latest all = none_of x (Acquire l) takes (no_five x (Acquire l) takes (λ t h. (let f : ⊥ = cc in f)) (λ t h. (let f : ⊥ = cc in f))) six (no_seven x (Acquire l) takes (λ y is. (let f : ⊥ = cc in f)))
+      where
+        six : HasReason trace s p x whys.LockOrder → ⊥
+        six (r, h) =
+            let same = is_op x (Acquire l) takes (Acquire h.lock) h.acquires in
+            let g : h.lock ≡ l = cc in
+            h.absent (released_before l x o latest all r h.earlier (subst (λ (m : ℕ). op_at trace r ≡ Some (Release m)) g h.releases))
+
+    pub read_reason : (y : ℕ) (o last : Option ℕ) → op_at trace x ≡ Some (Read y) → Exactly (IsLatestWrite trace s p y) o → Exactly (λ w. LastWrite trace w x) last → (o ≡ last → ⊥) → IsLowestIn 5 8 (HasReason trace s p x) (Some whys.LastWrite)
+    read_reason y o last reads latest known ne = first_seven x (Read y) reads (y, record { reads = reads; differ = writes_differ trace s p y x o last latest known ne }) (no_five x (Read y) reads (λ t h. (let f : ⊥ = cc in f)) (λ t h. (let f : ⊥ = cc in f))) (no_six x (Read y) reads (λ l h. (let f : ⊥ = cc in f)))
+
+    pub read_no_reason : (y : ℕ) (o last : Option ℕ) → op_at trace x ≡ Some (Read y) → Exactly (IsLatestWrite trace s p y) o → Exactly (λ w. LastWrite trace w x) last → o ≡ last → IsLowestIn 5 8 (HasReason trace s p x) None
+    read_no_reason y o last reads latest known same = none_of x (Read y) reads (no_five x (Read y) reads (λ t h. (let f : ⊥ = cc in f)) (λ t h. (let f : ⊥ = cc in f))) (no_six x (Read y) reads (λ l h. (let f : ⊥ = cc in f))) seven
+      where
+        seven : HasReason trace s p x whys.LastWrite → ⊥
+        seven (z, h) =
+            let is = is_op x (Read y) reads (Read z) h.reads in
+            let g : z ≡ y = cc in
+            h.differ (subst (λ (v : ℕ). (w : ℕ) → IsLatestWrite trace s p v w ↔ LastWrite trace w x) (sym g) (writes_agree trace s p y x o last latest known same))
+
+-- an entry that was read of a table
+pub entry_is : (P : ℕ → ℕ → Type 0) (n size t : ℕ) (table : List (Option ℕ)) (x : Option ℕ) → IsLatestTable P n size table → t < size → x ≡ get_or table t x → Latest (P t) n x
+entry_is P n size t table x has lt is = subst (λ (o : Option ℕ). Latest (P t) n o) (sym (get_or_read table t x (let long = has.as_long in omega (arith, long, lt)) is None)) (has.each t lt)
+
+pub handover_is : (trace : List Event) (n e l : ℕ) (handovers : List (Option ℕ)) (x : Option ℕ) → HasHandovers trace n handovers → e < n → op_at trace e ≡ Some (Acquire l) → x ≡ get_or handovers e x → Latest (ReleasesLock trace l) e x
+handover_is trace n e l handovers x has lt takes is = subst (λ (o : Option ℕ). Latest (ReleasesLock trace l) e o) (sym (get_or_read handovers e x (let long = has.as_long in omega (arith, long, lt)) is None)) (has.each e l lt takes)
+
+pub write_is : (trace : List Event) (s : List ℕ) (p size y : ℕ) (writes : List (Option ℕ)) (x : Option ℕ) → AreLatestWrites trace s p size writes → y < size → x ≡ get_or writes y x → Exactly (IsLatestWrite trace s p y) x
+write_is trace s p size y writes x has lt is = subst (λ (o : Option ℕ). Exactly (IsLatestWrite trace s p y) o) (sym (get_or_read writes y x (let long = has.as_long in omega (arith, long, lt)) is None)) (has.each y lt)
+
+-- an earlier release is an event of the trace
+pub handover_in_trace : (trace : List Event) (l e n : ℕ) (o : Option ℕ) → Latest (ReleasesLock trace l) e o → e < n → IfSome o (λ r. r < n)
+handover_in_trace trace l e n (Some r) latest lt = let low = latest.earlier in omega (arith, low, lt)
+handover_in_trace trace l e n None none lt = tt
+
+-- the test of two options
+pub options_same : (o l : Option ℕ) → true ≡ option_eq eqb o l → o ≡ l
+options_same None None h = refl
+options_same None (Some w) h = absurd (let f : ⊥ = cc in f)
+options_same (Some v) None h = absurd (let f : ⊥ = cc in f)
+options_same (Some v) (Some w) h = ap (λ (n : ℕ). Some n) (eqb-true v w (sym h))
+
+pub options_differ : (o l : Option ℕ) → false ≡ option_eq eqb o l → o ≡ l → ⊥
+options_differ None None h same = (let f : ⊥ = cc in f)
+options_differ None (Some w) h same = (let f : ⊥ = cc in f)
+options_differ (Some v) None h same = (let f : ⊥ = cc in f)
+options_differ (Some v) (Some w) h same = let is : v ≡ w = cc in let passes = eq-eqb v w is in (let f : ⊥ = cc in f)

@@ -1,0 +1,9 @@
+use Rattle.shb_replay.specs.Reasons.{IsUnbroken}
+use Rattle.shb_replay.specs.Walks.{IsWalked}
+use Rattle.shb_replay.proofs.judging.walk.Given as goal
+
+abbrev pub invariant-loop-at : goal.invariant-loop-at
+invariant-loop-at l = record {
+  walked : IsWalked l.trace.events.now l.trace.sizes l.list l.at l.walked;
+  unbroken : IsUnbroken l.trace.events.now l.list l.at;
+}

@@ -1,0 +1,153 @@
+//! The judgement of lists.
+
+ghost use Rattle.std.specs.Prelude.{◌≡◌, ◌<◌, ◌↔◌, ℕ, List, IfOk, IfSome, None, length};
+ghost use Rattle.shb_lines.specs.declared.event.Event.{Event};
+ghost use Rattle.shb_lines.specs.Schedule.{IsSchedule};
+ghost use Rattle.shb_replay.specs.Reasons.{IsBroken};
+ghost use Rattle.shb_replay.specs.Walks.{HasDemands, IsAnswer, IsBlank, IsWalked, walked_to};
+
+use crate::broken::{Broken, Why};
+use crate::demands::Demands;
+use crate::walked::Walked;
+use shb_discipline::Disciplined;
+use shb_io::NoMemory;
+use shb_lines::Pair;
+use shb_links::Links;
+use std::alloc::Global;
+use std::marker::Model;
+
+/// Walks over a list from its first place up to the first with a reason, and answers where and why it
+/// is no schedule of the pair.
+fn walk(
+    walked: &mut Walked,
+    trace: &Disciplined<'_>,
+    links: &Links<'_>,
+    demands: &Demands,
+    list: &[u32],
+    pair: Pair,
+) -> Option<Broken>
+    requires linked { links.now ≡ trace.now.events.now }
+    requires first { pair.first < length trace.now.events.now }
+    requires second { pair.second < length trace.now.events.now }
+    requires demands { HasDemands trace.now.events.now trace.now.sizes demands.now }
+    requires blank { IsBlank trace.now.events.now trace.now.sizes walked.old }
+    ensures answer { IsAnswer trace.now.events.now list.now pair.first pair.second result }
+    ensures walked { IsWalked trace.now.events.now trace.now.sizes list.now
+        (walked_to list.now result) walked.new }
+{
+    for at in 0..list.len() {
+        if let Some(why) = walked.reason(trace, links, demands, list, at) {
+            return Some(Broken { at, why });
+        }
+        walked.note(trace, list, at);
+    }
+    let at = list.len();
+    let why = Why::NotNext;
+    if !walked.is_next(trace, links, list, pair.first) {
+        return Some(Broken { at, why });
+    }
+    if !walked.is_next(trace, links, list, pair.second) {
+        return Some(Broken { at, why });
+    }
+    None
+}
+
+/// How many places of a list were walked for this answer.
+fn places_walked(list: &[u32], answer: Option<Broken>) -> usize
+    ensures { result ≡ walked_to list.now answer }
+{
+    match answer {
+        Some(broken) => broken.at,
+        None => list.len(),
+    }
+}
+
+/// Judges lists of one trace. What it looks up in the trace is made once; a list costs a pass over
+/// itself, twice, and takes no memory. Contracts see it as the list of the trace's events.
+#[derive(Drop)]
+pub struct Judge<'a> {
+    trace: &'a Disciplined<'a>,
+    links: &'a Links<'a>,
+    demands: Demands,
+    walked: Walked,
+}
+
+impl<'a> Model for Judge<'a> {
+    ghost Value = { List Event };
+
+    ghost view = { λ j. j.trace.now.events.now };
+
+    ghost invariant = { λ j. (j.links.now ≡ j.trace.now.events.now)
+        × HasDemands j.trace.now.events.now j.trace.now.sizes j.demands
+        × IsBlank j.trace.now.events.now j.trace.now.sizes j.walked };
+}
+
+impl<'a> Judge<'a> {
+    /// A judge of lists of this trace, by three passes over it. `NoMemory` where memory was refused.
+    pub fn new(
+        alloc: Global,
+        trace: &'a Disciplined<'a>,
+        links: &'a Links<'a>,
+    ) -> Result<Judge<'a>, NoMemory>
+        requires linked { links.now ≡ trace.now.events.now }
+        ensures { IfOk result (λ judge. judge ≡ trace.now.events.now) }
+    {
+        let demands = Demands::new(alloc, trace)?;
+        let walked = Walked::new(alloc, trace)?;
+        Ok(Judge {
+            trace,
+            links,
+            demands,
+            walked,
+        })
+    }
+
+    /// As [`replay`], of this judge's trace.
+    pub fn replay(&mut self, list: &[u32], pair: Pair) -> Option<Broken>
+        requires first { pair.first < length self.old }
+        requires second { pair.second < length self.old }
+        ensures kept { self.new ≡ self.old }
+        ensures schedule { result ≡ None ↔ IsSchedule self.old list.now pair.first pair.second }
+        ensures broken { IfSome result (λ b. IsBroken self.old list.now pair.first pair.second
+            b.at b.why) }
+    {
+        let answer = walk(
+            &mut self.walked,
+            self.trace,
+            self.links,
+            &self.demands,
+            list,
+            pair,
+        );
+        self.walked
+            .clear(self.trace, list, places_walked(list, answer));
+        answer
+    }
+}
+
+/// Whether a list of events is a schedule of a pair: a correct reordering of the trace that keeps
+/// happens-before and after which both events of the pair are next. They need not conflict.
+///
+/// `None` exactly where it is one. Else the first place with a reason, and the lowest reason there
+/// (see [`Why`]). `NoMemory` where memory was refused.
+///
+/// Two passes over the list and three over the trace; memory for the events, threads and names of the
+/// trace. Whoever has many lists of one trace makes a [`Judge`].
+pub fn replay(
+    alloc: Global,
+    trace: &Disciplined<'_>,
+    links: &Links<'_>,
+    list: &[u32],
+    pair: Pair,
+) -> Result<Option<Broken>, NoMemory>
+    requires linked { links.now ≡ trace.now.events.now }
+    requires first { pair.first < length trace.now.events.now }
+    requires second { pair.second < length trace.now.events.now }
+    ensures schedule { IfOk result (λ answer. answer ≡ None
+        ↔ IsSchedule trace.now.events.now list.now pair.first pair.second) }
+    ensures broken { IfOk result (λ answer. IfSome answer (λ b. IsBroken trace.now.events.now
+        list.now pair.first pair.second b.at b.why)) }
+{
+    let mut judge = Judge::new(alloc, &*trace, &*links)?;
+    Ok(judge.replay(list, pair))
+}

@@ -1,0 +1,113 @@
+-- One block or place more.
+use Rattle.std.proofs.Common.{◌≡◌, ℕ, suc, ◌+◌, ◌-◌, ◌<◌, ◌≤◌, List, [], ◌∷◌, ◌++◌, length, take, drop, refl, sym, ap, subst, ◌∙◌, arith, append_assoc, length-append, length-drop}
+use Rattle.std.proofs.lemmas.List.{drop-append-le, length-map, map-append, take-append-le}
+use Rattle.std.specs.List.{AllByRecursion}
+use Rattle.shb_report.specs.declared.lines.Position.{Position}
+use Rattle.shb_report.specs.declared.lines.Stop.{Stop}
+use Rattle.shb_report.specs.declared.lines.Stop.TheVariants.{BadLine, Memory}
+use Rattle.shb_report.specs.declared.parts.PlaceEntry.{PlaceEntry}
+use Rattle.shb_report.specs.declared.parts.RaceEntry.{RaceEntry}
+use Rattle.shb_report.specs.Forms.{Form, block_forms, place_forms}
+use Rattle.shb_report.specs.Lines.{IfStop, bytes_from}
+use Rattle.shb_report.specs.Parts.{IsPlaceIn, IsRaceIn, ReadsBlock, ReadsBlocks, ReadsPlace, ReadsPlaces, block_at, block_before, blocks_at, place_at, place_before, places_at}
+use Rattle.shb_report.specs.Value.{Block, IsBlock, IsPlace, Place, block_lines, lines_text, place_lines}
+
+pub stop_weaker : (stop : Stop) (P Q : ℕ → Type 0) → ((n : ℕ) → P n → Q n) → IfStop stop P → IfStop stop Q
+stop_weaker (BadLine n) P Q weaker h = weaker n h
+stop_weaker Memory P Q weaker h = tt
+
+-- what is expected where blocks or places are left
+one_less : (number count : ℕ) → number < count → count - number ≡ suc (count - (number + 1))
+one_less number count h = omega arith
+
+pub blocks_left : (number count : ℕ) (forms : List Form) → number < count → block_forms (number + 1) (count - number) ++ forms ≡ block_before (number + 1) (block_forms (number + 1 + 1) (count - (number + 1)) ++ forms)
+blocks_left number count forms h = ap (λ n. block_forms (number + 1) n ++ forms) (one_less number count h)
+
+pub places_left : (number count : ℕ) (forms : List Form) → number < count → place_forms (number + 1) (count - number) ++ forms ≡ place_before (number + 1) (place_forms (number + 1 + 1) (count - (number + 1)) ++ forms)
+places_left number count forms h = ap (λ n. place_forms (number + 1) n ++ forms) (one_less number count h)
+
+-- lists
+pub each-push : {A : Type 0} (P : A → Type 0) (xs : List A) (x : A) → AllByRecursion P xs → P x → AllByRecursion P (xs ++ x ∷ [])
+each-push P [] x h p = (p, tt)
+each-push P (y ∷ xs) x h p = (h.0, each-push P xs x h.1 p)
+
+pub each-weaker : {A : Type 0} (P Q : A → Type 0) (xs : List A) → ((x : A) → P x → Q x) → AllByRecursion P xs → AllByRecursion Q xs
+each-weaker P Q [] weaker h = tt
+each-weaker P Q (x ∷ xs) weaker h = (weaker x h.0, each-weaker P Q xs weaker h.1)
+
+pub lines_text-append : (front last : List (List ℕ)) → lines_text (front ++ last) ≡ lines_text front ++ lines_text last
+lines_text-append [] last = refl
+lines_text-append (line ∷ front) last = ap (λ t. line ++ (10 ∷ t)) (lines_text-append front last) ∙ sym (append_assoc line (10 ∷ lines_text front) (lines_text last))
+
+pub joined : (front last : List (List ℕ)) (old mid new : List ℕ) → old ≡ lines_text front ++ mid → mid ≡ lines_text last ++ new → old ≡ lines_text (front ++ last) ++ new
+joined front last old mid new p q =
+    p ∙ ap (λ m. lines_text front ++ m) q ∙ sym (append_assoc (lines_text front) (lines_text last) new) ∙ ap (λ t. t ++ new) (sym (lines_text-append front last))
+
+pub place_lines-append : (number : ℕ) (places more : List Place) → place_lines number (places ++ more) ≡ place_lines number places ++ place_lines (number + length places) more
+place_lines-append number [] more = ap (λ n. place_lines n more) {x = number} {y = number + 0} (omega arith)
+place_lines-append number (p ∷ places) more =
+    let count : number + 1 + length places ≡ number + length (p ∷ places) = omega arith in
+    ap (λ l. take 3 (place_lines number (p ∷ places)) ++ l) (place_lines-append (number + 1) places more ∙ ap (λ n. place_lines (number + 1) places ++ place_lines n more) count)
+
+block_lines-append : (number : ℕ) (blocks more : List Block) → block_lines number (blocks ++ more) ≡ block_lines number blocks ++ block_lines (number + length blocks) more
+block_lines-append number [] more = ap (λ n. block_lines n more) {x = number} {y = number + 0} (omega arith)
+block_lines-append number (b ∷ blocks) more =
+    let count : number + 1 + length blocks ≡ number + length (b ∷ blocks) = omega arith in
+    ap (λ l. take 4 (block_lines number (b ∷ blocks)) ++ l) (block_lines-append (number + 1) blocks more ∙ ap (λ n. block_lines (number + 1) blocks ++ block_lines n more) count)
+
+-- places
+pub places_more : (text : List ℕ) (old mid new : Position) (k : ℕ) (entries : List PlaceEntry) (entry : PlaceEntry) (all : List PlaceEntry) → all ≡ entries ++ entry ∷ []
+    → ReadsPlaces text old mid k entries → ReadsPlace text mid new (k + 1) entry → ReadsPlaces text old new (k + 1) all
+places_more text old mid new k entries entry all is h g =
+    let places = places_at text entries in
+    let place = place_at text entry in
+    let same : places ++ place ∷ [] ≡ places_at text all = sym (ap (places_at text) is ∙ map-append (place_at text) entries (entry ∷ [])) in
+    let count : 1 + length places ≡ k + 1 = omega (arith, length-map entries (place_at text), h.count_is) in
+    let lines : place_lines 1 places ++ place_lines (k + 1) (place ∷ []) ≡ place_lines 1 (places_at text all) =
+    ap (λ n. place_lines 1 places ++ place_lines n (place ∷ [])) (sym count) ∙ sym (place_lines-append 1 places (place ∷ [])) ∙ ap (place_lines 1) same in record {
+      count_is = omega (arith, ap (λ (l : List PlaceEntry). length l) is, length-append entries (entry ∷ []), h.count_is);
+      in_grammar = subst (AllByRecursion IsPlace) same (each-push IsPlace places place h.in_grammar g.in_grammar);
+      bytes = joined (place_lines 1 places) (place_lines (k + 1) (place ∷ [])) _ _ _ h.bytes g.bytes ∙ ap (λ l. lines_text l ++ bytes_from text new) lines;
+      entries_in = subst (AllByRecursion (IsPlaceIn text)) (sym is) (each-push (IsPlaceIn text) entries entry h.entries_in g.entry_in);
+      lines = omega (arith, h.lines, g.lines);
+    }
+
+-- blocks: more numbers change none of the entries that are there
+grown_part : (numbers more : List ℕ) (start len : ℕ) → start + len ≤ length numbers → take len (drop start (numbers ++ more)) ≡ take len (drop start numbers)
+grown_part numbers more start len h =
+    let within : start ≤ length numbers = omega arith in
+    let room : len ≤ length (drop start numbers) = omega (arith, length-drop start numbers) in
+    ap (take len) (drop-append-le start numbers more within) ∙ take-append-le len (drop start numbers) more room
+
+grown_entry : (text numbers more : List ℕ) (entry : RaceEntry) → IsRaceIn text numbers entry → block_at text (numbers ++ more) entry ≡ block_at text numbers entry
+grown_entry text numbers more entry h = ap (λ (s : List ℕ). record (block_at text numbers entry) { schedule = s }) (grown_part numbers more entry.schedule_start entry.schedule_len h.schedule)
+
+grown : (text numbers more : List ℕ) (entries : List RaceEntry) → AllByRecursion (IsRaceIn text numbers) entries → blocks_at text (numbers ++ more) entries ≡ blocks_at text numbers entries
+grown text numbers more [] h = refl
+grown text numbers more (entry ∷ entries) h =
+    let heads = grown_entry text numbers more entry h.0 in
+    let tails = grown text numbers more entries h.1 in
+    cc
+
+grown_in : (text numbers more : List ℕ) (entry : RaceEntry) → IsRaceIn text numbers entry → IsRaceIn text (numbers ++ more) entry
+grown_in text numbers more entry h = record { first = h.first; second = h.second; schedule = omega (arith, h.schedule, length-append numbers more) }
+
+pub blocks_more : (text : List ℕ) (old mid new : Position) (k : ℕ) (numbers all_numbers : List ℕ) (entries : List RaceEntry) (entry : RaceEntry) (all : List RaceEntry) → all ≡ entries ++ entry ∷ []
+    → ReadsBlocks text old mid k numbers entries → ReadsBlock text mid new (k + 1) numbers all_numbers entry → ReadsBlocks text old new (k + 1) all_numbers all
+blocks_more text old mid new k numbers all_numbers entries entry all is h g =
+    let blocks = blocks_at text numbers entries in
+    let block = g.block in
+    let unchanged : blocks_at text all_numbers entries ≡ blocks = ap (λ (n : List ℕ). blocks_at text n entries) g.numbers ∙ grown text numbers block.schedule entries h.entries_in in
+    let same : blocks ++ block ∷ [] ≡ blocks_at text all_numbers all =
+    sym (ap (blocks_at text all_numbers) is ∙ map-append (block_at text all_numbers) entries (entry ∷ []) ∙ ap (λ b. b ++ block_at text all_numbers entry ∷ []) unchanged ∙ ap (λ b. blocks ++ b ∷ []) g.entry_is) in
+    let count : 1 + length blocks ≡ k + 1 = omega (arith, length-map entries (block_at text numbers), h.count_is) in
+    let lines : block_lines 1 blocks ++ block_lines (k + 1) (block ∷ []) ≡ block_lines 1 (blocks_at text all_numbers all) =
+    ap (λ n. block_lines 1 blocks ++ block_lines n (block ∷ [])) (sym count) ∙ sym (block_lines-append 1 blocks (block ∷ [])) ∙ ap (block_lines 1) same in
+    let still_in : AllByRecursion (IsRaceIn text all_numbers) entries =
+    subst (λ n. AllByRecursion (IsRaceIn text n) entries) (sym g.numbers) (each-weaker (IsRaceIn text numbers) (IsRaceIn text (numbers ++ block.schedule)) entries (λ e i. grown_in text numbers block.schedule e i) h.entries_in) in record {
+      count_is = omega (arith, ap (λ (l : List RaceEntry). length l) is, length-append entries (entry ∷ []), h.count_is);
+      in_grammar = subst (AllByRecursion IsBlock) same (each-push IsBlock blocks block h.in_grammar g.in_grammar);
+      bytes = joined (block_lines 1 blocks) (block_lines (k + 1) (block ∷ [])) _ _ _ h.bytes g.bytes ∙ ap (λ l. lines_text l ++ bytes_from text new) lines;
+      entries_in = subst (AllByRecursion (IsRaceIn text all_numbers)) (sym is) (each-push (IsRaceIn text all_numbers) entries entry still_in g.entry_in);
+      lines = omega (arith, h.lines, g.lines);
+    }

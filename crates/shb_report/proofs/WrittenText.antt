@@ -1,0 +1,82 @@
+-- The bytes that the writer puts together are the text of a report.
+use Rattle.std.proofs.Common.{◌≡◌, ℕ, ◌+◌, true, List, [], ◌∷◌, ◌++◌, length, map, codes, Option, None, Some, refl, sym, ap, subst, ◌∙◌, append_assoc}
+use Rattle.std.specs.Fmt.{decimal}
+use Rattle.std.specs.Prelude.{All, IsSomeAnd}
+use Rattle.std.proofs.lemmas.List.{length-map}
+use Rattle.std.proofs.lemmas.List.Elements.{All-head, All-tail}
+use Rattle.shb_lines.specs.TraceData.{TraceData}
+use Rattle.shb_lines.specs.Race.{IsRaceList}
+use Rattle.shb_lines.specs.Schedule.{IsPrintedSchedule}
+use Rattle.shb_report.specs.Report.{HasSchedule, IsReport, ShownRace, block_bytes, blocks_from, counts_of, event_numbers, head_bytes, line_at, schedule_line, tail_bytes}
+use Rattle.shb_report.specs.Value.{Block, block_lines, counts_line, lines_text, listed, race_numbers_line, races_line, report_text}
+use Rattle.shb_report.specs.Written.{block_of, written_report}
+use Rattle.shb_report.proofs.EntryLemmas.{lines_text-append}
+
+numbers_are : (events : List ℕ) → event_numbers events ≡ listed (map (λ event. event + 1) events)
+numbers_are [] = refl
+numbers_are (e ∷ events) = append_assoc (codes " ") (decimal (e + 1)) (event_numbers events) ∙ ap (λ l. codes " " ++ (decimal (e + 1) ++ l)) (numbers_are events)
+
+-- the pieces of a block, put together one way and the other
+block_pieces : (number first second first_line second_line count events : List ℕ)
+    → (codes "race " ++ (number ++ (codes ": " ++ (first ++ (codes " " ++ (second ++ codes "\n"))))))
+    ++ (((codes "first " ++ (first_line ++ codes "\n")) ++ (codes "second " ++ (second_line ++ codes "\n"))) ++ ((codes "schedule " ++ (count ++ codes ":")) ++ (events ++ codes "\n")))
+    ≡ (codes "race " ++ (number ++ (codes ": " ++ (first ++ (codes " " ++ second)))))
+    ++ (10 ∷ ((codes "first " ++ first_line) ++ (10 ∷ ((codes "second " ++ second_line) ++ (10 ∷ ((codes "schedule " ++ (count ++ (codes ":" ++ events))) ++ (10 ∷ [])))))))
+block_pieces number first second first_line second_line count events = simp append_assoc
+
+-- a block, by the line of its schedule
+abbrev with_schedule : TraceData → ℕ → ShownRace → List ℕ → List ℕ
+with_schedule trace number race schedule_line =
+    race_numbers_line number (race.pair.0 + 1) (race.pair.1 + 1)
+    ++ (10 ∷ ((codes "first " ++ line_at trace race.pair.0) ++ (10 ∷ ((codes "second " ++ line_at trace race.pair.1) ++ (10 ∷ (schedule_line ++ (10 ∷ [])))))))
+
+block_is : (trace : TraceData) (number : ℕ) (race : ShownRace) (schedule : List ℕ) → race.schedule ≡ Some schedule → block_bytes trace number race.pair race.schedule ≡ lines_text (block_lines number (block_of trace race ∷ []))
+block_is trace number race schedule is =
+    let numbers = map (λ event. event + 1) schedule in
+    let shown : Block = record { first = race.pair.0 + 1; second = race.pair.1 + 1; first_line = line_at trace race.pair.0; second_line = line_at trace race.pair.1; schedule = numbers } in
+    let count : length schedule ≡ length numbers = sym (length-map schedule _) in
+    ap (λ s. block_bytes trace number race.pair s) is
+    ∙ block_pieces (decimal number) (decimal (race.pair.0 + 1)) (decimal (race.pair.1 + 1)) (line_at trace race.pair.0) (line_at trace race.pair.1) (decimal (length schedule)) (event_numbers schedule)
+    ∙ ap (λ events. with_schedule trace number race (codes "schedule " ++ (decimal (length schedule) ++ (codes ":" ++ events)))) (numbers_are schedule)
+    ∙ ap (λ n. with_schedule trace number race (codes "schedule " ++ (decimal n ++ (codes ":" ++ listed numbers)))) count
+    ∙ ap (λ (s : Option (List ℕ)). lines_text (block_lines number (block_of trace (record { pair = race.pair; schedule = s }) ∷ []))) (sym is)
+
+-- blocks, one after another
+blocks_are : (trace : TraceData) (number : ℕ) (shown : List ShownRace) → All (HasSchedule true trace) shown → blocks_from trace number shown ≡ lines_text (block_lines number (map (block_of trace) shown))
+blocks_are trace number [] h = refl
+blocks_are trace number (race ∷ shown) h =
+    let later = blocks_are trace (number + 1) shown (All-tail (HasSchedule true trace) race shown h) in
+    let first = has race (All-head (HasSchedule true trace) race shown h) in
+    ap (λ b. b ++ blocks_from trace (number + 1) shown) (block_is trace number race first.0 first.1)
+    ∙ ap (λ b. lines_text (block_lines number (block_of trace race ∷ [])) ++ b) later
+    ∙ sym (lines_text-append (block_lines number (block_of trace race ∷ [])) (block_lines (number + 1) (map (block_of trace) shown)))
+  where
+    has : (race : ShownRace) → HasSchedule true trace race → (schedule : List ℕ) × (race.schedule ≡ Some schedule)
+    has race h = by race.schedule h
+      where
+        by : (schedule : Option (List ℕ)) → IsSomeAnd schedule (λ s. IsPrintedSchedule trace.events s race.pair.0 race.pair.1) → (s : List ℕ) × (schedule ≡ Some s)
+        by None h = absurd h
+        by (Some s) h = (s, refl)
+
+-- the whole
+head_pieces : (events threads locks variables races rest : List ℕ)
+    → (codes "shb-report 1\nevents " ++ (events ++ (codes " threads " ++ (threads ++ (codes " locks " ++ (locks ++ (codes " variables " ++ (variables ++ (codes "\nraces " ++ (races ++ codes "\n")))))))))) ++ rest
+    ≡ codes "shb-report 1" ++ (10 ∷ ((codes "events " ++ (events ++ (codes " threads " ++ (threads ++ (codes " locks " ++ (locks ++ (codes " variables " ++ variables))))))) ++ (10 ∷ ((codes "races " ++ races) ++ (10 ∷ rest)))))
+head_pieces events threads locks variables races rest = simp append_assoc
+
+pub written_is : (trace : TraceData) (bytes : List ℕ) (h : IsReport true trace bytes) → bytes ≡ report_text (written_report trace h.blocks_are.shown)
+written_is trace bytes h =
+    let shown = h.blocks_are.shown in
+    let counts = counts_of trace in
+    let blocks = map (block_of trace) shown in
+    let count : length h.races ≡ length blocks = sym (ap (λ (l : List (ℕ × ℕ)). length l) h.blocks_are.races_are) ∙ length-map shown _ ∙ sym (length-map shown _) in
+    let behind : h.blocks ++ tail_bytes ≡ lines_text (block_lines 1 blocks ++ codes "end" ∷ []) =
+    ap (λ b. b ++ tail_bytes) (h.blocks_are.bytes_are ∙ blocks_are trace 1 shown h.blocks_are.schedules_are) ∙ sym (lines_text-append (block_lines 1 blocks) (codes "end" ∷ [])) in
+    h.bytes_are
+    ∙ ap (λ b. head_bytes counts (length h.races) ++ b) behind
+    ∙ head_pieces (decimal counts.events) (decimal counts.threads) (decimal counts.locks) (decimal counts.variables) (decimal (length h.races)) (lines_text (block_lines 1 blocks ++ codes "end" ∷ []))
+    ∙ ap (λ n. codes "shb-report 1" ++ (10 ∷ (counts_line counts ++ (10 ∷ (races_line n ++ (10 ∷ lines_text (block_lines 1 blocks ++ codes "end" ∷ []))))))) count
+
+pub written_law : (trace : TraceData) (bytes : List ℕ) → IsReport true trace bytes
+    → (shown : List ShownRace) × IsRaceList trace.events (map (λ race. race.pair) shown) × All (HasSchedule true trace) shown × (bytes ≡ report_text (written_report trace shown))
+written_law trace bytes h = (h.blocks_are.shown, subst (IsRaceList trace.events) (sym h.blocks_are.races_are) h.races_are, h.blocks_are.schedules_are, written_is trace bytes h)

@@ -1,0 +1,9 @@
+use Rattle.std.proofs.Common.{length}
+use Rattle.shb_report.proofs.Listing.{HasListed}
+use Rattle.shb_report.proofs.schedule.add_numbers.Given as goal
+
+abbrev pub invariant-loop-rest : goal.invariant-loop-rest
+invariant-loop-rest l = HasListed l.text l.fn.numbers.items l.numbers.items l.rest
+
+abbrev pub decreases-loop-rest : goal.decreases-loop-rest
+decreases-loop-rest l = length l.rest

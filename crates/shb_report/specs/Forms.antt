@@ -1,0 +1,84 @@
+-- The forms of the lines of a report, one after another: what the reader still expects.
+use Rattle.std.specs.Prelude.{◌≡◌, ℕ, zero, suc, ◌+◌, ◌⊎◌, List, [], ◌∷◌, ◌++◌, length, codes}
+use Rattle.std.specs.List.{AllByRecursion}
+use Rattle.shb_report.specs.declared.writer.Counts.{Counts}
+use Rattle.shb_report.specs.Value.{AreShown, HasNoLineFeed, IsRest, IsShown, counts_line, numbers_line, place_line, places_line, race_numbers_line, races_line}
+
+-- the labels before bytes that are taken as they stand
+pub data Label : Type 0 where
+  First : Label
+  Second : Label
+  At : Label
+  And : Label
+
+abbrev pub label_bytes : Label → List ℕ
+label_bytes First = codes "first "
+label_bytes Second = codes "second "
+label_bytes At = codes "at "
+label_bytes And = codes "and "
+
+-- how many bytes stand behind a label at least
+abbrev pub least_behind : Label → ℕ
+least_behind First = 1
+least_behind Second = 1
+least_behind At = 0
+least_behind And = 0
+
+-- the form of a line
+pub data Form : Type 0 where
+  Version : Form
+  CountsForm : Form
+  Races : Form
+  RacesBeforePlaces : Form
+  Places : Form
+  PlaceForm : ℕ → Form
+  Race : ℕ → Form
+  Named : Label → Form
+  Schedule : Form
+  End : Form
+
+-- the forms of so many places, and of so many blocks, of which the first has this number
+abbrev pub place_forms : ℕ → ℕ → List Form
+place_forms number zero = []
+place_forms number (suc count) = PlaceForm number ∷ (Named At ∷ (Named And ∷ place_forms (number + 1) count))
+
+abbrev pub block_forms : ℕ → ℕ → List Form
+block_forms number zero = []
+block_forms number (suc count) = Race number ∷ (Named First ∷ (Named Second ∷ (Schedule ∷ block_forms (number + 1) count)))
+
+-- the line has the form, and these forms are then expected before those that were expected behind it
+abbrev pub HasForm : Form → List ℕ → List Form → Type 0
+HasForm Version line added =
+    ((line ≡ codes "shb-report 1") × (added ≡ CountsForm ∷ (Races ∷ []))) ⊎ ((line ≡ codes "shb-report 2") × (added ≡ CountsForm ∷ (RacesBeforePlaces ∷ [])))
+HasForm CountsForm line added = (counts : Counts) × AreShown counts × (line ≡ counts_line counts) × (added ≡ [])
+HasForm Races line added = (n : ℕ) × IsShown n × (line ≡ races_line n) × (added ≡ block_forms 1 n)
+HasForm RacesBeforePlaces line added = (n : ℕ) × IsShown n × (line ≡ races_line n) × (added ≡ Places ∷ block_forms 1 n)
+HasForm Places line added = (n : ℕ) × IsShown n × (line ≡ places_line n) × (added ≡ place_forms 1 n)
+HasForm (PlaceForm number) line added = (n : ℕ) × IsShown n × (line ≡ place_line number n) × (added ≡ [])
+HasForm (Race number) line added = (i : ℕ) × (j : ℕ) × IsShown i × IsShown j × (line ≡ race_numbers_line number i j) × (added ≡ [])
+HasForm (Named label) line added = (bytes : List ℕ) × IsRest (least_behind label) bytes × (line ≡ label_bytes label ++ bytes) × (added ≡ [])
+HasForm Schedule line added = (ns : List ℕ) × AllByRecursion IsShown ns × IsShown (length ns) × (line ≡ numbers_line ns) × (added ≡ [])
+HasForm End line added = (line ≡ codes "end") × (added ≡ [])
+
+-- the bytes begin with a line of the form
+pub record TakesForm (form : Form) (bytes line : List ℕ) (added : List Form) (rest : List ℕ) : Type 0 where
+  pub one_line : HasNoLineFeed line
+  pub has_form : HasForm form line added
+  pub bytes_are : bytes ≡ line ++ (10 ∷ rest)
+
+-- the bytes begin with n lines of the forms, behind which these forms are expected and these bytes left
+abbrev pub Takes : List Form → List ℕ → ℕ → List Form → List ℕ → Type 0
+Takes forms bytes zero left rest = (forms ≡ left) × (bytes ≡ rest)
+Takes [] bytes (suc n) left rest = ⊥
+Takes (form ∷ forms) bytes (suc n) left rest =
+    (line : List ℕ) × (added : List Form) × (more : List ℕ) × TakesForm form bytes line added more × Takes (added ++ forms) more n left rest
+
+-- behind `before` lines, where these forms are expected, n is the number of the first line that is bad
+pub record IsBadFrom (forms : List Form) (before : ℕ) (bytes : List ℕ) (n : ℕ) : Type 0 where
+  pub good : ℕ
+  pub number : n ≡ before + suc good
+  pub left : List Form
+  pub rest : List ℕ
+  pub takes : Takes forms bytes good left rest
+  pub bad : (left : List Form) (rest : List ℕ) → Takes forms bytes (suc good) left rest → ⊥
+  pub unfinished : (k : ℕ) → Takes forms bytes k [] [] → ⊥

@@ -1,0 +1,145 @@
+//! The places of races: pairs of locations.
+ghost use Rattle.std.specs.Prelude.{◌≡◌, ◌+◌, ◌-◌, ◌<◌, ◌≤◌, ◌^◌, [], ℕ, List, All, Some, length, map, option_map, slice_get, IfOk, IfSome, OnOk};
+ghost use Rattle.std.specs.Option.{option_copied};
+ghost use Rattle.std.specs.List.{AllByRecursion};
+ghost use Rattle.shb_report.specs.Places.{IsPairOf, IsPlaceOf, counts_in, places_in, places_of_pairs, with_one_more, with_pair};
+
+use indexmap::IndexMap;
+use shb_io::NoMemory;
+use shb_lines::{Pair, Trace};
+use std::alloc::Global;
+use std::hash::RandomState;
+use std::marker::Model;
+use std::random::RandomSource;
+
+/// A place: the first pair that has it, and how many pairs have it.
+#[derive(Clone, Copy, Debug, PartialEq, Eq)]
+pub struct PlaceCount {
+    /// The first pair of the list that has these locations.
+    pub pair: Pair,
+    /// How many pairs of the list have them.
+    pub count: u64,
+}
+
+/// The places so far, by their two locations.
+type Table<'t> = IndexMap<(&'t [u8], &'t [u8]), PlaceCount, RandomState>;
+
+/// What is counted of a place with one pair more.
+fn counted_with(known: Option<&PlaceCount>, pair: Pair) -> PlaceCount
+    requires { IfSome known (λ counted. counted.now.count < 2 ^ 64 - 1) }
+    ensures { result ≡ with_one_more (option_copied known.entry) pair }
+{
+    match known {
+        Some(counted) => PlaceCount {
+            pair: counted.pair,
+            count: counted.count + 1,
+        },
+        None => PlaceCount { pair, count: 1 },
+    }
+}
+
+/// Counts a pair with these locations.
+fn add_pair<'t>(
+    table: &mut Table<'t>,
+    first: &'t [u8],
+    second: &'t [u8],
+    pair: Pair,
+) -> Result<(), NoMemory>
+    requires { AllByRecursion (λ place. place.counted.count < 2 ^ 64 - 1) (places_in table.old.entries) }
+    ensures { OnOk result (places_in table.new.entries ≡ with_pair (places_in table.old.entries) first.now second.now pair) }
+{
+    let key = (first, second);
+    let counted = counted_with(table.get(&key), pair);
+    table.insert(key, counted)?;
+    Ok(())
+}
+
+/// The places in a table.
+fn counts_of(alloc: Global, table: &Table) -> Result<Vec<PlaceCount>, NoMemory>
+    ensures { IfOk result (λ counts. counts.items ≡ map (λ e. e.1) table.now.entries) }
+{
+    let mut counts = Vec::with_capacity(alloc, table.len())?;
+    for counted in table.values() {
+        counts.push(*counted)?;
+    }
+    Ok(counts)
+}
+
+/// The places of a list of pairs: each different pair of locations once, in the order of the first pair
+/// that has it. Places have numbers from 0.
+#[derive(Drop)]
+pub struct Places {
+    counts: Vec<PlaceCount>,
+}
+
+impl Model for Places {
+    ghost use Rattle.std.specs.Prelude.{List};
+    ghost use Rattle.shb_report.specs.declared.places.PlaceCount.{PlaceCount};
+
+    ghost Value = { List PlaceCount };
+
+    ghost view = { λ p. p.counts.items };
+}
+
+/// The places of a list of pairs: of each pair the location of its first event and that of its second.
+///
+/// Both events of each pair must be events of the trace.
+///
+/// # Errors
+///
+/// `NoMemory` where a growth was refused, or where there were no random numbers for the table.
+pub fn places_of<R: RandomSource>(
+    alloc: Global,
+    rt: &R,
+    trace: &Trace,
+    pairs: &[Pair],
+) -> Result<Places, NoMemory>
+    requires { All (IsPairOf trace.now) pairs.now }
+    ensures places { IfOk result (λ places. places ≡ counts_in (places_of_pairs trace.now pairs.now)) }
+    ensures in_range { IfOk result (λ places. All (IsPlaceOf trace.now) places) }
+{
+    let Ok(state) = RandomState::new(rt) else {
+        return Err(NoMemory);
+    };
+    let mut table = IndexMap::with_hasher(alloc, state);
+    for pair in pairs {
+        let first = trace.location(pair.first);
+        let second = trace.location(pair.second);
+        add_pair(&mut table, first, second, *pair)?;
+    }
+    Ok(Places {
+        counts: counts_of(alloc, &table)?,
+    })
+}
+
+impl Places {
+    /// How many places there are.
+    pub fn len(&self) -> u64
+        ensures { result ≡ length self.now }
+    {
+        self.counts.len() as u64
+    }
+
+    /// How many pairs have a place.
+    pub fn count(&self, q: u64) -> u64
+        requires { q < length self.now }
+        ensures { option_map (λ place. place.count) (slice_get self.now q) ≡ Some result }
+    {
+        self.counts[q as usize].count
+    }
+
+    /// The first pair of the list that has a place.
+    pub fn pair(&self, q: u64) -> Pair
+        requires { q < length self.now }
+        ensures { option_map (λ place. place.pair) (slice_get self.now q) ≡ Some result }
+    {
+        self.counts[q as usize].pair
+    }
+
+    /// The places, in order.
+    pub fn as_slice(&self) -> &[PlaceCount]
+        ensures { result.now ≡ self.now }
+    {
+        self.counts.as_slice()
+    }
+}

@@ -1,0 +1,45 @@
+//! Reads the line of a schedule.
+ghost use Rattle.std.specs.Prelude.{◌≡◌, ◌≢◌, ◌+◌, ◌-◌, ◌<◌, ◌≤◌, ◌++◌, ℕ, List, length, IfOk, MatchBool, vec_len};
+ghost use Rattle.std.specs.List.{AllByRecursion};
+ghost use Rattle.shb_report.specs.Scan.{AddsShown};
+ghost use Rattle.shb_report.specs.Value.{IsShown, listed, numbers_line};
+
+use crate::scan::{behind_label, labelled};
+use shb_io::NoMemory;
+
+/// Adds the numbers of a text, each of which stands behind a space, and says whether the text has
+/// nothing else.
+fn add_numbers(text: &[u8], numbers: &mut Vec<u64>) -> Result<bool, NoMemory>
+    ensures { IfOk result (λ good. MatchBool good
+        ((ns : List ℕ) × AddsShown numbers.old.items numbers.new.items ns × (text.now ≡ listed ns))
+        ((ns : List ℕ) → AllByRecursion IsShown ns → text.now ≢ listed ns)) }
+{
+    let mut rest = text;
+    while !rest.is_empty() {
+        let Some((number, behind)) = labelled(rest, b" ") else {
+            return Ok(false);
+        };
+        numbers.push(number)?;
+        rest = behind;
+    }
+    Ok(true)
+}
+
+/// Adds the numbers of a schedule's line, and says whether the line is one.
+pub(crate) fn add_schedule(line: &[u8], numbers: &mut Vec<u64>) -> Result<bool, NoMemory>
+    ensures { IfOk result (λ good. MatchBool good
+        ((ns : List ℕ) × AddsShown numbers.old.items numbers.new.items ns × IsShown (length ns) × (line.now ≡ numbers_line ns))
+        ((ns : List ℕ) → AllByRecursion IsShown ns → IsShown (length ns) → line.now ≢ numbers_line ns)) }
+{
+    let Some((count, behind_count)) = labelled(line, b"schedule ") else {
+        return Ok(false);
+    };
+    let Some(text) = behind_label(behind_count, b":") else {
+        return Ok(false);
+    };
+    let before = numbers.len();
+    if !add_numbers(text, numbers)? {
+        return Ok(false);
+    }
+    Ok((numbers.len() - before) as u64 == count)
+}

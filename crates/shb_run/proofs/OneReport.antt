@@ -1,0 +1,21 @@
+-- A text has one report.
+use Rattle.std.proofs.Common.{◌≡◌, ℕ, Bool, List, sym, subst, ◌∙◌}
+use Rattle.shb_lines.specs.Text.{lines_of}
+use Rattle.shb_lines.specs.TraceData.{IsTraceOf, TraceData, tables_in}
+use Rattle.shb_discipline.proofs.Numbering.{one_trace}
+use Rattle.shb_pairs.proofs.Listing.{race_list_unique}
+use Rattle.shb_report.specs.Report.{IsReport, IsReportOf}
+use Rattle.shb_report.proofs.Blocks.{IsReport-unique}
+
+-- some lines have one trace, with its names and its lines
+pub one_whole_trace : (lines : List (List ℕ)) (a b : TraceData) → IsTraceOf lines a → IsTraceOf lines b → a ≡ b
+one_whole_trace lines a b of_a of_b =
+    let events : a.events ≡ b.events = one_trace lines a b of_a of_b in
+    let texts : a.lines ≡ b.lines = of_a.lines_are ∙ sym of_b.lines_are in
+    let tables : tables_in a ≡ tables_in b = of_a.tables_are ∙ sym of_b.tables_are in
+    λ i. record { events = events i; lines = texts i; threads = (tables i).threads; locks = (tables i).locks; variables = (tables i).variables }
+
+pub one_report : (with_schedules : Bool) (text bytes others : List ℕ) → IsReportOf with_schedules text bytes → IsReportOf with_schedules text others → bytes ≡ others
+one_report with_schedules text bytes others a b =
+    let same : a.trace ≡ b.trace = one_whole_trace (lines_of text) a.trace b.trace a.trace_is b.trace_is in
+    IsReport-unique with_schedules b.trace bytes others (race_list_unique b.trace.events) (subst (λ t. IsReport with_schedules t bytes) same a.report) b.report

@@ -1,0 +1,27 @@
+use Rattle.std.proofs.Common.{IfSome}
+use Rattle.std.proofs.lemmas.Option.{IfSome_then}
+use Rattle.shb_lines.specs.TraceData.{IsReadingOf}
+use Rattle.shb_run.specs.Runs.{limits}
+use Rattle.shb_run.proofs.Endings.{not_silent}
+use Rattle.shb_run.proofs.verdicts.check.Goals as goal
+
+pub returns-in_default-clause-silent : goal.returns-in_default-clause-silent
+returns-in_default-clause-silent g c =
+    let parsed = c.in_ok-parsed.parsed in
+    let known = g.S.Source.remaining c.args.trace_source.now in
+    let reading : IfSome known (λ text. IsReadingOf limits text parsed.trace parsed.stop) = rw c.standard.ensures at c.in_ok-parsed.ensures.reading in
+    not_silent parsed.trace parsed.stop c.in_ok-trace.trace.trace.now known (g.K.Sink.taken c.args.sink.now) (g.K.Sink.taken c.verdict_line.new.sink) c.in_ok-trace.ensures.accepted reading
+
+pub returns-clause-faultless : goal.returns-clause-faultless
+returns-clause-faultless g c =
+    let parsed = c.in_ok-parsed.parsed in
+    let known = g.S.Source.remaining c.args.trace_source.now in
+    let reading : IfSome known (λ text. IsReadingOf limits text parsed.trace parsed.stop) = rw c.standard.ensures at c.in_ok-parsed.ensures.reading in
+    IfSome_then known reading (λ text. c.in_ok-trace.ensures.accepted.faultless text)
+
+pub returns-clause-silent : goal.returns-clause-silent
+returns-clause-silent g c =
+    let parsed = c.in_ok-parsed.parsed in
+    let known = g.S.Source.remaining c.args.trace_source.now in
+    let reading : IfSome known (λ text. IsReadingOf limits text parsed.trace parsed.stop) = rw c.standard.ensures at c.in_ok-parsed.ensures.reading in
+    not_silent parsed.trace parsed.stop c.in_ok-trace.trace.trace.now known (g.K.Sink.taken c.args.sink.now) (g.K.Sink.taken c.verdict_line.new.sink) c.in_ok-trace.ensures.accepted reading
