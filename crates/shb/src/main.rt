@@ -53,7 +53,7 @@ fn write_report<R: Print + Eprint + AllocGlobal + RandomSource + Threads + Wait 
         return complain(rt, "out of memory", FAILED);
     };
     let mut sink = ToWrite::new(buffer);
-    match run(rt.alloc(), rt, source, &mut sink, settings) {
+    match run(rt, rt.alloc(), source, &mut sink, settings) {
         Ok(_) => match sink.finish() {
             Ok(()) => 0,
             Err(_) => complain(rt, "cannot write", FAILED),

@@ -6,14 +6,14 @@ use Rattle.std.proofs.lemmas.Bool.{cases_lt, cases_eq, cases_Bool}
 use Rattle.std.proofs.lemmas.List.{take_all}
 use Rattle.std.proofs.lemmas.Option.{slice_get_cases, slice_get_within}
 use Rattle.shb_lines.specs.declared.event.Event.{Event}
-use Rattle.shb_lines.specs.Events.{thread_at}
-use Rattle.shb_lines.specs.Discipline.{is_of, place_in_thread}
-use Rattle.shb_lines.specs.Order.{ShbBelow, IsNumberOf, here, step, same_thread, happens_before}
-use Rattle.shb_lines.proofs.Counts.{count_more_yes, count_more_no}
-use Rattle.shb_lines.proofs.Events.{event_of_thread, thread_is, is_of_true}
-use Rattle.shb_lines.proofs.Prefix.{is_of_thread}
-use Rattle.shb_lines.proofs.Listed.{number_none, number_same, number_more_yes, number_more_no}
-use Rattle.shb_lines.proofs.Schedulable.{path_forward}
+use Rattle.shb_lines.specs.events.Events.{thread_at}
+use Rattle.shb_lines.specs.events.Discipline.{is_of, place_in_thread}
+use Rattle.shb_lines.specs.events.Order.{ShbBelow, IsNumberOf, here, step, same_thread, happens_before}
+use Rattle.shb_lines.proofs.events.Counts.{count_more_yes, count_more_no}
+use Rattle.shb_lines.proofs.events.Events.{event_of_thread, thread_is, is_of_true}
+use Rattle.shb_lines.proofs.events.Prefix.{is_of_thread}
+use Rattle.shb_lines.proofs.events.Listed.{number_none, number_same, number_more_yes, number_more_no}
+use Rattle.shb_lines.proofs.events.Schedulable.{path_forward}
 use Rattle.shb_clocks.specs.Fronts.{IsFront}
 use Rattle.shb_clocks.proofs.Locals.{place_at, place_rises, place_order, place_within}
 

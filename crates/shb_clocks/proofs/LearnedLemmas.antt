@@ -6,15 +6,15 @@ use Rattle.std.proofs.lemmas.Bool.{cases_lt, cases_eq, cases_Bool}
 use Rattle.std.proofs.lemmas.List.{get_or_push, length_push, get_or_read, get_or_past}
 use Rattle.std.proofs.lemmas.List.Elements.{Contains-get_or}
 use Rattle.shb_lines.specs.declared.event.Event.{Event}
-use Rattle.shb_lines.specs.Events.{thread_at}
-use Rattle.shb_lines.specs.Discipline.{IsDisciplined, is_of, place_in_thread}
-use Rattle.shb_lines.specs.Order.{ShbBelow, here, step, same_thread, happens_before, IsPred, in_thread, by_fork}
-use Rattle.shb_lines.proofs.Counts.{count_more_no}
-use Rattle.shb_lines.proofs.Decide.{find_pred, pred_unique}
-use Rattle.shb_lines.proofs.Events.{event_of_thread}
-use Rattle.shb_lines.proofs.Listed.{IsListed, listed_more_yes, listed_more_no}
-use Rattle.shb_lines.proofs.Prefix.{is_of_thread}
-use Rattle.shb_lines.proofs.Schedulable.{thread_below_pred}
+use Rattle.shb_lines.specs.events.Events.{thread_at}
+use Rattle.shb_lines.specs.events.Discipline.{IsDisciplined, is_of, place_in_thread}
+use Rattle.shb_lines.specs.events.Order.{ShbBelow, here, step, same_thread, happens_before, IsPred, in_thread, by_fork}
+use Rattle.shb_lines.proofs.events.Counts.{count_more_no}
+use Rattle.shb_lines.proofs.events.Decide.{find_pred, pred_unique}
+use Rattle.shb_lines.proofs.events.Events.{event_of_thread}
+use Rattle.shb_lines.proofs.events.Listed.{IsListed, listed_more_yes, listed_more_no}
+use Rattle.shb_lines.proofs.events.Prefix.{is_of_thread}
+use Rattle.shb_lines.proofs.events.Schedulable.{thread_below_pred}
 use Rattle.shb_clocks.specs.Fronts.{IsFront, Learns, by_acquire, by_join, by_read, StrictlyBelow}
 use Rattle.shb_clocks.specs.Learned.{IsLearning, first, acquires, joins, reads, LearnsAt, KeptData, nothing_kept, IsRowUpTo, IsFrontBut, number_before, IsKept, AreKept}
 use Rattle.shb_clocks.specs.Rows.{RowsData}

@@ -4,11 +4,11 @@ use Rattle.std.specs.Prelude.{count_by, slice_get}
 use Rattle.std.proofs.lemmas.Bool.{cases_lt, cases_Bool}
 use Rattle.std.proofs.lemmas.List.{take_all}
 use Rattle.shb_lines.specs.declared.event.Event.{Event}
-use Rattle.shb_lines.specs.Events.{thread_at}
-use Rattle.shb_lines.specs.Discipline.{is_of, place_in_thread}
-use Rattle.shb_lines.proofs.Counts.{count_more_yes, count_mono, count_gap}
-use Rattle.shb_lines.proofs.Events.{event_of_thread, is_of_true, thread_is}
-use Rattle.shb_lines.proofs.Prefix.{is_of_thread}
+use Rattle.shb_lines.specs.events.Events.{thread_at}
+use Rattle.shb_lines.specs.events.Discipline.{is_of, place_in_thread}
+use Rattle.shb_lines.proofs.events.Counts.{count_more_yes, count_mono, count_gap}
+use Rattle.shb_lines.proofs.events.Events.{event_of_thread, is_of_true, thread_is}
+use Rattle.shb_lines.proofs.events.Prefix.{is_of_thread}
 
 module _ (trace : List Event) (t : ℕ) where
   pub place_at : (k : ℕ) → thread_at trace k ≡ Some t → place_in_thread trace t k ≡ count_by (is_of t) (take k trace) + 1

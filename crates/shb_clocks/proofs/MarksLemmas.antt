@@ -6,13 +6,13 @@ use Rattle.std.proofs.lemmas.List.{get_or_push, length_push, get_or_past, get_or
 use Rattle.std.proofs.lemmas.Bool.{cases_lt, cases_eq}
 use Rattle.std.proofs.lemmas.Option.{slice_get_within}
 use Rattle.shb_lines.specs.declared.event.Event.{Event}
-use Rattle.shb_lines.specs.Events.{thread_at}
-use Rattle.shb_lines.specs.Discipline.{IsDisciplined}
-use Rattle.shb_lines.specs.Order.{ShbEdge, here, ShbBelow, IsPred, IsNumberOf, IsBelowPredCount}
-use Rattle.shb_lines.proofs.Decide.{path_cases, pred_unique}
-use Rattle.shb_lines.proofs.Events.{event_of_thread}
-use Rattle.shb_lines.proofs.Listed.{number_same}
-use Rattle.shb_lines.proofs.Schedulable.{path_forward, edge_earlier}
+use Rattle.shb_lines.specs.events.Events.{thread_at}
+use Rattle.shb_lines.specs.events.Discipline.{IsDisciplined}
+use Rattle.shb_lines.specs.events.Order.{ShbEdge, here, ShbBelow, IsPred, IsNumberOf, IsBelowPredCount}
+use Rattle.shb_lines.proofs.events.Decide.{path_cases, pred_unique}
+use Rattle.shb_lines.proofs.events.Events.{event_of_thread}
+use Rattle.shb_lines.proofs.events.Listed.{number_same}
+use Rattle.shb_lines.proofs.events.Schedulable.{path_forward, edge_earlier}
 use Rattle.shb_clocks.specs.Marks.{MarksFrom, IsRowOf, HasRows}
 
 -- a list of unmarked events

@@ -8,11 +8,11 @@ use Rattle.shb_lines.specs.declared.event.Event.{Event}
 use Rattle.shb_lines.specs.declared.event.Op.{Op}
 use Rattle.shb_lines.specs.declared.event.Op.TheVariants.{Read, Acquire, Join}
 use Rattle.shb_lines.specs.declared.event.Sizes.{Sizes}
-use Rattle.shb_lines.specs.Events.{thread_at, op_at}
-use Rattle.shb_lines.specs.Discipline.{IsDisciplined, is_of, place_in_thread}
-use Rattle.shb_lines.specs.Order.{LastWrite, ShbBelow}
-use Rattle.shb_lines.specs.Sizes.{IsWithin}
-use Rattle.shb_lines.proofs.Events.{event_of_thread}
+use Rattle.shb_lines.specs.events.Events.{thread_at, op_at}
+use Rattle.shb_lines.specs.events.Discipline.{IsDisciplined, is_of, place_in_thread}
+use Rattle.shb_lines.specs.events.Order.{LastWrite, ShbBelow}
+use Rattle.shb_lines.specs.events.Sizes.{IsWithin}
+use Rattle.shb_lines.proofs.events.Events.{event_of_thread}
 use Rattle.shb_links.specs.Links.{Exactly}
 use Rattle.shb_clocks.specs.Fronts.{IsFront, StrictlyBelow}
 use Rattle.shb_clocks.specs.Learned.{IsLearning, first, acquires, joins, reads, LearnsAt, AreLearnedPlaces, KeptData, IsFrontBut, number_before, IsKept}

@@ -7,11 +7,11 @@ use Rattle.std.proofs.lemmas.List.{get_or_append_left, get_or_push, get_or_read,
 use Rattle.std.proofs.lemmas.List.Elements.{Contains-get_or}
 use Rattle.std.proofs.lemmas.List.Kept.{AllPairs-from_increasing}
 use Rattle.shb_lines.specs.declared.event.Event.{Event}
-use Rattle.shb_lines.specs.Events.{thread_at}
-use Rattle.shb_lines.specs.Discipline.{IsDisciplined, is_of, place_in_thread}
-use Rattle.shb_lines.specs.Order.{BelowPred, IsBelowPredCount, IsNumberOf, IsPred, ShbBelow, by_fork, in_thread}
-use Rattle.shb_lines.proofs.Decide.{find_pred}
-use Rattle.shb_lines.proofs.Schedulable.{below_pred_earlier, thread_below_pred}
+use Rattle.shb_lines.specs.events.Events.{thread_at}
+use Rattle.shb_lines.specs.events.Discipline.{IsDisciplined, is_of, place_in_thread}
+use Rattle.shb_lines.specs.events.Order.{BelowPred, IsBelowPredCount, IsNumberOf, IsPred, ShbBelow, by_fork, in_thread}
+use Rattle.shb_lines.proofs.events.Decide.{find_pred}
+use Rattle.shb_lines.proofs.events.Schedulable.{below_pred_earlier, thread_below_pred}
 use Rattle.shb_clocks.specs.Before.{ArePassed, HasRowsBefore, IsPassed, IsRowBefore}
 use Rattle.shb_clocks.specs.Learned.{AreKept, IsFrontBut, IsKept, IsRowUpTo, KeptData, nothing_kept, number_before}
 use Rattle.shb_clocks.specs.Rows.{RowsData}

@@ -10,16 +10,16 @@ use Rattle.std.proofs.lemmas.Option.{slice_get-get_or}
 use Rattle.shb_lines.specs.declared.event.Event.{Event}
 use Rattle.shb_lines.specs.declared.event.Op.{Op}
 use Rattle.shb_lines.specs.declared.event.Op.TheVariants.{Read, Acquire, Release, Join}
-use Rattle.shb_lines.specs.Events.{thread_at, op_at}
-use Rattle.shb_lines.specs.Discipline.{IsDisciplined, place_in_thread}
-use Rattle.shb_lines.specs.Order.{LastWrite, ShbBelow, here, step, same_thread, happens_before, IsPred, BelowPred, IsBelowPredCount}
-use Rattle.shb_lines.proofs.Decide.{pred_unique, last_write_unique}
-use Rattle.shb_lines.proofs.Schedulable.{pred_earlier}
+use Rattle.shb_lines.specs.events.Events.{thread_at, op_at}
+use Rattle.shb_lines.specs.events.Discipline.{IsDisciplined, place_in_thread}
+use Rattle.shb_lines.specs.events.Order.{LastWrite, ShbBelow, here, step, same_thread, happens_before, IsPred, BelowPred, IsBelowPredCount}
+use Rattle.shb_lines.proofs.events.Decide.{pred_unique, last_write_unique}
+use Rattle.shb_lines.proofs.events.Schedulable.{pred_earlier}
 use Rattle.shb_links.specs.Latest.{IsLatestBefore, Latest, IsLatestTable, OfThread}
 use Rattle.shb_links.specs.Links.{Exactly}
-use Rattle.shb_lines.specs.Sizes.{IsOpWithin, IsWithin}
+use Rattle.shb_lines.specs.events.Sizes.{IsOpWithin, IsWithin}
 use Rattle.shb_lines.specs.declared.event.Sizes.{Sizes}
-use Rattle.shb_lines.proofs.Items.{thread_item, op_item}
+use Rattle.shb_lines.proofs.events.Items.{thread_item, op_item}
 use Rattle.shb_clocks.specs.Fronts.{IsFront, BelowRelease, BelowThread, BelowLastWrite, Learns, by_acquire, by_join, by_read, StrictlyBelow}
 use Rattle.shb_clocks.specs.Rows.{row_at}
 use Rattle.shb_clocks.specs.Past.{HasClocks, HasLockClocks}

@@ -1,9 +1,9 @@
 -- What is below an event comes from itself, from its predecessor, or from what the event learns of other threads.
 use Rattle.std.proofs.Common.{◌≡◌, ℕ, ◌<◌, ◌⊎◌, inl, inr, List, subst, refl}
 use Rattle.shb_lines.specs.declared.event.Event.{Event}
-use Rattle.shb_lines.specs.Discipline.{IsDisciplined}
-use Rattle.shb_lines.specs.Order.{HbRule, same_thread, lock_passed, forked, joined, ShbEdge, happens_before, read_from, here, step, ShbBelow, IsPred, in_thread, by_fork}
-use Rattle.shb_lines.proofs.Schedulable.{thread_below_pred, fork_below_pred, pred_earlier}
+use Rattle.shb_lines.specs.events.Discipline.{IsDisciplined}
+use Rattle.shb_lines.specs.events.Order.{HbRule, same_thread, lock_passed, forked, joined, ShbEdge, happens_before, read_from, here, step, ShbBelow, IsPred, in_thread, by_fork}
+use Rattle.shb_lines.proofs.events.Schedulable.{thread_below_pred, fork_below_pred, pred_earlier}
 use Rattle.shb_clocks.specs.Fronts.{Learns, by_acquire, by_join, by_read, StrictlyBelow}
 
 -- two paths in a row

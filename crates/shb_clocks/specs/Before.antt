@@ -1,9 +1,9 @@
 -- The row that stands in front of each event: what is below its predecessor.
 use Rattle.std.specs.Prelude.{◌≡◌, ℕ, ◌+◌, ◌<◌, ◌≤◌, List, [], Some, length, slice_index_or}
 use Rattle.shb_lines.specs.declared.event.Event.{Event}
-use Rattle.shb_lines.specs.Events.{thread_at}
-use Rattle.shb_lines.specs.Discipline.{place_in_thread}
-use Rattle.shb_lines.specs.Order.{IsPred, ShbBelow}
+use Rattle.shb_lines.specs.events.Events.{thread_at}
+use Rattle.shb_lines.specs.events.Discipline.{place_in_thread}
+use Rattle.shb_lines.specs.events.Order.{IsPred, ShbBelow}
 use Rattle.shb_clocks.specs.Learned.{IsFrontBut, KeptData, number_before, nothing_kept}
 
 -- the row is that of the event before e in its thread, but for the entry of that thread

@@ -2,9 +2,9 @@
 use Rattle.std.specs.Prelude.{◌≡◌, ℕ, ◌<◌, ◌≤◌, ◌↔◌, ◌⊎◌, List, Some, slice_index_or, count_by}
 use Rattle.shb_lines.specs.declared.event.Event.{Event}
 use Rattle.shb_lines.specs.declared.event.Op.TheVariants.{Acquire, Release, Join}
-use Rattle.shb_lines.specs.Events.{thread_at, op_at}
-use Rattle.shb_lines.specs.Discipline.{is_of, place_in_thread}
-use Rattle.shb_lines.specs.Order.{LastWrite, ShbBelow, BelowPred}
+use Rattle.shb_lines.specs.events.Events.{thread_at, op_at}
+use Rattle.shb_lines.specs.events.Discipline.{is_of, place_in_thread}
+use Rattle.shb_lines.specs.events.Order.{LastWrite, ShbBelow, BelowPred}
 
 -- the events with the property are those whose place is no higher than their thread's entry
 pub record IsFront (trace : List Event) (P : ℕ → Type 0) (clock : List ℕ) : Type 0 where

@@ -3,9 +3,9 @@ use Rattle.std.specs.Prelude.{◌≡◌, ◌≢◌, ℕ, ◌+◌, ◌<◌, ◌�
 use Rattle.std.specs.List.Sorted.{IsStrictlyIncreasing}
 use Rattle.shb_lines.specs.declared.event.Event.{Event}
 use Rattle.shb_lines.specs.declared.event.Op.TheVariants.{Acquire, Join}
-use Rattle.shb_lines.specs.Events.{thread_at, op_at}
-use Rattle.shb_lines.specs.Discipline.{is_of, place_in_thread}
-use Rattle.shb_lines.specs.Order.{LastWrite, ShbBelow}
+use Rattle.shb_lines.specs.events.Events.{thread_at, op_at}
+use Rattle.shb_lines.specs.events.Discipline.{is_of, place_in_thread}
+use Rattle.shb_lines.specs.events.Order.{LastWrite, ShbBelow}
 use Rattle.shb_lines.specs.declared.event.Sizes.{Sizes}
 use Rattle.shb_links.specs.Latest.{IsLatestTable, OfThread}
 use Rattle.shb_clocks.specs.Past.{HasLockClocks}

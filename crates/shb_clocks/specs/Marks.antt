@@ -1,7 +1,7 @@
 -- What the marks of a plain order stand for.
 use Rattle.std.specs.Prelude.{◌≡◌, ℕ, ◌<◌, ◌≤◌, ◌↔◌, Bool, true, false, List, [], length, slice_index_or}
 use Rattle.shb_lines.specs.declared.event.Event.{Event}
-use Rattle.shb_lines.specs.Order.{ShbBelow, BelowPred}
+use Rattle.shb_lines.specs.events.Order.{ShbBelow, BelowPred}
 
 -- from position `low` on, exactly the events that are SHB-below p are marked, and before it none
 pub record MarksFrom (trace : List Event) (p low : ℕ) (marks : List Bool) : Type 0 where

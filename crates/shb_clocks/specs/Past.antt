@@ -1,7 +1,7 @@
 -- What a sweep over the first n events keeps.
 use Rattle.std.specs.Prelude.{◌≡◌, ℕ, ◌*◌, ◌<◌, List, [], Option, length, slice_index_or}
 use Rattle.shb_lines.specs.declared.event.Event.{Event}
-use Rattle.shb_lines.specs.Order.{ShbBelow}
+use Rattle.shb_lines.specs.events.Order.{ShbBelow}
 use Rattle.shb_links.specs.Latest.{IsLatestTable, OfThread}
 use Rattle.shb_lines.specs.declared.event.Sizes.{Sizes}
 use Rattle.shb_clocks.specs.Fronts.{IsFront, BelowRelease}

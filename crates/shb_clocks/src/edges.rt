@@ -1,8 +1,8 @@
 //! Edges between events, by their operations and threads.
 
 ghost use Rattle.std.specs.Prelude.{◌≡◌, ◌<◌, ◌↔◌, IsTrue, length};
-ghost use Rattle.shb_lines.specs.Order.{ShbEdge};
-ghost use Rattle.shb_lines.specs.Tests.{is_hb_rule, passes_lock, forks_thread, joins_thread};
+ghost use Rattle.shb_lines.specs.events.Order.{ShbEdge};
+ghost use Rattle.shb_lines.specs.events.Tests.{is_hb_rule, passes_lock, forks_thread, joins_thread};
 
 use shb_lines::{Event, Op};
 use shb_links::Links;

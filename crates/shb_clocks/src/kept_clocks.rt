@@ -1,9 +1,9 @@
 //! The clocks of the events so far, of which those are kept at which a thread may learn.
 
 ghost use Rattle.std.specs.Prelude.{◌≡◌, ℕ, ◌+◌, ◌<◌, ◌≤◌, IfOk, Some, length, replicate};
-ghost use Rattle.shb_lines.specs.Discipline.{place_in_thread};
-ghost use Rattle.shb_lines.specs.Events.{thread_at};
-ghost use Rattle.shb_lines.specs.Order.{IsBelowPredCount, ShbBelow};
+ghost use Rattle.shb_lines.specs.events.Discipline.{place_in_thread};
+ghost use Rattle.shb_lines.specs.events.Events.{thread_at};
+ghost use Rattle.shb_lines.specs.events.Order.{IsBelowPredCount, ShbBelow};
 ghost use Rattle.shb_clocks.specs.Fronts.{IsFront};
 ghost use Rattle.shb_clocks.specs.Learned.{AreKept, IsFrontBut, IsLearning, nothing_kept};
 

@@ -1,8 +1,8 @@
 //! The sweep that keeps clocks only where a thread may learn of others.
 
 ghost use Rattle.std.specs.Prelude.{◌≡◌, ℕ, ◌+◌, ◌<◌, ◌↔◌, IsTrue, IfOk, OnOk, Some, length};
-ghost use Rattle.shb_lines.specs.Events.{thread_at};
-ghost use Rattle.shb_lines.specs.Order.{LastWrite, ShbBelow, BelowPred};
+ghost use Rattle.shb_lines.specs.events.Events.{thread_at};
+ghost use Rattle.shb_lines.specs.events.Order.{LastWrite, ShbBelow, BelowPred};
 ghost use Rattle.shb_clocks.specs.Fronts.{IsFront, StrictlyBelow};
 ghost use Rattle.shb_clocks.specs.Learned.{AreKept, IsFrontBut, IsLearnedPast, IsLearning};
 ghost use Rattle.shb_clocks.specs.Past.{HasLockClocks};

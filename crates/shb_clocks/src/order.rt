@@ -2,7 +2,7 @@
 
 ghost use Rattle.std.specs.Prelude.{◌<◌, List, length};
 ghost use Rattle.shb_lines.specs.declared.event.Event.{Event};
-ghost use Rattle.shb_lines.specs.Order.{IsBelowPredCount};
+ghost use Rattle.shb_lines.specs.events.Order.{IsBelowPredCount};
 
 /// How far each thread is SHB-below the predecessor of an event.
 ///

@@ -1,8 +1,8 @@
 //! The sweep that makes a clock for each event.
 
 ghost use Rattle.std.specs.Prelude.{◌≡◌, ℕ, ◌+◌, ◌<◌, IfOk, Some, length};
-ghost use Rattle.shb_lines.specs.Order.{ShbBelow, BelowPred};
-ghost use Rattle.shb_lines.specs.Sizes.{IsWithin};
+ghost use Rattle.shb_lines.specs.events.Order.{ShbBelow, BelowPred};
+ghost use Rattle.shb_lines.specs.events.Sizes.{IsWithin};
 ghost use Rattle.shb_clocks.specs.Fronts.{IsFront, StrictlyBelow};
 ghost use Rattle.shb_clocks.specs.Past.{HasLockClocks, IsPast};
 

@@ -2,8 +2,8 @@
 
 ghost use Rattle.std.specs.Prelude.{◌≡◌, ℕ, ◌+◌, ◌<◌, ◌≤◌, ◌^◌, Bool, true, false, List, IsTrue, IfOk, ◌↔◌, length, slice_index_or, replicate};
 ghost use Rattle.shb_lines.specs.declared.event.Event.{Event};
-ghost use Rattle.shb_lines.specs.Events.{thread_at};
-ghost use Rattle.shb_lines.specs.Order.{ShbBelow, IsNumberOf};
+ghost use Rattle.shb_lines.specs.events.Events.{thread_at};
+ghost use Rattle.shb_lines.specs.events.Order.{ShbBelow, IsNumberOf};
 ghost use Rattle.shb_clocks.specs.Marks.{MarksFrom, IsRowOf, HasRows};
 
 use crate::edges::is_edge;

@@ -1,6 +1,6 @@
 //! What the orders answer on small traces, and that all four answer alike.
 ghost use Rattle.std.specs.Prelude.{◌≡◌, ◌<◌, ◌≤◌, length};
-ghost use Rattle.shb_lines.specs.Limits.{AreStandard};
+ghost use Rattle.shb_lines.specs.text.Limits.{AreStandard};
 
 use crate::*;
 use shb_discipline::{Disciplined, check};
@@ -18,7 +18,7 @@ fn parsed(rt: &HostRuntime, text: &[u8]) -> Result<Parsed, ReadError> {
         events: 4_194_304,
         threads: 1024,
     };
-    parse(rt.alloc(), rt, &mut source, &limits)
+    parse(rt, rt.alloc(), &mut source, &limits)
 }
 
 /// What an order answers, 0 for an event that isn't there.

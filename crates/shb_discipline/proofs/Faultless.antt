@@ -7,8 +7,8 @@ use Rattle.shb_lines.specs.declared.event.Fault.{Fault}
 use Rattle.shb_lines.specs.declared.event.Fault.TheVariants as faults
 use Rattle.shb_lines.specs.declared.event.Op.{Op}
 use Rattle.shb_lines.specs.declared.event.Op.TheVariants.{Acquire, Release, Fork, Join}
-use Rattle.shb_lines.specs.Discipline.{acquires, only, other_than, releases, MayCome, MayDo, MayFork}
-use Rattle.shb_lines.proofs.Locks.{DisciplinedBelow}
+use Rattle.shb_lines.specs.events.Discipline.{acquires, only, other_than, releases, MayCome, MayDo, MayFork}
+use Rattle.shb_lines.proofs.events.Locks.{DisciplinedBelow}
 use Rattle.shb_discipline.specs.Faults.{HasDisciplineFault}
 
 none_of : (n : ℕ) → (0 < n → ⊥) → n ≡ 0

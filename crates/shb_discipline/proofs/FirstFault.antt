@@ -9,12 +9,12 @@ use Rattle.shb_lines.specs.declared.event.Fault.{Fault}
 use Rattle.shb_lines.specs.declared.event.Fault.TheVariants as faults
 use Rattle.shb_lines.specs.declared.event.Limits.{Limits}
 use Rattle.shb_lines.specs.declared.event.LineFault.{LineFault}
-use Rattle.shb_lines.specs.Discipline.{IsDisciplined}
-use Rattle.shb_lines.specs.Faults.{HasLineFault, IsFaultless, IsFirstFault, PassesLimit, line_at, number_of}
-use Rattle.shb_lines.specs.Grammar.{NamedEvent}
-use Rattle.shb_lines.specs.Parsed.{IsEventOf, events_of}
-use Rattle.shb_lines.specs.Text.{LocatedEvent, lines_of, trace_of}
-use Rattle.shb_lines.specs.TraceData.{IsReadingOf, IsTraceOf, TraceData, tables_in}
+use Rattle.shb_lines.specs.events.Discipline.{IsDisciplined}
+use Rattle.shb_lines.specs.text.Faults.{HasLineFault, IsFaultless, IsFirstFault, PassesLimit, line_at, number_of}
+use Rattle.shb_lines.specs.text.Grammar.{NamedEvent}
+use Rattle.shb_lines.specs.text.Parsed.{IsEventOf, events_of}
+use Rattle.shb_lines.specs.text.Text.{LocatedEvent, lines_of, trace_of}
+use Rattle.shb_lines.specs.text.TraceData.{IsReadingOf, IsTraceOf, TraceData, tables_in}
 use Rattle.shb_discipline.specs.Faults.{HasDisciplineFault, IsFirstDisciplineFault}
 use Rattle.shb_discipline.specs.FirstFault.{BreaksDiscipline, HasAnyFault, HasFirstFault, HasNoFault, IsFaultFree}
 use Rattle.shb_discipline.proofs.Faultless.{no_fault}

@@ -4,9 +4,9 @@ use Rattle.std.specs.List.{cons_option, enumerate_from, filter_map}
 use Rattle.std.specs.Str.Lines.{strip_carriage_return}
 use Rattle.std.proofs.lemmas.List.{take-append-drop}
 use Rattle.std.proofs.lemmas.List.Elements.{filter_map-append}
-use Rattle.shb_lines.specs.Grammar.{Meaning}
-use Rattle.shb_lines.specs.Meaning.{meaning}
-use Rattle.shb_lines.specs.Text.{LocatedEvent, event_on, located, trace_of}
+use Rattle.shb_lines.specs.text.Grammar.{Meaning}
+use Rattle.shb_lines.specs.text.Meaning.{meaning}
+use Rattle.shb_lines.specs.text.Text.{LocatedEvent, event_on, located, trace_of}
 
 enumerate_from-append : {X : Type 0} (n : ℕ) (xs ys : List X) → enumerate_from n (xs ++ ys) ≡ enumerate_from n xs ++ enumerate_from (n + length xs) ys
 enumerate_from-append n [] ys = ap (λ k. enumerate_from k ys) (sym (add-zero n))

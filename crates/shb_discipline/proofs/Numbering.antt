@@ -11,14 +11,14 @@ use Rattle.shb_lines.specs.declared.event.Kind.{Kind}
 use Rattle.shb_lines.specs.declared.event.Kind.TheVariants as kinds
 use Rattle.shb_lines.specs.declared.event.Op.{Op}
 use Rattle.shb_lines.specs.declared.event.Op.TheVariants as ops
-use Rattle.shb_lines.specs.Grammar.{NamedEvent}
-use Rattle.shb_lines.specs.Names.{table_of, with_name}
-use Rattle.shb_lines.specs.Parsed.{IsEventOf, events_of, tables_of_events}
-use Rattle.shb_lines.specs.Reader.{IsNumbered, IsOperation, Tables, with_names}
-use Rattle.shb_lines.specs.Text.{LocatedEvent, locks_among, threads_among, trace_of, variables_among}
-use Rattle.shb_lines.specs.TraceData.{IsTraceOf, TraceData, tables_in}
-use Rattle.shb_lines.proofs.NameLemmas.{slice_get-with_names, with_name-at}
-use Rattle.shb_lines.proofs.Numbers.{IsDistinct-table_of, one_number}
+use Rattle.shb_lines.specs.text.Grammar.{NamedEvent}
+use Rattle.shb_lines.specs.text.Names.{table_of, with_name}
+use Rattle.shb_lines.specs.text.Parsed.{IsEventOf, events_of, tables_of_events}
+use Rattle.shb_lines.specs.text.Reader.{IsNumbered, IsOperation, Tables, with_names}
+use Rattle.shb_lines.specs.text.Text.{LocatedEvent, locks_among, threads_among, trace_of, variables_among}
+use Rattle.shb_lines.specs.text.TraceData.{IsTraceOf, TraceData, tables_in}
+use Rattle.shb_lines.proofs.text.NameLemmas.{slice_get-with_names, with_name-at}
+use Rattle.shb_lines.proofs.text.Numbers.{IsDistinct-table_of, one_number}
 
 -- x is one of these
 abbrev Has : {X : Type 0} → List X → X → Type 0

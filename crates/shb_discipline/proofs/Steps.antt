@@ -11,8 +11,8 @@ use Rattle.std.specs.Vec.{with_item}
 use Rattle.shb_lines.specs.declared.event.Event.{Event}
 use Rattle.shb_lines.specs.declared.event.Op.{Op}
 use Rattle.shb_lines.specs.declared.event.Op.TheVariants.{Acquire, Release, Fork, Join}
-use Rattle.shb_lines.specs.Discipline.{acquires, anyone, is_acquire, is_fork, is_join, is_of, is_release, op_is_acquire, op_is_fork, op_is_join, op_is_release, other_than, only, releases, MayCome, MayDo}
-use Rattle.shb_lines.proofs.Counts.{count_more_yes, count_more_no}
+use Rattle.shb_lines.specs.events.Discipline.{acquires, anyone, is_acquire, is_fork, is_join, is_of, is_release, op_is_acquire, op_is_fork, op_is_join, op_is_release, other_than, only, releases, MayCome, MayDo}
+use Rattle.shb_lines.proofs.events.Counts.{count_more_yes, count_more_no}
 use Rattle.shb_discipline.specs.declared.state.LockState.{LockState}
 use Rattle.shb_discipline.specs.declared.state.State.{State}
 use Rattle.shb_discipline.specs.State.{AreFlags, AreLocks, Covers, CoversOp, IsLockAfter, IsStateAfter, Tells}

@@ -3,10 +3,10 @@ use Rattle.std.specs.Prelude.{◌≡◌, ◌≢◌, ℕ, ◌<◌, ◌≤◌, Lis
 use Rattle.shb_lines.specs.declared.event.Event.{Event}
 use Rattle.shb_lines.specs.declared.event.LineFault.{LineFault}
 use Rattle.shb_lines.specs.declared.event.Op.TheVariants.{Acquire, Release, Fork, Join}
-use Rattle.shb_lines.specs.Discipline.{acquires, is_fork, is_join, is_of, only, other_than, releases, IsDisciplined, MayCome}
+use Rattle.shb_lines.specs.events.Discipline.{acquires, is_fork, is_join, is_of, only, other_than, releases, IsDisciplined, MayCome}
 use Rattle.shb_lines.specs.declared.event.Fault.{Fault}
 use Rattle.shb_lines.specs.declared.event.Fault.TheVariants as faults
-use Rattle.shb_lines.specs.Faults.{IsLowest}
+use Rattle.shb_lines.specs.text.Faults.{IsLowest}
 use Rattle.shb_discipline.specs.declared.checking.CheckError.{CheckError}
 use Rattle.shb_discipline.specs.declared.checking.CheckError.TheVariants.{Undisciplined, Memory}
 

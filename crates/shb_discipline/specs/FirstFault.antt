@@ -3,9 +3,9 @@ use Rattle.std.specs.Prelude.{◌≡◌, ◌⊎◌, ℕ, ◌+◌, ◌<◌, List,
 use Rattle.shb_lines.specs.declared.event.Event.{Event}
 use Rattle.shb_lines.specs.declared.event.Fault.{Fault}
 use Rattle.shb_lines.specs.declared.event.Limits.{Limits}
-use Rattle.shb_lines.specs.Faults.{HasFault, IsLowest}
-use Rattle.shb_lines.specs.Text.{lines_of}
-use Rattle.shb_lines.specs.TraceData.{IsTraceOf, TraceData}
+use Rattle.shb_lines.specs.text.Faults.{HasFault, IsLowest}
+use Rattle.shb_lines.specs.text.Text.{lines_of}
+use Rattle.shb_lines.specs.text.TraceData.{IsTraceOf, TraceData}
 use Rattle.shb_discipline.specs.Faults.{HasDisciplineFault}
 
 -- in the trace of the lines up to line i, the event on line i has the fault after the events before it; lines are counted from 0 here

@@ -3,7 +3,7 @@ use Rattle.std.specs.Prelude.{◌≡◌, ℕ, ◌+◌, ◌<◌, Bool, true, fals
 use Rattle.shb_lines.specs.declared.event.Event.{Event}
 use Rattle.shb_lines.specs.declared.event.Op.{Op}
 use Rattle.shb_lines.specs.declared.event.Op.TheVariants.{Acquire, Release, Fork, Join}
-use Rattle.shb_lines.specs.Discipline.{acquires, is_fork, is_join, is_of, releases}
+use Rattle.shb_lines.specs.events.Discipline.{acquires, is_fork, is_join, is_of, releases}
 use Rattle.shb_discipline.specs.declared.state.LockState.{LockState}
 use Rattle.shb_discipline.specs.declared.state.State.{State}
 

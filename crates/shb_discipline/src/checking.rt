@@ -1,7 +1,7 @@
 //! The check of the discipline, by one pass over the events.
 ghost use Rattle.std.specs.Prelude.{◌≡◌, ◌≤◌, IfErr, IfOk, OnOk, length};
-ghost use Rattle.shb_lines.specs.Discipline.{IsDisciplined};
-ghost use Rattle.shb_lines.specs.Sizes.{IsWithin};
+ghost use Rattle.shb_lines.specs.events.Discipline.{IsDisciplined};
+ghost use Rattle.shb_lines.specs.events.Sizes.{IsWithin};
 ghost use Rattle.shb_discipline.specs.Faults.{IsFirstIfAny, IsRefusal};
 
 use crate::disciplined::Disciplined;

@@ -1,7 +1,7 @@
 //! A trace that is known to meet the discipline.
 ghost use Rattle.std.specs.Prelude.{◌≡◌, ◌≤◌, length};
-ghost use Rattle.shb_lines.specs.Discipline.{IsDisciplined, IsDisciplined-prop};
-ghost use Rattle.shb_lines.specs.Sizes.{IsNumberedByAccess, IsNumberedByAccess-prop, IsWithin, IsWithin-prop};
+ghost use Rattle.shb_lines.specs.events.Discipline.{IsDisciplined, IsDisciplined-prop};
+ghost use Rattle.shb_lines.specs.events.Sizes.{IsNumberedByAccess, IsNumberedByAccess-prop, IsWithin, IsWithin-prop};
 
 use shb_lines::{Event, Sizes, Trace};
 

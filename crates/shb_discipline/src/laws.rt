@@ -5,9 +5,9 @@ ghost use Rattle.shb_lines.specs.declared.event.Event.{Event};
 ghost use Rattle.shb_lines.specs.declared.event.Fault.{Fault};
 ghost use Rattle.shb_lines.specs.declared.event.Limits.{Limits};
 ghost use Rattle.shb_lines.specs.declared.event.LineFault.{LineFault};
-ghost use Rattle.shb_lines.specs.Discipline.{IsDisciplined, MayCome};
-ghost use Rattle.shb_lines.specs.Text.{lines_of};
-ghost use Rattle.shb_lines.specs.TraceData.{IsReadingOf, IsTraceOf, TraceData};
+ghost use Rattle.shb_lines.specs.events.Discipline.{IsDisciplined, MayCome};
+ghost use Rattle.shb_lines.specs.text.Text.{lines_of};
+ghost use Rattle.shb_lines.specs.text.TraceData.{IsReadingOf, IsTraceOf, TraceData};
 ghost use Rattle.shb_discipline.specs.Faults.{HasDisciplineFault, IsFirstDisciplineFault};
 ghost use Rattle.shb_discipline.specs.FirstFault.{HasFirstFault, HasNoFault};
 

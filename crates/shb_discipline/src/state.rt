@@ -2,9 +2,9 @@
 ghost use Rattle.std.specs.Prelude.{◌≡◌, ◌<◌, ◌↔◌, ◌^◌, ◌+◌, ℕ, List, IsTrue, IfOk, Some, slice_get, take, length, count_by, vec_len, All, false, replicate, []};
 ghost use Rattle.shb_lines.specs.declared.event.Event.{Event};
 ghost use Rattle.shb_lines.specs.declared.event.Op.TheVariants.{Acquire, Release, Fork, Join};
-ghost use Rattle.shb_lines.specs.Discipline.{MayCome, acquires, is_fork, is_join, is_of, only, other_than, releases};
-ghost use Rattle.shb_lines.specs.Sizes.{IsWithin};
-ghost use Rattle.shb_lines.specs.Faults.{IsLowest};
+ghost use Rattle.shb_lines.specs.events.Discipline.{MayCome, acquires, is_fork, is_join, is_of, only, other_than, releases};
+ghost use Rattle.shb_lines.specs.events.Sizes.{IsWithin};
+ghost use Rattle.shb_lines.specs.text.Faults.{IsLowest};
 ghost use Rattle.shb_discipline.specs.Faults.{HasDisciplineFault};
 ghost use Rattle.shb_discipline.specs.State.{Covers, IsLockAfter, IsStateAfter, Tells};
 

@@ -1,5 +1,5 @@
 //! Texts whose first fault is known.
-ghost use Rattle.shb_lines.specs.Limits.{AreStandard};
+ghost use Rattle.shb_lines.specs.text.Limits.{AreStandard};
 
 use crate::{CheckError, check};
 use shb_io::Text;
@@ -19,7 +19,7 @@ fn limits(threads: u32) -> Limits
 /// The first fault of a text: the discipline's among the events before the stop, else the stop.
 fn first_fault(rt: &HostRuntime, text: &[u8], threads: u32) -> Result<Option<(u32, Fault)>, Fail> {
     let mut source = Text::new(text, 5, None);
-    let parsed = parse(rt.alloc(), rt, &mut source, &limits(threads))?;
+    let parsed = parse(rt, rt.alloc(), &mut source, &limits(threads))?;
     match check(rt.alloc(), &parsed.trace) {
         Ok(_) => Ok(parsed.stop.map(|stop| (stop.line, stop.fault))),
         Err(CheckError::Undisciplined { line, fault }) => Ok(Some((line, fault))),

@@ -1,8 +1,8 @@
 //! Which events conflict: accesses of one variable by different threads, at least one a write.
 ghost use Rattle.std.specs.Prelude.{◌≡◌, ◌<◌, ◌↔◌, IsTrue, length};
-ghost use Rattle.shb_lines.specs.Events.{variable_of};
-ghost use Rattle.shb_lines.specs.Race.{Conflict};
-ghost use Rattle.shb_lines.specs.Tests.{is_conflict, is_write, same_variable};
+ghost use Rattle.shb_lines.specs.events.Events.{variable_of};
+ghost use Rattle.shb_lines.specs.events.Race.{Conflict};
+ghost use Rattle.shb_lines.specs.events.Tests.{is_conflict, is_write, same_variable};
 
 use crate::event::{Event, Op};
 use crate::trace::Trace;

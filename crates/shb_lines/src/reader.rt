@@ -4,14 +4,14 @@ ghost use Rattle.std.specs.List.{list_any, position_or_len};
 ghost use Rattle.std.specs.Str.{bytes_eq};
 ghost use Rattle.std.specs.Str.Lines.{strip_carriage_return};
 ghost use Rattle.indexmap.specs.IndexMap.{index_map_len};
-ghost use Rattle.shb_lines.specs.Faults.{HasLineFault, IsLowest};
-ghost use Rattle.shb_lines.specs.Limits.{AreStandard};
-ghost use Rattle.shb_lines.specs.Names.{StandsAt, spans_in};
-ghost use Rattle.shb_lines.specs.Parsed.{HasRead, events_of, lines_read, part};
-ghost use Rattle.shb_lines.specs.Reader.{AddsEvent, AllStand, HasNames, HasRoom, IsOperation, tables_of, with_names, with_operand};
-ghost use Rattle.shb_lines.specs.Reading.{named};
-ghost use Rattle.shb_lines.specs.Text.{threads_among};
-ghost use Rattle.shb_lines.specs.TraceData.{IsReading};
+ghost use Rattle.shb_lines.specs.text.Faults.{HasLineFault, IsLowest};
+ghost use Rattle.shb_lines.specs.text.Limits.{AreStandard};
+ghost use Rattle.shb_lines.specs.text.Names.{StandsAt, spans_in};
+ghost use Rattle.shb_lines.specs.text.Parsed.{HasRead, events_of, lines_read, part};
+ghost use Rattle.shb_lines.specs.text.Reader.{AddsEvent, AllStand, HasNames, HasRoom, IsOperation, tables_of, with_names, with_operand};
+ghost use Rattle.shb_lines.specs.text.Reading.{named};
+ghost use Rattle.shb_lines.specs.text.Text.{threads_among};
+ghost use Rattle.shb_lines.specs.text.TraceData.{IsReading};
 
 use crate::event::{Event, Fault, Kind, Limits, LineFault, Op};
 use crate::grammar::{LineEvent, read_line};
@@ -66,7 +66,7 @@ pub struct Reader<'t> {
 
 impl<'t> Reader<'t> {
     /// Nothing read yet.
-    pub fn new<R: RandomSource>(alloc: Global, rt: &R) -> Result<Reader<'t>, NoMemory>
+    pub fn new<R: RandomSource>(rt: &R, alloc: Global) -> Result<Reader<'t>, NoMemory>
         ensures room { IfOk result HasRoom }
         ensures empty { IfOk result (λ reader. vec_len reader.events ≡ 0) }
         ensures begun { (text : List ℕ) → IfOk result (λ reader. HasRead text reader []) }
@@ -74,9 +74,9 @@ impl<'t> Reader<'t> {
         Ok(Reader {
             events: Vec::new(alloc),
             texts: Vec::new(alloc),
-            threads: Names::new(alloc, rt)?,
-            locks: Names::new(alloc, rt)?,
-            variables: Names::new(alloc, rt)?,
+            threads: Names::new(rt, alloc)?,
+            locks: Names::new(rt, alloc)?,
+            variables: Names::new(rt, alloc)?,
         })
     }
 

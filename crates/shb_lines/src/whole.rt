@@ -1,7 +1,7 @@
 //! Reads the bytes of a source.
 ghost use Rattle.std.specs.Prelude.{◌≡◌, ◌+◌, ◌-◌, ◌^◌, ◌<◌, ◌≤◌, ◌++◌, ℕ, List, length, vec_len, IfOk};
 ghost use Rattle.std.specs.Io.KnownBytes.{Consumes, IsAtEnd};
-ghost use Rattle.shb_lines.specs.Taking.{IsSourceCounted, TakesAtMost};
+ghost use Rattle.shb_lines.specs.text.Taking.{IsSourceCounted, TakesAtMost};
 
 use crate::read::ReadError;
 use shb_io::{NoMemory, Source};

@@ -4,13 +4,13 @@ use Rattle.std.specs.Prelude.{count_by, slice_get}
 use Rattle.std.proofs.lemmas.Bool.{cases_Bool}
 use Rattle.std.proofs.lemmas.Option.{slice_get_cases}
 use Rattle.shb_lines.specs.declared.event.Event.{Event}
-use Rattle.shb_lines.specs.Events.{thread_at}
-use Rattle.shb_lines.specs.Discipline.{is_of, place_in_thread}
-use Rattle.shb_lines.specs.Order.{IsNumberOf}
-use Rattle.shb_lines.proofs.Counts.{count_more_yes, count_more_no}
-use Rattle.shb_lines.proofs.Events.{thread_is, is_of_true}
-use Rattle.shb_lines.proofs.Listed.{number_none, number_more_yes, number_more_no, number_same}
-use Rattle.shb_lines.proofs.Prefix.{is_of_thread}
+use Rattle.shb_lines.specs.events.Events.{thread_at}
+use Rattle.shb_lines.specs.events.Discipline.{is_of, place_in_thread}
+use Rattle.shb_lines.specs.events.Order.{IsNumberOf}
+use Rattle.shb_lines.proofs.events.Counts.{count_more_yes, count_more_no}
+use Rattle.shb_lines.proofs.events.Events.{thread_is, is_of_true}
+use Rattle.shb_lines.proofs.events.Listed.{number_none, number_more_yes, number_more_no, number_same}
+use Rattle.shb_lines.proofs.events.Prefix.{is_of_thread}
 use Rattle.shb_links.specs.Latest.{OfThread}
 use Rattle.shb_links.specs.Links.{IsLocal}
 

@@ -5,10 +5,10 @@ use Rattle.std.proofs.lemmas.Bool.{cases_lt}
 use Rattle.std.proofs.lemmas.List.{get_or_push, length_push, get_or_read}
 use Rattle.shb_lines.specs.declared.event.Event.{Event}
 use Rattle.shb_lines.specs.declared.event.Op.TheVariants.{Read}
-use Rattle.shb_lines.specs.Events.{thread_at}
-use Rattle.shb_lines.specs.Discipline.{place_in_thread}
-use Rattle.shb_lines.specs.Order.{IsPred, LastWrite}
-use Rattle.shb_lines.proofs.Items.{thread_item}
+use Rattle.shb_lines.specs.events.Events.{thread_at}
+use Rattle.shb_lines.specs.events.Discipline.{place_in_thread}
+use Rattle.shb_lines.specs.events.Order.{IsPred, LastWrite}
+use Rattle.shb_lines.proofs.events.Items.{thread_item}
 use Rattle.shb_links.proofs.Places.{place_is_number}
 use Rattle.shb_links.specs.Links.{Exactly, IsLocal, HasLocals, HasPreds, HasLastWrites}
 

@@ -8,17 +8,17 @@ use Rattle.std.proofs.lemmas.List.Sums.{count_by-le-length}
 use Rattle.std.proofs.lemmas.Option.{slice_get-get_or}
 use Rattle.shb_lines.specs.declared.event.Event.{Event}
 use Rattle.shb_lines.specs.declared.event.Op.TheVariants.{Read, Fork}
-use Rattle.shb_lines.specs.Events.{thread_at, op_at}
-use Rattle.shb_lines.specs.Discipline.{IsDisciplined, is_of, place_in_thread}
-use Rattle.shb_lines.specs.Order.{IsPred, in_thread, by_fork, LastWrite}
-use Rattle.shb_lines.proofs.Counts.{count_more_yes, count_gap}
-use Rattle.shb_lines.proofs.Events.{thread_is, event_of_thread, is_of_true, fork_earlier}
-use Rattle.shb_lines.proofs.Prefix.{is_of_thread}
-use Rattle.shb_lines.proofs.Items.{thread_item, op_item}
+use Rattle.shb_lines.specs.events.Events.{thread_at, op_at}
+use Rattle.shb_lines.specs.events.Discipline.{IsDisciplined, is_of, place_in_thread}
+use Rattle.shb_lines.specs.events.Order.{IsPred, in_thread, by_fork, LastWrite}
+use Rattle.shb_lines.proofs.events.Counts.{count_more_yes, count_gap}
+use Rattle.shb_lines.proofs.events.Events.{thread_is, event_of_thread, is_of_true, fork_earlier}
+use Rattle.shb_lines.proofs.events.Prefix.{is_of_thread}
+use Rattle.shb_lines.proofs.events.Items.{thread_item, op_item}
 use Rattle.shb_links.proofs.Tables.{thread_alone, op_within}
 use Rattle.shb_links.specs.Latest.{IsLatestBefore, Latest, IsLatestTable, OfThread, WritesVariable, ForksThread}
 use Rattle.shb_links.specs.Links.{Exactly, HasLocals}
-use Rattle.shb_lines.specs.Sizes.{IsWithin}
+use Rattle.shb_lines.specs.events.Sizes.{IsWithin}
 use Rattle.shb_lines.specs.declared.event.Sizes.{Sizes}
 
 pub place_bound : (trace : List Event) (t e : ℕ) → place_in_thread trace t e ≤ e + 1

@@ -8,12 +8,12 @@ use Rattle.std.proofs.lemmas.Option.{slice_get-get_or, slice_get_within}
 use Rattle.shb_lines.specs.declared.event.Event.{Event}
 use Rattle.shb_lines.specs.declared.event.Op.{Op}
 use Rattle.shb_lines.specs.declared.event.Op.TheVariants.{Write, Fork}
-use Rattle.shb_lines.specs.Events.{op_at}
-use Rattle.shb_lines.proofs.Events.{event_of_op}
-use Rattle.shb_lines.proofs.Items.{op_item, thread_item}
+use Rattle.shb_lines.specs.events.Events.{op_at}
+use Rattle.shb_lines.proofs.events.Events.{event_of_op}
+use Rattle.shb_lines.proofs.events.Items.{op_item, thread_item}
 use Rattle.shb_links.specs.Latest.{Latest, IsLatestTable, OfThread, WritesVariable, ForksThread}
 use Rattle.shb_links.specs.Links.{Exactly, HasForks}
-use Rattle.shb_lines.specs.Sizes.{IsOpWithin, IsWithin}
+use Rattle.shb_lines.specs.events.Sizes.{IsOpWithin, IsWithin}
 use Rattle.shb_lines.specs.declared.event.Sizes.{Sizes}
 
 -- one more position that has the property, and one that has it not

@@ -2,7 +2,7 @@
 use Rattle.std.specs.Prelude.{◌≡◌, ℕ, ◌<◌, List, Option, Some, None, length, slice_index_or}
 use Rattle.shb_lines.specs.declared.event.Event.{Event}
 use Rattle.shb_lines.specs.declared.event.Op.TheVariants.{Write, Fork}
-use Rattle.shb_lines.specs.Events.{thread_at, op_at}
+use Rattle.shb_lines.specs.events.Events.{thread_at, op_at}
 
 -- k is the latest position before n that has the property
 pub record IsLatestBefore (P : ℕ → Type 0) (n k : ℕ) : Type 0 where

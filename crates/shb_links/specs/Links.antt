@@ -1,9 +1,9 @@
 -- What the tables of links hold.
 use Rattle.std.specs.Prelude.{◌≡◌, ℕ, zero, suc, ◌<◌, ◌≤◌, List, Option, Some, None, length, slice_index_or}
 use Rattle.shb_lines.specs.declared.event.Event.{Event}
-use Rattle.shb_lines.specs.Events.{thread_at}
-use Rattle.shb_lines.specs.Discipline.{place_in_thread}
-use Rattle.shb_lines.specs.Order.{IsPred, LastWrite, IsNumberOf}
+use Rattle.shb_lines.specs.events.Events.{thread_at}
+use Rattle.shb_lines.specs.events.Discipline.{place_in_thread}
+use Rattle.shb_lines.specs.events.Order.{IsPred, LastWrite, IsNumberOf}
 use Rattle.shb_links.specs.Latest.{ForksThread}
 
 -- the position that a number stands for: one less than it, and none for 0

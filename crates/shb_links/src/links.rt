@@ -2,10 +2,10 @@
 
 ghost use Rattle.std.specs.Prelude.{◌≡◌, ℕ, ◌<◌, ◌≤◌, ◌+◌, List, Option, Some, None, IfOk, length};
 ghost use Rattle.shb_lines.specs.declared.event.Event.{Event};
-ghost use Rattle.shb_lines.specs.Discipline.{place_in_thread};
-ghost use Rattle.shb_lines.specs.Order.{IsPred, LastWrite};
-ghost use Rattle.shb_lines.specs.Events.{thread_at};
-ghost use Rattle.shb_lines.specs.Sizes.{IsWithin};
+ghost use Rattle.shb_lines.specs.events.Discipline.{place_in_thread};
+ghost use Rattle.shb_lines.specs.events.Order.{IsPred, LastWrite};
+ghost use Rattle.shb_lines.specs.events.Events.{thread_at};
+ghost use Rattle.shb_lines.specs.events.Sizes.{IsWithin};
 ghost use Rattle.shb_links.specs.Latest.{IsLatestTable, OfThread, WritesVariable, ForksThread};
 ghost use Rattle.shb_links.specs.Links.{Exactly, IsLocal, HasLocals, HasLinks};
 

@@ -9,7 +9,7 @@ use std::test::Fail;
 
 fn trace_of(rt: &HostRuntime, text: &[u8]) -> Result<Trace, Fail> {
     let mut source = Text::new(text, 4096, None);
-    let parsed = parse(rt.alloc(), rt, &mut source, &Limits::standard())?;
+    let parsed = parse(rt, rt.alloc(), &mut source, &Limits::standard())?;
     Ok(parsed.trace)
 }
 

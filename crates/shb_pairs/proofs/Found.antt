@@ -11,13 +11,13 @@ use Rattle.std.proofs.lemmas.Option.{slice_get_within}
 use Rattle.shb_lines.specs.declared.event.Event.{Event}
 use Rattle.shb_lines.specs.declared.event.Op.{Op}
 use Rattle.shb_lines.specs.declared.event.Op.TheVariants.{Read, Write}
-use Rattle.shb_lines.specs.Events.{op_at, variable_of}
-use Rattle.shb_lines.specs.Race.{variable_at}
-use Rattle.shb_lines.specs.Reach.{numbers_where, is_race}
-use Rattle.shb_lines.specs.Tests.{is_write}
-use Rattle.shb_lines.proofs.Events.{and_parts}
-use Rattle.shb_lines.proofs.Items.{op_item}
-use Rattle.shb_lines.proofs.Reach.{event_at_access, numbers_listed, reflect_race}
+use Rattle.shb_lines.specs.events.Events.{op_at, variable_of}
+use Rattle.shb_lines.specs.events.Race.{variable_at}
+use Rattle.shb_lines.specs.events.Reach.{numbers_where, is_race}
+use Rattle.shb_lines.specs.events.Tests.{is_write}
+use Rattle.shb_lines.proofs.events.Events.{and_parts}
+use Rattle.shb_lines.proofs.events.Items.{op_item}
+use Rattle.shb_lines.proofs.events.Reach.{event_at_access, numbers_listed, reflect_race}
 use Rattle.shb_pairs.specs.declared.accesses.Which.{Which}
 use Rattle.shb_pairs.specs.declared.accesses.Which.TheVariants.{Reads, Writes}
 use Rattle.shb_pairs.specs.Accesses.{accesses_at, is_selected, selected_at, occurs, IsByThread}

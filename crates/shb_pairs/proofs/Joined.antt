@@ -9,9 +9,9 @@ use Rattle.std.proofs.lemmas.Grind.{flat_map-append}
 use Rattle.std.proofs.lemmas.List.{append-nil, length-drop, take_all, take_min, map_more}
 use Rattle.shb_fan.specs.Values.{values_of}
 use Rattle.shb_lines.specs.declared.event.Event.{Event}
-use Rattle.shb_lines.specs.Race.{IsRaceList}
-use Rattle.shb_lines.specs.Reach.{numbers_where}
-use Rattle.shb_lines.specs.Sizes.{IsNumberedByAccess}
+use Rattle.shb_lines.specs.events.Race.{IsRaceList}
+use Rattle.shb_lines.specs.events.Reach.{numbers_where}
+use Rattle.shb_lines.specs.events.Sizes.{IsNumberedByAccess}
 use Rattle.shb_pairs.specs.declared.piece.Piece.{Piece}
 use Rattle.shb_pairs.specs.Accesses.{accesses_in, listed_accesses, variables_in}
 use Rattle.shb_pairs.specs.Listed.{AreOpen, Listed, is_open}

@@ -6,10 +6,10 @@ use Rattle.std.proofs.lemmas.List.Elements.{Contains-get_or}
 use Rattle.std.proofs.lemmas.List.Kept.{AllPairs-from_increasing}
 use Rattle.std.proofs.lemmas.Option.{slice_get_within}
 use Rattle.shb_lines.specs.declared.event.Event.{Event}
-use Rattle.shb_lines.specs.Race.{variable_at, Race, FirstAccess, KeyBefore, RaceBefore, IsRaceList}
-use Rattle.shb_lines.specs.Reach.{numbers_where, is_race}
-use Rattle.shb_lines.specs.Sizes.{IsNumberedByAccess}
-use Rattle.shb_lines.proofs.Reach.{numbers_listed, reflect_race, event_at_access}
+use Rattle.shb_lines.specs.events.Race.{variable_at, Race, FirstAccess, KeyBefore, RaceBefore, IsRaceList}
+use Rattle.shb_lines.specs.events.Reach.{numbers_where, is_race}
+use Rattle.shb_lines.specs.events.Sizes.{IsNumberedByAccess}
+use Rattle.shb_lines.proofs.events.Reach.{numbers_listed, reflect_race, event_at_access}
 use Rattle.shb_pairs.specs.Accesses.{accesses_at, accesses_in, variables_in}
 use Rattle.shb_pairs.specs.Races.{races_with}
 use Rattle.shb_pairs.proofs.Counting.{access_from_test, test_from_access, variable_within, lower_accessed}

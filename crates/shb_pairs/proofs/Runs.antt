@@ -7,9 +7,9 @@ use Rattle.std.proofs.lemmas.Grind.{flat_map-append}
 use Rattle.std.proofs.lemmas.List.{append-nil, append_assoc, length_push, get_or_append_left, get_or_push, take_at, take-append-le, take_more, map_push, length-drop, get_or-drop}
 use Rattle.std.proofs.lemmas.List.Elements.{All-append, All-push, All-nil, filter-append, filter_more, Contains-get_or}
 use Rattle.shb_lines.specs.declared.event.Event.{Event}
-use Rattle.shb_lines.specs.Race.{variable_at, Race}
-use Rattle.shb_lines.specs.Reach.{numbers_where, is_race}
-use Rattle.shb_lines.proofs.Reach.{numbers_listed, reflect_race}
+use Rattle.shb_lines.specs.events.Race.{variable_at, Race}
+use Rattle.shb_lines.specs.events.Reach.{numbers_where, is_race}
+use Rattle.shb_lines.proofs.events.Reach.{numbers_listed, reflect_race}
 use Rattle.shb_lines.specs.declared.event.Pair.{Pair}
 use Rattle.shb_pairs.specs.declared.piece.Piece.{Piece}
 use Rattle.shb_pairs.specs.Accesses.{accesses_at, accesses_in, listed_accesses, variables_in}

@@ -9,16 +9,16 @@ use Rattle.shb_lines.specs.declared.event.Event.{Event}
 use Rattle.shb_lines.specs.declared.event.Op.{Op}
 use Rattle.shb_lines.specs.declared.event.Op.TheVariants.{Read, Write}
 use Rattle.shb_lines.specs.declared.event.Sizes.{Sizes}
-use Rattle.shb_lines.specs.Discipline.{IsDisciplined, is_of}
-use Rattle.shb_lines.specs.Events.{op_at, variable_of}
-use Rattle.shb_lines.specs.Order.{BelowPred}
-use Rattle.shb_lines.specs.Race.{Race, variable_at}
-use Rattle.shb_lines.specs.Sizes.{IsOpWithin, IsWithin}
-use Rattle.shb_lines.proofs.Counts.{count_more_yes}
-use Rattle.shb_lines.proofs.Events.{event_of_thread, is_of_true}
-use Rattle.shb_lines.proofs.Prefix.{below_from_local}
-use Rattle.shb_lines.proofs.Reach.{event_at_access}
-use Rattle.shb_lines.proofs.Schedulable.{thread_below_pred}
+use Rattle.shb_lines.specs.events.Discipline.{IsDisciplined, is_of}
+use Rattle.shb_lines.specs.events.Events.{op_at, variable_of}
+use Rattle.shb_lines.specs.events.Order.{BelowPred}
+use Rattle.shb_lines.specs.events.Race.{Race, variable_at}
+use Rattle.shb_lines.specs.events.Sizes.{IsOpWithin, IsWithin}
+use Rattle.shb_lines.proofs.events.Counts.{count_more_yes}
+use Rattle.shb_lines.proofs.events.Events.{event_of_thread, is_of_true}
+use Rattle.shb_lines.proofs.events.Prefix.{below_from_local}
+use Rattle.shb_lines.proofs.events.Reach.{event_at_access}
+use Rattle.shb_lines.proofs.events.Schedulable.{thread_below_pred}
 use Rattle.shb_pairs.proofs.Counting.{variable_item}
 use Rattle.shb_pairs.specs.declared.screen.Latest.{Latest}
 use Rattle.shb_pairs.specs.declared.screen.Mark.{Mark}

@@ -7,16 +7,16 @@ use Rattle.std.proofs.lemmas.List.Elements.{filter-append}
 use Rattle.std.proofs.lemmas.List.Kept.{AllPairs-from_increasing}
 use Rattle.shb_lines.specs.declared.event.Event.{Event}
 use Rattle.shb_lines.specs.declared.event.Op.TheVariants.{Write}
-use Rattle.shb_lines.specs.Events.{op_at}
-use Rattle.shb_lines.specs.Discipline.{IsDisciplined}
-use Rattle.shb_lines.specs.Order.{BelowPred, IsPred, ShbBelow, by_fork, forked, happens_before, here, in_thread, same_thread, step}
-use Rattle.shb_lines.specs.Race.{Race, variable_at}
-use Rattle.shb_lines.specs.Reach.{is_race}
-use Rattle.shb_lines.specs.Tests.{is_write}
-use Rattle.shb_lines.proofs.Events.{fork_earlier}
-use Rattle.shb_lines.proofs.Items.{op_item}
-use Rattle.shb_lines.proofs.Reach.{numbers_listed}
-use Rattle.shb_lines.proofs.Schedulable.{below_pred_closed, thread_below_pred}
+use Rattle.shb_lines.specs.events.Events.{op_at}
+use Rattle.shb_lines.specs.events.Discipline.{IsDisciplined}
+use Rattle.shb_lines.specs.events.Order.{BelowPred, IsPred, ShbBelow, by_fork, forked, happens_before, here, in_thread, same_thread, step}
+use Rattle.shb_lines.specs.events.Race.{Race, variable_at}
+use Rattle.shb_lines.specs.events.Reach.{is_race}
+use Rattle.shb_lines.specs.events.Tests.{is_write}
+use Rattle.shb_lines.proofs.events.Events.{fork_earlier}
+use Rattle.shb_lines.proofs.events.Items.{op_item}
+use Rattle.shb_lines.proofs.events.Reach.{numbers_listed}
+use Rattle.shb_lines.proofs.events.Schedulable.{below_pred_closed, thread_below_pred}
 use Rattle.shb_pairs.specs.declared.buckets.Key.TheVariants.{Thread}
 use Rattle.shb_pairs.specs.Accesses.{accesses_at, accesses_in}
 use Rattle.shb_pairs.specs.Buckets.{key_at}

@@ -9,16 +9,16 @@ use Rattle.std.proofs.lemmas.List.Sorted.{IsPartitionedBy-ltb}
 use Rattle.std.proofs.lemmas.List.Elements.{All-drop, All-take, filter-append}
 use Rattle.shb_lines.specs.declared.event.Event.{Event}
 use Rattle.shb_lines.specs.declared.event.Op.TheVariants.{Read, Write}
-use Rattle.shb_lines.specs.Events.{op_at, thread_at}
-use Rattle.shb_lines.specs.Discipline.{is_of, place_in_thread}
-use Rattle.shb_lines.specs.Order.{IsBelowPredCount}
-use Rattle.shb_lines.specs.Race.{Conflict, Race, variable_at}
-use Rattle.shb_lines.specs.Reach.{is_race}
-use Rattle.shb_lines.proofs.Counts.{count_more_yes, count_mono}
-use Rattle.shb_lines.proofs.Events.{event_of_thread, is_of_true}
-use Rattle.shb_lines.proofs.Items.{thread_item}
-use Rattle.shb_lines.proofs.Prefix.{local_from_below, below_from_local}
-use Rattle.shb_lines.proofs.Reach.{reflect_race}
+use Rattle.shb_lines.specs.events.Events.{op_at, thread_at}
+use Rattle.shb_lines.specs.events.Discipline.{is_of, place_in_thread}
+use Rattle.shb_lines.specs.events.Order.{IsBelowPredCount}
+use Rattle.shb_lines.specs.events.Race.{Conflict, Race, variable_at}
+use Rattle.shb_lines.specs.events.Reach.{is_race}
+use Rattle.shb_lines.proofs.events.Counts.{count_more_yes, count_mono}
+use Rattle.shb_lines.proofs.events.Events.{event_of_thread, is_of_true}
+use Rattle.shb_lines.proofs.events.Items.{thread_item}
+use Rattle.shb_lines.proofs.events.Prefix.{local_from_below, below_from_local}
+use Rattle.shb_lines.proofs.events.Reach.{reflect_race}
 use Rattle.shb_pairs.specs.declared.buckets.Key.TheVariants.{Thread}
 use Rattle.shb_pairs.specs.Accesses.{IsBeforeByThread}
 use Rattle.shb_pairs.specs.Buckets.{key_at, key_of}

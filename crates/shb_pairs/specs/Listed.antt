@@ -1,7 +1,7 @@
 -- The variables of a trace whose accesses are listed.
 use Rattle.std.specs.Prelude.{◌≡◌, ℕ, Bool, true, false, List, Some, slice_index_or}
 use Rattle.shb_lines.specs.declared.event.Event.{Event}
-use Rattle.shb_lines.specs.Race.{Race, variable_at}
+use Rattle.shb_lines.specs.events.Race.{Race, variable_at}
 
 -- a trace, and a flag for each variable: the accesses of the open ones are listed
 pub record Listed : Type 0 where

@@ -1,7 +1,7 @@
 -- The races of a piece: those whose later access is in its run.
 use Rattle.std.specs.Prelude.{ℕ, List, map, flat_map, slice_index_or, slice_range}
 use Rattle.shb_lines.specs.declared.event.Event.{Event}
-use Rattle.shb_lines.specs.Reach.{numbers_where, is_race}
+use Rattle.shb_lines.specs.events.Reach.{numbers_where, is_race}
 use Rattle.shb_lines.specs.declared.event.Pair.{Pair}
 use Rattle.shb_pairs.specs.declared.piece.Piece.{Piece}
 use Rattle.shb_pairs.specs.Accesses.{accesses_in}

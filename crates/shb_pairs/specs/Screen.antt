@@ -2,10 +2,10 @@
 use Rattle.std.specs.Prelude.{◌≡◌, ◌≢◌, ℕ, ◌<◌, ◌≤◌, ◌⊎◌, List, Some, length, slice_index_or}
 use Rattle.shb_lines.specs.declared.event.Event.{Event}
 use Rattle.shb_lines.specs.declared.event.Op.TheVariants.{Write}
-use Rattle.shb_lines.specs.Discipline.{place_in_thread}
-use Rattle.shb_lines.specs.Events.{thread_at, op_at}
-use Rattle.shb_lines.specs.Order.{BelowPred, IsBelowPredCount}
-use Rattle.shb_lines.specs.Race.{Race, variable_at}
+use Rattle.shb_lines.specs.events.Discipline.{place_in_thread}
+use Rattle.shb_lines.specs.events.Events.{thread_at, op_at}
+use Rattle.shb_lines.specs.events.Order.{BelowPred, IsBelowPredCount}
+use Rattle.shb_lines.specs.events.Race.{Race, variable_at}
 use Rattle.shb_pairs.specs.declared.screen.Latest.{Latest}
 use Rattle.shb_pairs.specs.declared.screen.Mark.{Mark}
 

@@ -4,10 +4,10 @@
 ghost use Rattle.std.specs.Prelude.{◌≡◌, ◌<◌, ℕ, List, length};
 ghost use Rattle.shb_fan.specs.Values.{values_of};
 ghost use Rattle.shb_lines.specs.declared.event.Event.{Event};
-ghost use Rattle.shb_lines.specs.Discipline.{IsDisciplined};
-ghost use Rattle.shb_lines.specs.Race.{Conflict, IsRaceList, Race};
-ghost use Rattle.shb_lines.specs.Schedule.{IsPrintedSchedule, IsSchedule};
-ghost use Rattle.shb_lines.specs.Sizes.{IsNumberedByAccess};
+ghost use Rattle.shb_lines.specs.events.Discipline.{IsDisciplined};
+ghost use Rattle.shb_lines.specs.events.Race.{Conflict, IsRaceList, Race};
+ghost use Rattle.shb_lines.specs.events.Schedule.{IsPrintedSchedule, IsSchedule};
+ghost use Rattle.shb_lines.specs.events.Sizes.{IsNumberedByAccess};
 ghost use Rattle.shb_pairs.specs.Listed.{AreOpen, Listed};
 ghost use Rattle.shb_pairs.specs.Pieces.{pieces_in};
 ghost use Rattle.shb_pairs.specs.Races.{races_at, joined};

@@ -1,10 +1,10 @@
 //! The race test, over any order.
 
 ghost use Rattle.std.specs.Prelude.{◌≡◌, ◌<◌, ℕ, List, IsTrue, ◌↔◌, length};
-ghost use Rattle.shb_lines.specs.Order.{BelowPred};
-ghost use Rattle.shb_lines.specs.Race.{Conflict, Race};
-ghost use Rattle.shb_lines.specs.Schedule.{IsSchedule};
-ghost use Rattle.shb_lines.specs.Tests.{is_write as is_write_op};
+ghost use Rattle.shb_lines.specs.events.Order.{BelowPred};
+ghost use Rattle.shb_lines.specs.events.Race.{Conflict, Race};
+ghost use Rattle.shb_lines.specs.events.Schedule.{IsSchedule};
+ghost use Rattle.shb_lines.specs.events.Tests.{is_write as is_write_op};
 
 use shb_clocks::Order;
 use shb_discipline::Disciplined;

@@ -1,8 +1,8 @@
 //! The races with the accesses of one variable.
 
 ghost use Rattle.std.specs.Prelude.{◌≡◌, ◌++◌, ℕ, ◌+◌, ◌<◌, ◌≤◌, true, Some, All, IfOk, IfSome, IsTrue, ◌↔◌, flat_map, length, map, slice_index_or, slice_range};
-ghost use Rattle.shb_lines.specs.Order.{BelowPred};
-ghost use Rattle.shb_lines.specs.Race.{Race, variable_at};
+ghost use Rattle.shb_lines.specs.events.Order.{BelowPred};
+ghost use Rattle.shb_lines.specs.events.Race.{Race, variable_at};
 ghost use Rattle.shb_pairs.specs.Accesses.{accesses_in, variables_in};
 ghost use Rattle.shb_pairs.specs.Listed.{is_open};
 ghost use Rattle.shb_pairs.specs.Races.{ends, races_with};

@@ -1,10 +1,10 @@
 //! The accesses that race with a later one, found thread by thread.
 
 ghost use Rattle.std.specs.Prelude.{◌≡◌, ◌++◌, ℕ, ◌+◌, ◌<◌, ◌≤◌, true, Some, All, AllPairs, IfOk, length, slice_index_or};
-ghost use Rattle.shb_lines.specs.Discipline.{place_in_thread};
-ghost use Rattle.shb_lines.specs.Events.{thread_at};
-ghost use Rattle.shb_lines.specs.Race.{variable_at};
-ghost use Rattle.shb_lines.specs.Reach.{is_race, numbers_where};
+ghost use Rattle.shb_lines.specs.events.Discipline.{place_in_thread};
+ghost use Rattle.shb_lines.specs.events.Events.{thread_at};
+ghost use Rattle.shb_lines.specs.events.Race.{variable_at};
+ghost use Rattle.shb_lines.specs.events.Reach.{is_race, numbers_where};
 ghost use Rattle.shb_pairs.specs.Accesses.{IsBeforeByThread};
 ghost use Rattle.shb_pairs.specs.Buckets.{key_at};
 ghost use Rattle.shb_pairs.specs.Listed.{is_open};

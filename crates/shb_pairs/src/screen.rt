@@ -2,8 +2,8 @@
 
 ghost use Rattle.std.specs.Prelude.{◌≡◌, ◌≢◌, ◌==◌, ℕ, ◌+◌, ◌<◌, Some, IfOk, IsTrue, length, map};
 ghost use Rattle.shb_lines.specs.declared.event.Op.TheVariants.{Write};
-ghost use Rattle.shb_lines.specs.Events.{op_at};
-ghost use Rattle.shb_lines.specs.Race.{variable_at};
+ghost use Rattle.shb_lines.specs.events.Events.{op_at};
+ghost use Rattle.shb_lines.specs.events.Race.{variable_at};
 ghost use Rattle.shb_pairs.specs.Listed.{AreOpen};
 ghost use Rattle.shb_pairs.specs.Screen.{AreScreened, IsMarkOf, IsPast, IsScreened, no_place};
 

@@ -21,7 +21,7 @@ struct Found {
 
 fn parsed(rt: &HostRuntime, text: &[u8]) -> Result<Parsed, ReadError> {
     let mut source = Text::new(text, 4096, None);
-    parse(rt.alloc(), rt, &mut source, &Limits::standard())
+    parse(rt, rt.alloc(), &mut source, &Limits::standard())
 }
 
 /// Which variables of a trace are open.

@@ -7,10 +7,10 @@ use Rattle.std.proofs.lemmas.Option.{slice_get_cases}
 use Rattle.shb_lines.specs.declared.event.Event.{Event}
 use Rattle.shb_lines.specs.declared.event.Op.{Op}
 use Rattle.shb_lines.specs.declared.event.Op.TheVariants.{Acquire, Release}
-use Rattle.shb_lines.specs.Discipline.{IsDisciplined, MayCome, MayDo, acquires, releases, other_than, only, is_acquire, is_release, op_is_acquire, op_is_release}
-use Rattle.shb_lines.proofs.Counts.{count_more_yes, count_more_no, count_mono, count_gap, take_more_past}
-use Rattle.shb_lines.proofs.Listed.{Decided, some_below}
-use Rattle.shb_lines.proofs.Locks.{DisciplinedBelow}
+use Rattle.shb_lines.specs.events.Discipline.{IsDisciplined, MayCome, MayDo, acquires, releases, other_than, only, is_acquire, is_release, op_is_acquire, op_is_release}
+use Rattle.shb_lines.proofs.events.Counts.{count_more_yes, count_more_no, count_mono, count_gap, take_more_past}
+use Rattle.shb_lines.proofs.events.Listed.{Decided, some_below}
+use Rattle.shb_lines.proofs.events.Locks.{DisciplinedBelow}
 
 -- every set of threads acquired the lock as often as it released it, and depth times more where the holder is of the set
 pub record HasHolder (past : List Event) (l : ℕ) : Type 0 where

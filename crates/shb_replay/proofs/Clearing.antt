@@ -7,7 +7,7 @@ use Rattle.std.proofs.lemmas.Bool.{cases_eq, cases_lt}
 use Rattle.shb_lines.specs.declared.event.Event.{Event}
 use Rattle.shb_lines.specs.declared.event.Sizes.{Sizes}
 use Rattle.shb_lines.specs.declared.event.Op.TheVariants.{Write, Join}
-use Rattle.shb_lines.specs.Events.{op_at}
+use Rattle.shb_lines.specs.events.Events.{op_at}
 use Rattle.shb_discipline.proofs.Steps.{set_cases}
 use Rattle.shb_links.specs.Links.{Exactly}
 use Rattle.shb_replay.specs.declared.walked.Walked.{Walked}

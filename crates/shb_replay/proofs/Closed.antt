@@ -4,10 +4,10 @@ use Rattle.std.specs.Prelude.{slice_get}
 use Rattle.std.proofs.lemmas.Bool.{cases_lt, cases_order}
 use Rattle.shb_lines.specs.declared.event.Event.{Event}
 use Rattle.shb_lines.specs.declared.event.Op.TheVariants.{Acquire, Release, Fork, Join}
-use Rattle.shb_lines.specs.Events.{thread_at, op_at}
-use Rattle.shb_lines.specs.Order.{HbEdge, HbRule, same_thread, lock_passed, forked, joined, here, step, HbBelow}
-use Rattle.shb_lines.specs.Reach.{of_thread}
-use Rattle.shb_lines.proofs.Search.{IsLatest, latest_below, of_thread_true, of_thread_at, of_thread_false}
+use Rattle.shb_lines.specs.events.Events.{thread_at, op_at}
+use Rattle.shb_lines.specs.events.Order.{HbEdge, HbRule, same_thread, lock_passed, forked, joined, here, step, HbBelow}
+use Rattle.shb_lines.specs.events.Reach.{of_thread}
+use Rattle.shb_lines.proofs.events.Search.{IsLatest, latest_below, of_thread_true, of_thread_at, of_thread_false}
 use Rattle.shb_replay.specs.declared.broken.Why.TheVariants as whys
 use Rattle.shb_replay.specs.Reasons.{StandsEarlier, IsBeforeInThread, IsForkOfFirst, IsUnbroken}
 use Rattle.shb_replay.proofs.Standing.{widen, decide_stands}

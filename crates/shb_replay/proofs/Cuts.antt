@@ -4,11 +4,11 @@ use Rattle.std.specs.Prelude.{slice_get, count_by, Contains}
 use Rattle.std.proofs.lemmas.Bool.{cases_Bool, cases_eq, cases_lt, cases_order}
 use Rattle.std.proofs.lemmas.Option.{slice_get_cases, slice_get_within, slice_get-get_or}
 use Rattle.shb_lines.specs.declared.event.Event.{Event}
-use Rattle.shb_lines.specs.Events.{thread_at, events_at}
-use Rattle.shb_lines.proofs.Counts.{count_more_yes, count_more_no, count_gap}
-use Rattle.shb_lines.proofs.Events.{thread_is}
-use Rattle.shb_lines.proofs.Places.{place_of}
-use Rattle.shb_lines.proofs.Reordered.{event_at_place, length_events}
+use Rattle.shb_lines.specs.events.Events.{thread_at, events_at}
+use Rattle.shb_lines.proofs.events.Counts.{count_more_yes, count_more_no, count_gap}
+use Rattle.shb_lines.proofs.events.Events.{thread_is}
+use Rattle.shb_lines.proofs.events.Places.{place_of}
+use Rattle.shb_lines.proofs.events.Reordered.{event_at_place, length_events}
 use Rattle.shb_replay.specs.Reasons.{StandsEarlier, IsUnbroken}
 use Rattle.shb_replay.proofs.Standing.{widen, stands_next, stands_here}
 use Rattle.shb_replay.proofs.Closed.{in_trace, once, thread_stands}

@@ -6,12 +6,12 @@ use Rattle.std.proofs.lemmas.Option.{slice_get_within}
 use Rattle.shb_lines.specs.declared.event.Event.{Event}
 use Rattle.shb_lines.specs.declared.event.Op.{Op}
 use Rattle.shb_lines.specs.declared.event.Op.TheVariants.{Acquire, Release, Fork, Join}
-use Rattle.shb_lines.specs.Events.{thread_at, op_at, events_at}
-use Rattle.shb_lines.specs.Discipline.{IsDisciplined, MayCome, MayDo, MayFork, acquires, releases, other_than, only, is_acquire, is_release, is_of, is_fork, is_join, op_is_acquire, op_is_release, op_is_fork, op_is_join}
-use Rattle.shb_lines.proofs.Counts.{count_mono, counted_before}
-use Rattle.shb_lines.proofs.Events.{thread_is, op_is, event_of_op, fork_allowed, is_fork_true, is_acquire_parts, is_release_parts}
-use Rattle.shb_lines.proofs.Locks.{DisciplinedBelow, releases_le}
-use Rattle.shb_lines.proofs.Prefix.{is_of_thread}
+use Rattle.shb_lines.specs.events.Events.{thread_at, op_at, events_at}
+use Rattle.shb_lines.specs.events.Discipline.{IsDisciplined, MayCome, MayDo, MayFork, acquires, releases, other_than, only, is_acquire, is_release, is_of, is_fork, is_join, op_is_acquire, op_is_release, op_is_fork, op_is_join}
+use Rattle.shb_lines.proofs.events.Counts.{count_mono, counted_before}
+use Rattle.shb_lines.proofs.events.Events.{thread_is, op_is, event_of_op, fork_allowed, is_fork_true, is_acquire_parts, is_release_parts}
+use Rattle.shb_lines.proofs.events.Locks.{DisciplinedBelow, releases_le}
+use Rattle.shb_lines.proofs.events.Prefix.{is_of_thread}
 use Rattle.shb_replay.specs.declared.broken.Why.TheVariants as whys
 use Rattle.shb_replay.specs.Reasons.{StandsEarlier, IsUnbroken}
 use Rattle.shb_replay.proofs.Standing.{widen}

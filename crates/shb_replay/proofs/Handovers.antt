@@ -6,9 +6,9 @@ use Rattle.std.proofs.lemmas.List.{get_or_push, length_push}
 use Rattle.shb_lines.specs.declared.event.Event.{Event}
 use Rattle.shb_lines.specs.declared.event.Sizes.{Sizes}
 use Rattle.shb_lines.specs.declared.event.Op.TheVariants.{Acquire, Release}
-use Rattle.shb_lines.specs.Events.{op_at}
-use Rattle.shb_lines.specs.Sizes.{IsWithin}
-use Rattle.shb_lines.proofs.Items.{op_item}
+use Rattle.shb_lines.specs.events.Events.{op_at}
+use Rattle.shb_lines.specs.events.Sizes.{IsWithin}
+use Rattle.shb_lines.proofs.events.Items.{op_item}
 use Rattle.shb_links.specs.Latest.{Latest, IsLatestTable}
 use Rattle.shb_links.proofs.Tables.{table_mark, table_skip, op_within, op_other}
 use Rattle.shb_replay.specs.Walks.{ReleasesLock, HasHandovers}

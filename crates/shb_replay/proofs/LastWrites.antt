@@ -4,13 +4,13 @@ use Rattle.std.specs.Prelude.{slice_get, ◌↔◌}
 use Rattle.std.proofs.lemmas.Bool.{cases_eq, cases_order}
 use Rattle.shb_lines.specs.declared.event.Event.{Event}
 use Rattle.shb_lines.specs.declared.event.Op.TheVariants.{Read, Write}
-use Rattle.shb_lines.specs.Events.{op_at}
-use Rattle.shb_lines.specs.Order.{LastWrite}
-use Rattle.shb_lines.specs.Reach.{writes_at}
-use Rattle.shb_lines.specs.Schedule.{StandsBefore, LastWriteIn}
-use Rattle.shb_lines.proofs.Decide.{find_last_write, last_write_unique}
-use Rattle.shb_lines.proofs.Listed.{Decided}
-use Rattle.shb_lines.proofs.Search.{IsLatest, latest_below, writes_at_true, writes_at_is}
+use Rattle.shb_lines.specs.events.Events.{op_at}
+use Rattle.shb_lines.specs.events.Order.{LastWrite}
+use Rattle.shb_lines.specs.events.Reach.{writes_at}
+use Rattle.shb_lines.specs.events.Schedule.{StandsBefore, LastWriteIn}
+use Rattle.shb_lines.proofs.events.Decide.{find_last_write, last_write_unique}
+use Rattle.shb_lines.proofs.events.Listed.{Decided}
+use Rattle.shb_lines.proofs.events.Search.{IsLatest, latest_below, writes_at_true, writes_at_is}
 use Rattle.shb_links.specs.Links.{Exactly}
 use Rattle.shb_replay.specs.Reasons.{IsLatestWrite}
 use Rattle.shb_replay.proofs.Standing.{one_value, same_place}

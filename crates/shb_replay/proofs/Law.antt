@@ -4,14 +4,14 @@ use Rattle.std.specs.Prelude.{slice_get, Contains, ◌↔◌}
 use Rattle.std.proofs.lemmas.Option.{slice_get_within}
 use Rattle.shb_lines.specs.declared.event.Event.{Event}
 use Rattle.shb_lines.specs.declared.event.Op.TheVariants.{Read, Fork, Join}
-use Rattle.shb_lines.specs.Events.{op_at, events_at}
-use Rattle.shb_lines.specs.Discipline.{IsDisciplined, is_join}
-use Rattle.shb_lines.specs.Order.{LastWrite, lock_passed, here, step}
-use Rattle.shb_lines.specs.Schedule.{StandsBefore, LastWriteIn, IsCorrectReordering, KeepsHb, IsNext, IsSchedule}
-use Rattle.shb_lines.proofs.Counts.{counted_before}
-use Rattle.shb_lines.proofs.Events.{op_is, fork_allowed, is_join_true}
-use Rattle.shb_lines.proofs.Places.{place_of, contains_at}
-use Rattle.shb_lines.proofs.Reordered.{event_at_place}
+use Rattle.shb_lines.specs.events.Events.{op_at, events_at}
+use Rattle.shb_lines.specs.events.Discipline.{IsDisciplined, is_join}
+use Rattle.shb_lines.specs.events.Order.{LastWrite, lock_passed, here, step}
+use Rattle.shb_lines.specs.events.Schedule.{StandsBefore, LastWriteIn, IsCorrectReordering, KeepsHb, IsNext, IsSchedule}
+use Rattle.shb_lines.proofs.events.Counts.{counted_before}
+use Rattle.shb_lines.proofs.events.Events.{op_is, fork_allowed, is_join_true}
+use Rattle.shb_lines.proofs.events.Places.{place_of, contains_at}
+use Rattle.shb_lines.proofs.events.Reordered.{event_at_place}
 use Rattle.shb_replay.specs.declared.broken.Why.TheVariants as whys
 use Rattle.shb_replay.specs.Reasons.{StandsEarlier, ForksAfterJoin, IsLatestWrite, IsUnbroken}
 use Rattle.shb_replay.proofs.Standing.{stands_before, before_stands_earlier}

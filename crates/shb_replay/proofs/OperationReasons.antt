@@ -9,11 +9,11 @@ use Rattle.std.proofs.lemmas.Option.{slice_get_within}
 use Rattle.shb_lines.specs.declared.event.Event.{Event}
 use Rattle.shb_lines.specs.declared.event.Op.{Op}
 use Rattle.shb_lines.specs.declared.event.Op.TheVariants.{Read, Acquire, Release, Fork, Join}
-use Rattle.shb_lines.specs.Events.{thread_at, op_at}
-use Rattle.shb_lines.specs.Discipline.{IsDisciplined, MayDo, acquires, releases, only, is_acquire, is_release}
-use Rattle.shb_lines.specs.Order.{LastWrite}
-use Rattle.shb_lines.proofs.Counts.{count_mono}
-use Rattle.shb_lines.proofs.Events.{thread_is, op_is, event_of_thread, event_of_op, is_acquire_parts}
+use Rattle.shb_lines.specs.events.Events.{thread_at, op_at}
+use Rattle.shb_lines.specs.events.Discipline.{IsDisciplined, MayDo, acquires, releases, only, is_acquire, is_release}
+use Rattle.shb_lines.specs.events.Order.{LastWrite}
+use Rattle.shb_lines.proofs.events.Counts.{count_mono}
+use Rattle.shb_lines.proofs.events.Events.{thread_is, op_is, event_of_thread, event_of_op, is_acquire_parts}
 use Rattle.shb_links.specs.Latest.{Latest, IsLatestTable, OfThread}
 use Rattle.shb_links.specs.Links.{Exactly}
 use Rattle.shb_replay.specs.declared.broken.Why.{Why}

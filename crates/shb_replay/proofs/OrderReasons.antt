@@ -5,14 +5,14 @@ use Rattle.std.proofs.lemmas.Bool.{cases_order}
 use Rattle.std.proofs.lemmas.Option.{get_or_from_slice_get}
 use Rattle.shb_lines.specs.declared.event.Event.{Event}
 use Rattle.shb_lines.specs.declared.event.Op.TheVariants.{Fork}
-use Rattle.shb_lines.specs.Events.{thread_at, op_at}
-use Rattle.shb_lines.specs.Discipline.{IsDisciplined}
-use Rattle.shb_lines.specs.Order.{IsPred, in_thread, by_fork, BelowPred, here}
-use Rattle.shb_lines.specs.Schedule.{IsNext}
-use Rattle.shb_lines.proofs.Decide.{pred_unique}
-use Rattle.shb_lines.proofs.Events.{thread_is, event_of_op, fork_allowed}
-use Rattle.shb_lines.proofs.Schedulable.{below_pred_in_range, thread_below_pred, fork_below_pred}
-use Rattle.shb_lines.proofs.Items.{thread_item}
+use Rattle.shb_lines.specs.events.Events.{thread_at, op_at}
+use Rattle.shb_lines.specs.events.Discipline.{IsDisciplined}
+use Rattle.shb_lines.specs.events.Order.{IsPred, in_thread, by_fork, BelowPred, here}
+use Rattle.shb_lines.specs.events.Schedule.{IsNext}
+use Rattle.shb_lines.proofs.events.Decide.{pred_unique}
+use Rattle.shb_lines.proofs.events.Events.{thread_is, event_of_op, fork_allowed}
+use Rattle.shb_lines.proofs.events.Schedulable.{below_pred_in_range, thread_below_pred, fork_below_pred}
+use Rattle.shb_lines.proofs.events.Items.{thread_item}
 use Rattle.shb_links.specs.Links.{Exactly}
 use Rattle.shb_replay.specs.declared.broken.Why.{Why}
 use Rattle.shb_replay.specs.declared.broken.Why.TheVariants as whys

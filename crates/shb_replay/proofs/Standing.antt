@@ -3,9 +3,9 @@ use Rattle.std.proofs.Common.{◌≡◌, ℕ, ◌+◌, ◌<◌, ◌≤◌, ◌�
 use Rattle.std.specs.Prelude.{slice_get, Contains}
 use Rattle.std.proofs.lemmas.Bool.{cases_eq, cases_order}
 use Rattle.std.proofs.lemmas.Option.{slice_get_within, slice_get_cases}
-use Rattle.shb_lines.specs.Schedule.{StandsBefore}
-use Rattle.shb_lines.proofs.Listed.{Decided, some_below}
-use Rattle.shb_lines.proofs.Places.{place_of, contains_at}
+use Rattle.shb_lines.specs.events.Schedule.{StandsBefore}
+use Rattle.shb_lines.proofs.events.Listed.{Decided, some_below}
+use Rattle.shb_lines.proofs.events.Places.{place_of, contains_at}
 use Rattle.shb_replay.specs.Reasons.{StandsEarlier}
 
 -- two values at one place are one

@@ -2,9 +2,9 @@
 use Rattle.std.specs.Prelude.{◌≡◌, ◌≢◌, ℕ, ◌<◌, ◌≤◌, ◌⊎◌, ◌↔◌, List, Option, Some, None, slice_get, length}
 use Rattle.shb_lines.specs.declared.event.Event.{Event}
 use Rattle.shb_lines.specs.declared.event.Op.TheVariants.{Read, Write, Acquire, Release, Fork, Join}
-use Rattle.shb_lines.specs.Events.{thread_at, op_at}
-use Rattle.shb_lines.specs.Order.{LastWrite}
-use Rattle.shb_lines.specs.Schedule.{IsNext}
+use Rattle.shb_lines.specs.events.Events.{thread_at, op_at}
+use Rattle.shb_lines.specs.events.Order.{LastWrite}
+use Rattle.shb_lines.specs.events.Schedule.{IsNext}
 use Rattle.shb_replay.specs.declared.broken.Why.{Why}
 use Rattle.shb_replay.specs.declared.broken.Why.TheVariants as whys
 

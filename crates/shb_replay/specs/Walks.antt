@@ -3,8 +3,8 @@ use Rattle.std.specs.Prelude.{◌≡◌, ℕ, ◌<◌, ◌≤◌, Bool, true, fa
 use Rattle.shb_lines.specs.declared.event.Event.{Event}
 use Rattle.shb_lines.specs.declared.event.Sizes.{Sizes}
 use Rattle.shb_lines.specs.declared.event.Op.TheVariants.{Write, Acquire, Release, Join}
-use Rattle.shb_lines.specs.Events.{op_at}
-use Rattle.shb_lines.specs.Schedule.{IsNext}
+use Rattle.shb_lines.specs.events.Events.{op_at}
+use Rattle.shb_lines.specs.events.Schedule.{IsNext}
 use Rattle.shb_links.specs.Latest.{Latest, IsLatestTable, OfThread}
 use Rattle.shb_links.specs.Links.{Exactly}
 use Rattle.shb_replay.specs.declared.demands.Demands.{Demands}

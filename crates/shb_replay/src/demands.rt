@@ -1,9 +1,9 @@
 //! What the trace asks of an event beyond its links.
 
 ghost use Rattle.std.specs.Prelude.{◌≡◌, ◌+◌, ◌<◌, ◌≤◌, IfOk, Some, None, length, ℕ};
-ghost use Rattle.shb_lines.specs.Discipline.{IsDisciplined};
-ghost use Rattle.shb_lines.specs.Events.{op_at};
-ghost use Rattle.shb_lines.specs.Sizes.{IsWithin};
+ghost use Rattle.shb_lines.specs.events.Discipline.{IsDisciplined};
+ghost use Rattle.shb_lines.specs.events.Events.{op_at};
+ghost use Rattle.shb_lines.specs.events.Sizes.{IsWithin};
 ghost use Rattle.shb_lines.specs.declared.event.Op.TheVariants.{Acquire};
 ghost use Rattle.shb_links.specs.Latest.{IsLatestTable, Latest, OfThread};
 ghost use Rattle.shb_replay.specs.Walks.{HasDemands, HasHandovers, ReleasesLock};

@@ -2,7 +2,7 @@
 
 ghost use Rattle.std.specs.Prelude.{◌≡◌, ◌<◌, ◌↔◌, ℕ, List, IfOk, IfSome, None, length};
 ghost use Rattle.shb_lines.specs.declared.event.Event.{Event};
-ghost use Rattle.shb_lines.specs.Schedule.{IsSchedule};
+ghost use Rattle.shb_lines.specs.events.Schedule.{IsSchedule};
 ghost use Rattle.shb_replay.specs.Reasons.{IsBroken};
 ghost use Rattle.shb_replay.specs.Walks.{HasDemands, IsAnswer, IsBlank, IsWalked, walked_to};
 

@@ -2,8 +2,8 @@
 
 ghost use Rattle.std.specs.Prelude.{◌≡◌, ◌↔◌, ℕ, List, length};
 ghost use Rattle.shb_lines.specs.declared.event.Event.{Event};
-ghost use Rattle.shb_lines.specs.Discipline.{IsDisciplined};
-ghost use Rattle.shb_lines.specs.Schedule.{IsCorrectReordering, KeepsHb};
+ghost use Rattle.shb_lines.specs.events.Discipline.{IsDisciplined};
+ghost use Rattle.shb_lines.specs.events.Schedule.{IsCorrectReordering, KeepsHb};
 ghost use Rattle.shb_replay.specs.Reasons.{IsBroken, IsUnbroken};
 ghost use Rattle.shb_replay.specs.declared.broken.Why.{Why};
 

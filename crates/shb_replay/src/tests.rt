@@ -17,7 +17,7 @@ fn answer(
     list: &[u32],
 ) -> Result<Option<Option<Broken>>, Fail> {
     let mut source = Text::new(text, 4096, None);
-    let parsed = parse(rt.alloc(), rt, &mut source, &Limits::standard())?;
+    let parsed = parse(rt, rt.alloc(), &mut source, &Limits::standard())?;
     let trace = check(rt.alloc(), &parsed.trace)?;
     let links = links_of(rt.alloc(), &trace)?;
     let events = trace.events.len();
@@ -157,7 +157,7 @@ fn answers(judge: &mut Judge<'_>, pair: Pair) -> [Option<Broken>; 5]
 #[test]
 fn one_judge_of_many_lists(rt: HostRuntime) -> Result<(), Fail> {
     let mut source = Text::new(PASSED, 4096, None);
-    let parsed = parse(rt.alloc(), &rt, &mut source, &Limits::standard())?;
+    let parsed = parse(&rt, rt.alloc(), &mut source, &Limits::standard())?;
     let trace = check(rt.alloc(), &parsed.trace)?;
     let links = links_of(rt.alloc(), &trace)?;
     let mut judge = Judge::new(rt.alloc(), &trace, &links)?;

@@ -1,7 +1,7 @@
 //! What stands at the places of a list that were walked, and whether an event may stand at the next.
 
 ghost use Rattle.std.specs.Prelude.{◌≡◌, ◌+◌, ◌<◌, ◌≤◌, ℕ, List, IfOk, IfSome, Some, length, slice_get, vec_len, false, replicate};
-ghost use Rattle.shb_lines.specs.Schedule.{IsNext};
+ghost use Rattle.shb_lines.specs.events.Schedule.{IsNext};
 ghost use Rattle.shb_replay.specs.Reasons.{HasReason, IsLowest, IsUnbroken, StandsEarlier};
 ghost use Rattle.shb_replay.specs.Walks.{AreFlags, HasDemands, IsBlank, IsLeft, IsLowestIn, IsWalked, Tells, TellsLack};
 

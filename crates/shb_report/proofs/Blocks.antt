@@ -4,11 +4,11 @@ use Rattle.std.specs.Prelude.{All}
 use Rattle.std.proofs.lemmas.List.{take_more}
 use Rattle.std.proofs.lemmas.List.Elements.{All-nil, All-cons, All-head, All-tail, All-push}
 use Rattle.shb_lines.specs.declared.event.Event.{Event}
-use Rattle.shb_lines.specs.Discipline.{IsDisciplined}
-use Rattle.shb_lines.specs.Race.{IsRaceList}
-use Rattle.shb_lines.specs.Schedule.{IsPrintedSchedule}
-use Rattle.shb_lines.specs.TraceData.{TraceData}
-use Rattle.shb_lines.proofs.Decide.{printed_exists}
+use Rattle.shb_lines.specs.events.Discipline.{IsDisciplined}
+use Rattle.shb_lines.specs.events.Race.{IsRaceList}
+use Rattle.shb_lines.specs.events.Schedule.{IsPrintedSchedule}
+use Rattle.shb_lines.specs.text.TraceData.{TraceData}
+use Rattle.shb_lines.proofs.events.Decide.{printed_exists}
 use Rattle.shb_report.specs.Report.{AreBlocks, HasSchedule, IsReport, ShownRace, block_bytes, blocks_from, counts_of, head_bytes, tail_bytes}
 use Rattle.shb_report.proofs.Increasing.{increasing_unique}
 

@@ -3,8 +3,8 @@ use Rattle.std.proofs.Common.{◌≡◌, ℕ, ◌+◌, ◌<◌, Bool, List, [], 
 use Rattle.std.specs.Io.KnownBytes.{Appends}
 use Rattle.shb_io.specs.Devices.{AppendsPrefix}
 use Rattle.shb_io.proofs.Growth.{AppendsPrefix-after, AppendsPrefix-front, AppendsPrefix-whole}
-use Rattle.shb_lines.specs.Race.{IsRaceList}
-use Rattle.shb_lines.specs.TraceData.{TraceData}
+use Rattle.shb_lines.specs.events.Race.{IsRaceList}
+use Rattle.shb_lines.specs.text.TraceData.{TraceData}
 use Rattle.shb_report.specs.Report.{AreBlocks, HasSchedule, IsReport, block_bytes, counts_of, head_bytes, tail_bytes}
 use Rattle.shb_report.proofs.Blocks.{AreBlocks-next, AreBlocks-none, HasOneRaceList, IsReport-front, IsReport-unique}
 

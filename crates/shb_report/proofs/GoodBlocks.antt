@@ -7,11 +7,11 @@ use Rattle.std.proofs.lemmas.Option.{get_or_from_slice_get, slice_get_within}
 use Rattle.std.proofs.Math.Nat.{min-eq_left, min-le_right}
 use Rattle.shb_lines.specs.declared.event.Event.{Event}
 use Rattle.shb_lines.specs.declared.event.Pair.{Pair}
-use Rattle.shb_lines.specs.Discipline.{IsDisciplined}
-use Rattle.shb_lines.specs.Race.{Conflict}
-use Rattle.shb_lines.specs.Schedule.{IsSchedule}
-use Rattle.shb_lines.specs.TraceData.{TraceData}
-use Rattle.shb_lines.proofs.Places.{contains_at}
+use Rattle.shb_lines.specs.events.Discipline.{IsDisciplined}
+use Rattle.shb_lines.specs.events.Race.{Conflict}
+use Rattle.shb_lines.specs.events.Schedule.{IsSchedule}
+use Rattle.shb_lines.specs.text.TraceData.{TraceData}
+use Rattle.shb_lines.proofs.events.Places.{contains_at}
 use Rattle.shb_replay.proofs.Lowest.{answer_none}
 use Rattle.shb_replay.specs.declared.broken.Broken.{Broken}
 use Rattle.shb_report.specs.declared.verdict.RaceFault.{RaceFault}
@@ -71,7 +71,7 @@ good_by trace block events s pair events_are s_is pair_is good schedule =
     let of_trace = subst (λ (ev : List Event). IsSchedule ev s pair.first pair.second) events_are schedule in
     let of_list = subst (λ (l : List ℕ). IsSchedule trace.events l pair.first pair.second) s_is of_trace in
     let of_pair : IsSchedule trace.events (positions_of trace block.schedule) (block.first - 1) (block.second - 1)
-            = subst (λ (p : Pair). IsSchedule trace.events (positions_of trace block.schedule) p.first p.second) pair_is of_list in
+    = subst (λ (p : Pair). IsSchedule trace.events (positions_of trace block.schedule) p.first p.second) pair_is of_list in
     let counts = good.first_counts in
     let before = good.earlier in
     let within = good.in_range in

@@ -5,7 +5,7 @@ use Rattle.std.specs.Prelude.{slice_get, ◌↔◌, IsTrue}
 use Rattle.std.proofs.lemmas.List.{map_push, take_more, take-map}
 use Rattle.std.proofs.lemmas.Option.{slice_get-get_or}
 use Rattle.shb_lines.specs.declared.event.Pair.{Pair}
-use Rattle.shb_lines.specs.TraceData.{TraceData}
+use Rattle.shb_lines.specs.text.TraceData.{TraceData}
 use Rattle.shb_report.specs.declared.places.PlaceCount.{PlaceCount}
 use Rattle.shb_report.specs.Places.{IsPairOf, shown_place, shown_places}
 use Rattle.shb_report.specs.Value.{Block, Place}

@@ -3,8 +3,8 @@ use Rattle.std.proofs.Common.{◌≡◌, ℕ, zero, suc, ◌+◌, ◌-◌, ◌<�
 use Rattle.std.specs.Prelude.{slice_get, ◌↔◌}
 use Rattle.std.proofs.lemmas.Bool.{cases_lt}
 use Rattle.shb_lines.specs.declared.event.Event.{Event}
-use Rattle.shb_lines.specs.Discipline.{IsDisciplined}
-use Rattle.shb_lines.specs.TraceData.{TraceData}
+use Rattle.shb_lines.specs.events.Discipline.{IsDisciplined}
+use Rattle.shb_lines.specs.text.TraceData.{TraceData}
 use Rattle.shb_replay.proofs.OneAnswer.{one_answer}
 use Rattle.shb_replay.specs.declared.broken.Why.{Why}
 use Rattle.shb_report.specs.declared.verdict.RaceFault.{RaceFault}

@@ -4,9 +4,9 @@ use Rattle.std.specs.Fmt.{decimal}
 use Rattle.std.specs.Prelude.{All, IsSomeAnd}
 use Rattle.std.proofs.lemmas.List.{length-map}
 use Rattle.std.proofs.lemmas.List.Elements.{All-head, All-tail}
-use Rattle.shb_lines.specs.TraceData.{TraceData}
-use Rattle.shb_lines.specs.Race.{IsRaceList}
-use Rattle.shb_lines.specs.Schedule.{IsPrintedSchedule}
+use Rattle.shb_lines.specs.text.TraceData.{TraceData}
+use Rattle.shb_lines.specs.events.Race.{IsRaceList}
+use Rattle.shb_lines.specs.events.Schedule.{IsPrintedSchedule}
 use Rattle.shb_report.specs.Report.{HasSchedule, IsReport, ShownRace, block_bytes, blocks_from, counts_of, event_numbers, head_bytes, line_at, schedule_line, tail_bytes}
 use Rattle.shb_report.specs.Value.{Block, block_lines, counts_line, lines_text, listed, race_numbers_line, races_line, report_text}
 use Rattle.shb_report.specs.Written.{block_of, written_report}

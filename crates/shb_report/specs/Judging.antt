@@ -1,8 +1,8 @@
 -- What the parts of a judgement find.
 use Rattle.std.specs.Prelude.{◌≡◌, ℕ, ◌-◌, ◌<◌, ◌≤◌, List, length, Option, Some, None}
 use Rattle.std.specs.List.{AllByRecursion}
-use Rattle.shb_lines.specs.Race.{Conflict}
-use Rattle.shb_lines.specs.TraceData.{TraceData}
+use Rattle.shb_lines.specs.events.Race.{Conflict}
+use Rattle.shb_lines.specs.text.TraceData.{TraceData}
 use Rattle.shb_report.specs.declared.checking.BadBlock.{BadBlock}
 use Rattle.shb_report.specs.declared.listed.Listed.{Listed}
 use Rattle.shb_report.specs.declared.verdict.RaceFault.{RaceFault}

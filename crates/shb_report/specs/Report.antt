@@ -1,9 +1,9 @@
 -- The bytes of a report in version 1, and which bytes are the report of a trace or of a text.
 use Rattle.std.specs.Prelude.{◌≡◌, ℕ, ◌+◌, Bool, MatchBool, List, [], ◌∷◌, ◌++◌, length, map, flat_map, All, slice_get, codes, decimal, Option, None, Some, IsSomeAnd, unwrap_or}
-use Rattle.shb_lines.specs.Race.{IsRaceList}
-use Rattle.shb_lines.specs.Schedule.{IsPrintedSchedule}
-use Rattle.shb_lines.specs.Text.{lines_of}
-use Rattle.shb_lines.specs.TraceData.{IsTraceOf, TraceData}
+use Rattle.shb_lines.specs.events.Race.{IsRaceList}
+use Rattle.shb_lines.specs.events.Schedule.{IsPrintedSchedule}
+use Rattle.shb_lines.specs.text.Text.{lines_of}
+use Rattle.shb_lines.specs.text.TraceData.{IsTraceOf, TraceData}
 use Rattle.shb_report.specs.declared.writer.Counts.{Counts}
 
 -- a label, a text and a line feed

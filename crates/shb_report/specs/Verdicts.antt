@@ -2,9 +2,9 @@
 use Rattle.std.specs.Prelude.{◌≡◌, ◌≢◌, ℕ, zero, suc, ◌+◌, ◌-◌, ◌<◌, ◌≤◌, ◌⊎◌, List, ◌++◌, codes, decimal, length, map, take, slice_get, Option, Some, None, IfSome, min}
 use Rattle.std.specs.List.{AllByRecursion}
 use Rattle.shb_lines.specs.declared.event.Pair.{Pair}
-use Rattle.shb_lines.specs.Race.{Conflict}
-use Rattle.shb_lines.specs.Schedule.{IsSchedule}
-use Rattle.shb_lines.specs.TraceData.{TraceData}
+use Rattle.shb_lines.specs.events.Race.{Conflict}
+use Rattle.shb_lines.specs.events.Schedule.{IsSchedule}
+use Rattle.shb_lines.specs.text.TraceData.{TraceData}
 use Rattle.shb_replay.specs.Reasons.{IsBroken}
 use Rattle.shb_report.specs.declared.verdict.RaceFault.{RaceFault}
 use Rattle.shb_report.specs.declared.verdict.RaceFault.TheVariants.{Absent, NoConflict, FirstLine, SecondLine, Schedule}

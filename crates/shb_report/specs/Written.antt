@@ -1,6 +1,6 @@
 -- The report that the writer's bytes are the text of.
 use Rattle.std.specs.Prelude.{◌+◌, List, [], map, None, unwrap_or}
-use Rattle.shb_lines.specs.TraceData.{TraceData}
+use Rattle.shb_lines.specs.text.TraceData.{TraceData}
 use Rattle.shb_report.specs.Report.{ShownRace, counts_of, line_at}
 use Rattle.shb_report.specs.Value.{Block, ReportValue}
 

@@ -144,11 +144,7 @@ fn first_bad(
 }
 
 /// The pairs of a report whose blocks are all good.
-fn pairs_in(
-    alloc: Global,
-    trace: &Disciplined<'_>,
-    report: &Report,
-) -> Result<Vec<Pair>, NoMemory>
+fn pairs_in(alloc: Global, trace: &Disciplined<'_>, report: &Report) -> Result<Vec<Pair>, NoMemory>
     requires { AllByRecursion (IsGoodBlock trace.now.trace.now) report.now.blocks }
     ensures pairs { IfOk result (λ pairs. pairs.items ≡ map pair_in report.now.blocks) }
     ensures in_range { IfOk result (λ pairs. All (IsPairOf trace.now.trace.now) pairs.items) }
@@ -202,7 +198,7 @@ fn has_its_places<R: RandomSource>(
         return Ok(true);
     }
     let pairs = pairs_in(alloc, trace, report)?;
-    let places = places_of(alloc, rt, trace.trace, &pairs)?;
+    let places = places_of(rt, alloc, trace.trace, &pairs)?;
     Ok(shows_places(trace.trace, report, places.as_slice()))
 }
 

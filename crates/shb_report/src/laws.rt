@@ -1,9 +1,9 @@
 //! The laws of reports, over the definitions alone. Each function does nothing: its contract is the
 //! law.
 ghost use Rattle.std.specs.Prelude.{◌≡◌, ◌↔◌, ℕ, All, Bool, List, length, map, true};
-ghost use Rattle.shb_lines.specs.Discipline.{IsDisciplined};
-ghost use Rattle.shb_lines.specs.Race.{IsRaceList};
-ghost use Rattle.shb_lines.specs.TraceData.{TraceData};
+ghost use Rattle.shb_lines.specs.events.Discipline.{IsDisciplined};
+ghost use Rattle.shb_lines.specs.events.Race.{IsRaceList};
+ghost use Rattle.shb_lines.specs.text.TraceData.{TraceData};
 ghost use Rattle.shb_report.specs.Reading.{IsBadLine, IsReportText};
 ghost use Rattle.shb_report.specs.Report.{AreBlocks, HasSchedule, IsReport, ShownRace};
 ghost use Rattle.shb_report.specs.Value.{IsReportValue, ReportValue, report_text};

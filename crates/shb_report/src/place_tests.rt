@@ -25,14 +25,14 @@ fn are_in_range(trace: &Trace, pairs: &[Pair]) -> bool
 /// The lines of the places of these pairs, `None` where a call failed.
 fn shows(rt: &HostRuntime, text: &[u8], pairs: &[Pair], want: &[u8]) -> Option<bool> {
     let mut source = Text::new(text, 100, None);
-    let Ok(parsed) = parse(rt.alloc(), rt, &mut source, &Limits::standard()) else {
+    let Ok(parsed) = parse(rt, rt.alloc(), &mut source, &Limits::standard()) else {
         return None;
     };
     let trace = parsed.trace;
     if !are_in_range(&trace, pairs) {
         return None;
     }
-    let Ok(places) = places_of(rt.alloc(), rt, &trace, pairs) else {
+    let Ok(places) = places_of(rt, rt.alloc(), &trace, pairs) else {
         return None;
     };
     let Ok(mut page) = Page::new(rt.alloc(), 2000, 7, None) else {

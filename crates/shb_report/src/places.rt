@@ -89,8 +89,8 @@ impl Model for Places {
 ///
 /// `NoMemory` where a growth was refused, or where there were no random numbers for the table.
 pub fn places_of<R: RandomSource>(
-    alloc: Global,
     rt: &R,
+    alloc: Global,
     trace: &Trace,
     pairs: &[Pair],
 ) -> Result<Places, NoMemory>

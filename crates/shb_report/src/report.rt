@@ -1,6 +1,6 @@
 //! A report that was read.
 ghost use Rattle.std.specs.Prelude.{◌≡◌, ◌+◌, ◌<◌, ◌≤◌, ◌^◌, ◌-◌, ℕ, List, Some, length, take, drop, option_map, slice_get, IfOk, IfSome};
-ghost use Rattle.shb_lines.specs.Taking.{TakesAtMost};
+ghost use Rattle.shb_lines.specs.text.Taking.{TakesAtMost};
 ghost use Rattle.shb_report.specs.Judging.{block_in};
 ghost use Rattle.shb_report.specs.Lines.{IfBad, IfStop};
 ghost use Rattle.shb_report.specs.Parts.{ArePartsIn, bytes_at, report_at};

@@ -7,7 +7,7 @@ use std::test::Fail;
 
 fn trace_of(rt: &HostRuntime, text: &[u8]) -> Result<Trace, ReadError> {
     let mut source = Text::new(text, 4096, None);
-    Ok(parse(rt.alloc(), rt, &mut source, &Limits::standard())?.trace)
+    Ok(parse(rt, rt.alloc(), &mut source, &Limits::standard())?.trace)
 }
 
 fn write_head<S: Sink>(

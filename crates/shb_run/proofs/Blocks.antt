@@ -9,10 +9,10 @@ use Rattle.shb_io.specs.Devices.{AppendsPrefix}
 use Rattle.shb_io.proofs.Growth.{Appends-nil, Appends-trans, AppendsPrefix-after, AppendsPrefix-front, AppendsPrefix-whole}
 use Rattle.shb_lines.specs.declared.event.Event.{Event}
 use Rattle.shb_lines.specs.declared.event.Pair.{Pair}
-use Rattle.shb_lines.specs.Discipline.{IsDisciplined}
-use Rattle.shb_lines.specs.Schedule.{IsPrintedSchedule}
-use Rattle.shb_lines.specs.TraceData.{TraceData}
-use Rattle.shb_lines.proofs.Decide.{printed_exists}
+use Rattle.shb_lines.specs.events.Discipline.{IsDisciplined}
+use Rattle.shb_lines.specs.events.Schedule.{IsPrintedSchedule}
+use Rattle.shb_lines.specs.text.TraceData.{TraceData}
+use Rattle.shb_lines.proofs.events.Decide.{printed_exists}
 use Rattle.shb_report.specs.Report.{AreBlocks, HasSchedule, ShownRace, block_bytes, blocks_from}
 use Rattle.shb_run.specs.declared.errors.WriteError.{WriteError}
 use Rattle.shb_pairs.specs.Races.{ends}

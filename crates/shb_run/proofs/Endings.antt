@@ -8,13 +8,13 @@ use Rattle.shb_lines.specs.declared.event.Event.{Event}
 use Rattle.shb_lines.specs.declared.event.Fault.{Fault}
 use Rattle.shb_lines.specs.declared.event.LineFault.{LineFault}
 use Rattle.shb_lines.specs.declared.event.Pair.{Pair}
-use Rattle.shb_lines.specs.Discipline.{IsDisciplined}
-use Rattle.shb_lines.specs.Race.{IsRaceList}
-use Rattle.shb_lines.specs.Text.{lines_of}
-use Rattle.shb_lines.specs.TraceData.{IsReadingOf, IsTraceOf, TraceData}
-use Rattle.shb_lines.proofs.Decide.{printed_exists}
-use Rattle.shb_lines.proofs.Schedulable.{printed_is_schedule}
-use Rattle.shb_lines.proofs.Unschedulable.{race_of_schedule}
+use Rattle.shb_lines.specs.events.Discipline.{IsDisciplined}
+use Rattle.shb_lines.specs.events.Race.{IsRaceList}
+use Rattle.shb_lines.specs.text.Text.{lines_of}
+use Rattle.shb_lines.specs.text.TraceData.{IsReadingOf, IsTraceOf, TraceData}
+use Rattle.shb_lines.proofs.events.Decide.{printed_exists}
+use Rattle.shb_lines.proofs.events.Schedulable.{printed_is_schedule}
+use Rattle.shb_lines.proofs.events.Unschedulable.{race_of_schedule}
 use Rattle.shb_discipline.specs.FirstFault.{HasNoFault}
 use Rattle.shb_discipline.specs.declared.checking.CheckError.{CheckError}
 use Rattle.shb_discipline.specs.declared.checking.CheckError.TheVariants as checking

@@ -1,7 +1,7 @@
 -- A text has one report.
 use Rattle.std.proofs.Common.{◌≡◌, ℕ, Bool, List, sym, subst, ◌∙◌}
-use Rattle.shb_lines.specs.Text.{lines_of}
-use Rattle.shb_lines.specs.TraceData.{IsTraceOf, TraceData, tables_in}
+use Rattle.shb_lines.specs.text.Text.{lines_of}
+use Rattle.shb_lines.specs.text.TraceData.{IsTraceOf, TraceData, tables_in}
 use Rattle.shb_discipline.proofs.Numbering.{one_trace}
 use Rattle.shb_pairs.proofs.Listing.{race_list_unique}
 use Rattle.shb_report.specs.Report.{IsReport, IsReportOf}

@@ -2,8 +2,8 @@
 use Rattle.std.proofs.Common.{◌≡◌, ℕ, ◌<◌, List, length, subst}
 use Rattle.std.proofs.lemmas.Option.{slice_get_within}
 use Rattle.shb_lines.specs.declared.event.Event.{Event}
-use Rattle.shb_lines.specs.Race.{Race}
-use Rattle.shb_lines.proofs.Reach.{event_at_access}
+use Rattle.shb_lines.specs.events.Race.{Race}
+use Rattle.shb_lines.proofs.events.Reach.{event_at_access}
 
 -- the trace may be seen under another name
 pub first_in_range : (trace events : List Event) (i j : ℕ) → trace ≡ events → Race trace i j → i < length events

@@ -5,9 +5,9 @@ use Rattle.std.proofs.lemmas.List.Elements.{Contains-get_or, All-from_get_or}
 use Rattle.shb_io.specs.Devices.{Writes}
 use Rattle.shb_lines.specs.declared.event.Event.{Event}
 use Rattle.shb_lines.specs.declared.event.Pair.{Pair}
-use Rattle.shb_lines.specs.Discipline.{IsDisciplined}
-use Rattle.shb_lines.specs.Race.{IsRaceList, Race}
-use Rattle.shb_lines.specs.TraceData.{TraceData}
+use Rattle.shb_lines.specs.events.Discipline.{IsDisciplined}
+use Rattle.shb_lines.specs.events.Race.{IsRaceList, Race}
+use Rattle.shb_lines.specs.text.TraceData.{TraceData}
 use Rattle.shb_report.specs.Report.{AreBlocks, counts_of, head_bytes, tail_bytes}
 use Rattle.shb_run.specs.declared.errors.WriteError.{WriteError}
 use Rattle.shb_pairs.specs.Races.{ends}

@@ -6,11 +6,11 @@ use Rattle.shb_lines.specs.declared.event.Event.{Event}
 use Rattle.shb_lines.specs.declared.event.Fault.{Fault}
 use Rattle.shb_lines.specs.declared.event.Limits.{Limits}
 use Rattle.shb_lines.specs.declared.event.LineFault.{LineFault}
-use Rattle.shb_lines.specs.Discipline.{IsDisciplined}
-use Rattle.shb_lines.specs.Text.{lines_of}
-use Rattle.shb_lines.specs.TraceData.{IsReadingOf, IsTraceOf, TraceData}
-use Rattle.shb_lines.specs.Race.{Conflict}
-use Rattle.shb_lines.specs.Schedule.{IsPrintedSchedule, IsSchedule}
+use Rattle.shb_lines.specs.events.Discipline.{IsDisciplined}
+use Rattle.shb_lines.specs.text.Text.{lines_of}
+use Rattle.shb_lines.specs.text.TraceData.{IsReadingOf, IsTraceOf, TraceData}
+use Rattle.shb_lines.specs.events.Race.{Conflict}
+use Rattle.shb_lines.specs.events.Schedule.{IsPrintedSchedule, IsSchedule}
 use Rattle.shb_discipline.specs.FirstFault.{HasFirstFault, HasNoFault}
 use Rattle.shb_report.specs.Report.{IsReportOf}
 use Rattle.shb_run.specs.declared.errors.RunError.{RunError}

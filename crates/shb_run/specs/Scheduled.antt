@@ -3,7 +3,7 @@ use Rattle.std.specs.Prelude.{◌≡◌, ℕ, ◌+◌, ◌-◌, ◌^◌, ◌<◌
 use Rattle.std.specs.Io.KnownBytes.{Appends}
 use Rattle.shb_io.specs.Devices.{AppendsPrefix}
 use Rattle.shb_lines.specs.declared.event.Pair.{Pair}
-use Rattle.shb_lines.specs.TraceData.{TraceData}
+use Rattle.shb_lines.specs.text.TraceData.{TraceData}
 use Rattle.shb_pairs.specs.Races.{ends}
 use Rattle.shb_report.specs.Report.{ShownRace, blocks_from}
 use Rattle.shb_run.specs.declared.block_writer.BlockWriter.{BlockWriter}

@@ -1,6 +1,6 @@
 -- What a program says of an error, and the status that it ends with.
 use Rattle.std.specs.Prelude.{ℕ, List, ◌++◌, codes, decimal}
-use Rattle.shb_lines.specs.Words.{words_of}
+use Rattle.shb_lines.specs.text.Words.{words_of}
 use Rattle.shb_run.specs.declared.errors.RunError.{RunError}
 use Rattle.shb_run.specs.declared.errors.RunError.TheVariants.{Trace, Source, Sink, Memory}
 

@@ -13,26 +13,10 @@ const ORDERED: &str = "T1|w(x)\nT1|w(y)\nT2|r(y)\nT2|w(x)\n";
 /// Lines of a schedule, what is written of the report with that line, and why its block is bad.
 const SCHEDULES: [(&str, &str, &str); 9] = [
     ("schedule 1: 1", "ok 1\n", ""),
-    (
-        "schedule 0:",
-        "bad race 1\n",
-        "NotNext at 0",
-    ),
-    (
-        "schedule 2: 1 1",
-        "bad race 1\n",
-        "Repeated at 1",
-    ),
-    (
-        "schedule 1: 9",
-        "bad race 1\n",
-        "NoSuchEvent at 0",
-    ),
-    (
-        "schedule 2: 1 0",
-        "bad race 1\n",
-        "NoSuchEvent at 1",
-    ),
+    ("schedule 0:", "bad race 1\n", "NotNext at 0"),
+    ("schedule 2: 1 1", "bad race 1\n", "Repeated at 1"),
+    ("schedule 1: 9", "bad race 1\n", "NoSuchEvent at 0"),
+    ("schedule 2: 1 0", "bad race 1\n", "NoSuchEvent at 1"),
     (
         "schedule 1: 18446744073709551615",
         "bad race 1\n",
@@ -273,7 +257,10 @@ fn with_schedule(alloc: Global, line: &str) -> Result<String, NoMemory> {
 fn judges_schedules(rt: HostRuntime) -> Result<(), Fail> {
     for (schedule, line, why) in SCHEDULES {
         let report = with_schedule(rt.alloc(), schedule)?;
-        assert!(rt; says(&rt, ORDERED, report.as_str(), line, why, 1)?, "{schedule}");
+        assert!(rt;
+            says(&rt, ORDERED, report.as_str(), line, why, 1)?,
+            "{schedule}"
+        );
     }
     Ok(())
 }
@@ -314,8 +301,7 @@ fn refuses_a_trace_before_the_report(rt: HostRuntime) -> Result<(), Fail> {
     Ok(())
 }
 
-const EMPTY: &[u8] =
-    b"shb-report 1\nevents 0 threads 0 locks 0 variables 0\nraces 0\nend\n";
+const EMPTY: &[u8] = b"shb-report 1\nevents 0 threads 0 locks 0 variables 0\nraces 0\nend\n";
 
 #[test]
 fn says_which_source_failed(rt: HostRuntime) -> Result<(), Fail> {

@@ -2,7 +2,7 @@
 ghost use Rattle.std.specs.Prelude.{◌≡◌, ◌-◌, ◌^◌, ◌<◌, ℕ, List, Some, IfErr, IfOk, IfSome, OnErr, drop};
 ghost use Rattle.std.specs.Io.KnownBytes.{Keeps};
 ghost use Rattle.shb_lines.specs.declared.event.Fault.{Fault};
-ghost use Rattle.shb_lines.specs.Taking.{TakesAtMost};
+ghost use Rattle.shb_lines.specs.text.Taking.{TakesAtMost};
 ghost use Rattle.shb_run.specs.Runs.{CountsSink, CountsSource, Grows, IsAccepted, IsCutShort, IsFirstFaultOf, IsRefusalOf, IsReported, OnBrokenOff, OnJudged, OnNoTrace, OnTrace};
 ghost use Rattle.shb_run.specs.Written.{IsCutOff, IsSinkCounted, ReportsTrace, summary_of};
 
@@ -127,8 +127,8 @@ fn report<R: Threads + Wait + Sync, K: Sink, P: Gate + Sync, W: Gate + Sync>(
 ///
 /// What was read of the source stays read.
 pub fn run<S: Source, K: Sink, R: Threads + Wait + Sync + RandomSource>(
-    alloc: Global,
     rt: &R,
+    alloc: Global,
     source: &mut S,
     sink: &mut K,
     settings: Settings,
@@ -164,7 +164,7 @@ pub fn run<S: Source, K: Sink, R: Threads + Wait + Sync + RandomSource>(
     ensures source { CountsSource (S.failure_count source.old) (S.failure_count source.new) result }
     ensures sink { CountsSink (K.failure_count sink.old) (K.failure_count sink.new) result }
 {
-    run_gated(alloc, rt, source, sink, settings, &FreeGate, &FreeGate)
+    run_gated(rt, alloc, source, sink, settings, &FreeGate, &FreeGate)
 }
 
 /// [`run`] with gates: a worker passes `pair_gate` before it looks for the races of a piece, and
@@ -180,8 +180,8 @@ pub fn run_gated<
     P: Gate + Sync,
     W: Gate + Sync,
 >(
-    alloc: Global,
     rt: &R,
+    alloc: Global,
     source: &mut S,
     sink: &mut K,
     settings: Settings,
@@ -219,7 +219,7 @@ pub fn run_gated<
     ensures source { CountsSource (S.failure_count source.old) (S.failure_count source.new) result }
     ensures sink { CountsSink (K.failure_count sink.old) (K.failure_count sink.new) result }
 {
-    let parsed = parse(alloc, rt, source, &Limits::standard())?;
+    let parsed = parse(rt, alloc, source, &Limits::standard())?;
     let trace = judge(alloc, &parsed)?;
     Ok(report(rt, alloc, sink, &trace, settings, pair_gate, witness_gate)?)
 }

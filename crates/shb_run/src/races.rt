@@ -1,6 +1,6 @@
 //! The races of a trace, from the pieces of its accesses.
 ghost use Rattle.std.specs.Prelude.{◌≡◌, IfOk, map};
-ghost use Rattle.shb_lines.specs.Race.{IsRaceList};
+ghost use Rattle.shb_lines.specs.events.Race.{IsRaceList};
 ghost use Rattle.shb_pairs.specs.Races.{ends, joined};
 
 use crate::ordered::Ordered;

@@ -235,7 +235,7 @@ fn run_over<R: Threads + Wait + Sync + RandomSource + AllocGlobal>(
 {
     let mut source = Text::new(trace, step, None);
     let mut sink = Page::new(rt.alloc(), 300_000, step, None)?;
-    let answer = run(rt.alloc(), rt, &mut source, &mut sink, settings(schedules));
+    let answer = run(rt, rt.alloc(), &mut source, &mut sink, settings(schedules));
     Ok((answer, sink))
 }
 
@@ -322,7 +322,7 @@ fn says_which_device_failed(rt: HostRuntime) -> Result<(), Fail> {
     for fail_at in 1..=trace.len() as u64 + 1 {
         let mut source = Text::new(trace.as_bytes(), 1, Some(fail_at));
         let mut sink = Page::new(rt.alloc(), 1000, 1, None)?;
-        let answer = run(rt.alloc(), &rt, &mut source, &mut sink, settings(true));
+        let answer = run(&rt, rt.alloc(), &mut source, &mut sink, settings(true));
         assert!(rt;
             matches!(answer, Err(RunError::Source)),
             "at read {fail_at}"
@@ -334,14 +334,14 @@ fn says_which_device_failed(rt: HostRuntime) -> Result<(), Fail> {
     for fail_at in 1..=report.len() as u64 {
         let mut source = Text::new(trace.as_bytes(), 1, None);
         let mut sink = Page::new(rt.alloc(), 1000, 1, Some(fail_at))?;
-        let answer = run(rt.alloc(), &rt, &mut source, &mut sink, settings(true));
+        let answer = run(&rt, rt.alloc(), &mut source, &mut sink, settings(true));
         assert!(rt; matches!(answer, Err(RunError::Sink)), "at write {fail_at}");
         assert_eq!(rt; sink.bytes(), &report.as_bytes()[..fail_at as usize - 1]);
     }
     for (room, whole) in [(report.len() - 1, false), (report.len(), true)] {
         let mut source = Text::new(trace.as_bytes(), 1, None);
         let mut sink = Page::new(rt.alloc(), room, 4096, None)?;
-        let answer = run(rt.alloc(), &rt, &mut source, &mut sink, settings(true));
+        let answer = run(&rt, rt.alloc(), &mut source, &mut sink, settings(true));
         assert_eq!(rt; answer.is_ok(), whole);
         assert_eq!(rt; sink.bytes(), &report.as_bytes()[..room]);
     }
@@ -354,7 +354,7 @@ fn reads_before_it_judges(rt: HostRuntime) -> Result<(), Fail> {
     for fail_at in 1..=trace.len() as u64 + 2 {
         let mut source = Text::new(trace, 1, Some(fail_at));
         let mut sink = Page::new(rt.alloc(), 1000, 1, None)?;
-        let answer = run(rt.alloc(), &rt, &mut source, &mut sink, settings(true));
+        let answer = run(&rt, rt.alloc(), &mut source, &mut sink, settings(true));
         if fail_at <= trace.len() as u64 + 1 {
             assert!(rt;
                 matches!(answer, Err(RunError::Source)),

@@ -2,7 +2,7 @@
 ghost use Rattle.std.specs.Prelude.{◌≡◌, ◌-◌, ◌^◌, ◌<◌, ℕ, List, IfOk, IfSome};
 ghost use Rattle.std.specs.Io.KnownBytes.{Appends, Keeps};
 ghost use Rattle.shb_discipline.specs.FirstFault.{HasNoFault};
-ghost use Rattle.shb_lines.specs.Taking.{IsSourceCounted};
+ghost use Rattle.shb_lines.specs.text.Taking.{IsSourceCounted};
 ghost use Rattle.shb_lines.specs.declared.event.Fault.{Fault};
 ghost use Rattle.shb_report.specs.Verdicts.{verdict_bytes};
 ghost use Rattle.shb_run.specs.Checks.{CountsSources, IsLineCutShort, IsVerdictFor, IsVerdictOf};
@@ -94,7 +94,7 @@ pub fn check<S: Source, Q: Source, K: Sink, R: RandomSource>(
         (Q.failure_count report_source.old) (Q.failure_count report_source.new) result }
     ensures sink { CountsSink (K.failure_count sink.old) (K.failure_count sink.new) result }
 {
-    let parsed = parse(alloc, rt, trace_source, &Limits::standard())?;
+    let parsed = parse(rt, alloc, trace_source, &Limits::standard())?;
     let trace = judge(alloc, &parsed)?;
     let verdict = verdict_of(rt, alloc, &trace, report_source)?;
     let Ok(()) = verdict_line(sink, verdict) else {

@@ -72,8 +72,8 @@ fn two_at_once(rt: HostRuntime) -> Result<(), Fail> {
     let mut source = Text::new(TWO_PIECES.as_bytes(), 4096, None);
     let mut sink = Page::new(rt.alloc(), 1000, 4096, None)?;
     let answer = run_gated(
-        rt.alloc(),
         &rt,
+        rt.alloc(),
         &mut source,
         &mut sink,
         settings(&rt, 2),
@@ -151,8 +151,8 @@ fn written_early(rt: HostRuntime) -> Result<(), Fail> {
         taken: &taken,
     };
     let answer = run_gated(
-        rt.alloc(),
         &rt,
+        rt.alloc(),
         &mut source,
         &mut sink,
         settings(&rt, 2),
@@ -177,7 +177,7 @@ fn workers_change_nothing(rt: HostRuntime) -> Result<(), Fail> {
         let mut source = Text::new(THREE_RACES.as_bytes(), 1, None);
         let mut sink = Page::new(rt.alloc(), 1000, 1, None)?;
         let settings = settings(&rt, workers);
-        let answer = run(rt.alloc(), &rt, &mut source, &mut sink, settings);
+        let answer = run(&rt, rt.alloc(), &mut source, &mut sink, settings);
         assert!(rt; answer.is_ok());
         assert_eq!(rt;
             sink.bytes(),
@@ -187,7 +187,7 @@ fn workers_change_nothing(rt: HostRuntime) -> Result<(), Fail> {
 
         let mut source = Text::new(THREE_RACES.as_bytes(), 1, None);
         let mut sink = Page::new(rt.alloc(), 1000, 1, Some(20))?;
-        let answer = run(rt.alloc(), &rt, &mut source, &mut sink, settings);
+        let answer = run(&rt, rt.alloc(), &mut source, &mut sink, settings);
         assert!(rt; matches!(answer, Err(RunError::Sink)));
         assert_eq!(rt;
             sink.bytes(),
@@ -199,7 +199,7 @@ fn workers_change_nothing(rt: HostRuntime) -> Result<(), Fail> {
         for fail_at in 64..=THREE_RACES_REPORT.len() as u64 {
             let mut source = Text::new(THREE_RACES.as_bytes(), 4096, None);
             let mut sink = Page::new(rt.alloc(), 1000, 1, Some(fail_at))?;
-            let answer = run(rt.alloc(), &rt, &mut source, &mut sink, settings);
+            let answer = run(&rt, rt.alloc(), &mut source, &mut sink, settings);
             assert!(rt; matches!(answer, Err(RunError::Sink)), "at write {fail_at}");
             assert_eq!(rt;
                 sink.bytes(),
@@ -209,7 +209,7 @@ fn workers_change_nothing(rt: HostRuntime) -> Result<(), Fail> {
 
         let mut source = Text::new(THREE_RACES.as_bytes(), 1, Some(3));
         let mut sink = Page::new(rt.alloc(), 1000, 1, None)?;
-        let answer = run(rt.alloc(), &rt, &mut source, &mut sink, settings);
+        let answer = run(&rt, rt.alloc(), &mut source, &mut sink, settings);
         assert!(rt; matches!(answer, Err(RunError::Source)));
         assert_eq!(rt; sink.bytes().len(), 0);
     }

@@ -1,6 +1,6 @@
 //! The report of a trace whose races are known.
 ghost use Rattle.std.specs.Prelude.{◌≡◌, ◌-◌, ◌^◌, ◌<◌, All, false, map, true};
-ghost use Rattle.shb_lines.specs.Race.{IsRaceList, Race};
+ghost use Rattle.shb_lines.specs.events.Race.{IsRaceList, Race};
 ghost use Rattle.shb_pairs.specs.Races.{ends};
 ghost use Rattle.shb_report.specs.Report.{counts_of};
 ghost use Rattle.shb_run.specs.Written.{IsSinkCounted, WritesBlocks, WritesReport};

@@ -5,13 +5,13 @@ use Rattle.std.proofs.lemmas.Bool.{cases_lt}
 use Rattle.std.proofs.lemmas.List.{get_or_push, get_or_read, length_push}
 use Rattle.std.proofs.Math.ListN.{get_or-append}
 use Rattle.shb_lines.specs.declared.event.Event.{Event}
-use Rattle.shb_lines.specs.Events.{thread_at}
-use Rattle.shb_lines.specs.Discipline.{IsDisciplined, place_in_thread}
-use Rattle.shb_lines.specs.Order.{IsPred, BelowPred, IsBelowPredCount, here}
-use Rattle.shb_lines.proofs.Decide.{pred_unique}
-use Rattle.shb_lines.proofs.Items.{thread_item}
-use Rattle.shb_lines.proofs.Prefix.{local_from_below, below_from_local}
-use Rattle.shb_lines.proofs.Schedulable.{below_pred_in_range, path_forward}
+use Rattle.shb_lines.specs.events.Events.{thread_at}
+use Rattle.shb_lines.specs.events.Discipline.{IsDisciplined, place_in_thread}
+use Rattle.shb_lines.specs.events.Order.{IsPred, BelowPred, IsBelowPredCount, here}
+use Rattle.shb_lines.proofs.events.Decide.{pred_unique}
+use Rattle.shb_lines.proofs.events.Items.{thread_item}
+use Rattle.shb_lines.proofs.events.Prefix.{local_from_below, below_from_local}
+use Rattle.shb_lines.proofs.events.Schedulable.{below_pred_in_range, path_forward}
 use Rattle.shb_links.specs.Links.{Exactly}
 use Rattle.shb_witness.specs.Cuts.{BelowEither, IsCut, HasCuts}
 

@@ -4,12 +4,12 @@ use Rattle.std.specs.Prelude.{◌||◌, IfOk, slice_get, slice_index_or}
 use Rattle.shb_io.specs.declared.traits.NoMemory.{NoMemory}
 use Rattle.shb_lines.specs.declared.event.Event.{Event}
 use Rattle.shb_lines.specs.declared.event.Pair.{Pair}
-use Rattle.shb_lines.specs.Race.{Race}
-use Rattle.shb_lines.specs.Reach.{is_below_pred}
-use Rattle.shb_lines.specs.Schedule.{IsPrintedSchedule}
-use Rattle.shb_lines.proofs.Decide.{printed_from_listed}
-use Rattle.shb_lines.proofs.Listed.{IsListed}
-use Rattle.shb_lines.proofs.Reach.{numbers_listed, reflect_or, reflect_below_pred, event_at_access}
+use Rattle.shb_lines.specs.events.Race.{Race}
+use Rattle.shb_lines.specs.events.Reach.{is_below_pred}
+use Rattle.shb_lines.specs.events.Schedule.{IsPrintedSchedule}
+use Rattle.shb_lines.proofs.events.Decide.{printed_from_listed}
+use Rattle.shb_lines.proofs.events.Listed.{IsListed}
+use Rattle.shb_lines.proofs.events.Reach.{numbers_listed, reflect_or, reflect_below_pred, event_at_access}
 use Rattle.std.proofs.lemmas.Option.{get_or_from_slice_get, slice_get_within}
 use Rattle.shb_witness.proofs.Rising.{increasing_equal}
 use Rattle.shb_witness.specs.Cuts.{BelowEither}

@@ -1,9 +1,9 @@
 -- How far each thread is below the predecessors of a pair of events.
 use Rattle.std.specs.Prelude.{◌≡◌, ℕ, ◌<◌, ◌≤◌, ◌⊎◌, ◌↔◌, List, Some, length, slice_index_or}
 use Rattle.shb_lines.specs.declared.event.Event.{Event}
-use Rattle.shb_lines.specs.Events.{thread_at}
-use Rattle.shb_lines.specs.Discipline.{place_in_thread}
-use Rattle.shb_lines.specs.Order.{BelowPred}
+use Rattle.shb_lines.specs.events.Events.{thread_at}
+use Rattle.shb_lines.specs.events.Discipline.{place_in_thread}
+use Rattle.shb_lines.specs.events.Order.{BelowPred}
 
 -- a is SHB-below the predecessor of i or of j
 abbrev pub BelowEither : List Event → ℕ → ℕ → ℕ → Type 0

@@ -2,8 +2,8 @@
 use Rattle.std.specs.Prelude.{ℕ, ◌||◌, List, All, length, slice_index_or}
 use Rattle.shb_lines.specs.declared.event.Event.{Event}
 use Rattle.shb_lines.specs.declared.event.Pair.{Pair}
-use Rattle.shb_lines.specs.Race.{Race}
-use Rattle.shb_lines.specs.Reach.{numbers_where, is_below_pred}
+use Rattle.shb_lines.specs.events.Race.{Race}
+use Rattle.shb_lines.specs.events.Reach.{numbers_where, is_below_pred}
 
 -- a trace, and the races that a schedule is asked for
 pub record Asked : Type 0 where

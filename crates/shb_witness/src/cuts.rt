@@ -1,7 +1,7 @@
 //! How far each thread is below the predecessors of a pair.
 
 ghost use Rattle.std.specs.Prelude.{◌≡◌, ℕ, ◌<◌, ◌≤◌, IfOk, length};
-ghost use Rattle.shb_lines.specs.Order.{BelowPred};
+ghost use Rattle.shb_lines.specs.events.Order.{BelowPred};
 ghost use Rattle.shb_witness.specs.Cuts.{BelowEither, HasCuts};
 
 use shb_clocks::Order;

@@ -1,7 +1,7 @@
 //! The schedules of races as work in pieces.
 
 ghost use Rattle.std.specs.Prelude.{◌≡◌, ℕ, List, All, length};
-ghost use Rattle.shb_lines.specs.Race.{Race};
+ghost use Rattle.shb_lines.specs.events.Race.{Race};
 ghost use Rattle.shb_lines.specs.declared.event.Event.{Event};
 ghost use Rattle.shb_lines.specs.declared.event.Pair.{Pair};
 ghost use Rattle.shb_witness.specs.Schedules.{Asked, AreRaces, schedule_at};

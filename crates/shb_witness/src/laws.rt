@@ -4,9 +4,9 @@
 ghost use Rattle.std.specs.Prelude.{◌≡◌, ℕ, ◌<◌, List, Some, slice_get};
 ghost use Rattle.shb_lines.specs.declared.event.Event.{Event};
 ghost use Rattle.shb_lines.specs.declared.event.Pair.{Pair};
-ghost use Rattle.shb_lines.specs.Discipline.{IsDisciplined};
-ghost use Rattle.shb_lines.specs.Race.{Race};
-ghost use Rattle.shb_lines.specs.Schedule.{IsPrintedSchedule, IsSchedule};
+ghost use Rattle.shb_lines.specs.events.Discipline.{IsDisciplined};
+ghost use Rattle.shb_lines.specs.events.Race.{Race};
+ghost use Rattle.shb_lines.specs.events.Schedule.{IsPrintedSchedule, IsSchedule};
 ghost use Rattle.shb_witness.specs.Schedules.{schedule_at};
 
 /// Piece k of the work on races is the printed schedule of race k, and a schedule of it.

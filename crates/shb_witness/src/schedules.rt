@@ -1,8 +1,8 @@
 //! The printed schedule of a race.
 
 ghost use Rattle.std.specs.Prelude.{◌≡◌, IfOk};
-ghost use Rattle.shb_lines.specs.Race.{Race};
-ghost use Rattle.shb_lines.specs.Schedule.{IsPrintedSchedule, IsSchedule};
+ghost use Rattle.shb_lines.specs.events.Race.{Race};
+ghost use Rattle.shb_lines.specs.events.Schedule.{IsPrintedSchedule, IsSchedule};
 
 use crate::cuts::{cuts_of, end_of};
 use shb_clocks::Order;

@@ -1,6 +1,6 @@
 //! The schedules of worked traces.
 ghost use Rattle.std.specs.Prelude.{◌≡◌, ◌<◌, IsTrue, length};
-ghost use Rattle.shb_lines.specs.Race.{Race};
+ghost use Rattle.shb_lines.specs.events.Race.{Race};
 
 use crate::*;
 use shb_clocks::{Order, full};
@@ -32,7 +32,7 @@ fn scheduled(
     second: u32,
 ) -> Result<Option<Vec<u32>>, Fail> {
     let mut source = Text::new(text, 4096, None);
-    let parsed = parse(rt.alloc(), rt, &mut source, &Limits::standard())?;
+    let parsed = parse(rt, rt.alloc(), &mut source, &Limits::standard())?;
     let trace = check(rt.alloc(), &parsed.trace)?;
     let links = links_of(rt.alloc(), &trace)?;
     let order = full(rt.alloc(), &trace, &links)?;

@@ -1,7 +1,7 @@
 use Rattle.std.proofs.Common.{List, refl, sym, ◌∙◌, subst}
 use Rattle.shb_lines.specs.declared.event.Event.{Event}
-use Rattle.shb_lines.specs.Order.{LastWrite, ShbEdge, read_from}
-use Rattle.shb_lines.proofs.Items.{edge_by_rule, edge_by_write, no_edge}
+use Rattle.shb_lines.specs.events.Order.{LastWrite, ShbEdge, read_from}
+use Rattle.shb_lines.proofs.events.Items.{edge_by_rule, edge_by_write, no_edge}
 use Rattle.std.proofs.lemmas.Bool.{eqb-true, eq-eqb}
 use Rattle.shb_clocks.proofs.edges.is_edge.Goals as goal
 

@@ -2,7 +2,7 @@ use Rattle.std.proofs.Common.{ℕ, get_or, arith, length}
 use Rattle.std.proofs.lemmas.Option.{slice_get-get_or}
 use Rattle.shb_lines.specs.declared.event.Event.{Event}
 use Rattle.shb_lines.specs.declared.event.Op.TheVariants.{Read}
-use Rattle.shb_lines.proofs.Items.{thread_item}
+use Rattle.shb_lines.proofs.events.Items.{thread_item}
 use Rattle.shb_clocks.specs.Learned.{nothing_kept}
 use Rattle.shb_clocks.proofs.LearnedLemmas.{local_is}
 use Rattle.shb_clocks.proofs.Passing.{all_passed_next, all_passed_still, item_default, never_both}

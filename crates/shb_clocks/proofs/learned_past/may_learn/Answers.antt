@@ -1,7 +1,7 @@
 use Rattle.std.proofs.Common.{Some, refl, ◌∙◌, ap, sym}
 use Rattle.shb_lines.specs.declared.event.Event.{Event}
 use Rattle.shb_lines.specs.declared.event.Op.TheVariants.{Read}
-use Rattle.shb_lines.proofs.Items.{thread_item, op_item}
+use Rattle.shb_lines.proofs.events.Items.{thread_item, op_item}
 use Rattle.shb_clocks.specs.Learned.{acquires, joins}
 use Rattle.shb_clocks.proofs.LearnedLemmas.{local_is}
 use Rattle.shb_clocks.proofs.MayLearn.{first_from_place, read_test, learning_other}

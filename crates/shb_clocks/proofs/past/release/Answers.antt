@@ -1,6 +1,6 @@
 use Rattle.std.proofs.Common.{Some, ◌∙◌, ap}
 use Rattle.shb_lines.specs.declared.event.Op.TheVariants.{Release}
-use Rattle.shb_lines.proofs.Items.{op_item}
+use Rattle.shb_lines.proofs.events.Items.{op_item}
 use Rattle.shb_clocks.proofs.PastLemmas.{op_within, lock_step, locks_skip, op_other}
 use Rattle.shb_clocks.proofs.past.release.Goals as goal
 

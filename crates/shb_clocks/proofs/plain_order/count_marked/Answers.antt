@@ -1,9 +1,9 @@
 use Rattle.std.proofs.Common.{◌≡◌, Some, get_or, true, false, sym, ◌∙◌, arith}
-use Rattle.shb_lines.specs.Events.{thread_at}
+use Rattle.shb_lines.specs.events.Events.{thread_at}
 use Rattle.shb_clocks.proofs.plain_order.count_marked.Goals as goal
 use Rattle.shb_clocks.proofs.plain_order.count_marked.Goals.{then-events-k+then-is_marked, else-events-k, else-events-k-via-then-events-k+else-is_marked, else-events-k-via-else-events-k}
-use Rattle.shb_lines.proofs.Items.{thread_item_is, thread_item_not}
-use Rattle.shb_lines.proofs.Listed.{number_more_yes, number_more_no}
+use Rattle.shb_lines.proofs.events.Items.{thread_item_is, thread_item_not}
+use Rattle.shb_lines.proofs.events.Listed.{number_more_yes, number_more_no}
 
 pub loop-k-preserved : goal.loop-k-preserved
 loop-k-preserved c =

@@ -1,5 +1,5 @@
 use Rattle.std.proofs.Common.{◌≡◌, ◌<◌, get_or, true, false, refl, arith, below_more}
-use Rattle.shb_lines.specs.Order.{ShbEdge, step}
+use Rattle.shb_lines.specs.events.Order.{ShbEdge, step}
 use Rattle.shb_clocks.proofs.MarksLemmas.{no_reach}
 use Rattle.shb_clocks.proofs.plain_order.reaches.Goals as goal
 use Rattle.shb_clocks.proofs.plain_order.reaches.Goals.{else-marks-b-via-then-marks-b+else-is_edge, else-marks-b-via-else-marks-b}

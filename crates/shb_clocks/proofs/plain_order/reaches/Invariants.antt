@@ -1,5 +1,5 @@
 use Rattle.std.proofs.Common.{◌≡◌, ℕ, ◌<◌, true, false, get_or}
-use Rattle.shb_lines.specs.Order.{ShbEdge}
+use Rattle.shb_lines.specs.events.Order.{ShbEdge}
 use Rattle.shb_clocks.proofs.plain_order.reaches.Given as goal
 
 abbrev pub invariant-loop-b : goal.invariant-loop-b

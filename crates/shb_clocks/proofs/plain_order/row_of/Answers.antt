@@ -1,7 +1,7 @@
 use Rattle.std.proofs.Common.{List, sym, subst, arith}
 use Rattle.shb_lines.specs.declared.event.Event.{Event}
-use Rattle.shb_lines.specs.Order.{IsPred}
-use Rattle.shb_lines.proofs.Schedulable.{pred_earlier}
+use Rattle.shb_lines.specs.events.Order.{IsPred}
+use Rattle.shb_lines.proofs.events.Schedulable.{pred_earlier}
 use Rattle.shb_clocks.proofs.MarksLemmas.{row_from_marks, row_without_pred}
 use Rattle.shb_clocks.proofs.plain_order.row_of.Goals as goal
 

@@ -1,6 +1,6 @@
 use Rattle.std.proofs.Common.{◌≤◌, length, sym, subst}
-use Rattle.shb_lines.specs.Discipline.{IsDisciplined}
-use Rattle.shb_lines.specs.Sizes.{IsNumberedByAccess, IsWithin}
+use Rattle.shb_lines.specs.events.Discipline.{IsDisciplined}
+use Rattle.shb_lines.specs.events.Sizes.{IsNumberedByAccess, IsWithin}
 use Rattle.shb_discipline.specs.Faults.{IsFirstIfAny}
 use Rattle.shb_discipline.proofs.checking.check.Goals as goal
 

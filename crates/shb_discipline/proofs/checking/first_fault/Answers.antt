@@ -2,7 +2,7 @@ use Rattle.std.proofs.Common.{get_or, take, refl, subst, arith}
 use Rattle.std.proofs.lemmas.Option.{slice_get-get_or, slice_get_within, get_or_from_slice_get}
 use Rattle.shb_lines.specs.declared.event.Event.{Event}
 use Rattle.shb_lines.specs.declared.event.Op.TheVariants.{Read}
-use Rattle.shb_lines.specs.Discipline.{MayCome}
+use Rattle.shb_lines.specs.events.Discipline.{MayCome}
 use Rattle.shb_discipline.proofs.Faultless.{disciplined_more, may_come}
 use Rattle.shb_discipline.proofs.checking.first_fault.Goals as goal
 

@@ -1,5 +1,5 @@
 use Rattle.std.proofs.Common.{All, take}
-use Rattle.shb_lines.proofs.Locks.{DisciplinedBelow}
+use Rattle.shb_lines.proofs.events.Locks.{DisciplinedBelow}
 use Rattle.shb_discipline.specs.State.{Covers, IsStateAfter}
 use Rattle.shb_discipline.proofs.checking.first_fault.Given as goal
 

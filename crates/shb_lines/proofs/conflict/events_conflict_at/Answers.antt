@@ -1,7 +1,7 @@
 -- The test of the two events at these positions.
 use Rattle.std.proofs.Common.{sym, ◌∙◌}
 use Rattle.std.proofs.lemmas.Option.{slice_get-get_or}
-use Rattle.shb_lines.proofs.ConflictTests.{conflict_from_test, test_from_conflict}
+use Rattle.shb_lines.proofs.events.ConflictTests.{conflict_from_test, test_from_conflict}
 use Rattle.shb_lines.proofs.conflict.events_conflict_at.Goals as goal
 
 pub returns : goal.returns

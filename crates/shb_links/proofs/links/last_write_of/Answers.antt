@@ -1,6 +1,6 @@
 use Rattle.std.proofs.Common.{ℕ, Option, subst, sym}
-use Rattle.shb_lines.specs.Order.{LastWrite}
-use Rattle.shb_lines.proofs.Items.{no_read}
+use Rattle.shb_lines.specs.events.Order.{LastWrite}
+use Rattle.shb_lines.proofs.events.Items.{no_read}
 use Rattle.shb_links.specs.Links.{Exactly}
 use Rattle.shb_links.proofs.Steps.{write_found}
 use Rattle.shb_links.proofs.links.last_write_of.Goals as goal

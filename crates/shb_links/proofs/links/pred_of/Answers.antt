@@ -1,5 +1,5 @@
 use Rattle.std.proofs.Common.{ℕ, Option, subst, sym, ◌∙◌}
-use Rattle.shb_lines.specs.Order.{IsPred}
+use Rattle.shb_lines.specs.events.Order.{IsPred}
 use Rattle.shb_links.specs.Links.{Exactly}
 use Rattle.shb_links.proofs.Steps.{pred_found}
 use Rattle.shb_links.proofs.links.pred_of.Goals as goal

@@ -1,4 +1,4 @@
-use Rattle.shb_lines.proofs.Schedulable.{printed_is_schedule}
+use Rattle.shb_lines.proofs.events.Schedulable.{printed_is_schedule}
 use Rattle.shb_pairs.proofs.laws.printed_schedule_is_schedule.Goals as goal
 
 pub returns : goal.returns

@@ -1,9 +1,9 @@
 use Rattle.std.proofs.Common.{◌≡◌, ℕ, List, Some, subst}
 use Rattle.shb_lines.specs.declared.event.Event.{Event}
-use Rattle.shb_lines.specs.Discipline.{place_in_thread}
-use Rattle.shb_lines.specs.Events.{thread_at}
-use Rattle.shb_lines.proofs.Items.{thread_item}
-use Rattle.shb_lines.proofs.Prefix.{below_pred_test}
+use Rattle.shb_lines.specs.events.Discipline.{place_in_thread}
+use Rattle.shb_lines.specs.events.Events.{thread_at}
+use Rattle.shb_lines.proofs.events.Items.{thread_item}
+use Rattle.shb_lines.proofs.events.Prefix.{below_pred_test}
 use Rattle.shb_pairs.proofs.race.is_below_pred.Goals as goal
 
 -- an event is below the predecessor exactly where its place is no higher than the order's answer

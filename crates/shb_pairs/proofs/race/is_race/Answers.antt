@@ -1,4 +1,4 @@
-use Rattle.shb_lines.proofs.Decide.{race_test}
+use Rattle.shb_lines.proofs.events.Decide.{race_test}
 use Rattle.shb_pairs.proofs.race.is_race.Goals as goal
 
 pub returns-then-events_conflict_at-clause-schedulable : goal.returns-then-events_conflict_at-clause-schedulable

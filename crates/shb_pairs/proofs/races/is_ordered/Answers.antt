@@ -1,7 +1,7 @@
 use Rattle.std.proofs.Common.{arith}
 use Rattle.std.proofs.lemmas.Bool.{eq-eqb}
-use Rattle.shb_lines.proofs.Items.{thread_item, thread_item_is}
-use Rattle.shb_lines.proofs.Schedulable.{thread_below_pred}
+use Rattle.shb_lines.proofs.events.Items.{thread_item, thread_item_is}
+use Rattle.shb_lines.proofs.events.Schedulable.{thread_below_pred}
 use Rattle.shb_pairs.proofs.races.is_ordered.Goals as goal
 
 pub returns-then-trace-first : goal.returns-then-trace-first

@@ -2,7 +2,7 @@ use Rattle.std.proofs.Common.{◌≡◌, ◌-◌, ◌++◌, ℕ, List, get_or, a
 use Rattle.std.specs.Prelude.{flat_map, take, drop}
 use Rattle.std.proofs.lemmas.Bool.{eqb-true}
 use Rattle.std.proofs.lemmas.List.{length-map}
-use Rattle.shb_lines.specs.Race.{Race}
+use Rattle.shb_lines.specs.events.Race.{Race}
 use Rattle.shb_pairs.specs.Accesses.{accesses_in}
 use Rattle.shb_pairs.specs.Races.{ends, races_with}
 use Rattle.shb_pairs.proofs.ByThread.{listed_of_trace}

@@ -1,7 +1,7 @@
 use Rattle.std.proofs.Common.{◌≡◌, ◌<◌, ℕ, List, Some, Vec, Global, length, ap, subst, sym, ◌∙◌}
 use Rattle.std.proofs.lemmas.List.Sorted.{IsNonDecreasingBy-from_sort}
 use Rattle.shb_lines.specs.declared.event.Event.{Event}
-use Rattle.shb_lines.specs.Race.{variable_at}
+use Rattle.shb_lines.specs.events.Race.{variable_at}
 use Rattle.shb_pairs.specs.declared.accesses.Which.TheVariants.{Reads, Writes}
 use Rattle.shb_pairs.specs.Accesses.{IsByThread, variables_in}
 use Rattle.shb_pairs.proofs.Counting.{variable_within}

@@ -1,7 +1,7 @@
 use Rattle.std.proofs.Common.{◌≡◌, ◌<◌, ◌≤◌, ℕ, Some}
 use Rattle.std.specs.Prelude.{slice_index_or}
-use Rattle.shb_lines.specs.Discipline.{place_in_thread}
-use Rattle.shb_lines.specs.Events.{thread_at}
+use Rattle.shb_lines.specs.events.Discipline.{place_in_thread}
+use Rattle.shb_lines.specs.events.Events.{thread_at}
 use Rattle.shb_pairs.proofs.rivals.tail_start.Given as goal
 
 abbrev pub invariant-loop-k : goal.invariant-loop-k

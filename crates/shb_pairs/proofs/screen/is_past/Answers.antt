@@ -1,6 +1,6 @@
 use Rattle.std.proofs.Common.{inl, inr, sym, ◌∙◌}
 use Rattle.std.proofs.lemmas.Bool.{eqb-true}
-use Rattle.shb_lines.proofs.Items.{thread_item_is}
+use Rattle.shb_lines.proofs.events.Items.{thread_item_is}
 use Rattle.shb_pairs.proofs.screen.is_past.Goals as goal
 use Rattle.shb_pairs.proofs.screen.is_past.Goals.{then-mark-eq0, else-mark-eq0}
 

@@ -1,8 +1,8 @@
 use Rattle.std.proofs.Common.{◌≡◌, ℕ, List, Some, subst}
 use Rattle.shb_lines.specs.declared.event.Event.{Event}
-use Rattle.shb_lines.specs.Discipline.{place_in_thread}
-use Rattle.shb_lines.specs.Events.{thread_at}
-use Rattle.shb_lines.proofs.Items.{thread_item}
+use Rattle.shb_lines.specs.events.Discipline.{place_in_thread}
+use Rattle.shb_lines.specs.events.Events.{thread_at}
+use Rattle.shb_lines.proofs.events.Items.{thread_item}
 use Rattle.shb_pairs.proofs.screen.mark_of.Goals as goal
 
 pub returns : goal.returns

@@ -1,6 +1,6 @@
 use Rattle.std.proofs.Common.{IfSome}
 use Rattle.std.proofs.lemmas.Option.{IfSome_then}
-use Rattle.shb_lines.specs.TraceData.{IsReadingOf}
+use Rattle.shb_lines.specs.text.TraceData.{IsReadingOf}
 use Rattle.shb_run.specs.Runs.{limits}
 use Rattle.shb_run.proofs.Endings.{Grows-same, broken_off, cut_short_of, grown_of_cut, judged, not_judged, not_silent, reported_of}
 use Rattle.shb_run.proofs.pipeline.run_gated.Goals as goal

@@ -1,5 +1,5 @@
 use Rattle.std.proofs.Common.{List, Bool, ap, sym, subst, ◌∙◌}
-use Rattle.shb_lines.specs.Sizes.{IsNumberedByAccess}
+use Rattle.shb_lines.specs.events.Sizes.{IsNumberedByAccess}
 use Rattle.shb_pairs.specs.Listed.{AreOpen, Listed}
 use Rattle.shb_run.proofs.Joining.{listed_of}
 use Rattle.shb_run.proofs.races.races_of.Goals as goal

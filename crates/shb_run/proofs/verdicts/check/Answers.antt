@@ -1,6 +1,6 @@
 use Rattle.std.proofs.Common.{IfSome}
 use Rattle.std.proofs.lemmas.Option.{IfSome_then}
-use Rattle.shb_lines.specs.TraceData.{IsReadingOf}
+use Rattle.shb_lines.specs.text.TraceData.{IsReadingOf}
 use Rattle.shb_run.specs.Runs.{limits}
 use Rattle.shb_run.proofs.Endings.{not_silent}
 use Rattle.shb_run.proofs.verdicts.check.Goals as goal

@@ -1,5 +1,5 @@
 use Rattle.std.proofs.Common.{rules, ◌+◌, false, None, arith, refl, subst}
-use Rattle.shb_lines.specs.Discipline.{IsDisciplined}
+use Rattle.shb_lines.specs.events.Discipline.{IsDisciplined}
 use Rattle.shb_run.proofs.Blocks.{HasBlocks-push, WritesBlocks-stop}
 use Rattle.shb_run.proofs.Ranges.{first_in_range, second_in_range}
 use Rattle.shb_run.proofs.write.write_pairs.Goals as goal

@@ -1,6 +1,6 @@
 use Rattle.std.proofs.Common.{arith, map, subst}
 use Rattle.shb_io.proofs.Growth.{Appends-trans, AppendsPrefix-after, AppendsPrefix-front, Writes-err}
-use Rattle.shb_lines.specs.Discipline.{IsDisciplined}
+use Rattle.shb_lines.specs.events.Discipline.{IsDisciplined}
 use Rattle.shb_pairs.specs.Races.{ends}
 use Rattle.shb_report.specs.Report.{tail_bytes}
 use Rattle.shb_run.proofs.Blocks.{AppendsFront-then}

@@ -1,5 +1,5 @@
 use Rattle.std.proofs.Common.{rules, ◌≡◌, ◌+◌, true, map, Ok, Err, subst}
-use Rattle.shb_lines.specs.Discipline.{IsDisciplined}
+use Rattle.shb_lines.specs.events.Discipline.{IsDisciplined}
 use Rattle.shb_pairs.specs.Races.{ends}
 use Rattle.shb_run.specs.Written.{WritesBlocks}
 use Rattle.shb_run.specs.declared.errors.WriteError.TheVariants as errors

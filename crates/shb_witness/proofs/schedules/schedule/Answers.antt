@@ -1,8 +1,8 @@
 use Rattle.std.proofs.Common.{◌≡◌, ℕ, [], ◌∷◌, ◌++◌, ◌<◌, length, Vec, Global, ap, ◌∙◌, arith}
 use Rattle.std.proofs.lemmas.Option.{slice_get-get_or}
 use Rattle.shb_lines.specs.declared.event.Op.TheVariants.{Read}
-use Rattle.shb_lines.proofs.Listed.{listed_more_yes, listed_more_no}
-use Rattle.shb_lines.proofs.Schedulable.{printed_is_schedule}
+use Rattle.shb_lines.proofs.events.Listed.{listed_more_yes, listed_more_no}
+use Rattle.shb_lines.proofs.events.Schedulable.{printed_is_schedule}
 use Rattle.shb_witness.specs.Cuts.{BelowEither}
 use Rattle.shb_witness.proofs.CutLemmas.{cut_test}
 use Rattle.shb_witness.proofs.Printed.{race_ends, printed_before}

@@ -1,4 +1,4 @@
-use Rattle.shb_lines.proofs.Listed.{IsListed}
+use Rattle.shb_lines.proofs.events.Listed.{IsListed}
 use Rattle.shb_witness.specs.Cuts.{BelowEither}
 use Rattle.shb_witness.proofs.schedules.schedule.Given as goal
 

@@ -2,11 +2,11 @@ use Rattle.std.proofs.Common.{◌≡◌, ℕ, List, Some, get_or, subst, arith}
 use Rattle.std.proofs.lemmas.Bool.{ltb-true}
 use Rattle.shb_lines.specs.declared.event.Event.{Event}
 use Rattle.shb_lines.specs.declared.event.Op.TheVariants.{Read}
-use Rattle.shb_lines.specs.Discipline.{place_in_thread}
-use Rattle.shb_lines.specs.Events.{thread_at}
-use Rattle.shb_lines.specs.Order.{IsBelowPredCount}
-use Rattle.shb_lines.proofs.Items.{thread_item}
-use Rattle.shb_lines.proofs.Prefix.{local_from_below}
+use Rattle.shb_lines.specs.events.Discipline.{place_in_thread}
+use Rattle.shb_lines.specs.events.Events.{thread_at}
+use Rattle.shb_lines.specs.events.Order.{IsBelowPredCount}
+use Rattle.shb_lines.proofs.events.Items.{thread_item}
+use Rattle.shb_lines.proofs.events.Prefix.{local_from_below}
 use Rattle.shb_witness.proofs.tests.is_race.Goals as goal
 
 pub returns-then-events_conflict_at : goal.returns-then-events_conflict_at

@@ -1,6 +1,6 @@
 use Rattle.std.proofs.Common.{◌<◌, List, length, sym, subst}
 use Rattle.shb_lines.specs.declared.event.Event.{Event}
-use Rattle.shb_lines.specs.Order.{IsBelowPredCount}
+use Rattle.shb_lines.specs.events.Order.{IsBelowPredCount}
 use Rattle.shb_clocks.proofs.clock_versions.ClockVersionsOrder.below_pred.Goals as goal
 
 pub below_pred-requires : goal.below_pred-requires

@@ -1,6 +1,6 @@
 use Rattle.std.proofs.Common.{List, length, ◌∙◌, ap, subst, sym, arith}
 use Rattle.shb_lines.specs.declared.event.Event.{Event}
-use Rattle.shb_lines.specs.Order.{IsPred}
+use Rattle.shb_lines.specs.events.Order.{IsPred}
 use Rattle.shb_clocks.proofs.PastLemmas.{row_fits, row_front, count_from_clock, count_without_pred, clock_pred_range}
 use Rattle.shb_clocks.proofs.full_clocks.FullClocksOrder.below_pred.Goals as goal
 

@@ -1,6 +1,6 @@
 use Rattle.std.proofs.Common.{List, length, refl, sym, subst}
 use Rattle.shb_lines.specs.declared.event.Event.{Event}
-use Rattle.shb_lines.specs.Order.{IsPred}
+use Rattle.shb_lines.specs.events.Order.{IsPred}
 use Rattle.shb_clocks.proofs.PastLemmas.{count_from_clock, count_without_pred, clock_pred_range}
 use Rattle.shb_clocks.proofs.kept_clocks.KeptClocks.below_pred.Goals as goal
 

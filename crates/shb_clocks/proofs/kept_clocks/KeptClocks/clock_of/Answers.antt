@@ -2,8 +2,8 @@ use Rattle.std.proofs.Common.{ℕ, set, get_or, ap, subst, sym, ◌∙◌, arith
 use Rattle.std.proofs.lemmas.Option.{slice_get-get_or}
 use Rattle.shb_lines.specs.declared.event.Event.{Event}
 use Rattle.shb_lines.specs.declared.event.Op.TheVariants.{Read}
-use Rattle.shb_lines.specs.Order.{ShbBelow}
-use Rattle.shb_lines.proofs.Items.{thread_item}
+use Rattle.shb_lines.specs.events.Order.{ShbBelow}
+use Rattle.shb_lines.proofs.events.Items.{thread_item}
 use Rattle.shb_clocks.specs.Fronts.{IsFront}
 use Rattle.shb_clocks.specs.Learned.{IsFrontBut, IsRowUpTo}
 use Rattle.shb_clocks.proofs.LearnedLemmas.{front_whole, kept_item, row_within, local_is}

@@ -1,7 +1,7 @@
 use Rattle.std.proofs.Common.{get_or}
 use Rattle.shb_lines.specs.declared.event.Event.{Event}
 use Rattle.shb_lines.specs.declared.event.Op.TheVariants.{Read}
-use Rattle.shb_lines.proofs.Items.{thread_item}
+use Rattle.shb_lines.proofs.events.Items.{thread_item}
 use Rattle.shb_clocks.proofs.LearnedLemmas.{all_kept_still}
 use Rattle.shb_clocks.proofs.learned_past.LearnedPast.keep.Goals as goal
 

@@ -1,7 +1,7 @@
 use Rattle.std.proofs.Common.{List, Some, ◌∙◌, sym, ap, subst}
 use Rattle.shb_lines.specs.declared.event.Event.{Event}
-use Rattle.shb_lines.specs.Order.{LastWrite, ShbBelow}
-use Rattle.shb_lines.proofs.Items.{op_item}
+use Rattle.shb_lines.specs.events.Order.{LastWrite, ShbBelow}
+use Rattle.shb_lines.proofs.events.Items.{op_item}
 use Rattle.shb_links.specs.Latest.{OfThread}
 use Rattle.shb_clocks.specs.Fronts.{BelowRelease}
 use Rattle.shb_clocks.proofs.PastLemmas.{lock_front, latest_some, latest_none, exactly_none, op_within, learns_nothing, front_learns_nothing, front_learns, acquire_learns, join_learns, join_learns_nothing, read_learns_nothing}

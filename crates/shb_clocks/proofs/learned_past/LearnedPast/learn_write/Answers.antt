@@ -1,8 +1,8 @@
 use Rattle.std.proofs.Common.{ℕ, List, get_or, ap, ◌∙◌, arith}
 use Rattle.shb_lines.specs.declared.event.Event.{Event}
 use Rattle.shb_lines.specs.declared.event.Op.TheVariants.{Read}
-use Rattle.shb_lines.specs.Order.{ShbBelow}
-use Rattle.shb_lines.proofs.Items.{thread_item}
+use Rattle.shb_lines.specs.events.Order.{ShbBelow}
+use Rattle.shb_lines.proofs.events.Items.{thread_item}
 use Rattle.shb_clocks.proofs.LearnedLemmas.{local_is}
 use Rattle.shb_clocks.proofs.PastLemmas.{front_learns, front_known_write, read_learns}
 use Rattle.shb_clocks.proofs.learned_past.LearnedPast.learn_write.Goals as goal

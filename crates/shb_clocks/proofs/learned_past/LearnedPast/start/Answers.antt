@@ -1,7 +1,7 @@
 use Rattle.std.proofs.Common.{List, sym, subst, arith}
 use Rattle.shb_lines.specs.declared.event.Event.{Event}
-use Rattle.shb_lines.specs.Order.{IsPred, BelowPred}
-use Rattle.shb_lines.proofs.Schedulable.{pred_earlier}
+use Rattle.shb_lines.specs.events.Order.{IsPred, BelowPred}
+use Rattle.shb_lines.proofs.events.Schedulable.{pred_earlier}
 use Rattle.shb_clocks.specs.Fronts.{IsFront}
 use Rattle.shb_clocks.proofs.PastLemmas.{front_pred, front_no_pred}
 use Rattle.shb_clocks.proofs.learned_past.LearnedPast.start.Goals as goal

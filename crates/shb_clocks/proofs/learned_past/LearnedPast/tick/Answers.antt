@@ -1,8 +1,8 @@
 use Rattle.std.proofs.Common.{ℕ, ◌≡◌, Some, get_or, set, subst, sym, ◌∙◌, ap}
 use Rattle.shb_lines.specs.declared.event.Event.{Event}
 use Rattle.shb_lines.specs.declared.event.Op.TheVariants.{Read}
-use Rattle.shb_lines.specs.Order.{ShbBelow}
-use Rattle.shb_lines.proofs.Items.{thread_item}
+use Rattle.shb_lines.specs.events.Order.{ShbBelow}
+use Rattle.shb_lines.proofs.events.Items.{thread_item}
 use Rattle.shb_clocks.specs.Learned.{IsFrontBut}
 use Rattle.shb_clocks.proofs.MayLearn.{front_without_own}
 use Rattle.shb_clocks.proofs.learned_past.LearnedPast.tick.Goals as goal

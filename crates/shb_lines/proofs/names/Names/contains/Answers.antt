@@ -1,5 +1,5 @@
 use Rattle.std.proofs.Common.{◌∙◌}
-use Rattle.shb_lines.proofs.NameLemmas.{lookup-names_in}
+use Rattle.shb_lines.proofs.text.NameLemmas.{lookup-names_in}
 use Rattle.shb_lines.proofs.names.Names.contains.Goals as goal
 
 pub returns : goal.returns

@@ -1,7 +1,7 @@
 -- A remembered name changes no table.
 use Rattle.std.proofs.Common.{sym}
-use Rattle.shb_lines.specs.Names.{names_in}
-use Rattle.shb_lines.proofs.NameLemmas.{with_name-known}
+use Rattle.shb_lines.specs.text.Names.{names_in}
+use Rattle.shb_lines.proofs.text.NameLemmas.{with_name-known}
 use Rattle.shb_lines.proofs.names.Names.number_of.Goals as goal
 
 pub returns-in-Some-clause-names : goal.returns-in-Some-clause-names

@@ -3,15 +3,15 @@ use Rattle.std.proofs.Common.{◌≡◌, ◌<◌, ◌≤◌, Bool, IfSome, List,
 use Rattle.std.proofs.lemmas.Bool.Decides.{nat_tests}
 use Rattle.std.specs.Str.Lines.{strip_carriage_return}
 use Rattle.shb_lines.specs.declared.names.Span.{Span}
-use Rattle.shb_lines.specs.Grammar.{Meaning}
-use Rattle.shb_lines.specs.Meaning.{meaning}
-use Rattle.shb_lines.specs.Names.{StandsAt}
-use Rattle.shb_lines.specs.Parsed.{events_of, part}
-use Rattle.shb_lines.specs.Reader.{AddsEvent}
-use Rattle.shb_lines.specs.Reading.{IsPlaced, meaning_of, named}
-use Rattle.shb_lines.proofs.FaultLemmas.{accepted, refused, too_many_events, too_many_threads}
-use Rattle.shb_lines.proofs.LineLemmas.{StandsAt-front, StandsAt-inner, StandsAt-part, length-events_of, length-threads_of}
-use Rattle.shb_lines.proofs.TraceLemmas.{HasRead-none, HasRead-some}
+use Rattle.shb_lines.specs.text.Grammar.{Meaning}
+use Rattle.shb_lines.specs.text.Meaning.{meaning}
+use Rattle.shb_lines.specs.text.Names.{StandsAt}
+use Rattle.shb_lines.specs.text.Parsed.{events_of, part}
+use Rattle.shb_lines.specs.text.Reader.{AddsEvent}
+use Rattle.shb_lines.specs.text.Reading.{IsPlaced, meaning_of, named}
+use Rattle.shb_lines.proofs.text.FaultLemmas.{accepted, refused, too_many_events, too_many_threads}
+use Rattle.shb_lines.proofs.text.LineLemmas.{StandsAt-front, StandsAt-inner, StandsAt-part, length-events_of, length-threads_of}
+use Rattle.shb_lines.proofs.text.TraceLemmas.{HasRead-none, HasRead-some}
 use Rattle.shb_lines.proofs.reader.Reader.take_line.Goals as goal
 
 -- what the test of the threads says of their count

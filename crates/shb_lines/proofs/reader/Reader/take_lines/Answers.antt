@@ -1,11 +1,11 @@
 -- Each line that is taken is the next one of the text.
 use Rattle.std.proofs.Common.{◌<◌, ◌≤◌, None, Some, arith, length, refl, subst, sym, take}
 use Rattle.shb_lines.specs.declared.event.Fault.TheVariants as faults
-use Rattle.shb_lines.specs.Faults.{HasLineFault, IsLowest}
-use Rattle.shb_lines.specs.Parsed.{HasRead, events_of, lines_read, part}
-use Rattle.shb_lines.specs.Text.{lines_of}
-use Rattle.shb_lines.proofs.FirstFault.{IsFaultless-more}
-use Rattle.shb_lines.proofs.Taken.{taken}
+use Rattle.shb_lines.specs.text.Faults.{HasLineFault, IsLowest}
+use Rattle.shb_lines.specs.text.Parsed.{HasRead, events_of, lines_read, part}
+use Rattle.shb_lines.specs.text.Text.{lines_of}
+use Rattle.shb_lines.proofs.text.FirstFault.{IsFaultless-more}
+use Rattle.shb_lines.proofs.text.Taken.{taken}
 use Rattle.shb_lines.proofs.reader.Reader.take_lines.Goals as goal
 
 pub returns-in-Some-clause-reading : goal.returns-in-Some-clause-reading

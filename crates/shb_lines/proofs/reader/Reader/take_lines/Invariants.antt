@@ -1,10 +1,10 @@
 -- The lines before the place where the next one begins are read, and have no fault.
 use Rattle.std.proofs.Common.{◌+◌, ◌-◌, ◌<◌, ◌≤◌, length, take, vec_len}
-use Rattle.shb_lines.specs.Faults.{IsFaultless}
-use Rattle.shb_lines.specs.Parsed.{HasRead}
-use Rattle.shb_lines.specs.Reader.{HasRoom}
-use Rattle.shb_lines.specs.Text.{lines_of}
-use Rattle.shb_lines.proofs.Scanning.{IsStart}
+use Rattle.shb_lines.specs.text.Faults.{IsFaultless}
+use Rattle.shb_lines.specs.text.Parsed.{HasRead}
+use Rattle.shb_lines.specs.text.Reader.{HasRoom}
+use Rattle.shb_lines.specs.text.Text.{lines_of}
+use Rattle.shb_lines.proofs.text.Scanning.{IsStart}
 use Rattle.shb_lines.proofs.reader.Reader.take_lines.Given as goal
 
 abbrev pub invariant-loop-start : goal.invariant-loop-start

@@ -1,7 +1,7 @@
 -- The events are those of a well-formed trace.
 use Rattle.std.proofs.Common.{subst}
-use Rattle.shb_lines.specs.Sizes.{IsNumberedByAccess}
-use Rattle.shb_lines.specs.TraceData.{TraceData}
+use Rattle.shb_lines.specs.events.Sizes.{IsNumberedByAccess}
+use Rattle.shb_lines.specs.text.TraceData.{TraceData}
 use Rattle.shb_lines.proofs.trace.Trace.events.Goals as goal
 
 pub returns-clause-numbered : goal.returns-clause-numbered

@@ -1,6 +1,6 @@
 -- Different numbers are different names.
 use Rattle.std.proofs.Common.{ap}
-use Rattle.shb_lines.proofs.Named.{alone}
+use Rattle.shb_lines.proofs.text.Named.{alone}
 use Rattle.shb_lines.proofs.trace.Trace.thread_name.Goals as goal
 
 pub returns-clause-alone : goal.returns-clause-alone

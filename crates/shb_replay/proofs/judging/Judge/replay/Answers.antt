@@ -1,6 +1,6 @@
 use Rattle.std.proofs.Common.{◌≡◌, ◌↔◌, List, None, subst}
 use Rattle.shb_lines.specs.declared.event.Event.{Event}
-use Rattle.shb_lines.specs.Schedule.{IsSchedule}
+use Rattle.shb_lines.specs.events.Schedule.{IsSchedule}
 use Rattle.shb_replay.proofs.Lowest.{answer_none}
 use Rattle.shb_replay.proofs.judging.Judge.replay.Goals as goal
 

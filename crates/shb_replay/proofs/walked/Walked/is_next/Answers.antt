@@ -1,7 +1,7 @@
 use Rattle.std.proofs.Common.{List, length, arith, subst}
 use Rattle.std.proofs.lemmas.Option.{slice_get_read}
 use Rattle.shb_lines.specs.declared.event.Event.{Event}
-use Rattle.shb_lines.specs.Order.{IsPred}
+use Rattle.shb_lines.specs.events.Order.{IsPred}
 use Rattle.shb_links.specs.Links.{Exactly}
 use Rattle.shb_replay.specs.Reasons.{StandsEarlier}
 use Rattle.shb_replay.proofs.OrderReasons.{flag_false, flag_true, next_tells, preds_in_trace, standing_not_next}

@@ -1,7 +1,7 @@
 use Rattle.std.proofs.Common.{ap, Some, ◌∙◌}
 use Rattle.std.proofs.lemmas.Option.{slice_get-get_or}
 use Rattle.shb_lines.specs.declared.event.Op.TheVariants.{Write, Join}
-use Rattle.shb_lines.proofs.Items.{op_item}
+use Rattle.shb_lines.proofs.events.Items.{op_item}
 use Rattle.shb_links.proofs.Tables.{op_within, op_other}
 use Rattle.shb_replay.proofs.WalkSteps.{walked_join, walked_write, walked_other}
 use Rattle.shb_replay.proofs.walked.Walked.note.Goals as goal

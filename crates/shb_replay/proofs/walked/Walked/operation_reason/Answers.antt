@@ -2,8 +2,8 @@ use Rattle.std.proofs.Common.{◌<◌, List, Some, None, length, arith, slice_in
 use Rattle.std.proofs.lemmas.Option.{slice_get-get_or, slice_get_read}
 use Rattle.shb_lines.specs.declared.event.Event.{Event}
 use Rattle.shb_lines.specs.declared.event.Op.TheVariants.{Read, Fork, Join}
-use Rattle.shb_lines.specs.Order.{LastWrite}
-use Rattle.shb_lines.proofs.Items.{op_item}
+use Rattle.shb_lines.specs.events.Order.{LastWrite}
+use Rattle.shb_lines.proofs.events.Items.{op_item}
 use Rattle.shb_links.proofs.Tables.{op_within}
 use Rattle.shb_links.specs.Latest.{OfThread}
 use Rattle.shb_links.specs.Links.{Exactly}

@@ -1,6 +1,6 @@
 use Rattle.std.proofs.Common.{Some, None, length, arith, slice_index_or}
 use Rattle.std.proofs.lemmas.Option.{slice_get-get_or, slice_get_read}
-use Rattle.shb_lines.specs.Order.{IsPred}
+use Rattle.shb_lines.specs.events.Order.{IsPred}
 use Rattle.shb_replay.specs.Reasons.{HasReason, StandsEarlier}
 use Rattle.shb_replay.specs.Walks.{IsLowestIn}
 use Rattle.shb_replay.specs.declared.broken.Why.TheVariants as whys

@@ -1,0 +1,15 @@
+-- Lemmas on lists of events.
+pub mod ConflictTests
+pub mod Counts
+pub mod Decide
+pub mod Events
+pub mod Items
+pub mod Listed
+pub mod Locks
+pub mod Places
+pub mod Prefix
+pub mod Reach
+pub mod Reordered
+pub mod Schedulable
+pub mod Search
+pub mod Unschedulable

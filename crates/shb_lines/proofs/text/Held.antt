@@ -1,0 +1,97 @@
+-- What places in a text stand for, where a reader has read the text's lines.
+use Rattle.std.proofs.Common.{◌≡◌, ◌+◌, ◌*◌, ◌≤◌, ℕ, List, [], ◌∷◌, length, map, Option, None, Some, refl, sym, ap, subst, ◌∙◌, arith}
+use Rattle.std.specs.List.{AllByRecursion, AllZip}
+use Rattle.std.proofs.lemmas.List.{length-map}
+use Rattle.shb_lines.specs.declared.event.Limits.{Limits}
+use Rattle.shb_lines.specs.declared.event.LineFault.{LineFault}
+use Rattle.shb_lines.specs.declared.names.Span.{Span}
+use Rattle.shb_lines.specs.declared.reader.Reader.{Reader}
+use Rattle.shb_lines.specs.declared.trace.Places.{Places}
+use Rattle.shb_lines.specs.text.Names.{NamesWithSpans, StandIn, StandsAt, bytes_at, names_in, spans_in}
+use Rattle.shb_lines.specs.text.Parsed.{HasRead, IsEventOf}
+use Rattle.shb_lines.specs.text.Reader.{HasRoom, tables_of}
+use Rattle.shb_lines.specs.text.Text.{LocatedEvent, trace_of}
+use Rattle.shb_lines.specs.text.TraceData.{ArePlaces, AreSpans, IsReading, IsTraceOf, names_at, tables_in, trace_at}
+use Rattle.shb_lines.proofs.text.LineLemmas.{length-texts}
+use Rattle.shb_lines.proofs.text.Numbers.{well_formed}
+
+pub IsReading-to : (limits : Limits) (text : List ℕ) (Holds Other : List (List ℕ) → Type 0) → ((lines : List (List ℕ)) → Holds lines → Other lines) → (stop : Option LineFault) → IsReading limits text Holds stop → IsReading limits text Other stop
+IsReading-to limits text Holds Other to None h = (h.0, to _ h.1)
+IsReading-to limits text Holds Other to (Some stop) h = (h.0, h.1, h.2, to _ h.3)
+
+-- the lines whose trace is held
+pub held_lines : (limits : Limits) (text : List ℕ) (Holds : List (List ℕ) → Type 0) (stop : Option LineFault) → IsReading limits text Holds stop → (lines : List (List ℕ)) × Holds lines
+held_lines limits text Holds None h = (_, h.1)
+held_lines limits text Holds (Some stop) h = (_, h.3)
+
+module _ (text : List ℕ) where
+  names_at-spans_in : (entries : NamesWithSpans) → StandIn text entries → names_at text (spans_in entries) ≡ names_in entries
+  names_at-spans_in [] h = refl
+  names_at-spans_in (e ∷ entries) h = λ i. h.0.reads i ∷ names_at-spans_in entries h.1 i
+
+  names_are : (spans : List Span) (entries : NamesWithSpans) → spans ≡ spans_in entries → StandIn text entries → names_at text spans ≡ names_in entries
+  names_are spans entries is h = ap (names_at text) is ∙ names_at-spans_in entries h
+
+  spans_within : (entries : NamesWithSpans) → StandIn text entries → AllByRecursion (λ span. span.start + span.len ≤ length text) (spans_in entries)
+  spans_within [] h = tt
+  spans_within (e ∷ entries) h = (h.0.within, spans_within entries h.1)
+
+  spans_are : (spans : List Span) (entries : NamesWithSpans) (n : ℕ) → spans ≡ spans_in entries → StandIn text entries → length entries ≤ 2 * n → n ≤ 4194304 → AreSpans text spans
+  spans_are spans entries n is h few most = record {
+    few = omega (arith, ap (λ l. length l) is ∙ length-map entries (λ e. e.1));
+    within = subst (AllByRecursion (λ (span : Span). span.start + span.len ≤ length text)) (sym is) (spans_within entries h);
+  }
+
+  texts_within : (texts : List Span) (events : List LocatedEvent) → AllZip (λ s e. StandsAt text e.text s) texts events → AllByRecursion (λ span. span.start + span.len ≤ length text) texts
+  texts_within [] events h = tt
+  texts_within (s ∷ texts) [] h = absurd h
+  texts_within (s ∷ texts) (e ∷ events) h = (h.0.within, texts_within texts events h.1)
+
+  lines_are : (texts : List Span) (events : List LocatedEvent) → AllZip (λ s e. StandsAt text e.text s) texts events → map (bytes_at text) texts ≡ map (λ e. e.text) events
+  lines_are [] [] h = refl
+  lines_are [] (e ∷ events) h = absurd h
+  lines_are (s ∷ texts) [] h = absurd h
+  lines_are (s ∷ texts) (e ∷ events) h = λ i. h.0.reads i ∷ lines_are texts events h.1 i
+
+-- the places are those that a reader has noted
+pub record AreNoted (reader : Reader) (places : Places) : Type 0 where
+  pub events : places.events ≡ reader.events
+  pub texts : places.texts ≡ reader.texts
+  pub threads : places.threads.items ≡ spans_in reader.threads.table.entries
+  pub locks : places.locks.items ≡ spans_in reader.locks.table.entries
+  pub variables : places.variables.items ≡ spans_in reader.variables.table.entries
+
+module _ (text : List ℕ) (reader : Reader) (places : Places) (noted : AreNoted reader places) (lines : List (List ℕ)) (read : HasRead text reader lines) where
+  tables_same : tables_in (trace_at text places) ≡ tables_of reader
+  tables_same = λ i. record {
+    threads = names_are text places.threads.items reader.threads.table.entries noted.threads read.stand.threads i;
+    locks = names_are text places.locks.items reader.locks.table.entries noted.locks read.stand.locks i;
+    variables = names_are text places.variables.items reader.variables.table.entries noted.variables read.stand.variables i;
+  }
+
+  pub trace_held : IsTraceOf lines (trace_at text places)
+  trace_held = record {
+    tables_are = tables_same ∙ read.tables_are;
+    events_are = subst (λ t. AllZip (IsEventOf t) places.events.items (trace_of lines)) (sym tables_same)
+        (subst (λ events. AllZip (IsEventOf (tables_of reader)) events (trace_of lines)) (sym (ap (λ v. v.items) noted.events)) read.events_are);
+    lines_are = ap (λ v. map (bytes_at text) v.items) noted.texts ∙ lines_are text reader.texts.items (trace_of lines) read.texts_are;
+  }
+
+  pub places_held : length text ≤ 1073741825 → length reader.events.items ≤ 4194304 → HasRoom reader → ArePlaces text places
+  places_held short few room =
+      let n = length reader.events.items in
+      let len = reader.events.ok.0 in
+      let events_len : length places.events.items ≡ n = ap (λ v. length v.items) noted.events in
+      let texts_len : length places.texts.items ≡ n = ap (λ v. length v.items) noted.texts ∙ length-texts text reader lines read in
+      record {
+        short = omega arith;
+        a_line_each = texts_len ∙ sym events_len;
+        texts = record {
+          few = omega (arith, texts_len, few);
+          within = subst (AllByRecursion (λ (span : Span). span.start + span.len ≤ length text)) (sym (ap (λ v. v.items) noted.texts)) (texts_within text reader.texts.items (trace_of lines) read.texts_are);
+        };
+        threads = spans_are text places.threads.items reader.threads.table.entries n noted.threads read.stand.threads (omega (arith, room.threads, len)) few;
+        locks = spans_are text places.locks.items reader.locks.table.entries n noted.locks read.stand.locks (omega (arith, room.locks, len)) few;
+        variables = spans_are text places.variables.items reader.variables.table.entries n noted.variables read.stand.variables (omega (arith, room.variables, len)) few;
+        well_formed = well_formed lines (trace_at text places) trace_held (omega (arith, events_len, few));
+      }

@@ -1,0 +1,160 @@
+-- What an insertion does to the names.
+use Rattle.std.proofs.Common.{◌≡◌, ◌+◌, ◌≤◌, ◌||◌, ℕ, Bool, true, false, cond, not, zero, suc, List, [], ◌∷◌, length, add-zero, is_some, Some, slice_get, refl, sym, ap, subst, ◌∙◌, arith}
+use Rattle.std.specs.Borrow.{Bor}
+use mir.Val.{bool_byte}
+use Rattle.std.specs.List.{list_any, position_or_len}
+use Rattle.std.specs.Str.{bytes_eq}
+use Rattle.std.proofs.lemmas.Slice.Eq.{bytes_eq-Decides}
+use Rattle.std.proofs.Math.Numerals.{one-add}
+use Rattle.std.specs.Map.{keys_of, lookup}
+use Rattle.indexmap.specs.IndexMap.{insert_entry}
+use Rattle.shb_lines.specs.declared.names.Span.{Span}
+use Rattle.shb_lines.specs.text.Reader.{with_names}
+use Rattle.shb_lines.specs.text.Names.{with_name, names_in, NamesWithSpans, StandsAt, StandIn}
+
+-- names with the same bytes are one
+bytes_eq-same : (xs ys : List ℕ) → bytes_eq xs ys ≡ true → xs ≡ ys
+bytes_eq-same xs ys = (bytes_eq-Decides xs ys).0
+
+abbrev pub same_name : Bor (List ℕ) → Bor (List ℕ) → Bool
+same_name x y = bytes_eq x.now y.now
+
+module _ (name : Bor (List ℕ)) (span : Span) where
+  pub names_in-insert_entry : (entries : NamesWithSpans) → names_in (insert_entry same_name entries name span) ≡ with_name (names_in entries) name.now
+  names_in-insert_entry [] = refl
+  names_in-insert_entry (e ∷ entries) = by (bytes_eq name.now e.0.now) (names_in-insert_entry entries)
+    where
+      by : (b : Bool) → names_in (insert_entry same_name entries name span) ≡ with_name (names_in entries) name.now
+          → names_in (cond b ((e.0, span) ∷ entries) (e ∷ insert_entry same_name entries name span)) ≡ cond b (e.0.now ∷ names_in entries) (e.0.now ∷ with_name (names_in entries) name.now)
+      by true rest = refl
+      by false rest = ap (λ names. e.0.now ∷ names) rest
+
+  pub StandIn-insert_entry : (text : List ℕ) (entries : NamesWithSpans) → StandsAt text name.now span → StandIn text entries → StandIn text (insert_entry same_name entries name span)
+  StandIn-insert_entry text [] here all = (here, tt)
+  StandIn-insert_entry text (e ∷ entries) here all = by (bytes_eq name.now e.0.now) refl (StandIn-insert_entry text entries here all.1)
+    where
+      by : (b : Bool) → bytes_eq name.now e.0.now ≡ b → StandIn text (insert_entry same_name entries name span) → StandIn text (cond b ((e.0, span) ∷ entries) (e ∷ insert_entry same_name entries name span))
+      by true same rest = (subst (λ bytes. StandsAt text bytes span) (bytes_eq-same name.now e.0.now same) here, all.1)
+      by false same rest = (all.0, rest)
+
+-- a name's number is its place in the table
+pub with_name-at : (names : List (List ℕ)) (name : List ℕ) → slice_get (with_name names name) (position_or_len (bytes_eq name) names) ≡ Some name
+with_name-at [] name = refl
+with_name-at (known ∷ names) name = by (bytes_eq name known) refl (with_name-at names name)
+  where
+    by : (b : Bool) → bytes_eq name known ≡ b → slice_get (with_name names name) (position_or_len (bytes_eq name) names) ≡ Some name
+        → slice_get (cond b (known ∷ names) (known ∷ with_name names name)) (cond (not b) (1 + position_or_len (bytes_eq name) names) 0) ≡ Some name
+    by true same rest = ap Some (sym (bytes_eq-same name known same))
+    by false same rest = rw (one-add (position_or_len (bytes_eq name) names)) rest
+
+-- the keys' places are the names' places
+pub position-names_in : (name : Bor (List ℕ)) (entries : NamesWithSpans) → position_or_len (same_name name) (keys_of entries) ≡ position_or_len (bytes_eq name.now) (names_in entries)
+position-names_in name [] = refl
+position-names_in name (e ∷ entries) = ap (λ n. cond (not (bytes_eq name.now e.0.now)) (1 + n) 0) (position-names_in name entries)
+
+-- a known name keeps its number when a name is put last
+pub slice_get-with_name : (names : List (List ℕ)) (name known : List ℕ) (number : ℕ) → slice_get names number ≡ Some known → slice_get (with_name names name) number ≡ Some known
+slice_get-with_name [] name known number h = cc
+slice_get-with_name (first ∷ names) name known number h = by (bytes_eq name first) number h (slice_get-with_name names name known)
+  where
+    by : (b : Bool) (number : ℕ) → slice_get (first ∷ names) number ≡ Some known
+        → ((k : ℕ) → slice_get names k ≡ Some known → slice_get (with_name names name) k ≡ Some known)
+        → slice_get (cond b (first ∷ names) (first ∷ with_name names name)) number ≡ Some known
+    by true number h rest = h
+    by false zero h rest = h
+    by false (suc k) h rest = rest k h
+
+pub slice_get-with_names : (more names : List (List ℕ)) (known : List ℕ) (number : ℕ) → slice_get names number ≡ Some known → slice_get (with_names names more) number ≡ Some known
+slice_get-with_names [] names known number h = h
+slice_get-with_names (name ∷ more) names known number h = slice_get-with_names more (with_name names name) known number (slice_get-with_name names name known number h)
+
+-- a table grows by a name that is new
+pub length-with_name : (names : List (List ℕ)) (name : List ℕ) → length (with_name names name) ≡ length names + cond (list_any (bytes_eq name) names) 0 1
+length-with_name [] name = refl
+length-with_name (known ∷ names) name = by (bytes_eq name known) (length-with_name names name)
+  where
+    by : (b : Bool) → length (with_name names name) ≡ length names + cond (list_any (bytes_eq name) names) 0 1
+        → length (cond b (known ∷ names) (known ∷ with_name names name)) ≡ length (known ∷ names) + cond (b || list_any (bytes_eq name) names) 0 1
+    by true rest = omega arith
+    by false rest = omega (arith, rest)
+
+or_false : (x : Bool) → x ≡ (x || false)
+or_false true = refl
+or_false false = refl
+
+any-with_name : (names : List (List ℕ)) (name other : List ℕ) → list_any (bytes_eq other) (with_name names name) ≡ (list_any (bytes_eq other) names || bytes_eq other name)
+any-with_name [] name other = by (bytes_eq other name)
+  where
+    by : (b : Bool) → (b || false) ≡ (false || b)
+    by true = refl
+    by false = refl
+any-with_name (known ∷ names) name other = by (bytes_eq name known) refl (bytes_eq other known) refl (any-with_name names name other)
+  where
+    by : (b : Bool) → bytes_eq name known ≡ b → (o : Bool) → bytes_eq other known ≡ o → list_any (bytes_eq other) (with_name names name) ≡ (list_any (bytes_eq other) names || bytes_eq other name)
+        → list_any (bytes_eq other) (cond b (known ∷ names) (known ∷ with_name names name)) ≡ ((o || list_any (bytes_eq other) names) || bytes_eq other name)
+    by true same true is rest = ap (λ (x : Bool). x || list_any (bytes_eq other) names) is
+    by true same false is rest =
+        ap (λ (x : Bool). x || list_any (bytes_eq other) names) is
+        ∙ or_false (list_any (bytes_eq other) names)
+        ∙ ap (λ (x : Bool). list_any (bytes_eq other) names || x) (sym (ap (bytes_eq other) (bytes_eq-same name known same) ∙ is))
+    by false same true is rest = ap (λ (x : Bool). x || list_any (bytes_eq other) (with_name names name)) is
+    by false same false is rest = ap (λ (x : Bool). x || list_any (bytes_eq other) (with_name names name)) is ∙ rest
+
+-- a known name changes no table
+pub with_name-known : (names : List (List ℕ)) (name : List ℕ) (number : ℕ) → slice_get names number ≡ Some name → with_name names name ≡ names
+with_name-known [] name number h = absurd cc
+with_name-known (first ∷ names) name number h = by (bytes_eq name first) refl number h (with_name-known names name)
+  where
+    by : (b : Bool) → bytes_eq name first ≡ b → (number : ℕ) → slice_get (first ∷ names) number ≡ Some name → ((k : ℕ) → slice_get names k ≡ Some name → with_name names name ≡ names)
+        → cond b (first ∷ names) (first ∷ with_name names name) ≡ first ∷ names
+    by true e number h rest = refl
+    by false e zero h rest = absurd (let same : name ≡ first = cc in let passes = (bytes_eq-Decides name first).1 same in cc)
+    by false e (suc number) h rest = ap (λ names. first ∷ names) (rest number h)
+
+pub length-with_name_le : (names : List (List ℕ)) (name : List ℕ) → length (with_name names name) ≤ length names + 1
+length-with_name_le names name = omega (arith, length-with_name names name, at_most (list_any (bytes_eq name) names))
+  where
+    at_most : (b : Bool) → cond b 0 1 ≤ 1
+    at_most true = omega arith
+    at_most false = omega arith
+
+pub length-with_names_le : (more names : List (List ℕ)) → length (with_names names more) ≤ length names + length more
+length-with_names_le [] names = omega arith
+length-with_names_le (name ∷ more) names = omega (arith, length-with_names_le more (with_name names name), length-with_name_le names name)
+
+-- a table has a name where a look-up finds it
+pub lookup-names_in : (name : List ℕ) (entries : NamesWithSpans) → is_some (lookup (λ k. bytes_eq name k.now) entries) ≡ list_any (bytes_eq name) (names_in entries)
+lookup-names_in name [] = refl
+lookup-names_in name (e ∷ entries) = by (bytes_eq name e.0.now) (lookup-names_in name entries)
+  where
+    by : (b : Bool) → is_some (lookup (λ k. bytes_eq name k.now) entries) ≡ list_any (bytes_eq name) (names_in entries)
+        → is_some (cond b (Some e.1) (lookup (λ k. bytes_eq name k.now) entries)) ≡ (b || list_any (bytes_eq name) (names_in entries))
+    by true rest = refl
+    by false rest = rest
+
+-- the same, with what a count of new names says
+pub new-one : (names : List (List ℕ)) (a : List ℕ) (own : ℕ) (new : Bool) → own ≡ bool_byte new → new ≡ not (list_any (bytes_eq a) names) → length (with_name names a) ≡ length names + own
+new-one names a own new own_is new_is =
+    length-with_name names a ∙ ap (λ n. length names + n) (by (list_any (bytes_eq a) names) ∙ sym (own_is ∙ ap bool_byte new_is))
+  where
+    by : (b : Bool) → cond b 0 1 ≡ bool_byte (not b)
+    by true = refl
+    by false = refl
+
+pub new-two : (names : List (List ℕ)) (a b : List ℕ) (own other : ℕ) (new newer : Bool) → own ≡ bool_byte new → new ≡ not (list_any (bytes_eq a) names) → other ≡ bool_byte newer → newer ≡ not (list_any (bytes_eq b) names) → bytes_eq b a ≡ false
+    → length (with_name (with_name names a) b) ≡ length names + (own + other)
+new-two names a b own other new newer own_is new_is other_is newer_is differ =
+    let last : length (with_name (with_name names a) b) ≡ length (with_name names a) + other =
+    new-one (with_name names a) b other newer other_is (newer_is ∙ ap not (or_false (list_any (bytes_eq b) names) ∙ ap (λ (x : Bool). list_any (bytes_eq b) names || x) (sym differ) ∙ sym (any-with_name names a b))) in
+    omega (arith, last, new-one names a own new own_is new_is)
+
+-- a name that was just put in is known
+pub new-same : (names : List (List ℕ)) (a b : List ℕ) → bytes_eq b a ≡ true → length (with_name (with_name names a) b) ≡ length (with_name names a)
+new-same names a b same =
+    length-with_name (with_name names a) b
+    ∙ ap (λ (x : Bool). length (with_name names a) + cond x 0 1) (any-with_name names a b ∙ ap (λ (x : Bool). list_any (bytes_eq b) names || x) same ∙ or_true (list_any (bytes_eq b) names))
+    ∙ add-zero (length (with_name names a))
+  where
+    or_true : (x : Bool) → (x || true) ≡ true
+    or_true true = refl
+    or_true false = refl

@@ -1,0 +1,18 @@
+-- A name that stands in a text is that of one number alone.
+use Rattle.std.proofs.Common.{◌≡◌, ◌<◌, ℕ, List, length, get_or, Some, option_map, slice_get, refl, sym, ap, subst, ◌∙◌, arith}
+use Rattle.std.specs.List.{IsDistinct}
+use Rattle.std.specs.Str.{bytes_eq}
+use Rattle.std.proofs.lemmas.List.{length-map}
+use Rattle.std.proofs.lemmas.Option.{slice_get-map, slice_get_read}
+use Rattle.shb_lines.specs.declared.names.Span.{Span}
+use Rattle.shb_lines.specs.text.Names.{bytes_at}
+use Rattle.shb_lines.specs.text.TraceData.{names_at}
+use Rattle.shb_lines.proofs.text.Numbers.{one_number}
+
+pub alone : (text : List ℕ) (spans : List Span) (names : List (List ℕ)) (k : ℕ) (span : Span) (bytes name : List ℕ) → names_at text spans ≡ names → k < length names → span ≡ get_or spans k span
+    → bytes ≡ text → name ≡ bytes_at bytes span → IsDistinct bytes_eq (names_at text spans) → (other : ℕ) → slice_get names other ≡ Some name → other ≡ k
+alone text spans names k span bytes name names_are below at bytes_are name_is differ other at_other =
+    let inside : k < length spans = omega (arith, ap length names_are, length-map spans (bytes_at text)) in
+    let at_k : slice_get (names_at text spans) k ≡ Some name =
+    slice_get-map (bytes_at text) spans k ∙ ap (option_map (bytes_at text)) (slice_get_read spans (length spans) k span refl inside at) ∙ ap Some (ap (λ b. bytes_at b span) (sym bytes_are) ∙ sym name_is) in
+    one_number (names_at text spans) name other k differ (subst (λ ns. slice_get ns other ≡ Some name) (sym names_are) at_other) at_k

@@ -1,0 +1,42 @@
+-- Tests that compute, for the plain programs and for the proofs; the contracts that they serve speak of edges and paths.
+use Rattle.std.specs.Prelude.{◌==◌, ℕ, Bool, true, false, not, ◌&&◌, ◌||◌, Option, Some}
+use Rattle.shb_lines.specs.events.Events.{variable_of}
+use Rattle.shb_lines.specs.declared.event.Event.{Event}
+use Rattle.shb_lines.specs.declared.event.Op.{Op}
+use Rattle.shb_lines.specs.declared.event.Op.TheVariants.{Write, Acquire, Release, Fork, Join}
+
+-- whether the first operation releases the lock that the second acquires
+abbrev pub passes_lock : Op → Op → Bool
+passes_lock (Release l) (Acquire m) = l == m
+passes_lock _ _ = false
+
+-- whether the operation forks the thread
+abbrev pub forks_thread : Op → ℕ → Bool
+forks_thread (Fork u) t = u == t
+forks_thread _ t = false
+
+-- whether the operation joins the thread
+abbrev pub joins_thread : Op → ℕ → Bool
+joins_thread (Join u) t = u == t
+joins_thread _ t = false
+
+-- whether an earlier event e happens before a later event d by an edge
+abbrev pub is_hb_rule : Event → Event → Bool
+is_hb_rule e d = (e.thread == d.thread) || (passes_lock e.op d.op || (forks_thread e.op d.thread || joins_thread d.op e.thread))
+
+-- whether the operation writes the variable
+abbrev pub writes_variable : Op → ℕ → Bool
+writes_variable (Write y) x = y == x
+writes_variable _ x = false
+
+abbrev pub is_write : Op → Bool
+is_write (Write y) = true
+is_write _ = false
+
+abbrev pub same_variable : Option ℕ → Option ℕ → Bool
+same_variable (Some x) (Some y) = x == y
+same_variable _ _ = false
+
+-- whether two events conflict
+abbrev pub is_conflict : Event → Event → Bool
+is_conflict e d = same_variable (variable_of e.op) (variable_of d.op) && ((is_write e.op || is_write d.op) && not (e.thread == d.thread))

@@ -1,0 +1,20 @@
+-- What a line's reading says, without where its bytes lie in memory.
+use Rattle.std.specs.Prelude.{◌≡◌, ◌+◌, ◌≤◌, List, ℕ, length, take, drop, Option, None, Some, Result, Ok, Err}
+use Rattle.shb_lines.specs.declared.event.Fault.{Fault}
+use Rattle.shb_lines.specs.declared.grammar.LineEvent.{LineEvent}
+use Rattle.shb_lines.specs.text.Grammar.{NamedEvent, Meaning}
+
+abbrev pub named : LineEvent → NamedEvent
+named e = record { thread = e.thread.now; kind = e.kind; operand = e.operand.now }
+
+abbrev pub meaning_of : Result (Option LineEvent) Fault → Meaning
+meaning_of (Ok None) = Ok None
+meaning_of (Ok (Some e)) = Ok (Some (named e))
+meaning_of (Err f) = Err f
+
+-- the thread and the operand stand in the line
+pub record IsPlaced (line : List ℕ) (e : LineEvent) : Type 0 where
+  pub thread_within : length e.thread.now ≤ length line
+  pub thread : e.thread.now ≡ take (length e.thread.now) line
+  pub operand_within : e.operand_at + length e.operand.now ≤ length line
+  pub operand : e.operand.now ≡ take (length e.operand.now) (drop e.operand_at line)
