@@ -2,13 +2,15 @@
 ghost use Rattle.std.specs.Prelude.{◌≡◌, ◌≤◌, length};
 ghost use Rattle.shb_lines.specs.events.Discipline.{IsDisciplined, IsDisciplined-prop};
 ghost use Rattle.shb_lines.specs.events.Sizes.{IsNumberedByAccess, IsNumberedByAccess-prop, IsWithin, IsWithin-prop};
+ghost use Rattle.shb_lines.specs.text.TraceData.{sizes_of};
 
 use shb_lines::{Event, Sizes, Trace};
 
 /// A trace that meets the discipline of locks, forks and joins, and what else is known of it: it
-/// has few events, its numbers are below its sizes, and its variables are numbered in the order of
-/// their first accesses. Only [`check`](crate::check) tests this; the type keeps it, so that nobody
-/// above asks again. It borrows the trace, and can be copied.
+/// has few events, its sizes are exactly the counts of its threads, locks and variables, its numbers
+/// are below them, and its variables are numbered in the order of their first accesses. Only
+/// [`check`](crate::check) tests this; the type keeps it, so that nobody above asks again. It borrows
+/// the trace, and can be copied.
 ///
 /// The discipline, for each event after those before it: its thread was not joined; a lock is
 /// acquired only while no other thread holds it (its holder may acquire it again) and released only
@@ -21,9 +23,10 @@ pub struct Disciplined<'a> {
     pub trace: &'a Trace,
     /// Its events, in the order of the text.
     pub events: &'a [Event],
-    /// How many threads, locks and variables it names.
+    /// How many threads, locks and variables it names, exactly.
     pub sizes: Sizes,
     pub ghost of_trace: { events.now ≡ trace.now.events },
+    pub ghost of_sizes: { sizes ≡ sizes_of trace.now },
     pub ghost few: { length events.now ≤ 4194304 },
     pub ghost within: { IsWithin events.now sizes } by { IsWithin-prop events.now sizes },
     pub ghost numbered: { IsNumberedByAccess events.now } by { IsNumberedByAccess-prop events.now },

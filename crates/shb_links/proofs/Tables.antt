@@ -9,10 +9,10 @@ use Rattle.shb_lines.specs.declared.event.Event.{Event}
 use Rattle.shb_lines.specs.declared.event.Op.{Op}
 use Rattle.shb_lines.specs.declared.event.Op.TheVariants.{Write, Fork}
 use Rattle.shb_lines.specs.events.Events.{op_at}
-use Rattle.shb_lines.proofs.events.Events.{event_of_op}
+use Rattle.shb_lines.proofs.events.Events.{event_of_op, event_of_thread}
 use Rattle.shb_lines.proofs.events.Items.{op_item, thread_item}
 use Rattle.shb_links.specs.Latest.{Latest, IsLatestTable, OfThread, WritesVariable, ForksThread}
-use Rattle.shb_links.specs.Links.{Exactly, HasForks}
+use Rattle.shb_links.specs.Links.{Exactly, HasForks, HasLastEvents}
 use Rattle.shb_lines.specs.events.Sizes.{IsOpWithin, IsWithin}
 use Rattle.shb_lines.specs.declared.event.Sizes.{Sizes}
 
@@ -108,3 +108,14 @@ forks_whole trace sizes table within has = record { each = λ t. go t (cases_lt 
     go : (t : ℕ) → (t < sizes.threads) ⊎ (sizes.threads ≤ t) → Exactly (ForksThread trace t) (get_or table t None)
     go t (inl lt) = no_later t (get_or table t None) (has.each t lt)
     go t (inr le) = subst (λ (o : Option ℕ). Exactly (ForksThread trace t) o) (sym (get_or_past table t None (let long = has.as_long in omega (arith, long, le)))) (absent t le)
+
+-- a table of last events over the whole trace
+pub last_whole : (trace : List Event) (sizes : Sizes) (table : List (Option ℕ)) → IsWithin trace sizes → IsLatestTable (OfThread trace) (length trace) sizes.threads table → HasLastEvents trace table
+last_whole trace sizes table within has = record { each = λ t. go t (cases_lt t sizes.threads) }
+  where
+    absent : (t : ℕ) → sizes.threads ≤ t → (k : ℕ) → k < length trace → OfThread trace t k → ⊥
+    absent t le k lt of_k = let e = event_of_thread trace k t of_k in let low = (within k e.0 e.1).thread in let is = e.2 in omega (arith, low, is, le)
+
+    go : (t : ℕ) → (t < sizes.threads) ⊎ (sizes.threads ≤ t) → Latest (OfThread trace t) (length trace) (get_or table t None)
+    go t (inl lt) = has.each t lt
+    go t (inr le) = subst (λ (o : Option ℕ). Latest (OfThread trace t) (length trace) o) (sym (get_or_past table t None (let long = has.as_long in omega (arith, long, le)))) (absent t le)

@@ -4,7 +4,7 @@ use Rattle.shb_lines.specs.declared.event.Event.{Event}
 use Rattle.shb_lines.specs.events.Events.{thread_at}
 use Rattle.shb_lines.specs.events.Discipline.{place_in_thread}
 use Rattle.shb_lines.specs.events.Order.{IsPred, LastWrite, IsNumberOf}
-use Rattle.shb_links.specs.Latest.{ForksThread}
+use Rattle.shb_links.specs.Latest.{ForksThread, Latest, OfThread}
 
 -- the position that a number stands for: one less than it, and none for 0
 abbrev pub link_from : ℕ → Option ℕ
@@ -39,9 +39,14 @@ pub record HasLastWrites (trace : List Event) (n : ℕ) (writes : List (Option �
 pub record HasForks (trace : List Event) (forks : List (Option ℕ)) : Type 0 where
   pub each : (t : ℕ) → Exactly (ForksThread trace t) (slice_index_or forks t None)
 
+-- the last events of all threads, of which those past the table's end have none
+pub record HasLastEvents (trace : List Event) (last : List (Option ℕ)) : Type 0 where
+  pub each : (t : ℕ) → Latest (OfThread trace t) (length trace) (slice_index_or last t None)
+
 -- the links of the whole trace
-pub record HasLinks (trace : List Event) (locals : List ℕ) (preds writes forks : List (Option ℕ)) : Type 0 where
+pub record HasLinks (trace : List Event) (locals : List ℕ) (preds writes forks last : List (Option ℕ)) : Type 0 where
   pub places : HasLocals trace (length trace) locals
   pub predecessors : HasPreds trace (length trace) preds
   pub last_writes : HasLastWrites trace (length trace) writes
   pub forks_of_threads : HasForks trace forks
+  pub last_events : HasLastEvents trace last

@@ -6,7 +6,7 @@ ghost use Rattle.shb_lines.specs.events.Discipline.{place_in_thread};
 ghost use Rattle.shb_lines.specs.events.Order.{IsPred, LastWrite};
 ghost use Rattle.shb_lines.specs.events.Events.{thread_at};
 ghost use Rattle.shb_lines.specs.events.Sizes.{IsWithin};
-ghost use Rattle.shb_links.specs.Latest.{IsLatestTable, OfThread, WritesVariable, ForksThread};
+ghost use Rattle.shb_links.specs.Latest.{IsLatestTable, Latest, OfThread, WritesVariable, ForksThread};
 ghost use Rattle.shb_links.specs.Links.{Exactly, IsLocal, HasLocals, HasLinks};
 
 use crate::latest::empty_table;
@@ -26,6 +26,7 @@ pub struct Links<'a> {
     preds: Vec<Link>,
     last_writes: Vec<Link>,
     forks: Vec<Option<u32>>,
+    last: Vec<Option<u32>>,
 }
 
 impl<'a> Model for Links<'a> {
@@ -34,7 +35,7 @@ impl<'a> Model for Links<'a> {
     ghost view = { λ l. l.trace.now.events.now };
 
     ghost invariant = { λ l. HasLinks l.trace.now.events.now l.locals.items l.preds.items
-        l.last_writes.items l.forks.items };
+        l.last_writes.items l.forks.items l.last.items };
 }
 
 impl<'a> Links<'a> {
@@ -66,6 +67,18 @@ impl<'a> Links<'a> {
     {
         match self.forks.get(t as usize) {
             Some(fork) => *fork,
+            None => None,
+        }
+    }
+
+    /// The last event of thread `t`. `None` exactly where it has no event, as for every number that
+    /// names no thread. By the discipline nothing of a thread follows a join of it, so at a join this
+    /// is also the thread's last event so far.
+    pub fn last_of(&self, t: u32) -> Option<u32>
+        ensures { Latest (OfThread self.now t) (length self.now) result }
+    {
+        match self.last.get(t as usize) {
+            Some(last) => *last,
             None => None,
         }
     }
@@ -186,5 +199,6 @@ pub fn links_of<'a>(alloc: Global, trace: &'a Disciplined<'a>) -> Result<Links<'
         preds,
         last_writes,
         forks,
+        last,
     })
 }

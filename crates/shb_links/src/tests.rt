@@ -83,6 +83,17 @@ fn plain_pred(trace: &Disciplined<'_>, e: u32) -> Option<u32>
     latest.or(plain_fork(trace, thread))
 }
 
+/// The last event of a thread.
+fn plain_last(trace: &Disciplined<'_>, thread: u32) -> Option<u32> {
+    let mut last = None;
+    for k in 0..trace.events.len() as u32 {
+        if trace.events[k as usize].thread == thread {
+            last = Some(k);
+        }
+    }
+    last
+}
+
 /// The event that forks a thread.
 fn plain_fork(trace: &Disciplined<'_>, thread: u32) -> Option<u32> {
     for k in 0..trace.events.len() as u32 {
@@ -137,6 +148,11 @@ fn a_made_trace(rt: HostRuntime) -> Result<(), Fail> {
             links.forked_by(thread),
             plain_fork(&trace, thread),
             "the fork of {thread}"
+        );
+        assert_eq!(rt;
+            links.last_of(thread),
+            plain_last(&trace, thread),
+            "the last event of {thread}"
         );
     }
     Ok(())

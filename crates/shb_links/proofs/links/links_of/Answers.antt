@@ -1,7 +1,7 @@
 use Rattle.std.proofs.Common.{◌≡◌, ℕ, length, subst, arith}
-use Rattle.shb_links.specs.Latest.{IsLatestTable, ForksThread}
+use Rattle.shb_links.specs.Latest.{IsLatestTable, ForksThread, OfThread}
 use Rattle.shb_links.specs.Links.{HasLocals, HasPreds, HasLastWrites}
-use Rattle.shb_links.proofs.Tables.{forks_whole}
+use Rattle.shb_links.proofs.Tables.{forks_whole, last_whole}
 use Rattle.shb_links.proofs.Rows.{locals_more, preds_more, writes_more}
 use Rattle.shb_links.proofs.links.links_of.Goals as goal
 
@@ -24,4 +24,5 @@ invariant_of-result c =
       predecessors = subst (λ (n : ℕ). HasPreds trace.events.now n c.loop-e.preds.items) all c.loop-e.invariant.preds;
       last_writes = subst (λ (n : ℕ). HasLastWrites trace.events.now n c.loop-e.last_writes.items) all c.loop-e.invariant.last_writes;
       forks_of_threads = forks_whole trace.events.now trace.sizes c.loop-e.forks.items trace.within (subst (λ (n : ℕ). IsLatestTable (ForksThread trace.events.now) n trace.sizes.threads c.loop-e.forks.items) all c.loop-e.invariant.forks);
+      last_events = last_whole trace.events.now trace.sizes c.loop-e.last.items trace.within (subst (λ (n : ℕ). IsLatestTable (OfThread trace.events.now) n trace.sizes.threads c.loop-e.last.items) all c.loop-e.invariant.last);
     }
