@@ -1,6 +1,7 @@
 use Rattle.std.proofs.Common.{sym, ap, ◌∙◌, arith}
 use Rattle.shb_pairs.specs.Listed.{Listed}
-use Rattle.shb_pairs.proofs.Runs.{piece_at, piece_value, run_small, run_value}
+use Rattle.shb_pairs.specs.Races.{piece_at}
+use Rattle.shb_pairs.proofs.Runs.{piece_value, run_small, run_value}
 use Rattle.shb_pairs.proofs.job.PairJobJob.run.Goals as goal
 
 pub overflow_cast-from : goal.overflow_cast-from
