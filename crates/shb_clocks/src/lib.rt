@@ -10,6 +10,7 @@ mod kept;
 mod kept_clocks;
 mod learned_past;
 mod order;
+mod ordered;
 mod past;
 mod plain_order;
 mod row;
@@ -19,6 +20,7 @@ pub use clock_versions::{ClockVersions, versions};
 pub use event_rows::{EventRows, by_event};
 pub use full_clocks::{FullClocks, full};
 pub use order::Order;
+pub use ordered::Ordered;
 pub use plain_order::{PlainOrder, plain};
 
 #[cfg(test)]

@@ -15,7 +15,7 @@ use Rattle.shb_pairs.specs.declared.piece.Piece.{Piece}
 use Rattle.shb_pairs.specs.Accesses.{accesses_at, accesses_in, listed_accesses, variables_in}
 use Rattle.shb_pairs.specs.Listed.{Listed, is_open}
 use Rattle.shb_pairs.specs.Pieces.{run_at, runs_of, pieces_below, pieces_in}
-use Rattle.shb_pairs.specs.Races.{ends, races_with, races_of, races_at}
+use Rattle.shb_pairs.specs.Races.{ends, piece_at, races_with, races_of, races_at}
 use Rattle.shb_pairs.proofs.ByThread.{listed_closed, listed_open}
 use Rattle.shb_pairs.proofs.Counting.{numbers_few, access_from_test, test_from_access}
 
@@ -163,9 +163,6 @@ pub run_first : (trace : List Event) (xs : List ℕ) (pairs : List Pair) (from :
 run_first trace xs pairs from none = let e : from - from ≡ 0 = omega arith in rw (none, e) refl
 
 -- the run and the races of piece k
-abbrev pub piece_at : List Piece → ℕ → Piece
-piece_at pieces k = get_or pieces k (record { variable = 0; from = 0; to = 0 })
-
 pub piece_value : (a seen : Listed) (trace : List Event) (pieces : List Piece) (k : ℕ) → a ≡ seen → a.trace ≡ trace → pieces ≡ pieces_in a → k < length (pieces_in seen) → IsRun trace a.flags (piece_at pieces k) × (races_at seen k ≡ races_of seen.trace (piece_at pieces k))
 unfolding races_at
 piece_value a seen trace pieces k same of_trace is lt =

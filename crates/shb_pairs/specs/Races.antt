@@ -1,10 +1,11 @@
 -- The races of a piece: those whose later access is in its run.
-use Rattle.std.specs.Prelude.{ℕ, List, map, flat_map, slice_index_or, slice_range}
+use Rattle.std.specs.Prelude.{◌≡◌, ℕ, ◌<◌, ◌⊎◌, ◌↔◌, List, AllPairs, Contains, map, flat_map, slice_index_or, slice_range}
 use Rattle.shb_lines.specs.declared.event.Event.{Event}
+use Rattle.shb_lines.specs.events.Race.{Race}
 use Rattle.shb_lines.specs.events.Reach.{numbers_where, is_race}
 use Rattle.shb_lines.specs.declared.event.Pair.{Pair}
 use Rattle.shb_pairs.specs.declared.piece.Piece.{Piece}
-use Rattle.shb_pairs.specs.Accesses.{accesses_in}
+use Rattle.shb_pairs.specs.Accesses.{accesses_in, listed_accesses}
 use Rattle.shb_pairs.specs.Listed.{Listed}
 use Rattle.shb_pairs.specs.Pieces.{pieces_in}
 
@@ -20,9 +21,26 @@ races_with trace j = map (λ i. (i, j)) (numbers_where (λ i. is_race trace i j)
 unfoldable pub races_of : List Event → Piece → List (ℕ × ℕ)
 races_of trace p = flat_map (races_with trace) (slice_range (accesses_in trace p.variable) p.from p.to)
 
+-- piece k
+abbrev pub piece_at : List Piece → ℕ → Piece
+piece_at pieces k = slice_index_or pieces k (record { variable = 0; from = 0; to = 0 })
+
 -- the races of piece k
 unfoldable pub races_at : Listed → ℕ → List (ℕ × ℕ)
-races_at a k = races_of a.trace (slice_index_or (pieces_in a) k (record { variable = 0; from = 0; to = 0 }))
+races_at a k = races_of a.trace (piece_at (pieces_in a) k)
+
+-- the accesses in a run
+abbrev pub accesses_of_run : Listed → Piece → List ℕ
+accesses_of_run a p = slice_range (listed_accesses a p.variable) p.from p.to
+
+-- p stands before q: by the later access, then by the earlier
+abbrev pub PairBefore : ℕ × ℕ → ℕ × ℕ → Type 0
+PairBefore p q = (p.1 < q.1) ⊎ ((p.1 ≡ q.1) × (p.0 < q.0))
+
+-- all races whose later access is in the run, each once, by the later access, then by the earlier
+pub record AreRacesOfRun (a : Listed) (p : Piece) (races : List (ℕ × ℕ)) : Type 0 where
+  pub all : (i j : ℕ) → Contains races (i, j) ↔ (Race a.trace i j × Contains (accesses_of_run a p) j)
+  pub in_order : AllPairs PairBefore races
 
 -- lists one after the other
 abbrev pub joined : {X : Type 0} → List (List X) → List X

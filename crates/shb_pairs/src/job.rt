@@ -8,7 +8,7 @@ ghost use Rattle.shb_pairs.specs.Races.{ends, races_at};
 use crate::accesses::Accesses;
 use crate::piece::Piece;
 use crate::races::races_in;
-use shb_clocks::Order;
+use shb_clocks::{Order, Ordered};
 use shb_discipline::Disciplined;
 use shb_fan::Job;
 use shb_io::NoMemory;
@@ -28,9 +28,7 @@ use std::marker::Model;
 /// memory only for the races that it finds, and changes nothing.
 #[derive(Drop)]
 pub struct PairJob<'a, O: Order> {
-    order: &'a O,
-    trace: &'a Disciplined<'a>,
-    links: &'a Links<'a>,
+    ordered: Ordered<'a, O>,
     accesses: &'a Accesses<'a>,
     pieces: &'a [Piece],
 }
@@ -40,7 +38,7 @@ impl<'a, O: Order> Model for PairJob<'a, O> {
 
     ghost view = { λ j. j.accesses.now };
 
-    ghost invariant = { λ j. (O.trace j.order.now ≡ j.trace.now.events.now) × (j.links.now ≡ j.trace.now.events.now) × (j.accesses.now.trace ≡ j.trace.now.events.now) × (j.pieces.now ≡ pieces_in j.accesses.now) };
+    ghost invariant = { λ j. (j.accesses.now.trace ≡ j.ordered.trace.now.events.now) × (j.pieces.now ≡ pieces_in j.accesses.now) };
 }
 
 impl<'a, O: Order> PairJob<'a, O> {
@@ -59,10 +57,13 @@ impl<'a, O: Order> PairJob<'a, O> {
         requires pieces { pieces.now ≡ pieces_in accesses.now }
         ensures { result ≡ accesses.now }
     {
-        PairJob {
+        let ordered = Ordered {
             order,
             trace,
             links,
+        };
+        PairJob {
+            ordered,
             accesses,
             pieces,
         }
@@ -88,7 +89,6 @@ impl<'a, O: Order> Job for PairJob<'a, O> {
         let pieces = self.pieces;
         let piece = pieces[k as usize];
         let (variable, from, to) = (piece.variable, piece.from as usize, piece.to as usize);
-        let (order, trace, links, accesses) = (self.order, self.trace, self.links, self.accesses);
-        Ok(races_in(alloc, order, trace, links, accesses, variable, from, to)?)
+        Ok(races_in(alloc, &self.ordered, self.accesses, variable, from, to)?)
     }
 }

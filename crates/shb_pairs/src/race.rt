@@ -6,7 +6,7 @@ ghost use Rattle.shb_lines.specs.events.Race.{Conflict, Race};
 ghost use Rattle.shb_lines.specs.events.Schedule.{IsSchedule};
 ghost use Rattle.shb_lines.specs.events.Tests.{is_write as is_write_op};
 
-use shb_clocks::Order;
+use shb_clocks::{Order, Ordered};
 use shb_discipline::Disciplined;
 use shb_lines::{Op, events_conflict_at};
 use shb_links::Links;
@@ -23,27 +23,31 @@ pub(crate) fn is_write(op: Op) -> bool
 
 /// Whether an event is SHB-below the predecessor of a later one, or is it: whether its place in its
 /// thread is at most the number of events of that thread that the order answers.
-pub(crate) fn is_below_pred<O: Order>(
-    order: &O,
-    trace: &Disciplined<'_>,
-    links: &Links<'_>,
-    first: u32,
-    second: u32,
-) -> bool
-    requires of_trace { O.trace order.now ≡ trace.now.events.now }
-    requires linked { links.now ≡ trace.now.events.now }
-    requires first { first < length trace.now.events.now }
-    requires second { second < length trace.now.events.now }
-    ensures { IsTrue result ↔ BelowPred trace.now.events.now first second }
+pub(crate) fn is_below_pred<O: Order>(ordered: &Ordered<'_, O>, first: u32, second: u32) -> bool
+    requires first { first < length ordered.now.trace.now.events.now }
+    requires second { second < length ordered.now.trace.now.events.now }
+    ensures { IsTrue result ↔ BelowPred ordered.now.trace.now.events.now first second }
 {
-    let thread = trace.events[first as usize].thread;
-    links.local(first) <= order.below_pred(second, thread)
+    let thread = ordered.trace.events[first as usize].thread;
+    ordered.links.local(first) <= ordered.order.below_pred(second, thread)
+}
+
+/// Whether two events are a race, as [`is_race`] tells it.
+pub(crate) fn is_race_by<O: Order>(ordered: &Ordered<'_, O>, first: u32, second: u32) -> bool
+    requires earlier { first < second }
+    requires in_range { second < length ordered.now.trace.now.events.now }
+    ensures race { IsTrue result ↔ Race ordered.now.trace.now.events.now first second }
+    ensures below { ¬ IsTrue result → Conflict ordered.now.trace.now.events.now first second → BelowPred ordered.now.trace.now.events.now first second }
+{
+    events_conflict_at(ordered.trace.events, first, second)
+        && !is_below_pred(ordered, first, second)
 }
 
 /// Whether two events are a race: they conflict, and the earlier one is not SHB-below the
 /// predecessor of the later one. This is so exactly where they conflict and have a schedule: a
 /// correct reordering of events of the trace that keeps happens-before, after which both are next
-/// (schedulable races as in the OOPSLA 2018 paper of Mathur, Kini and Viswanathan).
+/// (schedulable races as in the OOPSLA 2018 paper of Mathur, Kini and Viswanathan). Where they
+/// conflict and are no race, the earlier one is SHB-below the predecessor of the later one.
 ///
 /// The events are positions from 0, the earlier one first. The order and the links are of the same
 /// trace. Two look-ups, whatever the length of the trace.
@@ -60,7 +64,12 @@ pub fn is_race<O: Order>(
     requires in_range { second < length trace.now.events.now }
     ensures race { IsTrue result ↔ Race trace.now.events.now first second }
     ensures schedulable { IsTrue result ↔ (Conflict trace.now.events.now first second × ((s : List ℕ) × IsSchedule trace.now.events.now s first second)) }
+    ensures below { ¬ IsTrue result → Conflict trace.now.events.now first second → BelowPred trace.now.events.now first second }
 {
-    events_conflict_at(trace.events, first, second)
-        && !is_below_pred(order, trace, links, first, second)
+    let ordered = Ordered {
+        order: &*order,
+        trace: &*trace,
+        links: &*links,
+    };
+    is_race_by(&ordered, first, second)
 }

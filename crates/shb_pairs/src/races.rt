@@ -9,12 +9,11 @@ ghost use Rattle.shb_pairs.specs.Races.{ends, races_with};
 ghost use Rattle.shb_pairs.specs.Search.{IsSettled, racing};
 
 use crate::accesses::Accesses;
-use crate::race::{is_below_pred, is_race, is_write};
+use crate::race::{is_below_pred, is_race_by, is_write};
 use crate::rivals::rivals_of;
-use shb_clocks::Order;
+use shb_clocks::{Order, Ordered};
 use shb_discipline::Disciplined;
 use shb_lines::Pair;
-use shb_links::Links;
 use std::alloc::{AllocError, Global};
 
 /// Adds the pairs of some positions with a later one.
@@ -34,41 +33,33 @@ fn add_pairs(races: &mut Vec<Pair>, firsts: &[u32], second: u32) -> Result<(), A
 fn add_races<O: Order>(
     alloc: Global,
     races: &mut Vec<Pair>,
-    order: &O,
-    trace: &Disciplined<'_>,
-    links: &Links<'_>,
+    ordered: &Ordered<'_, O>,
     accesses: &Accesses<'_>,
     variable: u32,
     second: u32,
 ) -> Result<(), AllocError>
-    requires of_trace { O.trace order.now ≡ trace.now.events.now }
-    requires linked { links.now ≡ trace.now.events.now }
-    requires accesses { accesses.now.trace ≡ trace.now.events.now }
+    requires accesses { accesses.now.trace ≡ ordered.now.trace.now.events.now }
     requires listed { is_open accesses.now.flags variable ≡ true }
-    requires accessed { variable_at trace.now.events.now second ≡ Some variable }
-    ensures { IfOk result (λ _. map ends races.new.items ≡ map ends races.old.items ++ races_with trace.now.events.now second) }
+    requires accessed { variable_at ordered.now.trace.now.events.now second ≡ Some variable }
+    ensures { IfOk result (λ _. map ends races.new.items ≡ map ends races.old.items ++ races_with ordered.now.trace.now.events.now second) }
 {
-    let firsts = rivals_of(alloc, order, trace, links, accesses, variable, second)?;
+    let firsts = rivals_of(alloc, ordered, accesses, variable, second)?;
     add_pairs(races, firsts.as_slice(), second)
 }
 
 /// Adds the races of a later access with some accesses before it, one by one.
 fn add_races_among<O: Order>(
     races: &mut Vec<Pair>,
-    order: &O,
-    trace: &Disciplined<'_>,
-    links: &Links<'_>,
+    ordered: &Ordered<'_, O>,
     firsts: &[u32],
     second: u32,
 ) -> Result<(), AllocError>
-    requires of_trace { O.trace order.now ≡ trace.now.events.now }
-    requires linked { links.now ≡ trace.now.events.now }
-    requires in_range { second < length trace.now.events.now }
+    requires in_range { second < length ordered.now.trace.now.events.now }
     requires earlier { All (λ i. i < second) firsts.now }
-    ensures { IfOk result (λ _. map ends races.new.items ≡ map ends races.old.items ++ map (λ i. (i, second)) (racing trace.now.events.now second firsts.now)) }
+    ensures { IfOk result (λ _. map ends races.new.items ≡ map ends races.old.items ++ map (λ i. (i, second)) (racing ordered.now.trace.now.events.now second firsts.now)) }
 {
     for first in firsts {
-        if is_race(order, trace, links, *first, second) {
+        if is_race_by(ordered, *first, second) {
             races.push(Pair {
                 first: *first,
                 second,
@@ -79,46 +70,34 @@ fn add_races_among<O: Order>(
 }
 
 /// Whether an earlier access is SHB-below the predecessor of a later one.
-fn is_ordered<O: Order>(
-    order: &O,
-    trace: &Disciplined<'_>,
-    links: &Links<'_>,
-    first: u32,
-    second: u32,
-) -> bool
-    requires of_trace { O.trace order.now ≡ trace.now.events.now }
-    requires linked { links.now ≡ trace.now.events.now }
+fn is_ordered<O: Order>(ordered: &Ordered<'_, O>, first: u32, second: u32) -> bool
     requires earlier { first < second }
-    requires in_range { second < length trace.now.events.now }
-    ensures { IsTrue result ↔ BelowPred trace.now.events.now first second }
+    requires in_range { second < length ordered.now.trace.now.events.now }
+    ensures { IsTrue result ↔ BelowPred ordered.now.trace.now.events.now first second }
 {
-    trace.events[first as usize].thread == trace.events[second as usize].thread
-        || is_below_pred(order, trace, links, first, second)
+    ordered.trace.events[first as usize].thread == ordered.trace.events[second as usize].thread
+        || is_below_pred(ordered, first, second)
 }
 
 /// Adds the races of the access at a place, where the last write before it has no race and is
 /// SHB-below its predecessor: then it races with reads behind that write alone.
 fn add_races_since<O: Order>(
     races: &mut Vec<Pair>,
-    order: &O,
-    trace: &Disciplined<'_>,
-    links: &Links<'_>,
+    ordered: &Ordered<'_, O>,
     accesses: &[u32],
     write: usize,
     place: usize,
 ) -> Result<(), AllocError>
-    requires of_trace { O.trace order.now ≡ trace.now.events.now }
-    requires linked { links.now ≡ trace.now.events.now }
     requires inside { place < length accesses.now }
-    requires settled { (x : ℕ) × (accesses.now ≡ accesses_in trace.now.events.now x) × IsSettled trace.now.events.now x accesses.now place write }
-    requires ordered { BelowPred trace.now.events.now (slice_index_or accesses.now write 0) (slice_index_or accesses.now place 0) }
-    ensures { IfOk result (λ _. map ends races.new.items ≡ map ends races.old.items ++ races_with trace.now.events.now (slice_index_or accesses.now place 0)) }
+    requires settled { (x : ℕ) × (accesses.now ≡ accesses_in ordered.now.trace.now.events.now x) × IsSettled ordered.now.trace.now.events.now x accesses.now place write }
+    requires ordered { BelowPred ordered.now.trace.now.events.now (slice_index_or accesses.now write 0) (slice_index_or accesses.now place 0) }
+    ensures { IfOk result (λ _. map ends races.new.items ≡ map ends races.old.items ++ races_with ordered.now.trace.now.events.now (slice_index_or accesses.now place 0)) }
 {
     let second = accesses[place];
-    if is_write(trace.events[second as usize].op) {
+    if is_write(ordered.trace.events[second as usize].op) {
         let (earlier, _) = accesses.split_at(place);
         let (_, since) = earlier.split_at(write + 1);
-        add_races_among(races, order, trace, links, since, second)?;
+        add_races_among(races, ordered, since, second)?;
     }
     Ok(())
 }
@@ -126,24 +105,18 @@ fn add_races_since<O: Order>(
 /// The last write before a place, where it has no race and is SHB-below the predecessor of the
 /// access at the place.
 fn ordered_write<O: Order>(
-    order: &O,
-    trace: &Disciplined<'_>,
-    links: &Links<'_>,
+    ordered: &Ordered<'_, O>,
     accesses: &[u32],
     settled: Option<usize>,
     place: usize,
 ) -> Option<usize>
-    requires of_trace { O.trace order.now ≡ trace.now.events.now }
-    requires linked { links.now ≡ trace.now.events.now }
     requires inside { place < length accesses.now }
-    requires settled { (x : ℕ) × (accesses.now ≡ accesses_in trace.now.events.now x) × IfSome settled (λ s. IsSettled trace.now.events.now x accesses.now place s) }
-    ensures settled { (x : ℕ) → IfSome settled (λ s. IsSettled trace.now.events.now x accesses.now place s) → IfSome result (λ s. IsSettled trace.now.events.now x accesses.now place s) }
-    ensures ordered { IfSome result (λ s. BelowPred trace.now.events.now (slice_index_or accesses.now s 0) (slice_index_or accesses.now place 0)) }
+    requires settled { (x : ℕ) × (accesses.now ≡ accesses_in ordered.now.trace.now.events.now x) × IfSome settled (λ s. IsSettled ordered.now.trace.now.events.now x accesses.now place s) }
+    ensures settled { (x : ℕ) → IfSome settled (λ s. IsSettled ordered.now.trace.now.events.now x accesses.now place s) → IfSome result (λ s. IsSettled ordered.now.trace.now.events.now x accesses.now place s) }
+    ensures ordered { IfSome result (λ s. BelowPred ordered.now.trace.now.events.now (slice_index_or accesses.now s 0) (slice_index_or accesses.now place 0)) }
 {
     match settled {
-        Some(write) if is_ordered(order, trace, links, accesses[write], accesses[place]) => {
-            Some(write)
-        }
+        Some(write) if is_ordered(ordered, accesses[write], accesses[place]) => { Some(write) }
         _ => None,
     }
 }
@@ -175,31 +148,25 @@ fn next_settled(
 fn add_races_at<O: Order>(
     alloc: Global,
     races: &mut Vec<Pair>,
-    order: &O,
-    trace: &Disciplined<'_>,
-    links: &Links<'_>,
+    ordered: &Ordered<'_, O>,
     accesses: &Accesses<'_>,
     variable: u32,
     settled: Option<usize>,
     place: usize,
 ) -> Result<(), AllocError>
-    requires of_trace { O.trace order.now ≡ trace.now.events.now }
-    requires linked { links.now ≡ trace.now.events.now }
-    requires accesses { accesses.now.trace ≡ trace.now.events.now }
+    requires accesses { accesses.now.trace ≡ ordered.now.trace.now.events.now }
     requires listed { is_open accesses.now.flags variable ≡ true }
-    requires variable { variable < variables_in trace.now.events.now }
-    requires inside { place < length (accesses_in trace.now.events.now variable) }
-    requires settled { IfSome settled (λ s. IsSettled trace.now.events.now variable (accesses_in trace.now.events.now variable) place s) }
-    ensures { IfOk result (λ _. map ends races.new.items ≡ map ends races.old.items ++ races_with trace.now.events.now (slice_index_or (accesses_in trace.now.events.now variable) place 0)) }
+    requires variable { variable < variables_in ordered.now.trace.now.events.now }
+    requires inside { place < length (accesses_in ordered.now.trace.now.events.now variable) }
+    requires settled { IfSome settled (λ s. IsSettled ordered.now.trace.now.events.now variable (accesses_in ordered.now.trace.now.events.now variable) place s) }
+    ensures { IfOk result (λ _. map ends races.new.items ≡ map ends races.old.items ++ races_with ordered.now.trace.now.events.now (slice_index_or (accesses_in ordered.now.trace.now.events.now variable) place 0)) }
 {
     let places = accesses.of(variable);
-    match ordered_write(order, trace, links, places, settled, place) {
-        Some(write) => add_races_since(races, order, trace, links, places, write, place),
+    match ordered_write(ordered, places, settled, place) {
+        Some(write) => add_races_since(races, ordered, places, write, place),
         None => {
             let second = places[place];
-            add_races(
-                alloc, races, order, trace, links, accesses, variable, second,
-            )
+            add_races(alloc, races, ordered, accesses, variable, second)
         }
     }
 }
@@ -212,22 +179,18 @@ fn add_races_at<O: Order>(
 /// accesses of each other thread are searched.
 pub(crate) fn races_in<O: Order>(
     alloc: Global,
-    order: &O,
-    trace: &Disciplined<'_>,
-    links: &Links<'_>,
+    ordered: &Ordered<'_, O>,
     accesses: &Accesses<'_>,
     variable: u32,
     from: usize,
     to: usize,
 ) -> Result<Vec<Pair>, AllocError>
-    requires of_trace { O.trace order.now ≡ trace.now.events.now }
-    requires linked { links.now ≡ trace.now.events.now }
-    requires accesses { accesses.now.trace ≡ trace.now.events.now }
+    requires accesses { accesses.now.trace ≡ ordered.now.trace.now.events.now }
     requires listed { is_open accesses.now.flags variable ≡ true }
-    requires variable { variable < variables_in trace.now.events.now }
+    requires variable { variable < variables_in ordered.now.trace.now.events.now }
     requires forward { from ≤ to }
-    requires within { to ≤ length (accesses_in trace.now.events.now variable) }
-    ensures { IfOk result (λ v. map ends v.items ≡ flat_map (races_with trace.now.events.now) (slice_range (accesses_in trace.now.events.now variable) from to)) }
+    requires within { to ≤ length (accesses_in ordered.now.trace.now.events.now variable) }
+    ensures { IfOk result (λ v. map ends v.items ≡ flat_map (races_with ordered.now.trace.now.events.now) (slice_range (accesses_in ordered.now.trace.now.events.now variable) from to)) }
 {
     let places = accesses.of(variable);
     let mut races = Vec::new(alloc);
@@ -235,10 +198,10 @@ pub(crate) fn races_in<O: Order>(
     for place in from..to {
         let count = races.len();
         add_races_at(
-            alloc, &mut races, order, trace, links, accesses, variable, settled, place,
+            alloc, &mut races, ordered, accesses, variable, settled, place,
         )?;
         let free = races.len() == count;
-        settled = next_settled(trace, places, settled, place, free);
+        settled = next_settled(ordered.trace, places, settled, place, free);
     }
     Ok(races)
 }

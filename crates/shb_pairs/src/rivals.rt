@@ -14,8 +14,7 @@ ghost use Rattle.shb_pairs.specs.declared.buckets.Key.TheVariants.{Thread};
 use crate::accesses::Accesses;
 use crate::buckets::part;
 use crate::race::is_write;
-use shb_clocks::Order;
-use shb_discipline::Disciplined;
+use shb_clocks::{Order, Ordered};
 use shb_lines::Event;
 use shb_links::Links;
 use std::alloc::{AllocError, Global};
@@ -65,27 +64,23 @@ fn tail_start(links: &Links<'_>, positions: &[u32], end: usize, below: u32) -> u
 /// are SHB-below its predecessor.
 fn add_tail<O: Order>(
     found: &mut Vec<u32>,
-    order: &O,
-    trace: &Disciplined<'_>,
-    links: &Links<'_>,
+    ordered: &Ordered<'_, O>,
     positions: &[u32],
     second: u32,
 ) -> Result<(), AllocError>
-    requires of_trace { O.trace order.now ≡ trace.now.events.now }
-    requires linked { links.now ≡ trace.now.events.now }
-    requires in_range { second < length trace.now.events.now }
+    requires in_range { second < length ordered.now.trace.now.events.now }
     requires some { 0 < length positions.now }
-    requires rivals { AreRivals trace.now.events.now second positions.now }
-    requires one_thread { IsOfOneThread trace.now.events.now positions.now }
-    ensures { IfOk result (λ _. found.new.items ≡ found.old.items ++ racing trace.now.events.now second positions.now) }
+    requires rivals { AreRivals ordered.now.trace.now.events.now second positions.now }
+    requires one_thread { IsOfOneThread ordered.now.trace.now.events.now positions.now }
+    ensures { IfOk result (λ _. found.new.items ≡ found.old.items ++ racing ordered.now.trace.now.events.now second positions.now) }
 {
-    let thread = trace.events[positions[0] as usize].thread;
-    if thread == trace.events[second as usize].thread {
+    let thread = ordered.trace.events[positions[0] as usize].thread;
+    if thread == ordered.trace.events[second as usize].thread {
         return Ok(());
     }
     let end = positions.partition_point(|first| *first < second);
-    let below = order.below_pred(second, thread);
-    let start = tail_start(links, positions, end, below);
+    let below = ordered.order.below_pred(second, thread);
+    let start = tail_start(ordered.links, positions, end, below);
     found.extend_from_slice(part(positions, start, end))?;
     Ok(())
 }
@@ -93,31 +88,20 @@ fn add_tail<O: Order>(
 /// Adds the positions, by thread, that race with a later access.
 fn add_rivals<O: Order>(
     found: &mut Vec<u32>,
-    order: &O,
-    trace: &Disciplined<'_>,
-    links: &Links<'_>,
+    ordered: &Ordered<'_, O>,
     positions: &[u32],
     second: u32,
 ) -> Result<(), AllocError>
-    requires of_trace { O.trace order.now ≡ trace.now.events.now }
-    requires linked { links.now ≡ trace.now.events.now }
-    requires in_range { second < length trace.now.events.now }
-    requires rivals { AreRivals trace.now.events.now second positions.now }
-    requires each_in_range { All (λ k. k < length trace.now.events.now) positions.now }
-    requires sorted { AllPairs (IsBeforeByThread trace.now.events.now) positions.now }
-    ensures { IfOk result (λ _. found.new.items ≡ found.old.items ++ racing trace.now.events.now second positions.now) }
+    requires in_range { second < length ordered.now.trace.now.events.now }
+    requires rivals { AreRivals ordered.now.trace.now.events.now second positions.now }
+    requires each_in_range { All (λ k. k < length ordered.now.trace.now.events.now) positions.now }
+    requires sorted { AllPairs (IsBeforeByThread ordered.now.trace.now.events.now) positions.now }
+    ensures { IfOk result (λ _. found.new.items ≡ found.old.items ++ racing ordered.now.trace.now.events.now second positions.now) }
 {
     let mut start = 0;
     while start < positions.len() {
-        let end = run_end(trace.events, positions, start);
-        add_tail(
-            found,
-            order,
-            trace,
-            links,
-            part(positions, start, end),
-            second,
-        )?;
+        let end = run_end(ordered.trace.events, positions, start);
+        add_tail(found, ordered, part(positions, start, end), second)?;
         start = end;
     }
     Ok(())
@@ -126,26 +110,22 @@ fn add_rivals<O: Order>(
 /// The accesses that race with a later access of a variable, in trace order.
 pub(crate) fn rivals_of<O: Order>(
     alloc: Global,
-    order: &O,
-    trace: &Disciplined<'_>,
-    links: &Links<'_>,
+    ordered: &Ordered<'_, O>,
     accesses: &Accesses<'_>,
     variable: u32,
     second: u32,
 ) -> Result<Vec<u32>, AllocError>
-    requires of_trace { O.trace order.now ≡ trace.now.events.now }
-    requires linked { links.now ≡ trace.now.events.now }
-    requires accesses { accesses.now.trace ≡ trace.now.events.now }
+    requires accesses { accesses.now.trace ≡ ordered.now.trace.now.events.now }
     requires listed { is_open accesses.now.flags variable ≡ true }
-    requires accessed { variable_at trace.now.events.now second ≡ Some variable }
-    ensures { IfOk result (λ v. v.items ≡ numbers_where (λ i. is_race trace.now.events.now i second) second) }
+    requires accessed { variable_at ordered.now.trace.now.events.now second ≡ Some variable }
+    ensures { IfOk result (λ v. v.items ≡ numbers_where (λ i. is_race ordered.now.trace.now.events.now i second) second) }
 {
     let mut found = Vec::new(alloc);
     let writes = accesses.writes_by_thread(variable);
-    add_rivals(&mut found, order, trace, links, writes, second)?;
-    if is_write(trace.events[second as usize].op) {
+    add_rivals(&mut found, ordered, writes, second)?;
+    if is_write(ordered.trace.events[second as usize].op) {
         let reads = accesses.reads_by_thread(variable);
-        add_rivals(&mut found, order, trace, links, reads, second)?;
+        add_rivals(&mut found, ordered, reads, second)?;
     }
     found.sort_unstable();
     Ok(found)

@@ -8,7 +8,7 @@ ghost use Rattle.shb_pairs.specs.Listed.{AreOpen};
 ghost use Rattle.shb_pairs.specs.Screen.{AreScreened, IsMarkOf, IsPast, IsScreened, no_place};
 
 use crate::race::is_write;
-use shb_clocks::Order;
+use shb_clocks::{Order, Ordered};
 use shb_discipline::Disciplined;
 use shb_io::NoMemory;
 use shb_lines::variable;
@@ -53,29 +53,27 @@ fn unordered() -> Mark
 }
 
 /// The mark of an event.
-fn mark_of(trace: &Disciplined<'_>, links: &Links<'_>, e: u32) -> Mark
-    requires linked { links.now ≡ trace.now.events.now }
-    requires in_range { e < length trace.now.events.now }
-    ensures { IsMarkOf trace.now.events.now result e }
+fn mark_of<O: Order>(ordered: &Ordered<'_, O>, e: u32) -> Mark
+    requires in_range { e < length ordered.now.trace.now.events.now }
+    ensures { IsMarkOf ordered.now.trace.now.events.now result e }
 {
     Mark {
-        place: links.local(e),
-        thread: trace.events[e as usize].thread,
+        place: ordered.links.local(e),
+        thread: ordered.trace.events[e as usize].thread,
     }
 }
 
 /// Whether what a mark stands for is SHB-below the predecessor of an event.
-fn is_past<O: Order>(order: &O, trace: &Disciplined<'_>, mark: Mark, e: u32) -> bool
-    requires of_trace { O.trace order.now ≡ trace.now.events.now }
-    requires in_range { e < length trace.now.events.now }
-    ensures { IsTrue result → IsPast trace.now.events.now mark e }
+fn is_past<O: Order>(ordered: &Ordered<'_, O>, mark: Mark, e: u32) -> bool
+    requires in_range { e < length ordered.now.trace.now.events.now }
+    ensures { IsTrue result → IsPast ordered.now.trace.now.events.now mark e }
 {
     if mark.place == u32::MAX {
         false
     } else {
         mark.place == 0
-            || mark.thread == trace.events[e as usize].thread
-            || mark.place <= order.below_pred(e, mark.thread)
+            || mark.thread == ordered.trace.events[e as usize].thread
+            || mark.place <= ordered.order.below_pred(e, mark.thread)
     }
 }
 
@@ -90,24 +88,16 @@ fn opened() -> Latest
 }
 
 /// What is kept of a variable behind a read of it that is ordered behind its last write.
-fn after_read<O: Order>(
-    order: &O,
-    trace: &Disciplined<'_>,
-    links: &Links<'_>,
-    latest: Latest,
-    e: u32,
-) -> Latest
-    requires of_trace { O.trace order.now ≡ trace.now.events.now }
-    requires linked { links.now ≡ trace.now.events.now }
-    requires in_range { e < length trace.now.events.now }
-    ensures { (x : ℕ) → variable_at trace.now.events.now e ≡ Some x → op_at trace.now.events.now e ≢ Some (Write x) → IsPast trace.now.events.now latest.write e → IsScreened trace.now.events.now e x latest → IsScreened trace.now.events.now (e + 1) x result }
+fn after_read<O: Order>(ordered: &Ordered<'_, O>, latest: Latest, e: u32) -> Latest
+    requires in_range { e < length ordered.now.trace.now.events.now }
+    ensures { (x : ℕ) → variable_at ordered.now.trace.now.events.now e ≡ Some x → op_at ordered.now.trace.now.events.now e ≢ Some (Write x) → IsPast ordered.now.trace.now.events.now latest.write e → IsScreened ordered.now.trace.now.events.now e x latest → IsScreened ordered.now.trace.now.events.now (e + 1) x result }
 {
     let Latest {
         write,
         read: newest,
     } = latest;
-    if is_past(order, trace, newest, e) {
-        let read = mark_of(trace, links, e);
+    if is_past(ordered, newest, e) {
+        let read = mark_of(ordered, e);
         Latest { write, read }
     } else {
         let read = unordered();
@@ -116,21 +106,13 @@ fn after_read<O: Order>(
 }
 
 /// What is kept of a variable behind a write of it that is ordered behind its last write.
-fn after_write<O: Order>(
-    order: &O,
-    trace: &Disciplined<'_>,
-    links: &Links<'_>,
-    latest: Latest,
-    e: u32,
-) -> Latest
-    requires of_trace { O.trace order.now ≡ trace.now.events.now }
-    requires linked { links.now ≡ trace.now.events.now }
-    requires in_range { e < length trace.now.events.now }
-    ensures { (x : ℕ) → variable_at trace.now.events.now e ≡ Some x → IsPast trace.now.events.now latest.write e → IsScreened trace.now.events.now e x latest → IsScreened trace.now.events.now (e + 1) x result }
+fn after_write<O: Order>(ordered: &Ordered<'_, O>, latest: Latest, e: u32) -> Latest
+    requires in_range { e < length ordered.now.trace.now.events.now }
+    ensures { (x : ℕ) → variable_at ordered.now.trace.now.events.now e ≡ Some x → IsPast ordered.now.trace.now.events.now latest.write e → IsScreened ordered.now.trace.now.events.now e x latest → IsScreened ordered.now.trace.now.events.now (e + 1) x result }
 {
-    if is_past(order, trace, latest.read, e) {
+    if is_past(ordered, latest.read, e) {
         Latest {
-            write: mark_of(trace, links, e),
+            write: mark_of(ordered, e),
             read: nothing(),
         }
     } else {
@@ -139,44 +121,28 @@ fn after_write<O: Order>(
 }
 
 /// What is kept of a variable behind an access of it.
-fn after_access<O: Order>(
-    order: &O,
-    trace: &Disciplined<'_>,
-    links: &Links<'_>,
-    latest: Latest,
-    e: u32,
-) -> Latest
-    requires of_trace { O.trace order.now ≡ trace.now.events.now }
-    requires linked { links.now ≡ trace.now.events.now }
-    requires in_range { e < length trace.now.events.now }
-    ensures { (x : ℕ) → variable_at trace.now.events.now e ≡ Some x → IsScreened trace.now.events.now e x latest → IsScreened trace.now.events.now (e + 1) x result }
+fn after_access<O: Order>(ordered: &Ordered<'_, O>, latest: Latest, e: u32) -> Latest
+    requires in_range { e < length ordered.now.trace.now.events.now }
+    ensures { (x : ℕ) → variable_at ordered.now.trace.now.events.now e ≡ Some x → IsScreened ordered.now.trace.now.events.now e x latest → IsScreened ordered.now.trace.now.events.now (e + 1) x result }
 {
-    if !is_past(order, trace, latest.write, e) {
+    if !is_past(ordered, latest.write, e) {
         opened()
-    } else if is_write(trace.events[e as usize].op) {
-        after_write(order, trace, links, latest, e)
+    } else if is_write(ordered.trace.events[e as usize].op) {
+        after_write(ordered, latest, e)
     } else {
-        after_read(order, trace, links, latest, e)
+        after_read(ordered, latest, e)
     }
 }
 
 /// Takes the event at e into what is kept of its variable, if it is an access.
-fn screen<O: Order>(
-    order: &O,
-    trace: &Disciplined<'_>,
-    links: &Links<'_>,
-    table: &mut Vec<Latest>,
-    e: u32,
-)
-    requires of_trace { O.trace order.now ≡ trace.now.events.now }
-    requires linked { links.now ≡ trace.now.events.now }
-    requires in_range { e < length trace.now.events.now }
-    requires screened { AreScreened trace.now.events.now e trace.now.sizes.variables table.old.items }
-    ensures { AreScreened trace.now.events.now (e + 1) trace.now.sizes.variables table.new.items }
+fn screen<O: Order>(ordered: &Ordered<'_, O>, table: &mut Vec<Latest>, e: u32)
+    requires in_range { e < length ordered.now.trace.now.events.now }
+    requires screened { AreScreened ordered.now.trace.now.events.now e ordered.now.trace.now.sizes.variables table.old.items }
+    ensures { AreScreened ordered.now.trace.now.events.now (e + 1) ordered.now.trace.now.sizes.variables table.new.items }
 {
-    if let Some(x) = variable(trace.events[e as usize].op) {
+    if let Some(x) = variable(ordered.trace.events[e as usize].op) {
         let latest = table[x as usize];
-        table[x as usize] = after_access(order, trace, links, latest, e);
+        table[x as usize] = after_access(ordered, latest, e);
     }
 }
 
@@ -212,13 +178,18 @@ pub fn open_variables<O: Order>(
     requires linked { links.now ≡ trace.now.events.now }
     ensures { IfOk result (λ flags. AreOpen trace.now.events.now flags.items) }
 {
+    let ordered = Ordered {
+        order: &*order,
+        trace: &*trace,
+        links: &*links,
+    };
     let none = Latest {
         write: nothing(),
         read: nothing(),
     };
     let mut table = vec![in alloc; none; trace.sizes.variables as usize]?;
     for e in 0..trace.events.len() as u32 {
-        screen(order, trace, links, &mut table, e);
+        screen(&ordered, &mut table, e);
     }
     Ok(flags_of(alloc, table.as_slice())?)
 }

@@ -4,7 +4,6 @@
 mod block_writer;
 mod errors;
 pub mod laws;
-mod ordered;
 mod pipeline;
 mod races;
 mod settings;

@@ -7,11 +7,10 @@ ghost use Rattle.shb_run.specs.Runs.{CountsSink, CountsSource, Grows, IsAccepted
 ghost use Rattle.shb_run.specs.Written.{IsCutOff, IsSinkCounted, ReportsTrace, summary_of};
 
 use crate::errors::{RunError, WriteError};
-use crate::ordered::Ordered;
 use crate::races::races_of;
 use crate::settings::{Settings, Summary};
 use crate::write::write_report;
-use shb_clocks::{Order, by_event};
+use shb_clocks::{Order, Ordered, by_event};
 use shb_discipline::{Disciplined, check};
 use shb_fan::{FreeGate, Gate};
 use shb_io::{Sink, Source};
@@ -71,9 +70,9 @@ fn report_by<R: Threads + Wait + Sync, K: Sink, O: Order + Sync, P: Gate + Sync,
     ensures counted { IsSinkCounted (K.failure_count sink.old) (K.failure_count sink.new) result }
 {
     let ordered = Ordered {
+        order: &*order,
         trace: &*trace,
         links: &*links,
-        order: &*order,
     };
     let races = races_of(rt, alloc, &ordered, pair_gate, settings.workers)?;
     write_report(rt, alloc, sink, &ordered, &races, witness_gate, settings)?;

@@ -3,8 +3,7 @@ ghost use Rattle.std.specs.Prelude.{◌≡◌, IfOk, map};
 ghost use Rattle.shb_lines.specs.events.Race.{IsRaceList};
 ghost use Rattle.shb_pairs.specs.Races.{ends, joined};
 
-use crate::ordered::Ordered;
-use shb_clocks::Order;
+use shb_clocks::{Order, Ordered};
 use shb_fan::{Gate, Workers, gather};
 use shb_io::NoMemory;
 use shb_lines::Pair;

@@ -7,9 +7,8 @@ ghost use Rattle.shb_run.specs.Written.{IsSinkCounted, WritesBlocks, WritesRepor
 
 use crate::block_writer::BlockWriter;
 use crate::errors::WriteError;
-use crate::ordered::Ordered;
 use crate::settings::Settings;
-use shb_clocks::Order;
+use shb_clocks::{Order, Ordered};
 use shb_fan::{Gate, StreamError, Workers, stream};
 use shb_io::Sink;
 use shb_lines::{Pair, Trace};

@@ -9,6 +9,6 @@ use Rattle.shb_pairs.proofs.race.is_below_pred.Goals as goal
 -- an event is below the predecessor exactly where its place is no higher than the order's answer
 pub returns : goal.returns
 returns g c =
-    let of_first = thread_item c.args.trace.now.events.now c.args.first _ c.requires.first in
-    let place = subst (λ (tr : List Event). (t : ℕ) → thread_at tr c.args.first ≡ Some t → c.local.result ≡ place_in_thread tr t c.args.first) c.requires.linked c.local.ensures.place in
-    below_pred_test _ _ _ _ _ _ _ c.requires.of_trace c.below_pred.ensures of_first (place _ of_first)
+    let of_first = thread_item c.args.ordered.now.trace.now.events.now c.args.first _ c.requires.first in
+    let place = subst (λ (tr : List Event). (t : ℕ) → thread_at tr c.args.first ≡ Some t → c.local.result ≡ place_in_thread tr t c.args.first) c.args.ordered.now.linked c.local.ensures.place in
+    below_pred_test _ _ _ _ _ _ _ c.args.ordered.now.of_trace c.below_pred.ensures of_first (place _ of_first)

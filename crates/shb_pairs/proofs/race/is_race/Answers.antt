@@ -1,5 +1,10 @@
-use Rattle.shb_lines.proofs.events.Decide.{race_test}
+use Rattle.shb_lines.proofs.events.Decide.{race_iff_schedulable}
 use Rattle.shb_pairs.proofs.race.is_race.Goals as goal
 
-pub returns-then-events_conflict_at-clause-schedulable : goal.returns-then-events_conflict_at-clause-schedulable
-returns-then-events_conflict_at-clause-schedulable g c = race_test _ c.args.trace.now.meets _ _ c.requires.earlier (c.events_conflict_at.ensures.0 c.if-events_conflict_at.true) _ c.is_below_pred.ensures
+pub returns-clause-schedulable : goal.returns-clause-schedulable
+returns-clause-schedulable g c =
+    let race = c.is_race_by.ensures.race in
+    let schedulable = race_iff_schedulable c.args.trace.now.events.now c.args.trace.now.meets c.args.first c.args.second c.requires.earlier in (
+      (λ h. schedulable.0 (race.0 h)),
+      (λ h. race.1 (schedulable.1 h)),
+    )

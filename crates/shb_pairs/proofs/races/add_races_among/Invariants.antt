@@ -5,4 +5,4 @@ use Rattle.shb_pairs.specs.Search.{racing}
 use Rattle.shb_pairs.proofs.races.add_races_among.Given as goal
 
 abbrev pub invariant-loop-first : goal.invariant-loop-first
-invariant-loop-first g l = map ends l.races.items ≡ map ends l.fn.races.items ++ map (λ i. (i, l.second)) (racing l.trace.events.now l.second (take l.first-index l.firsts))
+invariant-loop-first g l = map ends l.races.items ≡ map ends l.fn.races.items ++ map (λ i. (i, l.second)) (racing l.ordered.trace.now.events.now l.second (take l.first-index l.firsts))

@@ -6,7 +6,7 @@ use Rattle.shb_lines.proofs.events.Items.{thread_item}
 use Rattle.shb_pairs.proofs.screen.mark_of.Goals as goal
 
 pub returns : goal.returns
-returns c =
-    let own = thread_item c.args.trace.now.events.now c.args.e _ c.requires.in_range in
-    let place = subst (λ (tr : List Event). (t : ℕ) → thread_at tr c.args.e ≡ Some t → c.local.result ≡ place_in_thread tr t c.args.e) c.requires.linked c.local.ensures.place in
+returns g c =
+    let own = thread_item c.args.ordered.now.trace.now.events.now c.args.e _ c.requires.in_range in
+    let place = subst (λ (tr : List Event). (t : ℕ) → thread_at tr c.args.e ≡ Some t → c.local.result ≡ place_in_thread tr t c.args.e) c.args.ordered.now.linked c.local.ensures.place in
     record { thread = own; place = place _ own }

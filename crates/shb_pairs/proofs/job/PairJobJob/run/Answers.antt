@@ -1,35 +1,36 @@
 use Rattle.std.proofs.Common.{sym, ap, ◌∙◌, arith}
 use Rattle.shb_pairs.specs.Listed.{Listed}
-use Rattle.shb_pairs.proofs.Runs.{piece_at, piece_value, run_small, run_value}
+use Rattle.shb_pairs.specs.Races.{piece_at}
+use Rattle.shb_pairs.proofs.Runs.{piece_value, run_small, run_value}
 use Rattle.shb_pairs.proofs.job.PairJobJob.run.Goals as goal
 
 pub overflow_cast-from : goal.overflow_cast-from
 overflow_cast-from g c =
-    let run = (piece_value c.self.inside.accesses.now c.args.self.now c.self.inside.trace.now.events.now c.self.inside.pieces.now c.args.k c.self.view_is c.self.invariant.2 c.self.invariant.3 c.requires).0 in
+    let run = (piece_value c.self.inside.accesses.now c.args.self.now c.self.inside.ordered.trace.now.events.now c.self.inside.pieces.now c.args.k c.self.view_is c.self.invariant.0 c.self.invariant.1 c.requires).0 in
     let small = (run_small _ _ _ run).0 in
-    let few = c.self.inside.trace.now.few in
+    let few = c.self.inside.ordered.trace.now.few in
     omega (arith, small, few)
 
 pub overflow_cast-to : goal.overflow_cast-to
 overflow_cast-to g c =
-    let run = (piece_value c.self.inside.accesses.now c.args.self.now c.self.inside.trace.now.events.now c.self.inside.pieces.now c.args.k c.self.view_is c.self.invariant.2 c.self.invariant.3 c.requires).0 in
+    let run = (piece_value c.self.inside.accesses.now c.args.self.now c.self.inside.ordered.trace.now.events.now c.self.inside.pieces.now c.args.k c.self.view_is c.self.invariant.0 c.self.invariant.1 c.requires).0 in
     let small = (run_small _ _ _ run).1 in
-    let few = c.self.inside.trace.now.few in
+    let few = c.self.inside.ordered.trace.now.few in
     omega (arith, small, few)
 
 pub races_in-requires-clause-listed : goal.races_in-requires-clause-listed
-races_in-requires-clause-listed g c = (piece_value c.self.inside.accesses.now c.args.self.now c.self.inside.trace.now.events.now c.self.inside.pieces.now c.args.k c.self.view_is c.self.invariant.2 c.self.invariant.3 c.requires).0.listed
+races_in-requires-clause-listed g c = (piece_value c.self.inside.accesses.now c.args.self.now c.self.inside.ordered.trace.now.events.now c.self.inside.pieces.now c.args.k c.self.view_is c.self.invariant.0 c.self.invariant.1 c.requires).0.listed
 
 pub races_in-requires-clause-variable : goal.races_in-requires-clause-variable
-races_in-requires-clause-variable g c = (piece_value c.self.inside.accesses.now c.args.self.now c.self.inside.trace.now.events.now c.self.inside.pieces.now c.args.k c.self.view_is c.self.invariant.2 c.self.invariant.3 c.requires).0.variable
+races_in-requires-clause-variable g c = (piece_value c.self.inside.accesses.now c.args.self.now c.self.inside.ordered.trace.now.events.now c.self.inside.pieces.now c.args.k c.self.view_is c.self.invariant.0 c.self.invariant.1 c.requires).0.variable
 
 pub races_in-requires-clause-forward : goal.races_in-requires-clause-forward
-races_in-requires-clause-forward g c = (piece_value c.self.inside.accesses.now c.args.self.now c.self.inside.trace.now.events.now c.self.inside.pieces.now c.args.k c.self.view_is c.self.invariant.2 c.self.invariant.3 c.requires).0.forward
+races_in-requires-clause-forward g c = (piece_value c.self.inside.accesses.now c.args.self.now c.self.inside.ordered.trace.now.events.now c.self.inside.pieces.now c.args.k c.self.view_is c.self.invariant.0 c.self.invariant.1 c.requires).0.forward
 
 pub races_in-requires-clause-within : goal.races_in-requires-clause-within
-races_in-requires-clause-within g c = (piece_value c.self.inside.accesses.now c.args.self.now c.self.inside.trace.now.events.now c.self.inside.pieces.now c.args.k c.self.view_is c.self.invariant.2 c.self.invariant.3 c.requires).0.within
+races_in-requires-clause-within g c = (piece_value c.self.inside.accesses.now c.args.self.now c.self.inside.ordered.trace.now.events.now c.self.inside.pieces.now c.args.k c.self.view_is c.self.invariant.0 c.self.invariant.1 c.requires).0.within
 
 pub returns : goal.returns
 returns g c =
-    let value = (piece_value c.self.inside.accesses.now c.args.self.now c.self.inside.trace.now.events.now c.self.inside.pieces.now c.args.k c.self.view_is c.self.invariant.2 c.self.invariant.3 c.requires).1 in
-    run_value c.self.inside.trace.now.events.now c.args.self.now.trace (piece_at c.self.inside.pieces.now c.args.k) _ (sym c.self.invariant.2 ∙ ap (λ (a : Listed). a.trace) c.self.view_is) c.in_ok-races_in.ensures ∙ sym value
+    let value = (piece_value c.self.inside.accesses.now c.args.self.now c.self.inside.ordered.trace.now.events.now c.self.inside.pieces.now c.args.k c.self.view_is c.self.invariant.0 c.self.invariant.1 c.requires).1 in
+    run_value c.self.inside.ordered.trace.now.events.now c.args.self.now.trace (piece_at c.self.inside.pieces.now c.args.k) _ (sym c.self.invariant.0 ∙ ap (λ (a : Listed). a.trace) c.self.view_is) c.in_ok-races_in.ensures ∙ sym value
