@@ -9,60 +9,12 @@ use Rattle.shb_lines.specs.events.Race.{IsRaceList}
 use Rattle.shb_lines.specs.events.Schedule.{IsPrintedSchedule}
 use Rattle.shb_lines.specs.text.TraceData.{TraceData}
 use Rattle.shb_lines.proofs.events.Decide.{printed_exists}
-use Rattle.shb_report.specs.Report.{AreBlocks, HasSchedule, IsReport, ShownRace, block_bytes, blocks_from, counts_of, head_bytes, tail_bytes}
+use Rattle.shb_report.specs.Report.{AreBlocks, HasSchedule, IsReport, ShownRace, block_bytes, blocks_from, front_bytes, tail_bytes}
 use Rattle.shb_report.proofs.Increasing.{increasing_unique}
 
 -- the pairs of some races that are shown
 abbrev pairs_of : List ShownRace → List (ℕ × ℕ)
 pairs_of shown = map (λ race. race.pair) shown
-
--- no blocks yet
-pub AreBlocks-none : (with_schedules : Bool) (trace : TraceData) → AreBlocks with_schedules trace [] []
-AreBlocks-none with_schedules trace = record { shown = []; races_are = refl; schedules_are = All-nil (HasSchedule with_schedules trace); bytes_are = refl }
-
-pairs_of-push : (shown : List ShownRace) (race : ShownRace) → pairs_of (shown ++ race ∷ []) ≡ pairs_of shown ++ race.pair ∷ []
-pairs_of-push [] race = refl
-pairs_of-push (first ∷ shown) race = ap (λ l. first.pair ∷ l) (pairs_of-push shown race)
-
-length-pairs_of : (shown : List ShownRace) → length (pairs_of shown) ≡ length shown
-length-pairs_of [] = refl
-length-pairs_of (race ∷ shown) = ap suc (length-pairs_of shown)
-
-blocks_from-append : (trace : TraceData) (number : ℕ) (shown more : List ShownRace) → blocks_from trace number (shown ++ more) ≡ blocks_from trace number shown ++ blocks_from trace (number + length shown) more
-blocks_from-append trace number [] more = ap (λ n. blocks_from trace n more) (omega arith)
-blocks_from-append trace number (race ∷ shown) more =
-    let block = block_bytes trace number race.pair race.schedule in
-    let count : number + 1 + length shown ≡ number + length (race ∷ shown) = omega arith in
-    ap (λ l. block ++ l) (blocks_from-append trace (number + 1) shown more ∙ ap (λ n. blocks_from trace (number + 1) shown ++ blocks_from trace n more) count)
-    ∙ sym (append_assoc block (blocks_from trace (number + 1) shown) (blocks_from trace (number + length (race ∷ shown)) more))
-
--- one block more
-pub AreBlocks-push : (with_schedules : Bool) (trace : TraceData) (races : List (ℕ × ℕ)) (bytes : List ℕ) (race : ShownRace) → AreBlocks with_schedules trace races bytes → HasSchedule with_schedules trace race
-    → AreBlocks with_schedules trace (races ++ race.pair ∷ []) (bytes ++ block_bytes trace (length races + 1) race.pair race.schedule)
-AreBlocks-push with_schedules trace races bytes race blocks has =
-    let shown = blocks.shown in
-    let block = block_bytes trace (length races + 1) race.pair race.schedule in
-    let count : 1 + length shown ≡ length races + 1 = omega (arith, sym (length-pairs_of shown) ∙ ap length blocks.races_are) in record {
-      shown = shown ++ race ∷ [];
-      races_are = pairs_of-push shown race ∙ ap (λ l. l ++ race.pair ∷ []) blocks.races_are;
-      schedules_are = All-push (HasSchedule with_schedules trace) shown race blocks.schedules_are has;
-      bytes_are =
-          ap (λ l. l ++ block) blocks.bytes_are
-          ∙ ap (λ l. blocks_from trace 1 shown ++ l) (sym (append-nil block) ∙ ap (λ n. blocks_from trace n (race ∷ [])) (sym count))
-          ∙ sym (blocks_from-append trace 1 shown (race ∷ []));
-    }
-
--- one block more, of the next of some races
-pub AreBlocks-next : (with_schedules : Bool) (trace : TraceData) (races : List (ℕ × ℕ)) (k : ℕ) (bytes : List ℕ) (pair : ℕ × ℕ) (schedule : Option (List ℕ)) → k < length races → get_or races k pair ≡ pair
-    → AreBlocks with_schedules trace (take k races) bytes → HasSchedule with_schedules trace (record { pair = pair; schedule = schedule })
-    → AreBlocks with_schedules trace (take (k + 1) races) (bytes ++ block_bytes trace (k + 1) pair schedule)
-AreBlocks-next with_schedules trace races k bytes pair schedule within is blocks has =
-    let race : ShownRace = record { pair = pair; schedule = schedule } in
-    let races_are : take k races ++ pair ∷ [] ≡ take (k + 1) races = sym (take_more races k pair within ∙ ap (λ p. take k races ++ p ∷ []) is) in
-    let count : length (take k races) ≡ k = omega (arith, length-take k races) in
-    subst (λ l. AreBlocks with_schedules trace l (bytes ++ block_bytes trace (k + 1) pair schedule)) races_are
-    (subst (λ n. AreBlocks with_schedules trace (take k races ++ pair ∷ []) (bytes ++ block_bytes trace (n + 1) pair schedule)) count
-    (AreBlocks-push with_schedules trace (take k races) bytes race blocks has))
 
 -- a pair has one printed schedule
 printed_unique : (trace : List Event) (s t : List ℕ) (i j : ℕ) → IsPrintedSchedule trace s i j → IsPrintedSchedule trace t i j → s ≡ t
@@ -100,11 +52,6 @@ AreBlocks-front with_schedules trace races rest blocks all h g =
     let split = front with_schedules trace 1 h.shown g.shown rest (g.races_are ∙ ap (λ l. l ++ rest) (sym h.races_are)) h.schedules_are g.schedules_are in
     (split.0, g.bytes_are ∙ split.1 ∙ ap (λ l. l ++ split.0) (sym h.bytes_are))
 
--- the blocks of the first k of some races are the first of their blocks
-pub AreBlocks-take : (with_schedules : Bool) (trace : TraceData) (races : List (ℕ × ℕ)) (k : ℕ) (blocks all : List ℕ) → AreBlocks with_schedules trace (take k races) blocks → AreBlocks with_schedules trace races all → (more : List ℕ) × (all ≡ blocks ++ more)
-AreBlocks-take with_schedules trace races k blocks all h g =
-    AreBlocks-front with_schedules trace (take k races) (drop k races) blocks all h (subst (λ l. AreBlocks with_schedules trace l all) (sym (take-append-drop k races)) g)
-
 -- a list that another begins with, and that is as long, is that other
 same_if_long : (blocks all more : List ℕ) → all ≡ blocks ++ more → length all ≤ length blocks → all ≡ blocks
 same_if_long blocks all [] is le = is ∙ append-nil blocks
@@ -129,22 +76,9 @@ IsReport-unique with_schedules trace bytes others one_list h g =
     let same : h.races ≡ g.races = one_list h.races g.races h.races_are g.races_are in
     let blocks : h.blocks ≡ g.blocks = AreBlocks-unique with_schedules trace g.races h.blocks g.blocks (subst (λ l. AreBlocks with_schedules trace l h.blocks) same h.blocks_are) g.blocks_are in
     h.bytes_are
-    ∙ ap (λ l. head_bytes (counts_of trace) (length l) ++ (h.blocks ++ tail_bytes)) same
-    ∙ ap (λ l. head_bytes (counts_of trace) (length g.races) ++ (l ++ tail_bytes)) blocks
+    ∙ ap (λ l. front_bytes trace l ++ (h.blocks ++ tail_bytes)) same
+    ∙ ap (λ l. front_bytes trace g.races ++ (l ++ tail_bytes)) blocks
     ∙ sym g.bytes_are
-
--- a report begins with the head and the blocks of the first k races, and goes on
-pub IsReport-front : (with_schedules : Bool) (trace : TraceData) (report : List ℕ) (races : List (ℕ × ℕ)) (k : ℕ) (blocks : List ℕ) → HasOneRaceList trace
-    → IsReport with_schedules trace report → IsRaceList trace.events races → AreBlocks with_schedules trace (take k races) blocks
-    → (more : List ℕ) × (report ≡ head_bytes (counts_of trace) (length races) ++ (blocks ++ more)) × (0 < length more)
-IsReport-front with_schedules trace report races k blocks one_list h list first =
-    let same : h.races ≡ races = one_list h.races races h.races_are list in
-    let split = AreBlocks-take with_schedules trace races k blocks h.blocks first (subst (λ l. AreBlocks with_schedules trace l h.blocks) same h.blocks_are) in
-    let joined : report ≡ head_bytes (counts_of trace) (length races) ++ (blocks ++ (split.0 ++ tail_bytes)) =
-    h.bytes_are
-    ∙ ap (λ l. head_bytes (counts_of trace) (length l) ++ (h.blocks ++ tail_bytes)) same
-    ∙ ap (λ l. head_bytes (counts_of trace) (length races) ++ l) (ap (λ l. l ++ tail_bytes) split.1 ∙ append_assoc blocks split.0 tail_bytes) in
-    (split.0 ++ tail_bytes, joined, omega (arith, length-append split.0 tail_bytes))
 
 -- some pairs, each with its printed schedule or with none
 shown_of : (with_schedules : Bool) (trace : TraceData) → IsDisciplined trace.events → (races : List (ℕ × ℕ)) → (shown : List ShownRace) × (pairs_of shown ≡ races) × All (HasSchedule with_schedules trace) shown
@@ -164,4 +98,4 @@ IsReport-exists with_schedules trace races disciplined list =
     let shown = shown_of with_schedules trace disciplined races in
     let blocks = blocks_from trace 1 shown.0 in
     let are : AreBlocks with_schedules trace races blocks = record { shown = shown.0; races_are = shown.1; schedules_are = shown.2; bytes_are = refl } in
-    (head_bytes (counts_of trace) (length races) ++ (blocks ++ tail_bytes), record { races = races; blocks = blocks; races_are = list; blocks_are = are; bytes_are = refl })
+    (front_bytes trace races ++ (blocks ++ tail_bytes), record { races = races; blocks = blocks; races_are = list; blocks_are = are; bytes_are = refl })

@@ -1,6 +1,5 @@
 pub mod Increasing
 pub mod Blocks
-pub mod CutReports
 mod HeldLemmas
 mod DigitLemmas
 mod Fronts

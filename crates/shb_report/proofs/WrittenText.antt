@@ -7,10 +7,22 @@ use Rattle.std.proofs.lemmas.List.Elements.{All-head, All-tail}
 use Rattle.shb_lines.specs.text.TraceData.{TraceData}
 use Rattle.shb_lines.specs.events.Race.{IsRaceList}
 use Rattle.shb_lines.specs.events.Schedule.{IsPrintedSchedule}
-use Rattle.shb_report.specs.Report.{HasSchedule, IsReport, ShownRace, block_bytes, blocks_from, counts_of, event_numbers, head_bytes, line_at, schedule_line, tail_bytes}
-use Rattle.shb_report.specs.Value.{Block, block_lines, counts_line, lines_text, listed, race_numbers_line, races_line, report_text}
+use Rattle.shb_report.specs.declared.writer.Counts.{Counts}
+use Rattle.shb_report.specs.Places.{counts_in, places_of_pairs, section_bytes, shown_places}
+use Rattle.shb_report.specs.Report.{HasSchedule, IsReport, ShownRace, block_bytes, blocks_from, counts_of, event_numbers, head_bytes, line_at, pair_of, schedule_line, tail_bytes}
+use Rattle.shb_report.specs.Value.{Block, block_lines, counts_line, lines_text, listed, places_section, race_numbers_line, races_line, report_text}
 use Rattle.shb_report.specs.Written.{block_of, written_report}
 use Rattle.shb_report.proofs.EntryLemmas.{lines_text-append}
+
+-- the lines of the head and of the places
+abbrev head_lines : Counts → ℕ → List (List ℕ)
+head_lines counts races = codes "shb-report 2" ∷ (counts_line counts ∷ (races_line races ∷ []))
+
+abbrev section_lines : TraceData → List (ℕ × ℕ) → List (List ℕ)
+section_lines trace races = places_section (Some (shown_places trace (counts_in (places_of_pairs trace (map pair_of races)))))
+
+abbrev section_of : TraceData → List (ℕ × ℕ) → List ℕ
+section_of trace races = section_bytes trace (counts_in (places_of_pairs trace (map pair_of races)))
 
 numbers_are : (events : List ℕ) → event_numbers events ≡ listed (map (λ event. event + 1) events)
 numbers_are [] = refl
@@ -59,23 +71,22 @@ blocks_are trace number (race ∷ shown) h =
         by (Some s) h = (s, refl)
 
 -- the whole
-head_pieces : (events threads locks variables races rest : List ℕ)
-    → (codes "shb-report 1\nevents " ++ (events ++ (codes " threads " ++ (threads ++ (codes " locks " ++ (locks ++ (codes " variables " ++ (variables ++ (codes "\nraces " ++ (races ++ codes "\n")))))))))) ++ rest
-    ≡ codes "shb-report 1" ++ (10 ∷ ((codes "events " ++ (events ++ (codes " threads " ++ (threads ++ (codes " locks " ++ (locks ++ (codes " variables " ++ variables))))))) ++ (10 ∷ ((codes "races " ++ races) ++ (10 ∷ rest)))))
-head_pieces events threads locks variables races rest = simp append_assoc
-
 pub written_is : (trace : TraceData) (bytes : List ℕ) (h : IsReport true trace bytes) → bytes ≡ report_text (written_report trace h.blocks_are.shown)
 written_is trace bytes h =
     let shown = h.blocks_are.shown in
     let counts = counts_of trace in
     let blocks = map (block_of trace) shown in
+    let behind = block_lines 1 blocks ++ codes "end" ∷ [] in
     let count : length h.races ≡ length blocks = sym (ap (λ (l : List (ℕ × ℕ)). length l) h.blocks_are.races_are) ∙ length-map shown _ ∙ sym (length-map shown _) in
-    let behind : h.blocks ++ tail_bytes ≡ lines_text (block_lines 1 blocks ++ codes "end" ∷ []) =
+    let last : h.blocks ++ tail_bytes ≡ lines_text behind =
     ap (λ b. b ++ tail_bytes) (h.blocks_are.bytes_are ∙ blocks_are trace 1 shown h.blocks_are.schedules_are) ∙ sym (lines_text-append (block_lines 1 blocks) (codes "end" ∷ [])) in
     h.bytes_are
-    ∙ ap (λ b. head_bytes counts (length h.races) ++ b) behind
-    ∙ head_pieces (decimal counts.events) (decimal counts.threads) (decimal counts.locks) (decimal counts.variables) (decimal (length h.races)) (lines_text (block_lines 1 blocks ++ codes "end" ∷ []))
-    ∙ ap (λ n. codes "shb-report 1" ++ (10 ∷ (counts_line counts ++ (10 ∷ (races_line n ++ (10 ∷ lines_text (block_lines 1 blocks ++ codes "end" ∷ []))))))) count
+    ∙ append_assoc (head_bytes counts (length h.races)) (section_of trace h.races) (h.blocks ++ tail_bytes)
+    ∙ ap (λ b. head_bytes counts (length h.races) ++ (section_of trace h.races ++ b)) last
+    ∙ ap (λ b. head_bytes counts (length h.races) ++ b) (sym (lines_text-append (section_lines trace h.races) behind))
+    ∙ sym (lines_text-append (head_lines counts (length h.races)) (section_lines trace h.races ++ behind))
+    ∙ ap (λ n. lines_text (head_lines counts n ++ (section_lines trace h.races ++ behind))) count
+    ∙ ap (λ races. lines_text (head_lines counts (length blocks) ++ (section_lines trace races ++ behind))) (sym h.blocks_are.races_are)
 
 pub written_law : (trace : TraceData) (bytes : List ℕ) → IsReport true trace bytes
     → (shown : List ShownRace) × IsRaceList trace.events (map (λ race. race.pair) shown) × All (HasSchedule true trace) shown × (bytes ≡ report_text (written_report trace shown))

@@ -1,23 +1,21 @@
--- The bytes of a report in version 1, and which bytes are the report of a trace or of a text.
+-- The bytes of a report, in version 2, and which bytes are the report of a trace or of a text.
 use Rattle.std.specs.Prelude.{◌≡◌, ℕ, ◌+◌, Bool, MatchBool, List, [], ◌∷◌, ◌++◌, length, map, flat_map, All, slice_get, codes, decimal, Option, None, Some, IsSomeAnd, unwrap_or}
+use Rattle.shb_lines.specs.declared.event.Pair.{Pair}
 use Rattle.shb_lines.specs.events.Race.{IsRaceList}
 use Rattle.shb_lines.specs.events.Schedule.{IsPrintedSchedule}
 use Rattle.shb_lines.specs.text.Text.{lines_of}
 use Rattle.shb_lines.specs.text.TraceData.{IsTraceOf, TraceData}
 use Rattle.shb_report.specs.declared.writer.Counts.{Counts}
+use Rattle.shb_report.specs.Places.{counts_in, places_of_pairs, section_bytes}
+use Rattle.shb_report.specs.Value.{counts_line, lines_text, races_line}
 
 -- a label, a text and a line feed
 abbrev pub labelled_line : List ℕ → List ℕ → List ℕ
 labelled_line label text = label ++ (text ++ codes "\n")
 
--- the lines before the first block: the version, the counts of the trace and the number of races
+-- the first lines: the version, the counts of the trace and the number of races
 abbrev pub head_bytes : Counts → ℕ → List ℕ
-head_bytes counts races =
-    codes "shb-report 1\nevents " ++ (decimal counts.events
-    ++ (codes " threads " ++ (decimal counts.threads
-    ++ (codes " locks " ++ (decimal counts.locks
-    ++ (codes " variables " ++ (decimal counts.variables
-    ++ (codes "\nraces " ++ (decimal races ++ codes "\n")))))))))
+head_bytes counts races = lines_text (codes "shb-report 2" ∷ (counts_line counts ∷ (races_line races ∷ [])))
 
 -- the number of a race, and the numbers of its two events, which are counted from 1
 abbrev pub race_line : ℕ → ℕ × ℕ → List ℕ
@@ -88,13 +86,20 @@ counts_of trace = record {
   variables = length trace.variables;
 }
 
--- the bytes are the report of a trace: the head, a block for each race of the race list in order, and the tail
+abbrev pub pair_of : ℕ × ℕ → Pair
+pair_of race = record { first = race.0; second = race.1 }
+
+-- the lines before the first block: the head, and the places of the races
+abbrev pub front_bytes : TraceData → List (ℕ × ℕ) → List ℕ
+front_bytes trace races = head_bytes (counts_of trace) (length races) ++ section_bytes trace (counts_in (places_of_pairs trace (map pair_of races)))
+
+-- the bytes are the report of a trace: the head, the places of the race list, a block for each of its races in order, and the tail
 pub record IsReport (with_schedules : Bool) (trace : TraceData) (bytes : List ℕ) : Type 0 where
   pub races : List (ℕ × ℕ)
   pub blocks : List ℕ
   pub races_are : IsRaceList trace.events races
   pub blocks_are : AreBlocks with_schedules trace races blocks
-  pub bytes_are : bytes ≡ head_bytes (counts_of trace) (length races) ++ (blocks ++ tail_bytes)
+  pub bytes_are : bytes ≡ front_bytes trace races ++ (blocks ++ tail_bytes)
 
 -- the bytes are the report of a text: that of the trace of all its lines
 pub record IsReportOf (with_schedules : Bool) (text bytes : List ℕ) : Type 0 where

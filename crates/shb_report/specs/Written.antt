@@ -1,7 +1,8 @@
 -- The report that the writer's bytes are the text of.
-use Rattle.std.specs.Prelude.{◌+◌, List, [], map, None, unwrap_or}
+use Rattle.std.specs.Prelude.{◌+◌, List, [], map, Some, unwrap_or}
 use Rattle.shb_lines.specs.text.TraceData.{TraceData}
-use Rattle.shb_report.specs.Report.{ShownRace, counts_of, line_at}
+use Rattle.shb_report.specs.Places.{counts_in, places_of_pairs, shown_places}
+use Rattle.shb_report.specs.Report.{ShownRace, counts_of, line_at, pair_of}
 use Rattle.shb_report.specs.Value.{Block, ReportValue}
 
 -- the block of a race that is shown: its events count from 1, and their lines are those of the text
@@ -14,6 +15,10 @@ block_of trace race = record {
   schedule = map (λ event. event + 1) (unwrap_or race.schedule []);
 }
 
--- the report of version 1 of a trace, with these races
+-- the report of a trace, in version 2, with these races and their places
 abbrev pub written_report : TraceData → List ShownRace → ReportValue
-written_report trace shown = record { counts = counts_of trace; places = None; blocks = map (block_of trace) shown }
+written_report trace shown = record {
+  counts = counts_of trace;
+  places = Some (shown_places trace (counts_in (places_of_pairs trace (map pair_of (map (λ race. race.pair) shown)))));
+  blocks = map (block_of trace) shown;
+}

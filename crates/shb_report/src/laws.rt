@@ -39,7 +39,8 @@ pub fn bad_line_is_unique()
 {}
 
 /// The report of a trace that the writer's parts are, with schedules, is the text of a report as it is
-/// read: of version 1, with the counts of the trace and a block for each race of its race list.
+/// read: of version 2, with the counts of the trace, the places of its race list and a block for each
+/// of its races.
 pub fn written_report_is_a_text()
     ensures { (trace : TraceData) (bytes : List ℕ) → IsReport true trace bytes → (shown : List ShownRace)
         × IsRaceList trace.events (map (λ race. race.pair) shown) × All (HasSchedule true trace) shown

@@ -1,12 +1,12 @@
 //! Writes the report of a trace and reads reports, in this project's report format.
 //!
-//! A report is the head, a block for each race of the race list in order, and the tail. Each of the
-//! three has a call that writes it, in version 1, into any sink. A call puts its text together in a
-//! buffer of 1 KiB and sends that when it is full and at the end; it takes no memory. Version 2 has
-//! places, the pairs of locations of the races, before the blocks: `places_of` finds them and
-//! `place_lines` writes them.
+//! A report is the head, the places, a block for each race of the race list in order, and the tail.
+//! Places are the pairs of locations of the races: `places_of` finds them. Each of the four parts has
+//! a call that writes it, in version 2, into any sink. A call puts its text together in a buffer of
+//! 1 KiB and sends that when it is full and at the end; it takes no memory.
 //!
-//! `read_report` reads both versions, with schedules, and names the first bad line of any other text.
+//! `read_report` reads version 2 and version 1, which has no places, both with schedules, and names
+//! the first bad line of any other text. `check_report` judges a report against a trace.
 #![tactic(auto)]
 
 mod buffer;

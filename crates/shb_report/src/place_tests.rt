@@ -8,7 +8,7 @@ use shb_lines::{Limits, Pair, Trace, parse};
 use std::test::Fail;
 
 /// Whether the events of all pairs are events of the trace.
-fn are_in_range(trace: &Trace, pairs: &[Pair]) -> bool
+pub(crate) fn are_in_range(trace: &Trace, pairs: &[Pair]) -> bool
     ensures { IsTrue result → All (IsPairOf trace.now) pairs.now }
 {
     for pair in pairs {

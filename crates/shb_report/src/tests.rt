@@ -1,4 +1,8 @@
 //! What no contract says: that whole reports are those worked by hand, and that calls succeed.
+ghost use Rattle.std.specs.Prelude.{All};
+ghost use Rattle.shb_report.specs.Places.{IsPlaceOf};
+
+use crate::place_tests::are_in_range;
 use crate::*;
 use shb_io::{Failed, Page, Sink, Text};
 use shb_lines::{Limits, Pair, ReadError, Trace, parse};
@@ -45,15 +49,20 @@ fn write_tail<S: Sink>(rt: &impl Abort, sink: &mut S) -> Result<(), Failed> {
     tail(sink)
 }
 
-/// Writes the report of a trace with one race.
+/// Writes the report of a trace with one race, whose place this is.
 fn write_report<S: Sink>(
     rt: &impl Abort,
     sink: &mut S,
     trace: &Trace,
+    places: &Places,
     pair: Pair,
     schedule: Option<&[u32]>,
-) -> Result<(), Failed> {
+) -> Result<(), Failed>
+    requires { All (IsPlaceOf trace.now) places.now }
+{
     write_head(rt, sink, trace, 1)?;
+    assert!(rt; sink.failures() < 9);
+    place_lines(sink, trace, places)?;
     write_block(rt, sink, trace, 1, pair, schedule)?;
     write_tail(rt, sink)
 }
@@ -68,7 +77,7 @@ fn writes_reports(rt: HostRuntime) -> Result<(), Fail> {
                 second: 1,
             },
             Some(&[]),
-            b"shb-report 1\nevents 2 threads 2 locks 0 variables 1\nraces 1\nrace 1: 1 2\nfirst T1|w(y)|1\nsecond T2|r(y)|2\nschedule 0:\nend\n",
+            b"shb-report 2\nevents 2 threads 2 locks 0 variables 1\nraces 1\nplaces 1\nplace 1: 1\nat 1\nand 2\nrace 1: 1 2\nfirst T1|w(y)|1\nsecond T2|r(y)|2\nschedule 0:\nend\n",
         ),
         (
             b"T1|w(y)|1\nT2|r(y)|2\n",
@@ -77,7 +86,7 @@ fn writes_reports(rt: HostRuntime) -> Result<(), Fail> {
                 second: 1,
             },
             None,
-            b"shb-report 1\nevents 2 threads 2 locks 0 variables 1\nraces 1\nrace 1: 1 2\nfirst T1|w(y)|1\nsecond T2|r(y)|2\nend\n",
+            b"shb-report 2\nevents 2 threads 2 locks 0 variables 1\nraces 1\nplaces 1\nplace 1: 1\nat 1\nand 2\nrace 1: 1 2\nfirst T1|w(y)|1\nsecond T2|r(y)|2\nend\n",
         ),
         (
             b"T1|w(x)\nT1|w(y)\nT2|r(y)\nT2|w(x)\n",
@@ -86,7 +95,7 @@ fn writes_reports(rt: HostRuntime) -> Result<(), Fail> {
                 second: 2,
             },
             Some(&[0]),
-            b"shb-report 1\nevents 4 threads 2 locks 0 variables 2\nraces 1\nrace 1: 2 3\nfirst T1|w(y)\nsecond T2|r(y)\nschedule 1: 1\nend\n",
+            b"shb-report 2\nevents 4 threads 2 locks 0 variables 2\nraces 1\nplaces 1\nplace 1: 1\nat \nand \nrace 1: 2 3\nfirst T1|w(y)\nsecond T2|r(y)\nschedule 1: 1\nend\n",
         ),
         (
             b"T1|w(y)|a|b\r\n\r\nT2|r(y)",
@@ -95,14 +104,17 @@ fn writes_reports(rt: HostRuntime) -> Result<(), Fail> {
                 second: 1,
             },
             Some(&[]),
-            b"shb-report 1\nevents 2 threads 2 locks 0 variables 1\nraces 1\nrace 1: 1 2\nfirst T1|w(y)|a|b\nsecond T2|r(y)\nschedule 0:\nend\n",
+            b"shb-report 2\nevents 2 threads 2 locks 0 variables 1\nraces 1\nplaces 1\nplace 1: 1\nat a|b\nand \nrace 1: 1 2\nfirst T1|w(y)|a|b\nsecond T2|r(y)\nschedule 0:\nend\n",
         ),
     ];
     for (text, pair, schedule, want) in rows {
         let trace = trace_of(&rt, text)?;
+        let pairs = [pair];
+        assert!(rt; are_in_range(&trace, pairs.as_slice()));
+        let places = places_of(&rt, rt.alloc(), &trace, pairs.as_slice())?;
         let mut page = Page::new(rt.alloc(), 200, 7, None)?;
         assert_eq!(rt;
-            write_report(&rt, &mut page, &trace, pair, schedule),
+            write_report(&rt, &mut page, &trace, &places, pair, schedule),
             Ok(())
         );
         assert_eq!(rt; page.bytes(), want);
@@ -115,7 +127,7 @@ fn fails_in_mid_stream(rt: HostRuntime) -> Result<(), Fail> {
     let trace = trace_of(&rt, b"T1|w(y)|1\nT2|r(y)|2\n")?;
     let mut page = Page::new(rt.alloc(), 200, 1, Some(20))?;
     assert_eq!(rt; write_head(&rt, &mut page, &trace, 1), Err(Failed));
-    assert_eq!(rt; page.bytes(), b"shb-report 1\nevents".as_slice());
+    assert_eq!(rt; page.bytes(), b"shb-report 2\nevents".as_slice());
     let mut page = Page::new(rt.alloc(), 30, 200, None)?;
     let pair = Pair {
         first: 0,

@@ -24,12 +24,12 @@ pub struct Counts {
     pub variables: u64,
 }
 
-/// The lines of a report before its first block.
+/// The first lines of a report.
 fn head_text(counts: &Counts, races: u64) -> TextBuffer
     ensures { result ≡ head_bytes counts.now races }
 {
     let mut text = TextBuffer::new();
-    text.push_labelled(b"shb-report 1\nevents ", counts.events);
+    text.push_labelled(b"shb-report 2\nevents ", counts.events);
     text.push_labelled(b" threads ", counts.threads);
     text.push_labelled(b" locks ", counts.locks);
     text.push_labelled(b" variables ", counts.variables);
@@ -38,8 +38,8 @@ fn head_text(counts: &Counts, races: u64) -> TextBuffer
     text
 }
 
-/// Writes the lines of a report before its first block: the version, the counts of the trace and
-/// how many races there are.
+/// Writes the first lines of a report: version 2, the counts of the trace and how many races there
+/// are. The lines of the places follow.
 ///
 /// On `Ok` the sink took exactly these lines. On `Failed` it took a prefix of them that lacks at
 /// least one byte, and its count of failures rose by one. The sink's count of failures must be

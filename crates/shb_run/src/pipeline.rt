@@ -51,7 +51,7 @@ fn summary_of(trace: &Trace, races: u64) -> Summary
 }
 
 /// Finds the races of a trace by an order of it, and writes its report.
-fn report_by<R: Threads + Wait + Sync, K: Sink, O: Order + Sync, P: Gate + Sync, W: Gate + Sync>(
+fn report_by<R: Threads + Wait + Sync + RandomSource, K: Sink, O: Order + Sync, P: Gate + Sync, W: Gate + Sync>(
     rt: &R,
     alloc: Global,
     sink: &mut K,
@@ -81,7 +81,7 @@ fn report_by<R: Threads + Wait + Sync, K: Sink, O: Order + Sync, P: Gate + Sync,
 }
 
 /// Finds the races of a trace, and writes its report.
-fn report<R: Threads + Wait + Sync, K: Sink, P: Gate + Sync, W: Gate + Sync>(
+fn report<R: Threads + Wait + Sync + RandomSource, K: Sink, P: Gate + Sync, W: Gate + Sync>(
     rt: &R,
     alloc: Global,
     sink: &mut K,

@@ -23,114 +23,114 @@ fn settings(schedules: bool) -> Settings {
 const REPORTS: [(&str, &str); 24] = [
     (
         "",
-        "shb-report 1\nevents 0 threads 0 locks 0 variables 0\nraces 0\nend\n",
+        "shb-report 2\nevents 0 threads 0 locks 0 variables 0\nraces 0\nplaces 0\nend\n",
     ),
     (
         "\n\n\n",
-        "shb-report 1\nevents 0 threads 0 locks 0 variables 0\nraces 0\nend\n",
+        "shb-report 2\nevents 0 threads 0 locks 0 variables 0\nraces 0\nplaces 0\nend\n",
     ),
     // A read races with its own last write.
     (
         "T1|w(y)|1\nT2|r(y)|2\n",
-        "shb-report 1\nevents 2 threads 2 locks 0 variables 1\nraces 1\nrace 1: 1 2\nfirst T1|w(y)|1\nsecond T2|r(y)|2\nschedule 0:\nend\n",
+        "shb-report 2\nevents 2 threads 2 locks 0 variables 1\nraces 1\nplaces 1\nplace 1: 1\nat 1\nand 2\nrace 1: 1 2\nfirst T1|w(y)|1\nsecond T2|r(y)|2\nschedule 0:\nend\n",
     ),
     // The writes of x are ordered by the read of y, though not by happens-before.
     (
         "T1|w(x)\nT1|w(y)\nT2|r(y)\nT2|w(x)\n",
-        "shb-report 1\nevents 4 threads 2 locks 0 variables 2\nraces 1\nrace 1: 2 3\nfirst T1|w(y)\nsecond T2|r(y)\nschedule 1: 1\nend\n",
+        "shb-report 2\nevents 4 threads 2 locks 0 variables 2\nraces 1\nplaces 1\nplace 1: 1\nat \nand \nrace 1: 2 3\nfirst T1|w(y)\nsecond T2|r(y)\nschedule 1: 1\nend\n",
     ),
     // Behind the first read the write comes before the second.
     (
         "T1|w(x)\nT2|r(x)\nT2|r(x)\n",
-        "shb-report 1\nevents 3 threads 2 locks 0 variables 1\nraces 1\nrace 1: 1 2\nfirst T1|w(x)\nsecond T2|r(x)\nschedule 0:\nend\n",
+        "shb-report 2\nevents 3 threads 2 locks 0 variables 1\nraces 1\nplaces 1\nplace 1: 1\nat \nand \nrace 1: 1 2\nfirst T1|w(x)\nsecond T2|r(x)\nschedule 0:\nend\n",
     ),
     // A race reaches back behind the last write.
     (
         "T1|w(x)\nT2|w(x)\nT3|r(x)\n",
-        "shb-report 1\nevents 3 threads 3 locks 0 variables 1\nraces 3\nrace 1: 1 2\nfirst T1|w(x)\nsecond T2|w(x)\nschedule 0:\nrace 2: 1 3\nfirst T1|w(x)\nsecond T3|r(x)\nschedule 0:\nrace 3: 2 3\nfirst T2|w(x)\nsecond T3|r(x)\nschedule 0:\nend\n",
+        "shb-report 2\nevents 3 threads 3 locks 0 variables 1\nraces 3\nplaces 1\nplace 1: 3\nat \nand \nrace 1: 1 2\nfirst T1|w(x)\nsecond T2|w(x)\nschedule 0:\nrace 2: 1 3\nfirst T1|w(x)\nsecond T3|r(x)\nschedule 0:\nrace 3: 2 3\nfirst T2|w(x)\nsecond T3|r(x)\nschedule 0:\nend\n",
     ),
     (
         "T1|acq(l)\nT1|w(x)\nT1|rel(l)\nT2|w(x)\n",
-        "shb-report 1\nevents 4 threads 2 locks 1 variables 1\nraces 1\nrace 1: 2 4\nfirst T1|w(x)\nsecond T2|w(x)\nschedule 1: 1\nend\n",
+        "shb-report 2\nevents 4 threads 2 locks 1 variables 1\nraces 1\nplaces 1\nplace 1: 1\nat \nand \nrace 1: 2 4\nfirst T1|w(x)\nsecond T2|w(x)\nschedule 1: 1\nend\n",
     ),
     // Forks and joins order.
     (
         "T1|w(x)\nT1|fork(T2)\nT2|w(x)\n",
-        "shb-report 1\nevents 3 threads 2 locks 0 variables 1\nraces 0\nend\n",
+        "shb-report 2\nevents 3 threads 2 locks 0 variables 1\nraces 0\nplaces 0\nend\n",
     ),
     (
         "T1|fork(T2)\nT1|w(x)\nT2|w(x)\n",
-        "shb-report 1\nevents 3 threads 2 locks 0 variables 1\nraces 1\nrace 1: 2 3\nfirst T1|w(x)\nsecond T2|w(x)\nschedule 1: 1\nend\n",
+        "shb-report 2\nevents 3 threads 2 locks 0 variables 1\nraces 1\nplaces 1\nplace 1: 1\nat \nand \nrace 1: 2 3\nfirst T1|w(x)\nsecond T2|w(x)\nschedule 1: 1\nend\n",
     ),
     (
         "T1|fork(T2)\nT2|w(x)\nT1|join(T2)\nT1|r(x)\n",
-        "shb-report 1\nevents 4 threads 2 locks 0 variables 1\nraces 0\nend\n",
+        "shb-report 2\nevents 4 threads 2 locks 0 variables 1\nraces 0\nplaces 0\nend\n",
     ),
     // A lock orders.
     (
         "T1|w(x)\nT1|acq(l)\nT1|rel(l)\nT2|acq(l)\nT2|rel(l)\nT2|w(x)\n",
-        "shb-report 1\nevents 6 threads 2 locks 1 variables 1\nraces 0\nend\n",
+        "shb-report 2\nevents 6 threads 2 locks 1 variables 1\nraces 0\nplaces 0\nend\n",
     ),
     // Lines stand as the text has them, and line ends count.
     (
         "T1|w(y)|a|b\r\n\r\nT2|r(y)",
-        "shb-report 1\nevents 2 threads 2 locks 0 variables 1\nraces 1\nrace 1: 1 2\nfirst T1|w(y)|a|b\nsecond T2|r(y)\nschedule 0:\nend\n",
+        "shb-report 2\nevents 2 threads 2 locks 0 variables 1\nraces 1\nplaces 1\nplace 1: 1\nat a|b\nand \nrace 1: 1 2\nfirst T1|w(y)|a|b\nsecond T2|r(y)\nschedule 0:\nend\n",
     ),
     (
         "T1|r(f(a))\n",
-        "shb-report 1\nevents 1 threads 1 locks 0 variables 1\nraces 0\nend\n",
+        "shb-report 2\nevents 1 threads 1 locks 0 variables 1\nraces 0\nplaces 0\nend\n",
     ),
     (
         "T1|acq(l)\nT1|acq(l)\n",
-        "shb-report 1\nevents 2 threads 1 locks 1 variables 0\nraces 0\nend\n",
+        "shb-report 2\nevents 2 threads 1 locks 1 variables 0\nraces 0\nplaces 0\nend\n",
     ),
     // Races stand by the first access of their variable.
     (
         "T1|w(x)\nT1|w(y)\nT2|w(y)\nT2|w(x)\n",
-        "shb-report 1\nevents 4 threads 2 locks 0 variables 2\nraces 2\nrace 1: 1 4\nfirst T1|w(x)\nsecond T2|w(x)\nschedule 1: 3\nrace 2: 2 3\nfirst T1|w(y)\nsecond T2|w(y)\nschedule 1: 1\nend\n",
+        "shb-report 2\nevents 4 threads 2 locks 0 variables 2\nraces 2\nplaces 1\nplace 1: 2\nat \nand \nrace 1: 1 4\nfirst T1|w(x)\nsecond T2|w(x)\nschedule 1: 3\nrace 2: 2 3\nfirst T1|w(y)\nsecond T2|w(y)\nschedule 1: 1\nend\n",
     ),
     // A schedule has the release that an acquire waits for.
     (
         "T1|acq(l)\nT1|w(x)\nT1|rel(l)\nT2|acq(l)\nT2|r(x)\nT2|rel(l)\nT3|w(x)\n",
-        "shb-report 1\nevents 7 threads 3 locks 1 variables 1\nraces 2\nrace 1: 2 7\nfirst T1|w(x)\nsecond T3|w(x)\nschedule 1: 1\nrace 2: 5 7\nfirst T2|r(x)\nsecond T3|w(x)\nschedule 4: 1 2 3 4\nend\n",
+        "shb-report 2\nevents 7 threads 3 locks 1 variables 1\nraces 2\nplaces 1\nplace 1: 2\nat \nand \nrace 1: 2 7\nfirst T1|w(x)\nsecond T3|w(x)\nschedule 1: 1\nrace 2: 5 7\nfirst T2|r(x)\nsecond T3|w(x)\nschedule 4: 1 2 3 4\nend\n",
     ),
     // A thread that has no event, forked and joined.
     (
         "T1|fork(T3)\nT2|join(T3)\nT1|w(x)\nT2|w(x)\n",
-        "shb-report 1\nevents 4 threads 3 locks 0 variables 1\nraces 1\nrace 1: 3 4\nfirst T1|w(x)\nsecond T2|w(x)\nschedule 2: 1 2\nend\n",
+        "shb-report 2\nevents 4 threads 3 locks 0 variables 1\nraces 1\nplaces 1\nplace 1: 1\nat \nand \nrace 1: 3 4\nfirst T1|w(x)\nsecond T2|w(x)\nschedule 2: 1 2\nend\n",
     ),
     // A schedule has the last write of its reads.
     (
         "T1|w(x)\nT2|r(x)\nT2|w(y)\nT3|w(y)\n",
-        "shb-report 1\nevents 4 threads 3 locks 0 variables 2\nraces 2\nrace 1: 1 2\nfirst T1|w(x)\nsecond T2|r(x)\nschedule 0:\nrace 2: 3 4\nfirst T2|w(y)\nsecond T3|w(y)\nschedule 2: 1 2\nend\n",
+        "shb-report 2\nevents 4 threads 3 locks 0 variables 2\nraces 2\nplaces 1\nplace 1: 2\nat \nand \nrace 1: 1 2\nfirst T1|w(x)\nsecond T2|r(x)\nschedule 0:\nrace 2: 3 4\nfirst T2|w(y)\nsecond T3|w(y)\nschedule 2: 1 2\nend\n",
     ),
     // Each release of a lock orders, not the first alone, and the outer one too.
     (
         "T1|acq(l)\nT1|rel(l)\nT2|acq(l)\nT2|w(x)\nT2|rel(l)\nT3|acq(l)\nT3|rel(l)\nT3|w(x)\n",
-        "shb-report 1\nevents 8 threads 3 locks 1 variables 1\nraces 0\nend\n",
+        "shb-report 2\nevents 8 threads 3 locks 1 variables 1\nraces 0\nplaces 0\nend\n",
     ),
     (
         "T1|acq(l)\nT1|acq(l)\nT1|w(x)\nT1|rel(l)\nT1|w(y)\nT1|rel(l)\nT2|acq(l)\nT2|w(y)\nT2|rel(l)\nT2|w(x)\n",
-        "shb-report 1\nevents 10 threads 2 locks 1 variables 2\nraces 0\nend\n",
+        "shb-report 2\nevents 10 threads 2 locks 1 variables 2\nraces 0\nplaces 0\nend\n",
     ),
     (
         "T1|acq(l)\nT1|acq(l)\nT1|w(x)\nT1|rel(l)\nT1|rel(l)\nT2|acq(l)\nT2|rel(l)\nT3|w(x)\n",
-        "shb-report 1\nevents 8 threads 3 locks 1 variables 1\nraces 1\nrace 1: 3 8\nfirst T1|w(x)\nsecond T3|w(x)\nschedule 2: 1 2\nend\n",
+        "shb-report 2\nevents 8 threads 3 locks 1 variables 1\nraces 1\nplaces 1\nplace 1: 1\nat \nand \nrace 1: 3 8\nfirst T1|w(x)\nsecond T3|w(x)\nschedule 2: 1 2\nend\n",
     ),
     // Marks order nothing but their thread.
     (
         "T1|begin\nT1|w(x)\nT1|end\nT2|begin(m)\nT2|w(x)\nT2|end()\n",
-        "shb-report 1\nevents 6 threads 2 locks 0 variables 1\nraces 1\nrace 1: 2 5\nfirst T1|w(x)\nsecond T2|w(x)\nschedule 2: 1 4\nend\n",
+        "shb-report 2\nevents 6 threads 2 locks 0 variables 1\nraces 1\nplaces 1\nplace 1: 1\nat \nand \nrace 1: 2 5\nfirst T1|w(x)\nsecond T2|w(x)\nschedule 2: 1 4\nend\n",
     ),
     // What is accepted: a lock held at the end, a join without a fork, and a second join.
     (
         "T1|acq(l)\nT1|join(T2)\nT3|join(T2)\n",
-        "shb-report 1\nevents 3 threads 3 locks 1 variables 0\nraces 0\nend\n",
+        "shb-report 2\nevents 3 threads 3 locks 1 variables 0\nraces 0\nplaces 0\nend\n",
     ),
     // One thread's accesses never race.
     (
         "T1|w(x)\nT1|w(x)\nT1|r(x)\n",
-        "shb-report 1\nevents 3 threads 1 locks 0 variables 1\nraces 0\nend\n",
+        "shb-report 2\nevents 3 threads 1 locks 0 variables 1\nraces 0\nplaces 0\nend\n",
     ),
 ];
 
@@ -307,7 +307,7 @@ fn holds_the_limits(rt: HostRuntime) -> Result<(), Fail> {
     let racing = lines_of_threads(rt.alloc(), 65, "w(x)")?;
     let (answer, page) = run_over(&rt, racing.as_str().as_bytes(), 4096, false)?;
     assert!(rt; matches!(answer, Ok(Summary { races: 2080, .. })));
-    let head = "shb-report 1\nevents 65 threads 65 locks 0 variables 1\nraces 2080\nrace 1: 1 2\n";
+    let head = "shb-report 2\nevents 65 threads 65 locks 0 variables 1\nraces 2080\nplaces 1\nplace 1: 2080\nat \nand \nrace 1: 1 2\n";
     let last = "race 2080: 64 65\nfirst T64|w(x)\nsecond T65|w(x)\nend\n";
     assert!(rt; page.bytes().starts_with(head.as_bytes()));
     assert!(rt; page.bytes().ends_with(last.as_bytes()));

@@ -17,13 +17,13 @@ const TURNS: u32 = 1_000_000_000;
 const TWO_PIECES: &str = "T1|w(x)\nT1|w(y)\nT2|w(y)\nT2|w(x)\n";
 
 const TWO_PIECES_REPORT: &str =
-    "shb-report 1\nevents 4 threads 2 locks 0 variables 2\nraces 2\nrace 1: 1 4\nfirst T1|w(x)\nsecond T2|w(x)\nschedule 1: 3\nrace 2: 2 3\nfirst T1|w(y)\nsecond T2|w(y)\nschedule 1: 1\nend\n";
+    "shb-report 2\nevents 4 threads 2 locks 0 variables 2\nraces 2\nplaces 1\nplace 1: 2\nat \nand \nrace 1: 1 4\nfirst T1|w(x)\nsecond T2|w(x)\nschedule 1: 3\nrace 2: 2 3\nfirst T1|w(y)\nsecond T2|w(y)\nschedule 1: 1\nend\n";
 
 /// Three races of one variable.
 const THREE_RACES: &str = "T1|w(x)\nT2|w(x)\nT3|r(x)\n";
 
 const THREE_RACES_REPORT: &str =
-    "shb-report 1\nevents 3 threads 3 locks 0 variables 1\nraces 3\nrace 1: 1 2\nfirst T1|w(x)\nsecond T2|w(x)\nschedule 0:\nrace 2: 1 3\nfirst T1|w(x)\nsecond T3|r(x)\nschedule 0:\nrace 3: 2 3\nfirst T2|w(x)\nsecond T3|r(x)\nschedule 0:\nend\n";
+    "shb-report 2\nevents 3 threads 3 locks 0 variables 1\nraces 3\nplaces 1\nplace 1: 3\nat \nand \nrace 1: 1 2\nfirst T1|w(x)\nsecond T2|w(x)\nschedule 0:\nrace 2: 1 3\nfirst T1|w(x)\nsecond T3|r(x)\nschedule 0:\nrace 3: 2 3\nfirst T2|w(x)\nsecond T3|r(x)\nschedule 0:\nend\n";
 
 /// Runs with schedules and so many workers.
 fn settings<R: Abort>(rt: &R, workers: u32) -> Settings {
@@ -112,7 +112,7 @@ impl Sink for Watched<'_> {
     }
 }
 
-/// Holds piece 64 until the sink has taken 66 bytes.
+/// Holds piece 64 until the sink has taken 98 bytes.
 #[derive(Drop)]
 struct LastHeld<'a> {
     taken: &'a AtomicU64,
@@ -125,7 +125,7 @@ impl Gate for LastHeld<'_> {
             return;
         }
         for _ in 0..TURNS {
-            if self.taken.load(Ordering::SeqCst) >= 66 {
+            if self.taken.load(Ordering::SeqCst) >= 98 {
                 return;
             }
             yield_now();
@@ -162,10 +162,10 @@ fn written_early(rt: HostRuntime) -> Result<(), Fail> {
     assert!(rt; answer.is_ok());
     assert!(rt; !gate.missed.load(Ordering::SeqCst));
 
-    // The head has 65 bytes.
-    let head = "shb-report 1\nevents 65 threads 65 locks 0 variables 1\nraces 2080\n";
-    assert_eq!(rt; head.len(), 65);
-    assert!(rt; sink.page.bytes().starts_with(head.as_bytes()));
+    // The lines before the first block have 97 bytes.
+    let front = "shb-report 2\nevents 65 threads 65 locks 0 variables 1\nraces 2080\nplaces 1\nplace 1: 2080\nat \nand \n";
+    assert_eq!(rt; front.len(), 97);
+    assert!(rt; sink.page.bytes().starts_with(front.as_bytes()));
     let last = "race 2080: 64 65\nfirst T64|w(x)\nsecond T65|w(x)\nschedule 0:\nend\n";
     assert!(rt; sink.page.bytes().ends_with(last.as_bytes()));
     Ok(())
@@ -191,12 +191,12 @@ fn workers_change_nothing(rt: HostRuntime) -> Result<(), Fail> {
         assert!(rt; matches!(answer, Err(RunError::Sink)));
         assert_eq!(rt;
             sink.bytes(),
-            b"shb-report 1\nevents".as_slice(),
+            b"shb-report 2\nevents".as_slice(),
             "{workers} workers"
         );
 
         // The sink fails in each block, while workers make schedules.
-        for fail_at in 64..=THREE_RACES_REPORT.len() as u64 {
+        for fail_at in 89..=THREE_RACES_REPORT.len() as u64 {
             let mut source = Text::new(THREE_RACES.as_bytes(), 4096, None);
             let mut sink = Page::new(rt.alloc(), 1000, 1, Some(fail_at))?;
             let answer = run(&rt, rt.alloc(), &mut source, &mut sink, settings);

@@ -1,8 +1,10 @@
 //! The report of a trace whose races are known.
 ghost use Rattle.std.specs.Prelude.{◌≡◌, ◌-◌, ◌^◌, ◌<◌, All, false, map, true};
+ghost use Rattle.shb_io.specs.Devices.{IsCounted, Writes};
 ghost use Rattle.shb_lines.specs.events.Race.{IsRaceList, Race};
 ghost use Rattle.shb_pairs.specs.Races.{ends};
-ghost use Rattle.shb_report.specs.Report.{counts_of};
+ghost use Rattle.shb_report.specs.Places.{IsPlaceOf, counts_in, places_of_pairs};
+ghost use Rattle.shb_report.specs.Report.{counts_of, front_bytes};
 ghost use Rattle.shb_run.specs.Written.{IsSinkCounted, WritesBlocks, WritesReport};
 
 use crate::block_writer::BlockWriter;
@@ -11,11 +13,12 @@ use crate::ordered::Ordered;
 use crate::settings::Settings;
 use shb_clocks::Order;
 use shb_fan::{Gate, StreamError, Workers, stream};
-use shb_io::Sink;
+use shb_io::{Failed, Sink};
 use shb_lines::{Pair, Trace};
-use shb_report::{Counts, block, head, tail};
+use shb_report::{Counts, Places, block, head, place_lines, places_of, tail};
 use shb_witness::WitnessJob;
 use std::alloc::Global;
+use std::random::RandomSource;
 use std::sync::Wait;
 use std::thread::Threads;
 
@@ -103,8 +106,26 @@ fn counts_of(trace: &Trace) -> Counts
     }
 }
 
-/// Writes the report of a trace whose races these are.
-pub fn write_report<R: Threads + Wait + Sync, K: Sink, O: Order + Sync, G: Gate + Sync>(
+/// Writes the lines of a report before its first block: the head, and the places of the races.
+fn write_front<K: Sink>(
+    sink: &mut K,
+    trace: &Trace,
+    races: &[Pair],
+    places: &Places,
+) -> Result<(), Failed>
+    requires countable { K.failure_count sink.old < 2 ^ 64 - 1 }
+    requires places { places.now ≡ counts_in (places_of_pairs trace.now races.now) }
+    requires in_range { All (IsPlaceOf trace.now) places.now }
+    ensures written { Writes (K.taken sink.old) (K.taken sink.new) result (front_bytes trace.now (map ends races.now)) }
+    ensures counted { IsCounted (K.failure_count sink.old) (K.failure_count sink.new) result }
+{
+    let counts = counts_of(trace);
+    head(sink, &counts, races.len() as u64)?;
+    place_lines(sink, trace, places)
+}
+
+/// Writes the report of a trace whose races these are. The places are made before anything is written.
+pub fn write_report<R: Threads + Wait + Sync + RandomSource, K: Sink, O: Order + Sync, G: Gate + Sync>(
     rt: &R,
     alloc: Global,
     sink: &mut K,
@@ -119,8 +140,9 @@ pub fn write_report<R: Threads + Wait + Sync, K: Sink, O: Order + Sync, G: Gate 
         (K.taken sink.old) (K.taken sink.new) result }
     ensures counted { IsSinkCounted (K.failure_count sink.old) (K.failure_count sink.new) result }
 {
-    let counts = counts_of(ordered.trace.trace);
-    head(sink, &counts, races.len() as u64)?;
+    let trace = ordered.trace.trace;
+    let places = places_of(rt, alloc, trace, races)?;
+    write_front(sink, trace, races, &places)?;
     write_blocks(rt, alloc, sink, ordered, races, gate, settings)?;
     tail(sink)?;
     Ok(())
