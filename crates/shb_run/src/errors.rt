@@ -4,11 +4,11 @@ use shb_io::{Failed, NoMemory};
 use shb_lines::{Fault, ReadError};
 use thiserror::Error;
 
-/// Why a run gave no report.
+/// Why a run gave no report. It shows itself as `fault_line` words it.
 #[derive(Debug, Drop, Error)]
 pub enum RunError {
     /// The trace is refused: this is its first fault, and its line, from 1. Nothing was written.
-    #[error("line {line} of the trace is refused")]
+    #[error("line {line}: {}", .fault.words())]
     Trace { line: u32, fault: Fault },
     /// The source failed. Nothing was written.
     #[error("cannot read")]

@@ -18,7 +18,7 @@ pub use settings::{Settings, Summary};
 pub use shb_fan::{FreeGate, Gate, Workers};
 pub use shb_report::{RaceFault, Verdict};
 pub use verdicts::check;
-pub use words::{exit_status, fault_line};
+pub use words::{exit_status, fault_line, status_of_check, status_of_run};
 
 #[cfg(test)]
 mod check_tests;

@@ -264,6 +264,8 @@ fn refuses_traces(rt: HostRuntime) -> Result<(), Fail> {
                 Ok(_) => String::new(rt.alloc()),
                 Err(error) => {
                     assert_eq!(rt; exit_status(&error), 2);
+                    let shown = format!(in rt.alloc(); "{error}")?;
+                    assert_eq!(rt; shown.as_str(), words);
                     fault_line(rt.alloc(), &error)?
                 }
             };

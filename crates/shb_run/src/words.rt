@@ -1,9 +1,11 @@
 //! What a program says of an error, and the status that it ends with.
 ghost use Rattle.std.specs.Prelude.{◌≡◌, IfOk, string_bytes};
-ghost use Rattle.shb_run.specs.Words.{exit_status_of, fault_line_of};
+ghost use Rattle.shb_run.specs.Words.{check_status_of, exit_status_of, fault_line_of, run_status_of};
 
 use crate::errors::RunError;
+use crate::settings::Summary;
 use shb_io::NoMemory;
+use shb_report::Verdict;
 use std::alloc::Global;
 
 /// The status with which a program ends: 2 for a refused trace, 4 for a device or the memory.
@@ -13,6 +15,29 @@ pub fn exit_status(error: &RunError) -> u8
     match error {
         RunError::Trace { .. } => 2,
         RunError::Source | RunError::Sink | RunError::Memory => 4,
+    }
+}
+
+/// The status with which a program ends that ran over a trace: 0 where the report was written, and
+/// else that of the error.
+pub fn status_of_run(answer: &Result<Summary, RunError>) -> u8
+    ensures { result ≡ run_status_of answer.now }
+{
+    match answer {
+        Ok(_) => 0,
+        Err(error) => exit_status(error),
+    }
+}
+
+/// The status with which a program ends that checked a report: 0 for a good one, 5 for a rejected
+/// one, and else that of the error.
+pub fn status_of_check(answer: &Result<Verdict, RunError>) -> u8
+    ensures { result ≡ check_status_of answer.now }
+{
+    match answer {
+        Ok(Verdict::Good { .. }) => 0,
+        Ok(_) => 5,
+        Err(error) => exit_status(error),
     }
 }
 
