@@ -1,5 +1,5 @@
-//! What no contract says: that calls succeed, which errors of a reader or a writer are tried again, and the
-//! bytes that arrive behind a writer that is let go.
+//! What no contract says: that calls succeed, which errors of a reader or a writer are tried again, what a
+//! flush that fails answers, and the bytes that arrive after a writer that is let go.
 use crate::*;
 use std::io::{self, BufWriter, ErrorKind, Read, Write};
 use std::process::Abort;
@@ -24,6 +24,57 @@ impl Read for Interrupted {
             }
             None => Ok(0),
         }
+    }
+}
+
+/// A reader that fails once, and then gives one byte at each read.
+#[derive(Drop)]
+struct Broken {
+    is_mended: bool,
+}
+
+impl Read for Broken {
+    fn read(&mut self, buf: &mut [u8]) -> io::Result<usize> {
+        if !self.is_mended {
+            self.is_mended = true;
+            return Err(io::Error::from(ErrorKind::BrokenPipe));
+        }
+        match buf.first_mut() {
+            Some(byte) => {
+                *byte = b'x';
+                Ok(1)
+            }
+            None => Ok(0),
+        }
+    }
+}
+
+/// A writer whose first calls, writes and flushes, fail in this way, and which then takes everything.
+#[derive(Drop)]
+struct Failing {
+    times: u32,
+    kind: ErrorKind,
+}
+
+impl Failing {
+    /// Whether this call goes well.
+    fn call(&mut self) -> io::Result<()> {
+        if self.times > 0 {
+            self.times -= 1;
+            return Err(io::Error::from(self.kind));
+        }
+        Ok(())
+    }
+}
+
+impl Write for Failing {
+    fn write(&mut self, buf: &[u8]) -> io::Result<usize> {
+        self.call()?;
+        Ok(buf.len())
+    }
+
+    fn flush(&mut self) -> io::Result<()> {
+        self.call()
     }
 }
 
@@ -110,6 +161,41 @@ fn interruptions_are_tried_again(rt: HostRuntime) {
     let mut too_many = FromRead::new(Interrupted { times: 1_001 });
     expect_read(&rt, &mut too_many, Err(Failed));
     assert_eq!(rt; too_many.failures(), 1);
+}
+
+#[test]
+fn other_errors_of_a_reader_are_failures_at_once(rt: HostRuntime) {
+    let mut source = FromRead::new(Broken { is_mended: false });
+    expect_read(&rt, &mut source, Err(Failed));
+    expect_read(&rt, &mut source, Ok(b"x"));
+    assert_eq!(rt; source.failures(), 1);
+}
+
+#[test]
+fn writes_are_tried_again_where_interrupted(rt: HostRuntime) {
+    for (times, kind, want, failures) in [
+        (1_000, ErrorKind::Interrupted, Ok(1), 0),
+        (1_001, ErrorKind::Interrupted, Err(Failed), 1),
+        (1, ErrorKind::BrokenPipe, Err(Failed), 1),
+    ] {
+        let mut sink = ToWrite::new(Failing { times, kind });
+        assert_eq!(rt; sink.write(b"a"), want);
+        assert_eq!(rt; sink.failures(), failures);
+    }
+}
+
+#[test]
+fn flushes_are_tried_again_where_interrupted(rt: HostRuntime) {
+    for (times, kind, want) in [
+        (0, ErrorKind::Interrupted, Ok(())),
+        (1_000, ErrorKind::Interrupted, Ok(())),
+        (1_001, ErrorKind::Interrupted, Err(Failed)),
+        (1, ErrorKind::BrokenPipe, Err(Failed)),
+    ] {
+        assert_eq!(rt; ToWrite::new(Failing { times, kind }).finish(), want);
+        let handed_back = ToWrite::new(Failing { times, kind }).into_writer();
+        assert_eq!(rt; handed_back.is_ok(), want.is_ok());
+    }
 }
 
 #[test]

@@ -1,5 +1,5 @@
 //! The command line that is read.
-use crate::help::ABOUT_TRACES;
+use crate::help::{ABOUT_CHECKS, ABOUT_THE_PROGRAM, ABOUT_TRACES};
 use clap::{Arg, ArgAction, Command, value_parser};
 use std::alloc::{AllocError, Global};
 
@@ -8,11 +8,11 @@ fn races_command<'a>(alloc: Global) -> Result<Command<'a>, AllocError> {
     let workers = Arg::new(alloc, "workers")
         .long("workers")
         .value_name("N")
-        .help("How many workers may look for races, 1 to 64 [default: 4]")
+        .help("How many workers share the work, 1 to 64 [default: 4]")
         .value_parser(value_parser!(u32).range(1..=64));
     let list = Arg::new(alloc, "list")
         .long("list")
-        .help("Leave the schedules out of the report")
+        .help("Leave the schedules out: for the first look at a trace")
         .action(ArgAction::SetTrue);
     let trace = Arg::new(alloc, "trace").value_name("TRACE").help(
         "The file of the trace; standard input where it is left out",
@@ -32,17 +32,16 @@ fn check_command<'a>(alloc: Global) -> Result<Command<'a>, AllocError> {
         .help("The file of the trace")
         .required(true);
     Command::new(alloc, "check")
-        .about("Checks a report on standard input against its trace (not built yet)")
+        .about("Checks the report on standard input against its trace")
+        .after_help(ABOUT_CHECKS)
         .arg(trace)
 }
 
 /// The whole command line, whose first word is the program's own name.
 pub fn command<'a>(alloc: Global) -> Result<Command<'a>, AllocError> {
     Command::new(alloc, "shb")
-        .about(
-            "Finds the races of a trace, and gives each a schedule. With no words at all it does what 'shb races --list' does",
-        )
-        .after_help(ABOUT_TRACES)
+        .about("Finds the races of a trace of a run, and gives each a schedule that shows it")
+        .after_help(ABOUT_THE_PROGRAM)
         .subcommand_required(true)
         .subcommand(races_command(alloc)?)?
         .subcommand(check_command(alloc)?)

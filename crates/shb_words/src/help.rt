@@ -1,9 +1,24 @@
-//! The text that stands under the options in the help.
+//! The texts that stand under the options in the help.
 
-/// What a trace looks like, and what the program answers.
+/// Under the list of commands: what to begin with, and the statuses.
+pub const ABOUT_THE_PROGRAM: &str =
+    "With no words at all it does what 'shb races --list' does: it reads a trace from
+standard input and lists its races. Begin with the list: a full report has, for
+each race, a schedule that may be as long as the trace.
+
+  $ printf 'T1|w(y)|1\\nT2|r(y)|2\\n' | shb races --list
+
+'shb help races' says what a trace and a report look like, and 'shb help check'
+what a good report means.
+
+Exit status: 0 done, 2 trace refused, 3 words refused, 4 a file, a device or the
+memory failed, 5 report rejected
+";
+
+/// Under the options of `races`: what a trace looks like, what the program answers, and what it costs.
 pub const ABOUT_TRACES: &str = "The trace:
-  One event a line, in the order in which they happened: THREAD|OPERATION|LOCATION. The location
-  may be left out. Names are any bytes. Empty lines are skipped. The operations:
+  One event a line, in the order in which they happened: THREAD|OPERATION|LOCATION.
+  The location may be left out. Names are any bytes. Empty lines are skipped.
 
     r(X)     w(X)     reads or writes the variable X
     acq(L)   rel(L)   acquires or releases the lock L; its holder may acquire it again
@@ -11,14 +26,23 @@ pub const ABOUT_TRACES: &str = "The trace:
     begin    end      mark a block; they order nothing
 
 The report:
-  How many events, threads, locks and variables the trace has, and how many races. For each race
-  the numbers of its two events, counted from 1, their lines, and a schedule: the events to run
-  first, in this order, so that both accesses come next. The last line is 'end'.
+  How many events, threads, locks and variables the trace has, and how many races.
+  Then the places: each pair of locations that has races, and how many. Then for each
+  race the numbers of its two events, counted from 1, their lines, and a schedule: the
+  events to run first, in this order, so that both accesses come next. The last line
+  is 'end'.
 
-  A race is two accesses of one variable by different threads, at least one a write, where the
-  earlier isn't ordered before the event that precedes the later in its thread. Ordered are the
-  events of a thread, a release before a later acquire of the lock, a fork before the events of
-  its thread, these before a join of it, and the last write before each read that sees it.
+  A race is two accesses of one variable by different threads, at least one a write,
+  where the earlier isn't ordered before the event that precedes the later in its
+  thread. Ordered are the events of a thread, a release before a later acquire of the
+  lock, a fork before the events of its thread, these before a join of it, and the last
+  write before each read that sees it.
+
+Costs:
+  A schedule may be as long as the trace, so a full report may take as many numbers as
+  races times events. --list leaves the schedules out: use it for the first look.
+  --workers changes the time alone, never the report: the search for races and the
+  schedules are shared out; reading the trace, ordering its events and writing aren't.
 
 Exit status:
   0  the report was written, or the help that was asked for
@@ -28,12 +52,48 @@ Exit status:
 
 Example:
   $ printf 'T1|w(y)|1\\nT2|r(y)|2\\n' | shb races
-  shb-report 1
+  shb-report 2
   events 2 threads 2 locks 0 variables 1
   races 1
+  places 1
+  place 1: 1
+  at 1
+  and 2
   race 1: 1 2
   first T1|w(y)|1
   second T2|r(y)|2
   schedule 0:
   end
+";
+
+/// Under the options of `check`: what it judges, and what it doesn't.
+pub const ABOUT_CHECKS: &str =
+    "The report is read from standard input, and one line is written to standard output:
+
+    ok R          the report is good; it lists R races
+    bad line N    line N is the first that no report has there
+    bad counts    the counts of events, threads, locks and variables are others
+    bad race K    race K is the first that isn't shown to be one
+    bad places    the places aren't those of the listed races
+
+  Each race that a good report lists is a race of the trace: its lines are those of
+  the trace, they conflict, and its schedule keeps the order of each thread, forks
+  and joins, the locks and what each read saw, and brings both accesses next. It need
+  not be the schedule that 'shb races' writes, and any tool may have written the
+  report.
+
+  That races are left out isn't found, nor the order of the races or one that is
+  listed twice. A report made with --list has no schedules to judge: it is answered
+  'bad line N', unless it lists no race.
+
+Exit status:
+  0  the report is good
+  2  the trace is refused, whatever the report is; 'line N: REASON' is on standard error
+  3  the words are refused
+  4  a file, a device or the memory failed
+  5  the report is rejected
+
+Example:
+  $ shb races t.std > t.report
+  $ shb check t.std < t.report
 ";

@@ -1,0 +1,50 @@
+//! `shb races`: the report of a trace goes to standard output.
+ghost use Rattle.std.specs.Prelude.{◌≡◌};
+
+use crate::complaints::{FAILED, complain, complain_of};
+use shb_io::{FromRead, Source, ToWrite};
+use shb_run::{Settings, run};
+use std::fs::File;
+use std::io::{BufWriter, writer};
+use std::random::RandomSource;
+use std::rt::Files;
+use std::sync::Wait;
+use std::thread::Threads;
+
+/// How many bytes of a report are written at once.
+const REPORT_BUFFER: usize = 1 << 16;
+
+/// Writes the report of a source to standard output, and gives the program's status.
+fn write_report<R: Print + Eprint + AllocGlobal + RandomSource + Threads + Wait + Sync, S: Source>(
+    rt: &R,
+    source: &mut S,
+    settings: Settings,
+) -> u8
+    requires { S.failure_count source.old ≡ 0 }
+{
+    let Ok(buffer) = BufWriter::with_capacity(rt.alloc(), REPORT_BUFFER, writer(rt)) else {
+        return complain(rt, "out of memory", FAILED);
+    };
+    let mut sink = ToWrite::new(buffer);
+    match run(rt, rt.alloc(), source, &mut sink, settings) {
+        Ok(_) => match sink.finish() {
+            Ok(()) => 0,
+            Err(_) => complain(rt, "cannot write", FAILED),
+        },
+        Err(error) => complain_of(rt, &error),
+    }
+}
+
+/// Writes the report of a file, or of standard input where none is named, to standard output, and gives
+/// the program's status.
+pub(crate) fn races<
+    R: Print + Eprint + Input + AllocGlobal + Files + RandomSource + Threads + Wait + Sync,
+>(rt: &R, trace: Option<&str>, settings: Settings) -> u8 {
+    match trace {
+        Some(path) => match File::open(rt, path) {
+            Ok(file) => write_report(rt, &mut FromRead::new(file), settings),
+            Err(_) => complain(rt, "cannot open", FAILED),
+        },
+        None => write_report(rt, &mut FromRead::new(rt.reader()), settings),
+    }
+}
