@@ -4,6 +4,7 @@ pub mod Meaning
 pub mod Reading
 pub mod Limits
 pub mod Names
+pub mod Ends
 pub mod Text
 pub mod Faults
 pub mod Words

@@ -1,13 +1,11 @@
--- What is remembered is used where the table has the name there.
-use Rattle.std.proofs.Common.{Some, ap, option_map, sym, ◌∙◌}
-use Rattle.std.specs.Map.Iter.{deref_pair}
-use Rattle.std.proofs.lemmas.Option.{slice_get-map}
-use Rattle.std.proofs.lemmas.Slice.Eq.{bytes_eq-Decides}
+-- A number that a name has is below the count of names.
+use Rattle.std.proofs.Common.{arith}
+use Rattle.std.proofs.lemmas.List.{length-map}
+use Rattle.std.proofs.lemmas.Option.{slice_get_within}
+use Rattle.shb_lines.specs.text.Names.{names_in}
 use Rattle.shb_lines.proofs.names.Names.recalled.Goals as goal
 
-pub returns-in-Some-clause-number : goal.returns-in-Some-clause-number
-returns-in-Some-clause-number c =
+pub returns-then-is_named-clause-within : goal.returns-then-is_named-clause-within
+returns-then-is_named-clause-within c =
     let entries = c.args.self.now.table.entries in
-    slice_get-map (λ e. e.0.now) entries c.index-number.result.now
-    ∙ ap (option_map (λ e. e.0.now)) (sym c.get_index.ensures.entry ∙ ap (option_map deref_pair) c.in-Some.is)
-    ∙ ap Some ((bytes_eq-Decides c.in-Some.known.now.now c.args.name.now).0 (sym c.eq.ensures ∙ c.if-eq.true))
+    omega (arith, slice_get_within (names_in entries) c.in_ok-number.number c.args.name.now (c.is_named.ensures c.if-is_named.true), length-map entries (λ e. e.0.now))
