@@ -17,28 +17,23 @@ use Rattle.shb_lines.proofs.events.Prefix.{is_of_thread}
 use Rattle.shb_lines.proofs.events.Schedulable.{thread_below_pred}
 use Rattle.shb_clocks.specs.Fronts.{IsFront, Learns, by_acquire, by_join, by_read, StrictlyBelow}
 use Rattle.shb_clocks.specs.Learned.{IsLearning, first, acquires, joins, reads, LearnsAt, KeptData, nothing_kept, IsRowUpTo, IsFrontBut, number_before, IsKept, AreKept}
-use Rattle.shb_clocks.specs.Rows.{RowsData}
+use Rattle.shb_clocks.specs.Rows.{AreMore, RowsData}
 use Rattle.shb_clocks.proofs.Fronts.{front_own}
 use Rattle.shb_clocks.proofs.Locals.{place_at, place_rises, place_order, place_after}
 use Rattle.shb_clocks.proofs.Sources.{below_cases, path_append}
-
--- rows that stay as they are, with more behind them
-pub record AreMore (rows more : List (List ℕ)) : Type 0 where
-  pub as_long : length rows ≤ length more
-  pub same : (i : ℕ) → i < length rows → get_or more i [] ≡ get_or rows i []
 
 module _ (trace : List Event) where
   -- the clock of an event, from a row without the entry of its thread
   pub front_whole : (b u : ℕ) (row : List ℕ) → thread_at trace b ≡ Some u → u < length row → IsFrontBut trace u (λ k. ShbBelow trace k b) row → IsFront trace (λ k. ShbBelow trace k b) (set row u (place_in_thread trace u b))
   front_whole b u row of_b lt but = front_own trace (λ k. ShbBelow trace k b) b u row of_b lt (λ t k of_k ne. ((λ h. h), (λ h. h))) but.within but.exact
 
-  front_but_same : (u : ℕ) (P Q : ℕ → Type 0) (clock : List ℕ) → ((t k : ℕ) → thread_at trace k ≡ Some t → t ≢ u → P k ↔ Q k) → IsFrontBut trace u P clock → IsFrontBut trace u Q clock
+  pub front_but_same : (u : ℕ) (P Q : ℕ → Type 0) (clock : List ℕ) → ((t k : ℕ) → thread_at trace k ≡ Some t → t ≢ u → P k ↔ Q k) → IsFrontBut trace u P clock → IsFrontBut trace u Q clock
   front_but_same u P Q clock same but = record {
     within = but.within;
     exact = λ t k of_k ne. (let old = but.exact t k of_k ne in let s = same t k of_k ne in ((λ le. s.0 (old.0 le)), (λ q. old.1 (s.1 q))));
   }
 
-  thread_same : (k t u : ℕ) → thread_at trace k ≡ Some t → thread_at trace k ≡ Some u → t ≡ u
+  pub thread_same : (k t u : ℕ) → thread_at trace k ≡ Some t → thread_at trace k ≡ Some u → t ≡ u
   thread_same k t u of_t of_u = let s : Some t ≡ Some u = sym of_t ∙ of_u in cc
 
   -- how many events of a thread come before, one event more

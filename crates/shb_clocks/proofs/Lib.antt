@@ -7,4 +7,6 @@ pub mod MayLearn
 pub mod PastLemmas
 pub mod RowsLemmas
 pub mod Sources
-pub mod Passing
+pub mod Counting
+pub mod StampItems
+pub mod Stamping

@@ -108,7 +108,7 @@ locks_release trace n threads locks l clocks clock joined releases lt long each 
     go m within (inl is) = subst (λ (x : ℕ). IsFront trace (BelowRelease trace x (n + 1)) (get_or (set clocks l joined) x [])) (sym is) (subst (IsFront trace (BelowRelease trace l (n + 1))) (sym there) (front_same trace _ (BelowRelease trace l (n + 1)) joined (λ k. release_more trace l n k releases) (front_join trace (BelowRelease trace l n) (λ k. ShbBelow trace k n) (get_or clocks l []) clock joined (old.each l lt) front each)))
     go m within (inr ne) = subst (IsFront trace (BelowRelease trace m (n + 1))) (sym (get_or-set_other clocks l m joined [] ne)) (front_same trace (BelowRelease trace m n) (BelowRelease trace m (n + 1)) (get_or clocks m []) (λ k. release_same trace m n k (λ h. ne (let s : Some (Release m) ≡ Some (Release l) = sym h ∙ releases in cc))) (old.each m within))
 
-zero_entry : (n t : ℕ) → ◌≡◌ {A = ℕ} (get_or (replicate n 0) t 0) 0
+pub zero_entry : (n t : ℕ) → ◌≡◌ {A = ℕ} (get_or (replicate n 0) t 0) 0
 zero_entry n t = elim (cases_lt t n) [ inl lt ↦ get_or-replicate n t 0 0 lt | inr le ↦ get_or_past (replicate n 0) t 0 (let long = length-replicate {A = ℕ} n 0 in omega (arith, long, le)) ]
 
 pub locks_start : (trace : List Event) (threads locks : ℕ) (clocks : List (List ℕ)) → clocks ≡ replicate locks (replicate threads 0) → HasLockClocks trace 0 threads locks clocks

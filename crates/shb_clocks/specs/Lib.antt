@@ -1,6 +1,6 @@
-pub mod Before
 pub mod Fronts
 pub mod Learned
 pub mod Marks
 pub mod Past
 pub mod Rows
+pub mod Stamps

@@ -1,6 +1,6 @@
 //! The places of one thread at which a clock is kept.
 
-ghost use Rattle.std.specs.Prelude.{◌≡◌, ℕ, ◌-◌, ◌<◌, ◌≤◌, [], ◌∷◌, ◌++◌, ◌↔◌, IsTrue, OnOk, length, slice_index_or};
+ghost use Rattle.std.specs.Prelude.{◌≡◌, ℕ, ◌-◌, ◌<◌, ◌≤◌, [], ◌∷◌, ◌++◌, OnOk, length, slice_index_or};
 ghost use Rattle.std.specs.List.Sorted.{IsStrictlyIncreasing};
 ghost use Rattle.shb_clocks.specs.Learned.{KeptData, IsRowUpTo, nothing_kept};
 
@@ -46,26 +46,6 @@ impl Kept {
         match self.rows.last() {
             Some(row) => *row,
             None => 0,
-        }
-    }
-
-    /// The row of the last of the first places, of which there are so many.
-    pub fn row_of(&self, count: u32) -> u32
-        requires as_many { length self.now.rows ≡ length self.now.places }
-        requires some { 0 < count }
-        requires bound { count ≤ length self.now.places }
-        ensures { result ≡ slice_index_or self.now.rows (count - 1) 0 }
-    {
-        self.rows[count as usize - 1]
-    }
-
-    /// Whether there is a place behind the first ones, and it is up to this one.
-    pub fn has_next(&self, count: u32, place: u32) -> bool
-        ensures { IsTrue result ↔ ((count < length self.now.places) × (slice_index_or self.now.places count 0 ≤ place)) }
-    {
-        match self.places.get(count as usize) {
-            Some(next) => *next <= place,
-            None => false,
         }
     }
 

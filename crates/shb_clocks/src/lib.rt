@@ -15,6 +15,8 @@ mod past;
 mod plain_order;
 mod row;
 mod rows;
+mod stamp;
+mod stamps;
 
 pub use clock_versions::{ClockVersions, versions};
 pub use event_rows::{EventRows, by_event};

@@ -5,7 +5,8 @@ use Rattle.shb_lines.specs.declared.event.Op.TheVariants.{Read}
 use Rattle.shb_lines.specs.events.Order.{ShbBelow}
 use Rattle.shb_lines.proofs.events.Items.{thread_item}
 use Rattle.shb_clocks.specs.Learned.{IsFrontBut}
-use Rattle.shb_clocks.proofs.LearnedLemmas.{AreMore, kept_item, kept_push, all_kept_push, last_row_within, local_is}
+use Rattle.shb_clocks.specs.Rows.{AreMore}
+use Rattle.shb_clocks.proofs.LearnedLemmas.{kept_item, kept_push, all_kept_push, last_row_within, local_is}
 use Rattle.shb_clocks.proofs.kept_clocks.KeptClocks.keep.Goals as goal
 
 pub number_like-requires-clause-in_range : goal.number_like-requires-clause-in_range

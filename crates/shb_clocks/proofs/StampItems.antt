@@ -1,0 +1,54 @@
+-- What the code of the sweep by stamps reads, and the parts of its state, an event more.
+use Rattle.std.proofs.Common.{◌≡◌, ℕ, ◌<◌, ◌≤◌, ◌⊎◌, inl, inr, List, [], Some, length, get_or, arith, subst, ap, sym, ◌∙◌}
+use Rattle.std.specs.Prelude.{replicate}
+use Rattle.std.proofs.Math.ListN.{length-replicate, get_or-replicate}
+use Rattle.std.proofs.lemmas.List.{get_or_read}
+use Rattle.shb_lines.specs.declared.event.Event.{Event}
+use Rattle.shb_lines.specs.declared.event.Op.{Op}
+use Rattle.shb_lines.specs.declared.event.Sizes.{Sizes}
+use Rattle.shb_lines.specs.events.Events.{thread_at, op_at}
+use Rattle.shb_lines.specs.events.Sizes.{IsOpWithin, IsWithin}
+use Rattle.shb_lines.proofs.events.Events.{event_of_thread, event_of_op}
+use Rattle.shb_lines.proofs.events.Items.{op_item}
+use Rattle.shb_clocks.specs.Stamps.{AreCurrent, AreStamps, IsKnown, IsLatestStamp, IsRowFor, empty_stamp}
+use Rattle.shb_clocks.specs.declared.stamp.Stamp.{Stamp}
+use Rattle.shb_clocks.proofs.Locals.{place_at}
+use Rattle.shb_clocks.proofs.PastLemmas.{zero_entry}
+
+-- numbers within the sizes
+pub thread_low : (trace : List Event) (sizes : Sizes) (e t : ℕ) → IsWithin trace sizes → thread_at trace e ≡ Some t → t < sizes.threads
+thread_low trace sizes e t within of_t = let x = event_of_thread trace e t of_t in let low = (within e x.0 x.1).thread in let is = x.2 in omega (arith, low, is)
+
+pub op_low : (trace : List Event) (sizes : Sizes) (e : ℕ) (op : Op) → IsWithin trace sizes → op_at trace e ≡ Some op → IsOpWithin sizes op
+op_low trace sizes e op within is = let x = event_of_op trace e op is in subst (IsOpWithin sizes) x.2 (within e x.0 x.1).operation
+
+pub op_is : (trace : List Event) (e : ℕ) (d : Event) (op : Op) → e < length trace → (get_or trace e d).op ≡ op → op_at trace e ≡ Some op
+op_is trace e d op lt is = op_item trace e d lt ∙ ap (λ (o : Op). Some o) is
+
+-- whether a stamp is known, as the code tests it
+pub known_read : (stamp : Stamp) (u t : ℕ) (seen row : List ℕ) → u ≡ t → seen ≡ row → (stamp.thread ≡ u) ⊎ (stamp.place ≤ get_or seen stamp.thread 0) → (stamp.thread ≡ t) ⊎ (stamp.place ≤ get_or row stamp.thread 0)
+known_read stamp u t seen row same is (inl own) = inl (own ∙ same)
+known_read stamp u t seen row same is (inr le) = inr (let item = ap (λ (xs : List ℕ). get_or xs stamp.thread 0) is in omega (arith, le, item))
+
+-- an item of a table
+pub stamp_item : (trace : List Event) (rows : List (List ℕ)) (P : ℕ → ℕ → Type 0) (n size x : ℕ) (stamps : List Stamp) (item : Stamp) → AreStamps trace rows P n size stamps → x < size → item ≡ get_or stamps x item → IsLatestStamp trace rows (P x) n item
+stamp_item trace rows P n size x stamps item has lt is = subst (IsLatestStamp trace rows (P x) n) (sym (get_or_read stamps x item (let many = has.as_many in omega (arith, many, lt)) is empty_stamp)) (has.each x lt)
+
+pub current_item : (trace : List Event) (rows : List (List ℕ)) (n threads t item : ℕ) (current : List ℕ) → AreCurrent trace rows n threads current → t < threads → item ≡ get_or current t item → IsRowFor trace rows t (IsKnown trace t n) item
+current_item trace rows n threads t item current has lt is = subst (IsRowFor trace rows t (IsKnown trace t n)) (sym (get_or_read current t item (let many = has.as_many in omega (arith, many, lt)) is 0)) (has.each t lt)
+
+-- before the first event
+pub current_start : (trace : List Event) (rows : List (List ℕ)) (threads : ℕ) (current : List ℕ) → 0 < length rows → get_or rows 0 [] ≡ replicate threads 0 → current ≡ replicate threads 0 → AreCurrent trace rows 0 threads current
+current_start trace rows threads current some first is = record {
+  as_many = ap length is ∙ length-replicate threads 0;
+  each = λ t lt. subst (IsRowFor trace rows t (IsKnown trace t 0)) (sym (ap (λ (xs : List ℕ). get_or xs t 0) is ∙ get_or-replicate threads t 0 0 lt)) (record {
+    in_range = some;
+    front = record {
+      within = λ s ne. (let z = zero s in omega (arith, z));
+      exact = λ s k of_k ne. ((λ le. absurd (let own = place_at trace s k of_k in let z = zero s in omega (arith, own, z, le))), (λ h. absurd (let lt = h.earlier in omega (arith, lt))));
+    };
+  });
+}
+  where
+    zero : (s : ℕ) → get_or (get_or rows 0 []) s 0 ≡ 0
+    zero s = ap (λ (xs : List ℕ). get_or xs s 0) first ∙ zero_entry threads s

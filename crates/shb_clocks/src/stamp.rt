@@ -1,0 +1,79 @@
+//! Stamps: the clock of an event in twelve bytes, over a row that others share.
+
+ghost use Rattle.std.specs.Prelude.{◌≡◌, ℕ, ◌+◌, ◌<◌, ◌≤◌, ◌⊎◌, ◌^◌, ◌↔◌, [], IsTrue, IfOk, OnOk, length, max, set, slice_index_or};
+ghost use Rattle.shb_clocks.specs.Stamps.{HasGrown, empty_stamp};
+
+use crate::clock::{Clock, EventClock, entry};
+use crate::rows::Rows;
+use shb_io::NoMemory;
+
+/// The clock of an event: the row of that number, with the entry of the event's thread set to the
+/// event's place in it, from 1. Place 0 stands for no event.
+#[derive(Clone, Copy)]
+pub struct Stamp {
+    pub row: u32,
+    pub thread: u32,
+    pub place: u32,
+}
+
+impl Stamp {
+    /// The stamp of no event.
+    pub fn empty() -> Stamp
+        ensures { result ≡ empty_stamp }
+    {
+        Stamp {
+            row: 0,
+            thread: 0,
+            place: 0,
+        }
+    }
+
+    /// Whether a thread that knows a row, but for its own entry, knows the event of this stamp.
+    pub fn is_known(self, thread: u32, row: &[u32]) -> bool
+        ensures { IsTrue result ↔ ((self.thread ≡ thread) ⊎ (self.place ≤ slice_index_or row.now self.thread 0)) }
+    {
+        self.thread == thread || self.place <= entry(row, self.thread)
+    }
+}
+
+/// Adds a row: that of the given number, raised to the clock of the stamp. The clock is space to work
+/// in.
+pub fn push_joined(
+    rows: &mut Rows,
+    clock: &mut Clock,
+    given: u32,
+    stamp: Stamp,
+) -> Result<u32, NoMemory>
+    requires given { given < length rows.old.rows }
+    requires stamp { stamp.row < length rows.old.rows }
+    requires thread { stamp.thread < rows.old.width }
+    requires few { length rows.old.rows + 1 < 2 ^ 32 }
+    requires long { length clock.old ≡ rows.old.width }
+    ensures long { OnOk result (length clock.new ≡ length clock.old) }
+    ensures grown { OnOk result (HasGrown rows.old rows.new) }
+    ensures wide { length (slice_index_or rows.old.rows stamp.row []) ≡ rows.old.width }
+    ensures number { IfOk result (λ number. number < length rows.new.rows) }
+    ensures joined { (t : ℕ) → IfOk result (λ number. slice_index_or (slice_index_or rows.new.rows number []) t 0
+        ≡ max (slice_index_or (slice_index_or rows.old.rows given []) t 0)
+        (slice_index_or (set (slice_index_or rows.old.rows stamp.row []) stamp.thread stamp.place) t 0)) }
+{
+    clock.copy(rows.row(given));
+    clock.join_event(&EventClock::new(rows.row(stamp.row), stamp.thread, stamp.place));
+    rows.push(clock.as_slice())
+}
+
+/// Adds a row: the clock of the stamp. The clock that is given is space to work in.
+pub fn push_stamp(rows: &mut Rows, clock: &mut Clock, stamp: Stamp) -> Result<u32, NoMemory>
+    requires stamp { stamp.row < length rows.old.rows }
+    requires thread { stamp.thread < rows.old.width }
+    requires few { length rows.old.rows + 1 < 2 ^ 32 }
+    requires long { length clock.old ≡ rows.old.width }
+    ensures long { OnOk result (length clock.new ≡ length clock.old) }
+    ensures grown { OnOk result (HasGrown rows.old rows.new) }
+    ensures wide { length (slice_index_or rows.old.rows stamp.row []) ≡ rows.old.width }
+    ensures row { IfOk result (λ number. (number < length rows.new.rows) × (slice_index_or rows.new.rows number []
+        ≡ set (slice_index_or rows.old.rows stamp.row []) stamp.thread stamp.place)) }
+{
+    clock.copy_event(&EventClock::new(rows.row(stamp.row), stamp.thread, stamp.place));
+    rows.push(clock.as_slice())
+}

@@ -1,0 +1,244 @@
+//! The sweep by stamps: rows that never change, and stamps that name them.
+
+ghost use Rattle.std.specs.Prelude.{◌≡◌, ℕ, ◌+◌, ◌<◌, ◌^◌, List, [], ◌∷◌, Some, IfOk, OnOk, length, replicate};
+ghost use Rattle.shb_lines.specs.declared.event.Op.TheVariants.{Join};
+ghost use Rattle.shb_lines.specs.events.Events.{op_at, thread_at};
+ghost use Rattle.shb_lines.specs.events.Order.{BelowPred, ShbBelow};
+ghost use Rattle.shb_links.specs.Latest.{WritesVariable};
+ghost use Rattle.shb_clocks.specs.Stamps.{AreCurrent, AreStamps, HasGrown, HasRowsBefore, IsRowFor, IsSource, IsStampOf, IsSwept, ReleasesLock, empty_stamp};
+
+use crate::clock::Clock;
+use crate::rows::Rows;
+use crate::stamp::{Stamp, push_joined, push_stamp};
+use shb_discipline::Disciplined;
+use shb_io::NoMemory;
+use shb_lines::Op;
+use shb_links::Links;
+use std::alloc::{AllocError, Global};
+
+/// What the sweep keeps after some events.
+#[derive(Drop)]
+pub struct Stamps {
+    pub rows: Rows,
+    /// For each event the number of the row of what its thread knew before it.
+    pub before: Vec<u32>,
+    /// For each thread the number of the row of what it knows.
+    pub current: Vec<u32>,
+    /// For each lock the stamp of its last release.
+    pub locks: Vec<Stamp>,
+    /// For each variable the stamp of its last write.
+    pub variables: Vec<Stamp>,
+    /// Space to make a row in.
+    pub clock: Clock,
+}
+
+/// Zeros, one for each thread.
+fn zeros(alloc: Global, threads: u32) -> Result<Vec<u32>, AllocError>
+    ensures { IfOk result (λ zeros. zeros.items ≡ replicate threads 0) }
+{
+    Ok(vec![in alloc; 0; threads as usize]?)
+}
+
+/// Stamps of no event.
+fn no_stamps(alloc: Global, size: u32) -> Result<Vec<Stamp>, NoMemory>
+    ensures { IfOk result (λ stamps. stamps.items ≡ replicate size empty_stamp) }
+{
+    let empty = Stamp::empty();
+    Ok(vec![in alloc; empty; size as usize]?)
+}
+
+/// The row of zeros alone.
+fn first_row(alloc: Global, threads: u32, clock: &Clock) -> Result<Rows, NoMemory>
+    requires { clock.now ≡ replicate threads 0 }
+    ensures width { IfOk result (λ rows. rows.width ≡ threads) }
+    ensures rows { IfOk result (λ rows. rows.rows ≡ replicate threads 0 ∷ []) }
+{
+    let mut rows = Rows::new(alloc, threads);
+    rows.push(clock.as_slice())?;
+    Ok(rows)
+}
+
+/// The number of the row of what the thread of e knows behind it: the one before it where the source
+/// tells nothing more, else a new one.
+fn row_behind(
+    rows: &mut Rows,
+    clock: &mut Clock,
+    trace: &Disciplined<'_>,
+    e: u32,
+    before: u32,
+    source: Stamp,
+) -> Result<u32, NoMemory>
+    requires in_range { e < length trace.now.events.now }
+    requires width { rows.old.width ≡ trace.now.sizes.threads }
+    requires few { length rows.old.rows + 1 < 2 ^ 32 }
+    requires long { length clock.old ≡ trace.now.sizes.threads }
+    requires before { (t : ℕ) → thread_at trace.now.events.now e ≡ Some t → IsRowFor trace.now.events.now rows.old.rows t (λ k. BelowPred trace.now.events.now k e) before }
+    requires source { IsSource trace.now.events.now rows.old.rows e source }
+    ensures long { OnOk result (length clock.new ≡ trace.now.sizes.threads) }
+    ensures grown { OnOk result (HasGrown rows.old rows.new) }
+    ensures row { (t : ℕ) → thread_at trace.now.events.now e ≡ Some t → IfOk result (IsRowFor trace.now.events.now rows.new.rows t (λ k. ShbBelow trace.now.events.now k e)) }
+{
+    let thread = trace.events[e as usize].thread;
+    if source.is_known(thread, rows.row(before)) {
+        return Ok(before);
+    }
+    let row = push_joined(rows, clock, before, source)?;
+    Ok(row)
+}
+
+/// Sets the row of the event's thread to that of the event's stamp, and where the event is a fork,
+/// the row of the forked thread to the clock of the fork.
+fn pass_on(
+    rows: &mut Rows,
+    clock: &mut Clock,
+    trace: &Disciplined<'_>,
+    e: u32,
+    stamp: Stamp,
+    current: &mut Vec<u32>,
+) -> Result<(), NoMemory>
+    requires in_range { e < length trace.now.events.now }
+    requires width { rows.old.width ≡ trace.now.sizes.threads }
+    requires few { length rows.old.rows + 1 < 2 ^ 32 }
+    requires long { length clock.old ≡ trace.now.sizes.threads }
+    requires stamp { IsStampOf trace.now.events.now rows.old.rows e stamp }
+    requires current { AreCurrent trace.now.events.now rows.old.rows e trace.now.sizes.threads current.old.items }
+    ensures long { OnOk result (length clock.new ≡ trace.now.sizes.threads) }
+    ensures grown { OnOk result (HasGrown rows.old rows.new) }
+    ensures current { OnOk result (AreCurrent trace.now.events.now rows.new.rows (e + 1) trace.now.sizes.threads current.new.items) }
+{
+    current[stamp.thread as usize] = stamp.row;
+    if let Op::Fork(child) = trace.events[e as usize].op {
+        current[child as usize] = push_stamp(rows, clock, stamp)?;
+    }
+    Ok(())
+}
+
+/// Keeps the stamp of e, where it is a release, as that of the last release of its lock.
+fn note_release(trace: &Disciplined<'_>, e: u32, stamp: Stamp, locks: &mut Vec<Stamp>)
+    requires in_range { e < length trace.now.events.now }
+    requires as_many { length locks.old.items ≡ trace.now.sizes.locks }
+    ensures { (rows : List (List ℕ)) → IsStampOf trace.now.events.now rows e stamp
+        → AreStamps trace.now.events.now rows (ReleasesLock trace.now.events.now) e trace.now.sizes.locks locks.old.items
+        → AreStamps trace.now.events.now rows (ReleasesLock trace.now.events.now) (e + 1) trace.now.sizes.locks locks.new.items }
+{
+    if let Op::Release(lock) = trace.events[e as usize].op {
+        locks[lock as usize] = stamp;
+    }
+}
+
+/// Keeps the stamp of e, where it is a write, as that of the last write of its variable.
+fn note_write(trace: &Disciplined<'_>, e: u32, stamp: Stamp, variables: &mut Vec<Stamp>)
+    requires in_range { e < length trace.now.events.now }
+    requires as_many { length variables.old.items ≡ trace.now.sizes.variables }
+    ensures { (rows : List (List ℕ)) → IsStampOf trace.now.events.now rows e stamp
+        → AreStamps trace.now.events.now rows (WritesVariable trace.now.events.now) e trace.now.sizes.variables variables.old.items
+        → AreStamps trace.now.events.now rows (WritesVariable trace.now.events.now) (e + 1) trace.now.sizes.variables variables.new.items }
+{
+    if let Op::Write(variable) = trace.events[e as usize].op {
+        variables[variable as usize] = stamp;
+    }
+}
+
+impl Stamps {
+    /// What is known before the first event.
+    pub fn new(alloc: Global, trace: &Disciplined<'_>) -> Result<Self, NoMemory>
+        ensures { IfOk result (IsSwept trace.now.events.now 0 trace.now.sizes) }
+    {
+        let clock = Clock::new(alloc, trace.sizes.threads as usize)?;
+        Ok(Stamps {
+            rows: first_row(alloc, trace.sizes.threads, &clock)?,
+            before: Vec::with_capacity(alloc, trace.events.len())?,
+            current: zeros(alloc, trace.sizes.threads)?,
+            locks: no_stamps(alloc, trace.sizes.locks)?,
+            variables: no_stamps(alloc, trace.sizes.variables)?,
+            clock,
+        })
+    }
+
+    /// The stamp of the last event of a thread that e joins, or an empty one.
+    fn join_source(&self, trace: &Disciplined<'_>, links: &Links<'_>, e: u32, thread: u32) -> Stamp
+        requires of_trace { links.now ≡ trace.now.events.now }
+        requires in_range { e < length trace.now.events.now }
+        requires joins { op_at trace.now.events.now e ≡ Some (Join thread) }
+        requires swept { IsSwept trace.now.events.now e trace.now.sizes self.now }
+        ensures { IsSource trace.now.events.now self.now.rows.rows e result }
+    {
+        match links.last_of(thread) {
+            Some(last) => Stamp {
+                row: self.current[thread as usize],
+                thread,
+                place: links.local(last),
+            },
+            None => Stamp::empty(),
+        }
+    }
+
+    /// The stamp of what e learns of other threads: by an acquire that of the lock's last release, by
+    /// a read that of the variable's last write, and by a join that of the thread's last event.
+    fn source(&self, trace: &Disciplined<'_>, links: &Links<'_>, e: u32) -> Stamp
+        requires of_trace { links.now ≡ trace.now.events.now }
+        requires in_range { e < length trace.now.events.now }
+        requires swept { IsSwept trace.now.events.now e trace.now.sizes self.now }
+        ensures { IsSource trace.now.events.now self.now.rows.rows e result }
+    {
+        match trace.events[e as usize].op {
+            Op::Acquire(lock) => self.locks[lock as usize],
+            Op::Read(variable) => self.variables[variable as usize],
+            Op::Join(thread) => self.join_source(trace, links, e, thread),
+            _ => Stamp::empty(),
+        }
+    }
+
+    /// Takes the event e.
+    pub fn take(
+        &mut self,
+        trace: &Disciplined<'_>,
+        links: &Links<'_>,
+        e: u32,
+    ) -> Result<(), NoMemory>
+        requires of_trace { links.now ≡ trace.now.events.now }
+        requires in_range { e < length trace.now.events.now }
+        requires swept { IsSwept trace.now.events.now e trace.now.sizes self.old }
+        ensures { OnOk result (IsSwept trace.now.events.now (e + 1) trace.now.sizes self.new) }
+    {
+        let thread = trace.events[e as usize].thread;
+        let before = self.current[thread as usize];
+        let source = self.source(trace, links, e);
+        let row = row_behind(&mut self.rows, &mut self.clock, trace, e, before, source)?;
+        let stamp = Stamp {
+            row,
+            thread,
+            place: links.local(e),
+        };
+        self.before.push(before)?;
+        note_release(trace, e, stamp, &mut self.locks);
+        note_write(trace, e, stamp, &mut self.variables);
+        pass_on(
+            &mut self.rows,
+            &mut self.clock,
+            trace,
+            e,
+            stamp,
+            &mut self.current,
+        )?;
+        Ok(())
+    }
+}
+
+/// The rows of a trace and the number of the row before each event, found by one forward pass.
+pub fn sweep(
+    alloc: Global,
+    trace: &Disciplined<'_>,
+    links: &Links<'_>,
+) -> Result<(Rows, Vec<u32>), NoMemory>
+    requires of_trace { links.now ≡ trace.now.events.now }
+    ensures width { IfOk result (λ kept. kept.0.width ≡ trace.now.sizes.threads) }
+    ensures before { IfOk result (λ kept. HasRowsBefore trace.now.events.now kept.0.rows (length trace.now.events.now) kept.1.items) }
+{
+    let mut stamps = Stamps::new(alloc, trace)?;
+    for e in 0..trace.events.len() as u32 {
+        stamps.take(trace, links, e)?;
+    }
+    let Stamps { rows, before, .. } = stamps;
+    Ok((rows, before))
+}

@@ -1,0 +1,201 @@
+-- A lock after disciplined events has at most one holder, and what follows from that between two positions.
+use Rattle.std.proofs.Common.{◌≡◌, ◌≢◌, ℕ, zero, suc, ◌+◌, ◌-◌, ◌<◌, ◌≤◌, ◌⊎◌, inl, inr, Bool, true, false, List, Some, take, refl, sym, ◌∙◌, ap, arith, subst, add-one}
+use Rattle.std.specs.Prelude.{slice_get, count_by, cond, not, ◌==◌, ◌&&◌}
+use Rattle.std.proofs.Math.Bool.{and-false, and-true}
+use Rattle.std.proofs.lemmas.Bool.{cases_Bool, cases_eq, cases_lt, eqb-true, eq-eqb, ne_eqb}
+use Rattle.std.proofs.lemmas.Option.{slice_get_cases}
+use Rattle.shb_lines.specs.declared.event.Event.{Event}
+use Rattle.shb_lines.specs.declared.event.Op.{Op}
+use Rattle.shb_lines.specs.declared.event.Op.TheVariants.{Acquire, Release}
+use Rattle.shb_lines.specs.events.Discipline.{IsDisciplined, MayCome, MayDo, acquires, releases, other_than, only, is_acquire, is_release, op_is_acquire, op_is_release}
+use Rattle.shb_lines.proofs.events.Counts.{count_more_yes, count_more_no, count_mono, count_gap, take_more_past}
+use Rattle.shb_lines.proofs.events.Listed.{Decided, some_below}
+use Rattle.shb_lines.proofs.events.Locks.{DisciplinedBelow}
+
+-- every set of threads acquired the lock as often as it released it, and depth times more where the holder is of the set
+pub record HasHolder (past : List Event) (l : ℕ) : Type 0 where
+  pub holder : ℕ
+  pub depth : ℕ
+  pub balance : (who : ℕ → Bool) → acquires who l past ≡ releases who l past + cond (who holder) depth 0
+
+-- w and v say whether the thread and the holder are of a set, same whether they are one
+acquire_cases : (w v same : Bool) (d : ℕ) → (same ≡ true → v ≡ w) → cond (not same) d 0 ≡ 0 → cond w 1 0 + cond v d 0 ≡ cond w (d + 1) 0
+acquire_cases w v true d is no_other = rw (is refl) (by w)
+  where
+    by : (b : Bool) → cond b 1 0 + cond b d 0 ≡ cond b (d + 1) 0
+    by true = omega arith
+    by false = refl
+acquire_cases w v false d is no_other = by w v
+  where
+    by : (a b : Bool) → cond a 1 0 + cond b d 0 ≡ cond a (d + 1) 0
+    by true true = omega (arith, no_other)
+    by true false = omega (arith, no_other)
+    by false true = omega (arith, no_other)
+    by false false = refl
+
+release_cases : (w v same : Bool) (d : ℕ) → (same ≡ true → v ≡ w) → 0 < cond same d 0 → cond v d 0 ≡ cond w 1 0 + cond v (d - 1) 0
+release_cases w v true d is held = rw (is refl) (by w)
+  where
+    by : (b : Bool) → cond b d 0 ≡ cond b 1 0 + cond b (d - 1) 0
+    by true = omega (arith, held)
+    by false = refl
+release_cases w v false d is held = absurd (omega (arith, held))
+
+cond_zero : (b : Bool) → ◌≡◌ {A = ℕ} (cond b 0 0) 0
+cond_zero true = refl
+cond_zero false = refl
+
+module _ (trace : List Event) (k : ℕ) (e : Event) (at : slice_get trace k ≡ Some e) where
+  pub count_more : (f : Event → Bool) → count_by f (take (k + 1) trace) ≡ count_by f (take k trace) + cond (f e) 1 0
+  count_more f = go (cases_Bool (f e))
+    where
+      go : (f e ≡ true) ⊎ (f e ≡ false) → count_by f (take (k + 1) trace) ≡ count_by f (take k trace) + cond (f e) 1 0
+      go (inl h) = rw h (count_more_yes f trace k e at h)
+      go (inr h) = let same = count_more_no f trace k e at h in rw h (omega (arith, same))
+
+  acquire_test : (who : ℕ → Bool) (l : ℕ) (b : Bool) → op_is_acquire l e.op ≡ b → is_acquire who l e ≡ (who e.thread && b)
+  unfolding is_acquire
+  acquire_test who l b is = ap (λ x. who e.thread && x) is
+
+  release_test : (who : ℕ → Bool) (l : ℕ) (b : Bool) → op_is_release l e.op ≡ b → is_release who l e ≡ (who e.thread && b)
+  unfolding is_release
+  release_test who l b is = ap (λ x. who e.thread && x) is
+
+  -- how the counts of a lock's acquires and releases go on
+  pub acquires_yes : (who : ℕ → Bool) (l : ℕ) → op_is_acquire l e.op ≡ true → acquires who l (take (k + 1) trace) ≡ acquires who l (take k trace) + cond (who e.thread) 1 0
+  acquires_yes who l is = count_more (is_acquire who l) ∙ ap (λ (b : Bool). acquires who l (take k trace) + cond b 1 0) (acquire_test who l true is ∙ and-true (who e.thread))
+
+  pub acquires_no : (who : ℕ → Bool) (l : ℕ) → op_is_acquire l e.op ≡ false → acquires who l (take (k + 1) trace) ≡ acquires who l (take k trace)
+  acquires_no who l is = count_more_no (is_acquire who l) trace k e at (acquire_test who l false is ∙ and-false (who e.thread))
+
+  pub releases_yes : (who : ℕ → Bool) (l : ℕ) → op_is_release l e.op ≡ true → releases who l (take (k + 1) trace) ≡ releases who l (take k trace) + cond (who e.thread) 1 0
+  releases_yes who l is = count_more (is_release who l) ∙ ap (λ (b : Bool). releases who l (take k trace) + cond b 1 0) (release_test who l true is ∙ and-true (who e.thread))
+
+  pub releases_no : (who : ℕ → Bool) (l : ℕ) → op_is_release l e.op ≡ false → releases who l (take (k + 1) trace) ≡ releases who l (take k trace)
+  releases_no who l is = count_more_no (is_release who l) trace k e at (release_test who l false is ∙ and-false (who e.thread))
+
+  module _ (l : ℕ) (held : HasHolder (take k trace) l) where
+    -- an event that doesn't name the lock
+    passed_by : op_is_acquire l e.op ≡ false → op_is_release l e.op ≡ false → HasHolder (take (k + 1) trace) l
+    passed_by no_acquire no_release = record {
+      holder = held.holder;
+      depth = held.depth;
+      balance = λ who. (let a = acquires_no who l no_acquire in let r = releases_no who l no_release in let b = held.balance who in omega (arith, a, r, b));
+    }
+
+    acquired : e.op ≡ Acquire l → MayCome (take k trace) e → HasHolder (take (k + 1) trace) l
+    acquired is may = record { holder = e.thread; depth = held.depth + 1; balance = step }
+      where
+        allowed : e.op ≡ Acquire l → acquires (other_than e.thread) l (take k trace) ≡ releases (other_than e.thread) l (take k trace)
+        allowed is = subst (MayDo (take k trace) e.thread) is may.may_do
+
+        step : (who : ℕ → Bool) → acquires who l (take (k + 1) trace) ≡ releases who l (take (k + 1) trace) + cond (who e.thread) (held.depth + 1) 0
+        step who =
+            let a = acquires_yes who l (ap (op_is_acquire l) is ∙ eq-eqb l l refl) in
+            let r = releases_no who l (ap (op_is_release l) is) in
+            let b = held.balance who in
+            let no_other : cond (not (e.thread == held.holder)) held.depth 0 ≡ 0 = let h = held.balance (other_than e.thread) in let m = allowed is in omega (arith, h, m) in
+            let one = acquire_cases (who e.thread) (who held.holder) (e.thread == held.holder) held.depth (λ h. ap who (sym (eqb-true e.thread held.holder h))) no_other in
+            omega (arith, a, r, b, one)
+
+    released : e.op ≡ Release l → MayCome (take k trace) e → HasHolder (take (k + 1) trace) l
+    released is may = record { holder = held.holder; depth = held.depth - 1; balance = step }
+      where
+        allowed : e.op ≡ Release l → releases (only e.thread) l (take k trace) < acquires (only e.thread) l (take k trace)
+        allowed is = subst (MayDo (take k trace) e.thread) is may.may_do
+
+        step : (who : ℕ → Bool) → acquires who l (take (k + 1) trace) ≡ releases who l (take (k + 1) trace) + cond (who held.holder) (held.depth - 1) 0
+        step who =
+            let a = acquires_no who l (ap (op_is_acquire l) is) in
+            let r = releases_yes who l (ap (op_is_release l) is ∙ eq-eqb l l refl) in
+            let b = held.balance who in
+            let own : 0 < cond (e.thread == held.holder) held.depth 0 = let h = held.balance (only e.thread) in let m = allowed is in omega (arith, h, m) in
+            let one = release_cases (who e.thread) (who held.holder) (e.thread == held.holder) held.depth (λ h. ap who (sym (eqb-true e.thread held.holder h))) own in
+            omega (arith, a, r, b, one)
+
+    pub holder_more : MayCome (take k trace) e → HasHolder (take (k + 1) trace) l
+    holder_more may = go e.op refl
+      where
+        of_acquire : (m : ℕ) → e.op ≡ Acquire m → (m ≡ l) ⊎ (m ≡ l → ⊥) → HasHolder (take (k + 1) trace) l
+        of_acquire m is (inl same) = acquired (is ∙ ap (λ n. Acquire n) same) may
+        of_acquire m is (inr ne) = passed_by (ap (op_is_acquire l) is ∙ ne_eqb l m (λ h. ne (sym h))) (ap (op_is_release l) is)
+
+        of_release : (m : ℕ) → e.op ≡ Release m → (m ≡ l) ⊎ (m ≡ l → ⊥) → HasHolder (take (k + 1) trace) l
+        of_release m is (inl same) = released (is ∙ ap (λ n. Release n) same) may
+        of_release m is (inr ne) = passed_by (ap (op_is_acquire l) is) (ap (op_is_release l) is ∙ ne_eqb l m (λ h. ne (sym h)))
+
+        go : (op : Op) → e.op ≡ op → HasHolder (take (k + 1) trace) l
+        go (Acquire m) is = of_acquire m is (cases_eq m l)
+        go (Release m) is = of_release m is (cases_eq m l)
+        go _ is = passed_by (ap (op_is_acquire l) is) (ap (op_is_release l) is)
+
+pub holder_after : (trace : List Event) (l n : ℕ) → DisciplinedBelow trace n → HasHolder (take n trace) l
+holder_after trace l zero below = record { holder = 0; depth = 0; balance = λ who. (let z = cond_zero (who 0) in omega (arith, z)) }
+holder_after trace l (suc n) below =
+    let before = holder_after trace l n (λ k e lt at. below k e (omega arith) at) in
+    elim (slice_get_cases trace n).1 [
+      | inl c ↦ rw add-one at (holder_more trace n c.0 c.2 l before (below n c.0 (omega arith) c.2))
+      | inr c ↦ rw add-one at (subst (λ (past : List Event). HasHolder past l) (sym (take_more_past trace n c.0)) before)
+    ]
+
+pub disciplined_below : (trace : List Event) (n : ℕ) → IsDisciplined trace → DisciplinedBelow trace n
+disciplined_below trace n disciplined k e lt at = disciplined k e at
+
+-- the event at k passes the test, from a on and before b
+pub record IsPassing (f : Event → Bool) (trace : List Event) (a b k : ℕ) : Type 0 where
+  pub event : Event
+  pub at : slice_get trace k ≡ Some event
+  pub passes : f event ≡ true
+  pub from : a ≤ k
+  pub below : k < b
+
+-- where the count grew, some event between was counted
+pub some_counted : (f : Event → Bool) (trace : List Event) (a b : ℕ) → count_by f (take a trace) < count_by f (take b trace) → (k : ℕ) × IsPassing f trace a b k
+some_counted f trace a b more = go (some_below (λ k. IsPassing f trace a b k) decide b)
+  where
+    by_event : (k : ℕ) (e : Event) → slice_get trace k ≡ Some e → (a ≤ k) → (k < b) → (f e ≡ true) ⊎ (f e ≡ false) → Decided (IsPassing f trace a b k)
+    by_event k e at from below (inl passes) = inl (record { event = e; at = at; passes = passes; from = from; below = below })
+    by_event k e at from below (inr fails) = inr (λ h. (let same : Some h.event ≡ Some e = sym h.at ∙ at in let is : h.event ≡ e = cc in let passes : f e ≡ true = subst (λ (d : Event). f d ≡ true) is h.passes in (let g : ⊥ = cc in g)))
+
+    within : (k : ℕ) → (k < a) ⊎ (a ≤ k) → (k < b) ⊎ (b ≤ k) → Decided (IsPassing f trace a b k)
+    within k (inl low) _ = inr (λ h. let from = h.from in omega arith)
+    within k (inr from) (inr high) = inr (λ h. let below = h.below in omega arith)
+    within k (inr from) (inl below) = elim (slice_get_cases trace k).1 [ inl c ↦ by_event k c.0 c.2 from below (cases_Bool (f c.0)) | inr c ↦ inr (λ h. let gone = c.1 in let there = h.at in (let g : ⊥ = cc in g)) ]
+
+    decide : (k : ℕ) → Decided (IsPassing f trace a b k)
+    decide k = within k (cases_lt k a) (cases_lt k b)
+
+    fails_between : ((k : ℕ) → k < b → IsPassing f trace a b k → ⊥) → (k : ℕ) (e : Event) → a ≤ k → k < b → slice_get trace k ≡ Some e → (f e ≡ true) ⊎ (f e ≡ false) → f e ≡ false
+    fails_between none k e from below at (inl passes) = absurd (none k below (record { event = e; at = at; passes = passes; from = from; below = below }))
+    fails_between none k e from below at (inr fails) = fails
+
+    refuse : ((k : ℕ) → k < b → IsPassing f trace a b k → ⊥) → (a ≤ b) ⊎ (b < a) → ⊥
+    refuse none (inl le) = let gap = count_gap f trace a b le (λ k e from below at. fails_between none k e from below at (cases_Bool (f e))) in omega (arith, gap, more)
+    refuse none (inr gt) = let mono = count_mono f trace b a (omega arith) in omega (arith, mono, more)
+
+    order : (b < a) ⊎ (a ≤ b) → (a ≤ b) ⊎ (b < a)
+    order (inl lt) = inr lt
+    order (inr le) = inl le
+
+    go : ((k : ℕ) × (k < b) × IsPassing f trace a b k) ⊎ ((k : ℕ) → k < b → IsPassing f trace a b k → ⊥) → (k : ℕ) × IsPassing f trace a b k
+    go (inl found) = (found.0, found.2)
+    go (inr none) = absurd (refuse none (order (cases_lt b a)))
+
+-- who isn't the holder has released what it acquired
+pub balanced : (past : List Event) (l h : ℕ) (held : HasHolder past l) → (h == held.holder) ≡ false → acquires (only h) l past ≡ releases (only h) l past
+balanced past l h held other = let b = held.balance (only h) in let none : cond (only h held.holder) held.depth 0 ≡ 0 = rw other refl in omega (arith, b, none)
+
+-- where the threads other than t have released what they acquired, each of them has
+pub others_balanced : (past : List Event) (l t h : ℕ) → HasHolder past l → h ≢ t → acquires (other_than t) l past ≡ releases (other_than t) l past → acquires (only h) l past ≡ releases (only h) l past
+others_balanced past l t h held ne same = go (cases_Bool (h == held.holder))
+  where
+    go : ((h == held.holder) ≡ true) ⊎ ((h == held.holder) ≡ false) → acquires (only h) l past ≡ releases (only h) l past
+    go (inr other) = balanced past l h held other
+    go (inl own) =
+        let is : h ≡ held.holder = eqb-true h held.holder own in
+        let apart : (t == held.holder) ≡ false = ne_eqb t held.holder (λ e. ne (is ∙ sym e)) in
+        let free : cond (other_than t held.holder) held.depth 0 ≡ held.depth = rw apart refl in
+        let b = held.balance (other_than t) in
+        let mine = held.balance (only h) in
+        let all : cond (only h held.holder) held.depth 0 ≡ held.depth = rw own refl in
+        omega (arith, b, free, same, mine, all)
