@@ -5,6 +5,7 @@ pub mod NameLemmas
 pub mod TraceLemmas
 pub mod FaultLemmas
 pub mod LineLemmas
+pub mod LineTexts
 pub mod TakingLemmas
 pub mod Scanning
 pub mod FirstFault

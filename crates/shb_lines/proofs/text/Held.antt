@@ -10,7 +10,7 @@ use Rattle.shb_lines.specs.declared.trace.Places.{Places}
 use Rattle.shb_lines.specs.text.Names.{NamesWithSpans, StandIn, StandsAt, bytes_at, names_in, spans_in}
 use Rattle.shb_lines.specs.text.Parsed.{HasRead, IsEventOf}
 use Rattle.shb_lines.specs.text.Reader.{HasRoom, tables_of}
-use Rattle.shb_lines.specs.text.Text.{LocatedEvent, trace_of}
+use Rattle.shb_lines.specs.text.Text.{IsLineText, LocatedEvent, trace_of}
 use Rattle.shb_lines.specs.text.TraceData.{ArePlaces, AreSpans, IsReading, IsTraceOf, names_at, tables_in, trace_at}
 use Rattle.shb_lines.proofs.text.LineLemmas.{length-texts}
 use Rattle.shb_lines.proofs.text.Numbers.{well_formed}
@@ -18,11 +18,6 @@ use Rattle.shb_lines.proofs.text.Numbers.{well_formed}
 pub IsReading-to : (limits : Limits) (text : List ℕ) (Holds Other : List (List ℕ) → Type 0) → ((lines : List (List ℕ)) → Holds lines → Other lines) → (stop : Option LineFault) → IsReading limits text Holds stop → IsReading limits text Other stop
 IsReading-to limits text Holds Other to None h = (h.0, to _ h.1)
 IsReading-to limits text Holds Other to (Some stop) h = (h.0, h.1, h.2, to _ h.3)
-
--- the lines whose trace is held
-pub held_lines : (limits : Limits) (text : List ℕ) (Holds : List (List ℕ) → Type 0) (stop : Option LineFault) → IsReading limits text Holds stop → (lines : List (List ℕ)) × Holds lines
-held_lines limits text Holds None h = (_, h.1)
-held_lines limits text Holds (Some stop) h = (_, h.3)
 
 module _ (text : List ℕ) where
   names_at-spans_in : (entries : NamesWithSpans) → StandIn text entries → names_at text (spans_in entries) ≡ names_in entries
@@ -77,8 +72,8 @@ module _ (text : List ℕ) (reader : Reader) (places : Places) (noted : AreNoted
     lines_are = ap (λ v. map (bytes_at text) v.items) noted.texts ∙ lines_are text reader.texts.items (trace_of lines) read.texts_are;
   }
 
-  pub places_held : length text ≤ 1073741825 → length reader.events.items ≤ 4194304 → HasRoom reader → ArePlaces text places
-  places_held short few room =
+  pub places_held : length text ≤ 1073741825 → length reader.events.items ≤ 4194304 → HasRoom reader → AllByRecursion IsLineText (map (λ e. e.text) (trace_of lines)) → ArePlaces text places
+  places_held short few room line_texts =
       let n = length reader.events.items in
       let len = reader.events.ok.0 in
       let events_len : length places.events.items ≡ n = ap (λ v. length v.items) noted.events in
@@ -93,5 +88,6 @@ module _ (text : List ℕ) (reader : Reader) (places : Places) (noted : AreNoted
         threads = spans_are text places.threads.items reader.threads.table.entries n noted.threads read.stand.threads (omega (arith, room.threads, len)) few;
         locks = spans_are text places.locks.items reader.locks.table.entries n noted.locks read.stand.locks (omega (arith, room.locks, len)) few;
         variables = spans_are text places.variables.items reader.variables.table.entries n noted.variables read.stand.variables (omega (arith, room.variables, len)) few;
-        well_formed = well_formed lines (trace_at text places) trace_held (omega (arith, events_len, few));
+        well_formed = well_formed lines (trace_at text places) trace_held (omega (arith, events_len, few))
+            (length-map places.texts.items (bytes_at text) ∙ texts_len ∙ sym events_len) line_texts;
       }

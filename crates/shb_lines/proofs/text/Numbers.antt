@@ -16,7 +16,7 @@ use Rattle.shb_lines.specs.text.Parsed.{IsEventOf, events_of}
 use Rattle.shb_lines.specs.events.Race.{variable_at}
 use Rattle.shb_lines.specs.text.Reader.{IsOperation, Tables, with_names}
 use Rattle.shb_lines.specs.events.Sizes.{IsEventWithin, IsOpWithin, IsWithin}
-use Rattle.shb_lines.specs.text.Text.{LocatedEvent, locks_among, threads_among, trace_of, variables_among}
+use Rattle.shb_lines.specs.text.Text.{IsLineText, LocatedEvent, locks_among, threads_among, trace_of, variables_among}
 use Rattle.shb_lines.specs.text.TraceData.{IsTraceOf, IsWellFormed, TraceData, tables_in}
 use Rattle.shb_lines.proofs.text.NameLemmas.{length-with_name_le, slice_get-with_names, with_name-at}
 
@@ -201,9 +201,11 @@ module _ (lines : List (List ℕ)) (trace : TraceData) (h : IsTraceOf lines trac
   differ names table is = subst (IsDistinct bytes_eq) (sym is) (IsDistinct-table_of names)
 
   -- what every trace of some lines meets
-  pub well_formed : length trace.events ≤ 4194304 → IsWellFormed trace
-  well_formed few = record {
+  pub well_formed : length trace.events ≤ 4194304 → length trace.lines ≡ length trace.events → AllByRecursion IsLineText (map (λ e. e.text) (trace_of lines)) → IsWellFormed trace
+  well_formed few a_line_each texts = record {
     few = few;
+    a_line_each = a_line_each;
+    line_texts = subst (AllByRecursion IsLineText) (sym h.lines_are) texts;
     within = events_within (tables_in trace) trace.events (trace_of lines) h.events_are;
     numbered = λ k x y at_k lt absent. let h = numbered_by_access k x y at_k lt in absent h.0 h.1 h.2;
     threads_differ = differ (flat_map (λ e. e.thread ∷ threads_among e.kind e.operand) (events_of lines)) trace.threads (ap (λ t. t.threads) h.tables_are);

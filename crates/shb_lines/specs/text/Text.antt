@@ -1,6 +1,6 @@
 -- The lines of a text and the events that they give.
-use Rattle.std.specs.Prelude.{◌==◌, ℕ, List, [], ◌∷◌, Option, None, Some, Ok}
-use Rattle.std.specs.List.{enumerate_from, filter_map, flat_map, slice_split}
+use Rattle.std.specs.Prelude.{◌≡◌, ◌≤◌, ◌==◌, ℕ, true, not, List, [], ◌∷◌, length, Option, None, Some, Ok}
+use Rattle.std.specs.List.{enumerate_from, filter_map, flat_map, list_all, slice_split}
 use Rattle.std.specs.Str.Lines.{strip_carriage_return}
 use Rattle.shb_lines.specs.declared.event.Kind.{Kind}
 use Rattle.shb_lines.specs.declared.event.Kind.TheVariants as kinds
@@ -11,6 +11,12 @@ use Rattle.shb_lines.specs.text.Names.{table_of}
 -- the lines: the parts between line feeds. A last part with no byte gives nothing, as a line does
 abbrev pub lines_of : List ℕ → List (List ℕ)
 lines_of text = slice_split (λ b. b == 10) text
+
+-- the bytes of a line that gives an event, under any limits: 1 to 4,096, and none of them a line feed
+pub record IsLineText (bytes : List ℕ) : Type 0 where
+  pub least : 1 ≤ length bytes
+  pub most : length bytes ≤ 4096
+  pub one_line : list_all (λ b. not (b == 10)) bytes ≡ true
 
 -- an event with the number of its line and the bytes of that line
 pub record LocatedEvent : Type 0 where

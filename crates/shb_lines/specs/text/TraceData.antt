@@ -14,7 +14,7 @@ use Rattle.shb_lines.specs.text.Names.{bytes_at}
 use Rattle.shb_lines.specs.text.Parsed.{IsEventOf, events_of, tables_of_events}
 use Rattle.shb_lines.specs.text.Reader.{Tables}
 use Rattle.shb_lines.specs.events.Sizes.{IsNumberedByAccess, IsWithin}
-use Rattle.shb_lines.specs.text.Text.{lines_of, trace_of}
+use Rattle.shb_lines.specs.text.Text.{IsLineText, lines_of, trace_of}
 
 -- the events, the bytes of their lines, and the names that their numbers stand for
 pub record TraceData : Type 0 where
@@ -59,9 +59,11 @@ trace_at text places = record {
 abbrev pub sizes_of : TraceData → Sizes
 sizes_of trace = record { threads = length trace.threads; locks = length trace.locks; variables = length trace.variables }
 
--- what every trace that was read meets: it has few events, its numbers are those of its names, variables are numbered as they are first accessed, and no name has two numbers
+-- what every trace that was read meets: it has few events and a line for each, its lines have few bytes and no line feed, its numbers are those of its names, variables are numbered as they are first accessed, and no name has two numbers
 pub record IsWellFormed (trace : TraceData) : Type 0 where
   pub few : length trace.events ≤ 4194304
+  pub a_line_each : length trace.lines ≡ length trace.events
+  pub line_texts : AllByRecursion IsLineText trace.lines
   pub within : IsWithin trace.events (sizes_of trace)
   pub numbered : IsNumberedByAccess trace.events
   pub threads_differ : IsDistinct bytes_eq trace.threads
