@@ -35,7 +35,7 @@ each_of : (P : ℕ → Type 0) (xs : List ℕ) → ((k a : ℕ) → slice_get xs
 each_of P [] h = tt
 each_of P (x ∷ xs) h = (h 0 x refl, each_of P xs (λ k a at. h (suc k) a at))
 
-in_range : (n : ℕ) (s : List ℕ) → ((a : ℕ) → Contains s a → a < n) → AllByRecursion (λ a. a < n) s
+pub in_range : (n : ℕ) (s : List ℕ) → ((a : ℕ) → Contains s a → a < n) → AllByRecursion (λ a. a < n) s
 in_range n s h = each_of (λ a. a < n) s (λ k a at. h a (contains_at s k a at))
 
 -- the numbers of positions in range are those positions, counted from 1

@@ -1,5 +1,5 @@
 -- A strictly increasing list is known by its members.
-use Rattle.std.proofs.Common.{◌≡◌, ℕ, zero, suc, ◌<◌, ◌⊎◌, inl, inr, List, [], ◌∷◌, refl, arith, subst}
+use Rattle.std.proofs.Common.{◌≡◌, ℕ, zero, suc, ◌+◌, ◌-◌, ◌<◌, ◌≤◌, ◌⊎◌, inl, inr, List, [], ◌∷◌, length, refl, arith, subst}
 use Rattle.std.specs.Prelude.{Contains, AllPairs, ◌↔◌}
 use Rattle.std.specs.List.Sorted.{IsStrictlyIncreasing}
 use Rattle.std.proofs.lemmas.List.Kept.{AllPairs-from_increasing}
@@ -54,3 +54,19 @@ same_members (x ∷ xs) (y ∷ ys) hx hy same =
 -- two strictly increasing lists with the same members are equal
 pub increasing_unique : (xs ys : List ℕ) → IsStrictlyIncreasing xs → IsStrictlyIncreasing ys → ((k : ℕ) → Contains xs k ↔ Contains ys k) → xs ≡ ys
 increasing_unique xs ys hx hy same = same_members xs ys (AllPairs-from_increasing xs hx) (AllPairs-from_increasing ys hy) same
+
+-- numbers that increase from one number to below another are at most as many as lie between
+few_between : (xs : List ℕ) (low n : ℕ) → Increases xs → ((a : ℕ) → Contains xs a → low ≤ a) → ((a : ℕ) → Contains xs a → a < n) → length xs ≤ n - low
+few_between [] low n h least most = omega arith
+few_between (x ∷ xs) low n h least most =
+    let rest : length xs ≤ n - (x + 1) =
+    few_between xs (x + 1) n (increases_tail x xs h) (λ a c. let lt = head_below x xs h a c in omega arith) (λ a c. most a (contains_tail x a xs c)) in
+    let here = least x (contains_head x xs) in
+    let below = most x (contains_head x xs) in
+    omega arith
+
+-- a strictly increasing list of numbers below n has at most n
+pub increasing_few : (xs : List ℕ) (n : ℕ) → IsStrictlyIncreasing xs → ((a : ℕ) → Contains xs a → a < n) → length xs ≤ n
+increasing_few xs n h most =
+    let few : length xs ≤ n - 0 = few_between xs 0 n (AllPairs-from_increasing xs h) (λ a c. omega arith) most in
+    omega (arith, few)

@@ -14,10 +14,11 @@ mod LineEnds
 mod Passing
 mod EntryLemmas
 mod ScanLemmas
-mod Injective
+pub mod Injective
 mod PlaceLemmas
 mod PlaceText
-mod WrittenText
+pub mod WrittenText
+pub mod WrittenGood
 mod GoodBlocks
-mod VerdictLaws
+pub mod VerdictLaws
 mod ShownPlaces

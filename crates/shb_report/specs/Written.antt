@@ -1,9 +1,17 @@
 -- The report that the writer's bytes are the text of.
-use Rattle.std.specs.Prelude.{◌+◌, List, [], map, Some, unwrap_or}
+use Rattle.std.specs.Prelude.{◌≡◌, ◌+◌, List, [], length, map, Some, unwrap_or}
+use Rattle.std.specs.List.{AllByRecursion}
+use Rattle.shb_lines.specs.text.Text.{IsLineText}
 use Rattle.shb_lines.specs.text.TraceData.{TraceData}
 use Rattle.shb_report.specs.Places.{counts_in, places_of_pairs, shown_places}
 use Rattle.shb_report.specs.Report.{ShownRace, counts_of, line_at, pair_of}
-use Rattle.shb_report.specs.Value.{Block, ReportValue}
+use Rattle.shb_report.specs.Value.{AreShown, Block, ReportValue}
+
+-- what the grammar of reports asks of a trace: its numbers can be shown, and each event has a line, of few bytes and no line feed
+pub record IsShowable (trace : TraceData) : Type 0 where
+  pub counts : AreShown (counts_of trace)
+  pub a_line_each : length trace.lines ≡ length trace.events
+  pub line_texts : AllByRecursion IsLineText trace.lines
 
 -- the block of a race that is shown: its events count from 1, and their lines are those of the text
 abbrev pub block_of : TraceData → ShownRace → Block

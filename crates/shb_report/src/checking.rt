@@ -205,6 +205,10 @@ fn has_its_places<R: RandomSource>(
 /// Judges a report against a trace: its counts, then its blocks in order, then its places. Which races
 /// are left out, which are listed twice, and the order of the blocks aren't judged.
 ///
+/// The tables of the trace's size are made once for all blocks, and a block takes time by the length of
+/// its lines and of its schedule: so the time is linear in the trace and in the report, whatever the
+/// number of blocks. Places take a table with an entry for each different pair of locations.
+///
 /// # Errors
 ///
 /// `NoMemory` where a growth was refused, or where there were no random numbers for the table of places.

@@ -6,9 +6,9 @@ ghost use Rattle.shb_lines.specs.events.Race.{IsRaceList};
 ghost use Rattle.shb_lines.specs.text.TraceData.{TraceData};
 ghost use Rattle.shb_report.specs.Reading.{IsBadLine, IsReportText};
 ghost use Rattle.shb_report.specs.Report.{AreBlocks, HasSchedule, IsReport, ShownRace};
-ghost use Rattle.shb_report.specs.Value.{IsReportValue, ReportValue, report_text};
+ghost use Rattle.shb_report.specs.Value.{IsReportValue, IsShown, ReportValue, report_text};
 ghost use Rattle.shb_report.specs.Verdicts.{IsGoodReport, IsVerdict};
-ghost use Rattle.shb_report.specs.Written.{written_report};
+ghost use Rattle.shb_report.specs.Written.{IsShowable, written_report};
 ghost use Rattle.shb_report.specs.declared.verdict.Verdict.{Verdict};
 ghost use Rattle.shb_report.specs.declared.verdict.Verdict.TheVariants.{Good};
 
@@ -45,6 +45,16 @@ pub fn written_report_is_a_text()
     ensures { (trace : TraceData) (bytes : List ℕ) → IsReport true trace bytes → (shown : List ShownRace)
         × IsRaceList trace.events (map (λ race. race.pair) shown) × All (HasSchedule true trace) shown
         × (bytes ≡ report_text (written_report trace shown)) }
+{}
+
+/// The report of a disciplined trace that the writer's parts are, with schedules, is the text of a report
+/// in the grammar, and its verdict is `Good` with the number of its races. Asked of the trace: its
+/// numbers have 64 bits, and each event has a line, of few bytes and no line feed. Every trace that was
+/// read is so.
+pub fn written_report_is_good()
+    ensures { (trace : TraceData) (bytes : List ℕ) → IsDisciplined trace.events → IsShowable trace
+        → (report : IsReport true trace bytes) → IsShown (length report.races)
+        → (value : ReportValue) × IsReportValue value × (bytes ≡ report_text value) × IsVerdict trace value (Good (length report.races)) }
 {}
 
 /// What is said of a report is `Good`, with the number of its races, exactly where it is good for the

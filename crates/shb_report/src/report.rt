@@ -227,6 +227,10 @@ fn report_of(alloc: Global, text: Vec<u8>, limit: u64) -> Result<Report, Stop>
 ///
 /// The source is read to its end, or to the limit and one byte more, before any line is looked at.
 ///
+/// The text is kept, and arrays over it: about twice its size for a report as a writer makes it. The
+/// numbers of a schedule take 8 bytes each, so a report made of numbers of one digit, 2 bytes each in
+/// the text, takes five times its size. No memory is asked for by a number that a report only claims.
+///
 /// # Errors
 ///
 /// `BadLine(n)` where the text is no report that is within the limit: its first n lines are the first n
@@ -259,7 +263,8 @@ pub fn read_report_within<S: Source>(
     }
 }
 
-/// Reads a report of at most 1,073,741,824 bytes, as [`read_report_within`] does.
+/// Reads a report of at most 1,073,741,824 bytes, as [`read_report_within`] does, with its errors and
+/// its memory.
 pub fn read_report<S: Source>(alloc: Global, source: &mut S) -> Result<Report, ReportError>
     requires { S.failure_count source.old < 2 ^ 64 - 1 }
     ensures report { IfOk result (λ report. IfSome (S.remaining source.old) (λ text. IsReportText 1073741824 text report)) }

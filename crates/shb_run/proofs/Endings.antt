@@ -12,10 +12,10 @@ use Rattle.shb_lines.specs.events.Discipline.{IsDisciplined}
 use Rattle.shb_lines.specs.events.Race.{IsRaceList}
 use Rattle.shb_lines.specs.text.Text.{lines_of}
 use Rattle.shb_lines.specs.text.TraceData.{IsReadingOf, IsTraceOf, TraceData}
-use Rattle.shb_lines.proofs.events.Decide.{printed_exists}
+use Rattle.shb_lines.proofs.events.Decide.{decide_below_pred, printed_exists}
 use Rattle.shb_lines.proofs.events.Schedulable.{printed_is_schedule}
 use Rattle.shb_lines.proofs.events.Unschedulable.{race_of_schedule}
-use Rattle.shb_discipline.specs.FirstFault.{HasNoFault}
+use Rattle.shb_discipline.specs.FirstFault.{HasFirstFault, HasNoFault}
 use Rattle.shb_discipline.specs.declared.checking.CheckError.{CheckError}
 use Rattle.shb_discipline.specs.declared.checking.CheckError.TheVariants as checking
 use Rattle.shb_discipline.specs.Faults.{IsRefusal}
@@ -28,7 +28,7 @@ use Rattle.shb_run.specs.declared.settings.Summary.{Summary}
 use Rattle.shb_lines.specs.declared.read.ReadError.{ReadError}
 use Rattle.shb_lines.specs.declared.read.ReadError.TheVariants as reading
 use Rattle.shb_run.specs.Errors.{error_of_checking, error_of_reading}
-use Rattle.shb_run.specs.Runs.{IsAccepted, IsCutShort, IsFirstFaultOf, IsRefusalOf, IsReported, Grows, ListsSchedulable, OnBrokenOff, OnJudged, limits}
+use Rattle.shb_run.specs.Runs.{IsAccepted, IsCutShort, IsRefusalOf, IsReported, Grows, ListsSchedulable, OnBrokenOff, OnJudged, limits}
 use Rattle.shb_run.specs.Written.{IsCutOff, ReportsTrace, WritesReport, summary_of}
 
 -- known bytes that nothing was done to
@@ -37,7 +37,7 @@ Keeps-same None = tt
 Keeps-same (Some x) = refl
 
 -- a text with no fault has no first one
-pub no_first_fault : (text : List ℕ) (line : ℕ) (fault : Fault) → HasNoFault limits text → IsFirstFaultOf text line fault → ⊥
+pub no_first_fault : (text : List ℕ) (line : ℕ) (fault : Fault) → HasNoFault limits text → HasFirstFault limits text line fault → ⊥
 no_first_fault text line fault none first = none first.before fault first.within first.lowest.0
 
 pub schedulable_of : (events : List Event) (races : List (ℕ × ℕ)) → IsDisciplined events → IsRaceList events races → ListsSchedulable events races
@@ -46,6 +46,11 @@ schedulable_of events races disciplined are = record {
       let printed = printed_exists events disciplined i j in
       (printed.0, printed.1, printed_is_schedule events printed.0 i j disciplined ((are.all i j).0 is) printed.1);
   unlisted = λ i j earlier conflict absent s schedule. absent ((are.all i j).1 (race_of_schedule events s i j conflict earlier schedule));
+  ordered = λ i j earlier conflict absent.
+      elim (decide_below_pred events disciplined i j) [
+        | inl below ↦ below
+        | inr not ↦ absurd (absent ((are.all i j).1 (record { conflict = conflict; earlier = earlier; unordered = not })))
+      ];
 }
 
 abbrev pub report_of_text : (ws : Bool) (text bytes : List ℕ) (read : TraceData) (stop : Option LineFault) (trace : TraceData)
@@ -75,7 +80,7 @@ cut_short_of ws text read stop trace old new accepted (inr front) reading = inr 
 
 -- the lines were stopped, and no event before that breaks the discipline
 pub stopped_of : (read : TraceData) (stop : Option LineFault) (found : LineFault) (events : List Event) (trace : TraceData)
-    → IsDisciplined events → events ≡ trace.events → trace ≡ read → stop ≡ Some found → (text : List ℕ) → IsReadingOf limits text read stop → IsFirstFaultOf text found.line found.fault
+    → IsDisciplined events → events ≡ trace.events → trace ≡ read → stop ≡ Some found → (text : List ℕ) → IsReadingOf limits text read stop → HasFirstFault limits text found.line found.fault
 stopped_of read stop found events trace disciplined same as_read is text reading =
     stopped limits text read found (subst (IsReadingOf limits text read) is reading) (subst (λ t. IsDisciplined t.events) as_read (subst IsDisciplined same disciplined))
 
@@ -121,7 +126,7 @@ broken_off (Err Memory) P p = p
 
 -- a text with no fault has none to be silent on
 pub not_silent : (read : TraceData) (stop : Option LineFault) (trace : TraceData) (known old new : Option (List ℕ))
-    → IsAccepted read stop trace → IfSome known (λ text. IsReadingOf limits text read stop) → IfSome known (λ text. (line : ℕ) (fault : Fault) → IsFirstFaultOf text line fault → Keeps old new)
+    → IsAccepted read stop trace → IfSome known (λ text. IsReadingOf limits text read stop) → IfSome known (λ text. (line : ℕ) (fault : Fault) → HasFirstFault limits text line fault → Keeps old new)
 not_silent read stop trace known old new accepted reading = IfSome_then known reading (λ text one line fault first. absurd (no_first_fault text line fault (accepted.faultless text one) first))
 
 -- what holds of each run that read its text

@@ -7,10 +7,19 @@ use Rattle.shb_lines.specs.text.TraceData.{IsTraceOf, TraceData}
 use Rattle.shb_report.specs.declared.verdict.Verdict.{Verdict}
 use Rattle.shb_report.specs.declared.verdict.Verdict.TheVariants.{BadLine}
 use Rattle.shb_report.specs.Reading.{IsBadLine, IsReportText}
-use Rattle.shb_report.specs.Value.{ReportValue}
+use Rattle.shb_report.specs.Value.{IsShown, ReportValue}
 use Rattle.shb_report.specs.Verdicts.{IsVerdict, verdict_bytes}
 use Rattle.shb_run.specs.declared.errors.RunError.{RunError}
 use Rattle.shb_run.specs.declared.errors.RunError.TheVariants.{Source}
+use Rattle.shb_run.specs.declared.settings.Summary.{Summary}
+
+-- the numbers of a summary have 64 bits, as they have in each summary that a run gives
+pub record AreWords (summary : Summary) : Type 0 where
+  pub events : IsShown summary.events
+  pub threads : IsShown summary.threads
+  pub locks : IsShown summary.locks
+  pub variables : IsShown summary.variables
+  pub races : IsShown summary.races
 
 -- how many bytes a report may have
 abbrev pub most_bytes : ℕ

@@ -9,6 +9,7 @@ use Rattle.shb_lines.specs.declared.event.LineFault.{LineFault}
 use Rattle.shb_lines.specs.events.Discipline.{IsDisciplined}
 use Rattle.shb_lines.specs.text.Text.{lines_of}
 use Rattle.shb_lines.specs.text.TraceData.{IsReadingOf, IsTraceOf, TraceData}
+use Rattle.shb_lines.specs.events.Order.{BelowPred}
 use Rattle.shb_lines.specs.events.Race.{Conflict}
 use Rattle.shb_lines.specs.events.Schedule.{IsPrintedSchedule, IsSchedule}
 use Rattle.shb_discipline.specs.FirstFault.{HasFirstFault, HasNoFault}
@@ -22,14 +23,11 @@ use Rattle.shb_run.specs.Written.{summary_of}
 abbrev pub limits : Limits
 limits = record { text = 1073741824; line = 4096; events = 4194304; threads = 1024 }
 
--- the line is the least with a fault, counted from 1, and this is its fault of lowest number
-abbrev pub IsFirstFaultOf : List ℕ → ℕ → Fault → Type 0
-IsFirstFaultOf text line fault = HasFirstFault limits text line fault
-
--- each listed pair has a printed schedule, which is a schedule of it, and a conflicting pair that is not listed has none
+-- each listed pair has a printed schedule, which is a schedule of it; a conflicting pair that is not listed has none, and its earlier event is SHB-below the predecessor of the later one
 pub record ListsSchedulable (events : List Event) (races : List (ℕ × ℕ)) : Type 0 where
   pub listed : (i j : ℕ) → Contains races (i, j) → (s : List ℕ) × IsPrintedSchedule events s i j × IsSchedule events s i j
   pub unlisted : (i j : ℕ) → i < j → Conflict events i j → ¬ Contains races (i, j) → (s : List ℕ) → ¬ IsSchedule events s i j
+  pub ordered : (i j : ℕ) → i < j → Conflict events i j → ¬ Contains races (i, j) → BelowPred events i j
 
 -- the text has no fault, its report was written and nothing else, the trace of the report is disciplined, and the summary is that of the report
 pub record IsReported (with_schedules : Bool) (text : List ℕ) (summary : Summary) (old new : Option (List ℕ)) : Type 0 where
@@ -90,7 +88,7 @@ pub record IsAccepted (read : TraceData) (stop : Option LineFault) (trace : Trac
 
 -- a text that was read so is refused for its first fault, or there was no memory to judge it
 abbrev pub IsRefusalOf : TraceData → Option LineFault → RunError → Type 0
-IsRefusalOf read stop (Trace line fault) = (text : List ℕ) → IsReadingOf limits text read stop → IsFirstFaultOf text line fault
+IsRefusalOf read stop (Trace line fault) = (text : List ℕ) → IsReadingOf limits text read stop → HasFirstFault limits text line fault
 IsRefusalOf read stop Memory = ⊤
 IsRefusalOf read stop Source = ⊥
 IsRefusalOf read stop Sink = ⊥

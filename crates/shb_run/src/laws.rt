@@ -1,10 +1,28 @@
 //! The laws of what runs write, over the definitions alone. Each function does nothing: its contract
 //! is the law.
-ghost use Rattle.std.specs.Prelude.{◌≡◌, ℕ, Bool, List};
+ghost use Rattle.std.specs.Prelude.{◌≡◌, ◌≤◌, ℕ, Bool, List, Option, length, true};
 ghost use Rattle.shb_report.specs.Report.{IsReportOf};
+ghost use Rattle.shb_report.specs.Value.{IsReportValue, ReportValue, report_text};
+ghost use Rattle.shb_report.specs.Verdicts.{IsVerdict};
+ghost use Rattle.shb_report.specs.declared.verdict.Verdict.{Verdict};
+ghost use Rattle.shb_report.specs.declared.verdict.Verdict.TheVariants.{Good};
+ghost use Rattle.shb_run.specs.Checks.{AreWords, IsVerdictOf, most_bytes};
+ghost use Rattle.shb_run.specs.Runs.{IsReported};
+ghost use Rattle.shb_run.specs.declared.settings.Summary.{Summary};
 
 /// A text has at most one report in each form: its lines have one trace, and a trace has one report.
 pub fn report_of_text_is_unique()
     ensures { (with_schedules : Bool) (text bytes others : List ℕ)
         → IsReportOf with_schedules text bytes → IsReportOf with_schedules text others → bytes ≡ others }
+{}
+
+/// A check of what a run wrote with schedules says that it is good. `value`: the bytes are the text of a
+/// report in the grammar, whose verdict against the trace is `Good` with the number of races of the
+/// summary. `checked`: so no other verdict is that of these two texts, where the report isn't longer than
+/// the 1,073,741,824 bytes that a check reads; a longer one has a bad line there.
+pub fn own_report_is_good()
+    ensures value { (text : List ℕ) (summary : Summary) (old new : Option (List ℕ)) (reported : IsReported true text summary old new) → AreWords summary
+        → (value : ReportValue) × IsReportValue value × (reported.bytes ≡ report_text value) × IsVerdict reported.report.trace value (Good summary.races) }
+    ensures checked { (text : List ℕ) (summary : Summary) (old new : Option (List ℕ)) (reported : IsReported true text summary old new) → AreWords summary
+        → (verdict : Verdict) → length reported.bytes ≤ most_bytes → IsVerdictOf text reported.bytes verdict → verdict ≡ Good summary.races }
 {}

@@ -1,9 +1,10 @@
 //! The whole run: read, judge, find the races, write.
 ghost use Rattle.std.specs.Prelude.{◌≡◌, ◌-◌, ◌^◌, ◌<◌, ℕ, List, Some, IfErr, IfOk, IfSome, OnErr, drop};
 ghost use Rattle.std.specs.Io.KnownBytes.{Keeps};
+ghost use Rattle.shb_discipline.specs.FirstFault.{HasFirstFault};
 ghost use Rattle.shb_lines.specs.declared.event.Fault.{Fault};
 ghost use Rattle.shb_lines.specs.text.Taking.{TakesAtMost};
-ghost use Rattle.shb_run.specs.Runs.{CountsSink, CountsSource, Grows, IsAccepted, IsCutShort, IsFirstFaultOf, IsRefusalOf, IsReported, OnBrokenOff, OnJudged, OnNoTrace, OnTrace};
+ghost use Rattle.shb_run.specs.Runs.{CountsSink, CountsSource, Grows, IsAccepted, IsCutShort, IsRefusalOf, IsReported, OnBrokenOff, OnJudged, OnNoTrace, OnTrace, limits};
 ghost use Rattle.shb_run.specs.Written.{IsCutOff, IsSinkCounted, ReportsTrace, summary_of};
 
 use crate::errors::{RunError, WriteError};
@@ -142,14 +143,14 @@ pub fn run<S: Source, K: Sink, R: Threads + Wait + Sync + RandomSource>(
 
     // A refused trace has this fault first.
     ensures refused { OnTrace result (λ line fault. IfSome (S.remaining source.old) (λ text.
-        IsFirstFaultOf text line fault)) }
+        HasFirstFault limits text line fault)) }
 
     // What is written where no report is. Where the text has a fault, that is nothing.
     ensures unwritten { OnNoTrace result (Keeps (K.taken sink.old) (K.taken sink.new)) }
     ensures cut { OnBrokenOff result (IfSome (S.remaining source.old) (λ text.
         IsCutShort settings.schedules text (K.taken sink.old) (K.taken sink.new))) }
     ensures silent { IfSome (S.remaining source.old) (λ text. (line : ℕ) (fault : Fault) →
-        IsFirstFaultOf text line fault → Keeps (K.taken sink.old) (K.taken sink.new)) }
+        HasFirstFault limits text line fault → Keeps (K.taken sink.old) (K.taken sink.new)) }
 
     // What the sink took before stays as it was, whether or not the source tells its bytes.
     ensures grown { Grows (K.taken sink.old) (K.taken sink.new) }
@@ -197,14 +198,14 @@ pub fn run_gated<
 
     // A refused trace has this fault first.
     ensures refused { OnTrace result (λ line fault. IfSome (S.remaining source.old) (λ text.
-        IsFirstFaultOf text line fault)) }
+        HasFirstFault limits text line fault)) }
 
     // What is written where no report is. Where the text has a fault, that is nothing.
     ensures unwritten { OnNoTrace result (Keeps (K.taken sink.old) (K.taken sink.new)) }
     ensures cut { OnBrokenOff result (IfSome (S.remaining source.old) (λ text.
         IsCutShort settings.schedules text (K.taken sink.old) (K.taken sink.new))) }
     ensures silent { IfSome (S.remaining source.old) (λ text. (line : ℕ) (fault : Fault) →
-        IsFirstFaultOf text line fault → Keeps (K.taken sink.old) (K.taken sink.new)) }
+        HasFirstFault limits text line fault → Keeps (K.taken sink.old) (K.taken sink.new)) }
 
     // What the sink took before stays as it was, whether or not the source tells its bytes.
     ensures grown { Grows (K.taken sink.old) (K.taken sink.new) }

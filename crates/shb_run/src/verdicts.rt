@@ -1,12 +1,12 @@
 //! The check of a report: read the trace, judge it, read the report, judge it, write the verdict.
 ghost use Rattle.std.specs.Prelude.{◌≡◌, ◌-◌, ◌^◌, ◌<◌, ℕ, List, IfOk, IfSome};
 ghost use Rattle.std.specs.Io.KnownBytes.{Appends, Keeps};
-ghost use Rattle.shb_discipline.specs.FirstFault.{HasNoFault};
+ghost use Rattle.shb_discipline.specs.FirstFault.{HasFirstFault, HasNoFault};
 ghost use Rattle.shb_lines.specs.text.Taking.{IsSourceCounted};
 ghost use Rattle.shb_lines.specs.declared.event.Fault.{Fault};
 ghost use Rattle.shb_report.specs.Verdicts.{verdict_bytes};
 ghost use Rattle.shb_run.specs.Checks.{CountsSources, IsLineCutShort, IsVerdictFor, IsVerdictOf};
-ghost use Rattle.shb_run.specs.Runs.{CountsSink, IsFirstFaultOf, OnBrokenOff, OnNoTrace, OnTrace, limits};
+ghost use Rattle.shb_run.specs.Runs.{CountsSink, OnBrokenOff, OnNoTrace, OnTrace, limits};
 
 use crate::errors::RunError;
 use crate::pipeline::judge;
@@ -51,6 +51,10 @@ fn verdict_of<S: Source, R: RandomSource>(
 /// anything written: `ok R`, `bad line N`, `bad counts`, `bad race K` or `bad places`. That races are
 /// left out of the report isn't found.
 ///
+/// The time is linear in the two texts, whatever the number of blocks: the tables that schedules are
+/// judged by are made once. Both texts are kept; what a report takes is told at `read_report_within` of
+/// `shb_report`.
+///
 /// # Errors
 ///
 /// - [`RunError::Source`]: one of the two sources failed. Nothing was written.
@@ -79,7 +83,7 @@ pub fn check<S: Source, Q: Source, K: Sink, R: RandomSource>(
 
     // A refused trace has this fault first.
     ensures refused { OnTrace result (λ line fault. IfSome (S.remaining trace_source.old) (λ text.
-        IsFirstFaultOf text line fault)) }
+        HasFirstFault limits text line fault)) }
 
     // What is written where no verdict is. Where the trace has a fault, that is nothing.
     ensures unwritten { OnNoTrace result (Keeps (K.taken sink.old) (K.taken sink.new)) }
@@ -87,7 +91,7 @@ pub fn check<S: Source, Q: Source, K: Sink, R: RandomSource>(
         IfSome (Q.remaining report_source.old) (λ report.
         IsLineCutShort text report (K.taken sink.old) (K.taken sink.new)))) }
     ensures silent { IfSome (S.remaining trace_source.old) (λ text. (line : ℕ) (fault : Fault) →
-        IsFirstFaultOf text line fault → Keeps (K.taken sink.old) (K.taken sink.new)) }
+        HasFirstFault limits text line fault → Keeps (K.taken sink.old) (K.taken sink.new)) }
 
     // An error of a device comes with one failure more of that device, and no other answer does.
     ensures sources { CountsSources (S.failure_count trace_source.old) (S.failure_count trace_source.new)

@@ -1,0 +1,74 @@
+-- What a check says of a report that a run wrote with schedules.
+use Rattle.std.proofs.Common.{◌≡◌, inl, ℕ, ◌≤◌, true, List, length, Option, None, refl, sym, ap, subst, ◌∙◌, arith}
+use Rattle.std.specs.List.{AllByRecursion}
+use Rattle.std.proofs.lemmas.List.{length-map}
+use Rattle.std.proofs.lemmas.Slice.Zip.{AllZip-long}
+use Rattle.shb_lines.specs.text.Faults.{IsFaultless}
+use Rattle.shb_lines.specs.text.Text.{IsLineText, lines_of}
+use Rattle.shb_lines.specs.text.TraceData.{IsTraceOf, TraceData}
+use Rattle.shb_lines.proofs.text.LineTexts.{held_texts}
+use Rattle.shb_discipline.specs.FirstFault.{HasNoFault}
+use Rattle.shb_report.specs.declared.verdict.Verdict.{Verdict}
+use Rattle.shb_report.specs.declared.verdict.Verdict.TheVariants.{Good, BadLine, BadCounts, BadRace, BadPlaces}
+use Rattle.shb_report.specs.Reading.{IsReportText}
+use Rattle.shb_report.specs.Report.{counts_of}
+use Rattle.shb_report.specs.Value.{AreShown, IsReportValue, IsShown, ReportValue, report_text}
+use Rattle.shb_report.specs.Verdicts.{IsVerdict}
+use Rattle.shb_report.specs.Written.{IsShowable}
+use Rattle.shb_report.proofs.Injective.{report_same}
+use Rattle.shb_report.proofs.VerdictLaws.{one_verdict}
+use Rattle.shb_report.proofs.WrittenGood.{written_good}
+use Rattle.shb_run.specs.declared.settings.Summary.{Summary}
+use Rattle.shb_run.specs.Checks.{AreWords, IsJudged, IsVerdictFor, IsVerdictOf, most_bytes}
+use Rattle.shb_run.specs.Runs.{IsReported, limits}
+use Rattle.shb_run.proofs.OneReport.{one_whole_trace}
+
+-- the lines of the trace of a text that has no fault
+showable_of : (text : List ℕ) (trace : TraceData) → HasNoFault limits text → IsTraceOf (lines_of text) trace → AreShown (counts_of trace) → IsShowable trace
+showable_of text trace none is counts =
+    let faultless : IsFaultless limits text (length (lines_of text)) = λ k fault lt has. none k fault lt (inl has) in
+    let held = held_texts limits text (omega arith) (λ lines. IsTraceOf lines trace) None (faultless, is) in
+    record {
+      counts = counts;
+      a_line_each = ap (λ (l : List (List ℕ)). length l) is.lines_are ∙ length-map _ (λ e. e.text) ∙ AllZip-long _ _ _ is.events_are;
+      line_texts = subst (AllByRecursion IsLineText) (sym held.1.lines_are) held.2;
+    }
+
+module _ (text : List ℕ) (summary : Summary) (old new : Option (List ℕ)) (reported : IsReported true text summary old new) (words : AreWords summary) where
+  abbrev trace : TraceData
+  trace = reported.report.trace
+
+  races_are : summary.races ≡ length reported.report.report.races
+  races_are = ap (λ (s : Summary). s.races) reported.summary_is
+
+  -- its bytes are the text of a report in the grammar, whose verdict is that it is good
+  pub own_report : (value : ReportValue) × IsReportValue value × (reported.bytes ≡ report_text value) × IsVerdict trace value (Good summary.races)
+  own_report =
+      let is = reported.summary_is in
+      let counts : AreShown (counts_of trace) = record {
+        events = subst IsShown (ap (λ (s : Summary). s.events) is) words.events;
+        threads = subst IsShown (ap (λ (s : Summary). s.threads) is) words.threads;
+        locks = subst IsShown (ap (λ (s : Summary). s.locks) is) words.locks;
+        variables = subst IsShown (ap (λ (s : Summary). s.variables) is) words.variables;
+      } in
+      let showable = showable_of text trace reported.faultless reported.report.trace_is counts in
+      let good = written_good trace reported.bytes reported.disciplined showable reported.report.report (subst IsShown races_are words.races) in
+      (good.0, good.1, good.2, subst (λ (n : ℕ). IsVerdict trace good.0 (Good n)) (sym races_are) good.3)
+
+  judged_good : (verdict : Verdict) → IsJudged trace reported.bytes verdict → verdict ≡ Good summary.races
+  judged_good verdict judged =
+      let same : judged.report ≡ own_report.0 = report_same judged.report own_report.0 judged.report_is.in_grammar own_report.1 (sym judged.report_is.text_is ∙ own_report.2) in
+      one_verdict trace reported.disciplined own_report.0 verdict (Good summary.races) (subst (λ r. IsVerdict trace r verdict) same judged.verdict_is) own_report.3
+
+  verdict_good : (verdict : Verdict) → IsReportText most_bytes reported.bytes own_report.0 → IsVerdictFor trace reported.bytes verdict → verdict ≡ Good summary.races
+  verdict_good (Good races) whole is = judged_good (Good races) is
+  verdict_good (BadLine line) whole is = absurd (is.no_report own_report.0 whole)
+  verdict_good BadCounts whole is = judged_good BadCounts is
+  verdict_good (BadRace race why) whole is = judged_good (BadRace race why) is
+  verdict_good BadPlaces whole is = judged_good BadPlaces is
+
+  -- so where it is not longer than a report that is read, a check says that it is good
+  pub own_verdict : (verdict : Verdict) → length reported.bytes ≤ most_bytes → IsVerdictOf text reported.bytes verdict → verdict ≡ Good summary.races
+  own_verdict verdict short is =
+      let same : is.trace ≡ trace = one_whole_trace (lines_of text) is.trace trace is.trace_is reported.report.trace_is in
+      verdict_good verdict (record { in_grammar = own_report.1; text_is = own_report.2; short = short }) (subst (λ t. IsVerdictFor t reported.bytes verdict) same is.verdict_is)
