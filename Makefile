@@ -1,6 +1,6 @@
 # Two commands: `make run` builds the program and runs it, `make test` runs what the gate runs.
 
-.PHONY: build run test bench
+.PHONY: build run test end-to-end bench
 
 # Proves and builds the program (rt leaves it beside the crate) and copies it to bin/shb.
 build:
@@ -13,6 +13,10 @@ run: build
 
 test:
 	.ci/run
+
+# Runs the built program as a user would: the second half of `make test`.
+end-to-end: build
+	python3 tests/run.py bin/shb
 
 # Run by hand: it times the built program and prints ratios.
 bench: build

@@ -1,8 +1,8 @@
 #!/usr/bin/env python3
 """Writes a trace in the STD text to standard output.
 
-The trace is a run of a small made-up program: thread T0 forks the others and joins them at the end;
-each thread works on variables of its own, on variables that a lock protects, and now and then on one
+The trace is a run of a small made-up program: thread T0 forks the others and joins them at the end
+(or, with --alive, forks one where another has ended, so that no more of them run at once); each thread works on variables of its own, on variables that a lock protects, and now and then on one
 that nothing protects. The same arguments give the same bytes.
 
     generate.py --events 1000000 --threads 16 > trace.std
@@ -20,6 +20,8 @@ def arguments():
     parser.add_argument("--variables", type=int, default=4096)
     parser.add_argument("--private", type=int, default=30, help="accesses of own variables, in 100")
     parser.add_argument("--section", type=int, default=6, help="accesses in a locked section")
+    parser.add_argument("--reads", type=int, default=67, help="reads, in 100 accesses")
+    parser.add_argument("--alive", type=int, help="how many threads run at once (all of them where it is left out)")
     parser.add_argument("--races", type=int, default=0, help="unprotected pairs of writes, in a million steps")
     parser.add_argument("--open", type=int, default=16, help="variables that nothing protects")
     parser.add_argument("--hot", action="store_true", help="one variable under one lock")
@@ -48,6 +50,8 @@ class Program:
         self.holder = {}  # lock -> thread
         self.held = [None] * options.threads  # thread -> lock
         self.left = [0] * options.threads  # accesses left in the thread's locked section
+        self.running = [0]  # threads, T0 first
+        self.forked = 1
 
     def event(self, thread, operation):
         place = 100 + (len(operation) * 7 + self.numbers.below(400))
@@ -61,7 +65,7 @@ class Program:
         self.lines.clear()
 
     def access(self, thread, variable):
-        kind = "w" if self.numbers.below(3) == 0 else "r"
+        kind = "r" if self.numbers.below(100) < self.options.reads else "w"
         self.event(thread, f"{kind}({variable})")
 
     def lock_and_variables(self):
@@ -95,12 +99,12 @@ class Program:
     def unprotected_pair(self, thread):
         """Two threads write a variable right after one another."""
         variable = f"open{self.numbers.below(self.options.open)}"
-        other = (thread + 1) % self.options.threads
+        other = self.running[(self.running.index(thread) + 1) % len(self.running)]
         self.event(thread, f"w({variable})")
         self.event(other, f"w({variable})")
 
     def step(self):
-        thread = self.numbers.below(self.options.threads)
+        thread = self.running[self.numbers.below(len(self.running))]
         if self.held[thread] is not None:
             self.go_on(thread)
         elif self.numbers.below(1_000_000) < self.options.races:
@@ -110,20 +114,38 @@ class Program:
         else:
             self.begin_section(thread)
 
+    def fork(self):
+        self.event(0, f"fork(T{self.forked})")
+        self.running.append(self.forked)
+        self.forked += 1
+
+    def join(self, thread):
+        self.end_section(thread)
+        self.running.remove(thread)
+        self.event(0, f"join(T{thread})")
+
+    def end_section(self, thread):
+        while self.held[thread] is not None:
+            self.go_on(thread)
+
     def run(self):
         threads = self.options.threads
-        for other in range(1, threads):
-            self.event(0, f"fork(T{other})")
+        alive = min(self.options.alive or threads, threads)
+        for _ in range(1, alive):
+            self.fork()
+        share = self.options.events // (threads - alive + 1)
         while self.written < self.options.events - threads:
             self.step()
-        for thread in range(threads):
-            while self.held[thread] is not None:
-                self.go_on(thread)
+            if self.forked < threads and self.written > share * (self.forked - alive + 1):
+                self.join(self.running[1])
+                self.fork()
+        for thread in self.running:
+            self.end_section(thread)
         if self.options.late:
-            self.event(threads - 2, "w(late)")
-            self.event(threads - 1, "w(late)")
-        for other in range(1, threads):
-            self.event(0, f"join(T{other})")
+            self.event(self.running[-2], "w(late)")
+            self.event(self.running[-1], "w(late)")
+        for thread in self.running[1:]:
+            self.join(thread)
         self.flush()
 
 

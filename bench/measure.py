@@ -1,91 +1,118 @@
 #!/usr/bin/env python3
-"""Times bin/shb on made traces and prints, for each: events, bytes, races, seconds, MB/s, peak memory
-of the process, and the ratios to `wc -l` of the trace and to a plain copy of it, all in this one run.
+"""Times the built program on made traces, and prints a table: for each trace, form of the report and number
+of workers the least wall time of some runs, its ratio to that with one worker, the processor time of that run
+and the most memory; and, of one worker, the ratio to `wc -l` of the trace. All is of this one run.
 
-    measure.py            10 thousand, 100 thousand and a million events, and the special cases
-    measure.py --large    also four million events
+    measure.py [--large] [--repeats N] [--only WORD] [PROGRAM]
 """
 
+import argparse
 import os
 import pathlib
 import subprocess
 import sys
 import tempfile
 import time
+import typing
 
 HERE = pathlib.Path(__file__).resolve().parent
-PROGRAM = HERE.parent / "bin" / "shb"
-REPEATS = 3
+WORKERS = (1, 2, 4)
+SOME_RACES = ["--races", "1000"]
 
-SPREAD = ["--races", "1000"]
-CASES = [
-    ("10 thousand, 16 threads", ["--events", "10000", *SPREAD]),
-    ("100 thousand, 16 threads", ["--events", "100000", *SPREAD]),
-    ("a million, 16 threads", ["--events", "1000000", *SPREAD]),
-    ("a million, 32 threads", ["--events", "1000000", "--threads", "32", *SPREAD]),
-    ("a million, 16 threads, one hot variable", ["--events", "1000000", "--hot"]),
-    ("a million, 1,024 threads", ["--events", "1000000", "--threads", "1024", *SPREAD]),
+
+class Trace(typing.NamedTuple):
+    name: str
+    options: list
+    forms: tuple = ("list",)
+    is_large: bool = False
+
+
+def million(*options):
+    return ["--events", "1000000", *options]
+
+
+TRACES = [
+    Trace("a hundred thousand events", ["--events", "100000", *SOME_RACES], ("list", "full")),
+    Trace("a million, 64 locks", million(*SOME_RACES)),
+    Trace("a million, 4 locks", million("--locks", "4", *SOME_RACES)),
+    Trace("a million, one hot variable", million("--hot")),
+    Trace("a million, 200,000 variables", million("--variables", "200000", *SOME_RACES)),
+    Trace("a million, mostly reads", million("--reads", "95", *SOME_RACES)),
+    Trace("a million, 32 threads", million("--threads", "32", *SOME_RACES)),
+    Trace("a million, 1,024 threads", million("--threads", "1024", *SOME_RACES)),
+    Trace("a million, 1,000 threads forked and joined, 16 at once", million("--threads", "1000", "--alive", "16", *SOME_RACES)),
+    Trace("a million, one late race", million("--late"), ("full",)),
+    Trace("a hundred thousand, many races, long schedules", ["--events", "100000", "--races", "20000"], ("list", "full")),
+    Trace("four million", ["--events", "4000000", *SOME_RACES], is_large=True),
+    Trace("four million, 32 threads", ["--events", "4000000", "--threads", "32", *SOME_RACES], is_large=True),
 ]
-LARGE = [
-    ("four million, 16 threads", ["--events", "4000000", *SPREAD]),
-    ("four million, 32 threads", ["--events", "4000000", "--threads", "32", *SPREAD]),
-]
-SCHEDULES = [
-    ("a million, 16 threads, two late accesses, schedules", ["--events", "1000000", "--late"]),
-]
+
+
+class Timed(typing.NamedTuple):
+    wall: float
+    processor: float
+    megabytes: float
 
 
 def timed(command, output):
-    """The least seconds of some runs, and the peak memory in MB of the last."""
-    best = float("inf")
-    for _ in range(REPEATS):
-        with open(output, "wb") as out:
-            start = time.perf_counter()
-            process = subprocess.Popen(command, stdout=out)
-            _, status, usage = os.wait4(process.pid, 0)
-            best = min(best, time.perf_counter() - start)
-        if status != 0:
-            sys.exit(f"{command}: status {status}")
-    return best, usage.ru_maxrss / 1024
+    with open(output, "wb") as out:
+        start = time.perf_counter()
+        process = subprocess.Popen(command, stdin=subprocess.DEVNULL, stdout=out)
+        _, status, usage = os.wait4(process.pid, 0)
+        wall = time.perf_counter() - start
+    if status != 0:
+        sys.exit(f"{command}: status {status}")
+    return Timed(wall, usage.ru_utime + usage.ru_stime, usage.ru_maxrss / 1024)
 
 
 def number_of_races(report):
     with open(report, "rb") as lines:
-        for line in lines:
-            if line.startswith(b"races "):
-                return int(line.split()[1])
-    return 0
+        return next(int(line.split()[1]) for line in lines if line.startswith(b"races "))
 
 
-def measure(folder, name, options, words):
-    trace, report = folder / "trace.std", folder / "report"
-    with open(trace, "wb") as out:
-        subprocess.run([sys.executable, HERE / "generate.py", *options], stdout=out, check=True)
-    size = trace.stat().st_size
-    seconds, memory = timed([PROGRAM, "races", *words, trace], report)
-    count, _ = timed(["wc", "-l", trace], folder / "count")
-    copy, _ = timed(["cat", trace], folder / "copy")
-    report_copy, _ = timed(["cat", report], folder / "copy")
-    events = int((folder / "count").read_text().split()[0])
-    print(
-        f"| {name} | {events} | {size / 1e6:.1f} | {number_of_races(report)} | {report.stat().st_size / 1e6:.2f} "
-        f"| {seconds:.3f} | {size / 1e6 / seconds:.0f} | {memory:.0f} | {seconds / count:.0f} | {seconds / copy:.1f} "
-        f"| {seconds / report_copy:.0f} |",
-        flush=True,
-    )
-    return seconds
+def measure(program, folder, trace, repeats):
+    text, report = folder / "trace.std", folder / "report"
+    with open(text, "wb") as out:
+        subprocess.run([sys.executable, HERE / "generate.py", *trace.options], stdout=out, check=True)
+    for form in trace.forms:
+        runs = {workers: [] for workers in WORKERS}
+        counts = []
+        # in turn, so that a busy machine disturbs all alike
+        for _ in range(repeats):
+            counts.append(timed(["wc", "-l", text], folder / "count").wall)
+            for workers in WORKERS:
+                words = ["races", "--workers", str(workers), *(["--list"] if form == "list" else []), text]
+                runs[workers].append(timed([program, *words], report))
+        best = {workers: min(of) for workers, of in runs.items()}
+        events = int((folder / "count").read_text().split()[0])
+        for workers in WORKERS:
+            wall, processor, megabytes = best[workers]
+            counted = f"{wall / min(counts):.0f}" if workers == 1 else ""
+            print(
+                f"| {trace.name} | {events} | {text.stat().st_size / 1e6:.1f} | {form} | {number_of_races(report)} "
+                f"| {report.stat().st_size / 1e6:.2f} | {workers} | {wall:.3f} | {wall / best[1].wall:.2f} "
+                f"| {processor:.3f} | {megabytes:.0f} | {counted} |",
+                flush=True,
+            )
+
+
+def arguments():
+    parser = argparse.ArgumentParser(description=__doc__.splitlines()[0])
+    parser.add_argument("--large", action="store_true", help="four million events too")
+    parser.add_argument("--repeats", type=int, default=3)
+    parser.add_argument("--only", default="", help="traces whose names have this word")
+    parser.add_argument("program", nargs="?", default=HERE.parent / "bin" / "shb", type=pathlib.Path)
+    return parser.parse_args()
 
 
 def main():
-    large = "--large" in sys.argv
-    print("| trace | events | MB | races | report MB | seconds | MB/s | peak MB | x wc -l | x copy of trace | x copy of report |")
-    print("|---|---|---|---|---|---|---|---|---|---|---|")
-    with tempfile.TemporaryDirectory() as name:
-        folder = pathlib.Path(name)
-        for title, options in CASES + (LARGE if large else []):
-            measure(folder, title, options, ["--list"])
-        for title, options in SCHEDULES:
-            measure(folder, title, options, [])
+    options = arguments()
+    print("| trace | events | MB | form | races | report MB | workers | wall s | x 1 worker | processor s | peak MB | x wc -l |")
+    print("|---|---|---|---|---|---|---|---|---|---|---|---|")
+    with tempfile.TemporaryDirectory() as room:
+        for trace in TRACES:
+            if options.only in trace.name and (options.large or not trace.is_large):
+                measure(options.program.resolve(), pathlib.Path(room), trace, options.repeats)
 
 
 if __name__ == "__main__":

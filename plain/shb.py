@@ -167,17 +167,41 @@ def races_and_schedules(events):
     return [(i, j, schedule) for _, j, i, schedule in sorted(found)]
 
 
-def report(text, schedules):
-    events, lines = read_trace(text)
+def location(line):
+    """What stands after the second bar of a line: nothing where there is none."""
+    return b"|".join(line.split(b"|")[2:])
+
+
+def places_of(races, lines):
+    """How many of the races have each pair of locations, in the order of the first that has it."""
+    counts = {}
+    for i, j, _ in races:
+        place = location(lines[i]), location(lines[j])
+        counts[place] = counts.get(place, 0) + 1
+    return counts
+
+
+def counts_of(events):
+    """How many events, threads, locks and variables there are."""
     threads = {name for event in events for name in names_of(event)}
     locks = {name for _, word, name in events if word in (b"acq", b"rel")}
     variables = {name for _, word, name in events if word in (b"r", b"w")}
+    return len(events), len(threads), len(locks), len(variables)
+
+
+def report(text, schedules, version=2):
+    events, lines = read_trace(text)
     races = races_and_schedules(events)
     out = [
-        b"shb-report 1\n",
-        b"events %d threads %d locks %d variables %d\n" % (len(events), len(threads), len(locks), len(variables)),
+        b"shb-report %d\n" % version,
+        b"events %d threads %d locks %d variables %d\n" % counts_of(events),
         b"races %d\n" % len(races),
     ]
+    if version == 2:
+        places = places_of(races, lines)
+        out.append(b"places %d\n" % len(places))
+        for q, ((first, second), count) in enumerate(places.items(), 1):
+            out.append(b"place %d: %d\n" % (q, count) + b"at " + first + b"\nand " + second + b"\n")
     for k, (i, j, schedule) in enumerate(races, 1):
         out.append(b"race %d: %d %d\n" % (k, i + 1, j + 1))
         out.append(b"first " + lines[i] + b"\nsecond " + lines[j] + b"\n")

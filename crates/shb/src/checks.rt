@@ -1,22 +1,12 @@
 //! `shb check`: a report on standard input is judged against its trace.
 use crate::complaints::{FAILED, complain, complain_of};
+use crate::output::flushed;
 use shb_io::{FromRead, ToWrite};
-use shb_run::{Verdict, check};
+use shb_run::{check, status_of_check};
 use std::fs::File;
 use std::io::writer;
 use std::random::RandomSource;
 use std::rt::Files;
-
-/// The status where the report is rejected.
-const REPORT_REJECTED: u8 = 5;
-
-/// The status of a verdict that was written.
-fn verdict_status(verdict: Verdict) -> u8 {
-    match verdict {
-        Verdict::Good { .. } => 0,
-        _ => REPORT_REJECTED,
-    }
-}
 
 /// Judges the report on standard input against the trace of a file, writes the verdict to standard
 /// output, and gives the program's status.
@@ -30,11 +20,12 @@ pub(crate) fn check_report<R: Print + Eprint + Input + AllocGlobal + Files + Ran
     let mut trace = FromRead::new(file);
     let mut report = FromRead::new(rt.reader());
     let mut sink = ToWrite::new(writer(rt));
-    match check(rt, rt.alloc(), &mut trace, &mut report, &mut sink) {
-        Ok(verdict) => match sink.finish() {
-            Ok(()) => verdict_status(verdict),
-            Err(_) => complain(rt, "cannot write", FAILED),
-        },
-        Err(error) => complain_of(rt, &error),
+    let answer = flushed(
+        check(rt, rt.alloc(), &mut trace, &mut report, &mut sink),
+        sink,
+    );
+    if let Err(error) = &answer {
+        complain_of(rt, error);
     }
+    status_of_check(&answer)
 }

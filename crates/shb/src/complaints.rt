@@ -1,8 +1,7 @@
-//! What the program says on standard error, and the statuses that it ends with.
+//! What the program says on standard error, and the statuses that no run and no check gives.
 ghost use Rattle.std.specs.Prelude.{◌≡◌};
-ghost use Rattle.shb_run.specs.Words.{exit_status_of};
 
-use shb_run::{RunError, exit_status, fault_line};
+use shb_run::{RunError, fault_line};
 
 /// The status where the words are refused.
 pub(crate) const WORDS_REFUSED: u8 = 3;
@@ -20,13 +19,9 @@ pub(crate) fn complain<R: Eprint>(rt: &R, reason: &str, status: u8) -> u8
 }
 
 /// Says on standard error why a trace gave no report or no verdict. Where there is no memory for the
-/// text, the status alone says it.
-pub(crate) fn complain_of<R: Eprint + AllocGlobal>(rt: &R, error: &RunError) -> u8
-    ensures { result ≡ exit_status_of error.now }
-{
-    let status = exit_status(error);
-    match fault_line(rt.alloc(), error) {
-        Ok(line) => complain(rt, line.as_str(), status),
-        Err(_) => status,
+/// text, nothing is said, and the status alone tells it.
+pub(crate) fn complain_of<R: Eprint + AllocGlobal>(rt: &R, error: &RunError) {
+    if let Ok(line) = fault_line(rt.alloc(), error) {
+        let _ = rt.eprintln(line.as_str());
     }
 }

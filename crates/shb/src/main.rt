@@ -4,6 +4,7 @@
 
 mod checks;
 mod complaints;
+mod output;
 mod reports;
 
 use crate::checks::check_report;

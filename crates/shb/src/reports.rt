@@ -2,8 +2,9 @@
 ghost use Rattle.std.specs.Prelude.{◌≡◌};
 
 use crate::complaints::{FAILED, complain, complain_of};
+use crate::output::flushed;
 use shb_io::{FromRead, Source, ToWrite};
-use shb_run::{Settings, run};
+use shb_run::{Settings, run, status_of_run};
 use std::fs::File;
 use std::io::{BufWriter, writer};
 use std::random::RandomSource;
@@ -26,13 +27,11 @@ fn write_report<R: Print + Eprint + AllocGlobal + RandomSource + Threads + Wait 
         return complain(rt, "out of memory", FAILED);
     };
     let mut sink = ToWrite::new(buffer);
-    match run(rt, rt.alloc(), source, &mut sink, settings) {
-        Ok(_) => match sink.finish() {
-            Ok(()) => 0,
-            Err(_) => complain(rt, "cannot write", FAILED),
-        },
-        Err(error) => complain_of(rt, &error),
+    let answer = flushed(run(rt, rt.alloc(), source, &mut sink, settings), sink);
+    if let Err(error) = &answer {
+        complain_of(rt, error);
     }
+    status_of_run(&answer)
 }
 
 /// Writes the report of a file, or of standard input where none is named, to standard output, and gives

@@ -1,0 +1,49 @@
+"""The built program, run with a time limit."""
+
+import os
+import pathlib
+import subprocess
+import tempfile
+import typing
+import unittest
+
+HERE = pathlib.Path(__file__).resolve().parent
+PATH = HERE.parent / "crates" / "shb" / "out" / "shb"
+SECONDS = 30
+
+
+class Answer(typing.NamedTuple):
+    status: int
+    out: bytes
+    err: bytes
+
+
+def run(words, given=b"", **how):
+    """Runs the program, and gives what it answered. One that hangs fails the test."""
+    how = {"stdout": subprocess.PIPE, "stderr": subprocess.PIPE, **how}
+    ran = subprocess.run([PATH, *words], input=given, timeout=SECONDS, **how)
+    return Answer(ran.returncode, ran.stdout, ran.stderr)
+
+
+def with_settings(**settings):
+    """The environment of a run with these settings."""
+    return {**os.environ, **{name: str(value) for name, value in settings.items()}}
+
+
+class Case(unittest.TestCase):
+    """A test with a folder of its own for files."""
+
+    maxDiff = None
+
+    def setUp(self):
+        room = tempfile.TemporaryDirectory()
+        self.addCleanup(room.cleanup)
+        self.folder = pathlib.Path(room.name)
+
+    def file(self, text, name="t.std"):
+        path = self.folder / name
+        path.write_bytes(text)
+        return path
+
+    def expect(self, answer, status, out=b"", err=b""):
+        self.assertEqual(answer, Answer(status, out, err))

@@ -1,0 +1,61 @@
+/* Preloaded into the program: refuses the request for memory of number REFUSE_MEMORY, counted from 1, and
+   with REFUSE_THREADS every thread from that number on. Makes the file REFUSED where it refused one. */
+#define _GNU_SOURCE
+#include <dlfcn.h>
+#include <errno.h>
+#include <fcntl.h>
+#include <pthread.h>
+#include <stdlib.h>
+#include <unistd.h>
+
+static long requests, threads;
+
+static long setting(const char *name) {
+    const char *text = getenv(name);
+    return text ? atol(text) : 0;
+}
+
+static void note(void) {
+    int file = open(getenv("REFUSED"), O_CREAT | O_WRONLY, 0600);
+    if (file >= 0) close(file);
+}
+
+static int is_refused(void) {
+    if (__atomic_add_fetch(&requests, 1, __ATOMIC_SEQ_CST) != setting("REFUSE_MEMORY")) return 0;
+    note();
+    errno = ENOMEM;
+    return 1;
+}
+
+void *malloc(size_t size) {
+    static void *(*next)(size_t);
+    if (!next) next = dlsym(RTLD_NEXT, "malloc");
+    return is_refused() ? NULL : next(size);
+}
+
+void *realloc(void *old, size_t size) {
+    static void *(*next)(void *, size_t);
+    if (!next) next = dlsym(RTLD_NEXT, "realloc");
+    return is_refused() ? NULL : next(old, size);
+}
+
+void *aligned_alloc(size_t align, size_t size) {
+    static void *(*next)(size_t, size_t);
+    if (!next) next = dlsym(RTLD_NEXT, "aligned_alloc");
+    return is_refused() ? NULL : next(align, size);
+}
+
+int posix_memalign(void **place, size_t align, size_t size) {
+    static int (*next)(void **, size_t, size_t);
+    if (!next) next = dlsym(RTLD_NEXT, "posix_memalign");
+    return is_refused() ? ENOMEM : next(place, align, size);
+}
+
+int pthread_create(pthread_t *thread, const pthread_attr_t *how, void *(*start)(void *), void *given) {
+    static int (*next)(pthread_t *, const pthread_attr_t *, void *(*)(void *), void *);
+    if (!next) next = dlsym(RTLD_NEXT, "pthread_create");
+    long first = setting("REFUSE_THREADS");
+    if (first == 0 || __atomic_add_fetch(&threads, 1, __ATOMIC_SEQ_CST) < first) return next(thread, how, start, given);
+    note();
+    return EAGAIN;
+}

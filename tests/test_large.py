@@ -1,0 +1,64 @@
+"""Sizes that small traces never reach: more than 65,536 races, names, kept clocks and events of a schedule."""
+
+import program
+
+THREADS = 400
+ROUNDS = 35_000
+
+
+def places(count):
+    return b"places 1\nplace 1: %d\nat \nand \n" % count
+
+
+def many_races():
+    """Each thread writes the variable once: every pair races, and nothing has to run before it."""
+    lines = [b"T%d|w(x)\n" % k for k in range(1, THREADS + 1)]
+    pairs = [(i, j) for j in range(1, THREADS + 1) for i in range(1, j)]
+    report = [b"shb-report 2\nevents %d threads %d locks 0 variables 1\n" % (THREADS, THREADS)]
+    report.append(b"races %d\n" % len(pairs) + places(len(pairs)))
+    for k, (i, j) in enumerate(pairs, 1):
+        report.append(b"race %d: %d %d\nfirst T%d|w(x)\nsecond T%d|w(x)\nschedule 0:\n" % (k, i, j, i, j))
+    return b"".join(lines), b"".join([*report, b"end\n"]), len(pairs)
+
+
+def many_names():
+    """Two threads take a lock in turn, each time for variables of their own; at the end both write without it."""
+    lines = []
+    for k in range(ROUNDS):
+        lines.append(b"T1|acq(l)\nT1|w(v%d)\nT1|rel(l)\nT2|acq(l)\nT2|r(v%d)\nT2|w(u%d)\nT2|rel(l)\n" % (k, k, k))
+    lines.append(b"T1|w(z)\nT2|w(z)\n")
+    events = 7 * ROUNDS + 2
+    numbers = b"".join(b" %d" % k for k in range(1, events - 1))
+    report = [
+        b"shb-report 2\nevents %d threads 2 locks 1 variables %d\n" % (events, 2 * ROUNDS + 1),
+        b"races 1\n" + places(1),
+        b"race 1: %d %d\nfirst T1|w(z)\nsecond T2|w(z)\n" % (events - 1, events),
+        b"schedule %d:" % (events - 2) + numbers + b"\nend\n",
+    ]
+    return b"".join(lines), b"".join(report), 1
+
+
+class Large(program.Case):
+    def compare(self, text, report, races):
+        trace = self.file(text)
+        for workers in ("1", "2", "64"):
+            answer = program.run(["races", "--workers", workers, trace])
+            self.assertEqual((answer.status, answer.err), (0, b""))
+            self.assertTrue(answer.out == report, "the reports differ")
+        self.expect(program.run(["check", trace], report), 0, b"ok %d\n" % races)
+        return trace
+
+    def test_many_races(self):
+        text, report, races = many_races()
+        self.assertGreater(races, 65_536)
+        trace = self.compare(text, report, races)
+        forged = b"second T399|w(x)".join(report.rsplit(b"second T400|w(x)", 1))
+        self.expect(program.run(["check", trace], forged), 5, b"bad race %d\n" % races)
+
+    def test_many_names_clocks_and_events_of_a_schedule(self):
+        text, report, races = many_names()
+        trace = self.compare(text, report, races)
+        forged = b" %d %d\nend\n" % (7 * ROUNDS - 1, 7 * ROUNDS)
+        self.assertTrue(report.endswith(forged))
+        swapped = report[: -len(forged)] + b" %d %d\nend\n" % (7 * ROUNDS, 7 * ROUNDS - 1)
+        self.expect(program.run(["check", trace], swapped), 5, b"bad race 1\n")

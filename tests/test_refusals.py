@@ -1,0 +1,86 @@
+"""Each request for memory refused in turn, and threads refused."""
+
+import pathlib
+import subprocess
+import tempfile
+
+import program
+
+LOCKED = b"T1|acq(l)\nT1|w(x)|1\nT1|rel(l)\nT2|acq(l)\nT2|r(x)|2\nT2|rel(l)\nT3|w(x)|3\n"
+REFUSED = b"T1|w(x)\nT2|w(y)\nT2|rel(l)\nT1|w(x)\noops\n"
+MOST_REQUESTS = 10_000
+
+
+def racing(threads):
+    """Each thread's second event races with that of each other thread, and each has a schedule."""
+    return b"".join(b"T%d|w(%d)\nT%d|w(x)|%d\n" % (k, k, k, k % 7) for k in range(threads))
+
+
+class Refusals(program.Case):
+    @classmethod
+    def setUpClass(cls):
+        cls.room = tempfile.TemporaryDirectory()
+        cls.addClassCleanup(cls.room.cleanup)
+        cls.shim, cls.note = (pathlib.Path(cls.room.name) / name for name in ("refuse.so", "note"))
+        source = program.HERE / "refuse.c"
+        subprocess.run(["cc", "-O1", "-fPIC", "-shared", "-o", cls.shim, source, "-ldl"], check=True)
+
+    def run_refused(self, words, given, **settings):
+        """What is answered, and whether something was refused."""
+        self.note.unlink(missing_ok=True)
+        settings = program.with_settings(LD_PRELOAD=self.shim, REFUSED=self.note, **settings)
+        answer = program.run(words, given, env=settings)
+        return answer, self.note.exists()
+
+    def refuse_in_turn(self, words, given=b""):
+        ample = program.run(words, given)
+        for number in range(1, MOST_REQUESTS):
+            answer, is_refused = self.run_refused(words, given, REFUSE_MEMORY=number)
+            if not is_refused:
+                self.assertEqual(answer, ample)
+                self.assertGreater(number, 1)
+                return
+            self.expect_promised(answer, ample, number)
+        self.fail("there is no end of requests")
+
+    def expect_promised(self, answer, ample, number):
+        """The answer of ample memory; or the front of it, with a word; or, of a refused trace, its status alone."""
+        is_front = answer.status == 4 and answer.err == b"out of memory\n" and ample.out.startswith(answer.out)
+        is_unsaid = ample.status == 2 and answer == (2, b"", b"")
+        self.assertTrue(answer == ample or is_front or is_unsaid, f"at request {number}: {answer}")
+
+    def test_memory_for_a_report(self):
+        for workers in ("1", "2"):
+            self.refuse_in_turn(["races", "--workers", workers], LOCKED)
+            self.refuse_in_turn(["races", "--workers", workers, "--list"], LOCKED)
+        self.refuse_in_turn([], LOCKED)
+
+    def test_memory_for_many_schedules(self):
+        for workers in ("1", "2"):
+            self.refuse_in_turn(["races", "--workers", workers], racing(5))
+
+    def test_memory_for_a_refused_trace(self):
+        self.refuse_in_turn(["races"], REFUSED)
+        self.refuse_in_turn(["check", self.file(REFUSED)], b"")
+
+    def test_memory_for_a_check(self):
+        trace, report = self.file(LOCKED), program.run(["races"], LOCKED).out
+        self.refuse_in_turn(["check", trace], report)
+        self.refuse_in_turn(["check", trace], report.replace(b"race 2: 5 7", b"race 2: 2 5"))
+        self.refuse_in_turn(["check", trace], b"shb-report")
+
+    def test_memory_for_words(self):
+        self.refuse_in_turn(["--help"])
+        self.refuse_in_turn(["races", "a", "b"])
+
+    def test_threads(self):
+        self.assertIn(b"\nraces 2016\n", program.run(["races"], racing(64)).out)
+        for text in (LOCKED, racing(64), b"", REFUSED):
+            ample = program.run(["races"], text)
+            for workers in (1, 2, 3, 64):
+                for first in (1, 2, 3, 40):
+                    answer, _ = self.run_refused(["races", "--workers", str(workers)], text, REFUSE_THREADS=first)
+                    self.assertEqual(answer, ample)
+
+    def test_that_threads_are_refused(self):
+        self.assertTrue(self.run_refused(["races"], racing(64), REFUSE_THREADS=1)[1])

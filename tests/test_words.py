@@ -1,0 +1,61 @@
+"""Words, help and the texts of refused words."""
+
+import program
+
+
+class Words(program.Case):
+    def test_help(self):
+        for words in (["--help"], ["help"], ["-h"]):
+            answer = program.run(words)
+            self.assertEqual((answer.status, answer.err), (0, b""))
+            lines = answer.out.decode().splitlines()
+            self.assertLessEqual(len(lines), 24)
+            self.assertLessEqual(max(map(len, lines)), 80)
+            for wanted in ("Usage: shb <COMMAND>", "  races  ", "  check  ", "shb races --list", "shb help check"):
+                self.assertIn(wanted, answer.out.decode())
+
+    def test_help_of_races(self):
+        self.expect(program.run(["races", "--help"]), 0, program.run(["help", "races"]).out)
+        text = program.run(["help", "races"]).out.decode()
+        for wanted in ("Usage: shb races [OPTIONS] [TRACE]", "--workers <N>", "--list", "races times events"):
+            self.assertIn(wanted, text)
+        for operation in ("r(X)", "w(X)", "acq(L)", "rel(L)", "fork(T)", "join(T)", "begin", "end"):
+            self.assertIn(operation, text)
+
+    def test_help_of_check(self):
+        self.expect(program.run(["check", "--help"]), 0, program.run(["help", "check"]).out)
+        text = program.run(["help", "check"]).out.decode()
+        for wanted in ("Usage: shb check <TRACE>", "ok R", "bad line N", "bad counts", "bad race K", "bad places"):
+            self.assertIn(wanted, text)
+        self.assertIn("left out isn't found", text)
+
+    def test_refused_words(self):
+        for words, said in (
+            (["races", "--workers", "0"], b"error: invalid value '0' for '--workers <N>': 0 is not in 1..=64\n"),
+            (["races", "--workers", "65"], b"error: invalid value '65' for '--workers <N>': 65 is not in 1..=64\n"),
+            (["races", "--workers", "x"], b"error: invalid value 'x' for '--workers <N>'"),
+            (["check"], b"error: the following required arguments were not provided:\n  <TRACE>\n"),
+            (["frobnicate"], b"error: unrecognized subcommand 'frobnicate'\n"),
+            (["races", "a", "b"], b"error: unexpected argument 'b' found\n"),
+            (["check", "a", "b"], b"error: unexpected argument 'b' found\n"),
+            (["--version"], b"error: unexpected argument '--version' found\n"),
+            (["help", "frobnicate"], b"error: unrecognized subcommand 'frobnicate'\n"),
+        ):
+            with self.subTest(words):
+                answer = program.run(words)
+                self.assertEqual((answer.status, answer.out), (3, b""))
+                self.assertTrue(answer.err.startswith(said), answer.err)
+                self.assertTrue(answer.err.endswith(b"\n"), answer.err)
+
+    def test_words_that_are_not_utf_8(self):
+        for words in ([b"\xff"], ["races", b"\xff.std"], ["check", b"t\xc3"]):
+            self.expect(program.run(words), 3, b"", b"error: a word is not UTF-8\n")
+
+    def test_words_are_looked_at_before_the_trace(self):
+        self.assertEqual(program.run(["races", "--workers", "65", self.folder / "none"]).status, 3)
+
+    def test_options_stand_in_any_order(self):
+        trace = self.file(b"T1|w(x)\nT2|w(x)\n")
+        wanted = program.run(["races", "--list", trace])
+        for words in (["races", trace, "--list"], ["races", "--workers", "64", trace, "--list"], ["races", "--workers=1", "--list", trace]):
+            self.assertEqual(program.run(words), wanted)
