@@ -1,4 +1,4 @@
--- Sums over the hands, and how often a number stands in a list.
+-- Sums over the views, and how often a number stands in a list.
 use Rattle.std.proofs.Common.{◌≡◌, ◌≢◌, ℕ, zero, suc, ◌+◌, ◌<◌, ◌≤◌, Bool, true, false, ltb, eqb, List, [], ◌∷◌, ◌++◌, length, get_or, set, sym, refl, ap, subst, ⊎_elim, arith, min, All}
 use Rattle.std.specs.List.Sorted.{IsStrictlyIncreasing}
 use Rattle.std.proofs.lemmas.Bool.Decides.{nat_tests}
@@ -7,7 +7,7 @@ use mathlib.Core.Option.{some, some-injective, some-ne-none}
 use native.Mathlib.Decide.{ℕ_discrete, dec_lt}
 use lib.ListN.{get_elem?}
 use Rattle.atomic_table.proofs.Lists.{at_set, at_snoc}
-use Rattle.shb_fan.specs.declared.board.Hand.{Hand}
+use Rattle.shb_fan.specs.declared.ticket_table.PassView.{PassView}
 use Rattle.shb_fan.specs.Numbers.{weight, times, once_below, total}
 use Rattle.shb_fan.specs.Drawing.{parts_of, Sound}
 
@@ -31,13 +31,13 @@ module _ {V : Type 0} where
   total-le f g [] h = omega arith
   total-le f g (x ∷ xs) h = let a : f x ≤ g x = h 0 x refl in let r = total-le f g xs (λ id. h (suc id)) in omega arith
 
-total-none : (f : Hand → ℕ) (views : List Hand) → total parts_of views ≡ 0 → ((i : ℕ) (w : Hand) → get_elem? views i ≡ some w → w.parts ≡ 0 → f w ≡ 0) → total f views ≡ 0
+total-none : (f : PassView → ℕ) (views : List PassView) → total parts_of views ≡ 0 → ((i : ℕ) (w : PassView) → get_elem? views i ≡ some w → w.parts ≡ 0 → f w ≡ 0) → total f views ≡ 0
 total-none f [] all empty = refl
 total-none f (x ∷ xs) all empty = let here : f x ≡ 0 = empty 0 x refl (omega arith) in let r = total-none f xs (omega arith) (λ i. empty (suc i)) in omega arith
 
--- one hand has every part, and f is nothing at a hand without a part
-pub total-whole : (f : Hand → ℕ) (views : List Hand) (id : ℕ) (v : Hand) → get_elem? views id ≡ some v → total parts_of views ≡ v.parts
-    → ((i : ℕ) (w : Hand) → get_elem? views i ≡ some w → w.parts ≡ 0 → f w ≡ 0) → total f views ≡ f v
+-- one view has every part, and f is nothing at a view without a part
+pub total-whole : (f : PassView → ℕ) (views : List PassView) (id : ℕ) (v : PassView) → get_elem? views id ≡ some v → total parts_of views ≡ v.parts
+    → ((i : ℕ) (w : PassView) → get_elem? views i ≡ some w → w.parts ≡ 0 → f w ≡ 0) → total f views ≡ f v
 total-whole f [] id v e all empty = absurd (some-ne-none v (sym e))
 total-whole f (x ∷ xs) zero v e all empty =
     let is : f x ≡ f v = ap f (some-injective x v e) in let same : x.parts ≡ v.parts = ap parts_of (some-injective x v e) in
@@ -46,12 +46,12 @@ total-whole f (x ∷ xs) (suc id) v e all empty =
     let some_of : v.parts ≤ total parts_of xs = total-at parts_of xs id v e in let here : f x ≡ 0 = empty 0 x refl (omega arith) in
     let r = total-whole f xs id v e (omega arith) (λ i. empty (suc i)) in omega arith
 
-pub sound-set : (views : List Hand) (id : ℕ) (w : Hand) → Sound w → ((i : ℕ) (v : Hand) → get_elem? views i ≡ some v → Sound v)
-    → (i : ℕ) (v : Hand) → get_elem? (set views id w) i ≡ some v → Sound v
+pub sound-set : (views : List PassView) (id : ℕ) (w : PassView) → Sound w → ((i : ℕ) (v : PassView) → get_elem? views i ≡ some v → Sound v)
+    → (i : ℕ) (v : PassView) → get_elem? (set views id w) i ≡ some v → Sound v
 sound-set views id w mine others i v e = ⊎_elim (λ (t : (i ≡ id) × (w ≡ v)). subst Sound t.1 mine) (λ (t : (i ≢ id) × (get_elem? views i ≡ some v)). others i v t.1) (at_set views id i w v e)
 
-pub sound-snoc : (views : List Hand) (w : Hand) → Sound w → ((i : ℕ) (v : Hand) → get_elem? views i ≡ some v → Sound v)
-    → (i : ℕ) (v : Hand) → get_elem? (views ++ w ∷ []) i ≡ some v → Sound v
+pub sound-snoc : (views : List PassView) (w : PassView) → Sound w → ((i : ℕ) (v : PassView) → get_elem? views i ≡ some v → Sound v)
+    → (i : ℕ) (v : PassView) → get_elem? (views ++ w ∷ []) i ≡ some v → Sound v
 sound-snoc views w mine others i v e = ⊎_elim (λ (t : get_elem? views i ≡ some v). others i v t) (λ (t : w ≡ v). subst Sound t mine) (at_snoc views w v i e)
 
 pub times-append : (x : ℕ) (xs ys : List ℕ) → times x (xs ++ ys) ≡ times x xs + times x ys

@@ -10,8 +10,8 @@ use mathlib.Core.Option.{some, some-injective, some-ne-none}
 use lib.ListN.{get_elem?}
 use Rattle.atomic_table.specs.Table.{Final, Seen}
 use Rattle.atomic_table.specs.declared.shared.Seat.{Seat}
-use Rattle.shb_fan.specs.declared.board.Plan.{Plan}
-use Rattle.shb_fan.specs.declared.board.Hand.{Hand}
+use Rattle.shb_fan.specs.declared.ticket_table.Plan.{Plan}
+use Rattle.shb_fan.specs.declared.ticket_table.PassView.{PassView}
 use Rattle.shb_fan.specs.Numbers.{weight, times, once_below, total}
 use Rattle.shb_fan.specs.Drawing.{parts_of, spent_of, halted_of, times_of, Holds, Kept}
 use Rattle.shb_fan.specs.Passes.{Source, PassState, is_positive, state_of, times_in, halted_in, spent_in, IsPass}
@@ -28,7 +28,7 @@ weight-positive zero h = refl
 weight-positive (suc zero) h = refl
 weight-positive (suc (suc n)) h = absurd (omega arith)
 
-module _ (seat : Seat (Unit {0}) Hand) (spent : Bool) (p : PassState) (is : IsPass seat spent) (shown : state_of seat spent ≡ p) where
+module _ (seat : Seat (Unit {0}) PassView) (spent : Bool) (p : PassState) (is : IsPass seat spent) (shown : state_of seat spent ≡ p) where
   pub times-shown : (x : ℕ) → times_in x p ≡ times x seat.me.0.drawn
   times-shown x = ap (times_in x) (sym shown)
 
@@ -54,14 +54,14 @@ index-at [] i a e = absurd (some-ne-none a (sym e))
 index-at (x ∷ xs) zero a e = some-injective x a e
 index-at (x ∷ xs) (suc i) a e = index-at xs i a e
 
--- what the words tell a hand with every part
-pub record Told (plan : Plan) (v : Hand) (ticket stop : ℕ) : Type 0 where
+-- what the words tell a view with every part
+pub record Told (plan : Plan) (v : PassView) (ticket stop : ℕ) : Type 0 where
   pub each : (x : ℕ) → times x v.drawn ≡ once_below x (min plan.limit ticket)
   pub running : v.halted ≡ 0 → stop ≡ 0
   pub halted : 0 < v.halted → stop ≡ 1
   pub ended : 0 < v.spent → stop ≡ 0 → plan.limit ≤ ticket
 
-told : (plan : Plan) (t z : ℕ) (views : List Hand) → Holds plan t z views → (id : ℕ) (v : Hand) → get_elem? views id ≡ some v → v.parts ≡ plan.passes → Told plan v t z
+told : (plan : Plan) (t z : ℕ) (views : List PassView) → Holds plan t z views → (id : ℕ) (v : PassView) → get_elem? views id ≡ some v → v.parts ≡ plan.passes → Told plan v t z
 told plan t z views r id v at whole =
     let all : total parts_of views ≡ v.parts = r.parts ∙ sym whole in
     let h = total-whole halted_of views id v at all (λ i w e empty. ((r.sound i w e).nothing empty).1) in
@@ -72,7 +72,7 @@ told plan t z views r id v at whole =
       ended = (let f = r.ended in omega arith);
     }
 
-pub closes : (plan : Plan) (id : ℕ) (v : Hand) (ws : List ℕ) (xs : List (Unit {0})) → Final (Seen (Kept plan) id v) ws xs → v.parts ≡ plan.passes
+pub closes : (plan : Plan) (id : ℕ) (v : PassView) (ws : List ℕ) (xs : List (Unit {0})) → Final (Seen (Kept plan) id v) ws xs → v.parts ≡ plan.passes
     → (t z : ℕ) → get_elem? ws 0 ≡ some t → get_elem? ws 1 ≡ some z → Told plan v t z
 closes plan id v ws xs f whole t z first second = let s = f.0 in
     subst (λ (w : ℕ × ℕ). Told plan v w.0 w.1) (λ i. ((ap (λ (l : List ℕ). get_or l 0 0) f.2 ∙ index-at ws 0 t first) i, (ap (λ (l : List ℕ). get_or l 1 0) f.2 ∙ index-at ws 1 z second) i))
@@ -108,8 +108,8 @@ unset_set z e set = grind (arith, nat_tests)
 unset_is : (z : ℕ) → not (eqb z 0) ≡ false → z ≡ 0
 unset_is z h = grind (arith, nat_tests)
 
--- the words against all passes: of a seat whose hand stands for all of them
-module _ (plan : Plan) (v : Hand) (t z : ℕ) (passes : List PassState) (r : Told plan v t z) where
+-- the words against all passes: of a seat whose view stands for all of them
+module _ (plan : Plan) (v : PassView) (t z : ℕ) (passes : List PassState) (r : Told plan v t z) where
   pub each_once : (x : ℕ) → times x v.drawn ≡ sum_by (times_in x) passes → sum_by (times_in x) passes ≡ once_below x (min t plan.limit)
   each_once x e = sym e ∙ (r.each x ∙ ap (once_below x) (omega arith))
 

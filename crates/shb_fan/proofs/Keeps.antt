@@ -5,44 +5,44 @@ use mathlib.Core.Option.{none, some, some-ne-none}
 use native.Mathlib.Decide.{ℕ_discrete, dec_lt}
 use lib.ListN.{get_elem?}
 use Rattle.atomic_table.specs.Table.{State, Me, step, keeps, stepped, opening, Allows, Splits, Joins}
-use Rattle.shb_fan.specs.declared.board.Plan.{Plan}
-use Rattle.shb_fan.specs.declared.board.Hand.{Hand}
+use Rattle.shb_fan.specs.declared.ticket_table.Plan.{Plan}
+use Rattle.shb_fan.specs.declared.ticket_table.PassView.{PassView}
 use Rattle.shb_fan.specs.Numbers.{once_below, total}
-use Rattle.shb_fan.specs.Drawing.{hand, parts_of, spent_of, halted_of, times_of, Sound, Holds, Kept, gained, used_up, drew, saw, looked, stopped, left_over, one_part, joined, spent_hand}
+use Rattle.shb_fan.specs.Drawing.{pass_view, parts_of, spent_of, halted_of, times_of, Sound, Holds, Kept, gained, used_up, drew, saw, looked, stopped, left_over, one_part, joined, spent_pass_view}
 use Rattle.atomic_table.proofs.Lists.{set_again, set_else}
 use Rattle.shb_fan.proofs.Counts.{total-set, total-snoc, total-at, total-le, sound-set, sound-snoc, times-append, times-snoc, once_below-more, once_below-min, once_below-nothing, all-below}
 
 abbrev St : Type 0
-St = State (Unit {0}) Hand
+St = State (Unit {0}) PassView
 
 abbrev M : Type 0
-M = Me (Unit {0}) Hand
+M = Me (Unit {0}) PassView
 
 module _ (plan : Plan) where
   -- a step on the ticket, and one on the stop word
-  on_ticket : (s : St) → length s.words ≡ 2 → (n id : ℕ) (me : M) (w : Hand) → Holds plan n (get_or s.words 1 0) (set s.views id w) → Kept plan (stepped s 0 n id me.1 w keeps)
+  on_ticket : (s : St) → length s.words ≡ 2 → (n id : ℕ) (me : M) (w : PassView) → Holds plan n (get_or s.words 1 0) (set s.views id w) → Kept plan (stepped s 0 n id me.1 w keeps)
   on_ticket s wide n id me w h = (
     length-set s.words 0 n ∙ wide,
     subst (λ (z : ℕ × ℕ). Holds plan z.0 z.1 (set s.views id w)) (λ i. (sym (get_or-set_same s.words 0 n 0 (omega arith)) i, sym (get_or-set_other s.words 0 1 n 0 (omega arith)) i)) h,
   )
 
-  on_stop : (s : St) → length s.words ≡ 2 → (n id : ℕ) (me : M) (w : Hand) → Holds plan (get_or s.words 0 0) n (set s.views id w) → Kept plan (stepped s 1 n id me.1 w keeps)
+  on_stop : (s : St) → length s.words ≡ 2 → (n id : ℕ) (me : M) (w : PassView) → Holds plan (get_or s.words 0 0) n (set s.views id w) → Kept plan (stepped s 1 n id me.1 w keeps)
   on_stop s wide n id me w h = (
     length-set s.words 1 n ∙ wide,
     subst (λ (z : ℕ × ℕ). Holds plan z.0 z.1 (set s.views id w)) (λ i. (sym (get_or-set_other s.words 1 0 n 0 (omega arith)) i, sym (get_or-set_same s.words 1 n 0 (omega arith)) i)) h,
   )
 
-  module _ (t z : ℕ) (views : List Hand) (r : Holds plan t z views) (id : ℕ) (v : Hand) (at : get_elem? views id ≡ some v) where
-    -- no more hands are spent than there are parts
+  module _ (t z : ℕ) (views : List PassView) (r : Holds plan t z views) (id : ℕ) (v : PassView) (at : get_elem? views id ≡ some v) where
+    -- no more views are spent than there are parts
     spent_few : total spent_of views ≤ plan.passes
     spent_few = let le = total-le spent_of parts_of views (λ i w e. (r.sound i w e).once) in let p = r.parts in omega arith
 
-    -- what a hand drew is below the ticket
+    -- what a view drew is below the ticket
     drawn_below : All (λ x. x < t) v.drawn
     drawn_below = all-below v.drawn t (λ x. let here = total-at (times_of x) views id v at in let e = r.each x in let less = once_below-min x plan.limit t in omega arith)
 
     gains : t < plan.limit → 0 < v.parts → Holds plan (t + 1) z (set views id (gained v t))
-    gains room one = let w : Hand = gained v t in record {
+    gains room one = let w : PassView = gained v t in record {
       small = r.small;
       parts = (let s = total-set parts_of views id v w at in let p = r.parts in omega arith);
       each = λ x. let s = total-set (times_of x) views id v w at in let e = r.each x in let more = times-snoc x v.drawn t in let up = once_below-more x t in
@@ -55,9 +55,9 @@ module _ (plan : Plan) where
       sound = sound-set views id w (record { once = (r.sound id v at).once; nothing = λ empty. absurd (omega arith) }) r.sound;
     }
 
-    -- the hand is spent, by a ticket that goes up above the limit, or a stop that was seen
+    -- the view is spent, by a ticket that goes up above the limit, or a stop that was seen
     ends : (t' : ℕ) → 0 < v.parts → v.spent ≡ 0 → min plan.limit t' ≡ min plan.limit t → t' ≤ t + 1 → t ≤ t' → (z ≡ 0 → plan.limit ≤ t') → Holds plan t' z (set views id (used_up v))
-    ends t' one unspent same most least over = let w : Hand = used_up v in record {
+    ends t' one unspent same most least over = let w : PassView = used_up v in record {
       small = r.small;
       parts = (let s = total-set parts_of views id v w at in let p = r.parts in omega arith);
       each = λ x. let s = total-set (times_of x) views id v w at in let e = r.each x in subst (λ (k : ℕ). total (times_of x) (set views id w) ≡ once_below x k) (sym same) (omega arith);
@@ -68,8 +68,8 @@ module _ (plan : Plan) where
       sound = sound-set views id w (record { once = omega arith; nothing = λ empty. absurd (omega arith) }) r.sound;
     }
 
-    halts : 0 < v.parts → Holds plan t 1 (set views id (hand v.parts v.plan v.drawn v.spent 1))
-    halts one = let w : Hand = hand v.parts v.plan v.drawn v.spent 1 in let up = total-set halted_of views id v w at in record {
+    halts : 0 < v.parts → Holds plan t 1 (set views id (pass_view v.parts v.plan v.drawn v.spent 1))
+    halts one = let w : PassView = pass_view v.parts v.plan v.drawn v.spent 1 in let up = total-set halted_of views id v w at in record {
       small = r.small;
       parts = (let s = total-set parts_of views id v w at in let p = r.parts in omega arith);
       each = λ x. let s = total-set (times_of x) views id v w at in let e = r.each x in omega arith;
@@ -83,13 +83,13 @@ module _ (plan : Plan) where
     stays : Holds plan t z (set views id v)
     stays = subst (Holds plan t z) (sym (set_again views id v at)) r
 
-  -- two hands with no part have drawn and stopped nothing
-  nothing_joined : (v w : Hand) → Sound v → Sound w → v.parts + w.parts ≡ 0 → (v.drawn ++ w.drawn ≡ []) × (v.halted + w.halted ≡ 0)
+  -- two views with no part have drawn and stopped nothing
+  nothing_joined : (v w : PassView) → Sound v → Sound w → v.parts + w.parts ≡ 0 → (v.drawn ++ w.drawn ≡ []) × (v.halted + w.halted ≡ 0)
   nothing_joined v w a b e = let p = a.nothing (omega arith) in let q = b.nothing (omega arith) in ((λ i. p.0 i ++ q.0 i), (let m = p.1 in let n = q.1 in omega arith))
 
   pub draws : (slots id : ℕ) (me : M) → 0 < me.0.parts → me.0.spent ≡ 0 → me.0.plan.limit ≡ plan.limit
       → Allows (Kept plan) slots id me 0 (λ n. (n + 1) % 2 ^ 64) (drew (step slots 0 1 0 none) me)
-  draws slots id me one unspent same s r _ at _ = let v : Hand = me.0 in let t : ℕ = get_or s.words 0 0 in let z : ℕ = get_or s.words 1 0 in let h = r.1 in
+  draws slots id me one unspent same s r _ at _ = let v : PassView = me.0 in let t : ℕ = get_or s.words 0 0 in let z : ℕ = get_or s.words 1 0 in let h = r.1 in
       let few = spent_few t z s.views h id v at in let low : t ≤ plan.limit + total spent_of s.views = h.low in let small = h.small in
       let up : t + 1 ≡ (t + 1) % 18446744073709551616 = omega arith in dite (dec_lt t plan.limit)
       (λ room. (
@@ -107,12 +107,12 @@ module _ (plan : Plan) where
         ((λ room. absurd (omega arith)), λ _. refl),
       ))
 
-  -- what a hand that is halted knows of the stop word
-  seen_halted : (t z : ℕ) (views : List Hand) → Holds plan t z views → (id : ℕ) (v : Hand) → get_elem? views id ≡ some v → z ≡ 0 → v.halted ≡ 0
+  -- what a view that is halted knows of the stop word
+  seen_halted : (t z : ℕ) (views : List PassView) → Holds plan t z views → (id : ℕ) (v : PassView) → get_elem? views id ≡ some v → z ≡ 0 → v.halted ≡ 0
   seen_halted t z views r id v at unset = dite (ℕ_discrete v.halted 0) (λ e. e) (λ e. let least = total-at halted_of views id v at in let h = r.halted (omega arith) in absurd (omega arith))
 
   pub sees : (slots id : ℕ) (me : M) → 0 < me.0.parts → me.0.spent ≡ 0 → Allows (Kept plan) slots id me 1 (λ n. n) (saw (step slots 1 0 0 none) me)
-  sees slots id me one unspent s r _ at _ = let v : Hand = me.0 in let t : ℕ = get_or s.words 0 0 in let z : ℕ = get_or s.words 1 0 in let h = r.1 in dite (ℕ_discrete z 0)
+  sees slots id me one unspent s r _ at _ = let v : PassView = me.0 in let t : ℕ = get_or s.words 0 0 in let z : ℕ = get_or s.words 1 0 in let h = r.1 in dite (ℕ_discrete z 0)
       (λ unset. (v, keeps, tt, on_stop s r.0 z id me v (stays t z s.views h id v at), ((λ _. (seen_halted t z s.views h id v at unset, refl)), λ more. absurd (omega arith))))
       (λ more. (
         used_up v,
@@ -123,16 +123,16 @@ module _ (plan : Plan) where
       ))
 
   pub looks : (slots id : ℕ) (me : M) → Allows (Kept plan) slots id me 1 (λ n. n) (looked (step slots 1 0 0 none) me)
-  looks slots id me s r _ at _ = let v : Hand = me.0 in let t : ℕ = get_or s.words 0 0 in let z : ℕ = get_or s.words 1 0 in
+  looks slots id me s r _ at _ = let v : PassView = me.0 in let t : ℕ = get_or s.words 0 0 in let z : ℕ = get_or s.words 1 0 in
       (v, keeps, tt, on_stop s r.0 z id me v (stays t z s.views r.1 id v at), (seen_halted t z s.views r.1 id v at, refl))
 
   pub stops : (slots id : ℕ) (me : M) → 0 < me.0.parts → Allows (Kept plan) slots id me 1 (λ _. 1) (λ _. stopped (step slots 1 1 0 none) me 1)
-  stops slots id me one s r _ at _ = let v : Hand = me.0 in let t : ℕ = get_or s.words 0 0 in let z : ℕ = get_or s.words 1 0 in
-      (hand v.parts v.plan v.drawn v.spent 1, keeps, tt, on_stop s r.0 1 id me (hand v.parts v.plan v.drawn v.spent 1) (halts t z s.views r.1 id v at one), refl)
+  stops slots id me one s r _ at _ = let v : PassView = me.0 in let t : ℕ = get_or s.words 0 0 in let z : ℕ = get_or s.words 1 0 in
+      (pass_view v.parts v.plan v.drawn v.spent 1, keeps, tt, on_stop s r.0 1 id me (pass_view v.parts v.plan v.drawn v.spent 1) (halts t z s.views r.1 id v at one), refl)
 
-  cut_views : (t z : ℕ) (views : List Hand) → Holds plan t z views → (id : ℕ) (v : Hand) → get_elem? views id ≡ some v → 1 < v.parts → v.spent ≡ 0
+  cut_views : (t z : ℕ) (views : List PassView) → Holds plan t z views → (id : ℕ) (v : PassView) → get_elem? views id ≡ some v → 1 < v.parts → v.spent ≡ 0
       → Holds plan t z (set views id (left_over v) ++ one_part v ∷ [])
-  cut_views t z views r id v at more unspent = let w : Hand = left_over v in let u : Hand = one_part v in let cut = set views id w in record {
+  cut_views t z views r id v at more unspent = let w : PassView = left_over v in let u : PassView = one_part v in let cut = set views id w in record {
     small = r.small;
     parts = (let a = total-set parts_of views id v w at in let b = total-snoc parts_of cut u in let p = r.parts in omega arith);
     each = λ x. let a = total-set (times_of x) views id v w at in let b = total-snoc (times_of x) cut u in let e = r.each x in omega arith;
@@ -144,29 +144,29 @@ module _ (plan : Plan) where
         (sound-set views id w (record { once = omega arith; nothing = λ empty. absurd (omega arith) }) r.sound);
   }
 
-  merge_views : (t z : ℕ) (views : List Hand) → Holds plan t z views → (id : ℕ) (v : Hand) → get_elem? views id ≡ some v → (other : ℕ) (w : Hand) → ¬ (other ≡ id)
-      → get_elem? (set views id (joined v w)) other ≡ some w → Holds plan t z (set (set views id (joined v w)) other spent_hand)
-  merge_views t z views r id v at other w apart there = let u : Hand = joined v w in let made = set views id u in
+  merge_views : (t z : ℕ) (views : List PassView) → Holds plan t z views → (id : ℕ) (v : PassView) → get_elem? views id ≡ some v → (other : ℕ) (w : PassView) → ¬ (other ≡ id)
+      → get_elem? (set views id (joined v w)) other ≡ some w → Holds plan t z (set (set views id (joined v w)) other spent_pass_view)
+  merge_views t z views r id v at other w apart there = let u : PassView = joined v w in let made = set views id u in
       let mine = r.sound id v at in let theirs = r.sound other w (sym (set_else views id other u apart) ∙ there) in
       let both : Sound u = record { once = (let a = mine.once in let b = theirs.once in omega arith); nothing = λ empty. nothing_joined v w mine theirs empty } in record {
         small = r.small;
-        parts = (let a = total-set parts_of views id v u at in let b = total-set parts_of made other w spent_hand there in let p = r.parts in omega arith);
-        each = λ x. let a = total-set (times_of x) views id v u at in let b = total-set (times_of x) made other w spent_hand there in let d = times-append x v.drawn w.drawn in let e = r.each x in omega arith;
-        low = (let a = total-set spent_of views id v u at in let b = total-set spent_of made other w spent_hand there in let l = r.low in omega arith);
-        running = (let a = total-set halted_of views id v u at in let b = total-set halted_of made other w spent_hand there in let h = r.running in omega arith);
-        halted = (let a = total-set halted_of views id v u at in let b = total-set halted_of made other w spent_hand there in let h = r.halted in omega arith);
-        ended = (let a = total-set spent_of views id v u at in let b = total-set spent_of made other w spent_hand there in let h = r.ended in omega arith);
-        sound = sound-set made other spent_hand (record { once = omega arith; nothing = λ _. (refl, refl) }) (sound-set views id u both r.sound);
+        parts = (let a = total-set parts_of views id v u at in let b = total-set parts_of made other w spent_pass_view there in let p = r.parts in omega arith);
+        each = λ x. let a = total-set (times_of x) views id v u at in let b = total-set (times_of x) made other w spent_pass_view there in let d = times-append x v.drawn w.drawn in let e = r.each x in omega arith;
+        low = (let a = total-set spent_of views id v u at in let b = total-set spent_of made other w spent_pass_view there in let l = r.low in omega arith);
+        running = (let a = total-set halted_of views id v u at in let b = total-set halted_of made other w spent_pass_view there in let h = r.running in omega arith);
+        halted = (let a = total-set halted_of views id v u at in let b = total-set halted_of made other w spent_pass_view there in let h = r.halted in omega arith);
+        ended = (let a = total-set spent_of views id v u at in let b = total-set spent_of made other w spent_pass_view there in let h = r.ended in omega arith);
+        sound = sound-set made other spent_pass_view (record { once = omega arith; nothing = λ _. (refl, refl) }) (sound-set views id u both r.sound);
       }
 
-  pub cuts : (id : ℕ) (v : Hand) → 1 < v.parts → v.spent ≡ 0 → Splits (Kept plan) id v (left_over v) (one_part v)
+  pub cuts : (id : ℕ) (v : PassView) → 1 < v.parts → v.spent ≡ 0 → Splits (Kept plan) id v (left_over v) (one_part v)
   cuts id v more unspent s r at = (r.0, cut_views (get_or s.words 0 0) (get_or s.words 1 0) s.views r.1 id v at more unspent)
 
-  pub merges : (id : ℕ) (v : Hand) (other : ℕ) (w : Hand) → Joins (Kept plan) id v other w (joined v w) spent_hand
+  pub merges : (id : ℕ) (v : PassView) (other : ℕ) (w : PassView) → Joins (Kept plan) id v other w (joined v w) spent_pass_view
   merges id v other w s r at apart there = (r.0, merge_views (get_or s.words 0 0) (get_or s.words 1 0) s.views r.1 id v at other w apart there)
 
   -- the table as it opens
-  pub opens : plan.limit ≤ 2 ^ 60 → plan.passes ≤ 65 → 0 < plan.passes → Kept plan (opening (0 ∷ 0 ∷ []) [] (hand plan.passes plan [] 0 0))
+  pub opens : plan.limit ≤ 2 ^ 60 → plan.passes ≤ 65 → 0 < plan.passes → Kept plan (opening (0 ∷ 0 ∷ []) [] (pass_view plan.passes plan [] 0 0))
   opens low few some_pass = (
     refl,
     record {
@@ -177,6 +177,6 @@ module _ (plan : Plan) where
       running = λ _. refl;
       halted = λ h. absurd (omega arith);
       ended = λ h. absurd (omega arith);
-      sound = sound-snoc [] (hand plan.passes plan [] 0 0) (record { once = omega arith; nothing = λ empty. absurd (omega arith) }) (λ i v e. absurd (some-ne-none v (sym e)));
+      sound = sound-snoc [] (pass_view plan.passes plan [] 0 0) (record { once = omega arith; nothing = λ empty. absurd (omega arith) }) (λ i v e. absurd (some-ne-none v (sym e)));
     },
   )

@@ -7,8 +7,7 @@ pub mod Words
 pub mod Rings
 pub mod Opens
 pub mod Streams
-pub mod Hires
-pub mod Turns
+pub mod MadeWorkers
 pub mod Spans
 pub mod MachineFacts
 pub mod Starts

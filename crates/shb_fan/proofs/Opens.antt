@@ -5,26 +5,26 @@ use Rattle.std.proofs.lemmas.List.Sums.{sum_by_push}
 use Rattle.atomic_table.specs.Table.{Me}
 use Rattle.atomic_table.specs.Seated.{TableId}
 use Rattle.atomic_table.specs.declared.shared.Seat as table_seat
-use Rattle.shb_fan.specs.declared.berth.Berth.{Berth}
+use Rattle.shb_fan.specs.declared.ring_table.SeatView.{SeatView}
 use Rattle.shb_fan.specs.declared.shares.Seat.{Seat}
 use Rattle.shb_fan.specs.Numbers.{times}
-use Rattle.shb_fan.specs.Slots.{berth, left_over, one_part, joined}
+use Rattle.shb_fan.specs.Slots.{seat_view, left_over, one_part, joined}
 use Rattle.shb_fan.specs.declared.shares.Ring.{Ring}
 use Rattle.shb_fan.specs.Seated.{Sits, IsSeatOf, claimed_of, lifted_of}
 use Rattle.shb_fan.specs.Values.{values_of}
 use Rattle.shb_fan.proofs.Counts.{times-append}
 
 abbrev TableSeat : Type 0 → Type 0 → Type 0
-TableSeat T M = table_seat.Seat (Option T) (Berth M)
+TableSeat T M = table_seat.Seat (Option T) (SeatView M)
 
 abbrev Seated : Type 0 → Type 0 → Type 0
-Seated T M = Me (Option T) (Berth M)
+Seated T M = Me (Option T) (SeatView M)
 
 module _ {T M : Type 0} where
   abbrev IsFresh : TableId → List M → Seat T M → Type 0
   IsFresh table wanted seat = Sits table wanted seat × (claimed_of seat ≡ []) × (lifted_of seat ≡ [])
 
-  pub sits_fresh : (table : TableId) (wanted : List M) (place : TableSeat T M) (parts : ℕ) → 0 < parts → place.table_id ≡ table → place.me ≡ (berth parts wanted [] [] [], []) → IsFresh table wanted (record { place = place })
+  pub sits_fresh : (table : TableId) (wanted : List M) (place : TableSeat T M) (parts : ℕ) → 0 < parts → place.table_id ≡ table → place.me ≡ (seat_view parts wanted [] [] [], []) → IsFresh table wanted (record { place = place })
   sits_fresh table wanted place parts some_part at is = let nothing : place.me.0.claimed ≡ [] = ap (λ (m : Seated T M). m.0.claimed) is in (
     record {
       same_table = at;
@@ -39,17 +39,17 @@ module _ {T M : Type 0} where
   )
 
   pub one_seat_more : (table : TableId) (wanted : List M) (seats longer : List (Seat T M)) (place : TableSeat T M) (parts : ℕ) → longer ≡ seats ++ record { place = place } ∷ []
-      → All (IsFresh table wanted) seats → 0 < parts → place.table_id ≡ table → place.me ≡ (berth parts wanted [] [] [], []) → All (IsFresh table wanted) longer
+      → All (IsFresh table wanted) seats → 0 < parts → place.table_id ≡ table → place.me ≡ (seat_view parts wanted [] [] [], []) → All (IsFresh table wanted) longer
   one_seat_more table wanted seats longer place parts is all some_part at fresh =
       let seat : Seat T M = record { place = place } in All-same (IsFresh table wanted) longer (seats ++ seat ∷ []) is (All-push (IsFresh table wanted) seats seat all (sits_fresh table wanted place parts some_part at fresh))
 
   pub one_longer : (seats longer : List (Seat T M)) (seat : Seat T M) (n : ℕ) → longer ≡ seats ++ seat ∷ [] → length seats + 1 ≡ n → length longer ≡ n
   one_longer seats longer seat n is was = let l = ap length is ∙ length-append seats (seat ∷ []) in omega arith
 
-  pub cut_again : (me next : Seated T M) (wanted : List M) (a b : ℕ) → a - 1 ≡ b → me ≡ (berth a wanted [] [] [], []) → next ≡ (left_over me.0, me.1) → next ≡ (berth b wanted [] [] [], [])
-  cut_again me next wanted a b down was is = is ∙ (ap (λ (m : Seated T M). (left_over m.0, m.1)) was ∙ ap (λ (n : ℕ). (berth n wanted [] [] [], [])) down)
+  pub cut_again : (me next : Seated T M) (wanted : List M) (a b : ℕ) → a - 1 ≡ b → me ≡ (seat_view a wanted [] [] [], []) → next ≡ (left_over me.0, me.1) → next ≡ (seat_view b wanted [] [] [], [])
+  cut_again me next wanted a b down was is = is ∙ (ap (λ (m : Seated T M). (left_over m.0, m.1)) was ∙ ap (λ (n : ℕ). (seat_view n wanted [] [] [], [])) down)
 
-  pub cut_off : (me new : Seated T M) (wanted : List M) (a : ℕ) → me ≡ (berth a wanted [] [] [], []) → new ≡ (one_part me.0, []) → new ≡ (berth 1 wanted [] [] [], [])
+  pub cut_off : (me new : Seated T M) (wanted : List M) (a : ℕ) → me ≡ (seat_view a wanted [] [] [], []) → new ≡ (one_part me.0, []) → new ≡ (seat_view 1 wanted [] [] [], [])
   cut_off me new wanted a was is = is ∙ ap (λ (m : Seated T M). (one_part m.0, [])) was
 
   abbrev Lifts : ℕ → Seat T M → ℕ

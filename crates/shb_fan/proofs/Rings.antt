@@ -11,9 +11,9 @@ use prog.Atomic.{either}
 use lib.ListN.{get_elem?}
 use Rattle.atomic_table.specs.Table.{State, Me, Act, step, keeps, takes, gives, stepped, carried_after, Valid, Allows, Splits, Joins, Final, Seen, opening}
 use Rattle.atomic_table.proofs.Lists.{at_set, at_snoc, some_there, set_here, set_else, exchanged}
-use Rattle.shb_fan.specs.declared.berth.Berth.{Berth}
+use Rattle.shb_fan.specs.declared.ring_table.SeatView.{SeatView}
 use Rattle.shb_fan.specs.Numbers.{weight, times, total}
-use Rattle.shb_fan.specs.Slots.{is_claimed, is_lifting, is_lifted, berth, parts_of, claimed_by, lifting_by, lifted_by, Counts, SlotKept, Kept, claiming, placing, raising, freeing, left_over, one_part, joined, spent_berth, claimed, placed, raised, freed}
+use Rattle.shb_fan.specs.Slots.{is_claimed, is_lifting, is_lifted, seat_view, parts_of, claimed_by, lifting_by, lifted_by, Counts, SlotKept, Kept, claiming, placing, raising, freeing, left_over, one_part, joined, spent_seat_view, claimed, placed, raised, freed}
 use Rattle.shb_fan.proofs.Counts.{weight-most, total-set, total-snoc, total-at, times-append, times-snoc}
 use Rattle.shb_fan.proofs.Words.{equal_one, unequal_none, equal_from, reached_one, unreached_none, claim_apart, lift_apart, lifted_apart}
 
@@ -25,7 +25,7 @@ times_other x k ne = let e = unequal_none x k ne in omega arith
 
 module _ {M : Type 0} where
   -- a step on the word of piece k
-  recount : (f : Berth M → List ℕ) (is : ℕ → ℕ → Bool) (words : List ℕ) (views : List (Berth M)) (id : ℕ) (v w : Berth M) (k new : ℕ) → get_elem? views id ≡ some v → length words ≡ 64
+  recount : (f : SeatView M → List ℕ) (is : ℕ → ℕ → Bool) (words : List ℕ) (views : List (SeatView M)) (id : ℕ) (v w : SeatView M) (k new : ℕ) → get_elem? views id ≡ some v → length words ≡ 64
       → Counts f is words views
       → times k (f w) + weight (is (get_or words (k % 64) 0) k) ≡ times k (f v) + weight (is new k)
       → ((x : ℕ) → x ≢ k → times x (f w) ≡ times x (f v))
@@ -62,17 +62,17 @@ module _ {M : Type 0} where
         }))
 
     abbrev St : Type 0
-    St = State (Option T) (Berth M)
+    St = State (Option T) (SeatView M)
 
     abbrev Seated : Type 0
-    Seated = Me (Option T) (Berth M)
+    Seated = Me (Option T) (SeatView M)
 
-    module _ (s : St) (r : Kept meaning wanted s) (id : ℕ) (v : Berth M) (at : get_elem? s.views id ≡ some v) (k : ℕ) where
+    module _ (s : St) (r : Kept meaning wanted s) (id : ℕ) (v : SeatView M) (at : get_elem? s.views id ≡ some v) (k : ℕ) where
       abbrev found : ℕ
       found = get_or s.words (k % 64) 0
 
       -- the seat's view changes by a step on the word of piece k and its slot
-      moved : (new : ℕ) (w : Berth M) (homes' : Homes) → length homes' ≡ 64 → ((j : ℕ) → j ≢ k % 64 → get_elem? homes' j ≡ get_elem? s.homes j) → Fits homes' (k % 64) new → w.parts ≡ v.parts → w.wanted ≡ v.wanted
+      moved : (new : ℕ) (w : SeatView M) (homes' : Homes) → length homes' ≡ 64 → ((j : ℕ) → j ≢ k % 64 → get_elem? homes' j ≡ get_elem? s.homes j) → Fits homes' (k % 64) new → w.parts ≡ v.parts → w.wanted ≡ v.wanted
           → Counts claimed_by is_claimed (set s.words (k % 64) new) (set s.views id w) → Counts lifting_by is_lifting (set s.words (k % 64) new) (set s.views id w) → Counts lifted_by is_lifted (set s.words (k % 64) new) (set s.views id w)
           → Kept meaning wanted (record { words = set s.words (k % 64) new; homes = homes'; views = set s.views id w })
       moved new w homes' deep others mine parts values claims lifts lifted = record {
@@ -84,7 +84,7 @@ module _ {M : Type 0} where
         lifts = lifts;
         each_lifted = lifted;
         same = λ i u e some_part. ⊎_elim
-            (λ (t : (i ≡ id) × (w ≡ u)). let one : u.parts ≡ w.parts = ap (λ (b : Berth M). b.parts) (sym t.1) in ap (λ (b : Berth M). b.wanted) (sym t.1) ∙ (values ∙ r.same id v at (omega arith)))
+            (λ (t : (i ≡ id) × (w ≡ u)). let one : u.parts ≡ w.parts = ap (λ (b : SeatView M). b.parts) (sym t.1) in ap (λ (b : SeatView M). b.wanted) (sym t.1) ∙ (values ∙ r.same id v at (omega arith)))
             (λ (t : (i ≢ id) × (get_elem? s.views i ≡ some u)). r.same i u t.1 some_part)
             (at_set s.views id i w u e);
       }
@@ -194,7 +194,7 @@ module _ {M : Type 0} where
 
     -- what `Allows` asks for at the state s, where the word i becomes n
     abbrev Stepped : St → ℕ → ℕ → ℕ → Seated → (Seated → Type 0) → Type 0
-    Stepped s i n id me then = (w : Berth M) × (a : Act (Option T)) × Valid s.homes me.1 a × Holds (stepped s i n id me.1 w a) × then (w, carried_after me.1 a)
+    Stepped s i n id me then = (w : SeatView M) × (a : Act (Option T)) × Valid s.homes me.1 a × Holds (stepped s i n id me.1 w a) × then (w, carried_after me.1 a)
 
     pub claims : (slots id : ℕ) (me : Seated) (k : ℕ) → me.0.claimed ≡ [] → Allows Holds slots id me (k % 64) (λ n. either (eqb n (4 * k)) (4 * k + 1) n) (claimed (step slots (k % 64) (4 * k) (4 * k + 1) none) me)
     claims slots id me k free s r _ at _ = let n = get_or s.words (k % 64) 0 in let piece : k ≡ 4 * k / 4 = omega arith in
@@ -248,9 +248,9 @@ module _ {M : Type 0} where
       refl,
     )
 
-    pub cuts : (id : ℕ) (v : Berth M) → 1 < v.parts → Splits Holds id v (left_over v) (one_part v)
-    cuts id v more s r at = let w : Berth M = left_over v in let u : Berth M = one_part v in let cut = set s.views id w in
-        let both : (f : Berth M → ℕ) → total f (cut ++ u ∷ []) + f v ≡ total f s.views + (f w + f u) =
+    pub cuts : (id : ℕ) (v : SeatView M) → 1 < v.parts → Splits Holds id v (left_over v) (one_part v)
+    cuts id v more s r at = let w : SeatView M = left_over v in let u : SeatView M = one_part v in let cut = set s.views id w in
+        let both : (f : SeatView M → ℕ) → total f (cut ++ u ∷ []) + f v ≡ total f s.views + (f w + f u) =
         (λ f. let a = total-set f s.views id v w at in let b = total-snoc f cut u in omega arith) in record {
           wide = r.wide;
           deep = r.deep;
@@ -261,17 +261,17 @@ module _ {M : Type 0} where
           each_lifted = λ k. let b = both (λ x. times k (lifted_by x)) in let c = r.each_lifted k in omega arith;
           same = λ i x e some_part. ⊎_elim
               (λ (t : get_elem? cut i ≡ some x). ⊎_elim
-              (λ (h : (i ≡ id) × (w ≡ x)). ap (λ (b : Berth M). b.wanted) (sym h.1) ∙ r.same id v at (omega arith))
+              (λ (h : (i ≡ id) × (w ≡ x)). ap (λ (b : SeatView M). b.wanted) (sym h.1) ∙ r.same id v at (omega arith))
               (λ (h : (i ≢ id) × (get_elem? s.views i ≡ some x)). r.same i x h.1 some_part)
               (at_set s.views id i w x t))
-              (λ (t : u ≡ x). ap (λ (b : Berth M). b.wanted) (sym t) ∙ r.same id v at (omega arith))
+              (λ (t : u ≡ x). ap (λ (b : SeatView M). b.wanted) (sym t) ∙ r.same id v at (omega arith))
               (at_snoc cut u x i e);
         }
 
-    pub merges : (id : ℕ) (v : Berth M) (other : ℕ) (w : Berth M) → 0 < v.parts → Joins Holds id v other w (joined v w) spent_berth
-    merges id v other w some_part s r at apart there = let u : Berth M = joined v w in let made = set s.views id u in
-        let both : (f : Berth M → ℕ) → total f (set made other spent_berth) + (f v + f w) ≡ total f s.views + (f u + f spent_berth) =
-        (λ f. let a = total-set f s.views id v u at in let b = total-set f made other w spent_berth there in omega arith) in record {
+    pub merges : (id : ℕ) (v : SeatView M) (other : ℕ) (w : SeatView M) → 0 < v.parts → Joins Holds id v other w (joined v w) spent_seat_view
+    merges id v other w some_part s r at apart there = let u : SeatView M = joined v w in let made = set s.views id u in
+        let both : (f : SeatView M → ℕ) → total f (set made other spent_seat_view) + (f v + f w) ≡ total f s.views + (f u + f spent_seat_view) =
+        (λ f. let a = total-set f s.views id v u at in let b = total-set f made other w spent_seat_view there in omega arith) in record {
           wide = r.wide;
           deep = r.deep;
           slots = r.slots;
@@ -280,16 +280,16 @@ module _ {M : Type 0} where
           lifts = λ k. let b = both (λ x. times k (lifting_by x)) in let t = times-append k v.lifting w.lifting in let c = r.lifts k in omega arith;
           each_lifted = λ k. let b = both (λ x. times k (lifted_by x)) in let t = times-append k v.lifted w.lifted in let c = r.each_lifted k in omega arith;
           same = λ i x e some_of. ⊎_elim
-              (λ (t : (i ≡ other) × (spent_berth ≡ x)). let none_of : x.parts ≡ 0 = ap (λ (b : Berth M). b.parts) (sym t.1) in absurd (omega arith))
+              (λ (t : (i ≡ other) × (spent_seat_view ≡ x)). let none_of : x.parts ≡ 0 = ap (λ (b : SeatView M). b.parts) (sym t.1) in absurd (omega arith))
               (λ (t : (i ≢ other) × (get_elem? made i ≡ some x)). ⊎_elim
-              (λ (h : (i ≡ id) × (u ≡ x)). ap (λ (b : Berth M). b.wanted) (sym h.1) ∙ r.same id v at some_part)
+              (λ (h : (i ≡ id) × (u ≡ x)). ap (λ (b : SeatView M). b.wanted) (sym h.1) ∙ r.same id v at some_part)
               (λ (h : (i ≢ id) × (get_elem? s.views i ≡ some x)). r.same i x h.1 some_of)
               (at_set s.views id i u x t.1))
-              (at_set made other i spent_berth x e);
+              (at_set made other i spent_seat_view x e);
         }
 
     -- the table as it opens
-    pub opens : (words : List ℕ) → length words ≡ 64 → ((i : ℕ) → i < 64 → get_or words i 0 ≡ 4 * i) → Holds (opening words (replicate 64 None) (berth 65 wanted [] [] []))
+    pub opens : (words : List ℕ) → length words ≡ 64 → ((i : ℕ) → i < 64 → get_or words i 0 ≡ 4 * i) → Holds (opening words (replicate 64 None) (seat_view 65 wanted [] [] []))
     opens words wide begins = let empty : List (Option T) = replicate 64 None in record {
       wide = wide;
       deep = length-map empty some ∙ length-replicate {A = Option T} 64 None;
@@ -302,9 +302,9 @@ module _ {M : Type 0} where
       claims = λ k. let b = begins (k % 64) (omega arith) in let z = unequal_none (get_or words (k % 64) 0) (4 * k + 1) (omega arith) in omega arith;
       lifts = λ k. let b = begins (k % 64) (omega arith) in let z = unequal_none (get_or words (k % 64) 0) (4 * k + 3) (omega arith) in omega arith;
       each_lifted = λ k. let b = begins (k % 64) (omega arith) in let z = unreached_none (4 * k + 3) (get_or words (k % 64) 0) (omega arith) in omega arith;
-      same = λ i v e some_part. ⊎_elim (λ (t : get_elem? [] i ≡ some v). absurd (some-ne-none v (sym t))) (λ (t : berth 65 wanted [] [] [] ≡ v). ap (λ (b : Berth M). b.wanted) (sym t)) (at_snoc [] (berth 65 wanted [] [] []) v i e);
+      same = λ i v e some_part. ⊎_elim (λ (t : get_elem? [] i ≡ some v). absurd (some-ne-none v (sym t))) (λ (t : seat_view 65 wanted [] [] [] ≡ v). ap (λ (b : SeatView M). b.wanted) (sym t)) (at_snoc [] (seat_view 65 wanted [] [] []) v i e);
     }
 
     -- no piece stands twice among those that a seat has lifted
-    pub lifted_once : (id : ℕ) (v : Berth M) (ws : List ℕ) (xs : List (Option T)) → Final (Seen Holds id v) ws xs → (k : ℕ) → times k v.lifted ≤ 1
+    pub lifted_once : (id : ℕ) (v : SeatView M) (ws : List ℕ) (xs : List (Option T)) → Final (Seen Holds id v) ws xs → (k : ℕ) → times k v.lifted ≤ 1
     lifted_once id v ws xs f k = let s = f.0 in let c = f.1.0.each_lifted k in let least = total-at (λ u. times k (lifted_by u)) s.views id v f.1.1 in let most = weight-most (is_lifted (get_or s.words (k % 64) 0) k) in omega arith

@@ -3,55 +3,55 @@ use Rattle.std.specs.Prelude.{◌≡◌, ℕ, ◌+◌, ◌-◌, ◌^◌, ◌<◌
 use mathlib.Core.Option.{some}
 use lib.ListN.{get_elem?}
 use Rattle.atomic_table.specs.Table.{State, Me, Step}
-use Rattle.shb_fan.specs.declared.board.Plan.{Plan}
-use Rattle.shb_fan.specs.declared.board.Hand.{Hand}
+use Rattle.shb_fan.specs.declared.ticket_table.Plan.{Plan}
+use Rattle.shb_fan.specs.declared.ticket_table.PassView.{PassView}
 use Rattle.shb_fan.specs.Numbers.{times, once_below, total}
 
-abbrev pub hand : ℕ → Plan → List ℕ → ℕ → ℕ → Hand
-hand parts plan drawn spent halted = record { parts = parts; plan = plan; drawn = drawn; spent = spent; halted = halted }
+abbrev pub pass_view : ℕ → Plan → List ℕ → ℕ → ℕ → PassView
+pass_view parts plan drawn spent halted = record { parts = parts; plan = plan; drawn = drawn; spent = spent; halted = halted }
 
-abbrev pub parts_of : Hand → ℕ
+abbrev pub parts_of : PassView → ℕ
 parts_of v = v.parts
 
-abbrev pub spent_of : Hand → ℕ
+abbrev pub spent_of : PassView → ℕ
 spent_of v = v.spent
 
-abbrev pub halted_of : Hand → ℕ
+abbrev pub halted_of : PassView → ℕ
 halted_of v = v.halted
 
-abbrev pub times_of : ℕ → Hand → ℕ
+abbrev pub times_of : ℕ → PassView → ℕ
 times_of x v = times x v.drawn
 
--- a hand is spent no more often than it has parts, and with no part it has drawn nothing and stopped nothing
-pub record Sound (v : Hand) : Type 0 where
+-- a view is spent no more often than it has parts, and with no part it has drawn nothing and stopped nothing
+pub record Sound (v : PassView) : Type 0 where
   pub once : v.spent ≤ v.parts
   pub nothing : v.parts ≡ 0 → (v.drawn ≡ []) × (v.halted ≡ 0)
 
--- what holds between any two steps, of the ticket, the stop word and all hands
-pub record Holds (plan : Plan) (ticket stop : ℕ) (views : List Hand) : Type 0 where
+-- what holds between any two steps, of the ticket, the stop word and all views
+pub record Holds (plan : Plan) (ticket stop : ℕ) (views : List PassView) : Type 0 where
   pub small : (plan.limit ≤ 2 ^ 60) × (plan.passes ≤ 65)
   pub parts : total parts_of views ≡ plan.passes
   -- the numbers below the lesser of the ticket and the limit are drawn, each once, and no others
   pub each : (x : ℕ) → total (times_of x) views ≡ once_below x (min plan.limit ticket)
   pub low : ticket ≤ plan.limit + total spent_of views
-  -- the stop word is 1 where some hand is halted, else 0
+  -- the stop word is 1 where some view is halted, else 0
   pub running : total halted_of views ≡ 0 → stop ≡ 0
   pub halted : 0 < total halted_of views → stop ≡ 1
-  -- where a hand is spent, the stop word isn't 0 or the ticket is at the limit or above
+  -- where a view is spent, the stop word isn't 0 or the ticket is at the limit or above
   pub ended : 0 < total spent_of views → stop ≡ 0 → plan.limit ≤ ticket
-  pub sound : (id : ℕ) (v : Hand) → get_elem? views id ≡ some v → Sound v
+  pub sound : (id : ℕ) (v : PassView) → get_elem? views id ≡ some v → Sound v
 
-abbrev pub Kept : Plan → State (Unit {0}) Hand → Type 0
+abbrev pub Kept : Plan → State (Unit {0}) PassView → Type 0
 Kept plan s = (length s.words ≡ 2) × Holds plan (slice_index s.words 0) (slice_index s.words 1) s.views
 
 abbrev M : Type 0
-M = Me (Unit {0}) Hand
+M = Me (Unit {0}) PassView
 
-abbrev pub gained : Hand → ℕ → Hand
-gained v k = hand v.parts v.plan (v.drawn ++ k ∷ []) v.spent v.halted
+abbrev pub gained : PassView → ℕ → PassView
+gained v k = pass_view v.parts v.plan (v.drawn ++ k ∷ []) v.spent v.halted
 
-abbrev pub used_up : Hand → Hand
-used_up v = hand v.parts v.plan v.drawn (v.spent + 1) v.halted
+abbrev pub used_up : PassView → PassView
+used_up v = pass_view v.parts v.plan v.drawn (v.spent + 1) v.halted
 
 -- the number found is the pass's, where it is below the limit, and above all that it drew; else the pass is spent
 abbrev pub drew : Step (Unit {0}) → M → ℕ → M → Type 0
@@ -65,16 +65,16 @@ abbrev pub looked : Step (Unit {0}) → M → ℕ → M → Type 0
 looked st m r m' = (r ≡ 0 → m.0.halted ≡ 0) × (m' ≡ m)
 
 abbrev pub stopped : Step (Unit {0}) → M → ℕ → M → Type 0
-stopped st m r m' = m' ≡ (hand m.0.parts m.0.plan m.0.drawn m.0.spent 1, m.1)
+stopped st m r m' = m' ≡ (pass_view m.0.parts m.0.plan m.0.drawn m.0.spent 1, m.1)
 
-abbrev pub left_over : Hand → Hand
-left_over v = hand (v.parts - 1) v.plan v.drawn v.spent v.halted
+abbrev pub left_over : PassView → PassView
+left_over v = pass_view (v.parts - 1) v.plan v.drawn v.spent v.halted
 
-abbrev pub one_part : Hand → Hand
-one_part v = hand 1 v.plan [] 0 0
+abbrev pub one_part : PassView → PassView
+one_part v = pass_view 1 v.plan [] 0 0
 
-abbrev pub joined : Hand → Hand → Hand
-joined v w = hand (v.parts + w.parts) v.plan (v.drawn ++ w.drawn) (v.spent + w.spent) (v.halted + w.halted)
+abbrev pub joined : PassView → PassView → PassView
+joined v w = pass_view (v.parts + w.parts) v.plan (v.drawn ++ w.drawn) (v.spent + w.spent) (v.halted + w.halted)
 
-abbrev pub spent_hand : Hand
-spent_hand = hand 0 (record { limit = 0; passes = 0 }) [] 0 0
+abbrev pub spent_pass_view : PassView
+spent_pass_view = pass_view 0 (record { limit = 0; passes = 0 }) [] 0 0

@@ -1,5 +1,5 @@
 -- How often a number stands in a list, and in the list of the numbers below a bound.
-use Rattle.std.specs.Prelude.{ℕ, zero, suc, ◌+◌, Bool, true, false, ltb, eqb, List, [], ◌∷◌, ◌++◌, if◌then◌else◌}
+use Rattle.std.specs.Prelude.{ℕ, ◌+◌, Bool, true, false, ltb, eqb, List, [], ◌∷◌}
 
 abbrev pub weight : Bool → ℕ
 weight true = 1
@@ -13,16 +13,7 @@ times x (y ∷ ys) = weight (eqb x y) + times x ys
 abbrev pub once_below : ℕ → ℕ → ℕ
 once_below x n = weight (ltb x n)
 
-abbrev pub joined_lists : List (List ℕ) → List ℕ
-joined_lists [] = []
-joined_lists (xs ∷ xss) = xs ++ joined_lists xss
-
 -- f of each, added up
 abbrev pub total : {V : Type 0} → (V → ℕ) → List V → ℕ
 total f [] = 0
 total f (v ∷ vs) = f v + total f vs
-
--- the numbers below n that f picks, in order
-abbrev pub picked : (ℕ → Bool) → ℕ → List ℕ
-picked f zero = []
-picked f (suc n) = picked f n ++ (if f n then n ∷ [] else [])

@@ -1,13 +1,13 @@
 -- What a caller sees of tickets and of a pass.
-use Rattle.std.specs.Prelude.{◌≡◌, ℕ, zero, suc, ◌≤◌, ◌<◌, Bool, true, false, eqb, List, [], length, slice_get, Some}
+use Rattle.std.specs.Prelude.{◌≡◌, ℕ, zero, suc, ◌≤◌, Bool, true, false, List, []}
 use Rattle.std.specs.List.Sorted.{IsStrictlyIncreasing}
 use base.Stored.{Coded, coded×, coded_ℕ, coded_list, coded_via}
 use Rattle.std.specs.Coded.{coded_bool}
 use Rattle.atomic_table.specs.Seated.{TableId, table_id_coded}
 use Rattle.atomic_table.specs.declared.shared.Seat.{Seat}
-use Rattle.shb_fan.specs.declared.board.Plan.{Plan}
-use Rattle.shb_fan.specs.declared.board.Hand.{Hand}
-use Rattle.shb_fan.specs.Numbers.{weight, times, picked}
+use Rattle.shb_fan.specs.declared.ticket_table.Plan.{Plan}
+use Rattle.shb_fan.specs.declared.ticket_table.PassView.{PassView}
+use Rattle.shb_fan.specs.Numbers.{weight, times}
 
 -- which tickets these are, how many numbers they have, and how many passes draw them
 pub record Source : Type 0 where
@@ -38,11 +38,11 @@ fresh z = record { source = z; drawn = []; spent = false; halted = false }
 abbrev pub source_of : TableId → Plan → Source
 source_of z plan = record { table = z; limit = plan.limit; passes = plan.passes }
 
-abbrev pub state_of : Seat (Unit {0}) Hand → Bool → PassState
+abbrev pub state_of : Seat (Unit {0}) PassView → Bool → PassState
 state_of seat spent = record { source = source_of seat.table_id seat.me.0.plan; drawn = seat.me.0.drawn; spent = spent; halted = is_positive seat.me.0.halted }
 
 -- a pass has one part, holds no slot, its numbers rise, and its flag says whether it is spent
-pub record IsPass (seat : Seat (Unit {0}) Hand) (spent : Bool) : Type 0 where
+pub record IsPass (seat : Seat (Unit {0}) PassView) (spent : Bool) : Type 0 where
   pub one : seat.me.0.parts ≡ 1
   pub flag : seat.me.0.spent ≡ weight spent
   pub marked : seat.me.0.halted ≤ 1
@@ -57,9 +57,3 @@ halted_in p = weight p.halted
 
 abbrev pub spent_in : PassState → ℕ
 spent_in p = weight p.spent
-
--- the lists are those of draws in turn: each number below n, rising, by the pass that owns it
-pub record AreDrawnInTurn (n : ℕ) (passes : List PassState) : Type 0 where
-  pub owner : ℕ → ℕ
-  pub owned : (m : ℕ) → m < n → owner m < length passes
-  pub lists : (a : ℕ) (p : PassState) → slice_get passes a ≡ Some p → p.drawn ≡ picked (λ m. eqb (owner m) a) n

@@ -4,12 +4,12 @@ use mathlib.Core.Option.{some}
 use mathlib.Core.Option as maybe
 use lib.ListN.{get_elem?}
 use Rattle.atomic_table.specs.Table.{State, Me, Step, rest}
-use Rattle.shb_fan.specs.declared.berth.Berth.{Berth}
+use Rattle.shb_fan.specs.declared.ring_table.SeatView.{SeatView}
 use Rattle.shb_fan.specs.Numbers.{weight, times, total}
 
 -- what a step tells, of a table whose slots have an `Option T`
 abbrev pub Told : Type 0 → Type 0 → Type 1
-Told T M = Step (Option T) → Me (Option T) (Berth M) → ℕ → Me (Option T) (Berth M) → Type 0
+Told T M = Step (Option T) → Me (Option T) (SeatView M) → ℕ → Me (Option T) (SeatView M) → Type 0
 
 -- of a slot's word and a piece of that slot
 abbrev pub is_claimed : ℕ → ℕ → Bool
@@ -22,23 +22,23 @@ abbrev pub is_lifted : ℕ → ℕ → Bool
 is_lifted word k = leb (4 * k + 3) word
 
 module _ {M : Type 0} where
-  abbrev pub berth : ℕ → List M → List ℕ → List ℕ → List ℕ → Berth M
-  berth parts wanted claimed lifting lifted = record { parts = parts; wanted = wanted; claimed = claimed; lifting = lifting; lifted = lifted }
+  abbrev pub seat_view : ℕ → List M → List ℕ → List ℕ → List ℕ → SeatView M
+  seat_view parts wanted claimed lifting lifted = record { parts = parts; wanted = wanted; claimed = claimed; lifting = lifting; lifted = lifted }
 
-  abbrev pub parts_of : Berth M → ℕ
+  abbrev pub parts_of : SeatView M → ℕ
   parts_of v = v.parts
 
-  abbrev pub claimed_by : Berth M → List ℕ
+  abbrev pub claimed_by : SeatView M → List ℕ
   claimed_by v = v.claimed
 
-  abbrev pub lifting_by : Berth M → List ℕ
+  abbrev pub lifting_by : SeatView M → List ℕ
   lifting_by v = v.lifting
 
-  abbrev pub lifted_by : Berth M → List ℕ
+  abbrev pub lifted_by : SeatView M → List ℕ
   lifted_by v = v.lifted
 
   -- a piece stands once in the lists of all seats together where its slot's word is so, else nowhere
-  abbrev pub Counts : (Berth M → List ℕ) → (ℕ → ℕ → Bool) → List ℕ → List (Berth M) → Type 0
+  abbrev pub Counts : (SeatView M → List ℕ) → (ℕ → ℕ → Bool) → List ℕ → List (SeatView M) → Type 0
   Counts f is words views = (k : ℕ) → total (λ v. times k (f v)) views ≡ weight (is (slice_index words (k % 64)) k)
 
   module _ {T : Type 0} (meaning : T → M) where
@@ -49,7 +49,7 @@ module _ {M : Type 0} where
       pub full : word % 4 ≡ 2 → (x : T) × (get_elem? homes i ≡ some (some (Some x))) × (slice_get wanted (word / 4) ≡ Some (meaning x))
 
     -- what holds between any two steps
-    pub record Kept (wanted : List M) (s : State (Option T) (Berth M)) : Type 0 where
+    pub record Kept (wanted : List M) (s : State (Option T) (SeatView M)) : Type 0 where
       pub wide : length s.words ≡ 64
       pub deep : length s.homes ≡ 64
       pub slots : (i : ℕ) → i < 64 → SlotKept wanted s.homes i (slice_index s.words i)
@@ -57,31 +57,31 @@ module _ {M : Type 0} where
       pub claims : Counts claimed_by is_claimed s.words s.views
       pub lifts : Counts lifting_by is_lifting s.words s.views
       pub each_lifted : Counts lifted_by is_lifted s.words s.views
-      pub same : (id : ℕ) (v : Berth M) → get_elem? s.views id ≡ some v → 0 < v.parts → v.wanted ≡ wanted
+      pub same : (id : ℕ) (v : SeatView M) → get_elem? s.views id ≡ some v → 0 < v.parts → v.wanted ≡ wanted
 
-  abbrev pub claiming : Berth M → ℕ → Berth M
-  claiming v k = berth v.parts v.wanted (k ∷ []) v.lifting v.lifted
+  abbrev pub claiming : SeatView M → ℕ → SeatView M
+  claiming v k = seat_view v.parts v.wanted (k ∷ []) v.lifting v.lifted
 
-  abbrev pub placing : Berth M → Berth M
-  placing v = berth v.parts v.wanted [] v.lifting v.lifted
+  abbrev pub placing : SeatView M → SeatView M
+  placing v = seat_view v.parts v.wanted [] v.lifting v.lifted
 
-  abbrev pub raising : Berth M → ℕ → Berth M
-  raising v k = berth v.parts v.wanted v.claimed (k ∷ []) (v.lifted ++ k ∷ [])
+  abbrev pub raising : SeatView M → ℕ → SeatView M
+  raising v k = seat_view v.parts v.wanted v.claimed (k ∷ []) (v.lifted ++ k ∷ [])
 
-  abbrev pub freeing : Berth M → Berth M
-  freeing v = berth v.parts v.wanted v.claimed [] v.lifted
+  abbrev pub freeing : SeatView M → SeatView M
+  freeing v = seat_view v.parts v.wanted v.claimed [] v.lifted
 
-  abbrev pub left_over : Berth M → Berth M
-  left_over v = berth (v.parts - 1) v.wanted v.claimed v.lifting v.lifted
+  abbrev pub left_over : SeatView M → SeatView M
+  left_over v = seat_view (v.parts - 1) v.wanted v.claimed v.lifting v.lifted
 
-  abbrev pub one_part : Berth M → Berth M
-  one_part v = berth 1 v.wanted [] [] []
+  abbrev pub one_part : SeatView M → SeatView M
+  one_part v = seat_view 1 v.wanted [] [] []
 
-  abbrev pub joined : Berth M → Berth M → Berth M
-  joined v w = berth (v.parts + w.parts) v.wanted (v.claimed ++ w.claimed) (v.lifting ++ w.lifting) (v.lifted ++ w.lifted)
+  abbrev pub joined : SeatView M → SeatView M → SeatView M
+  joined v w = seat_view (v.parts + w.parts) v.wanted (v.claimed ++ w.claimed) (v.lifting ++ w.lifting) (v.lifted ++ w.lifted)
 
-  abbrev pub spent_berth : Berth M
-  spent_berth = berth 0 [] [] [] []
+  abbrev pub spent_seat_view : SeatView M
+  spent_seat_view = seat_view 0 [] [] [] []
 
   module _ {T : Type 0} where
     -- where the word was found as the caller said, the piece and its slot are the seat's; else nothing changes

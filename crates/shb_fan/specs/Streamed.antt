@@ -3,7 +3,7 @@ use Rattle.std.specs.Prelude.{◌≡◌, ℕ, ◌<◌, ◌≤◌, List, [], map,
 use Rattle.shb_fan.specs.declared.shares.Ring.{Ring}
 use Rattle.shb_fan.specs.declared.streaming.Worker.{Worker}
 use Rattle.shb_fan.specs.declared.streaming.Caller.{Caller}
-use Rattle.shb_fan.specs.declared.streaming.Crew.{Crew}
+use Rattle.shb_fan.specs.declared.streaming.Shared.{Shared}
 use Rattle.shb_fan.specs.declared.taker.StreamError.{StreamError}
 use Rattle.shb_fan.specs.declared.taker.StreamError.TheVariants.{Memory, Taker}
 use Rattle.shb_fan.specs.Values.{values_of}
@@ -17,17 +17,17 @@ module _ {T M J : Type 0} (value : J → ℕ → M) (count : J → ℕ) where
 
 module _ {T M J G : Type 0} (value : J → ℕ → M) (count : J → ℕ) where
   -- the tickets and the ring are those of the job's pieces
-  pub record IsCrew (crew : Crew T M J G) : Type 0 where
-    pub ring : job_of crew.ring.now ≡ crew.job.now
-    pub tickets : crew.tickets.now.limit ≡ count crew.job.now
-    pub pieces : crew.pieces ≡ count crew.job.now
+  pub record IsShared (shared : Shared T M J G) : Type 0 where
+    pub ring : job_of shared.ring.now ≡ shared.job.now
+    pub tickets : shared.tickets.now.limit ≡ count shared.job.now
+    pub pieces : shared.pieces ≡ count shared.job.now
 
-  abbrev pub IsHired : Crew T M J G → Worker T M → Type 0
-  IsHired crew worker = IsCrew crew × IsIdle value count crew.tickets.now crew.ring.now worker
+  abbrev pub CanWork : Shared T M J G → Worker T M → Type 0
+  CanWork shared worker = IsShared shared × IsIdle value count shared.tickets.now shared.ring.now worker
 
   -- the caller is idle, and what it keeps is a piece
-  abbrev pub CanTake : Crew T M J G → Caller T M → Type 0
-  CanTake crew caller = IsHired crew caller.own × IfSome caller.kept (λ m. m < count crew.job.now)
+  abbrev pub CanTake : Shared T M J G → Caller T M → Type 0
+  CanTake shared caller = CanWork shared caller.own × IfSome caller.kept (λ m. m < count shared.job.now)
 
 module _ {T M : Type 0} (meaning : T → M) (value : ℕ → M) where
   -- the results of the pieces below k, in order

@@ -1,21 +1,21 @@
 //! Work shared out to threads by tickets, and its results in order through 64 slots.
 #![tactic(auto)]
 
-mod berth;
-mod beside;
-mod board;
 mod gate;
 mod gathered;
 mod job;
 pub mod machine;
-mod moves;
 mod pass;
-mod plays;
 mod ring;
+mod ring_steps;
+mod ring_table;
 mod shares;
+mod sides;
 mod step;
 mod streaming;
 mod taker;
+mod ticket_steps;
+mod ticket_table;
 mod tickets;
 mod workers;
 

@@ -258,14 +258,14 @@ pub fn advance(fan: &mut Fan, step: Step) -> Result<bool, NoMemory>
 }
 
 /// As many actors that did nothing.
-fn new_crew(alloc: Global, actors: u32) -> Result<Vec<Actor>, NoMemory>
-    ensures { IfOk result (λ crew. crew.items ≡ replicate actors new_actor) }
+fn new_actors(alloc: Global, actors: u32) -> Result<Vec<Actor>, NoMemory>
+    ensures { IfOk result (λ all. all.items ≡ replicate actors new_actor) }
 {
-    let mut crew = Vec::with_capacity(alloc, actors as usize)?;
+    let mut all = Vec::with_capacity(alloc, actors as usize)?;
     for a in 0..actors {
-        crew.push(Actor::new(alloc))?;
+        all.push(Actor::new(alloc))?;
     }
-    Ok(crew)
+    Ok(all)
 }
 
 /// As many pieces that nobody claimed.
@@ -283,7 +283,7 @@ fn new_fan(alloc: Global, actors: u32, pieces: u64) -> Result<Fan, NoMemory>
 {
     Ok(Fan {
         next: 0,
-        actors: new_crew(alloc, actors)?,
+        actors: new_actors(alloc, actors)?,
         pieces: empty_pieces(alloc, pieces)?,
         taken: 0,
         stopped: false,

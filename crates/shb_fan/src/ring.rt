@@ -5,7 +5,7 @@ ghost use Rattle.shb_fan.specs.Numbers.{times};
 ghost use Rattle.shb_fan.specs.Seated.{IsSeatOf, IsNewSeat, job_of, claimed_of, lifted_of};
 
 use crate::job::Job;
-use crate::moves::{Claim, CutSeat, Free, Lift, MergeSeats, Place};
+use crate::ring_steps::{Claim, CutSeat, Free, Lift, MergeSeats, Place};
 use crate::shares::{Ring, Seat};
 use atomic_table::{Closed, Table};
 use shb_io::NoMemory;
@@ -16,8 +16,11 @@ use std::time::Duration;
 
 const SLOTS: u64 = 64;
 
-/// How often a thread that waits looks again before it naps.
-const PATIENCE: u32 = 100;
+/// How often a thread that waits looks again before it sleeps.
+const LOOKS: u32 = 20;
+
+/// How often the time for which a thread that waits sleeps doubles.
+const DOUBLINGS: u32 = 8;
 
 /// The words of 64 empty slots.
 fn empty_words(alloc: Global) -> Result<Vec<u64>, NoMemory>
@@ -98,20 +101,21 @@ impl<T: Drop, M, J: Job<Out = T, Meaning = M>> Ring<T, M, J> {
             == empty
     }
 
-    /// Lets other threads run: at first at once, and later by naps of up to a millisecond, unless the word of
-    /// piece k is the one that is waited for.
+    /// Lets other threads run: in the first turns by giving the core away, and later by a sleep of 1 to 256
+    /// microseconds, unless the word of piece k is the one that is waited for. Nobody is woken early: 64
+    /// slots give whoever sleeps so long other results to take, or to be taken.
     pub(crate) fn pause<R: Wait>(&self, rt: &R, k: u64, wanted: u64, turns: u32) {
-        if turns < PATIENCE {
+        if turns < LOOKS {
             yield_now();
             return;
         }
         let slot = (k % SLOTS) as usize;
         let found = self.table.shared.peek(slot);
         if found != wanted {
-            let nap = Duration::from_nanos(1_000 << (turns - PATIENCE).min(10));
+            let time = Duration::from_nanos(1_000 << (turns - LOOKS).min(DOUBLINGS));
             self.table
                 .shared
-                .park_timeout(rt, slot, (found % (1 << 32)) as u32, nap);
+                .park_timeout(rt, slot, (found % (1 << 32)) as u32, time);
         }
     }
 

@@ -1,13 +1,13 @@
 //! Results in the order of their pieces, while others are computed.
 ghost use Rattle.std.specs.Prelude.{◌≡◌, ◌∷◌, ◌<◌, [], None, All, IfOk, IfSome, IsTrue, IsFalse, length};
 ghost use Rattle.shb_fan.specs.Seated.{IsSeatOf, IsNewSeat, job_of, claimed_of};
-ghost use Rattle.shb_fan.specs.Streamed.{IsIdle, CanTake, HasTaken, Ended};
+ghost use Rattle.shb_fan.specs.Streamed.{IsShared, IsIdle, CanWork, CanTake, HasTaken, Ended};
 
-use crate::beside::{Lead, Team, lead_and_work};
 use crate::gate::Gate;
 use crate::job::Job;
 use crate::pass::Pass;
 use crate::shares::{Ring, Seat};
+use crate::sides::{CallerSide, WorkerSide, run_both_sides};
 use crate::taker::{StreamError, Taker};
 use crate::tickets::Tickets;
 use crate::workers::Workers;
@@ -31,92 +31,9 @@ pub(crate) struct Caller<T, M> {
     pub(crate) kept: Option<u64>,
 }
 
-/// Whether the slot of piece k was got before a stop was seen.
-fn wait_to_claim<R: Wait, T: Drop, M, J: Job<Out = T, Meaning = M>>(
-    rt: &R,
-    tickets: &Tickets,
-    ring: &Ring<T, M, J>,
-    worker: &mut Worker<T, M>,
-    k: u64,
-) -> bool
-    requires idle { IsIdle J.value J.count tickets.now ring.now worker.old }
-    requires piece { k < J.count (job_of ring.now) }
-    ensures pass { worker.new.pass.source ≡ tickets.now }
-    ensures seat { IsSeatOf J.value J.count ring.now worker.new.seat }
-    ensures won { IsTrue result → claimed_of worker.new.seat ≡ k ∷ [] }
-    ensures stopped { IsFalse result → claimed_of worker.new.seat ≡ [] }
-{
-    let mut turns = 0u32;
-    for _ in rt.forever() {
-        if ring.claim(&mut worker.seat, k) {
-            return true;
-        }
-        if tickets.stopped(&mut worker.pass) {
-            return false;
-        }
-        ring.pause(rt, k, 4 * k, turns);
-        turns = turns.saturating_add(1);
-    }
-    unreachable!()
-}
-
-/// Runs piece k and places its value, unless memory runs out or a stop is seen. Says whether it did.
-fn make<R: Wait, T: Drop, M, J: Job<Out = T, Meaning = M>, G: Gate>(
-    rt: &R,
-    job: &J,
-    gate: &G,
-    tickets: &Tickets,
-    ring: &Ring<T, M, J>,
-    alloc: Global,
-    worker: &mut Worker<T, M>,
-    k: u64,
-) -> bool
-    requires idle { IsIdle J.value J.count tickets.now ring.now worker.old }
-    requires job { job_of ring.now ≡ job.now }
-    requires piece { k < J.count job.now }
-    ensures { IsIdle J.value J.count tickets.now ring.now worker.new }
-{
-    gate.enter(rt, k);
-    let Ok(out) = job.run(alloc, k) else {
-        tickets.stop(&mut worker.pass);
-        return false;
-    };
-    if !wait_to_claim(rt, tickets, ring, worker, k) {
-        return false;
-    }
-    ring.place(&mut worker.seat, k, out);
-    true
-}
-
-/// Draws, runs and places pieces until there is no more, memory runs out, or a stop is seen.
-fn work<R: Wait, T: Drop, M, J: Job<Out = T, Meaning = M>, G: Gate>(
-    rt: &R,
-    job: &J,
-    gate: &G,
-    tickets: &Tickets,
-    ring: &Ring<T, M, J>,
-    alloc: Global,
-    worker: &mut Worker<T, M>,
-)
-    requires idle { IsIdle J.value J.count tickets.now ring.now worker.old }
-    requires job { job_of ring.now ≡ job.now }
-    requires pieces { tickets.now.limit ≡ J.count job.now }
-    ensures { IsIdle J.value J.count tickets.now ring.now worker.new }
-{
-    for _ in rt.forever() {
-        let Some(k) = tickets.draw(&mut worker.pass) else {
-            return;
-        };
-        if !make(rt, job, gate, tickets, ring, alloc, worker, k) {
-            return;
-        }
-    }
-    unreachable!()
-}
-
 /// What all workers and the caller share. `begun` says that some worker has begun; it is a hint alone.
 #[derive(Drop)]
-pub(crate) struct Crew<'a, T: Drop, M, J: Job<Out = T, Meaning = M>, G> {
+pub(crate) struct Shared<'a, T: Drop, M, J: Job<Out = T, Meaning = M>, G> {
     pub(crate) job: &'a J,
     pub(crate) gate: &'a G,
     pub(crate) tickets: &'a Tickets,
@@ -126,49 +43,111 @@ pub(crate) struct Crew<'a, T: Drop, M, J: Job<Out = T, Meaning = M>, G> {
     pub(crate) pieces: u64,
 }
 
+/// Whether the slot of piece k was got before a stop was seen.
+fn wait_to_claim<R: Wait, T: Drop, M, J: Job<Out = T, Meaning = M>, G: Gate>(
+    rt: &R,
+    shared: &Shared<'_, T, M, J, G>,
+    worker: &mut Worker<T, M>,
+    k: u64,
+) -> bool
+    requires ready { CanWork J.value J.count shared.now worker.old }
+    requires piece { k < J.count shared.now.job.now }
+    ensures pass { worker.new.pass.source ≡ shared.now.tickets.now }
+    ensures seat { IsSeatOf J.value J.count shared.now.ring.now worker.new.seat }
+    ensures won { IsTrue result → claimed_of worker.new.seat ≡ k ∷ [] }
+    ensures stopped { IsFalse result → claimed_of worker.new.seat ≡ [] }
+{
+    let mut turns = 0u32;
+    for _ in rt.forever() {
+        if shared.ring.claim(&mut worker.seat, k) {
+            return true;
+        }
+        if shared.tickets.stopped(&mut worker.pass) {
+            return false;
+        }
+        shared.ring.pause(rt, k, 4 * k, turns);
+        turns = turns.saturating_add(1);
+    }
+    unreachable!()
+}
+
+/// Runs piece k and places its value, unless memory runs out or a stop is seen. Says whether it did.
+fn make<R: Wait, T: Drop, M, J: Job<Out = T, Meaning = M>, G: Gate>(
+    rt: &R,
+    shared: &Shared<'_, T, M, J, G>,
+    worker: &mut Worker<T, M>,
+    k: u64,
+) -> bool
+    requires ready { CanWork J.value J.count shared.now worker.old }
+    requires piece { k < J.count shared.now.job.now }
+    ensures { CanWork J.value J.count shared.now worker.new }
+{
+    shared.gate.enter(rt, k);
+    let Ok(out) = shared.job.run(shared.alloc, k) else {
+        shared.tickets.stop(&mut worker.pass);
+        return false;
+    };
+    if !wait_to_claim(rt, shared, worker, k) {
+        return false;
+    }
+    shared.ring.place(&mut worker.seat, k, out);
+    true
+}
+
+/// Draws, runs and places pieces until there is no more, memory runs out, or a stop is seen.
+fn work<R: Wait, T: Drop, M, J: Job<Out = T, Meaning = M>, G: Gate>(
+    rt: &R,
+    shared: &Shared<'_, T, M, J, G>,
+    worker: &mut Worker<T, M>,
+)
+    requires { CanWork J.value J.count shared.now worker.old }
+    ensures { CanWork J.value J.count shared.now worker.new }
+{
+    for _ in rt.forever() {
+        let Some(k) = shared.tickets.draw(&mut worker.pass) else {
+            return;
+        };
+        if !make(rt, shared, worker, k) {
+            return;
+        }
+    }
+    unreachable!()
+}
+
 /// The value of piece k, unless memory runs out or a stop is seen first.
 ///
 /// While no worker has begun, the caller draws a piece itself. It runs it when its turn comes, and draws
 /// no other before. So nothing is waited for that no thread will make.
 fn wait_to_lift<R: Wait, T: Drop, M, J: Job<Out = T, Meaning = M>, G: Gate>(
     rt: &R,
-    crew: &Crew<'_, T, M, J, G>,
+    shared: &Shared<'_, T, M, J, G>,
     caller: &mut Caller<T, M>,
     k: u64,
 ) -> Option<T>
-    requires ready { CanTake J.value J.count crew.now caller.old }
-    requires piece { k < J.count crew.now.job.now }
-    ensures ready { CanTake J.value J.count crew.now caller.new }
-    ensures value { IfSome result (λ out. J.meaning out ≡ J.value crew.now.job.now k) }
+    requires ready { CanTake J.value J.count shared.now caller.old }
+    requires piece { k < J.count shared.now.job.now }
+    ensures ready { CanTake J.value J.count shared.now caller.new }
+    ensures value { IfSome result (λ out. J.meaning out ≡ J.value shared.now.job.now k) }
 {
     let mut turns = 0u32;
     for _ in rt.forever() {
         if caller.kept == Some(k) {
             caller.kept = None;
-            if !make(
-                rt,
-                crew.job,
-                crew.gate,
-                crew.tickets,
-                crew.ring,
-                crew.alloc,
-                &mut caller.own,
-                k,
-            ) {
+            if !make(rt, shared, &mut caller.own, k) {
                 return None;
             }
         }
-        let lifted = crew.ring.lift(&mut caller.own.seat, k);
+        let lifted = shared.ring.lift(&mut caller.own.seat, k);
         if lifted.is_some() {
             return lifted;
         }
-        if crew.tickets.stopped(&mut caller.own.pass) {
+        if shared.tickets.stopped(&mut caller.own.pass) {
             return None;
         }
-        if caller.kept.is_none() && !crew.begun.load(Ordering::SeqCst) {
-            caller.kept = crew.tickets.draw(&mut caller.own.pass);
+        if caller.kept.is_none() && !shared.begun.load(Ordering::SeqCst) {
+            caller.kept = shared.tickets.draw(&mut caller.own.pass);
         } else {
-            crew.ring.pause(rt, k, 4 * k + 2, turns);
+            shared.ring.pause(rt, k, 4 * k + 2, turns);
             turns = turns.saturating_add(1);
         }
     }
@@ -178,21 +157,21 @@ fn wait_to_lift<R: Wait, T: Drop, M, J: Job<Out = T, Meaning = M>, G: Gate>(
 /// Hands all results to the taker, in order, unless it refuses one, memory runs out or a stop is seen.
 fn take_all<R: Wait, T: Drop, M, J: Job<Out = T, Meaning = M>, G: Gate, E, K: Taker<T, Error = E>>(
     rt: &R,
-    crew: &Crew<'_, T, M, J, G>,
+    shared: &Shared<'_, T, M, J, G>,
     caller: &mut Caller<T, M>,
     taker: &mut K,
 ) -> Result<(), StreamError<E>>
-    requires ready { CanTake J.value J.count crew.now caller.old }
-    ensures { Ended J.meaning (J.value crew.now.job.now) K.takes K.refuses (J.count crew.now.job.now) taker.old result taker.new }
+    requires ready { CanTake J.value J.count shared.now caller.old }
+    ensures { Ended J.meaning (J.value shared.now.job.now) K.takes K.refuses (J.count shared.now.job.now) taker.old result taker.new }
 {
-    for k in 0..crew.pieces {
-        let Some(out) = wait_to_lift(rt, crew, caller, k) else {
+    for k in 0..shared.pieces {
+        let Some(out) = wait_to_lift(rt, shared, caller, k) else {
             return Err(StreamError::Memory);
         };
         match taker.take(k, out) {
             Ok(()) => {}
             Err(e) => {
-                crew.tickets.stop(&mut caller.own.pass);
+                shared.tickets.stop(&mut caller.own.pass);
                 return Err(StreamError::Taker(e));
             }
         }
@@ -200,50 +179,42 @@ fn take_all<R: Wait, T: Drop, M, J: Job<Out = T, Meaning = M>, G: Gate, E, K: Ta
     Ok(())
 }
 
-impl<'a, T: Drop, M, J: Job<Out = T, Meaning = M>, G: Gate> Team<Worker<T, M>>
-    for Crew<'a, T, M, J, G> {
-    ghost use Rattle.shb_fan.specs.Streamed.{IsHired};
+impl<'a, T: Drop, M, J: Job<Out = T, Meaning = M>, G: Gate> WorkerSide<Worker<T, M>>
+    for Shared<'a, T, M, J, G> {
+    ghost use Rattle.shb_fan.specs.Streamed.{CanWork};
 
-    ghost ready = { λ crew worker. IsHired J.value J.count crew worker };
+    ghost ready = { λ shared worker. CanWork J.value J.count shared worker };
 
     fn work<R: Wait>(&self, rt: &R, worker: &mut Worker<T, M>) {
         self.begun.store(true, Ordering::SeqCst);
-        work(
-            rt,
-            self.job,
-            self.gate,
-            self.tickets,
-            self.ring,
-            self.alloc,
-            worker,
-        );
+        work(rt, self, worker);
     }
 }
 
-impl<'a, T: Drop, M, J: Job<Out = T, Meaning = M>, G: Gate, E, K: Taker<T, Error = E>> Lead<
+impl<'a, T: Drop, M, J: Job<Out = T, Meaning = M>, G: Gate, E, K: Taker<T, Error = E>> CallerSide<
     Caller<T, M>,
     K,
-> for Crew<'a, T, M, J, G> {
+> for Shared<'a, T, M, J, G> {
     ghost use Rattle.shb_fan.specs.Streamed.{CanTake, Ended};
 
     type Answer = Result<(), StreamError<E>>;
 
-    ghost can_lead = { λ crew caller _. CanTake J.value J.count crew caller };
+    ghost can_take = { λ shared caller _. CanTake J.value J.count shared caller };
 
-    ghost gives = { λ crew start answer end. Ended J.meaning (J.value crew.job.now) K.takes K.refuses (J.count crew.job.now) start answer end };
+    ghost gives = { λ shared start answer end. Ended J.meaning (J.value shared.job.now) K.takes K.refuses (J.count shared.job.now) start answer end };
 
-    fn lead<R: Wait>(
+    fn take<R: Wait>(
         &self,
         rt: &R,
         own: &mut Caller<T, M>,
-        goal: &mut K,
+        taker: &mut K,
     ) -> Result<(), StreamError<E>> {
-        take_all(rt, self, own, goal)
+        take_all(rt, self, own, taker)
     }
 }
 
 /// A worker for each pass and seat.
-fn hire<T: Drop, M, J: Job<Out = T, Meaning = M>>(
+fn make_workers<T: Drop, M, J: Job<Out = T, Meaning = M>>(
     alloc: Global,
     _tickets: &Tickets,
     _ring: &Ring<T, M, J>,
@@ -255,14 +226,14 @@ fn hire<T: Drop, M, J: Job<Out = T, Meaning = M>>(
     requires count { length passes.items ≡ length seats.items }
     ensures { IfOk result (λ v. (length v.items ≡ length passes.items) × All (IsIdle J.value J.count _tickets.now _ring.now) v.items) }
 {
-    let mut crew = Vec::with_capacity(alloc, passes.len())?;
+    let mut workers = Vec::with_capacity(alloc, passes.len())?;
     for pass in passes {
         let Some(seat) = seats.pop() else {
             unreachable!()
         };
-        crew.push(Worker { pass, seat })?;
+        workers.push(Worker { pass, seat })?;
     }
-    Ok(crew)
+    Ok(workers)
 }
 
 /// The workers work, and the caller takes.
@@ -279,37 +250,37 @@ fn work_and_take<
     alloc: Global,
     job: &J,
     gate: &G,
-    pieces: u64,
     tickets: &Tickets,
     ring: &Ring<T, M, J>,
-    begun: &AtomicBool,
     workers: &mut [Worker<T, M>],
     caller: &mut Caller<T, M>,
     taker: &mut K,
 ) -> Result<(), StreamError<E>>
-    requires pieces { pieces ≡ J.count job.now }
     requires tickets { tickets.now.limit ≡ J.count job.now }
     requires ring { job_of ring.now ≡ job.now }
     requires workers { All (IsIdle J.value J.count tickets.now ring.now) workers.old }
     requires caller { IsIdle J.value J.count tickets.now ring.now caller.old.own × (caller.old.kept ≡ None) }
     ensures { Ended J.meaning (J.value job.now) K.takes K.refuses (J.count job.now) taker.old result taker.new }
 {
-    let crew = Crew {
+    let begun = AtomicBool::new(false);
+    let shared = Shared {
         job,
         gate,
         tickets,
         ring,
-        begun,
+        begun: &begun,
         alloc,
-        pieces,
+        pieces: job.pieces(),
     };
-    lead_and_work(rt, &crew, workers, &crew, caller, taker)
+    run_both_sides(rt, &shared, workers, &shared, caller, taker)
 }
 
-/// Hands the values of all pieces to the taker, in order, while workers run pieces at once.
+/// Hands the values of all pieces to the taker in order, while workers run pieces at once.
 ///
-/// The caller's thread takes. After an `Err` the taker was given the values of the first pieces, and no call
-/// follows one that it refused.
+/// The caller's thread takes; each worker runs in a thread of its own where the system has one for it, and
+/// where it has none the caller runs the pieces itself. `Memory` where memory was refused, here or to a
+/// piece; `Taker` where the taker refused a value. After an error the taker was given the values of the
+/// first pieces, no call follows one that it refused, and values that it wasn't given are dropped.
 pub fn stream<
     R: Threads + Wait + Sync,
     T: Drop + Send,
@@ -328,32 +299,28 @@ pub fn stream<
 ) -> Result<(), StreamError<E>>
     ensures { Ended J.meaning (J.value job.now) K.takes K.refuses (J.count job.now) taker.old result taker.new }
 {
-    let pieces = job.pieces();
-    let seats = workers.get() + 1;
-    let Ok((tickets, passes)) = Tickets::new(alloc, pieces, seats) else {
+    let threads = workers.get() + 1;
+    let Ok((tickets, passes)) = Tickets::new(alloc, job.pieces(), threads) else {
         return Err(StreamError::Memory);
     };
-    let Ok((ring, seats)) = Ring::new(alloc, job, seats) else {
+    let Ok((ring, seats)) = Ring::new(alloc, job, threads) else {
         return Err(StreamError::Memory);
     };
-    let Ok(mut crew) = hire(alloc, &tickets, &ring, passes, seats) else {
+    let Ok(mut workers) = make_workers(alloc, &tickets, &ring, passes, seats) else {
         return Err(StreamError::Memory);
     };
-    let Some(own) = crew.pop() else {
+    let Some(own) = workers.pop() else {
         unreachable!()
     };
     let mut caller = Caller { own, kept: None };
-    let begun = AtomicBool::new(false);
     work_and_take(
         rt,
         alloc,
         job,
         gate,
-        pieces,
         &tickets,
         &ring,
-        &begun,
-        crew.as_mut_slice(),
+        workers.as_mut_slice(),
         &mut caller,
         taker,
     )

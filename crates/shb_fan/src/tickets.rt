@@ -2,12 +2,12 @@
 ghost use Rattle.std.specs.Prelude.{◌≡◌, ℕ, ◌+◌, ◌∷◌, ◌++◌, [], ◌<◌, ◌≤◌, ◌^◌, true, false, IsTrue, All, IfSome, IfNone, IfOk, None, replicate, length, sum_by, Any, ◌↔◌, IsFalse};
 ghost use Rattle.std.specs.List.Sorted.{IsStrictlyIncreasing};
 ghost use Rattle.shb_fan.specs.Numbers.{times, once_below};
-ghost use Rattle.shb_fan.specs.Passes.{fresh, AreDrawnInTurn};
+ghost use Rattle.shb_fan.specs.Passes.{fresh};
 ghost use Rattle.shb_fan.specs.Turns.{IsMachineRun};
 
-use crate::board::{Draws, Hand, Plan};
 use crate::pass::Pass;
-use crate::plays::{Cut, Draw, Look, Merge, See, Stop};
+use crate::ticket_steps::{Cut, Draw, Look, Merge, See, Stop};
+use crate::ticket_table::{Draws, PassView, Plan};
 use atomic_table::Table;
 use shb_io::NoMemory;
 use std::alloc::Global;
@@ -20,7 +20,7 @@ const STOP: usize = 1;
 /// The numbers below a limit, in order.
 #[derive(Drop)]
 pub struct Tickets {
-    table: Table<(), Hand, Plan, Draws, Global>,
+    table: Table<(), PassView, Plan, Draws, Global>,
     plan: Plan,
 }
 
@@ -121,7 +121,6 @@ impl Tickets {
         requires ours { All (λ p. p.source ≡ self) passes.items }
         ensures each_once { (x : ℕ) → sum_by (λ p. times x p.drawn) passes.items ≡ once_below x result.drawn }
         ensures rising { All (λ p. IsStrictlyIncreasing p.drawn) passes.items }
-        ensures in_turn { AreDrawnInTurn result.drawn passes.items }
         ensures few { result.drawn ≤ self.limit }
         ensures stopped { IsTrue result.stopped ↔ Any (λ p. IsTrue p.halted) passes.items }
         ensures machine { IsMachineRun self.limit passes.items result.drawn result.stopped }

@@ -12,4 +12,6 @@ pub use broken::{Broken, Why};
 pub use judging::{Judge, replay};
 
 #[cfg(test)]
+mod brute_tests;
+#[cfg(test)]
 mod tests;

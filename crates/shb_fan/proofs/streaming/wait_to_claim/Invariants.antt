@@ -1,9 +1,9 @@
-use Rattle.shb_fan.specs.Streamed.{IsIdle}
+use Rattle.shb_fan.specs.Streamed.{CanWork}
 use Rattle.shb_fan.proofs.streaming.wait_to_claim.Given as goal
 
 abbrev pub invariant-loop : goal.invariant-loop
 invariant-loop g l = record {
   can : (goal.iterator-loop g).can_next l.iterator';
   ends : (goal.iterator-loop g).is_finite l.iterator';
-  idle : IsIdle g.J.Job.value g.J.Job.count l.tickets l.ring l.worker;
+  ready : CanWork g.J.Job.value g.J.Job.count l.shared l.worker;
 }

@@ -5,5 +5,5 @@ abbrev pub invariant-loop : goal.invariant-loop
 invariant-loop g l = record {
   can : (goal.iterator-loop g).can_next l.iterator';
   ends : (goal.iterator-loop g).is_finite l.iterator';
-  ready : CanTake g.J.Job.value g.J.Job.count l.crew l.caller;
+  ready : CanTake g.J.Job.value g.J.Job.count l.shared l.caller;
 }

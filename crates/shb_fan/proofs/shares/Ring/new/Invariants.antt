@@ -1,5 +1,5 @@
 use Rattle.std.proofs.Common.{◌≡◌, ◌-◌, ◌+◌, [], All, length}
-use Rattle.shb_fan.specs.Slots.{berth}
+use Rattle.shb_fan.specs.Slots.{seat_view}
 use Rattle.shb_fan.specs.Values.{values_of}
 use Rattle.shb_fan.specs.Seated.{Sits, claimed_of, lifted_of}
 use Rattle.shb_fan.proofs.shares.Ring.new.Given as goal
@@ -7,7 +7,7 @@ use Rattle.shb_fan.proofs.shares.Ring.new.Given as goal
 abbrev pub invariant-loop : goal.invariant-loop
 invariant-loop g l = record {
   table : l.first.table_id ≡ l.table.shared.table_id;
-  left : l.first.me ≡ (berth (65 - (l.counter - 1)) (values_of (g.J.Job.value l.job) (g.J.Job.count l.job)) [] [] [], []);
+  left : l.first.me ≡ (seat_view (65 - (l.counter - 1)) (values_of (g.J.Job.value l.job) (g.J.Job.count l.job)) [] [] [], []);
   count : length l.seats.items + 1 ≡ l.counter;
   sit : All (λ s. Sits l.table.shared.table_id (values_of (g.J.Job.value l.job) (g.J.Job.count l.job)) s × (claimed_of s ≡ []) × (lifted_of s ≡ [])) l.seats.items;
 }

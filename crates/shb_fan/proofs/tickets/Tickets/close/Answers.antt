@@ -1,13 +1,12 @@
 use Rattle.std.proofs.Common.{◌≡◌, ℕ, ◌+◌, [], ◌∷◌, rules, arith, ap, sym, ◌∙◌, length, length-append, All, sum_by, subst}
 use Rattle.atomic_table.specs.Table.{Me}
-use Rattle.shb_fan.specs.declared.board.Hand.{Hand}
-use Rattle.shb_fan.specs.declared.board.Plan.{Plan}
+use Rattle.shb_fan.specs.declared.ticket_table.PassView.{PassView}
+use Rattle.shb_fan.specs.declared.ticket_table.Plan.{Plan}
 use Rattle.shb_fan.specs.Numbers.{times, once_below}
 use Rattle.shb_fan.specs.Passes.{Source, PassState, times_in, halted_in, spent_in}
 use Rattle.shb_fan.proofs.Counts.{times-append}
 use Rattle.shb_fan.proofs.Keeps.{merges}
 use Rattle.shb_fan.proofs.Ends.{counted, first_counted, times-shown, halted-shown, spent-shown, rising-shown, all_rising, none_rising, Told, closes, ours_before, sum_nothing, each_once, stop_seen, stop_set, all_drawn}
-use Rattle.shb_fan.proofs.Turns.{drawn_in_turn}
 use Rattle.shb_fan.proofs.MachineRuns.{machine_run}
 use Rattle.shb_fan.proofs.tickets.Tickets.close.Goals as goal
 
@@ -37,17 +36,17 @@ loop-pass-preserved c =
     let i = c.loop-pass.invariant in let j = c.join_seat.ensures.2 in let longer = c.in-Some-pop.ensures.items in
     let other = c.pass.inside.seat in let shown = c.pass.view_is in let is = c.pass.invariant in record {
       table = c.join_seat.ensures.0 ∙ i.table;
-      slots = ap (λ (m : Me (Unit {0}) Hand). m.1) j ∙ i.slots;
-      parts = (let e = ap (λ (m : Me (Unit {0}) Hand). m.0.parts) j in let one = is.one in let l = ap length longer ∙ length-append c.pop-in-loop-pass.new.self.items (c.in-Some-pop.pass ∷ []) in omega arith);
+      slots = ap (λ (m : Me (Unit {0}) PassView). m.1) j ∙ i.slots;
+      parts = (let e = ap (λ (m : Me (Unit {0}) PassView). m.0.parts) j in let one = is.one in let l = ap length longer ∙ length-append c.pop-in-loop-pass.new.self.items (c.in-Some-pop.pass ∷ []) in omega arith);
       ours = (ours_before _ _ _ _ longer i.ours).0;
       rising = all_rising _ _ _ _ longer (rising-shown _ _ _ is shown) i.rising;
-      drawn = λ x. let e = ap (λ (m : Me (Unit {0}) Hand). times x m.0.drawn) j ∙ times-append x c.loop-pass.seat.me.0.drawn c.pass.inside.seat.me.0.drawn in
+      drawn = λ x. let e = ap (λ (m : Me (Unit {0}) PassView). times x m.0.drawn) j ∙ times-append x c.loop-pass.seat.me.0.drawn c.pass.inside.seat.me.0.drawn in
           ap (λ (n : ℕ). n + sum_by (times_in x) c.pop-in-loop-pass.new.self.items) e ∙ counted (times_in x) _ _ _ _ _ _ longer (i.drawn x) (times-shown _ _ _ is shown x);
-      halted = ap (λ (m : Me (Unit {0}) Hand). m.0.halted + sum_by halted_in c.pop-in-loop-pass.new.self.items) j ∙ counted halted_in _ _ _ _ _ _ longer i.halted (halted-shown _ _ _ is shown);
-      spent = ap (λ (m : Me (Unit {0}) Hand). m.0.spent + sum_by spent_in c.pop-in-loop-pass.new.self.items) j ∙ counted spent_in _ _ _ _ _ _ longer i.spent (spent-shown _ _ _ is shown);
+      halted = ap (λ (m : Me (Unit {0}) PassView). m.0.halted + sum_by halted_in c.pop-in-loop-pass.new.self.items) j ∙ counted halted_in _ _ _ _ _ _ longer i.halted (halted-shown _ _ _ is shown);
+      spent = ap (λ (m : Me (Unit {0}) PassView). m.0.spent + sum_by spent_in c.pop-in-loop-pass.new.self.items) j ∙ counted spent_in _ _ _ _ _ _ longer i.spent (spent-shown _ _ _ is shown);
     }
 
--- the loop has left no pass, so the seat's hand stands for all
+-- the loop has left no pass, so the seat's pass_view stands for all
 left_none : (c : goal.After-drop-passes) → length c.loop-pass.passes.items ≡ 0
 left_none c = let h = c.in_default-pop.ensures.cases.0 in search rules
 
@@ -71,9 +70,6 @@ returns-clause-stopped c = let e = all_in c halted_in _ c.loop-pass.invariant.ha
 
 pub returns-clause-ended : goal.returns-clause-ended
 returns-clause-ended c = λ unset some_spent. c.min.ensures ∙ (all_drawn _ _ _ _ c.args.passes.items (told c) (all_in c spent_in _ c.loop-pass.invariant.spent) unset some_spent ∙ ap (λ (z : Source). z.limit) c.self.view_is)
-
-pub returns-clause-in_turn : goal.returns-clause-in_turn
-returns-clause-in_turn c = drawn_in_turn _ _ (returns-clause-each_once c) (returns-clause-rising c)
 
 pub returns-clause-machine : goal.returns-clause-machine
 returns-clause-machine c =

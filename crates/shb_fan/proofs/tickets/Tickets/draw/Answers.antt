@@ -1,7 +1,7 @@
 use Rattle.std.proofs.Common.{rules, arith, ap, sym, ◌∙◌}
 use Rattle.atomic_table.specs.Table.{Me}
-use Rattle.shb_fan.specs.declared.board.Hand.{Hand}
-use Rattle.shb_fan.specs.declared.board.Plan.{Plan}
+use Rattle.shb_fan.specs.declared.ticket_table.PassView.{PassView}
+use Rattle.shb_fan.specs.declared.ticket_table.Plan.{Plan}
 use Rattle.shb_fan.specs.Numbers.{weight}
 use Rattle.shb_fan.specs.Passes.{Source, PassState}
 use Rattle.shb_fan.proofs.Keeps.{sees, draws}
@@ -19,9 +19,9 @@ fetch_add-number-requires c =
     let same = (c.load.ensures.2.0 c.if-load-ne0.false).1 in let one = c.pass.invariant.one in (
       search rules,
       search rules,
-      draws _ _ _ _ (let e = ap (λ (m : Me (Unit {0}) Hand). m.0.parts) same in omega arith)
-          (ap (λ (m : Me (Unit {0}) Hand). m.0.spent) same ∙ (c.pass.invariant.flag ∙ ap weight c.if-pass.false))
-          (ap (λ (m : Me (Unit {0}) Hand). m.0.plan.limit) same
+      draws _ _ _ _ (let e = ap (λ (m : Me (Unit {0}) PassView). m.0.parts) same in omega arith)
+          (ap (λ (m : Me (Unit {0}) PassView). m.0.spent) same ∙ (c.pass.invariant.flag ∙ ap weight c.if-pass.false))
+          (ap (λ (m : Me (Unit {0}) PassView). m.0.plan.limit) same
           ∙ (ap (λ (p : PassState). p.source.limit) c.pass.view_is
           ∙ (ap (λ (z : Source). z.limit) c.requires
           ∙ (sym (ap (λ (z : Source). z.limit) c.self.view_is) ∙ sym (ap (λ (q : Plan). q.limit) c.self.invariant.2))))),

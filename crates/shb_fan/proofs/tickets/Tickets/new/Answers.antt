@@ -1,6 +1,6 @@
 use Rattle.std.proofs.Common.{◌-◌, rules, arith, ap, ◌∙◌}
 use Rattle.atomic_table.specs.Table.{Me}
-use Rattle.shb_fan.specs.declared.board.Hand.{Hand}
+use Rattle.shb_fan.specs.declared.ticket_table.PassView.{PassView}
 use Rattle.shb_fan.proofs.Keeps.{cuts}
 use Rattle.shb_fan.proofs.Seats.{seat_fresh, one_more, cut_again, cut_off}
 use Rattle.shb_fan.proofs.tickets.Tickets.new.Goals as goal
@@ -10,7 +10,7 @@ split_seat-seat-requires c =
     let same = c.from.ensures in let left = c.loop.invariant.left in (
       c.loop.invariant.table,
       search rules,
-      cuts _ _ _ (let e = ap (λ (m : Me (Unit {0}) Hand). m.0.parts) left in omega arith) (ap (λ (m : Me (Unit {0}) Hand). m.0.spent) left),
+      cuts _ _ _ (let e = ap (λ (m : Me (Unit {0}) PassView). m.0.parts) left in omega arith) (ap (λ (m : Me (Unit {0}) PassView). m.0.spent) left),
     )
 
 pub loop-preserved : goal.loop-preserved

@@ -1,13 +1,13 @@
 //! What each step on the ring's table tells its seat.
-use crate::berth::Berth;
 use crate::job::Job;
+use crate::ring_table::SeatView;
 use atomic_table::{Join, Play, Split};
 use std::marker::PhantomData;
 
 /// An empty slot is claimed.
 pub(crate) struct Claim;
 
-impl<T, M> Play<Option<T>, Berth<M>> for Claim {
+impl<T, M> Play<Option<T>, SeatView<M>> for Claim {
     ghost use Rattle.shb_fan.specs.Slots.{claimed};
 
     ghost then = { claimed };
@@ -16,7 +16,7 @@ impl<T, M> Play<Option<T>, Berth<M>> for Claim {
 /// The value of a claimed piece is placed.
 pub(crate) struct Place;
 
-impl<T, M> Play<Option<T>, Berth<M>> for Place {
+impl<T, M> Play<Option<T>, SeatView<M>> for Place {
     ghost use Rattle.shb_fan.specs.Slots.{placed};
 
     ghost then = { placed };
@@ -27,7 +27,7 @@ pub(crate) struct Lift<J> {
     job: PhantomData<J>,
 }
 
-impl<T: Drop, M, J: Job<Out = T, Meaning = M>> Play<Option<T>, Berth<M>> for Lift<J> {
+impl<T: Drop, M, J: Job<Out = T, Meaning = M>> Play<Option<T>, SeatView<M>> for Lift<J> {
     ghost use Rattle.shb_fan.specs.Slots.{raised};
 
     ghost then = { raised J.meaning };
@@ -36,7 +36,7 @@ impl<T: Drop, M, J: Job<Out = T, Meaning = M>> Play<Option<T>, Berth<M>> for Lif
 /// The slot of a lifted piece is freed.
 pub(crate) struct Free;
 
-impl<T, M> Play<Option<T>, Berth<M>> for Free {
+impl<T, M> Play<Option<T>, SeatView<M>> for Free {
     ghost use Rattle.shb_fan.specs.Slots.{freed};
 
     ghost then = { freed };
@@ -45,7 +45,7 @@ impl<T, M> Play<Option<T>, Berth<M>> for Free {
 /// One part is cut off.
 pub(crate) struct CutSeat;
 
-impl<M> Split<Berth<M>> for CutSeat {
+impl<M> Split<SeatView<M>> for CutSeat {
     ghost use Rattle.shb_fan.specs.Slots.{left_over, one_part};
 
     ghost left = { left_over };
@@ -56,10 +56,10 @@ impl<M> Split<Berth<M>> for CutSeat {
 /// Two seats are made one.
 pub(crate) struct MergeSeats;
 
-impl<M> Join<Berth<M>> for MergeSeats {
-    ghost use Rattle.shb_fan.specs.Slots.{joined, spent_berth};
+impl<M> Join<SeatView<M>> for MergeSeats {
+    ghost use Rattle.shb_fan.specs.Slots.{joined, spent_seat_view};
 
     ghost both = { joined };
 
-    ghost spent = { spent_berth };
+    ghost spent = { spent_seat_view };
 }

@@ -5,7 +5,7 @@ use std::collections::LinkedList;
 use std::marker::PhantomData;
 
 /// What a seat knows. No value of it is made.
-pub struct Berth<M> {
+pub struct SeatView<M> {
     /// How many of the parts it stands for: none once it has joined another.
     pub parts: u64,
     /// The values of all pieces.
@@ -22,12 +22,12 @@ pub struct Slots<J> {
     job: PhantomData<J>,
 }
 
-impl<T: Drop, M, J: Job<Out = T, Meaning = M>> TableRule<Option<T>, Berth<M>, J> for Slots<J> {
+impl<T: Drop, M, J: Job<Out = T, Meaning = M>> TableRule<Option<T>, SeatView<M>, J> for Slots<J> {
     ghost use Rattle.std.specs.Prelude.{[]};
     ghost use Rattle.shb_fan.specs.Values.{values_of};
-    ghost use Rattle.shb_fan.specs.Slots.{Kept, berth};
+    ghost use Rattle.shb_fan.specs.Slots.{Kept, seat_view};
 
     ghost holds = { λ job. Kept J.meaning (values_of (J.value job) (J.count job)) };
 
-    ghost first = { λ job. berth 65 (values_of (J.value job) (J.count job)) [] [] [] };
+    ghost first = { λ job. seat_view 65 (values_of (J.value job) (J.count job)) [] [] [] };
 }

@@ -15,6 +15,6 @@ module _ {T M J : Type 0} (value : J → ℕ → M) (count : J → ℕ) (z : Sou
   pub last_seat : (seats rest : List (Seat T M)) (seat : Seat T M) → seats ≡ rest ++ seat ∷ [] → All (IsNewSeat value count ring) seats → All (IsNewSeat value count ring) rest × IsNewSeat value count ring seat
   last_seat seats rest seat cut all = All-pop (IsNewSeat value count ring) seats rest (Some seat) cut all
 
-  pub one_hired : (crew longer : List (Worker T M)) (worker : Worker T M) → longer ≡ crew ++ worker ∷ [] → worker.pass.source ≡ z → IsNewSeat value count ring worker.seat
-      → All (IsIdle value count z ring) crew → All (IsIdle value count z ring) longer
-  one_hired crew longer worker is pass seat all = All-same (IsIdle value count z ring) longer (crew ++ worker ∷ []) is (All-push (IsIdle value count z ring) crew worker all (pass, seat.0, seat.1))
+  pub one_made : (workers longer : List (Worker T M)) (worker : Worker T M) → longer ≡ workers ++ worker ∷ [] → worker.pass.source ≡ z → IsNewSeat value count ring worker.seat
+      → All (IsIdle value count z ring) workers → All (IsIdle value count z ring) longer
+  one_made workers longer worker is pass seat all = All-same (IsIdle value count z ring) longer (workers ++ worker ∷ []) is (All-push (IsIdle value count z ring) workers worker all (pass, seat.0, seat.1))
