@@ -23,7 +23,8 @@ use Rattle.shb_lines.proofs.events.Items.{thread_item, op_item}
 use Rattle.shb_clocks.specs.Fronts.{IsFront, BelowRelease, BelowThread, BelowLastWrite, Learns, by_acquire, by_join, by_read, StrictlyBelow}
 use Rattle.shb_clocks.specs.Rows.{row_at}
 use Rattle.shb_clocks.specs.Past.{HasClocks, HasLockClocks}
-use Rattle.shb_clocks.proofs.Fronts.{front_none, front_same, front_join, front_own, number_from_front}
+use Rattle.shb_lines.proofs.events.Events.{join_later}
+use Rattle.shb_clocks.proofs.Fronts.{front_none, front_same, front_join, front_own, number_from_front, thread_in_range}
 use Rattle.shb_clocks.proofs.Sources.{path_append, strictly_below_below, below_cases}
 
 -- rows of a flat list
@@ -273,3 +274,16 @@ op_other trace e d op lt other is = other (let s : Some (get_or trace e d).op �
 
 pub clock_pred_range : (trace seen : List Event) (p e : ℕ) → IsDisciplined trace → trace ≡ seen → e < length seen → IsPred trace p e → p < length trace
 clock_pred_range trace seen p e disciplined same lt pred = let size = ap length same in let earlier = pred_earlier trace disciplined p e pred in omega (arith, size, lt, earlier)
+
+-- the last event of a thread, at a join of it, and where it has none
+pub latest_join : (trace seen : List Event) → IsDisciplined trace → (e v last : ℕ) → seen ≡ trace → op_at trace e ≡ Some (Join v) → IsLatestBefore (OfThread seen v) (length seen) last → IsLatestBefore (OfThread trace v) e last
+latest_join trace seen disciplined e v last same joins h =
+    let latest : IsLatestBefore (OfThread trace v) (length trace) last = subst (λ (tr : List Event). IsLatestBefore (OfThread tr v) (length tr) last) same h in
+    record {
+      earlier = join_later trace disciplined v last e latest.holds joins;
+      holds = latest.holds;
+      last = λ m low high of_m. latest.last m low (thread_in_range trace m v of_m) of_m;
+    }
+
+pub no_last : (trace seen : List Event) (v : ℕ) (o : Option ℕ) → seen ≡ trace → ((b : ℕ) → o ≡ Some b → ⊥) → Latest (OfThread seen v) (length seen) o → (m : ℕ) → thread_at trace m ≡ Some v → ⊥
+no_last trace seen v o same other h m of_m = none_of (OfThread trace v) (length trace) o other (subst (λ (tr : List Event). Latest (OfThread tr v) (length tr) o) same h) m (thread_in_range trace m v of_m) of_m

@@ -11,7 +11,7 @@ use Rattle.shb_lines.specs.events.Events.{thread_at, op_at}
 use Rattle.shb_lines.specs.events.Discipline.{IsDisciplined, MayDo, acquires, releases, only, is_acquire, is_release, is_fork, is_of, place_in_thread}
 use Rattle.shb_lines.specs.events.Order.{ShbBelow, here, step, same_thread, lock_passed, forked, happens_before, BelowPred, IsPred, in_thread, by_fork}
 use Rattle.shb_lines.proofs.events.Counts.{count_mono, counted_before}
-use Rattle.shb_lines.proofs.events.Events.{thread_is, op_is, event_of_op, fork_allowed, fork_earlier, join_later, is_fork_true, is_acquire_parts}
+use Rattle.shb_lines.proofs.events.Events.{thread_is, op_is, event_of_op, fork_allowed, fork_earlier, is_fork_true, is_acquire_parts}
 use Rattle.shb_lines.proofs.events.Schedulable.{thread_below_pred, fork_below_pred, pred_earlier}
 use Rattle.shb_links.specs.Latest.{IsLatestBefore, OfThread, WritesVariable}
 use Rattle.shb_links.proofs.Balance.{HasHolder, IsPassing, balanced, disciplined_below, holder_after, some_counted}
@@ -22,7 +22,7 @@ use Rattle.shb_clocks.specs.Stamps.{AreCurrent, AreStamps, HasGrown, HasRowsBefo
 use Rattle.shb_clocks.specs.declared.stamp.Stamp.{Stamp}
 use Rattle.shb_clocks.proofs.Fronts.{thread_in_range}
 use Rattle.shb_clocks.proofs.LearnedLemmas.{front_but_same, front_whole, thread_same}
-use Rattle.shb_clocks.proofs.PastLemmas.{acquire_learns, join_learns, join_learns_nothing, read_learns, read_learns_nothing}
+use Rattle.shb_clocks.proofs.PastLemmas.{acquire_learns, join_learns, latest_join, join_learns_nothing, read_learns, read_learns_nothing}
 use Rattle.shb_clocks.proofs.Sources.{path_append, edge_path, strictly_below_below, below_cases}
 
 -- rows that grow
@@ -242,16 +242,9 @@ module _ (trace : List Event) (disciplined : IsDisciplined trace) where
   source_read rows e x stamp reads (of_event w latest is) = from_event w latest.earlier is (λ k. read_learns trace disciplined e x w k reads (record { variable = x; reads = reads; writes = latest.holds; earlier = latest.earlier; latest = λ m low high. latest.last m low high }))
   source_read rows e x stamp reads (of_none absent zero) = from_none (λ k learns. read_learns_nothing trace disciplined e x k reads (λ w last. absent w last.earlier (last.writes ∙ ap (λ (y : ℕ). Some (Write y)) (let h = last.reads in let s : Some (Read last.variable) ≡ Some (Read x) = sym h ∙ reads in cc))) learns) zero
 
-  latest_join : (e v last : ℕ) → op_at trace e ≡ Some (Join v) → IsLatestBefore (OfThread trace v) (length trace) last → IsLatestBefore (OfThread trace v) e last
-  latest_join e v last joins latest = record {
-    earlier = join_later trace disciplined v last e latest.holds joins;
-    holds = latest.holds;
-    last = λ m low high of_m. latest.last m low (thread_in_range trace m v of_m) of_m;
-  }
-
   pub source_join : (rows : List (List ℕ)) (e v last : ℕ) (stamp : Stamp) → op_at trace e ≡ Some (Join v) → IsLatestBefore (OfThread trace v) (length trace) last → stamp.thread ≡ v → stamp.place ≡ place_in_thread trace v last → IsRowFor trace rows v (IsKnown trace v e) stamp.row → IsSource trace rows e stamp
   source_join rows e v last stamp joins latest thread place row =
-      let so_far = latest_join e v last joins latest in
+      let so_far = latest_join trace trace disciplined e v last refl joins latest in
       from_event last so_far.earlier (record {
         of_thread = latest.holds ∙ ap (λ (n : ℕ). Some n) (sym thread);
         place_is = place ∙ ap (λ (n : ℕ). place_in_thread trace n last) (sym thread);

@@ -1,14 +1,11 @@
 -- Where a thread learns of other threads, and the clocks that are kept there.
-use Rattle.std.specs.Prelude.{◌≡◌, ◌≢◌, ℕ, ◌+◌, ◌<◌, ◌≤◌, ◌↔◌, List, [], Option, Some, length, take, slice_index_or, count_by, Contains}
+use Rattle.std.specs.Prelude.{◌≡◌, ◌≢◌, ℕ, ◌+◌, ◌<◌, ◌≤◌, ◌↔◌, List, [], Some, length, take, slice_index_or, count_by, Contains}
 use Rattle.std.specs.List.Sorted.{IsStrictlyIncreasing}
 use Rattle.shb_lines.specs.declared.event.Event.{Event}
 use Rattle.shb_lines.specs.declared.event.Op.TheVariants.{Acquire, Join}
 use Rattle.shb_lines.specs.events.Events.{thread_at, op_at}
 use Rattle.shb_lines.specs.events.Discipline.{is_of, place_in_thread}
 use Rattle.shb_lines.specs.events.Order.{LastWrite, ShbBelow}
-use Rattle.shb_lines.specs.declared.event.Sizes.{Sizes}
-use Rattle.shb_links.specs.Latest.{IsLatestTable, OfThread}
-use Rattle.shb_clocks.specs.Past.{HasLockClocks}
 use Rattle.shb_clocks.specs.Rows.{RowsData}
 
 -- an event by which its thread may learn of others: its first one, an acquire, a join, or a read of a last write
@@ -71,9 +68,3 @@ pub record AreKept (trace : List Event) (n threads : ℕ) (rows : RowsData) (kep
   pub few : length rows.rows ≤ n + 1
   pub as_many : length kept ≡ threads
   pub each : (t : ℕ) → t < threads → IsKept trace n rows.rows t (slice_index_or kept t nothing_kept)
-
--- what a sweep over the first n events keeps
-pub record IsLearnedPast (trace : List Event) (n : ℕ) (sizes : Sizes) (rows : RowsData) (kept : List KeptData) (locks : List (List ℕ)) (last : List (Option ℕ)) : Type 0 where
-  pub kept_clocks : AreKept trace n sizes.threads rows kept
-  pub lock_clocks : HasLockClocks trace n sizes.threads sizes.locks locks
-  pub last_events : IsLatestTable (OfThread trace) n sizes.threads last

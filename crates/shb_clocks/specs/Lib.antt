@@ -4,3 +4,4 @@ pub mod Marks
 pub mod Past
 pub mod Rows
 pub mod Stamps
+pub mod Sweeps

@@ -33,9 +33,10 @@ impl<'a> Model for ClockVersions<'a> {
 
 /// The order of a trace by vector clocks, found by one forward pass. A clock is kept only where a
 /// thread may learn of others: at its first event, at each acquire, each join and each read that has
-/// a last write. Where the thread learned nothing new there, it keeps the clock that it had, so
-/// memory grows with the events, and with the number of threads only at events at which a thread
-/// really learned something.
+/// a last write. Where the thread learned nothing new there, it keeps the clock that it had. So what
+/// is kept takes eight bytes for each such event, and four bytes a thread for each at which a thread
+/// really learned something; while the pass runs there is one more clock for each lock, of four bytes
+/// a thread. [`crate::by_event`] makes none for locks.
 ///
 /// # Errors
 ///

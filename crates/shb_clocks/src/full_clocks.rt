@@ -6,7 +6,7 @@ ghost use Rattle.shb_clocks.specs.Past.{HasClocks};
 
 use crate::clock::{Clock, entry, row};
 use crate::order::Order;
-use crate::past::{Past, add};
+use crate::past::Past;
 use shb_discipline::Disciplined;
 use shb_io::NoMemory;
 use shb_lines::Event;
@@ -46,18 +46,17 @@ pub fn full<'a>(
     requires of_trace { links.now ≡ trace.now.events.now }
     ensures { IfOk result (λ order. order ≡ trace.now.events.now) }
 {
-    let sizes = trace.sizes;
-    let mut clock = Clock::new(alloc, sizes.threads as usize)?;
-    let mut past = Past::new(alloc, trace.events, sizes)?;
+    let mut clock = Clock::new(alloc, trace.sizes.threads as usize)?;
+    let mut past = Past::new(alloc, trace)?;
     for e in 0..trace.events.len() as u32 {
-        past.tick(trace, links, sizes, e, &mut clock);
-        add(&mut past, trace.events, sizes, e, &clock)?;
+        past.set_clock(trace, links, e, &mut clock);
+        past.add(trace, e, &clock)?;
     }
     let Past { clocks, .. } = past;
     Ok(FullClocks {
         trace,
         links,
-        threads: sizes.threads,
+        threads: trace.sizes.threads,
         clocks,
     })
 }

@@ -4,7 +4,8 @@ ghost use Rattle.std.specs.Prelude.{◌≡◌, ℕ, ◌+◌, ◌<◌, ◌↔◌,
 ghost use Rattle.shb_lines.specs.events.Events.{thread_at};
 ghost use Rattle.shb_lines.specs.events.Order.{LastWrite, ShbBelow, BelowPred};
 ghost use Rattle.shb_clocks.specs.Fronts.{IsFront, StrictlyBelow};
-ghost use Rattle.shb_clocks.specs.Learned.{AreKept, IsFrontBut, IsLearnedPast, IsLearning};
+ghost use Rattle.shb_clocks.specs.Learned.{AreKept, IsFrontBut, IsLearning};
+ghost use Rattle.shb_clocks.specs.Sweeps.{IsLearnedPast};
 ghost use Rattle.shb_clocks.specs.Past.{HasLockClocks};
 
 use crate::clock::{Clock, entry};
@@ -14,16 +15,13 @@ use shb_discipline::Disciplined;
 use shb_io::NoMemory;
 use shb_lines::Op;
 use shb_links::Links;
-use shb_links::latest::empty_table;
-use shb_links::links::note_thread;
 use std::alloc::Global;
 
-/// The clocks of the events so far and of the locks, and the last event of each thread.
+/// The clocks of the events so far, and of the locks.
 #[derive(Drop)]
 pub struct LearnedPast {
     pub clocks: KeptClocks,
     pub locks: Vec<Clock>,
-    pub last: Vec<Option<u32>>,
 }
 
 /// Whether it is the first event of its thread, an acquire, a join, or a read of a last write.
@@ -46,12 +44,11 @@ fn may_learn(trace: &Disciplined<'_>, links: &Links<'_>, e: u32) -> bool
 impl LearnedPast {
     /// What is known before the first event.
     pub fn new(alloc: Global, trace: &Disciplined<'_>) -> Result<Self, NoMemory>
-        ensures { IfOk result (λ past. IsLearnedPast trace.now.events.now 0 trace.now.sizes past.clocks.rows past.clocks.threads.items past.locks.items past.last.items) }
+        ensures { IfOk result (IsLearnedPast trace.now.events.now 0 trace.now.sizes) }
     {
         Ok(LearnedPast {
             clocks: KeptClocks::new(alloc, trace)?,
-            locks: lock_clocks(alloc, trace.events, trace.sizes)?,
-            last: empty_table(alloc, trace.sizes.threads)?,
+            locks: lock_clocks(alloc, trace)?,
         })
     }
 
@@ -59,7 +56,7 @@ impl LearnedPast {
     fn start(&self, trace: &Disciplined<'_>, links: &Links<'_>, e: u32, clock: &mut Clock)
         requires of_trace { links.now ≡ trace.now.events.now }
         requires in_range { e < length trace.now.events.now }
-        requires past { IsLearnedPast trace.now.events.now e trace.now.sizes self.now.clocks.rows self.now.clocks.threads.items self.now.locks.items self.now.last.items }
+        requires past { IsLearnedPast trace.now.events.now e trace.now.sizes self.now }
         requires long { length clock.old ≡ trace.now.sizes.threads }
         ensures long { length clock.new ≡ trace.now.sizes.threads }
         ensures front { IsFront trace.now.events.now (λ k. BelowPred trace.now.events.now k e) clock.new }
@@ -83,7 +80,7 @@ impl LearnedPast {
         requires of_trace { links.now ≡ trace.now.events.now }
         requires in_range { e < length trace.now.events.now }
         requires write { LastWrite trace.now.events.now write e }
-        requires past { IsLearnedPast trace.now.events.now e trace.now.sizes self.now.clocks.rows self.now.clocks.threads.items self.now.locks.items self.now.last.items }
+        requires past { IsLearnedPast trace.now.events.now e trace.now.sizes self.now }
         requires long { length clock.old ≡ trace.now.sizes.threads }
         requires front { IsFront trace.now.events.now (λ k. BelowPred trace.now.events.now k e) clock.old }
         ensures long { length clock.new ≡ trace.now.sizes.threads }
@@ -99,7 +96,7 @@ impl LearnedPast {
     fn learn(&self, trace: &Disciplined<'_>, links: &Links<'_>, e: u32, clock: &mut Clock)
         requires of_trace { links.now ≡ trace.now.events.now }
         requires in_range { e < length trace.now.events.now }
-        requires past { IsLearnedPast trace.now.events.now e trace.now.sizes self.now.clocks.rows self.now.clocks.threads.items self.now.locks.items self.now.last.items }
+        requires past { IsLearnedPast trace.now.events.now e trace.now.sizes self.now }
         requires long { length clock.old ≡ trace.now.sizes.threads }
         requires front { IsFront trace.now.events.now (λ k. BelowPred trace.now.events.now k e) clock.old }
         ensures long { length clock.new ≡ trace.now.sizes.threads }
@@ -108,7 +105,7 @@ impl LearnedPast {
         match trace.events[e as usize].op {
             Op::Acquire(lock) => clock.join(self.locks[lock as usize].as_slice()),
             Op::Join(thread) => {
-                if let Some(last) = self.last[thread as usize] {
+                if let Some(last) = links.last_of(thread) {
                     clock.join_event(&self.clocks.clock_of(trace, links, last));
                 }
             }
@@ -122,10 +119,16 @@ impl LearnedPast {
     }
 
     /// Sets the clock to that of e, but for the entry of its own thread, which is 0.
-    fn tick(&self, trace: &Disciplined<'_>, links: &Links<'_>, e: u32, clock: &mut Clock)
+    fn set_clock_but_own(
+        &self,
+        trace: &Disciplined<'_>,
+        links: &Links<'_>,
+        e: u32,
+        clock: &mut Clock,
+    )
         requires of_trace { links.now ≡ trace.now.events.now }
         requires in_range { e < length trace.now.events.now }
-        requires past { IsLearnedPast trace.now.events.now e trace.now.sizes self.now.clocks.rows self.now.clocks.threads.items self.now.locks.items self.now.last.items }
+        requires past { IsLearnedPast trace.now.events.now e trace.now.sizes self.now }
         requires long { length clock.old ≡ trace.now.sizes.threads }
         ensures long { length clock.new ≡ trace.now.sizes.threads }
         ensures front { (t : ℕ) → thread_at trace.now.events.now e ≡ Some t → IsFrontBut trace.now.events.now t (λ k. ShbBelow trace.now.events.now k e) clock.new }
@@ -145,15 +148,14 @@ impl LearnedPast {
     ) -> Result<(), NoMemory>
         requires of_trace { links.now ≡ trace.now.events.now }
         requires in_range { e < length trace.now.events.now }
-        requires past { IsLearnedPast trace.now.events.now e trace.now.sizes self.old.clocks.rows self.old.clocks.threads.items self.old.locks.items self.old.last.items }
+        requires past { IsLearnedPast trace.now.events.now e trace.now.sizes self.old }
         requires long { length clock.old ≡ trace.now.sizes.threads }
         ensures long { length clock.new ≡ trace.now.sizes.threads }
         ensures kept { IfOk result (λ _. AreKept trace.now.events.now (e + 1) trace.now.sizes.threads self.new.clocks.rows self.new.clocks.threads.items) }
         ensures locks { OnOk result (self.new.locks ≡ self.old.locks) }
-        ensures last { OnOk result (self.new.last ≡ self.old.last) }
     {
         if may_learn(trace, links, e) {
-            self.tick(trace, links, e, clock);
+            self.set_clock_but_own(trace, links, e, clock);
             self.clocks.keep(trace, links, e, clock)?;
         }
         Ok(())
@@ -170,14 +172,13 @@ impl LearnedPast {
     ) -> Result<(), NoMemory>
         requires of_trace { links.now ≡ trace.now.events.now }
         requires in_range { e < length trace.now.events.now }
-        requires past { IsLearnedPast trace.now.events.now e trace.now.sizes self.old.clocks.rows self.old.clocks.threads.items self.old.locks.items self.old.last.items }
+        requires past { IsLearnedPast trace.now.events.now e trace.now.sizes self.old }
         requires long { length clock.old ≡ trace.now.sizes.threads }
         ensures long { length clock.new ≡ trace.now.sizes.threads }
-        ensures past { IfOk result (λ _. IsLearnedPast trace.now.events.now (e + 1) trace.now.sizes self.new.clocks.rows self.new.clocks.threads.items self.new.locks.items self.new.last.items) }
+        ensures past { IfOk result (λ _. IsLearnedPast trace.now.events.now (e + 1) trace.now.sizes self.new) }
     {
         self.keep(trace, links, e, clock)?;
         release(trace, links, &self.clocks, e, &mut self.locks);
-        note_thread(trace.events, trace.sizes, &mut self.last, e);
         Ok(())
     }
 }

@@ -7,8 +7,8 @@ ghost use Rattle.shb_lines.specs.events.Order.{ShbBelow, IsNumberOf};
 ghost use Rattle.shb_clocks.specs.Marks.{MarksFrom, IsRowOf, HasRows};
 
 use crate::edges::is_edge;
+use crate::marks::Marks;
 use crate::order::Order;
-use crate::row::Row;
 use shb_discipline::Disciplined;
 use shb_io::NoMemory;
 use shb_lines::Event;
@@ -21,7 +21,7 @@ use std::marker::Model;
 #[derive(Drop)]
 pub struct PlainOrder<'a> {
     trace: &'a Disciplined<'a>,
-    rows: Vec<Row>,
+    rows: Vec<Marks>,
 }
 
 impl<'a> Model for PlainOrder<'a> {
@@ -84,14 +84,14 @@ fn row_of(
     trace: &Disciplined<'_>,
     links: &Links<'_>,
     e: u32,
-) -> Result<Row, NoMemory>
+) -> Result<Marks, NoMemory>
     requires of_trace { links.now ≡ trace.now.events.now }
     requires in_range { e < length trace.now.events.now }
     ensures { IfOk result (λ row. IsRowOf trace.now.events.now e row) }
 {
     match links.pred(e) {
-        Some(p) => Ok(Row::new(marks_below(alloc, trace, links, p)?)),
-        None => Ok(Row::new(unmarked(alloc, trace.events.len())?)),
+        Some(p) => Ok(Marks::new(marks_below(alloc, trace, links, p)?)),
+        None => Ok(Marks::new(unmarked(alloc, trace.events.len())?)),
     }
 }
 
@@ -118,7 +118,7 @@ pub fn plain<'a>(
 }
 
 /// How many events of a thread are marked.
-fn count_marked(events: &[Event], row: &Row, t: u32) -> u32
+fn count_marked(events: &[Event], row: &Marks, t: u32) -> u32
     requires as_long { length row.now ≡ length events.now }
     requires small { length events.now < 2 ^ 32 }
     ensures { IsNumberOf (λ k. (thread_at events.now k ≡ Some t) × (slice_index_or row.now k false ≡ true)) result }

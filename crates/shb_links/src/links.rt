@@ -96,16 +96,14 @@ impl<'a> Links<'a> {
 
 /// The place of an event in its thread, from the places before it and the last event of each
 /// thread.
-fn next_local(events: &[Event], sizes: Sizes, locals: &[u32], last: &[Option<u32>], e: u32) -> u32
-    requires in_range { e < length events.now }
-    requires few { length events.now ≤ 4194304 }
-    requires within { IsWithin events.now sizes }
-    requires locals { HasLocals events.now e locals.now }
-    requires last { IsLatestTable (OfThread events.now) e sizes.threads last.now }
-    ensures { (t : ℕ) → thread_at events.now e ≡ Some t
-        → result ≡ place_in_thread events.now t e }
+fn next_local(trace: &Disciplined<'_>, locals: &[u32], last: &[Option<u32>], e: u32) -> u32
+    requires in_range { e < length trace.now.events.now }
+    requires locals { HasLocals trace.now.events.now e locals.now }
+    requires last { IsLatestTable (OfThread trace.now.events.now) e trace.now.sizes.threads last.now }
+    ensures { (t : ℕ) → thread_at trace.now.events.now e ≡ Some t
+        → result ≡ place_in_thread trace.now.events.now t e }
 {
-    match last[events[e as usize].thread as usize] {
+    match last[trace.events[e as usize].thread as usize] {
         Some(p) => locals[p as usize] + 1,
         None => 1,
     }
@@ -125,14 +123,12 @@ fn pred_of(trace: &Disciplined<'_>, last: &[Option<u32>], forks: &[Option<u32>],
 }
 
 /// The write that an event reads from, from the last write of each variable.
-fn last_write_of(events: &[Event], sizes: Sizes, writes: &[Option<u32>], e: u32) -> Link
-    requires in_range { e < length events.now }
-    requires few { length events.now ≤ 4194304 }
-    requires within { IsWithin events.now sizes }
-    requires writes { IsLatestTable (WritesVariable events.now) e sizes.variables writes.now }
-    ensures { Exactly (λ w. LastWrite events.now w e) result }
+fn last_write_of(trace: &Disciplined<'_>, writes: &[Option<u32>], e: u32) -> Link
+    requires in_range { e < length trace.now.events.now }
+    requires writes { IsLatestTable (WritesVariable trace.now.events.now) e trace.now.sizes.variables writes.now }
+    ensures { Exactly (λ w. LastWrite trace.now.events.now w e) result }
 {
-    match events[e as usize].op {
+    match trace.events[e as usize].op {
         Op::Read(variable) => Link::new(writes[variable as usize]),
         _ => Link::new(None),
     }
@@ -150,25 +146,23 @@ pub fn note_thread(events: &[Event], sizes: Sizes, last: &mut Vec<Option<u32>>, 
 }
 
 /// Notes the event, where it is a write, as the last of its variable.
-fn note_write(events: &[Event], sizes: Sizes, writes: &mut Vec<Option<u32>>, e: u32)
-    requires in_range { e < length events.now }
-    requires within { IsWithin events.now sizes }
-    requires writes { IsLatestTable (WritesVariable events.now) e sizes.variables writes.old.items }
-    ensures { IsLatestTable (WritesVariable events.now) (e + 1) sizes.variables writes.new.items }
+fn note_write(trace: &Disciplined<'_>, writes: &mut Vec<Option<u32>>, e: u32)
+    requires in_range { e < length trace.now.events.now }
+    requires writes { IsLatestTable (WritesVariable trace.now.events.now) e trace.now.sizes.variables writes.old.items }
+    ensures { IsLatestTable (WritesVariable trace.now.events.now) (e + 1) trace.now.sizes.variables writes.new.items }
 {
-    if let Op::Write(variable) = events[e as usize].op {
+    if let Op::Write(variable) = trace.events[e as usize].op {
         writes[variable as usize] = Some(e);
     }
 }
 
 /// Notes the event, where it is a fork, as that of its thread.
-fn note_fork(events: &[Event], sizes: Sizes, forks: &mut Vec<Option<u32>>, e: u32)
-    requires in_range { e < length events.now }
-    requires within { IsWithin events.now sizes }
-    requires forks { IsLatestTable (ForksThread events.now) e sizes.threads forks.old.items }
-    ensures { IsLatestTable (ForksThread events.now) (e + 1) sizes.threads forks.new.items }
+fn note_fork(trace: &Disciplined<'_>, forks: &mut Vec<Option<u32>>, e: u32)
+    requires in_range { e < length trace.now.events.now }
+    requires forks { IsLatestTable (ForksThread trace.now.events.now) e trace.now.sizes.threads forks.old.items }
+    ensures { IsLatestTable (ForksThread trace.now.events.now) (e + 1) trace.now.sizes.threads forks.new.items }
 {
-    if let Op::Fork(thread) = events[e as usize].op {
+    if let Op::Fork(thread) = trace.events[e as usize].op {
         forks[thread as usize] = Some(e);
     }
 }
@@ -186,12 +180,12 @@ pub fn links_of<'a>(alloc: Global, trace: &'a Disciplined<'a>) -> Result<Links<'
     let mut preds = Vec::with_capacity(alloc, events.len())?;
     let mut last_writes = Vec::with_capacity(alloc, events.len())?;
     for e in 0..events.len() as u32 {
-        locals.push(next_local(events, sizes, locals.as_slice(), last.as_slice(), e))?;
+        locals.push(next_local(trace, locals.as_slice(), last.as_slice(), e))?;
         preds.push(pred_of(trace, last.as_slice(), forks.as_slice(), e))?;
-        last_writes.push(last_write_of(events, sizes, writes.as_slice(), e))?;
+        last_writes.push(last_write_of(trace, writes.as_slice(), e))?;
         note_thread(events, sizes, &mut last, e);
-        note_write(events, sizes, &mut writes, e);
-        note_fork(events, sizes, &mut forks, e);
+        note_write(trace, &mut writes, e);
+        note_fork(trace, &mut forks, e);
     }
     Ok(Links {
         trace,

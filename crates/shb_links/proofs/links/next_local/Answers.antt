@@ -4,11 +4,11 @@ use Rattle.shb_links.proofs.links.next_local.Goals as goal
 
 pub overflow_add-result : goal.overflow_add-result
 overflow_add-result c =
-    let small = place_small c.args.events.now c.args.sizes c.args.e _ c.requires.within c.requires.in_range c.args.locals.now c.args.last.now c.in-Some.p c.requires.locals c.requires.last c.in-Some.is in
+    let small = place_small c.args.trace.now.events.now c.args.trace.now.sizes c.args.e _ c.args.trace.now.within c.requires.in_range c.args.locals.now c.args.last.now c.in-Some.p c.requires.locals c.requires.last c.in-Some.is in
     omega (arith, small)
 
 pub returns-in-Some : goal.returns-in-Some
-returns-in-Some c = place_next c.args.events.now c.args.sizes c.args.e _ c.requires.within c.requires.in_range c.args.locals.now c.args.last.now c.in-Some.p c.requires.locals c.requires.last c.in-Some.is
+returns-in-Some c = place_next c.args.trace.now.events.now c.args.trace.now.sizes c.args.e _ c.args.trace.now.within c.requires.in_range c.args.locals.now c.args.last.now c.in-Some.p c.requires.locals c.requires.last c.in-Some.is
 
 pub returns-in-None : goal.returns-in-None
-returns-in-None c = place_start c.args.events.now c.args.sizes c.args.e _ c.requires.within c.requires.in_range c.args.last.now c.requires.last c.in-None.is
+returns-in-None c = place_start c.args.trace.now.events.now c.args.trace.now.sizes c.args.e _ c.args.trace.now.within c.requires.in_range c.args.last.now c.requires.last c.in-None.is

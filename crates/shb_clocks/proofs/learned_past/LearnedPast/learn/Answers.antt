@@ -2,9 +2,8 @@ use Rattle.std.proofs.Common.{List, Some, ◌∙◌, sym, ap, subst}
 use Rattle.shb_lines.specs.declared.event.Event.{Event}
 use Rattle.shb_lines.specs.events.Order.{LastWrite, ShbBelow}
 use Rattle.shb_lines.proofs.events.Items.{op_item}
-use Rattle.shb_links.specs.Latest.{OfThread}
 use Rattle.shb_clocks.specs.Fronts.{BelowRelease}
-use Rattle.shb_clocks.proofs.PastLemmas.{lock_front, latest_some, latest_none, exactly_none, op_within, learns_nothing, front_learns_nothing, front_learns, acquire_learns, join_learns, join_learns_nothing, read_learns_nothing}
+use Rattle.shb_clocks.proofs.PastLemmas.{lock_front, latest_join, no_last, exactly_none, op_within, learns_nothing, front_learns_nothing, front_learns, acquire_learns, join_learns, join_learns_nothing, read_learns_nothing}
 use Rattle.shb_clocks.proofs.learned_past.LearnedPast.learn.Goals as goal
 
 pub returns-in-Acquire-clause-front : goal.returns-in-Acquire-clause-front
@@ -15,20 +14,21 @@ returns-in-Acquire-clause-front c =
     (lock_front c.args.trace.now.events.now c.args.e c.args.trace.now.sizes.threads c.args.trace.now.sizes.locks c.in-Acquire.lock c.args.self.now.locks.items c.index.result.now c.as_slice.result.now c.requires.past.lock_clocks low c.index.ensures c.as_slice.ensures)
     c.join.ensures.joined c.requires.front
 
+pub clock_of-requires-clause-taken : goal.clock_of-requires-clause-taken
+clock_of-requires-clause-taken c = (c.args.e, (latest_join c.args.trace.now.events.now c.args.links.now c.args.trace.now.meets c.args.e c.in-Join.thread c.in-Some.last c.requires.of_trace (op_item c.args.trace.now.events.now c.args.e _ c.requires.in_range ∙ ap (λ o. Some o) c.in-Join.is) c.in-Some.ensures).earlier, c.requires.past.kept_clocks)
+
 pub returns-in-Some-clause-front : goal.returns-in-Some-clause-front
 returns-in-Some-clause-front c =
-    let low = op_within c.args.trace.now.events.now c.args.trace.now.sizes c.args.e _ _ c.args.trace.now.within c.requires.in_range c.in-Join.is in
-    let latest = latest_some (OfThread c.args.trace.now.events.now) c.args.e c.args.trace.now.sizes.threads c.in-Join.thread c.in-Some.last _ _ c.requires.past.last_events low c.index-in-Join.ensures c.in-Some.is in
+    let latest = latest_join c.args.trace.now.events.now c.args.links.now c.args.trace.now.meets c.args.e c.in-Join.thread c.in-Some.last c.requires.of_trace (op_item c.args.trace.now.events.now c.args.e _ c.requires.in_range ∙ ap (λ o. Some o) c.in-Join.is) c.in-Some.ensures in
     front_learns c.args.trace.now.events.now c.args.trace.now.meets c.args.e (λ k. ShbBelow c.args.trace.now.events.now k c.in-Some.last) c.args.clock.now c.clock_of.result _
     (λ k. join_learns c.args.trace.now.events.now c.args.trace.now.meets c.args.e c.in-Join.thread c.in-Some.last k (op_item c.args.trace.now.events.now c.args.e _ c.requires.in_range ∙ ap (λ o. Some o) c.in-Join.is) latest)
     c.clock_of.ensures.front
     c.join_event.ensures.joined c.requires.front
 
-pub returns-in_default-index-clause-front : goal.returns-in_default-index-clause-front
-returns-in_default-index-clause-front c =
-    let low = op_within c.args.trace.now.events.now c.args.trace.now.sizes c.args.e _ _ c.args.trace.now.within c.requires.in_range c.in-Join.is in
+pub returns-in_default-last_of-clause-front : goal.returns-in_default-last_of-clause-front
+returns-in_default-last_of-clause-front c =
     front_learns_nothing c.args.trace.now.events.now c.args.trace.now.meets c.args.e c.args.clock.now
-    (λ k. join_learns_nothing c.args.trace.now.events.now c.args.trace.now.meets c.args.e c.in-Join.thread k (op_item c.args.trace.now.events.now c.args.e _ c.requires.in_range ∙ ap (λ o. Some o) c.in-Join.is) (latest_none (OfThread c.args.trace.now.events.now) c.args.e c.args.trace.now.sizes.threads c.in-Join.thread _ _ c.requires.past.last_events low c.index-in-Join.ensures c.in_default-index.not-Some))
+    (λ k. join_learns_nothing c.args.trace.now.events.now c.args.trace.now.meets c.args.e c.in-Join.thread k (op_item c.args.trace.now.events.now c.args.e _ c.requires.in_range ∙ ap (λ o. Some o) c.in-Join.is) (λ m lt. no_last c.args.trace.now.events.now c.args.links.now c.in-Join.thread c.last_of.result c.requires.of_trace c.in_default-last_of.not-Some c.last_of.ensures m))
     c.requires.front
 
 pub returns-in_default-last_write-clause-front : goal.returns-in_default-last_write-clause-front

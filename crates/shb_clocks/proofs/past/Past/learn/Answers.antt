@@ -1,45 +1,48 @@
-use Rattle.std.proofs.Common.{List, Some, ◌∙◌, sym, ap, subst}
+use Rattle.std.proofs.Common.{List, Some, length, ◌∙◌, sym, ap, subst, arith}
 use Rattle.shb_lines.specs.declared.event.Event.{Event}
 use Rattle.shb_lines.specs.events.Order.{LastWrite, ShbBelow}
 use Rattle.shb_lines.proofs.events.Items.{op_item}
-use Rattle.shb_links.specs.Latest.{OfThread}
 use Rattle.shb_clocks.specs.Fronts.{BelowRelease}
-use Rattle.shb_clocks.proofs.PastLemmas.{row_wide, row_front, lock_front, latest_some, latest_none, exactly_none, op_within, learns_nothing, front_learns_nothing, front_learns, acquire_learns, join_learns, join_learns_nothing, read_learns_nothing}
+use Rattle.shb_clocks.proofs.PastLemmas.{row_fits, row_wide, row_front, lock_front, latest_join, no_last, exactly_none, op_within, learns_nothing, front_learns_nothing, front_learns, acquire_learns, join_learns, join_learns_nothing, read_learns_nothing}
 use Rattle.shb_clocks.proofs.past.Past.learn.Goals as goal
+
+pub row-requires : goal.row-requires
+row-requires c =
+    let latest = latest_join c.args.trace.now.events.now c.args.links.now c.args.trace.now.meets c.args.e c.in-Join.thread c.in-Some.last c.requires.of_trace (op_item c.args.trace.now.events.now c.args.e _ c.requires.in_range ∙ ap (λ o. Some o) c.in-Join.is) c.in-Some.ensures in
+    let fits = row_fits c.args.trace.now.sizes.threads c.in-Some.last c.args.e c.args.self.now.clocks.items latest.earlier c.requires.past.event_clocks.as_long in
+    let size = ap length c.as_slice-in-Some.ensures.value in
+    omega (arith, fits, size)
 
 pub join-requires-in-Some : goal.join-requires-in-Some
 join-requires-in-Some c =
-    let low = op_within c.args.trace.now.events.now c.args.sizes c.args.e _ _ c.requires.within c.requires.in_range c.in-Join.is in
-    let latest = latest_some (OfThread c.args.trace.now.events.now) c.args.e c.args.sizes.threads c.in-Join.thread c.in-Some.last _ _ c.requires.past.last_events low c.index-in-Join.ensures c.in-Some.is in
-    row_wide c.args.trace.now.events.now c.args.e c.args.sizes.threads c.in-Some.last c.args.self.now.clocks.items _ _ c.requires.past.event_clocks latest.earlier c.as_slice-in-Some.ensures.value c.row.ensures ∙ sym c.requires.long
+    let latest = latest_join c.args.trace.now.events.now c.args.links.now c.args.trace.now.meets c.args.e c.in-Join.thread c.in-Some.last c.requires.of_trace (op_item c.args.trace.now.events.now c.args.e _ c.requires.in_range ∙ ap (λ o. Some o) c.in-Join.is) c.in-Some.ensures in
+    row_wide c.args.trace.now.events.now c.args.e c.args.trace.now.sizes.threads c.in-Some.last c.args.self.now.clocks.items _ _ c.requires.past.event_clocks latest.earlier c.as_slice-in-Some.ensures.value c.row.ensures ∙ sym c.requires.long
 
 pub join-requires-in-Some-last_write : goal.join-requires-in-Some-last_write
 join-requires-in-Some-last_write c =
     let last = subst (λ (tr : List Event). LastWrite tr c.in-Some-last_write.write c.args.e) c.requires.of_trace c.in-Some-last_write.ensures in
-    row_wide c.args.trace.now.events.now c.args.e c.args.sizes.threads c.in-Some-last_write.write c.args.self.now.clocks.items _ _ c.requires.past.event_clocks last.earlier c.as_slice-in-Some-last_write.ensures.value c.row-in-Some-last_write.ensures ∙ sym c.requires.long
+    row_wide c.args.trace.now.events.now c.args.e c.args.trace.now.sizes.threads c.in-Some-last_write.write c.args.self.now.clocks.items _ _ c.requires.past.event_clocks last.earlier c.as_slice-in-Some-last_write.ensures.value c.row-in-Some-last_write.ensures ∙ sym c.requires.long
 
 pub returns-in-Acquire-clause-front : goal.returns-in-Acquire-clause-front
 returns-in-Acquire-clause-front c =
-    let low = op_within c.args.trace.now.events.now c.args.sizes c.args.e _ _ c.requires.within c.requires.in_range c.in-Acquire.is in
+    let low = op_within c.args.trace.now.events.now c.args.trace.now.sizes c.args.e _ _ c.args.trace.now.within c.requires.in_range c.in-Acquire.is in
     front_learns c.args.trace.now.events.now c.args.trace.now.meets c.args.e (BelowRelease c.args.trace.now.events.now c.in-Acquire.lock c.args.e) c.args.clock.now c.as_slice.result.now _
     (λ k. acquire_learns c.args.trace.now.events.now c.args.trace.now.meets c.args.e c.in-Acquire.lock k (op_item c.args.trace.now.events.now c.args.e _ c.requires.in_range ∙ ap (λ o. Some o) c.in-Acquire.is))
-    (lock_front c.args.trace.now.events.now c.args.e c.args.sizes.threads c.args.sizes.locks c.in-Acquire.lock c.args.self.now.locks.items c.index.result.now c.as_slice.result.now c.requires.past.lock_clocks low c.index.ensures c.as_slice.ensures)
+    (lock_front c.args.trace.now.events.now c.args.e c.args.trace.now.sizes.threads c.args.trace.now.sizes.locks c.in-Acquire.lock c.args.self.now.locks.items c.index.result.now c.as_slice.result.now c.requires.past.lock_clocks low c.index.ensures c.as_slice.ensures)
     c.join.ensures.joined c.requires.front
 
 pub returns-in-Some-clause-front : goal.returns-in-Some-clause-front
 returns-in-Some-clause-front c =
-    let low = op_within c.args.trace.now.events.now c.args.sizes c.args.e _ _ c.requires.within c.requires.in_range c.in-Join.is in
-    let latest = latest_some (OfThread c.args.trace.now.events.now) c.args.e c.args.sizes.threads c.in-Join.thread c.in-Some.last _ _ c.requires.past.last_events low c.index-in-Join.ensures c.in-Some.is in
+    let latest = latest_join c.args.trace.now.events.now c.args.links.now c.args.trace.now.meets c.args.e c.in-Join.thread c.in-Some.last c.requires.of_trace (op_item c.args.trace.now.events.now c.args.e _ c.requires.in_range ∙ ap (λ o. Some o) c.in-Join.is) c.in-Some.ensures in
     front_learns c.args.trace.now.events.now c.args.trace.now.meets c.args.e (λ k. ShbBelow c.args.trace.now.events.now k c.in-Some.last) c.args.clock.now c.row.result.now _
     (λ k. join_learns c.args.trace.now.events.now c.args.trace.now.meets c.args.e c.in-Join.thread c.in-Some.last k (op_item c.args.trace.now.events.now c.args.e _ c.requires.in_range ∙ ap (λ o. Some o) c.in-Join.is) latest)
-    (row_front c.args.trace.now.events.now c.args.e c.args.sizes.threads c.in-Some.last c.args.self.now.clocks.items _ _ c.requires.past.event_clocks latest.earlier c.as_slice-in-Some.ensures.value c.row.ensures)
+    (row_front c.args.trace.now.events.now c.args.e c.args.trace.now.sizes.threads c.in-Some.last c.args.self.now.clocks.items _ _ c.requires.past.event_clocks latest.earlier c.as_slice-in-Some.ensures.value c.row.ensures)
     c.join-in-Some.ensures.joined c.requires.front
 
-pub returns-in_default-index-clause-front : goal.returns-in_default-index-clause-front
-returns-in_default-index-clause-front c =
-    let low = op_within c.args.trace.now.events.now c.args.sizes c.args.e _ _ c.requires.within c.requires.in_range c.in-Join.is in
+pub returns-in_default-last_of-clause-front : goal.returns-in_default-last_of-clause-front
+returns-in_default-last_of-clause-front c =
     front_learns_nothing c.args.trace.now.events.now c.args.trace.now.meets c.args.e c.args.clock.now
-    (λ k. join_learns_nothing c.args.trace.now.events.now c.args.trace.now.meets c.args.e c.in-Join.thread k (op_item c.args.trace.now.events.now c.args.e _ c.requires.in_range ∙ ap (λ o. Some o) c.in-Join.is) (latest_none (OfThread c.args.trace.now.events.now) c.args.e c.args.sizes.threads c.in-Join.thread _ _ c.requires.past.last_events low c.index-in-Join.ensures c.in_default-index.not-Some))
+    (λ k. join_learns_nothing c.args.trace.now.events.now c.args.trace.now.meets c.args.e c.in-Join.thread k (op_item c.args.trace.now.events.now c.args.e _ c.requires.in_range ∙ ap (λ o. Some o) c.in-Join.is) (λ m lt. no_last c.args.trace.now.events.now c.args.links.now c.in-Join.thread c.last_of.result c.requires.of_trace c.in_default-last_of.not-Some c.last_of.ensures m))
     c.requires.front
 
 pub returns-in_default-last_write-clause-front : goal.returns-in_default-last_write-clause-front

@@ -5,7 +5,7 @@ use Rattle.shb_lines.specs.events.Order.{ShbBelow}
 use Rattle.shb_lines.proofs.events.Items.{thread_item}
 use Rattle.shb_clocks.specs.Learned.{IsFrontBut}
 use Rattle.shb_clocks.proofs.MayLearn.{front_without_own}
-use Rattle.shb_clocks.proofs.learned_past.LearnedPast.tick.Goals as goal
+use Rattle.shb_clocks.proofs.learned_past.LearnedPast.set_clock_but_own.Goals as goal
 
 pub returns-clause-front : goal.returns-clause-front
 returns-clause-front c t of_e =
