@@ -4,6 +4,7 @@ pub mod Counts
 pub mod Decide
 pub mod Events
 pub mod Items
+pub mod Increasing
 pub mod Listed
 pub mod Locks
 pub mod Places

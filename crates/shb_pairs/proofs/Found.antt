@@ -24,7 +24,7 @@ use Rattle.shb_pairs.specs.Accesses.{accesses_at, is_selected, selected_at, occu
 use Rattle.shb_pairs.specs.Search.{AreRivals, racing}
 use Rattle.shb_pairs.proofs.ByThread.{op_in, occurs_append, occurs_cons, occurs_filter, occurs_none, occurs_once, selected_item, variable_in}
 use Rattle.shb_pairs.proofs.Counting.{access_from_test, test_from_access}
-use Rattle.shb_pairs.proofs.Ordered.{contains_cases, contains_head, contains_none, contains_tail}
+use Rattle.shb_lines.proofs.events.Increasing.{contains_cases, contains_head, contains_none, contains_tail}
 use Rattle.shb_pairs.proofs.Runs.{race_accesses}
 
 -- two lists that do not fall, with the same numbers as often, are equal

@@ -19,7 +19,7 @@ use Rattle.shb_pairs.specs.Pieces.{run_at, runs_of, pieces_below, pieces_in}
 use Rattle.shb_pairs.specs.Races.{races_with, races_of, races_at, joined}
 use Rattle.shb_pairs.proofs.Listing.{numbers_below, races_on, races_on_parts, all_races, all_is_race_list}
 use Rattle.shb_pairs.proofs.ByThread.{listed_closed, listed_open}
-use Rattle.shb_pairs.proofs.Ordered.{contains_head}
+use Rattle.shb_lines.proofs.events.Increasing.{contains_head}
 use Rattle.shb_pairs.proofs.Runs.{no_runs, runs_on}
 
 joined-map : {X A : Type 0} (f : X → List A) (xs : List X) → joined (map f xs) ≡ flat_map f xs

@@ -13,7 +13,8 @@ use Rattle.shb_lines.proofs.events.Reach.{numbers_listed, reflect_race, event_at
 use Rattle.shb_pairs.specs.Accesses.{accesses_at, accesses_in, variables_in}
 use Rattle.shb_pairs.specs.Races.{races_with}
 use Rattle.shb_pairs.proofs.Counting.{access_from_test, test_from_access, variable_within, lower_accessed}
-use Rattle.shb_pairs.proofs.Ordered.{flat_map_parts, flat_map_contains, flat_map_ordered, map_parts, map_contains, map_ordered, same_in_order}
+use Rattle.shb_lines.proofs.events.Increasing.{same_in_order}
+use Rattle.shb_pairs.proofs.FlatMaps.{flat_map_parts, flat_map_contains, flat_map_ordered, map_parts, map_contains, map_ordered}
 
 -- all numbers below n
 abbrev pub numbers_below : ℕ → List ℕ

@@ -14,7 +14,7 @@ use Rattle.shb_pairs.specs.Pieces.{pieces_in}
 use Rattle.shb_pairs.specs.Races.{AreRacesOfRun, PairBefore, accesses_of_run, piece_at, races_at, races_of, races_with}
 use Rattle.shb_pairs.proofs.ByThread.{listed_open}
 use Rattle.shb_pairs.proofs.Listing.{race_contained, race_parts}
-use Rattle.shb_pairs.proofs.Ordered.{flat_map_contains, flat_map_ordered, flat_map_parts, map_ordered}
+use Rattle.shb_pairs.proofs.FlatMaps.{flat_map_contains, flat_map_ordered, flat_map_parts, map_ordered}
 use Rattle.shb_pairs.proofs.Runs.{IsRun, piece_within}
 
 part_length : (xs : List ℕ) (from to : ℕ) → from ≤ to → to ≤ length xs → length (slice_range xs from to) ≡ to - from

@@ -2,11 +2,14 @@
 
 ghost use Rattle.std.specs.Prelude.{◌≡◌, ◌++◌, IfOk};
 ghost use Rattle.std.specs.Int.{div_ceil};
-ghost use Rattle.shb_pairs.specs.Pieces.{runs_of, pieces_in};
+ghost use Rattle.shb_pairs.specs.Pieces.{pieces_in, run_length, runs_of};
 
 use crate::accesses::Accesses;
 use shb_io::NoMemory;
 use std::alloc::{AllocError, Global};
+
+/// How many accesses a run has at most. The number is this project's profile.
+const RUN_LENGTH: u32 = 64;
 
 /// A run of the accesses of a variable, as [`Accesses::of`] lists them: at most 64 of them. It stands
 /// for the races whose later access is in the run.
@@ -22,11 +25,11 @@ pub struct Piece {
 
 /// Cuts a list of accesses into runs of at most 64.
 fn cut(pieces: &mut Vec<Piece>, variable: u32, accesses: u32) -> Result<(), AllocError>
-    ensures { IfOk result (λ _. pieces.new.items ≡ pieces.old.items ++ runs_of variable accesses (div_ceil accesses 64)) }
+    ensures { IfOk result (λ _. pieces.new.items ≡ pieces.old.items ++ runs_of variable accesses (div_ceil accesses run_length)) }
 {
-    for k in 0..accesses.div_ceil(64) {
-        let from = 64 * k;
-        let to = from + (accesses - from).min(64);
+    for k in 0..accesses.div_ceil(RUN_LENGTH) {
+        let from = RUN_LENGTH * k;
+        let to = from + (accesses - from).min(RUN_LENGTH);
         pieces.push(Piece { variable, from, to })?;
     }
     Ok(())

@@ -75,6 +75,7 @@ fn is_ordered<O: Order>(ordered: &Ordered<'_, O>, first: u32, second: u32) -> bo
     requires in_range { second < length ordered.now.trace.now.events.now }
     ensures { IsTrue result ↔ BelowPred ordered.now.trace.now.events.now first second }
 {
+    // Of two events of one thread the order isn't asked.
     ordered.trace.events[first as usize].thread == ordered.trace.events[second as usize].thread
         || is_below_pred(ordered, first, second)
 }

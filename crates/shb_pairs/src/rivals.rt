@@ -31,6 +31,8 @@ fn run_end(events: &[Event], positions: &[u32], start: usize) -> usize
     let thread = events[positions[start] as usize].thread;
     let mut end = start + 1;
     let mut limit = positions.len();
+
+    // By halving: one thread may have most of the accesses, and each later access asks again.
     while end < limit {
         let middle = end + (limit - end) / 2;
         if events[positions[middle] as usize].thread == thread {
@@ -51,6 +53,7 @@ fn tail_start(links: &Links<'_>, positions: &[u32], end: usize, below: u32) -> u
     ensures above { (t k : ℕ) → result ≤ k → k < end → thread_at links.now (slice_index_or positions.now k 0) ≡ Some t → below < place_in_thread links.now t (slice_index_or positions.now k 0) }
     ensures under { (t k : ℕ) → k + 1 ≡ result → thread_at links.now (slice_index_or positions.now k 0) ≡ Some t → place_in_thread links.now t (slice_index_or positions.now k 0) ≤ below }
 {
+    // From the newest back: each step but the last is a race that is found.
     for k in (0..end).rev() {
         if links.local(positions[k]) <= below {
             return k + 1;
@@ -75,6 +78,7 @@ fn add_tail<O: Order>(
     ensures { IfOk result (λ _. found.new.items ≡ found.old.items ++ racing ordered.now.trace.now.events.now second positions.now) }
 {
     let thread = ordered.trace.events[positions[0] as usize].thread;
+    // The accesses of its own thread are ordered before it: the order isn't asked.
     if thread == ordered.trace.events[second as usize].thread {
         return Ok(());
     }
@@ -123,6 +127,7 @@ pub(crate) fn rivals_of<O: Order>(
     let mut found = Vec::new(alloc);
     let writes = accesses.writes_by_thread(variable);
     add_rivals(&mut found, ordered, writes, second)?;
+    // A read conflicts with no read.
     if is_write(ordered.trace.events[second as usize].op) {
         let reads = accesses.reads_by_thread(variable);
         add_rivals(&mut found, ordered, reads, second)?;

@@ -15,6 +15,9 @@ use shb_lines::variable;
 use shb_links::Links;
 use std::alloc::{AllocError, Global};
 
+/// The place of an event that isn't known any more, above that of each event.
+const NO_PLACE: u32 = u32::MAX;
+
 /// An event by its place in its thread, from 1, and the thread; or nothing, or an event that isn't
 /// known any more.
 #[derive(Clone, Copy)]
@@ -47,7 +50,7 @@ fn unordered() -> Mark
     ensures { result.place ≡ no_place }
 {
     Mark {
-        place: u32::MAX,
+        place: NO_PLACE,
         thread: 0,
     }
 }
@@ -68,9 +71,10 @@ fn is_past<O: Order>(ordered: &Ordered<'_, O>, mark: Mark, e: u32) -> bool
     requires in_range { e < length ordered.now.trace.now.events.now }
     ensures { IsTrue result → IsPast ordered.now.trace.now.events.now mark e }
 {
-    if mark.place == u32::MAX {
+    if mark.place == NO_PLACE {
         false
     } else {
+        // What asks the order nothing comes first.
         mark.place == 0
             || mark.thread == ordered.trace.events[e as usize].thread
             || mark.place <= ordered.order.below_pred(e, mark.thread)
@@ -152,7 +156,7 @@ fn flags_of(alloc: Global, table: &[Latest]) -> Result<Vec<bool>, AllocError>
 {
     let mut flags = Vec::with_capacity(alloc, table.len())?;
     for latest in table {
-        flags.push(latest.write.place == u32::MAX)?;
+        flags.push(latest.write.place == NO_PLACE)?;
     }
     Ok(flags)
 }

@@ -1,27 +1,9 @@
--- Lists one after the other: what they contain, in what order, and when two lists in order are equal.
-use Rattle.std.proofs.Common.{◌≡◌, zero, suc, ◌⊎◌, inl, inr, List, [], ◌∷◌, ◌++◌, get_or, refl, arith, subst, sym, ◌∙◌}
-use Rattle.std.specs.Prelude.{Contains, AllPairs, flat_map, map, ◌↔◌}
+-- Lists one after the other: what they contain, and in what order.
+use Rattle.std.proofs.Common.{◌≡◌, inl, inr, List, [], ◌∷◌, ◌++◌, get_or, arith, subst, sym}
+use Rattle.std.specs.Prelude.{Contains, AllPairs, flat_map, map}
 use Rattle.std.proofs.lemmas.List.Elements.{Contains-get_or, Contains-append_left, Contains-append_right, Contains-append_cases, All-append}
 use Rattle.std.proofs.lemmas.List.Kept.{AllPairs-cons}
-
-pub contains_head : {X : Type 0} (x : X) (xs : List X) → Contains (x ∷ xs) x
-contains_head x xs = (zero, omega arith, refl)
-
-pub contains_tail : {X : Type 0} (x y : X) (xs : List X) → Contains xs y → Contains (x ∷ xs) y
-contains_tail x y xs h = (suc h.0, (let lt = h.1 in omega arith), h.2)
-
-pub contains_cases : {X : Type 0} (x y : X) (xs : List X) → Contains (x ∷ xs) y → (x ≡ y) ⊎ Contains xs y
-contains_cases x y xs (zero, lt, e) = inl e
-contains_cases x y xs (suc k, lt, e) = inr (k, omega arith, e)
-
-pub contains_none : {X : Type 0} (y : X) → Contains [] y → ⊥
-contains_none y h = let lt = h.1 in omega arith
-
-pub pairs_tail : {X : Type 0} (R : X → X → Type 0) (x : X) (xs : List X) → AllPairs R (x ∷ xs) → AllPairs R xs
-pairs_tail R x xs h = λ i j d lt within. h (suc i) (suc j) d (omega arith) (omega arith)
-
-pub pairs_head : {X : Type 0} (R : X → X → Type 0) (x : X) (xs : List X) → AllPairs R (x ∷ xs) → (y : X) → Contains xs y → R x y
-pairs_head R x xs h y c = subst (R x) c.2 (h zero (suc c.0) y (omega arith) (let lt = c.1 in omega arith))
+use Rattle.shb_lines.proofs.events.Increasing.{contains_cases, contains_head, contains_none, contains_tail, pairs_head, pairs_tail}
 
 pub pairs_append : {X : Type 0} (R : X → X → Type 0) (xs ys : List X) → AllPairs R xs → AllPairs R ys → ((x y : X) → Contains xs x → Contains ys y → R x y) → AllPairs R (xs ++ ys)
 pairs_append R [] ys hx hy cross = hy
@@ -70,40 +52,3 @@ map_ordered R f [] h = λ i j d lt within. absurd (omega arith)
 map_ordered R f (x ∷ xs) h = AllPairs-cons R (f x) (map f xs)
     (λ k d lt. let there = map_parts f xs (get_or (map f xs) k d) (Contains-get_or (map f xs) k d lt) in subst (R (f x)) there.2 (pairs_head (λ x z. R (f x) (f z)) x xs h there.0 there.1))
     (map_ordered R f xs (pairs_tail (λ x z. R (f x) (f z)) x xs h))
-
--- two lists in one strict order with the same elements are equal
-pub same_in_order : {X : Type 0} (R : X → X → Type 0) (xs ys : List X) → ((a b : X) → Contains xs a → Contains xs b → R a b → R b a → ⊥) → AllPairs R xs → AllPairs R ys → ((a : X) → Contains xs a ↔ Contains ys a) → xs ≡ ys
-same_in_order R [] [] strict hx hy same = refl
-same_in_order R [] (y ∷ ys) strict hx hy same = absurd (contains_none y ((same y).1 (contains_head y ys)))
-same_in_order R (x ∷ xs) [] strict hx hy same = absurd (contains_none x ((same x).0 (contains_head x xs)))
-same_in_order {X} R (x ∷ xs) (y ∷ ys) strict hx hy same = go heads (same_in_order R xs ys (λ a b ca cb. strict a b (contains_tail x a xs ca) (contains_tail x b xs cb)) (pairs_tail R x xs hx) (pairs_tail R y ys hy))
-  where
-    heads : x ≡ y
-    heads = elim (contains_cases y x ys ((same x).0 (contains_head x xs))) [
-      | inl e ↦ sym e
-      | inr later ↦ elim (contains_cases x y xs ((same y).1 (contains_head y ys))) [
-        | inl e ↦ e
-        | inr there ↦ absurd (strict x y (contains_head x xs) (contains_tail x y xs there) (pairs_head R x xs hx y there) (pairs_head R y ys hy x later))
-      ]
-    ]
-
-    no_more : (a : X) → Contains xs a → x ≡ a → ⊥
-    no_more a c e =
-        let before = pairs_head R x xs hx a c in
-        let twice : R x x = subst (R x) (sym e) before in
-        strict x x (contains_head x xs) (contains_head x xs) twice twice
-
-    no_more_there : (a : X) → Contains ys a → y ≡ a → ⊥
-    no_more_there a c e =
-        let before = pairs_head R y ys hy a c in
-        let twice : R y y = subst (R y) (sym e) before in
-        let here : R x x = subst (λ w. R w w) (sym heads) twice in
-        strict x x (contains_head x xs) (contains_head x xs) here here
-
-    go : x ≡ y → (((a : X) → Contains xs a ↔ Contains ys a) → xs ≡ ys) → (x ∷ xs) ≡ (y ∷ ys)
-    go e tails =
-        let rest : xs ≡ ys = tails (λ a. (
-          (λ c. elim (contains_cases y a ys ((same a).0 (contains_tail x a xs c))) [ inl at ↦ absurd (no_more a c (e ∙ at)) | inr there ↦ there ]),
-          (λ c. elim (contains_cases x a xs ((same a).1 (contains_tail y a ys c))) [ inl at ↦ absurd (no_more_there a c (sym e ∙ at)) | inr there ↦ there ]),
-        )) in
-        cc
