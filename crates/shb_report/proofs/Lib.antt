@@ -2,6 +2,7 @@ pub mod Increasing
 pub mod Blocks
 pub mod CutReports
 mod HeldLemmas
+mod RunTexts
 mod DigitLemmas
 mod Fronts
 mod Machine
