@@ -1,12 +1,11 @@
 -- Text put behind what is held back, one piece after another.
-use Rattle.std.proofs.Common.{◌≡◌, ◌+◌, ◌<◌, List, [], ◌∷◌, ◌++◌, ℕ, length, get_or, take, drop, Option, Result, Ok, Err, IsErrAnd, OnOk, OnErr, sym, ap, ◌∙◌, subst, append_assoc, append-nil, take-append-drop}
+use Rattle.std.proofs.Common.{◌≡◌, ◌+◌, ◌<◌, List, [], ◌∷◌, ◌++◌, ℕ, length, get_or, take, drop, Option, Result, Ok, Err, flat_map, IsErrAnd, OnOk, OnErr, sym, ap, ◌∙◌, subst, append_assoc, append-nil, take-append-drop}
 use Rattle.std.proofs.lemmas.List.{take_more}
 use Rattle.std.proofs.lemmas.List.Concat.{flat_map-append}
 use Rattle.std.specs.Io.KnownBytes.{Appends}
 use Rattle.shb_io.specs.Devices.{AppendsPrefix, HoldsBack}
 use Rattle.shb_io.proofs.Growth.{Appends-trans, AppendsPrefix-front, AppendsPrefix-after, HoldsBack-push, HoldsBack-trans}
 use Rattle.shb_report.specs.Held.{Puts}
-use Rattle.shb_report.specs.Report.{event_number, event_numbers}
 
 -- xs, and then ys
 pub HoldsBack-then : (a b c : Option (List ℕ)) (held mid now xs ys : List ℕ) → HoldsBack a b mid (held ++ xs) → HoldsBack b c now (mid ++ ys) → HoldsBack a c now (held ++ (xs ++ ys))
@@ -39,16 +38,17 @@ pub Puts-sent : {T E : Type 0} (r : Result T E) (a b c : Option (List ℕ)) (hel
 Puts-sent (Ok _) a b c held now bs p ok err none = record { sent = held ++ bs; appended = Appends-trans a b c held bs p ok; joined = ap (λ l. (held ++ bs) ++ l) none ∙ append-nil (held ++ bs) }
 Puts-sent (Err _) a b c held now bs p ok err none = AppendsPrefix-after a b c held bs p err
 
--- the numbers of one event more
-pub numbers-next : (events : List ℕ) (k : ℕ) → k < length events → event_numbers (take k events) ++ event_number (get_or events k 0) ≡ event_numbers (take (k + 1) events)
-numbers-next events k within =
-    let last : event_numbers (get_or events k 0 ∷ []) ≡ event_number (get_or events k 0) = append-nil (event_number (get_or events k 0)) in
-    ap (λ l. event_numbers (take k events) ++ l) (sym last) ∙ sym (flat_map-append event_number (take k events) (get_or events k 0 ∷ [])) ∙ ap event_numbers (sym (take_more events k 0 within))
+-- texts of the members of a list, one after another
+module _ {X : Type 0} (f : X → List ℕ) (xs : List X) (k : ℕ) (d : X) (within : k < length xs) where
+  -- the text of one member more
+  pub texts-next : flat_map f (take k xs) ++ f (get_or xs k d) ≡ flat_map f (take (k + 1) xs)
+  texts-next =
+      ap (λ l. flat_map f (take k xs) ++ l) (sym (append-nil (f (get_or xs k d)))) ∙ sym (flat_map-append f (take k xs) (get_or xs k d ∷ [])) ∙ ap (flat_map f) (sym (take_more xs k d within))
 
--- the numbers of the first events, of the next one, and of those behind it
-pub numbers-split : (events : List ℕ) (k : ℕ) → k < length events → event_numbers (take k events) ++ (event_number (get_or events k 0) ++ event_numbers (drop (k + 1) events)) ≡ event_numbers events
-numbers-split events k within =
-    sym (append_assoc (event_numbers (take k events)) (event_number (get_or events k 0)) (event_numbers (drop (k + 1) events)))
-    ∙ ap (λ l. l ++ event_numbers (drop (k + 1) events)) (numbers-next events k within)
-    ∙ sym (flat_map-append event_number (take (k + 1) events) (drop (k + 1) events))
-    ∙ ap event_numbers (take-append-drop (k + 1) events)
+  -- the texts of the first members, of the next one, and of those behind it
+  pub texts-split : flat_map f (take k xs) ++ (f (get_or xs k d) ++ flat_map f (drop (k + 1) xs)) ≡ flat_map f xs
+  texts-split =
+      sym (append_assoc (flat_map f (take k xs)) (f (get_or xs k d)) (flat_map f (drop (k + 1) xs)))
+      ∙ ap (λ l. l ++ flat_map f (drop (k + 1) xs)) texts-next
+      ∙ sym (flat_map-append f (take (k + 1) xs) (drop (k + 1) xs))
+      ∙ ap (flat_map f) (take-append-drop (k + 1) xs)

@@ -1,6 +1,7 @@
 pub mod Increasing
 pub mod Blocks
 mod HeldLemmas
+mod RunTexts
 mod DigitLemmas
 mod Fronts
 mod Machine

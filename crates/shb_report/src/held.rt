@@ -30,7 +30,11 @@ pub(crate) fn make_room<S: Sink>(
 }
 
 /// Puts some bytes behind what is held back.
-fn put_bytes<S: Sink>(sink: &mut S, held: &mut TextBuffer, bytes: &[u8]) -> Result<(), Failed>
+pub(crate) fn put_bytes<S: Sink>(
+    sink: &mut S,
+    held: &mut TextBuffer,
+    bytes: &[u8],
+) -> Result<(), Failed>
     requires countable { S.failure_count sink.old < 2 ^ 64 - 1 }
     ensures put { Puts (S.taken sink.old) (S.taken sink.new) result held.old held.new bytes.now }
     ensures counted { IsCounted (S.failure_count sink.old) (S.failure_count sink.new) result }
@@ -63,7 +67,7 @@ pub(crate) fn put_line<S: Sink>(
 }
 
 /// Puts how many events a schedule has behind what is held back.
-fn put_schedule_start<S: Sink>(
+pub(crate) fn put_schedule_start<S: Sink>(
     sink: &mut S,
     held: &mut TextBuffer,
     count: u64,
@@ -79,7 +83,11 @@ fn put_schedule_start<S: Sink>(
 }
 
 /// Puts the number of an event, counted from 1, behind what is held back.
-fn put_event<S: Sink>(sink: &mut S, held: &mut TextBuffer, event: u32) -> Result<(), Failed>
+pub(crate) fn put_event<S: Sink>(
+    sink: &mut S,
+    held: &mut TextBuffer,
+    event: u32,
+) -> Result<(), Failed>
     requires countable { S.failure_count sink.old < 2 ^ 64 - 1 }
     ensures put { Puts (S.taken sink.old) (S.taken sink.new) result held.old held.new (event_number event) }
     ensures counted { IsCounted (S.failure_count sink.old) (S.failure_count sink.new) result }

@@ -14,9 +14,11 @@ mod checking;
 mod entries;
 mod grammar;
 mod held;
+mod held_runs;
 pub mod laws;
 mod lines;
 mod listed;
+mod number_texts;
 mod parts;
 mod place_writer;
 mod places;
@@ -30,12 +32,13 @@ mod verdict_writer;
 pub mod writer;
 
 pub use checking::check_report;
+pub use number_texts::NumberTexts;
 pub use place_writer::place_lines;
 pub use places::{PlaceCount, Places, places_of};
 pub use report::{Report, ReportError, read_report, read_report_within};
 pub use verdict::{RaceFault, Verdict};
 pub use verdict_writer::verdict_line;
-pub use writer::{Counts, block, head, tail};
+pub use writer::{Counts, block, head, scheduled_block, tail};
 
 #[cfg(test)]
 mod place_tests;

@@ -1,5 +1,5 @@
 //! The parts of a report, each written by one call.
-ghost use Rattle.std.specs.Prelude.{◌≡◌, ◌+◌, ◌-◌, ◌^◌, ◌<◌, ◌≤◌, ◌++◌, length};
+ghost use Rattle.std.specs.Prelude.{◌≡◌, ◌+◌, ◌-◌, ◌^◌, ◌<◌, ◌≤◌, ◌++◌, length, Some};
 ghost use Rattle.std.specs.Option.{option_map};
 ghost use Rattle.shb_io.specs.Devices.{IsCounted, Writes};
 ghost use Rattle.shb_report.specs.declared.buffer.TheConstants.{ROOM};
@@ -8,8 +8,11 @@ ghost use Rattle.shb_report.specs.Report.{block_bytes, event_lines, head_bytes, 
 
 use crate::buffer::TextBuffer;
 use crate::held::{put_line, put_schedule};
+use crate::held_runs::put_runs_line;
+use crate::number_texts::NumberTexts;
 use shb_io::{Failed, Sink, write_all};
 use shb_lines::{Pair, Trace};
+use shb_positions::Positions;
 
 /// How much there is in a trace: the second line of its report.
 #[derive(Clone, Copy, Debug, PartialEq, Eq)]
@@ -108,6 +111,32 @@ pub fn block<S: Sink>(
     push_race_line(&mut held, number, pair);
     put_event_lines(sink, &mut held, trace, pair)?;
     put_schedule(sink, &mut held, schedule)?;
+    write_all(sink, held.as_slice())
+}
+
+/// Writes the block of a race as [`block`] does, with a schedule that is kept as runs.
+///
+/// A run that lies among the events of `numbers` is copied out of it; the numbers of any other are
+/// written one by one.
+pub fn scheduled_block<S: Sink>(
+    sink: &mut S,
+    trace: &Trace,
+    number: u64,
+    pair: Pair,
+    numbers: &NumberTexts,
+    schedule: &Positions,
+) -> Result<(), Failed>
+    requires countable { S.failure_count sink.old < 2 ^ 64 - 1 }
+    requires first { pair.first < length trace.now.events }
+    requires second { pair.second < length trace.now.events }
+    ensures written { Writes (S.taken sink.old) (S.taken sink.new) result
+        (block_bytes trace.now number (pair.first, pair.second) (Some schedule.now)) }
+    ensures counted { IsCounted (S.failure_count sink.old) (S.failure_count sink.new) result }
+{
+    let mut held = TextBuffer::new();
+    push_race_line(&mut held, number, pair);
+    put_event_lines(sink, &mut held, trace, pair)?;
+    put_runs_line(sink, &mut held, numbers, schedule)?;
     write_all(sink, held.as_slice())
 }
 

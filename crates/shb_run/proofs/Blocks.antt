@@ -166,3 +166,12 @@ WritesBlocks-all ws trace races i old new x le before = record {
   blocks = subst (λ l. AreBlocks ws trace (map ends l) before.bytes) (take_all i races le) before.blocks;
   written = before.appended;
 }
+
+-- nothing was written
+pub WritesBlocks-none : {U : Type 0} (ws : Bool) (trace : TraceData) (races : List (ℕ × ℕ)) (old : Option (List ℕ)) (Q : WriteError → Type 0) (r : Result U WriteError) → IsDisciplined trace.events → IsErrAnd r Q → WritesBlocks ws trace races old old r
+WritesBlocks-none ws trace races old Q r disciplined failed =
+    let all = AreBlocks-more ws trace [] races [] disciplined (AreBlocks-nil ws trace) in record {
+      bytes = all.0;
+      blocks = all.1;
+      written = front_written Q r old old all.0 failed (0, Appends-nil old);
+    }

@@ -64,37 +64,35 @@ module _ {K : Type 0} (taken : K → Option (List ℕ)) (failures : K → ℕ) w
       ∙ ap (λ t. scheduled_blocks start.trace.now start.written start.races.now schedules ++ block_bytes t number (ends race) (Some s)) (sym has.same_trace)
 
   -- the next block was written
-  pub took : {T E V : Type 0} (items : V → List ℕ) (start before after : BlockWriter K) (given : List V) (v : V) (race : Pair) (s : List ℕ) (number : ℕ) (r : Result T E)
-      → s ≡ items v → race ≡ get_or before.races.now before.written none → number ≡ before.written + 1 → after.written ≡ before.written + 1
+  pub took : {T E : Type 0} (start before after : BlockWriter K) (given : List (List ℕ)) (s : List ℕ) (race : Pair) (number : ℕ) (r : Result T E)
+      → race ≡ get_or before.races.now before.written none → number ≡ before.written + 1 → after.written ≡ before.written + 1
       → after.sink.ghost_name ≡ before.sink.ghost_name → after.trace.now ≡ before.trace.now → after.races.now ≡ before.races.now
       → Writes (taken before.sink.now) (taken after.sink.now) r (block_bytes before.trace.now number (ends race) (Some s)) → IsCounted (failures before.sink.now) (failures after.sink.now) r
-      → HasWritten taken failures start (map items given) before → IfOk r (λ _. HasWritten taken failures start (map items (given ++ v ∷ [])) after)
-  took items start before after given v race s number (Err e) same is numbered more sink trace races written counted has = tt
-  took items start before after given v race s number (Ok x) same is numbered more sink trace races written counted has =
-      subst (λ l. HasWritten taken failures start l after) (ap (λ w. map items given ++ w ∷ []) same ∙ sym (map-append items given (v ∷ []))) (record {
-        same_sink = sink ∙ has.same_sink;
-        same_trace = trace ∙ has.same_trace;
-        same_races = races ∙ has.same_races;
-        as_many = omega (arith, more, has.as_many, behind-is start.written (map items given), behind-is start.written (map items given ++ s ∷ []), length-append (map items given) (s ∷ []));
-        appended = subst (Appends (taken start.sink.now) (taken after.sink.now)) (sym (next_block start before (map items given) s race number is numbered has)) (Appends-trans _ _ _ _ _ has.appended written);
-        counted = counted ∙ has.counted;
-      })
+      → HasWritten taken failures start given before → IfOk r (λ _. HasWritten taken failures start (given ++ s ∷ []) after)
+  took start before after given s race number (Err e) is numbered more sink trace races written counted has = tt
+  took start before after given s race number (Ok x) is numbered more sink trace races written counted has = record {
+    same_sink = sink ∙ has.same_sink;
+    same_trace = trace ∙ has.same_trace;
+    same_races = races ∙ has.same_races;
+    as_many = omega (arith, more, has.as_many, behind-is start.written given, behind-is start.written (given ++ s ∷ []), length-append given (s ∷ []));
+    appended = subst (Appends (taken start.sink.now) (taken after.sink.now)) (sym (next_block start before given s race number is numbered has)) (Appends-trans _ _ _ _ _ has.appended written);
+    counted = counted ∙ has.counted;
+  }
 
   -- the next block was not written whole
-  pub refused : {T E V : Type 0} (items : V → List ℕ) (start before after : BlockWriter K) (given : List V) (v : V) (race : Pair) (s : List ℕ) (number : ℕ) (r : Result T E)
-      → s ≡ items v → race ≡ get_or before.races.now before.written none → number ≡ before.written + 1
+  pub refused : {T E : Type 0} (start before after : BlockWriter K) (given : List (List ℕ)) (s : List ℕ) (race : Pair) (number : ℕ) (r : Result T E)
+      → race ≡ get_or before.races.now before.written none → number ≡ before.written + 1
       → after.sink.ghost_name ≡ before.sink.ghost_name
       → Writes (taken before.sink.now) (taken after.sink.now) r (block_bytes before.trace.now number (ends race) (Some s)) → IsCounted (failures before.sink.now) (failures after.sink.now) r
-      → HasWritten taken failures start (map items given) before → IfErr r (λ _. HasStopped taken failures start (map items given) (items v) after)
-  refused items start before after given v race s number (Ok x) same is numbered sink written counted has = tt
-  refused items start before after given v race s number (Err e) same is numbered sink written counted has =
-      subst (λ w. HasStopped taken failures start (map items given) w after) same (record {
-        same_sink = sink ∙ has.same_sink;
-        failed = λ there room. record {
-          front = subst (AppendsPrefix (taken start.sink.now) (taken after.sink.now)) (sym (next_block start before (map items given) s race number is numbered has)) (AppendsPrefix-after _ _ _ _ _ has.appended written);
-          counted = counted ∙ ap (λ n. n + 1) has.counted;
-        };
-      })
+      → HasWritten taken failures start given before → IfErr r (λ _. HasStopped taken failures start given s after)
+  refused start before after given s race number (Ok x) is numbered sink written counted has = tt
+  refused start before after given s race number (Err e) is numbered sink written counted has = record {
+    same_sink = sink ∙ has.same_sink;
+    failed = λ there room. record {
+      front = subst (AppendsPrefix (taken start.sink.now) (taken after.sink.now)) (sym (next_block start before given s race number is numbered has)) (AppendsPrefix-after _ _ _ _ _ has.appended written);
+      counted = counted ∙ ap (λ n. n + 1) has.counted;
+    };
+  }
 
   -- there is no next race
   pub none_left : (start before : BlockWriter K) (schedules : List (List ℕ)) (s : List ℕ) → length before.races.now ≤ before.written → HasWritten taken failures start schedules before → HasStopped taken failures start schedules s before

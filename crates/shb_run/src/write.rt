@@ -11,10 +11,11 @@ use crate::block_writer::BlockWriter;
 use crate::errors::WriteError;
 use crate::settings::Settings;
 use shb_clocks::{Order, Ordered};
+use shb_discipline::Disciplined;
 use shb_fan::{Gate, StreamError, Workers, stream};
-use shb_io::{Failed, Sink};
+use shb_io::{Failed, NoMemory, Sink};
 use shb_lines::{Pair, Trace};
-use shb_report::{Counts, Places, block, head, place_lines, places_of, tail};
+use shb_report::{Counts, NumberTexts, Places, block, head, place_lines, places_of, tail};
 use shb_witness::WitnessJob;
 use std::alloc::Global;
 use std::random::RandomSource;
@@ -41,7 +42,53 @@ fn write_pairs<K: Sink, O: Order>(
     Ok(())
 }
 
+/// The texts of numbers that schedules of these races are copied from. Of one schedule the numbers
+/// are as quickly written one by one.
+fn numbers_for(
+    alloc: Global,
+    trace: &Disciplined<'_>,
+    races: &[Pair],
+) -> Result<NumberTexts, NoMemory> {
+    if races.len() < 2 {
+        return NumberTexts::of_first(alloc, 0);
+    }
+    NumberTexts::of_first(alloc, trace.events.len() as u32)
+}
+
 /// Writes the blocks of some races, numbered from 1, each as soon as workers have made its schedule.
+/// Runs of schedules are copied out of `numbers`.
+fn write_made<R: Threads + Wait + Sync, K: Sink, O: Order + Sync, G: Gate + Sync>(
+    rt: &R,
+    alloc: Global,
+    sink: &mut K,
+    ordered: &Ordered<'_, O>,
+    races: &[Pair],
+    numbers: &NumberTexts,
+    gate: &G,
+    workers: Workers,
+) -> Result<(), WriteError>
+    requires countable { K.failure_count sink.old < 2 ^ 64 - 1 }
+    requires races { All (λ pair. Race ordered.now.trace.now.events.now pair.first pair.second) races.now }
+    ensures blocks { WritesBlocks true ordered.now.trace.now.trace.now (map ends races.now)
+        (K.taken sink.old) (K.taken sink.new) result }
+    ensures counted { IsSinkCounted (K.failure_count sink.old) (K.failure_count sink.new) result }
+{
+    let job = WitnessJob::new(ordered.order, ordered.trace, ordered.links, races);
+    let mut writer = BlockWriter {
+        sink: &mut *sink,
+        trace: ordered.trace.trace,
+        races,
+        numbers,
+        written: 0,
+    };
+    match stream(rt, alloc, &job, gate, workers, &mut writer) {
+        Ok(()) => Ok(()),
+        Err(StreamError::Taker(_)) => Err(WriteError::Sink),
+        Err(StreamError::Memory) => Err(WriteError::Memory),
+    }
+}
+
+/// Writes the blocks of some races, numbered from 1, with schedules.
 fn write_schedules<R: Threads + Wait + Sync, K: Sink, O: Order + Sync, G: Gate + Sync>(
     rt: &R,
     alloc: Global,
@@ -57,18 +104,8 @@ fn write_schedules<R: Threads + Wait + Sync, K: Sink, O: Order + Sync, G: Gate +
         (K.taken sink.old) (K.taken sink.new) result }
     ensures counted { IsSinkCounted (K.failure_count sink.old) (K.failure_count sink.new) result }
 {
-    let job = WitnessJob::new(ordered.order, ordered.trace, ordered.links, races);
-    let mut writer = BlockWriter {
-        sink: &mut *sink,
-        trace: ordered.trace.trace,
-        races,
-        written: 0,
-    };
-    match stream(rt, alloc, &job, gate, workers, &mut writer) {
-        Ok(()) => Ok(()),
-        Err(StreamError::Taker(_)) => Err(WriteError::Sink),
-        Err(StreamError::Memory) => Err(WriteError::Memory),
-    }
+    let numbers = numbers_for(alloc, ordered.trace, races)?;
+    write_made(rt, alloc, sink, ordered, races, &numbers, gate, workers)
 }
 
 /// Writes the blocks of some races, numbered from 1, with schedules or without.

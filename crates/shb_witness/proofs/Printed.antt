@@ -6,9 +6,11 @@ use Rattle.shb_lines.specs.declared.event.Event.{Event}
 use Rattle.shb_lines.specs.declared.event.Pair.{Pair}
 use Rattle.shb_lines.specs.events.Race.{Race}
 use Rattle.shb_lines.specs.events.Reach.{is_below_pred}
-use Rattle.shb_lines.specs.events.Schedule.{IsPrintedSchedule}
+use Rattle.shb_lines.specs.events.Discipline.{IsDisciplined}
+use Rattle.shb_lines.specs.events.Schedule.{IsPrintedSchedule, IsSchedule}
 use Rattle.shb_lines.proofs.events.Decide.{printed_from_listed}
 use Rattle.shb_lines.proofs.events.Listed.{IsListed}
+use Rattle.shb_lines.proofs.events.Schedulable.{printed_is_schedule}
 use Rattle.shb_lines.proofs.events.Reach.{numbers_listed, reflect_or, reflect_below_pred, event_at_access}
 use Rattle.std.proofs.lemmas.Option.{get_or_from_slice_get, slice_get_within}
 use Rattle.shb_witness.proofs.Rising.{increasing_equal}
@@ -51,6 +53,11 @@ race_ends trace i j race =
     (slice_get_within trace i first.0 first.1, slice_get_within trace j second.0 second.1)
 
 -- a schedule that was made is the value of its piece
-pub piece_value : (asked : Asked) (trace : List Event) (races : List Pair) (k : ℕ) (r : Result (Vec ℕ Global) NoMemory) → record { trace = trace; races = races } ≡ asked → (let p = slice_index_or races k (record { first = 0; second = 0 }) in IfOk r (λ s. IsPrintedSchedule trace s.items p.first p.second)) → IfOk r (λ s. s.items ≡ schedule_at asked.trace asked.races k)
-piece_value asked trace races k (Ok s) same printed = subst (λ (a : Asked). s.items ≡ schedule_at a.trace a.races k) same (printed_unique trace s.items (schedule_at trace races k) _ _ printed (computed_is_printed trace (slice_index_or races k (record { first = 0; second = 0 }))))
+pub piece_value : (asked : Asked) (trace : List Event) (races : List Pair) (k : ℕ) (r : Result (List ℕ) NoMemory) → record { trace = trace; races = races } ≡ asked → (let p = slice_index_or races k (record { first = 0; second = 0 }) in IfOk r (λ s. IsPrintedSchedule trace s p.first p.second)) → IfOk r (λ s. s ≡ schedule_at asked.trace asked.races k)
+piece_value asked trace races k (Ok s) same printed = subst (λ (a : Asked). s ≡ schedule_at a.trace a.races k) same (printed_unique trace s (schedule_at trace races k) _ _ printed (computed_is_printed trace (slice_index_or races k (record { first = 0; second = 0 }))))
 piece_value asked trace races k (Err e) same printed = tt
+
+-- a printed schedule, in a list of its own, is a schedule
+pub listed_is_schedule : (trace : List Event) (s : List ℕ) (i j : ℕ) (r : Result (Vec ℕ Global) NoMemory) → IsDisciplined trace → Race trace i j → IsPrintedSchedule trace s i j → IfOk r (λ v. v.items ≡ s) → IfOk r (λ v. IsSchedule trace v.items i j)
+listed_is_schedule trace s i j (Ok v) disciplined race printed same = subst (λ (l : List ℕ). IsSchedule trace l i j) (sym same) (printed_is_schedule trace s i j disciplined race printed)
+listed_is_schedule trace s i j (Err e) disciplined race printed same = tt

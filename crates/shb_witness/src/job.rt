@@ -6,18 +6,19 @@ ghost use Rattle.shb_lines.specs.declared.event.Event.{Event};
 ghost use Rattle.shb_lines.specs.declared.event.Pair.{Pair};
 ghost use Rattle.shb_witness.specs.Schedules.{Asked, AreRaces, schedule_at};
 
-use crate::schedules::schedule;
+use crate::schedules::schedule_runs;
 use shb_clocks::Order;
 use shb_discipline::Disciplined;
 use shb_fan::Job;
 use shb_io::NoMemory;
 use shb_lines::Pair;
 use shb_links::Links;
+use shb_positions::Positions;
 use std::alloc::Global;
 use std::collections::LinkedList;
 use std::marker::Model;
 
-/// Makes the schedules of races: piece k is the printed schedule of race k. Contracts see it as the
+/// Makes the schedules of races: piece k is the printed schedule of race k, kept as runs. Contracts see it as the
 /// trace and its races, which fix every schedule.
 #[derive(Drop)]
 pub struct WitnessJob<'a, O: Order> {
@@ -60,11 +61,11 @@ impl<'a, O: Order> WitnessJob<'a, O> {
 }
 
 impl<'a, O: Order> Job for WitnessJob<'a, O> {
-    type Out = Vec<u32>;
+    type Out = Positions;
 
     type Meaning = LinkedList<u32>;
 
-    ghost meaning = { λ positions. positions.items };
+    ghost meaning = { λ positions. positions };
 
     ghost value = { λ asked k. schedule_at asked.trace asked.races k };
 
@@ -74,8 +75,8 @@ impl<'a, O: Order> Job for WitnessJob<'a, O> {
         self.pairs.len() as u64
     }
 
-    fn run(&self, alloc: Global, k: u64) -> Result<Vec<u32>, NoMemory> {
-        schedule(
+    fn run(&self, alloc: Global, k: u64) -> Result<Positions, NoMemory> {
+        schedule_runs(
             alloc,
             self.order,
             self.trace,

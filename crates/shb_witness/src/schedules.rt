@@ -10,6 +10,7 @@ use shb_discipline::Disciplined;
 use shb_io::NoMemory;
 use shb_lines::Pair;
 use shb_links::Links;
+use shb_positions::Positions;
 use std::alloc::Global;
 
 /// The printed schedule of a race: the positions, rising, of all events that are SHB-below the
@@ -34,8 +35,24 @@ pub fn schedule<O: Order>(
     ensures schedule { IfOk result (λ s. IsSchedule trace.now.events.now s.items
         pair.first pair.second) }
 {
+    schedule_runs(alloc, order, trace, links, pair)?.to_vec(alloc)
+}
+
+/// The printed schedule of a race, as [`schedule`] gives it, kept as runs of consecutive events.
+pub(crate) fn schedule_runs<O: Order>(
+    alloc: Global,
+    order: &O,
+    trace: &Disciplined<'_>,
+    links: &Links<'_>,
+    pair: Pair,
+) -> Result<Positions, NoMemory>
+    requires of_trace { O.trace order.now ≡ trace.now.events.now }
+    requires linked { links.now ≡ trace.now.events.now }
+    requires race { Race trace.now.events.now pair.first pair.second }
+    ensures { IfOk result (λ s. IsPrintedSchedule trace.now.events.now s pair.first pair.second) }
+{
     let cuts = cuts_of(alloc, order, trace, pair)?;
-    let mut positions = Vec::new(alloc);
+    let mut positions = Positions::new(alloc);
     for k in 0..end_of(trace, links, pair) {
         let thread = trace.events[k as usize].thread;
         if links.local(k) <= cuts[thread as usize] {

@@ -45,7 +45,7 @@ fn scheduled(
     }
     let pairs = [pair];
     let job = WitnessJob::new(&order, &trace, &links, &pairs);
-    Ok(Some(job.run(rt.alloc(), 0)?))
+    Ok(Some(job.run(rt.alloc(), 0)?.to_vec(rt.alloc())?))
 }
 
 #[test]

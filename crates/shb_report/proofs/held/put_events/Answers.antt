@@ -1,7 +1,7 @@
 use Rattle.std.proofs.Common.{rules, ◌++◌, ◌+◌, get_or, take, drop, subst}
 use Rattle.shb_io.specs.Devices.{AppendsPrefix, HoldsBack}
 use Rattle.shb_report.specs.Report.{event_number, event_numbers}
-use Rattle.shb_report.proofs.HeldLemmas.{HoldsBack-then, PutsPrefix-front, PutsPrefix-after, Puts-err, numbers-next, numbers-split}
+use Rattle.shb_report.proofs.HeldLemmas.{HoldsBack-then, PutsPrefix-front, PutsPrefix-after, Puts-err, texts-next, texts-split}
 use Rattle.shb_report.proofs.held.put_events.Goals as goal
 
 pub returns-in_err-put_event-clause-put : goal.returns-in_err-put_event-clause-put
@@ -14,7 +14,7 @@ returns-in_err-put_event-clause-put g c =
     let front = PutsPrefix-front _ _ c.loop-event.held number rest c.in_err-put_event.ensures.put in
     let after = PutsPrefix-after _ _ _ held _ (event_numbers (take k events)) (number ++ rest) c.loop-event.invariant.held front in
     Puts-err _ _ _ _ held _ (event_numbers events) c.from_residual.ensures.1
-    (subst (λ l. AppendsPrefix (g.S.Sink.taken c.args.sink.now) (g.S.Sink.taken c.put_event.new.sink) (held ++ l)) (numbers-split events k c.loop-event-test.true) after)
+    (subst (λ l. AppendsPrefix (g.S.Sink.taken c.args.sink.now) (g.S.Sink.taken c.put_event.new.sink) (held ++ l)) (texts-split event_number events k 0 c.loop-event-test.true) after)
 
 pub loop-event-preserved : goal.loop-event-preserved
 loop-event-preserved g c =
@@ -23,6 +23,6 @@ loop-event-preserved g c =
     let k = c.loop-event.event-index in
     let number = event_number (get_or events k 0) in
     let more = HoldsBack-then _ _ _ held _ _ (event_numbers (take k events)) number c.loop-event.invariant.held c.in_ok-put_event.ensures.put in record {
-      held = subst (λ l. HoldsBack (g.S.Sink.taken c.args.sink.now) (g.S.Sink.taken c.put_event.new.sink) c.put_event.new.held (held ++ l)) (numbers-next events k c.loop-event-test.true) more;
+      held = subst (λ l. HoldsBack (g.S.Sink.taken c.args.sink.now) (g.S.Sink.taken c.put_event.new.sink) c.put_event.new.held (held ++ l)) (texts-next event_number events k 0 c.loop-event-test.true) more;
       counted = search rules;
     }

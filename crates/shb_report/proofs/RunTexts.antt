@@ -1,0 +1,106 @@
+-- The numbers of consecutive events.
+use Rattle.std.proofs.Common.{◌≡◌, ℕ, ◌+◌, ◌-◌, ◌<◌, ◌≤◌, ◌⊎◌, inl, inr, List, [], ◌∷◌, ◌++◌, length, get_or, take, drop, refl, sym, ap, subst, ◌∙◌, arith, append_assoc, append-nil, length-append}
+use Rattle.std.specs.List.{range_with_len, slice_range}
+use Rattle.std.proofs.lemmas.Bool.{cases_lt}
+use Rattle.std.proofs.lemmas.List.{get_or_push, get_or_read, length_push}
+use Rattle.std.proofs.lemmas.List.Concat.{flat_map-append}
+use Rattle.std.proofs.Math.ListN.{get_or-append}
+use Rattle.std.proofs.Math.Seq.{drop-append_seam, take-append_seam}
+use Rattle.shb_positions.specs.declared.positions.Run.{Run}
+use Rattle.shb_positions.specs.Runs.{positions_in, run_positions}
+use Rattle.shb_positions.proofs.RunLemmas.{range_split}
+use Rattle.shb_report.specs.Numbers.{HasNumbers, first_numbers, run_numbers}
+use Rattle.shb_report.specs.Report.{event_number, event_numbers}
+
+numbers_split : (a m n b k : ℕ) → a + m ≡ b → m + n ≡ k → event_numbers (range_with_len a k) ≡ event_numbers (range_with_len a m) ++ event_numbers (range_with_len b n)
+numbers_split a m n b k from more = ap event_numbers (range_split a m n b k from more) ∙ flat_map-append event_number (range_with_len a m) (range_with_len b n)
+
+-- the number of one event more
+pub numbers-next : (a k j : ℕ) → a + k ≡ j → event_numbers (range_with_len a k) ++ event_number j ≡ event_numbers (range_with_len a (k + 1))
+numbers-next a k j from =
+    ap (λ l. event_numbers (range_with_len a k) ++ l) (sym (append-nil (event_number j))) ∙ sym (numbers_split a k 1 j (k + 1) from refl)
+
+-- the numbers of the first events, of the next one, and of those behind it
+pub numbers-split : (a k j n : ℕ) → a + k ≡ j → k < n → event_numbers (range_with_len a k) ++ (event_number j ++ event_numbers (range_with_len (j + 1) (n - (k + 1)))) ≡ event_numbers (range_with_len a n)
+numbers-split a k j n from within =
+    sym (append_assoc (event_numbers (range_with_len a k)) (event_number j) (event_numbers (range_with_len (j + 1) (n - (k + 1)))))
+    ∙ ap (λ l. l ++ event_numbers (range_with_len (j + 1) (n - (k + 1)))) (numbers-next a k j from)
+    ∙ sym (numbers_split a (k + 1) (n - (k + 1)) (j + 1) n (omega (arith, from)) (omega (arith, within)))
+
+-- run by run, or event by event
+pub run_numbers-are : (runs : List Run) → run_numbers runs ≡ event_numbers (positions_in runs)
+run_numbers-are [] = refl
+run_numbers-are (run ∷ runs) =
+    ap (λ l. event_numbers (run_positions run) ++ l) (run_numbers-are runs) ∙ sym (flat_map-append event_number (run_positions run) (positions_in runs))
+
+-- the text of one number more
+pub numbers-more : (count : ℕ) (text starts : List ℕ) → HasNumbers count text starts → HasNumbers (count + 1) (text ++ event_number count) (starts ++ length (text ++ event_number count) ∷ [])
+numbers-more count text starts has = record {
+  text_is = next;
+  as_many = length_push starts (length (text ++ event_number count)) ∙ ap (λ n. n + 1) has.as_many;
+  each = λ k le. at k le (cases_lt k (count + 1));
+}
+  where
+    next : text ++ event_number count ≡ first_numbers (count + 1)
+    next = ap (λ l. l ++ event_number count) has.text_is ∙ numbers-next 0 count count (omega arith)
+
+    at : (k : ℕ) → k ≤ count + 1 → (k < count + 1) ⊎ (count + 1 ≤ k) → get_or (starts ++ length (text ++ event_number count) ∷ []) k 0 ≡ length (first_numbers k)
+    at k le (inl lt) = get_or-append starts (length (text ++ event_number count) ∷ []) 0 k (omega (arith, has.as_many, lt)) ∙ has.each k (omega (arith, lt))
+    at k le (inr more) =
+        let same : k ≡ count + 1 = omega (arith, le, more) in
+        get_or_push starts (length (text ++ event_number count)) 0 k (has.as_many ∙ sym same) ∙ ap length next ∙ ap (λ n. length (first_numbers n)) (sym same)
+
+middle : (xs ys zs : List ℕ) (from to : ℕ) → from ≡ length xs → to ≡ length xs + length ys → slice_range (xs ++ (ys ++ zs)) from to ≡ ys
+middle xs ys zs from to begins ends =
+    let gap : to - from ≡ length ys = omega (arith, begins, ends) in
+    ap (λ n. take n (drop from (xs ++ (ys ++ zs)))) gap
+    ∙ ap (λ n. take (length ys) (drop n (xs ++ (ys ++ zs)))) begins
+    ∙ ap (take (length ys)) (drop-append_seam xs (ys ++ zs))
+    ∙ take-append_seam ys zs
+
+-- where the numbers of a run stand in the text
+module _ (count : ℕ) (text starts : List ℕ) (first len from to : ℕ) (has : HasNumbers count text starts) (within : first + len ≤ count) (is_from : from ≡ get_or starts first from) (is_to : to ≡ get_or starts (first + len) to) where
+  whole : text ≡ first_numbers first ++ (event_numbers (range_with_len first len) ++ event_numbers (range_with_len (first + len) (count - (first + len))))
+  whole =
+      has.text_is ∙ numbers_split 0 first (count - first) first count (omega arith) (omega (arith, within))
+      ∙ ap (λ l. first_numbers first ++ l) (numbers_split first len (count - (first + len)) (first + len) (count - first) refl (omega (arith, within)))
+
+  begins : from ≡ length (first_numbers first)
+  begins = get_or_read starts first from (omega (arith, within, has.as_many)) is_from 0 ∙ has.each first (omega (arith, within))
+
+  ends : to ≡ length (first_numbers first) + length (event_numbers (range_with_len first len))
+  ends =
+      get_or_read starts (first + len) to (omega (arith, within, has.as_many)) is_to 0 ∙ has.each (first + len) within
+      ∙ ap length (numbers_split 0 first len first (first + len) (omega arith) refl) ∙ length-append (first_numbers first) (event_numbers (range_with_len first len))
+
+  pub numbers-part : slice_range text from to ≡ event_numbers (range_with_len first len)
+  numbers-part =
+      ap (λ l. slice_range l from to) whole
+      ∙ middle (first_numbers first) (event_numbers (range_with_len first len)) (event_numbers (range_with_len (first + len) (count - (first + len)))) from to begins ends
+
+  pub part-rises : from ≤ to
+  part-rises = omega (arith, begins, ends)
+
+  pub part-within : to ≤ length text
+  part-within =
+      omega (
+        arith,
+        ends,
+        ap length whole,
+        length-append (first_numbers first) (event_numbers (range_with_len first len) ++ event_numbers (range_with_len (first + len) (count - (first + len)))),
+        length-append (event_numbers (range_with_len first len)) (event_numbers (range_with_len (first + len) (count - (first + len)))),
+      )
+
+-- the text and the starts with one number more
+pub numbers-pushed : (count place : ℕ) (text starts new_text new_starts : List ℕ) → HasNumbers count text starts → new_text ≡ text ++ event_number count → new_starts ≡ starts ++ place ∷ [] → place ≡ length new_text → HasNumbers (count + 1) new_text new_starts
+numbers-pushed count place text starts new_text new_starts has more pushed there =
+    let started : new_starts ≡ starts ++ length (text ++ event_number count) ∷ [] = pushed ∙ ap (λ n. starts ++ n ∷ []) (there ∙ ap length more) in
+    subst (λ l. HasNumbers (count + 1) l new_starts) (sym more) (subst (λ l. HasNumbers (count + 1) (text ++ event_number count) l) (sym started) (numbers-more count text starts has))
+
+-- no numbers yet
+pub numbers-none : (text starts : List ℕ) → text ≡ [] → starts ≡ 0 ∷ [] → HasNumbers 0 text starts
+numbers-none text starts empty one = record {
+  text_is = empty;
+  as_many = ap length one;
+  each = λ k le. (let zero_is : k ≡ 0 = omega (arith, le) in ap (λ l. get_or l k 0) one ∙ ap (λ n. get_or (0 ∷ []) n 0) zero_is ∙ ap (λ n. length (first_numbers n)) (sym zero_is));
+}

@@ -1,6 +1,0 @@
-use Rattle.shb_lines.proofs.events.Listed.{IsListed}
-use Rattle.shb_witness.specs.Cuts.{BelowEither}
-use Rattle.shb_witness.proofs.schedules.schedule.Given as goal
-
-abbrev pub invariant-loop-k : goal.invariant-loop-k
-invariant-loop-k g l = IsListed (BelowEither l.fn.trace.events.now l.fn.pair.first l.fn.pair.second) l.k l.positions.items

@@ -1,0 +1,57 @@
+use Rattle.std.proofs.Common.{◌≡◌, ℕ, [], ◌∷◌, ◌++◌, ◌<◌, ◌≤◌, ◌+◌, length, ap, ◌∙◌, arith}
+use Rattle.std.proofs.lemmas.List.{length_push}
+use Rattle.std.proofs.lemmas.Option.{slice_get-get_or}
+use Rattle.shb_lines.specs.declared.event.Op.TheVariants.{Read}
+use Rattle.shb_lines.proofs.events.Listed.{listed_more_yes, listed_more_no}
+use Rattle.shb_witness.specs.Cuts.{BelowEither}
+use Rattle.shb_witness.proofs.CutLemmas.{cut_test}
+use Rattle.shb_witness.proofs.Printed.{race_ends, printed_before}
+use Rattle.shb_witness.proofs.schedules.schedule_runs.Goals as goal
+use Rattle.shb_witness.proofs.schedules.schedule_runs.Goals.{then-local-index+in_ok-push, else-local-index}
+
+pub cuts_of-requires-clause-first : goal.cuts_of-requires-clause-first
+cuts_of-requires-clause-first g c = (race_ends _ _ _ c.requires.race).0
+
+pub cuts_of-requires-clause-second : goal.cuts_of-requires-clause-second
+cuts_of-requires-clause-second g c = (race_ends _ _ _ c.requires.race).1
+
+pub end_of-k-end-requires-clause-first : goal.end_of-k-end-requires-clause-first
+end_of-k-end-requires-clause-first g c = (race_ends _ _ _ c.requires.race).0
+
+pub end_of-k-end-requires-clause-second : goal.end_of-k-end-requires-clause-second
+end_of-k-end-requires-clause-second g c = (race_ends _ _ _ c.requires.race).1
+
+pub index-requires : goal.index-requires
+index-requires g c =
+    let low = (c.args.trace.now.within c.loop-k.k _ (slice_get-get_or c.args.trace.now.events.now c.loop-k.k record { thread = 0; op = Read 0; line = 0 } (omega arith))).thread in
+    let long = c.in_ok-cuts.ensures.as_long in
+    omega (arith, low, long, c.in_ok-cuts.cuts.ok.0)
+
+pub loop-k-preserved : goal.loop-k-preserved
+loop-k-preserved g c =
+    let trace = c.args.trace.now.events.now in
+    let pair = c.args.pair in
+    let inside : c.loop-k.k < length trace = omega (arith, c.end_of-k-end.ensures.within) in
+    let low = (c.args.trace.now.within c.loop-k.k _ (slice_get-get_or trace c.loop-k.k _ inside)).thread in
+    let test = cut_test trace c.args.links.now pair.first pair.second c.args.trace.now.sizes.threads c.loop-k.k _ _ c.in_ok-cuts.cuts.items _ c.requires.linked c.in_ok-cuts.ensures low inside c.local.ensures.place c.index.ensures in
+    elim c.if-local-index.branch [
+      | then-local-index+in_ok-push w ↦
+          (let e : c.if-local-index.positions ≡ c.loop-k.positions ++ c.loop-k.k ∷ [] = w.positions-is ∙ w.in_ok-push.ensures.pushed in
+          record {
+            found = rw e (listed_more_yes (BelowEither trace pair.first pair.second) c.loop-k.k c.loop-k.positions (test.0 w.if-local-index.true) c.loop-k.invariant.found);
+            few = omega (arith, c.loop-k.invariant.few, ap length e, length_push c.loop-k.positions c.loop-k.k);
+          })
+      | else-local-index w ↦
+          (let e : c.if-local-index.positions ≡ c.loop-k.positions = w.positions-is in
+          record {
+            found = rw e (listed_more_no (BelowEither trace pair.first pair.second) c.loop-k.k c.loop-k.positions (λ h. let le = test.1 h in let above = w.if-local-index.false in omega (arith, le, above)) c.loop-k.invariant.found);
+            few = omega (arith, c.loop-k.invariant.few, ap length e);
+          })
+    ]
+
+pub returns : goal.returns
+returns g c =
+    let trace = c.args.trace.now.events.now in
+    printed_before trace c.args.pair.first c.args.pair.second c.loop-k.k c.loop-k.positions
+    (λ k below. let lt = c.end_of-k-end.ensures.above k below in omega (arith, lt))
+    c.loop-k.invariant.found
