@@ -1,10 +1,10 @@
 -- When a block is good, and that a good block has no fault.
 use Rattle.std.proofs.Common.{◌≡◌, ℕ, zero, suc, ◌+◌, ◌-◌, ◌<◌, ◌≤◌, ◌⊎◌, inl, inr, List, [], ◌∷◌, ◌++◌, length, map, take, Option, None, Some, refl, sym, ap, subst, ◌∙◌, arith, min}
-use Rattle.std.specs.Prelude.{slice_get, Contains, ◌↔◌}
+use Rattle.std.specs.Prelude.{slice_get, Contains}
 use Rattle.std.specs.List.{AllByRecursion}
 use Rattle.std.proofs.lemmas.List.{take_more}
 use Rattle.std.proofs.lemmas.Option.{get_or_from_slice_get, slice_get_within}
-use Rattle.std.proofs.Math.Nat.{min-eq_left, min-le_right}
+use Rattle.std.proofs.Math.Nat.{min-eq_left}
 use Rattle.shb_lines.specs.declared.event.Event.{Event}
 use Rattle.shb_lines.specs.declared.event.Pair.{Pair}
 use Rattle.shb_lines.specs.events.Discipline.{IsDisciplined}
@@ -18,7 +18,7 @@ use Rattle.shb_report.specs.declared.verdict.RaceFault.{RaceFault}
 use Rattle.shb_report.specs.declared.verdict.RaceFault.TheVariants.{Absent, NoConflict, FirstLine, SecondLine, Schedule}
 use Rattle.shb_report.specs.Judging.{HasGoodPair, IsBlockFault}
 use Rattle.shb_report.specs.Report.{line_at}
-use Rattle.shb_report.specs.Value.{Block, ReportValue}
+use Rattle.shb_report.specs.Value.{Block}
 use Rattle.shb_report.specs.Verdicts.{HasRaceFault, IsGoodBlock, pair_in, position_of, positions_of}
 use Rattle.shb_report.proofs.EntryLemmas.{each-push}
 

@@ -1,6 +1,6 @@
 -- The report that is written is in the grammar, and good for its trace.
-use Rattle.std.proofs.Common.{◌≡◌, ℕ, zero, suc, ◌+◌, ◌-◌, ◌<◌, ◌≤◌, ◌^◌, ◌&&◌, Bool, true, false, cond, List, [], ◌∷◌, length, map, get_or, fold, Option, None, Some, unwrap_or, refl, sym, ap, subst, ◌∙◌, arith}
-use Rattle.std.specs.Prelude.{slice_get, All, AllPairs, Contains, IsSomeAnd}
+use Rattle.std.proofs.Common.{◌≡◌, ℕ, zero, suc, ◌+◌, ◌-◌, ◌<◌, ◌≤◌, ◌&&◌, Bool, true, false, cond, List, [], ◌∷◌, length, map, get_or, fold, Option, None, Some, unwrap_or, refl, sym, ap, subst, ◌∙◌, arith}
+use Rattle.std.specs.Prelude.{slice_get, All, Contains, IsSomeAnd}
 use Rattle.std.specs.List.{AllByRecursion}
 use Rattle.std.specs.Str.{bytes_eq}
 use Rattle.std.proofs.lemmas.List.{length-map}
@@ -15,12 +15,11 @@ use Rattle.shb_lines.specs.text.TraceData.{TraceData, location_of}
 use Rattle.shb_lines.proofs.events.Reach.{event_at_access}
 use Rattle.shb_lines.proofs.events.Schedulable.{printed_is_schedule}
 use Rattle.shb_lines.proofs.text.LineTexts.{location_short}
-use Rattle.shb_report.specs.declared.places.PlaceCount.{PlaceCount}
 use Rattle.shb_report.specs.declared.verdict.Verdict.TheVariants.{Good}
 use Rattle.shb_report.specs.Places.{PlaceOf, counts_in, location_at, places_of_pairs, shown_place, shown_places, with_one_more, with_pair}
-use Rattle.shb_report.specs.Report.{HasSchedule, IsReport, ShownRace, counts_of, line_at, pair_of}
-use Rattle.shb_report.specs.Value.{ArePlaces, AreShown, IsBlock, IsPlace, IsReportValue, IsRest, IsShown, ReportValue, report_text}
-use Rattle.shb_report.specs.Verdicts.{HasItsPlaces, IsGoodBlock, IsGoodReport, IsVerdict, pair_in}
+use Rattle.shb_report.specs.Report.{HasSchedule, IsReport, ShownRace, line_at, pair_of}
+use Rattle.shb_report.specs.Value.{IsBlock, IsPlace, IsReportValue, IsRest, IsShown, ReportValue, report_text}
+use Rattle.shb_report.specs.Verdicts.{IsGoodBlock, IsGoodReport, IsVerdict, pair_in}
 use Rattle.shb_report.specs.Written.{IsShowable, block_of, written_report}
 use Rattle.shb_report.proofs.GoodBlocks.{each_at, in_range}
 use Rattle.shb_report.proofs.Increasing.{increasing_few}

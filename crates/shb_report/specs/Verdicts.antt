@@ -1,5 +1,5 @@
 -- When a report is good for a trace, and what is said of one that isn't: the first verdict that applies.
-use Rattle.std.specs.Prelude.{◌≡◌, ◌≢◌, ℕ, zero, suc, ◌+◌, ◌-◌, ◌<◌, ◌≤◌, ◌⊎◌, List, ◌++◌, codes, decimal, length, map, take, slice_get, Option, Some, None, IfSome, min}
+use Rattle.std.specs.Prelude.{◌≡◌, ◌≢◌, ℕ, zero, suc, ◌+◌, ◌-◌, ◌<◌, ◌≤◌, ◌⊎◌, List, ◌++◌, codes, decimal, length, map, take, slice_get, Some, IfSome, min}
 use Rattle.std.specs.List.{AllByRecursion}
 use Rattle.shb_lines.specs.declared.event.Pair.{Pair}
 use Rattle.shb_lines.specs.events.Race.{Conflict}

@@ -1,8 +1,8 @@
 -- From what the parts of a run answer to what the run says of the text.
-use Rattle.std.proofs.Common.{◌≡◌, ℕ, inl, inr, Bool, List, [], length, map, None, Some, Option, Result, Ok, Err, IfSome, IfErr, IsErrAnd, refl, sym, ap, subst, ◌∙◌}
+use Rattle.std.proofs.Common.{◌≡◌, ℕ, inl, inr, Bool, List, [], length, map, None, Some, Option, Result, Ok, Err, IfSome, IfErr, IsErrAnd, refl, sym, ap, subst, ◌∙◌, arith}
 use Rattle.std.proofs.lemmas.List.{length-map}
 use Rattle.std.proofs.lemmas.Option.{IfSome_then}
-use Rattle.std.specs.Io.KnownBytes.{Keeps}
+use Rattle.std.specs.Io.KnownBytes.{Consumes, Keeps}
 use Rattle.shb_io.proofs.Growth.{Appends-kept, Appends-nil}
 use Rattle.shb_lines.specs.declared.event.Event.{Event}
 use Rattle.shb_lines.specs.declared.event.Fault.{Fault}
@@ -10,6 +10,7 @@ use Rattle.shb_lines.specs.declared.event.LineFault.{LineFault}
 use Rattle.shb_lines.specs.declared.event.Pair.{Pair}
 use Rattle.shb_lines.specs.events.Discipline.{IsDisciplined}
 use Rattle.shb_lines.specs.events.Race.{IsRaceList}
+use Rattle.shb_lines.specs.text.Taking.{TakesAtMost}
 use Rattle.shb_lines.specs.text.Text.{lines_of}
 use Rattle.shb_lines.specs.text.TraceData.{IsReadingOf, IsTraceOf, TraceData}
 use Rattle.shb_lines.proofs.events.Decide.{decide_below_pred, printed_exists}
@@ -145,6 +146,14 @@ not_judged {T} error (Err e) P is = subst (λ (e : RunError). OnJudged {T = T} (
     told : (error : ReadError) → OnJudged {T = T} (Err (error_of_reading error)) P
     told reading.Source = tt
     told reading.Memory = tt
+
+-- a source of which nothing was taken
+pub Takes-none : (n : ℕ) (a : Option (List ℕ)) → TakesAtMost n a a
+Takes-none n a = ([], omega arith, none a)
+  where
+    none : (a : Option (List ℕ)) → Consumes a a []
+    none None = tt
+    none (Some x) = refl
 
 -- known bytes that nothing was done to
 pub Grows-same : (a : Option (List ℕ)) → Grows a a

@@ -1,6 +1,7 @@
 //! The laws of what runs write, over the definitions alone. Each function does nothing: its contract
 //! is the law.
 ghost use Rattle.std.specs.Prelude.{◌≡◌, ◌≤◌, ℕ, Bool, List, Option, length, true};
+ghost use Rattle.shb_lines.specs.text.TraceData.{IsTraceOf, TraceData};
 ghost use Rattle.shb_report.specs.Report.{IsReportOf};
 ghost use Rattle.shb_report.specs.Value.{IsReportValue, ReportValue, report_text};
 ghost use Rattle.shb_report.specs.Verdicts.{IsVerdict};
@@ -14,6 +15,11 @@ ghost use Rattle.shb_run.specs.declared.settings.Summary.{Summary};
 pub fn report_of_text_is_unique()
     ensures { (with_schedules : Bool) (text bytes others : List ℕ)
         → IsReportOf with_schedules text bytes → IsReportOf with_schedules text others → bytes ≡ others }
+{}
+
+/// Some lines have at most one trace, with its names, their numbers and its lines.
+pub fn trace_of_lines_is_unique()
+    ensures { (lines : List (List ℕ)) (trace other : TraceData) → IsTraceOf lines trace → IsTraceOf lines other → trace ≡ other }
 {}
 
 /// A check of what a run wrote with schedules says that it is good. `value`: the bytes are the text of a

@@ -51,7 +51,13 @@ fn summary_of(trace: &Trace, races: u64) -> Summary
 }
 
 /// Finds the races of a trace by an order of it, and writes its report.
-fn report_by<R: Threads + Wait + Sync + RandomSource, K: Sink, O: Order + Sync, P: Gate + Sync, W: Gate + Sync>(
+fn report_by<
+    R: Threads + Wait + Sync + RandomSource,
+    K: Sink,
+    O: Order + Sync,
+    P: Gate + Sync,
+    W: Gate + Sync,
+>(
     rt: &R,
     alloc: Global,
     sink: &mut K,

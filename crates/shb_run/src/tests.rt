@@ -309,7 +309,8 @@ fn holds_the_limits(rt: HostRuntime) -> Result<(), Fail> {
     let racing = lines_of_threads(rt.alloc(), 65, "w(x)")?;
     let (answer, page) = run_over(&rt, racing.as_str().as_bytes(), 4096, false)?;
     assert!(rt; matches!(answer, Ok(Summary { races: 2080, .. })));
-    let head = "shb-report 2\nevents 65 threads 65 locks 0 variables 1\nraces 2080\nplaces 1\nplace 1: 2080\nat \nand \nrace 1: 1 2\n";
+    let head =
+        "shb-report 2\nevents 65 threads 65 locks 0 variables 1\nraces 2080\nplaces 1\nplace 1: 2080\nat \nand \nrace 1: 1 2\n";
     let last = "race 2080: 64 65\nfirst T64|w(x)\nsecond T65|w(x)\nend\n";
     assert!(rt; page.bytes().starts_with(head.as_bytes()));
     assert!(rt; page.bytes().ends_with(last.as_bytes()));

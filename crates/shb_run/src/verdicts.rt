@@ -2,7 +2,7 @@
 ghost use Rattle.std.specs.Prelude.{◌≡◌, ◌-◌, ◌^◌, ◌<◌, ℕ, List, IfOk, IfSome};
 ghost use Rattle.std.specs.Io.KnownBytes.{Appends, Keeps};
 ghost use Rattle.shb_discipline.specs.FirstFault.{HasFirstFault, HasNoFault};
-ghost use Rattle.shb_lines.specs.text.Taking.{IsSourceCounted};
+ghost use Rattle.shb_lines.specs.text.Taking.{IsSourceCounted, TakesAtMost};
 ghost use Rattle.shb_lines.specs.declared.event.Fault.{Fault};
 ghost use Rattle.shb_report.specs.Verdicts.{verdict_bytes};
 ghost use Rattle.shb_run.specs.Checks.{CountsSources, IsLineCutShort, IsVerdictFor, IsVerdictOf};
@@ -28,6 +28,7 @@ fn verdict_of<S: Source, R: RandomSource>(
     requires countable { S.failure_count source.old < 2 ^ 64 - 1 }
     ensures verdict { IfOk result (λ verdict. IfSome (S.remaining source.old) (λ text.
         IsVerdictFor trace.now.trace.now text verdict)) }
+    ensures taken { TakesAtMost 1073741825 (S.remaining source.old) (S.remaining source.new) }
     ensures counted { IsSourceCounted (S.failure_count source.old) (S.failure_count source.new) result }
 {
     let report = match read_report(alloc, source) {
@@ -92,6 +93,10 @@ pub fn check<S: Source, Q: Source, K: Sink, R: RandomSource>(
         IsLineCutShort text report (K.taken sink.old) (K.taken sink.new)))) }
     ensures silent { IfSome (S.remaining trace_source.old) (λ text. (line : ℕ) (fault : Fault) →
         HasFirstFault limits text line fault → Keeps (K.taken sink.old) (K.taken sink.new)) }
+
+    // Each source lost at most its first 1,073,741,825 bytes.
+    ensures trace_taken { TakesAtMost 1073741825 (S.remaining trace_source.old) (S.remaining trace_source.new) }
+    ensures report_taken { TakesAtMost 1073741825 (Q.remaining report_source.old) (Q.remaining report_source.new) }
 
     // An error of a device comes with one failure more of that device, and no other answer does.
     ensures sources { CountsSources (S.failure_count trace_source.old) (S.failure_count trace_source.new)

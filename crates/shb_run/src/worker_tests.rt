@@ -163,7 +163,8 @@ fn written_early(rt: HostRuntime) -> Result<(), Fail> {
     assert!(rt; !gate.missed.load(Ordering::SeqCst));
 
     // The lines before the first block have 97 bytes.
-    let front = "shb-report 2\nevents 65 threads 65 locks 0 variables 1\nraces 2080\nplaces 1\nplace 1: 2080\nat \nand \n";
+    let front =
+        "shb-report 2\nevents 65 threads 65 locks 0 variables 1\nraces 2080\nplaces 1\nplace 1: 2080\nat \nand \n";
     assert_eq!(rt; front.len(), 97);
     assert!(rt; sink.page.bytes().starts_with(front.as_bytes()));
     let last = "race 2080: 64 65\nfirst T64|w(x)\nsecond T65|w(x)\nschedule 0:\nend\n";

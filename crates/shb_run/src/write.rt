@@ -161,7 +161,12 @@ fn write_front<K: Sink>(
 }
 
 /// Writes the report of a trace whose races these are. The places are made before anything is written.
-pub fn write_report<R: Threads + Wait + Sync + RandomSource, K: Sink, O: Order + Sync, G: Gate + Sync>(
+pub fn write_report<
+    R: Threads + Wait + Sync + RandomSource,
+    K: Sink,
+    O: Order + Sync,
+    G: Gate + Sync,
+>(
     rt: &R,
     alloc: Global,
     sink: &mut K,

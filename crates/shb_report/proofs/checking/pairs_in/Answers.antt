@@ -1,6 +1,5 @@
-use Rattle.std.proofs.Common.{◌≡◌, ◌+◌, ◌∙◌, ap, arith, length, subst, sym, List}
+use Rattle.std.proofs.Common.{◌≡◌, ◌∙◌, ap, arith, length, subst, sym, List}
 use Rattle.std.specs.Prelude.{All}
-use Rattle.shb_lines.specs.declared.event.Pair.{Pair}
 use Rattle.shb_lines.specs.declared.event.Event.{Event}
 use Rattle.shb_report.specs.Judging.{block_in}
 use Rattle.shb_report.specs.Places.{IsPairOf}

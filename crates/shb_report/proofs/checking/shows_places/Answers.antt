@@ -1,4 +1,4 @@
-use Rattle.std.proofs.Common.{◌≡◌, ◌+◌, ◌<◌, List, length, arith}
+use Rattle.std.proofs.Common.{List, arith}
 use Rattle.shb_report.specs.declared.places.PlaceCount.{PlaceCount}
 use Rattle.shb_report.specs.Value.{listed_places}
 use Rattle.shb_report.proofs.ShownPlaces.{at_index, place_more}
