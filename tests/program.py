@@ -25,6 +25,12 @@ def run(words, given=b"", **how):
     return Answer(ran.returncode, ran.stdout, ran.stderr)
 
 
+def run_over(words, file):
+    """Runs the program with an open file as its standard input."""
+    ran = subprocess.run([PATH, *words], stdin=file, capture_output=True, timeout=SECONDS)
+    return Answer(ran.returncode, ran.stdout, ran.stderr)
+
+
 def with_settings(**settings):
     """The environment of a run with these settings."""
     return {**os.environ, **{name: str(value) for name, value in settings.items()}}

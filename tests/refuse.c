@@ -1,5 +1,6 @@
-/* Preloaded into the program: refuses the request for memory of number REFUSE_MEMORY, counted from 1, and
-   with REFUSE_THREADS every thread from that number on. Makes the file REFUSED where it refused one. */
+/* Preloaded into the program: refuses the request for memory of number REFUSE_MEMORY, counted from 1, and with
+   REFUSE_THREADS every thread from that number on; with WATCH_READS it refuses each read after the end of a file.
+   Makes the file REFUSED where it refused something. */
 #define _GNU_SOURCE
 #include <dlfcn.h>
 #include <errno.h>
@@ -8,7 +9,10 @@
 #include <stdlib.h>
 #include <unistd.h>
 
+enum { FILES = 64 };
+
 static long requests, threads;
+static int has_ended[FILES];
 
 static long setting(const char *name) {
     const char *text = getenv(name);
@@ -58,4 +62,18 @@ int pthread_create(pthread_t *thread, const pthread_attr_t *how, void *(*start)(
     if (first == 0 || __atomic_add_fetch(&threads, 1, __ATOMIC_SEQ_CST) < first) return next(thread, how, start, given);
     note();
     return EAGAIN;
+}
+
+ssize_t read(int file, void *buffer, size_t size) {
+    static ssize_t (*next)(int, void *, size_t);
+    if (!next) next = dlsym(RTLD_NEXT, "read");
+    int is_watched = setting("WATCH_READS") && file >= 0 && file < FILES;
+    if (is_watched && has_ended[file]) {
+        note();
+        errno = EIO;
+        return -1;
+    }
+    ssize_t count = next(file, buffer, size);
+    if (is_watched && count == 0) has_ended[file] = 1;
+    return count;
 }

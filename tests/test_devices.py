@@ -30,9 +30,8 @@ class Devices(program.Case):
     def test_a_directory_as_standard_input(self):
         for words in (["races"], [], ["check", self.trace]):
             folder = os.open(self.folder, os.O_RDONLY)
-            ran = subprocess.run([program.PATH, *words], stdin=folder, capture_output=True, timeout=program.SECONDS)
-            os.close(folder)
-            self.expect((ran.returncode, ran.stdout, ran.stderr), 4, b"", b"cannot read\n")
+            self.addCleanup(os.close, folder)
+            self.expect(program.run_over(words, folder), 4, b"", b"cannot read\n")
 
     def test_a_full_disk(self):
         for words, given in self.writers():

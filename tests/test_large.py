@@ -4,6 +4,7 @@ import program
 
 THREADS = 400
 ROUNDS = 35_000
+MOST_EVENTS = 4_194_304
 
 
 def places(count):
@@ -62,3 +63,12 @@ class Large(program.Case):
         self.assertTrue(report.endswith(forged))
         swapped = report[: -len(forged)] + b" %d %d\nend\n" % (7 * ROUNDS, 7 * ROUNDS - 1)
         self.expect(program.run(["check", trace], swapped), 5, b"bad race 1\n")
+
+    def test_the_most_events(self):
+        text = b"T|r(x)\n" * MOST_EVENTS
+        report = b"shb-report 2\nevents %d threads 1 locks 0 variables 1\nraces 0\nplaces 0\nend\n" % MOST_EVENTS
+        self.expect(program.run(["races"], text), 0, report)
+        said = b"line %d: there are more than %d events\n" % (MOST_EVENTS + 1, MOST_EVENTS)
+        self.expect(program.run(["races"], text + b"T|r(x)\n"), 2, b"", said)
+        said = b"line %d: the line has no operation field\n" % (MOST_EVENTS + 1)
+        self.expect(program.run(["races"], text + b"oops\n"), 2, b"", said)

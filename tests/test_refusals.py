@@ -1,4 +1,4 @@
-"""Each request for memory refused in turn, and threads refused."""
+"""Each request for memory refused in turn, threads refused, and reads after the end of a file."""
 
 import pathlib
 import subprocess
@@ -84,3 +84,9 @@ class Refusals(program.Case):
 
     def test_that_threads_are_refused(self):
         self.assertTrue(self.run_refused(["races"], racing(64), REFUSE_THREADS=1)[1])
+
+    def test_nothing_is_read_after_the_end(self):
+        trace, report = self.file(LOCKED), program.run(["races"], LOCKED).out
+        for words, given in (([], LOCKED), (["races"], b""), (["races", trace], b""), (["check", trace], report), (["check", trace], b"")):
+            answer, is_refused = self.run_refused(words, given, WATCH_READS=1)
+            self.assertEqual((answer, is_refused), (program.run(words, given), False))
