@@ -13,3 +13,4 @@ pub mod MachineFacts
 pub mod Starts
 pub mod Drawn
 pub mod MachineRuns
+pub mod RunValues

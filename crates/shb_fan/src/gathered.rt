@@ -4,6 +4,7 @@ ghost use Rattle.shb_fan.specs.Values.{values_of};
 
 use crate::gate::Gate;
 use crate::job::Job;
+use crate::runs::{RUN, RunGate, Runs};
 use crate::streaming::stream;
 use crate::taker::Taker;
 use crate::workers::Workers;
@@ -11,6 +12,9 @@ use shb_io::NoMemory;
 use std::alloc::Global;
 use std::sync::Wait;
 use std::thread::Threads;
+
+/// How many runs for each worker there are at least, where pieces are drawn in runs.
+const RUNS_EACH: u64 = 16;
 
 /// Keeps what it is given.
 #[derive(Drop)]
@@ -36,8 +40,32 @@ impl<T: Drop> Taker<T> for Keeper<T> {
     }
 }
 
-/// The values of all pieces in order, by workers that run pieces at once.
-pub fn gather<
+/// Keeps the values of the runs that it is given, one run after the other.
+#[derive(Drop)]
+struct RunKeeper<T: Drop> {
+    values: Vec<T>,
+}
+
+impl<T: Drop> Taker<Vec<T>> for RunKeeper<T> {
+    ghost use Rattle.std.specs.Prelude.{◌≡◌, ◌++◌, flat_map};
+    ghost use Rattle.std.proofs.Common.{sym, append-nil};
+
+    type Error = NoMemory;
+
+    ghost takes = { λ start given end. end.values.items ≡ start.values.items ++ flat_map (λ run. run.items) given };
+
+    ghost refuses = { λ _ _ _ _ _. Unit {0} };
+
+    ghost nothing = { λ s. sym (append-nil s.values.items) };
+
+    fn take(&mut self, _k: u64, mut out: Vec<T>) -> Result<(), NoMemory> {
+        self.values.append(&mut out)?;
+        Ok(())
+    }
+}
+
+/// The values of all pieces in order, piece by piece.
+fn gather_pieces<
     R: Threads + Wait + Sync,
     T: Drop + Send,
     M,
@@ -54,4 +82,47 @@ pub fn gather<
     };
     let Keeper { values } = keeper;
     Ok(values)
+}
+
+/// The values of all pieces in order, run by run.
+fn gather_runs<
+    R: Threads + Wait + Sync,
+    T: Drop + Send,
+    M,
+    J: Job<Out = T, Meaning = M> + Sync,
+    G: Gate + Sync,
+>(rt: &R, alloc: Global, job: &J, gate: &G, workers: Workers) -> Result<Vec<T>, NoMemory>
+    ensures { IfOk result (λ v. map J.meaning v.items ≡ values_of (J.value job.now) (J.count job.now)) }
+{
+    let pieces = job.pieces();
+    let runs = Runs { job, pieces };
+    let run_gate = RunGate { gate, pieces };
+    let mut keeper = RunKeeper {
+        values: Vec::with_capacity(alloc, pieces as usize)?,
+    };
+    let Ok(()) = stream(rt, alloc, &runs, &run_gate, workers, &mut keeper) else {
+        return Err(NoMemory);
+    };
+    let RunKeeper { values } = keeper;
+    Ok(values)
+}
+
+/// The values of all pieces in order, by workers that run pieces at once.
+///
+/// Where there are many pieces a worker draws 16 neighbours at once, so that a small piece costs little
+/// more than its run; it passes their gates one after the other and then runs them. `NoMemory` where
+/// memory was refused, here or to a piece.
+pub fn gather<
+    R: Threads + Wait + Sync,
+    T: Drop + Send,
+    M,
+    J: Job<Out = T, Meaning = M> + Sync,
+    G: Gate + Sync,
+>(rt: &R, alloc: Global, job: &J, gate: &G, workers: Workers) -> Result<Vec<T>, NoMemory>
+    ensures { IfOk result (λ v. map J.meaning v.items ≡ values_of (J.value job.now) (J.count job.now)) }
+{
+    if job.pieces() < u64::from(workers.get()) * (RUN * RUNS_EACH) {
+        return gather_pieces(rt, alloc, job, gate, workers);
+    }
+    gather_runs(rt, alloc, job, gate, workers)
 }

@@ -9,6 +9,7 @@ mod pass;
 mod ring;
 mod ring_steps;
 mod ring_table;
+mod runs;
 mod shares;
 mod sides;
 mod step;

@@ -1,4 +1,4 @@
-//! Tickets, the ring, streaming and gathering, with the answers worked out by hand.
+//! Tickets, the ring, streaming and gathering, with the answers worked out on paper.
 ghost use Rattle.std.specs.Prelude.{◌≡◌, ℕ, ◌∷◌, ◌<◌, ◌≤◌, ◌^◌, IfOk, IfSome, [], length, All};
 ghost use Rattle.shb_fan.specs.Passes.{fresh};
 ghost use Rattle.shb_fan.specs.Seated.{IsNewSeat, job_of};
@@ -359,6 +359,8 @@ fn job_refuses_each(rt: HostRuntime) -> Result<(), Fail> {
         assert!(rt; taker.values.len() as u64 <= k);
         assert!(rt; is_count(taker.values.as_slice(), taker.values.len() as u64));
         assert!(rt; gather(&rt, rt.alloc(), &job, &FreeGate, so_many(&rt, 3)).is_err());
+        let runs = count_to(300, Some(k));
+        assert!(rt; gather(&rt, rt.alloc(), &runs, &FreeGate, so_many(&rt, 1)).is_err());
     }
     Ok(())
 }
