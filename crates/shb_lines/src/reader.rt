@@ -6,9 +6,10 @@ ghost use Rattle.std.specs.Str.Lines.{strip_carriage_return};
 ghost use Rattle.indexmap.specs.IndexMap.{index_map_len};
 ghost use Rattle.shb_lines.specs.text.Faults.{HasLineFault, IsLowest};
 ghost use Rattle.shb_lines.specs.text.Limits.{AreStandard};
-ghost use Rattle.shb_lines.specs.text.Names.{StandsAt, spans_in};
-ghost use Rattle.shb_lines.specs.text.Parsed.{HasRead, events_of, lines_read, part};
-ghost use Rattle.shb_lines.specs.text.Reader.{AddsEvent, AllStand, HasNames, HasRoom, IsOperation, tables_of, with_names, with_operand};
+ghost use Rattle.shb_lines.specs.text.Spans.{StandsAt, spans_in};
+ghost use Rattle.shb_lines.specs.text.Parsed.{HasRead, lines_read, part};
+ghost use Rattle.shb_lines.specs.text.Numbers.{IsOperation, events_of};
+ghost use Rattle.shb_lines.specs.text.Reader.{AddsEvent, AllStand, HasNames, HasRoom, tables_of, with_names, with_operand};
 ghost use Rattle.shb_lines.specs.text.Reading.{named};
 ghost use Rattle.shb_lines.specs.text.Text.{threads_among};
 ghost use Rattle.shb_lines.specs.text.TraceData.{IsReading};
@@ -123,7 +124,7 @@ impl<'t> Reader<'t> {
 
     /// The operation of an event, with the number of its name.
     fn operation(&mut self, kind: Kind, name: &'t [u8], span: Span) -> Result<Op, NoMemory>
-        requires room { HasNames self.old 16777216 }
+        requires room { HasNames self.old (2 ^ 24) }
         ensures room { (n : ℕ) → HasNames self.old n → HasNames self.new (n + 1) }
         ensures events { self.new.events ≡ self.old.events }
         ensures texts { self.new.texts ≡ self.old.texts }
@@ -147,7 +148,7 @@ impl<'t> Reader<'t> {
 
     /// Adds the event of a line that stands at `text`.
     fn add_event(&mut self, found: &LineEvent<'t>, line: u32, text: Span) -> Result<(), NoMemory>
-        requires room { HasNames self.old 8388608 }
+        requires room { HasNames self.old (2 ^ 23) }
         requires thread { text.start + length found.now.thread.now < 2 ^ 31 }
         requires operand { text.start + found.now.operand_at + length found.now.operand.now < 2 ^ 31 }
         ensures room { (n : ℕ) → HasNames self.old n → OnOk result (HasNames self.new (n + 2)) }

@@ -7,11 +7,14 @@ use Rattle.shb_lines.specs.declared.event.LineFault.{LineFault}
 use Rattle.shb_lines.specs.declared.names.Span.{Span}
 use Rattle.shb_lines.specs.declared.reader.Reader.{Reader}
 use Rattle.shb_lines.specs.declared.trace.Places.{Places}
-use Rattle.shb_lines.specs.text.Names.{NamesWithSpans, StandIn, StandsAt, bytes_at, names_in, spans_in}
-use Rattle.shb_lines.specs.text.Parsed.{HasRead, IsEventOf}
+use Rattle.shb_lines.specs.text.Limits.{most_events, most_text}
+use Rattle.shb_lines.specs.text.Spans.{NamesWithSpans, StandIn, StandsAt, bytes_at, names_in, spans_in}
+use Rattle.shb_lines.specs.text.Parsed.{HasRead}
+use Rattle.shb_lines.specs.text.Numbers.{IsEventOf}
 use Rattle.shb_lines.specs.text.Reader.{HasRoom, tables_of}
 use Rattle.shb_lines.specs.text.Text.{IsLineText, LocatedEvent, trace_of}
-use Rattle.shb_lines.specs.text.TraceData.{ArePlaces, AreSpans, IsReading, IsTraceOf, names_at, tables_in, trace_at}
+use Rattle.shb_lines.specs.text.Places.{ArePlaces, AreSpans, names_at, trace_at}
+use Rattle.shb_lines.specs.text.TraceData.{IsReading, IsTraceOf, tables_in}
 use Rattle.shb_lines.proofs.text.LineLemmas.{length-texts}
 use Rattle.shb_lines.proofs.text.Numbers.{well_formed}
 
@@ -31,7 +34,7 @@ module _ (text : List ℕ) where
   spans_within [] h = tt
   spans_within (e ∷ entries) h = (h.0.within, spans_within entries h.1)
 
-  spans_are : (spans : List Span) (entries : NamesWithSpans) (n : ℕ) → spans ≡ spans_in entries → StandIn text entries → length entries ≤ 2 * n → n ≤ 4194304 → AreSpans text spans
+  spans_are : (spans : List Span) (entries : NamesWithSpans) (n : ℕ) → spans ≡ spans_in entries → StandIn text entries → length entries ≤ 2 * n → n ≤ most_events → AreSpans text spans
   spans_are spans entries n is h few most = record {
     few = omega (arith, ap (λ l. length l) is ∙ length-map entries (λ e. e.1));
     within = subst (AllByRecursion (λ (span : Span). span.start + span.len ≤ length text)) (sym is) (spans_within entries h);
@@ -72,7 +75,7 @@ module _ (text : List ℕ) (reader : Reader) (places : Places) (noted : AreNoted
     lines_are = ap (λ v. map (bytes_at text) v.items) noted.texts ∙ lines_are text reader.texts.items (trace_of lines) read.texts_are;
   }
 
-  pub places_held : length text ≤ 1073741825 → length reader.events.items ≤ 4194304 → HasRoom reader → AllByRecursion IsLineText (map (λ e. e.text) (trace_of lines)) → ArePlaces text places
+  pub places_held : length text ≤ most_text + 1 → length reader.events.items ≤ most_events → HasRoom reader → AllByRecursion IsLineText (map (λ e. e.text) (trace_of lines)) → ArePlaces text places
   places_held short few room line_texts =
       let n = length reader.events.items in
       let len = reader.events.ok.0 in

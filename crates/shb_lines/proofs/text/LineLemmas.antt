@@ -8,11 +8,11 @@ use Rattle.shb_lines.specs.declared.event.Kind.TheVariants as kinds
 use Rattle.shb_lines.specs.declared.names.Span.{Span}
 use Rattle.shb_lines.specs.declared.reader.Reader.{Reader}
 use Rattle.shb_lines.specs.text.Grammar.{NamedEvent}
-use Rattle.shb_lines.specs.text.Names.{StandsAt}
+use Rattle.shb_lines.specs.text.Spans.{StandsAt}
 use Rattle.shb_lines.specs.text.Reader.{tables_of, with_names, with_operand, with_thread}
 use Rattle.shb_lines.specs.text.Text.{threads_among, threads_of, trace_of}
-use Rattle.shb_lines.specs.text.Parsed.{HasRead, IsEventOf, events_of}
-use Rattle.shb_lines.specs.text.Parsed.{part}
+use Rattle.shb_lines.specs.text.Parsed.{HasRead, part}
+use Rattle.shb_lines.specs.text.Numbers.{IsEventOf, events_of}
 use Rattle.shb_lines.proofs.text.NameLemmas.{length-with_names_le}
 use Rattle.shb_lines.proofs.text.TraceLemmas.{tables-push}
 

@@ -7,12 +7,14 @@ use Rattle.shb_lines.specs.declared.event.Fault.TheVariants as faults
 use Rattle.shb_lines.specs.declared.event.Limits.{Limits}
 use Rattle.shb_lines.specs.declared.event.LineFault.{LineFault}
 use Rattle.shb_lines.specs.declared.names.Span.{Span}
+use Rattle.shb_lines.specs.text.Limits.{most_line}
 use Rattle.shb_lines.specs.text.Faults.{IsFaultless}
 use Rattle.shb_lines.specs.text.Grammar.{Meaning, NamedEvent}
 use Rattle.shb_lines.specs.text.Meaning.{is_bar, meaning}
-use Rattle.shb_lines.specs.text.Names.{bytes_at}
+use Rattle.shb_lines.specs.text.Spans.{bytes_at}
 use Rattle.shb_lines.specs.text.Text.{IsLineText, event_on, lines_of, located, trace_of}
-use Rattle.shb_lines.specs.text.TraceData.{IsReading, IsWellFormed, TraceData, location_of, names_at}
+use Rattle.shb_lines.specs.text.TraceData.{IsReading, IsWellFormed, TraceData, location_of}
+use Rattle.shb_lines.specs.text.Places.{names_at}
 
 abbrev pub IsOneLine : List ℕ → Type 0
 IsOneLine bytes = list_all (λ b. not (b == 10)) bytes ≡ true
@@ -50,14 +52,14 @@ drop-one_line (suc n) (b ∷ bytes) h = drop-one_line n bytes (by (not (b == 10)
 
 -- few bytes, and no line feed
 pub record IsShortLine (bytes : List ℕ) : Type 0 where
-  pub most : length bytes ≤ 4096
+  pub most : length bytes ≤ most_line
   pub one_line : IsOneLine bytes
 
 front-short : (b : Bool) (line : List ℕ) → IsShortLine line → IsShortLine (cond b (take (length line - 1) line) line)
 front-short true line h = let most = h.most in record { most = omega (arith, length-take (length line - 1) line); one_line = take-one_line (length line - 1) line h.one_line }
 front-short false line h = h
 
-short_lines : (lines : List (List ℕ)) (n : ℕ) → AllByRecursion IsOneLine lines → ((k : ℕ) → k < n → length (slice_index_or lines k []) ≤ 4096) → AllByRecursion IsShortLine (take n lines)
+short_lines : (lines : List (List ℕ)) (n : ℕ) → AllByRecursion IsOneLine lines → ((k : ℕ) → k < n → length (slice_index_or lines k []) ≤ most_line) → AllByRecursion IsShortLine (take n lines)
 short_lines lines zero all each = tt
 short_lines [] (suc n) all each = tt
 short_lines (line ∷ lines) (suc n) all each =
@@ -80,7 +82,7 @@ line_texts_from number (line ∷ lines) all = by (meaning (strip_carriage_return
     by (Ok (Some event)) e short rest = (record { least = some_bytes (strip_carriage_return line) event e; most = short.most; one_line = short.one_line }, rest)
     by (Err fault) e short rest = rest
 
-module _ (limits : Limits) (text : List ℕ) (standard : limits.line ≤ 4096) where
+module _ (limits : Limits) (text : List ℕ) (standard : limits.line ≤ most_line) where
   faultless_lines : (n : ℕ) → IsFaultless limits text n → AllByRecursion IsShortLine (take n (lines_of text))
   faultless_lines n faultless =
       short_lines (lines_of text) n (lines_of-one_line text)

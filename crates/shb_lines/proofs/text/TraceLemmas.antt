@@ -14,10 +14,12 @@ use Rattle.shb_lines.specs.declared.names.Span.{Span}
 use Rattle.shb_lines.specs.declared.reader.Reader.{Reader}
 use Rattle.shb_lines.specs.text.Grammar.{NamedEvent}
 use Rattle.shb_lines.specs.text.Meaning.{meaning}
-use Rattle.shb_lines.specs.text.Names.{StandsAt, table_of, with_name}
-use Rattle.shb_lines.specs.text.Reader.{AddsEvent, AllStand, tables_of, IsNumbered, IsOperation, Tables, with_names, with_operand, with_thread}
+use Rattle.shb_lines.specs.text.Spans.{StandsAt}
+use Rattle.shb_lines.specs.text.Names.{table_of, with_name}
+use Rattle.shb_lines.specs.text.Reader.{AddsEvent, AllStand, tables_of, with_names, with_operand, with_thread}
+use Rattle.shb_lines.specs.text.Numbers.{IsEventOf, IsNumbered, IsOperation, Tables, events_of, tables_of_events}
 use Rattle.shb_lines.specs.text.Text.{LocatedEvent, event_on, located, locks_among, threads_among, trace_of, variables_among}
-use Rattle.shb_lines.specs.text.Parsed.{HasRead, IsEventOf, events_of, tables_of_events}
+use Rattle.shb_lines.specs.text.Parsed.{HasRead}
 use Rattle.shb_lines.proofs.text.NameLemmas.{slice_get-with_name, slice_get-with_names}
 
 enumerate_from-push : {X : Type 0} (n : ℕ) (xs : List X) (x : X) → enumerate_from n (xs ++ x ∷ []) ≡ enumerate_from n xs ++ (n + length xs, x) ∷ []

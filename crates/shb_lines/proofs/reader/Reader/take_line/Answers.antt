@@ -5,8 +5,9 @@ use Rattle.std.specs.Str.Lines.{strip_carriage_return}
 use Rattle.shb_lines.specs.declared.names.Span.{Span}
 use Rattle.shb_lines.specs.text.Grammar.{Meaning}
 use Rattle.shb_lines.specs.text.Meaning.{meaning}
-use Rattle.shb_lines.specs.text.Names.{StandsAt}
-use Rattle.shb_lines.specs.text.Parsed.{events_of, part}
+use Rattle.shb_lines.specs.text.Spans.{StandsAt}
+use Rattle.shb_lines.specs.text.Numbers.{events_of}
+use Rattle.shb_lines.specs.text.Parsed.{part}
 use Rattle.shb_lines.specs.text.Reader.{AddsEvent}
 use Rattle.shb_lines.specs.text.Reading.{IsPlaced, meaning_of, named}
 use Rattle.shb_lines.proofs.text.FaultLemmas.{accepted, refused, too_many_events, too_many_threads}

@@ -1,6 +1,6 @@
 -- The line is one of a well-formed trace.
 use Rattle.std.proofs.Common.{ap, arith, length, subst, sym}
-use Rattle.shb_lines.specs.text.Names.{bytes_at}
+use Rattle.shb_lines.specs.text.Spans.{bytes_at}
 use Rattle.shb_lines.specs.text.Text.{IsLineText}
 use Rattle.shb_lines.proofs.text.LineTexts.{span_text}
 use Rattle.shb_lines.proofs.trace.Trace.line_text.Goals as goal
