@@ -6,15 +6,13 @@ use Rattle.std.proofs.lemmas.List.{take_all}
 use Rattle.shb_lines.specs.declared.event.Fault.TheVariants as faults
 use Rattle.shb_lines.specs.declared.event.Limits.{Limits}
 use Rattle.shb_lines.specs.declared.event.LineFault.{LineFault}
-use Rattle.shb_lines.specs.declared.names.Span.{Span}
 use Rattle.shb_lines.specs.text.Limits.{most_line}
 use Rattle.shb_lines.specs.text.Faults.{IsFaultless}
 use Rattle.shb_lines.specs.text.Grammar.{Meaning, NamedEvent}
 use Rattle.shb_lines.specs.text.Meaning.{is_bar, meaning}
-use Rattle.shb_lines.specs.text.Spans.{bytes_at}
+use Rattle.shb_lines.specs.text.Spans.{line_from}
 use Rattle.shb_lines.specs.text.Text.{IsLineText, event_on, lines_of, located, trace_of}
 use Rattle.shb_lines.specs.text.TraceData.{IsReading, IsWellFormed, TraceData, location_of}
-use Rattle.shb_lines.specs.text.Places.{names_at}
 
 abbrev pub IsOneLine : List ℕ → Type 0
 IsOneLine bytes = list_all (λ b. not (b == 10)) bytes ≡ true
@@ -96,11 +94,11 @@ module _ (limits : Limits) (text : List ℕ) (standard : limits.line ≤ most_li
       (lines_of text, h.1, line_texts_from 1 (lines_of text) few)
   held_texts Holds (Some stop) h = (take h.0 (lines_of text), h.3, line_texts_from 1 (take h.0 (lines_of text)) (faultless_lines h.0 h.2.earlier))
 
--- the text of a span is that of a line
-pub span_text : (text : List ℕ) (spans : List Span) (e : ℕ) (span default : Span) → AllByRecursion IsLineText (names_at text spans) → e < length spans → span ≡ get_or spans e default → IsLineText (bytes_at text span)
-span_text text [] e span default all lt is = absurd (omega arith)
-span_text text (first ∷ spans) zero span default all lt is = subst (λ s. IsLineText (bytes_at text s)) (sym is) all.0
-span_text text (first ∷ spans) (suc e) span default all lt is = span_text text spans e span default all.1 (omega arith) is
+-- what begins at a place of a line is a line
+pub start_text : (text : List ℕ) (starts : List ℕ) (e start default : ℕ) → AllByRecursion IsLineText (map (line_from text) starts) → e < length starts → start ≡ get_or starts e default → IsLineText (line_from text start)
+start_text text [] e start default all lt is = absurd (omega arith)
+start_text text (first ∷ starts) zero start default all lt is = subst (λ s. IsLineText (line_from text s)) (sym is) all.0
+start_text text (first ∷ starts) (suc e) start default all lt is = start_text text starts e start default all.1 (omega arith) is
 
 at_each : (lines : List (List ℕ)) (e : ℕ) → AllByRecursion IsLineText lines → e < length lines → (line : List ℕ) × (slice_get lines e ≡ Some line) × IsLineText line
 at_each [] e all lt = absurd (omega arith)

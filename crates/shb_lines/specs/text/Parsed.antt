@@ -3,7 +3,7 @@ use Rattle.std.specs.Prelude.{◌≡◌, ◌-◌, ℕ, List, [], ◌∷◌, ◌+
 use Rattle.std.specs.List.{AllZip}
 use Rattle.shb_lines.specs.declared.event.Fault.{Fault}
 use Rattle.shb_lines.specs.declared.reader.Reader.{Reader}
-use Rattle.shb_lines.specs.text.Spans.{StandsAt}
+use Rattle.shb_lines.specs.text.Spans.{IsLineFrom}
 use Rattle.shb_lines.specs.text.Reader.{AllStand, tables_of}
 use Rattle.shb_lines.specs.text.Numbers.{IsEventOf, events_of, tables_of_events}
 use Rattle.shb_lines.specs.text.Text.{trace_of}
@@ -12,7 +12,7 @@ use Rattle.shb_lines.specs.text.Text.{trace_of}
 pub record HasRead (text : List ℕ) (reader : Reader) (lines : List (List ℕ)) : Type 0 where
   pub tables_are : tables_of reader ≡ tables_of_events (events_of lines)
   pub events_are : AllZip (IsEventOf (tables_of reader)) reader.events.items (trace_of lines)
-  pub texts_are : AllZip (λ span e. StandsAt text e.text span) reader.texts.items (trace_of lines)
+  pub starts_are : AllZip (λ start e. IsLineFrom text e.text start) reader.starts.items (trace_of lines)
   pub stand : AllStand text reader
 
 -- the bytes of the text from start to end

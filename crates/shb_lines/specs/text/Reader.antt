@@ -3,7 +3,6 @@ use Rattle.std.specs.Prelude.{◌≡◌, ◌*◌, ◌≤◌, ℕ, List, [], ◌�
 use Rattle.indexmap.specs.IndexMap.{index_map_len}
 use Rattle.shb_lines.specs.declared.event.Event.{Event}
 use Rattle.shb_lines.specs.declared.event.Kind.{Kind}
-use Rattle.shb_lines.specs.declared.names.Span.{Span}
 use Rattle.shb_lines.specs.declared.reader.Reader.{Reader}
 use Rattle.shb_lines.specs.text.Grammar.{NamedEvent}
 use Rattle.shb_lines.specs.text.Spans.{StandIn, names_in}
@@ -37,14 +36,14 @@ with_operand tables kind name = record {
   variables = with_names tables.variables (variables_among kind name);
 }
 
--- the reader has one event more, that of a line with these names at this place
-pub record AddsEvent (old new : Reader) (line : ℕ) (named : NamedEvent) (text : Span) : Type 0 where
+-- the reader has one event more, that of a line with these names that begins at this place
+pub record AddsEvent (old new : Reader) (line : ℕ) (named : NamedEvent) (start : ℕ) : Type 0 where
   pub event : Event
   pub numbered : IsNumbered (tables_of new) event named
   pub line_is : event.line ≡ line
   pub tables_are : tables_of new ≡ with_operand (with_thread (tables_of old) named.thread) named.kind named.operand
   pub events_are : new.events.items ≡ old.events.items ++ event ∷ []
-  pub texts_are : new.texts.items ≡ old.texts.items ++ text ∷ []
+  pub starts_are : new.starts.items ≡ old.starts.items ++ start ∷ []
 
 -- each name stands in the text
 pub record AllStand (text : List ℕ) (reader : Reader) : Type 0 where

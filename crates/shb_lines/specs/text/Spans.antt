@@ -1,7 +1,8 @@
--- Where names stand in a text, as the reader of texts holds them.
-use Rattle.std.specs.Prelude.{◌≡◌, ◌+◌, ◌≤◌, ℕ, List, length, take, drop, map}
+-- Where names and lines stand in a text, as the reader of texts holds them.
+use Rattle.std.specs.Prelude.{◌≡◌, ◌==◌, ◌+◌, ◌≤◌, ℕ, List, length, take, drop, map}
 use Rattle.std.specs.Borrow.{Bor}
-use Rattle.std.specs.List.{AllByRecursion}
+use Rattle.std.specs.List.{AllByRecursion, before_first}
+use Rattle.std.specs.Str.Lines.{strip_carriage_return}
 use Rattle.shb_lines.specs.declared.names.Span.{Span}
 
 -- the bytes of the text in a span
@@ -26,3 +27,12 @@ StandIn text entries = AllByRecursion (λ e. StandsAt text e.0.now e.1) entries
 -- the places of the names
 abbrev pub spans_in : NamesWithSpans → List Span
 spans_in entries = map (λ e. e.1) entries
+
+-- the line that begins at a place of the text, without the carriage return at its end
+abbrev pub line_from : List ℕ → ℕ → List ℕ
+line_from text start = strip_carriage_return (before_first (λ b. b == 10) (drop start text))
+
+-- the line that begins there has these bytes
+pub record IsLineFrom (text bytes : List ℕ) (start : ℕ) : Type 0 where
+  pub within : start ≤ length text
+  pub reads : line_from text start ≡ bytes
