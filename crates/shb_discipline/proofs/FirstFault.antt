@@ -12,7 +12,7 @@ use Rattle.shb_lines.specs.declared.event.LineFault.{LineFault}
 use Rattle.shb_lines.specs.events.Discipline.{IsDisciplined}
 use Rattle.shb_lines.specs.text.Faults.{HasLineFault, IsFaultless, IsFirstFault, PassesLimit, line_at, number_of}
 use Rattle.shb_lines.specs.text.Grammar.{NamedEvent}
-use Rattle.shb_lines.specs.text.Parsed.{IsEventOf, events_of}
+use Rattle.shb_lines.specs.text.Numbers.{IsEventOf, events_of}
 use Rattle.shb_lines.specs.text.Text.{LocatedEvent, lines_of, trace_of}
 use Rattle.shb_lines.specs.text.TraceData.{IsReadingOf, IsTraceOf, TraceData, tables_in}
 use Rattle.shb_discipline.specs.Faults.{HasDisciplineFault, IsFirstDisciplineFault}

@@ -4,11 +4,15 @@ pub mod Meaning
 pub mod Reading
 pub mod Limits
 pub mod Names
-pub mod Ends
 pub mod Text
+pub mod Numbers
 pub mod Faults
 pub mod Words
+pub mod TraceData
+pub mod Taking
+-- what the reader and the trace hold
+pub mod Ends
+pub mod Spans
 pub mod Reader
 pub mod Parsed
-pub mod Taking
-pub mod TraceData
+pub mod Places

@@ -2,36 +2,26 @@
 ghost use Rattle.std.specs.Prelude.{◌≡◌, ◌+◌, ◌^◌, ◌<◌, ◌≤◌, ◌==◌, ◌↔◌, ℕ, List, [], ◌∷◌, length, drop, nat_lt, not, vec_len, IsTrue, IfOk, OnOk};
 ghost use Rattle.std.specs.List.{list_any, position_or_len};
 ghost use Rattle.std.specs.Str.{bytes_eq};
-ghost use Rattle.std.specs.Str.Lines.{strip_carriage_return};
 ghost use Rattle.indexmap.specs.IndexMap.{index_map_len};
 ghost use Rattle.shb_lines.specs.text.Faults.{HasLineFault, IsLowest};
 ghost use Rattle.shb_lines.specs.text.Limits.{AreStandard};
-ghost use Rattle.shb_lines.specs.text.Names.{StandsAt, spans_in};
-ghost use Rattle.shb_lines.specs.text.Parsed.{HasRead, events_of, lines_read, part};
-ghost use Rattle.shb_lines.specs.text.Reader.{AddsEvent, AllStand, HasNames, HasRoom, IsOperation, tables_of, with_names, with_operand};
+ghost use Rattle.shb_lines.specs.text.Spans.{StandsAt, spans_in};
+ghost use Rattle.shb_lines.specs.text.Parsed.{HasRead, lines_read, part};
+ghost use Rattle.shb_lines.specs.text.Numbers.{IsOperation, events_of};
+ghost use Rattle.shb_lines.specs.text.Reader.{AddsEvent, AllStand, HasNames, HasRoom, tables_of, with_names, with_operand};
 ghost use Rattle.shb_lines.specs.text.Reading.{named};
 ghost use Rattle.shb_lines.specs.text.Text.{threads_among};
 ghost use Rattle.shb_lines.specs.text.TraceData.{IsReading};
 
 use crate::event::{Event, Fault, Kind, Limits, LineFault, Op};
 use crate::grammar::{LineEvent, read_line};
+use crate::line::without_carriage_return;
 use crate::names::{Names, Span};
 use crate::trace::Places;
 use memchr::memchr;
 use shb_io::NoMemory;
 use std::alloc::Global;
 use std::random::RandomSource;
-
-/// The line without the carriage return at its end.
-fn without_carriage_return(line: &[u8]) -> &[u8]
-    ensures value { result.now ≡ strip_carriage_return line.now }
-    ensures within { length result.now ≤ length line.now }
-{
-    match line {
-        [front @ .., b'\r'] => front,
-        _ => line,
-    }
-}
 
 /// Whether the byte behind the limit of the text stands in a line that ends at `end`, where no line
 /// before it has it.
@@ -58,7 +48,7 @@ fn line_end(text: &[u8], start: usize) -> usize
 #[derive(Drop)]
 pub struct Reader<'t> {
     events: Vec<Event>,
-    texts: Vec<Span>,
+    starts: Vec<u32>,
     threads: Names<'t>,
     locks: Names<'t>,
     variables: Names<'t>,
@@ -73,7 +63,7 @@ impl<'t> Reader<'t> {
     {
         Ok(Reader {
             events: Vec::new(alloc),
-            texts: Vec::new(alloc),
+            starts: Vec::new(alloc),
             threads: Names::new(rt, alloc)?,
             locks: Names::new(rt, alloc)?,
             variables: Names::new(rt, alloc)?,
@@ -123,10 +113,10 @@ impl<'t> Reader<'t> {
 
     /// The operation of an event, with the number of its name.
     fn operation(&mut self, kind: Kind, name: &'t [u8], span: Span) -> Result<Op, NoMemory>
-        requires room { HasNames self.old 16777216 }
+        requires room { HasNames self.old (2 ^ 24) }
         ensures room { (n : ℕ) → HasNames self.old n → HasNames self.new (n + 1) }
         ensures events { self.new.events ≡ self.old.events }
-        ensures texts { self.new.texts ≡ self.old.texts }
+        ensures starts { self.new.starts ≡ self.old.starts }
         ensures tables { OnOk result
             (tables_of self.new ≡ with_operand (tables_of self.old) kind name.now) }
         ensures operation { IfOk result (λ op. IsOperation (tables_of self.new) op kind name.now) }
@@ -145,31 +135,31 @@ impl<'t> Reader<'t> {
         }
     }
 
-    /// Adds the event of a line that stands at `text`.
-    fn add_event(&mut self, found: &LineEvent<'t>, line: u32, text: Span) -> Result<(), NoMemory>
-        requires room { HasNames self.old 8388608 }
-        requires thread { text.start + length found.now.thread.now < 2 ^ 31 }
-        requires operand { text.start + found.now.operand_at + length found.now.operand.now < 2 ^ 31 }
+    /// Adds the event of a line that begins at `start`.
+    fn add_event(&mut self, found: &LineEvent<'t>, line: u32, start: u32) -> Result<(), NoMemory>
+        requires room { HasNames self.old (2 ^ 23) }
+        requires thread { start + length found.now.thread.now < 2 ^ 31 }
+        requires operand { start + found.now.operand_at + length found.now.operand.now < 2 ^ 31 }
         ensures room { (n : ℕ) → HasNames self.old n → OnOk result (HasNames self.new (n + 2)) }
         ensures len { OnOk result (vec_len self.new.events ≡ vec_len self.old.events + 1) }
-        ensures added { OnOk result (AddsEvent self.old self.new line (named found.now) text) }
+        ensures added { OnOk result (AddsEvent self.old self.new line (named found.now) start) }
         ensures stand { (bytes : List ℕ) → AllStand bytes self.old
-            → StandsAt bytes found.now.thread.now (record { start = text.start; len = length found.now.thread.now })
-            → StandsAt bytes found.now.operand.now (record { start = text.start + found.now.operand_at; len = length found.now.operand.now })
+            → StandsAt bytes found.now.thread.now (record { start = start; len = length found.now.thread.now })
+            → StandsAt bytes found.now.operand.now (record { start = start + found.now.operand_at; len = length found.now.operand.now })
             → OnOk result (AllStand bytes self.new) }
     {
         let thread_span = Span {
-            start: text.start,
+            start,
             len: found.thread.len() as u32,
         };
         let operand_span = Span {
-            start: text.start + found.operand_at as u32,
+            start: start + found.operand_at as u32,
             len: found.operand.len() as u32,
         };
         let thread = self.threads.number_of(found.thread, thread_span)?;
         let op = self.operation(found.kind, found.operand, operand_span)?;
         self.events.push(Event { thread, op, line })?;
-        self.texts.push(text)?;
+        self.starts.push(start)?;
         Ok(())
     }
 
@@ -184,6 +174,7 @@ impl<'t> Reader<'t> {
     ) -> Result<Option<Fault>, NoMemory>
         requires standard { AreStandard limits.now }
         requires order { start ≤ end }
+        requires ends { end ≡ start + position_or_len (λ b. b == 10) (drop start text.now) }
         requires within { end ≤ length text.now }
         requires short { length text.now < 2 ^ 31 }
         requires room { HasRoom self.old }
@@ -218,11 +209,7 @@ impl<'t> Reader<'t> {
         if self.has_too_many_threads(limits, &found) {
             return Ok(Some(Fault::TooManyThreads));
         }
-        let span = Span {
-            start: start as u32,
-            len: bytes.len() as u32,
-        };
-        self.add_event(&found, line, span)?;
+        self.add_event(&found, line, start as u32)?;
         Ok(None)
     }
 
@@ -257,7 +244,7 @@ impl<'t> Reader<'t> {
     /// Where what was read stands.
     pub fn into_places(self, alloc: Global) -> Result<Places, NoMemory>
         ensures events { IfOk result (λ places. places.events ≡ self.entry.events) }
-        ensures texts { IfOk result (λ places. places.texts ≡ self.entry.texts) }
+        ensures starts { IfOk result (λ places. places.starts ≡ self.entry.starts) }
         ensures threads { IfOk result (λ places. places.threads.items ≡ spans_in self.entry.threads.table.entries) }
         ensures locks { IfOk result (λ places. places.locks.items ≡ spans_in self.entry.locks.table.entries) }
         ensures variables { IfOk result (λ places. places.variables.items ≡ spans_in self.entry.variables.table.entries) }
@@ -267,7 +254,7 @@ impl<'t> Reader<'t> {
             locks: self.locks.spans(alloc)?,
             variables: self.variables.spans(alloc)?,
             events: self.events,
-            texts: self.texts,
+            starts: self.starts,
         })
     }
 }

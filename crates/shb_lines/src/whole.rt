@@ -1,18 +1,19 @@
 //! Reads the bytes of a source.
 ghost use Rattle.std.specs.Prelude.{◌≡◌, ◌+◌, ◌-◌, ◌^◌, ◌<◌, ◌≤◌, ◌++◌, ℕ, List, length, vec_len, IfOk};
 ghost use Rattle.std.specs.Io.KnownBytes.{Consumes, IsAtEnd};
+ghost use Rattle.shb_lines.specs.text.Limits.{most_text};
 ghost use Rattle.shb_lines.specs.text.Taking.{IsSourceCounted, TakesAtMost};
 
 use crate::read::ReadError;
 use shb_io::{NoMemory, Source};
 use std::alloc::Global;
 
-/// How many bytes are read at once.
+/// How many bytes are read at once: few reads, and no more memory than the text soon takes itself.
 const PIECE: usize = 1 << 20;
 
 /// Room for one piece.
 fn new_piece(alloc: Global) -> Result<Vec<u8>, NoMemory>
-    ensures { IfOk result (λ piece. vec_len piece ≡ 1048576) }
+    ensures { IfOk result (λ piece. vec_len piece ≡ 2 ^ 20) }
 {
     Ok(vec![in alloc; 0; PIECE]?)
 }
@@ -50,7 +51,7 @@ pub fn read_whole<S: Source>(
     source: &mut S,
     limit: u64,
 ) -> Result<Vec<u8>, ReadError>
-    requires standard { limit ≤ 1073741824 }
+    requires standard { limit ≤ most_text }
     requires countable { S.failure_count source.old < 2 ^ 64 - 1 }
     ensures ok { IfOk result (λ text. (vec_len text ≤ limit + 1)
         × Consumes (S.remaining source.old) (S.remaining source.new) text.items

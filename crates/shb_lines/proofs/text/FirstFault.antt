@@ -6,7 +6,7 @@ use Rattle.shb_lines.specs.declared.event.Fault.TheVariants as faults
 use Rattle.shb_lines.specs.declared.event.Limits.{Limits}
 use Rattle.shb_lines.specs.text.Grammar.{NamedEvent}
 use Rattle.shb_lines.specs.text.Faults.{HasFault, HasLineFault, IsFaultless, IsLowest, PassesLimit, line_at}
-use Rattle.shb_lines.specs.text.Parsed.{events_of}
+use Rattle.shb_lines.specs.text.Numbers.{events_of}
 use Rattle.shb_lines.specs.text.Parsed.{part}
 use Rattle.shb_lines.specs.text.Text.{lines_of}
 use Rattle.shb_lines.proofs.text.Scanning.{IsNext, IsStart}

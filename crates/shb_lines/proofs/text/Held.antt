@@ -7,12 +7,15 @@ use Rattle.shb_lines.specs.declared.event.LineFault.{LineFault}
 use Rattle.shb_lines.specs.declared.names.Span.{Span}
 use Rattle.shb_lines.specs.declared.reader.Reader.{Reader}
 use Rattle.shb_lines.specs.declared.trace.Places.{Places}
-use Rattle.shb_lines.specs.text.Names.{NamesWithSpans, StandIn, StandsAt, bytes_at, names_in, spans_in}
-use Rattle.shb_lines.specs.text.Parsed.{HasRead, IsEventOf}
+use Rattle.shb_lines.specs.text.Limits.{most_events, most_text}
+use Rattle.shb_lines.specs.text.Spans.{IsLineFrom, line_from, NamesWithSpans, StandIn, StandsAt, bytes_at, names_in, spans_in}
+use Rattle.shb_lines.specs.text.Parsed.{HasRead}
+use Rattle.shb_lines.specs.text.Numbers.{IsEventOf}
 use Rattle.shb_lines.specs.text.Reader.{HasRoom, tables_of}
 use Rattle.shb_lines.specs.text.Text.{IsLineText, LocatedEvent, trace_of}
-use Rattle.shb_lines.specs.text.TraceData.{ArePlaces, AreSpans, IsReading, IsTraceOf, names_at, tables_in, trace_at}
-use Rattle.shb_lines.proofs.text.LineLemmas.{length-texts}
+use Rattle.shb_lines.specs.text.Places.{ArePlaces, AreSpans, names_at, trace_at}
+use Rattle.shb_lines.specs.text.TraceData.{IsReading, IsTraceOf, tables_in}
+use Rattle.shb_lines.proofs.text.LineLemmas.{length-starts}
 use Rattle.shb_lines.proofs.text.Numbers.{well_formed}
 
 pub IsReading-to : (limits : Limits) (text : List ℕ) (Holds Other : List (List ℕ) → Type 0) → ((lines : List (List ℕ)) → Holds lines → Other lines) → (stop : Option LineFault) → IsReading limits text Holds stop → IsReading limits text Other stop
@@ -31,27 +34,27 @@ module _ (text : List ℕ) where
   spans_within [] h = tt
   spans_within (e ∷ entries) h = (h.0.within, spans_within entries h.1)
 
-  spans_are : (spans : List Span) (entries : NamesWithSpans) (n : ℕ) → spans ≡ spans_in entries → StandIn text entries → length entries ≤ 2 * n → n ≤ 4194304 → AreSpans text spans
+  spans_are : (spans : List Span) (entries : NamesWithSpans) (n : ℕ) → spans ≡ spans_in entries → StandIn text entries → length entries ≤ 2 * n → n ≤ most_events → AreSpans text spans
   spans_are spans entries n is h few most = record {
     few = omega (arith, ap (λ l. length l) is ∙ length-map entries (λ e. e.1));
     within = subst (AllByRecursion (λ (span : Span). span.start + span.len ≤ length text)) (sym is) (spans_within entries h);
   }
 
-  texts_within : (texts : List Span) (events : List LocatedEvent) → AllZip (λ s e. StandsAt text e.text s) texts events → AllByRecursion (λ span. span.start + span.len ≤ length text) texts
-  texts_within [] events h = tt
-  texts_within (s ∷ texts) [] h = absurd h
-  texts_within (s ∷ texts) (e ∷ events) h = (h.0.within, texts_within texts events h.1)
+  starts_within : (starts : List ℕ) (events : List LocatedEvent) → AllZip (λ s e. IsLineFrom text e.text s) starts events → AllByRecursion (λ start. start ≤ length text) starts
+  starts_within [] events h = tt
+  starts_within (s ∷ starts) [] h = absurd h
+  starts_within (s ∷ starts) (e ∷ events) h = (h.0.within, starts_within starts events h.1)
 
-  lines_are : (texts : List Span) (events : List LocatedEvent) → AllZip (λ s e. StandsAt text e.text s) texts events → map (bytes_at text) texts ≡ map (λ e. e.text) events
+  lines_are : (starts : List ℕ) (events : List LocatedEvent) → AllZip (λ s e. IsLineFrom text e.text s) starts events → map (line_from text) starts ≡ map (λ e. e.text) events
   lines_are [] [] h = refl
   lines_are [] (e ∷ events) h = absurd h
-  lines_are (s ∷ texts) [] h = absurd h
-  lines_are (s ∷ texts) (e ∷ events) h = λ i. h.0.reads i ∷ lines_are texts events h.1 i
+  lines_are (s ∷ starts) [] h = absurd h
+  lines_are (s ∷ starts) (e ∷ events) h = λ i. h.0.reads i ∷ lines_are starts events h.1 i
 
 -- the places are those that a reader has noted
 pub record AreNoted (reader : Reader) (places : Places) : Type 0 where
   pub events : places.events ≡ reader.events
-  pub texts : places.texts ≡ reader.texts
+  pub starts : places.starts ≡ reader.starts
   pub threads : places.threads.items ≡ spans_in reader.threads.table.entries
   pub locks : places.locks.items ≡ spans_in reader.locks.table.entries
   pub variables : places.variables.items ≡ spans_in reader.variables.table.entries
@@ -69,25 +72,25 @@ module _ (text : List ℕ) (reader : Reader) (places : Places) (noted : AreNoted
     tables_are = tables_same ∙ read.tables_are;
     events_are = subst (λ t. AllZip (IsEventOf t) places.events.items (trace_of lines)) (sym tables_same)
         (subst (λ events. AllZip (IsEventOf (tables_of reader)) events (trace_of lines)) (sym (ap (λ v. v.items) noted.events)) read.events_are);
-    lines_are = ap (λ v. map (bytes_at text) v.items) noted.texts ∙ lines_are text reader.texts.items (trace_of lines) read.texts_are;
+    lines_are = ap (λ v. map (line_from text) v.items) noted.starts ∙ lines_are text reader.starts.items (trace_of lines) read.starts_are;
   }
 
-  pub places_held : length text ≤ 1073741825 → length reader.events.items ≤ 4194304 → HasRoom reader → AllByRecursion IsLineText (map (λ e. e.text) (trace_of lines)) → ArePlaces text places
+  pub places_held : length text ≤ most_text + 1 → length reader.events.items ≤ most_events → HasRoom reader → AllByRecursion IsLineText (map (λ e. e.text) (trace_of lines)) → ArePlaces text places
   places_held short few room line_texts =
       let n = length reader.events.items in
       let len = reader.events.ok.0 in
       let events_len : length places.events.items ≡ n = ap (λ v. length v.items) noted.events in
-      let texts_len : length places.texts.items ≡ n = ap (λ v. length v.items) noted.texts ∙ length-texts text reader lines read in
+      let starts_len : length places.starts.items ≡ n = ap (λ v. length v.items) noted.starts ∙ length-starts text reader lines read in
       record {
         short = omega arith;
-        a_line_each = texts_len ∙ sym events_len;
-        texts = record {
-          few = omega (arith, texts_len, few);
-          within = subst (AllByRecursion (λ (span : Span). span.start + span.len ≤ length text)) (sym (ap (λ v. v.items) noted.texts)) (texts_within text reader.texts.items (trace_of lines) read.texts_are);
+        a_line_each = starts_len ∙ sym events_len;
+        starts = record {
+          few = omega (arith, starts_len, few);
+          within = subst (AllByRecursion (λ (start : ℕ). start ≤ length text)) (sym (ap (λ v. v.items) noted.starts)) (starts_within text reader.starts.items (trace_of lines) read.starts_are);
         };
         threads = spans_are text places.threads.items reader.threads.table.entries n noted.threads read.stand.threads (omega (arith, room.threads, len)) few;
         locks = spans_are text places.locks.items reader.locks.table.entries n noted.locks read.stand.locks (omega (arith, room.locks, len)) few;
         variables = spans_are text places.variables.items reader.variables.table.entries n noted.variables read.stand.variables (omega (arith, room.variables, len)) few;
         well_formed = well_formed lines (trace_at text places) trace_held (omega (arith, events_len, few))
-            (length-map places.texts.items (bytes_at text) ∙ texts_len ∙ sym events_len) line_texts;
+            (length-map places.starts.items (line_from text) ∙ starts_len ∙ sym events_len) line_texts;
       }

@@ -8,11 +8,11 @@ use Rattle.shb_lines.specs.declared.event.Kind.TheVariants as kinds
 use Rattle.shb_lines.specs.declared.names.Span.{Span}
 use Rattle.shb_lines.specs.declared.reader.Reader.{Reader}
 use Rattle.shb_lines.specs.text.Grammar.{NamedEvent}
-use Rattle.shb_lines.specs.text.Names.{StandsAt}
+use Rattle.shb_lines.specs.text.Spans.{IsLineFrom, StandsAt}
 use Rattle.shb_lines.specs.text.Reader.{tables_of, with_names, with_operand, with_thread}
 use Rattle.shb_lines.specs.text.Text.{threads_among, threads_of, trace_of}
-use Rattle.shb_lines.specs.text.Parsed.{HasRead, IsEventOf, events_of}
-use Rattle.shb_lines.specs.text.Parsed.{part}
+use Rattle.shb_lines.specs.text.Parsed.{HasRead, part}
+use Rattle.shb_lines.specs.text.Numbers.{IsEventOf, events_of}
 use Rattle.shb_lines.proofs.text.NameLemmas.{length-with_names_le}
 use Rattle.shb_lines.proofs.text.TraceLemmas.{tables-push}
 
@@ -26,8 +26,8 @@ length_zip R (x ∷ xs) (y ∷ ys) h = ap (λ n. suc n) (length_zip R xs ys h.1)
 pub length-events_of : (text : List ℕ) (reader : Reader) (lines : List (List ℕ)) → HasRead text reader lines → length (events_of lines) ≡ length reader.events.items
 length-events_of text reader lines h = length-map (trace_of lines) (λ e. e.event) ∙ length_zip (IsEventOf (tables_of reader)) reader.events.items (trace_of lines) h.events_are
 
-pub length-texts : (text : List ℕ) (reader : Reader) (lines : List (List ℕ)) → HasRead text reader lines → length reader.texts.items ≡ length reader.events.items
-length-texts text reader lines h = sym (length_zip (λ s e. StandsAt text e.text s) reader.texts.items (trace_of lines) h.texts_are) ∙ length_zip (IsEventOf (tables_of reader)) reader.events.items (trace_of lines) h.events_are
+pub length-starts : (text : List ℕ) (reader : Reader) (lines : List (List ℕ)) → HasRead text reader lines → length reader.starts.items ≡ length reader.events.items
+length-starts text reader lines h = sym (length_zip (λ s e. IsLineFrom text e.text s) reader.starts.items (trace_of lines) h.starts_are) ∙ length_zip (IsEventOf (tables_of reader)) reader.events.items (trace_of lines) h.events_are
 
 -- how many threads there are with those of one event more
 pub length-threads_of : (text : List ℕ) (reader : Reader) (lines : List (List ℕ)) (e : NamedEvent) → HasRead text reader lines

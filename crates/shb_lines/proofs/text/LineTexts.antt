@@ -6,13 +6,13 @@ use Rattle.std.proofs.lemmas.List.{take_all}
 use Rattle.shb_lines.specs.declared.event.Fault.TheVariants as faults
 use Rattle.shb_lines.specs.declared.event.Limits.{Limits}
 use Rattle.shb_lines.specs.declared.event.LineFault.{LineFault}
-use Rattle.shb_lines.specs.declared.names.Span.{Span}
+use Rattle.shb_lines.specs.text.Limits.{most_line}
 use Rattle.shb_lines.specs.text.Faults.{IsFaultless}
 use Rattle.shb_lines.specs.text.Grammar.{Meaning, NamedEvent}
 use Rattle.shb_lines.specs.text.Meaning.{is_bar, meaning}
-use Rattle.shb_lines.specs.text.Names.{bytes_at}
+use Rattle.shb_lines.specs.text.Spans.{line_from}
 use Rattle.shb_lines.specs.text.Text.{IsLineText, event_on, lines_of, located, trace_of}
-use Rattle.shb_lines.specs.text.TraceData.{IsReading, IsWellFormed, TraceData, location_of, names_at}
+use Rattle.shb_lines.specs.text.TraceData.{IsReading, IsWellFormed, TraceData, location_of}
 
 abbrev pub IsOneLine : List ℕ → Type 0
 IsOneLine bytes = list_all (λ b. not (b == 10)) bytes ≡ true
@@ -50,14 +50,14 @@ drop-one_line (suc n) (b ∷ bytes) h = drop-one_line n bytes (by (not (b == 10)
 
 -- few bytes, and no line feed
 pub record IsShortLine (bytes : List ℕ) : Type 0 where
-  pub most : length bytes ≤ 4096
+  pub most : length bytes ≤ most_line
   pub one_line : IsOneLine bytes
 
 front-short : (b : Bool) (line : List ℕ) → IsShortLine line → IsShortLine (cond b (take (length line - 1) line) line)
 front-short true line h = let most = h.most in record { most = omega (arith, length-take (length line - 1) line); one_line = take-one_line (length line - 1) line h.one_line }
 front-short false line h = h
 
-short_lines : (lines : List (List ℕ)) (n : ℕ) → AllByRecursion IsOneLine lines → ((k : ℕ) → k < n → length (slice_index_or lines k []) ≤ 4096) → AllByRecursion IsShortLine (take n lines)
+short_lines : (lines : List (List ℕ)) (n : ℕ) → AllByRecursion IsOneLine lines → ((k : ℕ) → k < n → length (slice_index_or lines k []) ≤ most_line) → AllByRecursion IsShortLine (take n lines)
 short_lines lines zero all each = tt
 short_lines [] (suc n) all each = tt
 short_lines (line ∷ lines) (suc n) all each =
@@ -80,7 +80,7 @@ line_texts_from number (line ∷ lines) all = by (meaning (strip_carriage_return
     by (Ok (Some event)) e short rest = (record { least = some_bytes (strip_carriage_return line) event e; most = short.most; one_line = short.one_line }, rest)
     by (Err fault) e short rest = rest
 
-module _ (limits : Limits) (text : List ℕ) (standard : limits.line ≤ 4096) where
+module _ (limits : Limits) (text : List ℕ) (standard : limits.line ≤ most_line) where
   faultless_lines : (n : ℕ) → IsFaultless limits text n → AllByRecursion IsShortLine (take n (lines_of text))
   faultless_lines n faultless =
       short_lines (lines_of text) n (lines_of-one_line text)
@@ -94,11 +94,11 @@ module _ (limits : Limits) (text : List ℕ) (standard : limits.line ≤ 4096) w
       (lines_of text, h.1, line_texts_from 1 (lines_of text) few)
   held_texts Holds (Some stop) h = (take h.0 (lines_of text), h.3, line_texts_from 1 (take h.0 (lines_of text)) (faultless_lines h.0 h.2.earlier))
 
--- the text of a span is that of a line
-pub span_text : (text : List ℕ) (spans : List Span) (e : ℕ) (span default : Span) → AllByRecursion IsLineText (names_at text spans) → e < length spans → span ≡ get_or spans e default → IsLineText (bytes_at text span)
-span_text text [] e span default all lt is = absurd (omega arith)
-span_text text (first ∷ spans) zero span default all lt is = subst (λ s. IsLineText (bytes_at text s)) (sym is) all.0
-span_text text (first ∷ spans) (suc e) span default all lt is = span_text text spans e span default all.1 (omega arith) is
+-- what begins at a place of a line is a line
+pub start_text : (text : List ℕ) (starts : List ℕ) (e start default : ℕ) → AllByRecursion IsLineText (map (line_from text) starts) → e < length starts → start ≡ get_or starts e default → IsLineText (line_from text start)
+start_text text [] e start default all lt is = absurd (omega arith)
+start_text text (first ∷ starts) zero start default all lt is = subst (λ s. IsLineText (line_from text s)) (sym is) all.0
+start_text text (first ∷ starts) (suc e) start default all lt is = start_text text starts e start default all.1 (omega arith) is
 
 at_each : (lines : List (List ℕ)) (e : ℕ) → AllByRecursion IsLineText lines → e < length lines → (line : List ℕ) × (slice_get lines e ≡ Some line) × IsLineText line
 at_each [] e all lt = absurd (omega arith)

@@ -10,7 +10,8 @@ use Rattle.std.specs.Map.{keys_of, lookup}
 use Rattle.indexmap.specs.IndexMap.{insert_entry}
 use Rattle.shb_lines.specs.declared.names.Span.{Span}
 use Rattle.shb_lines.specs.text.Reader.{with_names}
-use Rattle.shb_lines.specs.text.Names.{with_name, names_in, NamesWithSpans, StandsAt, StandIn}
+use Rattle.shb_lines.specs.text.Names.{with_name}
+use Rattle.shb_lines.specs.text.Spans.{names_in, NamesWithSpans, StandsAt, StandIn}
 
 -- names with the same bytes are one
 bytes_eq-same : (xs ys : List ℕ) → bytes_eq xs ys ≡ true → xs ≡ ys

@@ -5,8 +5,8 @@ use Rattle.std.specs.Str.{bytes_eq}
 use Rattle.std.proofs.lemmas.List.{length-map}
 use Rattle.std.proofs.lemmas.Option.{slice_get-map, slice_get_read}
 use Rattle.shb_lines.specs.declared.names.Span.{Span}
-use Rattle.shb_lines.specs.text.Names.{bytes_at}
-use Rattle.shb_lines.specs.text.TraceData.{names_at}
+use Rattle.shb_lines.specs.text.Spans.{bytes_at}
+use Rattle.shb_lines.specs.text.Places.{names_at}
 use Rattle.shb_lines.proofs.text.Numbers.{one_number}
 
 pub alone : (text : List ℕ) (spans : List Span) (names : List (List ℕ)) (k : ℕ) (span : Span) (bytes name : List ℕ) → names_at text spans ≡ names → k < length names → span ≡ get_or spans k span

@@ -11,10 +11,11 @@ use Rattle.shb_lines.specs.declared.event.Kind.{Kind}
 use Rattle.shb_lines.specs.declared.event.Op.{Op}
 use Rattle.shb_lines.specs.declared.event.Op.TheVariants as ops
 use Rattle.shb_lines.specs.events.Events.{op_at, variable_of}
+use Rattle.shb_lines.specs.text.Limits.{most_events}
 use Rattle.shb_lines.specs.text.Names.{table_of, with_name}
-use Rattle.shb_lines.specs.text.Parsed.{IsEventOf, events_of}
+use Rattle.shb_lines.specs.text.Numbers.{IsEventOf, IsOperation, Tables, events_of}
 use Rattle.shb_lines.specs.events.Race.{variable_at}
-use Rattle.shb_lines.specs.text.Reader.{IsOperation, Tables, with_names}
+use Rattle.shb_lines.specs.text.Reader.{with_names}
 use Rattle.shb_lines.specs.events.Sizes.{IsEventWithin, IsOpWithin, IsWithin}
 use Rattle.shb_lines.specs.text.Text.{IsLineText, LocatedEvent, locks_among, threads_among, trace_of, variables_among}
 use Rattle.shb_lines.specs.text.TraceData.{IsTraceOf, IsWellFormed, TraceData, tables_in}
@@ -201,7 +202,7 @@ module _ (lines : List (List ℕ)) (trace : TraceData) (h : IsTraceOf lines trac
   differ names table is = subst (IsDistinct bytes_eq) (sym is) (IsDistinct-table_of names)
 
   -- what every trace of some lines meets
-  pub well_formed : length trace.events ≤ 4194304 → length trace.lines ≡ length trace.events → AllByRecursion IsLineText (map (λ e. e.text) (trace_of lines)) → IsWellFormed trace
+  pub well_formed : length trace.events ≤ most_events → length trace.lines ≡ length trace.events → AllByRecursion IsLineText (map (λ e. e.text) (trace_of lines)) → IsWellFormed trace
   well_formed few a_line_each texts = record {
     few = few;
     a_line_each = a_line_each;

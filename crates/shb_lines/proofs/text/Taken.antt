@@ -4,7 +4,8 @@ use Rattle.std.specs.List.{position_or_len}
 use Rattle.shb_lines.specs.declared.event.Fault.{Fault}
 use Rattle.shb_lines.specs.declared.event.Limits.{Limits}
 use Rattle.shb_lines.specs.text.Faults.{HasFault, HasLineFault, IsLowest}
-use Rattle.shb_lines.specs.text.Parsed.{events_of, part}
+use Rattle.shb_lines.specs.text.Numbers.{events_of}
+use Rattle.shb_lines.specs.text.Parsed.{part}
 use Rattle.shb_lines.specs.text.Text.{lines_of}
 use Rattle.shb_lines.proofs.text.FirstFault.{lowest_at}
 use Rattle.shb_lines.proofs.text.Scanning.{IsStart, start_next}

@@ -10,14 +10,15 @@ use Rattle.shb_lines.specs.declared.event.Event.{Event}
 use Rattle.shb_lines.specs.declared.event.Kind.{Kind}
 use Rattle.shb_lines.specs.declared.event.Op.{Op}
 use Rattle.shb_lines.specs.declared.event.Op.TheVariants as ops
-use Rattle.shb_lines.specs.declared.names.Span.{Span}
 use Rattle.shb_lines.specs.declared.reader.Reader.{Reader}
 use Rattle.shb_lines.specs.text.Grammar.{NamedEvent}
 use Rattle.shb_lines.specs.text.Meaning.{meaning}
-use Rattle.shb_lines.specs.text.Names.{StandsAt, table_of, with_name}
-use Rattle.shb_lines.specs.text.Reader.{AddsEvent, AllStand, tables_of, IsNumbered, IsOperation, Tables, with_names, with_operand, with_thread}
+use Rattle.shb_lines.specs.text.Spans.{IsLineFrom}
+use Rattle.shb_lines.specs.text.Names.{table_of, with_name}
+use Rattle.shb_lines.specs.text.Reader.{AddsEvent, AllStand, tables_of, with_names, with_operand, with_thread}
+use Rattle.shb_lines.specs.text.Numbers.{IsEventOf, IsNumbered, IsOperation, Tables, events_of, tables_of_events}
 use Rattle.shb_lines.specs.text.Text.{LocatedEvent, event_on, located, locks_among, threads_among, trace_of, variables_among}
-use Rattle.shb_lines.specs.text.Parsed.{HasRead, IsEventOf, events_of, tables_of_events}
+use Rattle.shb_lines.specs.text.Parsed.{HasRead}
 use Rattle.shb_lines.proofs.text.NameLemmas.{slice_get-with_name, slice_get-with_names}
 
 enumerate_from-push : {X : Type 0} (n : ℕ) (xs : List X) (x : X) → enumerate_from n (xs ++ x ∷ []) ≡ enumerate_from n xs ++ (n + length xs, x) ∷ []
@@ -84,30 +85,30 @@ HasRead-none text reader lines line none h =
     record {
       tables_are = h.tables_are ∙ ap (λ t. tables_of_events (map (λ e. e.event) t)) same;
       events_are = subst (AllZip (IsEventOf (tables_of reader)) reader.events.items) same h.events_are;
-      texts_are = subst (AllZip (λ span e. StandsAt text e.text span) reader.texts.items) same h.texts_are;
+      starts_are = subst (AllZip (λ start e. IsLineFrom text e.text start) reader.starts.items) same h.starts_are;
       stand = h.stand;
     }
 
 -- a line that gives an event adds it, its names and its place
-pub HasRead-some : (text : List ℕ) (old new : Reader) (lines : List (List ℕ)) (line : List ℕ) (e : NamedEvent) (span : Span)
-    → meaning (strip_carriage_return line) ≡ Ok (Some e) → StandsAt text (strip_carriage_return line) span → AddsEvent old new (1 + length lines) e span → AllStand text new
+pub HasRead-some : (text : List ℕ) (old new : Reader) (lines : List (List ℕ)) (line : List ℕ) (e : NamedEvent) (start : ℕ)
+    → meaning (strip_carriage_return line) ≡ Ok (Some e) → IsLineFrom text (strip_carriage_return line) start → AddsEvent old new (1 + length lines) e start → AllStand text new
     → HasRead text old lines → HasRead text new (lines ++ line ∷ [])
-HasRead-some text old new lines line e span some stands adds stand h =
+HasRead-some text old new lines line e start some stands adds stand h =
     let last : LocatedEvent = record { line = 1 + length lines; text = strip_carriage_return line; event = e } in
     let trace_is = trace_of-some lines line e some in
     let grown = with_operand (with_thread (tables_of old) e.thread) e.kind e.operand in
     let numbered : IsNumbered grown adds.event e = subst (λ t. IsNumbered t adds.event e) adds.tables_are adds.numbered in
     let events : AllZip (IsEventOf grown) (old.events.items ++ adds.event ∷ []) (trace_of lines ++ last ∷ []) =
     AllZip-push (IsEventOf (tables_of old)) (IsEventOf grown) (IsEventOf-more (tables_of old) e.thread e.kind e.operand) old.events.items (trace_of lines) adds.event last h.events_are (record { numbered = numbered; line_is = adds.line_is }) in
-    let texts : AllZip (λ s l. StandsAt text l.text s) (old.texts.items ++ span ∷ []) (trace_of lines ++ last ∷ []) =
-    AllZip-push (λ s l. StandsAt text l.text s) (λ s l. StandsAt text l.text s) (λ s l here. here) old.texts.items (trace_of lines) span last h.texts_are stands in
+    let starts : AllZip (λ s l. IsLineFrom text l.text s) (old.starts.items ++ start ∷ []) (trace_of lines ++ last ∷ []) =
+    AllZip-push (λ s l. IsLineFrom text l.text s) (λ s l. IsLineFrom text l.text s) (λ s l here. here) old.starts.items (trace_of lines) start last h.starts_are stands in
     record {
       tables_are = adds.tables_are ∙ ap (λ t. with_operand (with_thread t e.thread) e.kind e.operand) h.tables_are ∙ sym (tables-push (events_of lines) e)
           ∙ ap tables_of_events (sym (map-append (λ (x : LocatedEvent). x.event) (trace_of lines) (last ∷ []))) ∙ ap (λ t. tables_of_events (map (λ x. x.event) t)) (sym trace_is);
       events_are = subst (λ t. AllZip (IsEventOf t) new.events.items (trace_of (lines ++ line ∷ []))) (sym adds.tables_are)
           (subst (λ es. AllZip (IsEventOf grown) es (trace_of (lines ++ line ∷ []))) (sym adds.events_are)
           (subst (AllZip (IsEventOf grown) (old.events.items ++ adds.event ∷ [])) (sym trace_is) events));
-      texts_are = subst (λ ps. AllZip (λ s l. StandsAt text l.text s) ps (trace_of (lines ++ line ∷ []))) (sym adds.texts_are)
-          (subst (AllZip (λ s l. StandsAt text l.text s) (old.texts.items ++ span ∷ [])) (sym trace_is) texts);
+      starts_are = subst (λ ps. AllZip (λ s l. IsLineFrom text l.text s) ps (trace_of (lines ++ line ∷ []))) (sym adds.starts_are)
+          (subst (AllZip (λ s l. IsLineFrom text l.text s) (old.starts.items ++ start ∷ [])) (sym trace_is) starts);
       stand = stand;
     }

@@ -1,4 +1,4 @@
--- Tests that compute, for the plain programs and for the proofs; the contracts that they serve speak of edges and paths.
+-- Bool tests of single events and of pairs of events: those that the functions compute and those that proofs and the tests of Reach.antt decide relations with. The contracts of the crates above speak of the relations.
 use Rattle.std.specs.Prelude.{◌==◌, ℕ, Bool, true, false, not, ◌&&◌, ◌||◌, Option, Some}
 use Rattle.shb_lines.specs.events.Events.{variable_of}
 use Rattle.shb_lines.specs.declared.event.Event.{Event}

@@ -1,31 +1,18 @@
 -- What a reader holds of the lines that it has read.
-use Rattle.std.specs.Prelude.{◌≡◌, ◌-◌, ℕ, List, [], ◌∷◌, ◌++◌, map, take, drop, Option, None, Some}
+use Rattle.std.specs.Prelude.{◌≡◌, ◌-◌, ℕ, List, [], ◌∷◌, ◌++◌, take, drop, Option, None, Some}
 use Rattle.std.specs.List.{AllZip}
-use Rattle.shb_lines.specs.declared.event.Event.{Event}
 use Rattle.shb_lines.specs.declared.event.Fault.{Fault}
 use Rattle.shb_lines.specs.declared.reader.Reader.{Reader}
-use Rattle.shb_lines.specs.text.Grammar.{NamedEvent}
-use Rattle.shb_lines.specs.text.Names.{StandsAt}
-use Rattle.shb_lines.specs.text.Reader.{AllStand, IsNumbered, Tables, tables_of}
-use Rattle.shb_lines.specs.text.Text.{LocatedEvent, locks_of, threads_of, trace_of, variables_of}
-
-abbrev pub events_of : List (List ℕ) → List NamedEvent
-events_of lines = map (λ e. e.event) (trace_of lines)
-
--- the names of some events
-abbrev pub tables_of_events : List NamedEvent → Tables
-tables_of_events events = record { threads = threads_of events; locks = locks_of events; variables = variables_of events }
-
--- the event's numbers are those of its names, and it has the number of its line
-pub record IsEventOf (tables : Tables) (event : Event) (located : LocatedEvent) : Type 0 where
-  pub numbered : IsNumbered tables event located.event
-  pub line_is : event.line ≡ located.line
+use Rattle.shb_lines.specs.text.Spans.{IsLineFrom}
+use Rattle.shb_lines.specs.text.Reader.{AllStand, tables_of}
+use Rattle.shb_lines.specs.text.Numbers.{IsEventOf, events_of, tables_of_events}
+use Rattle.shb_lines.specs.text.Text.{trace_of}
 
 -- the tables and the events are those of the lines; each event's line and each name stand in the text
 pub record HasRead (text : List ℕ) (reader : Reader) (lines : List (List ℕ)) : Type 0 where
   pub tables_are : tables_of reader ≡ tables_of_events (events_of lines)
   pub events_are : AllZip (IsEventOf (tables_of reader)) reader.events.items (trace_of lines)
-  pub texts_are : AllZip (λ span e. StandsAt text e.text span) reader.texts.items (trace_of lines)
+  pub starts_are : AllZip (λ start e. IsLineFrom text e.text start) reader.starts.items (trace_of lines)
   pub stand : AllStand text reader
 
 -- the bytes of the text from start to end

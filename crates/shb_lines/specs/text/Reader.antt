@@ -1,15 +1,13 @@
 -- What a reader holds.
-use Rattle.std.specs.Prelude.{◌≡◌, ◌*◌, ◌≤◌, ℕ, List, [], ◌∷◌, ◌++◌, fold, slice_get, vec_len, Some}
+use Rattle.std.specs.Prelude.{◌≡◌, ◌*◌, ◌≤◌, ℕ, List, [], ◌∷◌, ◌++◌, fold, vec_len}
 use Rattle.indexmap.specs.IndexMap.{index_map_len}
 use Rattle.shb_lines.specs.declared.event.Event.{Event}
 use Rattle.shb_lines.specs.declared.event.Kind.{Kind}
-use Rattle.shb_lines.specs.declared.event.Kind.TheVariants as kinds
-use Rattle.shb_lines.specs.declared.event.Op.{Op}
-use Rattle.shb_lines.specs.declared.event.Op.TheVariants as ops
-use Rattle.shb_lines.specs.declared.names.Span.{Span}
 use Rattle.shb_lines.specs.declared.reader.Reader.{Reader}
 use Rattle.shb_lines.specs.text.Grammar.{NamedEvent}
-use Rattle.shb_lines.specs.text.Names.{StandIn, names_in, with_name}
+use Rattle.shb_lines.specs.text.Spans.{StandIn, names_in}
+use Rattle.shb_lines.specs.text.Names.{with_name}
+use Rattle.shb_lines.specs.text.Numbers.{IsNumbered, Tables}
 use Rattle.shb_lines.specs.text.Text.{locks_among, threads_among, variables_among}
 
 -- at most n names in each name space
@@ -21,12 +19,6 @@ pub record HasNames (reader : Reader) (n : ℕ) : Type 0 where
 -- at most twice as many names in each name space as there are events
 abbrev pub HasRoom : Reader → Type 0
 HasRoom reader = HasNames reader (2 * vec_len reader.events)
-
--- the names of the three name spaces, in order of first appearance
-pub record Tables : Type 0 where
-  pub threads : List (List ℕ)
-  pub locks : List (List ℕ)
-  pub variables : List (List ℕ)
 
 abbrev pub tables_of : Reader → Tables
 tables_of reader = record { threads = names_in reader.threads.table.entries; locks = names_in reader.locks.table.entries; variables = names_in reader.variables.table.entries }
@@ -44,34 +36,14 @@ with_operand tables kind name = record {
   variables = with_names tables.variables (variables_among kind name);
 }
 
--- the number is that of the name
-abbrev pub IsNumber : List (List ℕ) → ℕ → List ℕ → Type 0
-IsNumber table number name = slice_get table number ≡ Some name
-
--- the operation is of this kind, and its number is that of the name
-abbrev pub IsOperation : Tables → Op → Kind → List ℕ → Type 0
-IsOperation tables (ops.Read number) kind name = (kind ≡ kinds.Read) × IsNumber tables.variables number name
-IsOperation tables (ops.Write number) kind name = (kind ≡ kinds.Write) × IsNumber tables.variables number name
-IsOperation tables (ops.Acquire number) kind name = (kind ≡ kinds.Acquire) × IsNumber tables.locks number name
-IsOperation tables (ops.Release number) kind name = (kind ≡ kinds.Release) × IsNumber tables.locks number name
-IsOperation tables (ops.Fork number) kind name = (kind ≡ kinds.Fork) × IsNumber tables.threads number name
-IsOperation tables (ops.Join number) kind name = (kind ≡ kinds.Join) × IsNumber tables.threads number name
-IsOperation tables ops.BeginMark kind name = kind ≡ kinds.BeginMark
-IsOperation tables ops.EndMark kind name = kind ≡ kinds.EndMark
-
--- the numbers of an event are those of its names
-pub record IsNumbered (tables : Tables) (event : Event) (named : NamedEvent) : Type 0 where
-  pub thread : IsNumber tables.threads event.thread named.thread
-  pub operation : IsOperation tables event.op named.kind named.operand
-
--- the reader has one event more, that of a line with these names at this place
-pub record AddsEvent (old new : Reader) (line : ℕ) (named : NamedEvent) (text : Span) : Type 0 where
+-- the reader has one event more, that of a line with these names that begins at this place
+pub record AddsEvent (old new : Reader) (line : ℕ) (named : NamedEvent) (start : ℕ) : Type 0 where
   pub event : Event
   pub numbered : IsNumbered (tables_of new) event named
   pub line_is : event.line ≡ line
   pub tables_are : tables_of new ≡ with_operand (with_thread (tables_of old) named.thread) named.kind named.operand
   pub events_are : new.events.items ≡ old.events.items ++ event ∷ []
-  pub texts_are : new.texts.items ≡ old.texts.items ++ text ∷ []
+  pub starts_are : new.starts.items ≡ old.starts.items ++ start ∷ []
 
 -- each name stands in the text
 pub record AllStand (text : List ℕ) (reader : Reader) : Type 0 where

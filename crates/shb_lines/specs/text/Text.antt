@@ -5,6 +5,7 @@ use Rattle.std.specs.Str.Lines.{strip_carriage_return}
 use Rattle.shb_lines.specs.declared.event.Kind.{Kind}
 use Rattle.shb_lines.specs.declared.event.Kind.TheVariants as kinds
 use Rattle.shb_lines.specs.text.Grammar.{Meaning, NamedEvent}
+use Rattle.shb_lines.specs.text.Limits.{most_line}
 use Rattle.shb_lines.specs.text.Meaning.{meaning}
 use Rattle.shb_lines.specs.text.Names.{table_of}
 
@@ -15,7 +16,7 @@ lines_of text = slice_split (λ b. b == 10) text
 -- the bytes of a line that gives an event, under any limits: 1 to 4,096, and none of them a line feed
 pub record IsLineText (bytes : List ℕ) : Type 0 where
   pub least : 1 ≤ length bytes
-  pub most : length bytes ≤ 4096
+  pub most : length bytes ≤ most_line
   pub one_line : list_all (λ b. not (b == 10)) bytes ≡ true
 
 -- an event with the number of its line and the bytes of that line

@@ -1,5 +1,5 @@
 -- Names of one byte and of none.
-use Rattle.std.proofs.Common.{arith, subst, sym}
+use Rattle.std.proofs.Common.{arith, subst}
 use Rattle.shb_lines.specs.text.Ends.{HasEnds}
 use Rattle.shb_lines.proofs.text.EndsLemmas.{no_byte, one_byte}
 use Rattle.shb_lines.proofs.recent.ends_of.Goals as goal

@@ -1,7 +1,7 @@
 -- A remembered name changes no table.
 use Rattle.std.proofs.Common.{◌≡◌, ℕ, List, Some, ap, slice_get, sym, ◌∙◌}
 use Rattle.shb_lines.specs.text.Ends.{HasEnds}
-use Rattle.shb_lines.specs.text.Names.{names_in}
+use Rattle.shb_lines.specs.text.Spans.{names_in}
 use Rattle.shb_lines.proofs.text.EndsLemmas.{AreRemembered-more, one_name}
 use Rattle.shb_lines.proofs.text.NameLemmas.{with_name-known}
 use Rattle.shb_lines.proofs.names.Names.number_of.Goals as goal

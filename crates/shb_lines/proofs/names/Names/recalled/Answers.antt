@@ -2,7 +2,7 @@
 use Rattle.std.proofs.Common.{arith}
 use Rattle.std.proofs.lemmas.List.{length-map}
 use Rattle.std.proofs.lemmas.Option.{slice_get_within}
-use Rattle.shb_lines.specs.text.Names.{names_in}
+use Rattle.shb_lines.specs.text.Spans.{names_in}
 use Rattle.shb_lines.proofs.names.Names.recalled.Goals as goal
 
 pub returns-then-is_named-clause-within : goal.returns-then-is_named-clause-within

@@ -3,7 +3,7 @@ use Rattle.std.proofs.Common.{◌≡◌, ◌+◌, ◌∙◌, ◌≤◌, ap, arit
 use Rattle.std.proofs.lemmas.Bool.Decides.{nat_tests}
 use Rattle.std.proofs.lemmas.List.{length-map}
 use Rattle.shb_lines.proofs.text.LineLemmas.{length-threads_le}
-use Rattle.shb_lines.specs.text.Names.{names_in}
+use Rattle.shb_lines.specs.text.Spans.{names_in}
 use Rattle.shb_lines.proofs.reader.Reader.has_too_many_threads.Goals as goal
 
 not_less : (most n : ℕ) → n ≤ most → false ≡ nat_lt most n

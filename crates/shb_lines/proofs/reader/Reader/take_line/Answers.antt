@@ -1,12 +1,14 @@
 -- Each return answers the lowest fault of the line, and keeps or lengthens the trace.
-use Rattle.std.proofs.Common.{◌≡◌, ◌<◌, ◌≤◌, Bool, IfSome, List, Ok, Some, ap, arith, false, length, nat_lt, refl, subst, sym, true, ℕ, ◌∙◌}
+use Rattle.std.proofs.Common.{◌≡◌, ◌==◌, ◌-◌, ◌<◌, ◌≤◌, Bool, IfSome, List, Ok, Some, ap, arith, drop, false, length, nat_lt, refl, subst, sym, take, true, ℕ, ◌∙◌}
 use Rattle.std.proofs.lemmas.Bool.Decides.{nat_tests}
+use Rattle.std.specs.List.{position_or_len}
 use Rattle.std.specs.Str.Lines.{strip_carriage_return}
 use Rattle.shb_lines.specs.declared.names.Span.{Span}
 use Rattle.shb_lines.specs.text.Grammar.{Meaning}
 use Rattle.shb_lines.specs.text.Meaning.{meaning}
-use Rattle.shb_lines.specs.text.Names.{StandsAt}
-use Rattle.shb_lines.specs.text.Parsed.{events_of, part}
+use Rattle.shb_lines.specs.text.Spans.{IsLineFrom, StandsAt}
+use Rattle.shb_lines.specs.text.Numbers.{events_of}
+use Rattle.shb_lines.specs.text.Parsed.{part}
 use Rattle.shb_lines.specs.text.Reader.{AddsEvent}
 use Rattle.shb_lines.specs.text.Reading.{IsPlaced, meaning_of, named}
 use Rattle.shb_lines.proofs.text.FaultLemmas.{accepted, refused, too_many_events, too_many_threads}
@@ -70,10 +72,15 @@ returns-clause-read c = λ lines h line_is.
     let bytes : List ℕ = c.without_carriage_return-bytes.result.now in
     let span : Span = record { start = start; len = length bytes } in
     let stands = StandsAt-part text (strip_carriage_return (part text start c.args.end)) start c.args.end span c.requires.order c.requires.within refl refl (ap length c.without_carriage_return-bytes.ensures.value) in
+    let ends : position_or_len (λ b. b == 10) (drop start text) ≡ c.args.end - start = let e = c.requires.ends in omega arith in
+    let from : IsLineFrom text (strip_carriage_return (part text start c.args.end)) start = record {
+      within = let order = c.requires.order in let within = c.requires.within in omega arith;
+      reads = ap (λ n. strip_carriage_return (take n (drop start text))) ends;
+    } in
     let here = subst (λ l. StandsAt text l span) (sym c.without_carriage_return-bytes.ensures.value) stands in
     let placed = subst (λ o. IfSome o (IsPlaced bytes)) c.in-Ok-Some.field-0-is c.in-Ok-Some.ensures.placed in
     let stand = c.in_ok-add_event.ensures.stand text h.stand
     (StandsAt-front text bytes start found.thread.now here placed.thread_within placed.thread)
     (StandsAt-inner text bytes start found.operand_at found.operand.now here placed.operand_within placed.operand) in
-    let adds = subst (λ n. AddsEvent c.args.self.now c.add_event.new.self n (named found) span) line_is c.in_ok-add_event.ensures.added in
-    HasRead-some text c.args.self.now c.add_event.new.self lines (part text start c.args.end) (named found) span event stands adds stand h
+    let adds = subst (λ n. AddsEvent c.args.self.now c.add_event.new.self n (named found) start) line_is c.in_ok-add_event.ensures.added in
+    HasRead-some text c.args.self.now c.add_event.new.self lines (part text start c.args.end) (named found) start event from adds stand h
