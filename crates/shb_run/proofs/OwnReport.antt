@@ -1,5 +1,5 @@
 -- What a check says of a report that a run wrote with schedules.
-use Rattle.std.proofs.Common.{◌≡◌, inl, ℕ, ◌≤◌, true, List, length, Option, None, refl, sym, ap, subst, ◌∙◌, arith}
+use Rattle.std.proofs.Common.{◌≡◌, inl, ℕ, ◌≤◌, true, List, length, Option, None, sym, ap, subst, ◌∙◌, arith}
 use Rattle.std.specs.List.{AllByRecursion}
 use Rattle.std.proofs.lemmas.List.{length-map}
 use Rattle.std.proofs.lemmas.Slice.Zip.{AllZip-long}

@@ -1,5 +1,5 @@
 -- What a check says of the texts of a trace and of a report, and what it leaves in the sink.
-use Rattle.std.specs.Prelude.{◌≡◌, ℕ, ◌+◌, ◌⊎◌, List, Option, Result, Ok, Err, ⊤}
+use Rattle.std.specs.Prelude.{◌≡◌, ℕ, ◌+◌, ◌⊎◌, List, Option, Result, Err}
 use Rattle.std.specs.Io.KnownBytes.{Keeps}
 use Rattle.shb_io.specs.Devices.{AppendsPrefix}
 use Rattle.shb_lines.specs.text.Text.{lines_of}
