@@ -19,6 +19,7 @@ class Words(program.Case):
         text = program.run(["help", "races"]).out.decode()
         for wanted in ("Usage: shb races [OPTIONS] [TRACE]", "--workers <N>", "--list", "races times events"):
             self.assertIn(wanted, text)
+        self.assertLessEqual(max(map(len, text.splitlines())), 80)
         for operation in ("r(X)", "w(X)", "acq(L)", "rel(L)", "fork(T)", "join(T)", "begin", "end"):
             self.assertIn(operation, text)
 
@@ -27,7 +28,8 @@ class Words(program.Case):
         text = program.run(["help", "check"]).out.decode()
         for wanted in ("Usage: shb check <TRACE>", "ok R", "bad line N", "bad counts", "bad race K", "bad places"):
             self.assertIn(wanted, text)
-        self.assertIn("left out isn't found", text)
+        self.assertIn("Not judged: whether races of the trace are left out", text)
+        self.assertLessEqual(max(map(len, text.splitlines())), 80)
 
     def test_refused_words(self):
         for words, said in (

@@ -15,34 +15,37 @@ Exit status: 0 done, 2 trace refused, 3 words refused, 4 a file, a device or the
 memory failed, 5 report rejected
 ";
 
-/// Under the options of `races`: what a trace looks like, what the program answers, and what it costs.
+/// Under the options of `races`: what a trace and a report look like, and what they cost.
 pub const ABOUT_TRACES: &str = "The trace:
-  One event a line, in the order in which they happened: THREAD|OPERATION|LOCATION.
-  The location may be left out. Names are any bytes. Empty lines are skipped.
+  One event a line, in the order in which they happened:
+  THREAD|OPERATION|LOCATION. The location may be left out. Names are any bytes.
+  Empty lines are skipped. The operations:
 
     r(X)     w(X)     reads or writes the variable X
-    acq(L)   rel(L)   acquires or releases the lock L; its holder may acquire it again
+    acq(L)   rel(L)   acquires or releases the lock L; its holder may acquire it
+                      again
     fork(T)  join(T)  starts the thread T, or waits for its end
     begin    end      mark a block; they order nothing
 
 The report:
-  How many events, threads, locks and variables the trace has, and how many races.
-  Then the places: each pair of locations that has races, and how many. Then for each
-  race the numbers of its two events, counted from 1, their lines, and a schedule: the
-  events to run first, in this order, so that both accesses come next. The last line
-  is 'end'.
+  How many events, threads, locks and variables the trace has, and how many
+  races. Then the places: each pair of locations that has races, and how many.
+  Then for each race the numbers of its two events, counted from 1, their lines,
+  and a schedule: the events to run first, in this order, so that both accesses
+  come next. The last line is 'end'.
 
-  A race is two accesses of one variable by different threads, at least one a write,
-  where the earlier isn't ordered before the event that precedes the later in its
-  thread. Ordered are the events of a thread, a release before a later acquire of the
-  lock, a fork before the events of its thread, these before a join of it, and the last
-  write before each read that sees it.
+  A race is two accesses of one variable by different threads, at least one a
+  write, where the earlier isn't ordered before the event that precedes the
+  later in its thread. Ordered are the events of a thread, a release before a
+  later acquire of the lock, a fork before the events of its thread, these
+  before a join of it, and the last write before each read that sees it.
 
 Costs:
-  A schedule may be as long as the trace, so a full report may take as many numbers as
-  races times events. --list leaves the schedules out: use it for the first look.
-  --workers changes the time alone, never the report: the search for races and the
-  schedules are shared out; reading the trace, ordering its events and writing aren't.
+  A schedule may be as long as the trace, so a full report may take as many
+  numbers as races times events. --list leaves the schedules out: use it for the
+  first look. --workers changes the time alone, never the report: the search for
+  races and the schedules are shared out; reading the trace, ordering its events
+  and writing aren't.
 
 Exit status:
   0  the report was written, or the help that was asked for
@@ -68,27 +71,28 @@ Example:
 
 /// Under the options of `check`: what it judges, and what it doesn't.
 pub const ABOUT_CHECKS: &str =
-    "The report is read from standard input, and one line is written to standard output:
+    "One line is written to standard output, the first of these that applies:
 
-    ok R          the report is good; it lists R races
-    bad line N    line N is the first that no report has there
-    bad counts    the counts of events, threads, locks and variables are others
-    bad race K    race K is the first that isn't shown to be one
-    bad places    the places aren't those of the listed races
+  bad line N    no report begins with the first N lines, or line N is missing
+  bad counts    the numbers of events, threads, locks and variables are others
+  bad race K    race K isn't shown to be one, and those before it are
+  bad places    the places aren't those of the listed races
+  ok R          the report is good; it lists R races
 
-  Each race that a good report lists is a race of the trace: its lines are those of
-  the trace, they conflict, and its schedule keeps the order of each thread, forks
-  and joins, the locks and what each read saw, and brings both accesses next. It need
-  not be the schedule that 'shb races' writes, and any tool may have written the
-  report.
+Each race that a good report lists is a race of the trace: its two events
+conflict, their lines are those of the trace, and its schedule keeps the order
+of each thread, forks and joins, the locks and what each read saw, and brings
+both accesses next. It need not be the schedule that 'shb races' writes, and any
+tool may have written the report.
 
-  That races are left out isn't found, nor the order of the races or one that is
-  listed twice. A report made with --list has no schedules to judge: it is answered
-  'bad line N', unless it lists no race.
+Not judged: whether races of the trace are left out, the order of those that are
+listed, and whether one is listed twice. A report made with --list has no
+schedules to judge: it is a 'bad line', unless it lists no race.
 
 Exit status:
   0  the report is good
-  2  the trace is refused, whatever the report is; 'line N: REASON' is on standard error
+  2  the trace is refused, whatever the report is; 'line N: REASON' is on
+     standard error
   3  the words are refused
   4  a file, a device or the memory failed
   5  the report is rejected
