@@ -46,7 +46,7 @@ fn drop_all<S: Drop>(mut closed: Closed<S, Global>)
 }
 
 impl<T: Drop, M, J: Job<Out = T, Meaning = M>> Ring<T, M, J> {
-    /// A ring for the results of the job's pieces, and its seats.
+    /// A ring for the results of the job's pieces, and its 1 to 65 seats. `NoMemory` where memory was refused.
     pub fn new(
         alloc: Global,
         job: &J,

@@ -18,6 +18,7 @@ pub struct SeatView<M> {
     pub lifted: LinkedList<u64>,
 }
 
+/// The rule of the table. No value of it is made.
 pub struct Slots<J> {
     job: PhantomData<J>,
 }

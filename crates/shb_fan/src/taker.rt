@@ -12,7 +12,7 @@ pub trait Taker<T> {
     /// Of the taker before, the results that it was given in order, the one that it then refused, its answer, and the taker after.
     ghost refuses: { Self → List T → T → Self.Error → Self → Type 0 };
 
-    /// Takes the result of piece k, after those of all pieces below k.
+    /// Takes the result of piece k, after those of all pieces below k. After an error no other call follows.
     fn take(&mut self, k: u64, out: T) -> Result<(), Self::Error>
         requires { (start : Self) × (given : List T) × (length given ≡ k) × takes start given self.old }
         ensures taken { (start : Self) (given : List T) → takes start given self.old → IfOk result (λ _. takes start (given ++ out ∷ []) self.new) }

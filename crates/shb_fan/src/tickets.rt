@@ -47,7 +47,8 @@ pub struct Closed {
 }
 
 impl Tickets {
-    /// Tickets for the numbers below `limit`, and the passes that draw them.
+    /// Tickets for the numbers below `limit`, at most 2 to the 60th, and the 1 to 65 passes that draw them.
+    /// `NoMemory` where memory was refused.
     pub fn new(alloc: Global, limit: u64, passes: u32) -> Result<(Tickets, Vec<Pass>), NoMemory>
         requires limit { limit ≤ 2 ^ 60 }
         requires passes { (1 ≤ passes) × (passes ≤ 65) }
@@ -70,8 +71,8 @@ impl Tickets {
         Ok((Tickets { table, plan }, made))
     }
 
-    /// The next number, or `None` where there is no more or a stop was seen. The pass is then spent, and
-    /// draws nothing more.
+    /// The next number, above all that the pass drew, or `None` where there is no more or a stop was seen.
+    /// After `None` the pass is spent, and draws nothing more.
     pub fn draw(&self, pass: &mut Pass) -> Option<u64>
         requires { pass.old.source ≡ self.now }
         ensures source { pass.new.source ≡ self.now }
@@ -98,7 +99,7 @@ impl Tickets {
         }
     }
 
-    /// Asks every drawer to stop.
+    /// Asks every pass to stop. This one draws nothing more; what was drawn stays drawn.
     pub fn stop(&self, pass: &mut Pass)
         requires { pass.old.source ≡ self.now }
         ensures { pass.new ≡ record pass.old { halted = true } }
@@ -106,7 +107,7 @@ impl Tickets {
         self.table.shared.store::<Stop>(&mut pass.seat, STOP, 1);
     }
 
-    /// Whether a pass has stopped the draw.
+    /// Whether a stop is seen, as it always is by a pass that stopped the draw itself. It changes nothing.
     pub fn stopped(&self, pass: &mut Pass) -> bool
         requires { pass.old.source ≡ self.now }
         ensures same { pass.new ≡ pass.old }
@@ -115,7 +116,7 @@ impl Tickets {
         self.table.shared.load::<Look>(&mut pass.seat, STOP) != 0
     }
 
-    /// Ends the draw, once all passes have come back.
+    /// Ends the draw, once all passes have come back, and says how far it came.
     pub fn close(self, mut passes: Vec<Pass>) -> Closed
         requires all { length passes.items ≡ self.passes }
         requires ours { All (λ p. p.source ≡ self) passes.items }
