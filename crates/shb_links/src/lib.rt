@@ -1,5 +1,10 @@
 //! The links of a disciplined trace: the place of each event in its thread, its predecessor, the
-//! last write of each read, and the fork of each thread, found by one forward pass.
+//! last write of each read, and the fork of each thread.
+//!
+//! One forward pass with three tables: the last event of each thread, the last write of each
+//! variable, the fork of each thread. A predecessor and a last write are kept as one more than the
+//! position, 0 for none: four bytes each. The table of last events is kept too: by the discipline
+//! nothing of a thread follows a join of it, so at a join it tells the thread's last event so far.
 #![tactic(auto)]
 
 pub mod latest;

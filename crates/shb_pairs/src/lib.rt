@@ -1,5 +1,18 @@
 //! The races of a trace: the race test, the accesses of each variable, and the search for all races
-//! in pieces of work.
+//! in pieces of work. Everything is generic in the order.
+//!
+//! [`open_variables`] goes over the trace once, in its order, and finds variables that can't race
+//! ("settled"): each access is SHB-below the predecessor of what is kept of those before it, the
+//! last write and the newest read since. The others are open. [`accesses_of_open`] collects their
+//! accesses in one pass and sorts them by counting, in trace order and by thread; [`pieces`] cuts
+//! each list into runs of at most 64; [`PairJob`] is the job over them, whose piece has the races
+//! with the later access in its run.
+//!
+//! The search for a later access j goes over the threads that write its variable (that access it,
+//! where j writes). In the accesses of a thread it finds by binary search where j stands, and walks
+//! back while a place is above what the order answers: what it walks over are the races. A write
+//! without a race that is SHB-below the predecessor of j orders all accesses before it; then only
+//! those after it are tested, one by one. So accesses that are ordered cost about one look-up each.
 #![tactic(auto)]
 
 mod accesses;

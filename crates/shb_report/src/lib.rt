@@ -1,12 +1,16 @@
-//! Writes the report of a trace and reads reports, in this project's report format.
+//! Writes the report of a trace, reads reports, and judges them, in this project's report format.
 //!
 //! A report is the head, the places, a block for each race of the race list in order, and the tail.
-//! Places are the pairs of locations of the races: `places_of` finds them. Each of the four parts has
-//! a call that writes it, in version 2, into any sink. A call puts its text together in a buffer of
-//! 1 KiB and sends that when it is full and at the end; it takes no memory.
+//! Places are the pairs of locations of the races: [`places_of`] finds them. Each of the four parts
+//! has a call that writes it into any sink. A call puts its text together in a buffer of 1 KiB and
+//! sends that when it is full and at the end; it takes no memory. [`scheduled_block`] copies the
+//! runs of a schedule out of one text of all numbers, [`NumberTexts`], which is made once.
 //!
-//! `read_report` reads version 2 and version 1, which has no places, both with schedules, and names
-//! the first bad line of any other text. `check_report` judges a report against a trace.
+//! [`read_report`] reads version 2 and version 1, which has no places, both with schedules. It
+//! reads the source whole and then line by line, by a list of the forms of the lines that are still
+//! expected (`specs/Forms.antt`); what was read is kept as places in the text, and numbers as they
+//! are. So the first bad line is the first at which no report goes on. [`check_report`] judges a
+//! report against a trace: counts, blocks with one judge, places.
 #![tactic(auto)]
 
 mod buffer;

@@ -1,4 +1,11 @@
-//! From the text of a trace to the report of its races.
+//! From the text of a trace to the report of its races, and from a trace and a report to a verdict.
+//!
+//! [`run`] is four stages over any source and sink: read (`parse`), judge (`judge`), find the races
+//! (`races`, by workers), write (`write`): head, places, blocks, tail. With schedules the blocks go
+//! out as workers make the schedules, through a taker that writes (`BlockWriter`); the sink is
+//! written by the caller's thread alone and needn't be able to move. [`run_gated`] is the same with
+//! gates for tests. Both have the main theorem as their contract. [`check`] reads and judges the
+//! trace, then the report, and writes one line.
 #![tactic(auto)]
 
 mod block_writer;

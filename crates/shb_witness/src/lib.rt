@@ -1,4 +1,9 @@
-//! Schedules: for each race, an order of events in which both accesses come next.
+//! Schedules: for each race an order of events after which both accesses come next.
+//!
+//! [`schedule`] takes one cut for each thread, the greater of the order's two answers, and keeps
+//! the events up to the later predecessor whose place is at or below the cut of their thread. It
+//! promises the printed schedule of the pair, and that it is a schedule of it. [`WitnessJob`] is
+//! the job whose piece k is the schedule of race k, kept as runs of consecutive events.
 #![tactic(auto)]
 
 mod cuts;
