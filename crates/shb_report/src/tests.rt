@@ -2,6 +2,7 @@
 use crate::*;
 use shb_io::{Failed, Page, Sink, Text};
 use shb_lines::{Limits, Pair, ReadError, Trace, parse};
+use shb_positions::Positions;
 use std::process::Abort;
 use std::test::Fail;
 
@@ -169,5 +170,48 @@ fn writes_long_lines(rt: HostRuntime) -> Result<(), Fail> {
         Ok(())
     );
     assert_eq!(rt; page.bytes(), want.as_slice());
+    Ok(())
+}
+
+/// Writes a block whose schedule is kept as runs, with the texts of so many numbers.
+fn write_scheduled<S: Sink>(
+    rt: &impl Abort,
+    sink: &mut S,
+    trace: &Trace,
+    pair: Pair,
+    numbers: &NumberTexts,
+    schedule: &Positions,
+) -> Result<(), Failed> {
+    assert!(rt; sink.failures() < 9);
+    assert!(rt; pair.first < trace.len());
+    assert!(rt; pair.second < trace.len());
+    scheduled_block(sink, trace, 1, pair, numbers, schedule)
+}
+
+#[test]
+fn writes_runs_with_gaps(rt: HostRuntime) -> Result<(), Fail> {
+    let alloc = rt.alloc();
+    let trace = trace_of(&rt, b"T1|w(y)|1\nT2|r(y)|2\n")?;
+    let pair = Pair {
+        first: 0,
+        second: 1,
+    };
+    let mut schedule = Positions::new(alloc);
+    for event in [0u32, 1, 8, 9, 10, 98, 99, 200] {
+        assert!(rt; schedule.len() < 9 && event < 999);
+        schedule.push(event)?;
+    }
+    let want =
+        b"race 1: 1 2\nfirst T1|w(y)|1\nsecond T2|r(y)|2\nschedule 8: 1 2 9 10 11 99 100 201\n";
+    for count in [0u32, 2, 10, 201] {
+        assert!(rt; count < 999);
+        let numbers = NumberTexts::of_first(alloc, count)?;
+        let mut page = Page::new(alloc, 200, 7, None)?;
+        assert_eq!(rt;
+            write_scheduled(&rt, &mut page, &trace, pair, &numbers, &schedule),
+            Ok(())
+        );
+        assert_eq!(rt; page.bytes(), want.as_slice(), "texts of {count} numbers");
+    }
     Ok(())
 }
