@@ -1,9 +1,11 @@
 -- Runs that grow by one position.
-use Rattle.std.proofs.Common.{◌≡◌, ℕ, zero, suc, ◌+◌, ◌-◌, ◌<◌, ◌≤◌, List, [], ◌∷◌, ◌++◌, length, refl, sym, ap, ◌∙◌, arith, append_assoc, append-nil, get_or, set}
+use Rattle.std.proofs.Common.{◌≡◌, ℕ, zero, suc, ◌+◌, ◌-◌, ◌<◌, ◌≤◌, List, [], ◌∷◌, ◌++◌, length, refl, sym, ap, ◌∙◌, arith, append_assoc, append-nil, get_or, set, All, ◌^◌, subst}
 use Rattle.std.specs.List.{range_with_len}
+use Rattle.std.proofs.lemmas.List.Elements.{All-cons, All-nil}
+use Rattle.std.proofs.lemmas.List.FromFn.{length-range_with_len}
 use Rattle.std.proofs.lemmas.List.Concat.{flat_map-append}
 use Rattle.shb_positions.specs.declared.positions.Run.{Run}
-use Rattle.shb_positions.specs.Runs.{positions_in, run_positions}
+use Rattle.shb_positions.specs.Runs.{EndsInRange, positions_in, run_positions}
 
 last : (a n j : ℕ) → a + n ≡ j → range_with_len a (suc n) ≡ range_with_len a n ++ j ∷ []
 last a zero j e = let same : a ≡ j = omega arith in ap (λ k. k ∷ []) same
@@ -34,3 +36,10 @@ longer_last (run ∷ next ∷ runs) zero position old new long is follows from m
 longer_last (run ∷ next ∷ runs) (suc n) position old new long is follows from more =
     ap (λ l. run_positions run ++ l) (longer_last (next ∷ runs) n position old new (omega (arith, long)) is follows from more)
     ∙ sym (append_assoc (run_positions run) (positions_in (next ∷ runs)) (position ∷ []))
+
+-- one run from the first position on
+pub one_run : (count n : ℕ) (runs : List Run) → runs ≡ record { first = 0; len = count } ∷ [] → n ≡ count → count < 2 ^ 32 → (n ≡ length (positions_in runs)) × All EndsInRange runs
+one_run count n runs is same small = (
+  same ∙ sym (length-range_with_len 0 count) ∙ ap length (sym (append-nil (range_with_len 0 count))) ∙ ap (λ (l : List Run). length (positions_in l)) (sym is),
+  subst (λ (l : List Run). All EndsInRange l) (sym is) (All-cons EndsInRange (record { first = 0; len = count }) [] (omega (arith, small)) (All-nil EndsInRange)),
+)

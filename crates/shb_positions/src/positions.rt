@@ -1,6 +1,7 @@
 //! A list of positions that is kept as runs.
 
 ghost use Rattle.std.specs.Prelude.{◌≡◌, ◌+◌, ◌-◌, ◌^◌, ◌<◌, ◌++◌, ◌∷◌, [], length, All, IfOk, OnErr, OnOk, IsTrue, IsFalse};
+ghost use Rattle.std.specs.List.{range_with_len};
 ghost use Rattle.shb_positions.specs.Runs.{EndsInRange, positions_in, run_positions};
 
 use shb_io::NoMemory;
@@ -44,6 +45,21 @@ impl Positions {
             runs: Vec::new(alloc),
             count: 0,
         }
+    }
+
+    /// The first positions, as many as `count`. `NoMemory` where memory was refused.
+    pub fn first(alloc: Global, count: u32) -> Result<Positions, NoMemory>
+        ensures { IfOk result (λ positions. positions ≡ range_with_len 0 count) }
+    {
+        let mut runs = Vec::new(alloc);
+        runs.push(Run {
+            first: 0,
+            len: count,
+        })?;
+        Ok(Positions {
+            runs,
+            count: u64::from(count),
+        })
     }
 
     /// Adds a position behind the others. It goes into the last run where it follows on that.

@@ -5,6 +5,7 @@ ghost use Rattle.shb_lines.specs.events.Race.{IsRaceList, Race};
 ghost use Rattle.shb_pairs.specs.Races.{ends};
 ghost use Rattle.shb_report.specs.Places.{IsPlaceOf, counts_in, places_of_pairs};
 ghost use Rattle.shb_report.specs.Report.{counts_of, front_bytes};
+ghost use Rattle.shb_witness.specs.Checkpoints.{IsReached};
 ghost use Rattle.shb_run.specs.Written.{IsSinkCounted, WritesBlocks, WritesReport};
 
 use crate::block_writer::BlockWriter;
@@ -16,7 +17,7 @@ use shb_fan::{Gate, StreamError, Workers, stream};
 use shb_io::{Failed, NoMemory, Sink};
 use shb_lines::{Pair, Trace};
 use shb_report::{Counts, NumberTexts, Places, block, head, place_lines, places_of, tail};
-use shb_witness::WitnessJob;
+use shb_witness::{Checkpoint, WitnessJob, checkpoints_of};
 use std::alloc::Global;
 use std::random::RandomSource;
 use std::sync::Wait;
@@ -64,16 +65,19 @@ fn write_made<R: Threads + Wait + Sync, K: Sink, O: Order + Sync, G: Gate + Sync
     ordered: &Ordered<'_, O>,
     races: &[Pair],
     numbers: &NumberTexts,
+    points: &[Checkpoint],
     gate: &G,
     workers: Workers,
 ) -> Result<(), WriteError>
     requires countable { K.failure_count sink.old < 2 ^ 64 - 1 }
+    requires points { All (IsReached ordered.now.trace.now.events.now) points.now }
     requires races { All (λ pair. Race ordered.now.trace.now.events.now pair.first pair.second) races.now }
     ensures blocks { WritesBlocks true ordered.now.trace.now.trace.now (map ends races.now)
         (K.taken sink.old) (K.taken sink.new) result }
     ensures counted { IsSinkCounted (K.failure_count sink.old) (K.failure_count sink.new) result }
 {
-    let job = WitnessJob::new(ordered.order, ordered.trace, ordered.links, races);
+    let job = WitnessJob::new(ordered.order, ordered.trace, ordered.links, races)
+        .with_checkpoints(points);
     let mut writer = BlockWriter {
         sink: &mut *sink,
         trace: ordered.trace.trace,
@@ -105,7 +109,10 @@ fn write_schedules<R: Threads + Wait + Sync, K: Sink, O: Order + Sync, G: Gate +
     ensures counted { IsSinkCounted (K.failure_count sink.old) (K.failure_count sink.new) result }
 {
     let numbers = numbers_for(alloc, ordered.trace, races)?;
-    write_made(rt, alloc, sink, ordered, races, &numbers, gate, workers)
+    let points = checkpoints_of(alloc, ordered.trace, ordered.links)?;
+    write_made(
+        rt, alloc, sink, ordered, races, &numbers, &points, gate, workers,
+    )
 }
 
 /// Writes the blocks of some races, numbered from 1, with schedules or without.

@@ -4,8 +4,10 @@ ghost use Rattle.std.specs.Prelude.{◌≡◌, ℕ, List, All, length};
 ghost use Rattle.shb_lines.specs.events.Race.{Race};
 ghost use Rattle.shb_lines.specs.declared.event.Event.{Event};
 ghost use Rattle.shb_lines.specs.declared.event.Pair.{Pair};
+ghost use Rattle.shb_witness.specs.Checkpoints.{AreReached, IsReached};
 ghost use Rattle.shb_witness.specs.Schedules.{Asked, AreRaces, schedule_at};
 
+use crate::checkpoints::Checkpoint;
 use crate::schedules::schedule_runs;
 use shb_clocks::Order;
 use shb_discipline::Disciplined;
@@ -26,6 +28,7 @@ pub struct WitnessJob<'a, O: Order> {
     trace: &'a Disciplined<'a>,
     links: &'a Links<'a>,
     pairs: &'a [Pair],
+    points: Option<&'a [Checkpoint]>,
 }
 
 impl<'a, O: Order> Model for WitnessJob<'a, O> {
@@ -35,7 +38,8 @@ impl<'a, O: Order> Model for WitnessJob<'a, O> {
 
     ghost invariant = { λ j. (O.trace j.order.now ≡ j.trace.now.events.now)
         × (j.links.now ≡ j.trace.now.events.now)
-        × AreRaces j.trace.now.events.now j.pairs.now };
+        × AreRaces j.trace.now.events.now j.pairs.now
+        × AreReached j.trace.now.events.now j.points };
 }
 
 impl<'a, O: Order> WitnessJob<'a, O> {
@@ -56,6 +60,19 @@ impl<'a, O: Order> WitnessJob<'a, O> {
             trace,
             links,
             pairs,
+            points: None,
+        }
+    }
+
+    /// The same work, done quicker: no event is looked at before the last checkpoint up to which a
+    /// schedule leaves none out. The checkpoints are those of the trace.
+    pub fn with_checkpoints(self, points: &'a [Checkpoint]) -> Self
+        requires { All (IsReached self.trace) points.now }
+        ensures { result ≡ self.entry }
+    {
+        WitnessJob {
+            points: Some(points),
+            ..self
         }
     }
 }
@@ -81,6 +98,7 @@ impl<'a, O: Order> Job for WitnessJob<'a, O> {
             self.order,
             self.trace,
             self.links,
+            self.points,
             self.pairs[k as usize],
         )
     }

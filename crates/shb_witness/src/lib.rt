@@ -6,11 +6,13 @@
 //! the job whose piece k is the schedule of race k, kept as runs of consecutive events.
 #![tactic(auto)]
 
+mod checkpoints;
 mod cuts;
 mod job;
 pub mod laws;
 mod schedules;
 
+pub use checkpoints::{Checkpoint, checkpoints_of};
 pub use job::WitnessJob;
 pub use schedules::schedule;
 

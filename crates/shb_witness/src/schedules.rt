@@ -3,7 +3,9 @@
 ghost use Rattle.std.specs.Prelude.{◌≡◌, IfOk};
 ghost use Rattle.shb_lines.specs.events.Race.{Race};
 ghost use Rattle.shb_lines.specs.events.Schedule.{IsPrintedSchedule, IsSchedule};
+ghost use Rattle.shb_witness.specs.Checkpoints.{AreReached};
 
+use crate::checkpoints::{Checkpoint, front_of};
 use crate::cuts::{cuts_of, end_of};
 use shb_clocks::Order;
 use shb_discipline::Disciplined;
@@ -35,25 +37,30 @@ pub fn schedule<O: Order>(
     ensures schedule { IfOk result (λ s. IsSchedule trace.now.events.now s.items
         pair.first pair.second) }
 {
-    schedule_runs(alloc, order, trace, links, pair)?.to_vec(alloc)
+    schedule_runs(alloc, order, trace, links, None, pair)?.to_vec(alloc)
 }
 
-/// The printed schedule of a race, as [`schedule`] gives it, kept as runs of consecutive events.
+/// The printed schedule of a race, as [`schedule`] gives it, kept as runs of consecutive events. No
+/// event is looked at before the last checkpoint up to which none is left out.
 pub(crate) fn schedule_runs<O: Order>(
     alloc: Global,
     order: &O,
     trace: &Disciplined<'_>,
     links: &Links<'_>,
+    points: Option<&[Checkpoint]>,
     pair: Pair,
 ) -> Result<Positions, NoMemory>
     requires of_trace { O.trace order.now ≡ trace.now.events.now }
     requires linked { links.now ≡ trace.now.events.now }
+    requires points { AreReached trace.now.events.now points }
     requires race { Race trace.now.events.now pair.first pair.second }
     ensures { IfOk result (λ s. IsPrintedSchedule trace.now.events.now s pair.first pair.second) }
 {
     let cuts = cuts_of(alloc, order, trace, pair)?;
-    let mut positions = Positions::new(alloc);
-    for k in 0..end_of(trace, links, pair) {
+    let end = end_of(trace, links, pair);
+    let front = front_of(points, &cuts).min(end);
+    let mut positions = Positions::first(alloc, front)?;
+    for k in front..end {
         let thread = trace.events[k as usize].thread;
         if links.local(k) <= cuts[thread as usize] {
             positions.push(k)?;

@@ -1,9 +1,11 @@
-use Rattle.std.proofs.Common.{◌≡◌, ℕ, [], ◌∷◌, ◌++◌, ◌<◌, ◌≤◌, ◌+◌, length, ap, ◌∙◌, arith}
+use Rattle.std.proofs.Common.{◌≡◌, ℕ, [], ◌∷◌, ◌++◌, ◌<◌, ◌≤◌, ◌+◌, length, List, subst, ap, ◌∙◌, arith}
 use Rattle.std.proofs.lemmas.List.{length_push}
 use Rattle.std.proofs.lemmas.Option.{slice_get-get_or}
 use Rattle.shb_lines.specs.declared.event.Op.TheVariants.{Read}
 use Rattle.shb_lines.proofs.events.Listed.{listed_more_yes, listed_more_no}
 use Rattle.shb_witness.specs.Cuts.{BelowEither}
+use Rattle.shb_witness.specs.Checkpoints.{Reach}
+use Rattle.shb_witness.proofs.CheckpointLemmas.{front_listed}
 use Rattle.shb_witness.proofs.CutLemmas.{cut_test}
 use Rattle.shb_witness.proofs.Printed.{race_ends, printed_before}
 use Rattle.shb_witness.proofs.schedules.schedule_runs.Goals as goal
@@ -15,11 +17,11 @@ cuts_of-requires-clause-first g c = (race_ends _ _ _ c.requires.race).0
 pub cuts_of-requires-clause-second : goal.cuts_of-requires-clause-second
 cuts_of-requires-clause-second g c = (race_ends _ _ _ c.requires.race).1
 
-pub end_of-k-end-requires-clause-first : goal.end_of-k-end-requires-clause-first
-end_of-k-end-requires-clause-first g c = (race_ends _ _ _ c.requires.race).0
+pub end_of-end-requires-clause-first : goal.end_of-end-requires-clause-first
+end_of-end-requires-clause-first g c = (race_ends _ _ _ c.requires.race).0
 
-pub end_of-k-end-requires-clause-second : goal.end_of-k-end-requires-clause-second
-end_of-k-end-requires-clause-second g c = (race_ends _ _ _ c.requires.race).1
+pub end_of-end-requires-clause-second : goal.end_of-end-requires-clause-second
+end_of-end-requires-clause-second g c = (race_ends _ _ _ c.requires.race).1
 
 pub index-requires : goal.index-requires
 index-requires g c =
@@ -27,11 +29,23 @@ index-requires g c =
     let long = c.in_ok-cuts.ensures.as_long in
     omega (arith, low, long, c.in_ok-cuts.cuts.ok.0)
 
+pub loop-k-init : goal.loop-k-init
+loop-k-init g c =
+    let trace = c.args.trace.now.events.now in
+    let front = c.min-front.result in
+    let small : front ≤ length trace = omega (arith, c.min-front.ensures, c.end_of-end.ensures.within) in
+    let reached = subst (λ (l : List ℕ). Reach trace c.front_of.result l) c.deref.ensures.value (c.front_of.ensures trace c.requires.points) in
+    let listed =
+    front_listed trace c.args.pair.first c.args.pair.second c.args.trace.now.sizes.threads front c.in_ok-cuts.cuts.items c.in_ok-positions.positions
+    (λ k d lt. (c.args.trace.now.within k _ (slice_get-get_or trace k d lt)).thread) small c.in_ok-cuts.ensures
+    (λ k t lt of. reached k t (omega (arith, lt, c.min-front.ensures)) of) c.in_ok-positions.ensures in
+    record { found = listed.0; few = listed.1 }
+
 pub loop-k-preserved : goal.loop-k-preserved
 loop-k-preserved g c =
     let trace = c.args.trace.now.events.now in
     let pair = c.args.pair in
-    let inside : c.loop-k.k < length trace = omega (arith, c.end_of-k-end.ensures.within) in
+    let inside : c.loop-k.k < length trace = omega (arith, c.end_of-end.ensures.within) in
     let low = (c.args.trace.now.within c.loop-k.k _ (slice_get-get_or trace c.loop-k.k _ inside)).thread in
     let test = cut_test trace c.args.links.now pair.first pair.second c.args.trace.now.sizes.threads c.loop-k.k _ _ c.in_ok-cuts.cuts.items _ c.requires.linked c.in_ok-cuts.ensures low inside c.local.ensures.place c.index.ensures in
     elim c.if-local-index.branch [
@@ -53,5 +67,5 @@ pub returns : goal.returns
 returns g c =
     let trace = c.args.trace.now.events.now in
     printed_before trace c.args.pair.first c.args.pair.second c.loop-k.k c.loop-k.positions
-    (λ k below. let lt = c.end_of-k-end.ensures.above k below in omega (arith, lt))
+    (λ k below. let lt = c.end_of-end.ensures.above k below in omega (arith, lt))
     c.loop-k.invariant.found

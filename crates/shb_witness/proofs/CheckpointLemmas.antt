@@ -1,0 +1,77 @@
+-- How far threads have come, one event at a time.
+use Rattle.std.proofs.Common.{◌≡◌, ℕ, zero, suc, [], ◌∷◌, ◌++◌, ◌+◌, ◌<◌, ◌≤◌, ◌⊎◌, inl, inr, List, Some, All, length, get_or, subst, sym, ap, arith, ◌∙◌, refl}
+use Rattle.std.specs.List.{range_with_len}
+use Rattle.std.proofs.lemmas.Bool.{cases_lt}
+use Rattle.shb_lines.specs.declared.event.Event.{Event}
+use Rattle.shb_lines.specs.events.Events.{thread_at}
+use Rattle.shb_lines.specs.events.Discipline.{place_in_thread}
+use Rattle.shb_lines.proofs.events.Items.{thread_item}
+use Rattle.shb_lines.specs.declared.event.Op.TheVariants.{Read}
+use Rattle.shb_lines.proofs.events.Listed.{IsListed, listed_none, listed_more_yes}
+use Rattle.std.proofs.lemmas.List.FromFn.{length-range_with_len}
+use Rattle.shb_positions.proofs.RunLemmas.{range_more}
+use Rattle.shb_witness.specs.Cuts.{BelowEither, HasCuts}
+use Rattle.shb_witness.specs.declared.checkpoints.Checkpoint.{Checkpoint}
+use Rattle.shb_witness.specs.Checkpoints.{IsReached, Reach}
+
+-- all numbers below n
+all_listed : (P : ℕ → Type 0) (n : ℕ) → ((k : ℕ) → k < n → P k) → IsListed P n (range_with_len 0 n)
+all_listed P zero all = listed_none P
+all_listed P (suc n) all =
+    let before = all_listed P n (λ k lt. all k (omega (arith, lt))) in
+    let more : IsListed P (n + 1) (range_with_len 0 n ++ n ∷ []) = listed_more_yes P n (range_with_len 0 n) (all n (omega arith)) before in
+    let on : n + 1 ≡ suc n = omega arith in
+    subst (λ (m : ℕ). IsListed P m (range_with_len 0 m)) on (subst (λ (l : List ℕ). IsListed P (n + 1) l) (sym (range_more 0 n (n + 1) n (omega arith) refl)) more)
+
+-- no event comes before the first position
+pub reach_none : (trace : List Event) (places : List ℕ) → Reach trace 0 places
+reach_none trace places = λ k t lt of. absurd (omega (arith, lt))
+
+some_is : (a b : ℕ) → Some a ≡ Some b → a ≡ b
+some_is a b e = cc
+
+-- one event more
+pub reach_more : (trace linked : List Event) (n place : ℕ) (old new : List ℕ) (d : Event) → linked ≡ trace → n < length trace → ((t : ℕ) → thread_at linked n ≡ Some t → place ≡ place_in_thread linked t n)
+    → place ≤ get_or new (get_or trace n d).thread 0 → ((t : ℕ) → get_or old t 0 ≤ get_or new t 0) → Reach trace n old → Reach trace (n + 1) new
+reach_more trace linked n place old new d same within is_place noted kept before k t lt of = go (cases_lt k n)
+  where
+    placed : (u : ℕ) → thread_at trace n ≡ Some u → place ≡ place_in_thread trace u n
+    placed = subst (λ (tr : List Event). (u : ℕ) → thread_at tr n ≡ Some u → place ≡ place_in_thread tr u n) same is_place
+
+    go : (k < n) ⊎ (n ≤ k) → place_in_thread trace t k ≤ get_or new t 0
+    go (inl earlier) = let le = before k t earlier of in let more = kept t in omega (arith, le, more)
+    go (inr later) =
+        let here : k ≡ n = omega (arith, lt, later) in
+        let of_n : thread_at trace n ≡ Some t = subst (λ (j : ℕ). thread_at trace j ≡ Some t) here of in
+        let is_t : (get_or trace n d).thread ≡ t = some_is (get_or trace n d).thread t (sym (thread_item trace n d within) ∙ of_n) in
+        let low : place ≤ get_or new t 0 = subst (λ (u : ℕ). place ≤ get_or new u 0) is_t noted in
+        let le : place_in_thread trace t n ≤ get_or new t 0 = subst (λ (p : ℕ). p ≤ get_or new t 0) (placed t of_n) low in
+        subst (λ (j : ℕ). place_in_thread trace t j ≤ get_or new t 0) (sym here) le
+
+-- what is behind the places has none
+pub covered : (places cuts : List ℕ) → ((t : ℕ) → t < length places → get_or places t 0 ≤ get_or cuts t 0) → (t : ℕ) → get_or places t 0 ≤ get_or cuts t 0
+covered places cuts all t = elim (cases_lt t (length places)) [
+  | inl lt ↦ all t lt
+  | inr le ↦ (let none : get_or places t 0 ≡ 0 = get_or_beyond places t le in omega (arith, none))
+]
+  where
+    get_or_beyond : (xs : List ℕ) (i : ℕ) → length xs ≤ i → get_or xs i 0 ≡ 0
+    get_or_beyond [] i le = refl
+    get_or_beyond (x ∷ xs) zero le = absurd (omega (arith, le))
+    get_or_beyond (x ∷ xs) (suc i) le = get_or_beyond xs i (omega (arith, le))
+
+-- further cuts are reached as well
+pub reach_covered : (trace : List Event) (n : ℕ) (places cuts : List ℕ) → ((t : ℕ) → get_or places t 0 ≤ get_or cuts t 0) → Reach trace n places → Reach trace n cuts
+reach_covered trace n places cuts le reached k t lt of = let first = reached k t lt of in let more = le t in omega (arith, first, more)
+
+-- the front of a printed schedule
+pub front_listed : (trace : List Event) (i j threads n : ℕ) (cuts s : List ℕ) → ((k : ℕ) (d : Event) → k < length trace → (get_or trace k d).thread < threads) → n ≤ length trace → HasCuts trace i j threads cuts → Reach trace n cuts → s ≡ range_with_len 0 n → IsListed (BelowEither trace i j) n s × (length s ≤ n)
+front_listed trace i j threads n cuts s low within has reached is =
+    (subst (λ (l : List ℕ). IsListed (BelowEither trace i j) n l) (sym is) (all_listed (BelowEither trace i j) n inside), (let long = length-range_with_len 0 n in omega (arith, ap length is, long)))
+  where
+    inside : (k : ℕ) → k < n → BelowEither trace i j k
+    inside k lt =
+        let d : Event = record { thread = 0; op = Read 0; line = 0 } in
+        let inner : k < length trace = omega (arith, lt, within) in
+        let of = thread_item trace k d inner in
+        (has.each (get_or trace k d).thread (low k d inner) k of).0 (reached k (get_or trace k d).thread lt of)

@@ -1,0 +1,110 @@
+//! How far the threads have come at some positions of a trace, so that the front of a schedule, in
+//! which no event is left out, is found without a look at each of its events.
+
+ghost use Rattle.std.specs.Prelude.{◌≡◌, ℕ, ◌<◌, ◌≤◌, All, IfOk, IsTrue, List, length, slice_index_or};
+ghost use Rattle.shb_lines.specs.declared.event.Event.{Event};
+ghost use Rattle.shb_witness.specs.Checkpoints.{AreReached, IsReached, Reach};
+
+use shb_discipline::Disciplined;
+use shb_io::NoMemory;
+use shb_links::Links;
+use std::alloc::Global;
+
+/// How far each thread has come before a position.
+#[derive(Drop)]
+pub struct Checkpoint {
+    pub(crate) before: u32,
+    /// For each thread, the greatest place in it of an event before the position, or 0.
+    pub(crate) places: Vec<u32>,
+}
+
+/// Checkpoints of a trace, at least 4096 events and 16 times the threads apart: less than a byte of
+/// memory an event. `NoMemory` where memory was refused.
+pub fn checkpoints_of(
+    alloc: Global,
+    trace: &Disciplined<'_>,
+    links: &Links<'_>,
+) -> Result<Vec<Checkpoint>, NoMemory>
+    requires linked { links.now ≡ trace.now.events.now }
+    ensures { IfOk result (λ points. All (IsReached trace.now.events.now) points.items) }
+{
+    let mut places = vec![in alloc; 0u32; trace.sizes.threads as usize]?;
+    let apart = trace.sizes.threads.saturating_mul(16).max(4096);
+    let mut next = apart;
+    let mut points = Vec::new(alloc);
+    for k in 0..trace.events.len() as u32 {
+        if k == next {
+            points.push(Checkpoint {
+                before: k,
+                places: copy_of(alloc, &places)?,
+            })?;
+            next = next.saturating_add(apart);
+        }
+        let thread = trace.events[k as usize].thread;
+        reach(&mut places, thread as usize, links.local(k));
+    }
+    Ok(points)
+}
+
+/// The same numbers in memory of their own.
+fn copy_of(alloc: Global, places: &[u32]) -> Result<Vec<u32>, NoMemory>
+    ensures { IfOk result (λ copy. copy.items ≡ places.now) }
+{
+    let mut copy = Vec::with_capacity(alloc, places.len())?;
+    copy.extend_from_slice(places)?;
+    Ok(copy)
+}
+
+/// Notes the place of an event of a thread.
+fn reach(places: &mut Vec<u32>, thread: usize, place: u32)
+    requires { thread < length places.old.items }
+    ensures as_long { length places.new.items ≡ length places.old.items }
+    ensures noted { place ≤ slice_index_or places.new.items thread 0 }
+    ensures kept { (t : ℕ) → slice_index_or places.old.items t 0 ≤ slice_index_or places.new.items t 0 }
+{
+    places[thread] = places[thread].max(place);
+}
+
+/// Whether no place is above the cut of its thread.
+fn is_covered(places: &[u32], cuts: &[u32]) -> bool
+    ensures { IsTrue result → (t : ℕ) → slice_index_or places.now t 0 ≤ slice_index_or cuts.now t 0 }
+{
+    if places.len() > cuts.len() {
+        return false;
+    }
+    for t in 0..places.len() {
+        if places[t] > cuts[t] {
+            return false;
+        }
+    }
+    true
+}
+
+/// The position of the last checkpoint that is wholly within the cuts, or 0 where none is.
+fn last_covered(points: &[Checkpoint], cuts: &[u32]) -> u32
+    ensures { (trace : List Event) → All (IsReached trace) points.now → Reach trace result cuts.now }
+{
+    let mut before = 0;
+    let mut low = 0;
+    let mut high = points.len();
+    while low < high {
+        let middle = low + (high - low) / 2;
+        if is_covered(&points[middle].places, cuts) {
+            before = points[middle].before;
+            low = middle + 1;
+        } else {
+            high = middle;
+        }
+    }
+    before
+}
+
+/// A position before which each event is within the cuts.
+pub(crate) fn front_of(points: Option<&[Checkpoint]>, cuts: &[u32]) -> u32
+    ensures { (trace : List Event) → AreReached trace points.entry → Reach trace result cuts.now }
+{
+    match points {
+        Some(points) => last_covered(points, cuts),
+        None => 0,
+    }
+}
