@@ -76,8 +76,9 @@ fn write_made<R: Threads + Wait + Sync, K: Sink, O: Order + Sync, G: Gate + Sync
         (K.taken sink.old) (K.taken sink.new) result }
     ensures counted { IsSinkCounted (K.failure_count sink.old) (K.failure_count sink.new) result }
 {
-    let job = WitnessJob::new(ordered.order, ordered.trace, ordered.links, races)
-        .with_checkpoints(points);
+    let job = WitnessJob::new(ordered.order, ordered.trace, ordered.links, races).with_checkpoints(
+        points,
+    );
     let mut writer = BlockWriter {
         sink: &mut *sink,
         trace: ordered.trace.trace,
