@@ -2,8 +2,9 @@
 //! in pieces of work. Everything is generic in the order.
 //!
 //! [`open_variables`] goes over the trace once, in its order, and finds variables that can't race
-//! ("settled"): each access is SHB-below the predecessor of what is kept of those before it, the
-//! last write and the newest read since. The others are open. [`accesses_of_open`] collects their
+//! ("settled"): before each access the last write is SHB-below its predecessor and, before a write,
+//! so are the reads since, which the newest tells where each has the one before it below. The others
+//! are open. [`accesses_of_open`] collects their
 //! accesses in one pass and sorts them by counting, in trace order and by thread; [`pieces`] cuts
 //! each list into runs of at most 64; [`PairJob`] is the job over them, whose piece has the races
 //! with the later access in its run.

@@ -165,9 +165,9 @@ fn flags_of(alloc: Global, table: &[Latest]) -> Result<Vec<bool>, AllocError>
 /// variable is a race. One pass over the trace in its order, with at most two look-ups of the order
 /// for each access, and 16 bytes a variable.
 ///
-/// A variable is settled where each access is SHB-below the predecessor of what is kept of those
-/// before it: its last write and, behind a write, the newest of the reads since, as long as each of
-/// them was ordered behind the one before it. A flag may be true though no pair races.
+/// A variable is settled where, of each access, the last write before it is SHB-below its
+/// predecessor and, where the access writes, so is the newest of the reads since that write, each of
+/// which has the one before it SHB-below its own predecessor. A flag may be true though no pair races.
 ///
 /// # Errors
 ///

@@ -62,7 +62,7 @@ fn verdict_of<S: Source, R: RandomSource>(
 /// - [`RunError::Trace`]: the text of the trace has a fault, and this is the first. Nothing was written,
 ///   and the report wasn't read.
 /// - [`RunError::Sink`]: the sink failed. It took less than the line, the front of it.
-/// - [`RunError::Memory`]: memory was refused. Nothing was written.
+/// - [`RunError::Memory`]: memory was refused. Less than the line was written: its front, or nothing.
 ///
 /// What was read of the sources stays read.
 pub fn check<S: Source, Q: Source, K: Sink, R: RandomSource>(

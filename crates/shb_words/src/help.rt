@@ -18,8 +18,8 @@ memory failed, 5 report rejected
 /// Under the options of `races`: what a trace and a report look like, and what they cost.
 pub const ABOUT_TRACES: &str = "The trace:
   One event a line, in the order in which they happened:
-  THREAD|OPERATION|LOCATION. The location may be left out. Names are any bytes.
-  Empty lines are skipped. The operations:
+  THREAD|OPERATION|LOCATION. The location may be left out. Names are of one byte
+  or more, any but '|'. Empty lines are skipped. The operations:
 
     r(X)     w(X)     reads or writes the variable X
     acq(L)   rel(L)   acquires or releases the lock L; its holder may acquire it
@@ -36,9 +36,10 @@ The report:
 
   A race is two accesses of one variable by different threads, at least one a
   write, where the earlier isn't ordered before the event that precedes the
-  later in its thread. Ordered are the events of a thread, a release before a
-  later acquire of the lock, a fork before the events of its thread, these
-  before a join of it, and the last write before each read that sees it.
+  later in its thread (its fork, for a thread's first event). Ordered are the
+  events of a thread, a release before a later acquire of the lock, a fork
+  before the events of the forked thread, these before a join of it, and the
+  last write before each read that sees it.
 
 Costs:
   A schedule may be as long as the trace, so a full report may take as many
