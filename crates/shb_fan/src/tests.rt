@@ -515,3 +515,45 @@ fn seven_are_held(rt: HostRuntime) -> Result<(), Fail> {
     assert!(rt; !gate.missed.load(Ordering::SeqCst));
     Ok(())
 }
+
+/// Holds piece 0 until piece 16 has entered, the first of the second run of neighbours.
+#[derive(Drop)]
+struct RunHeld {
+    second: AtomicBool,
+    entered: AtomicU64,
+    missed: AtomicBool,
+}
+
+impl Gate for RunHeld {
+    fn enter<R: Wait>(&self, _rt: &R, k: u64) {
+        self.entered.fetch_add(1, Ordering::SeqCst);
+        if k == 16 {
+            self.second.store(true, Ordering::SeqCst);
+        }
+        if k != 0 {
+            return;
+        }
+        for _ in 0..1_000_000_000u32 {
+            if self.second.load(Ordering::SeqCst) {
+                return;
+            }
+            yield_now();
+        }
+        self.missed.store(true, Ordering::SeqCst);
+    }
+}
+
+#[test]
+fn runs_are_shared_out(rt: HostRuntime) -> Result<(), Fail> {
+    let job = count_to(512, None);
+    let gate = RunHeld {
+        second: AtomicBool::new(false),
+        entered: AtomicU64::new(0),
+        missed: AtomicBool::new(false),
+    };
+    let values = gather(&rt, rt.alloc(), &job, &gate, so_many(&rt, 2))?;
+    assert!(rt; is_count(values.as_slice(), 512));
+    assert_eq!(rt; gate.entered.load(Ordering::SeqCst), 512);
+    assert!(rt; !gate.missed.load(Ordering::SeqCst));
+    Ok(())
+}
