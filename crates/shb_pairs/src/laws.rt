@@ -34,6 +34,11 @@ pub fn printed_schedule_is_schedule()
     ensures { (trace : List Event) (s : List ℕ) (i j : ℕ) → IsDisciplined trace → Race trace i j → IsPrintedSchedule trace s i j → IsSchedule trace s i j }
 {}
 
+/// A conflicting pair that has a schedule is a race.
+pub fn schedule_makes_a_race()
+    ensures { (trace : List Event) (s : List ℕ) (i j : ℕ) → Conflict trace i j → i < j → IsSchedule trace s i j → Race trace i j }
+{}
+
 /// A conflicting pair that is no race has no schedule at all.
 pub fn no_schedule_without_race()
     ensures { (trace : List Event) (s : List ℕ) (i j : ℕ) → Conflict trace i j → i < j → ¬ Race trace i j → ¬ IsSchedule trace s i j }

@@ -21,5 +21,6 @@ mod PlaceText
 pub mod WrittenText
 pub mod WrittenGood
 mod GoodBlocks
+mod GoodRaces
 pub mod VerdictLaws
 mod ShownPlaces

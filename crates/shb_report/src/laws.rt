@@ -1,8 +1,9 @@
 //! The laws of reports, over the definitions alone. Each function does nothing: its contract is the
 //! law.
-ghost use Rattle.std.specs.Prelude.{◌≡◌, ◌↔◌, ℕ, All, Bool, List, length, map, true};
+ghost use Rattle.std.specs.Prelude.{◌≡◌, ◌↔◌, ◌-◌, ℕ, All, Bool, List, length, map, true};
+ghost use Rattle.std.specs.List.{AllByRecursion};
 ghost use Rattle.shb_lines.specs.events.Discipline.{IsDisciplined};
-ghost use Rattle.shb_lines.specs.events.Race.{IsRaceList};
+ghost use Rattle.shb_lines.specs.events.Race.{IsRaceList, Race};
 ghost use Rattle.shb_lines.specs.text.TraceData.{TraceData};
 ghost use Rattle.shb_report.specs.Reading.{IsBadLine, IsReportText};
 ghost use Rattle.shb_report.specs.Report.{AreBlocks, HasSchedule, IsReport, ShownRace};
@@ -64,6 +65,13 @@ pub fn written_report_is_good()
 pub fn good_reports_are_called_good()
     ensures { (trace : TraceData) (report : ReportValue) (verdict : Verdict) → IsDisciplined trace.events → IsVerdict trace report verdict
         → (verdict ≡ Good (length report.blocks)) ↔ IsGoodReport trace report }
+{}
+
+/// Each listed pair of a good report is a race. Its block has the numbers of the two events, which count
+/// from 1.
+pub fn good_reports_list_races()
+    ensures { (trace : TraceData) (report : ReportValue) → IsGoodReport trace report
+        → AllByRecursion (λ block. Race trace.events (block.first - 1) (block.second - 1)) report.blocks }
 {}
 
 /// A report has at most one verdict.

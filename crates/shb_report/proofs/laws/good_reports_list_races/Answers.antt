@@ -1,0 +1,5 @@
+use Rattle.shb_report.proofs.GoodRaces.{good_lists_races}
+use Rattle.shb_report.proofs.laws.good_reports_list_races.Goals as goal
+
+pub returns : goal.returns
+returns c = good_lists_races
