@@ -125,10 +125,15 @@ broken_off (Err Source) P p = tt
 broken_off (Err Sink) P p = p
 broken_off (Err Memory) P p = p
 
+-- a text with no fault has none of which anything is to be said
+pub none_found : (read : TraceData) (stop : Option LineFault) (trace : TraceData) (known : Option (List ℕ)) (P : Type 0)
+    → IsAccepted read stop trace → IfSome known (λ text. IsReadingOf limits text read stop) → IfSome known (λ text. (line : ℕ) (fault : Fault) → HasFirstFault limits text line fault → P)
+none_found read stop trace known P accepted reading = IfSome_then known reading (λ text one line fault first. absurd (no_first_fault text line fault (accepted.faultless text one) first))
+
 -- a text with no fault has none to be silent on
 pub not_silent : (read : TraceData) (stop : Option LineFault) (trace : TraceData) (known old new : Option (List ℕ))
     → IsAccepted read stop trace → IfSome known (λ text. IsReadingOf limits text read stop) → IfSome known (λ text. (line : ℕ) (fault : Fault) → HasFirstFault limits text line fault → Keeps old new)
-not_silent read stop trace known old new accepted reading = IfSome_then known reading (λ text one line fault first. absurd (no_first_fault text line fault (accepted.faultless text one) first))
+not_silent read stop trace known old new accepted reading = none_found read stop trace known (Keeps old new) accepted reading
 
 -- what holds of each run that read its text
 pub judged : {T : Type 0} (r : Result T RunError) (P : Type 0) → P → OnJudged r P

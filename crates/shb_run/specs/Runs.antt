@@ -60,6 +60,11 @@ OnBrokenOff (Err Sink) P = P
 OnBrokenOff (Err Memory) P = P
 OnBrokenOff _ P = ⊤
 
+-- for a run to which memory was refused
+abbrev pub OnMemory : {T : Type 0} → Result T RunError → Type 0 → Type 0
+OnMemory (Err Memory) P = P
+OnMemory _ P = ⊤
+
 -- for a run that judged all that it read
 abbrev pub OnJudged : {T : Type 0} → Result T RunError → Type 0 → Type 0
 OnJudged (Ok x) P = P

@@ -6,7 +6,7 @@ ghost use Rattle.shb_lines.specs.text.Taking.{IsSourceCounted, TakesAtMost};
 ghost use Rattle.shb_lines.specs.declared.event.Fault.{Fault};
 ghost use Rattle.shb_report.specs.Verdicts.{verdict_bytes};
 ghost use Rattle.shb_run.specs.Checks.{CountsSources, IsLineCutShort, IsVerdictFor, IsVerdictOf};
-ghost use Rattle.shb_run.specs.Runs.{CountsSink, OnBrokenOff, OnNoTrace, OnTrace, limits};
+ghost use Rattle.shb_run.specs.Runs.{CountsSink, Grows, OnBrokenOff, OnMemory, OnNoTrace, OnTrace, limits};
 
 use crate::errors::RunError;
 use crate::pipeline::judge;
@@ -62,7 +62,7 @@ fn verdict_of<S: Source, R: RandomSource>(
 /// - [`RunError::Trace`]: the text of the trace has a fault, and this is the first. Nothing was written,
 ///   and the report wasn't read.
 /// - [`RunError::Sink`]: the sink failed. It took less than the line, the front of it.
-/// - [`RunError::Memory`]: memory was refused. Less than the line was written: its front, or nothing.
+/// - [`RunError::Memory`]: memory was refused. Nothing was written.
 ///
 /// What was read of the sources stays read.
 pub fn check<S: Source, Q: Source, K: Sink, R: RandomSource>(
@@ -93,6 +93,15 @@ pub fn check<S: Source, Q: Source, K: Sink, R: RandomSource>(
         IsLineCutShort text report (K.taken sink.old) (K.taken sink.new)))) }
     ensures silent { IfSome (S.remaining trace_source.old) (λ text. (line : ℕ) (fault : Fault) →
         HasFirstFault limits text line fault → Keeps (K.taken sink.old) (K.taken sink.new)) }
+    ensures memory { OnMemory result (Keeps (K.taken sink.old) (K.taken sink.new)) }
+
+    // What the sink took before stays as it was, whether or not the sources tell their bytes.
+    ensures grown { Grows (K.taken sink.old) (K.taken sink.new) }
+
+    // Where the trace has a fault the report isn't read, whatever is answered.
+    ensures unread { IfSome (S.remaining trace_source.old) (λ text. (line : ℕ) (fault : Fault) →
+        HasFirstFault limits text line fault → report_source.new ≡ report_source.old) }
+    ensures unread_after { OnTrace result (λ _ _. report_source.new ≡ report_source.old) }
 
     // Each source lost at most its first 1,073,741,825 bytes.
     ensures trace_taken { TakesAtMost 1073741825 (S.remaining trace_source.old) (S.remaining trace_source.new) }
