@@ -2,7 +2,7 @@
 //! give for each trace.
 ghost use Rattle.std.specs.Prelude.{◌<◌};
 
-use crate::{RunError, Settings, Summary, Workers, exit_status, fault_line, run};
+use crate::{RunError, Settings, Summary, Verdict, Workers, check, exit_status, fault_line, run};
 use shb_io::{NoMemory, Page, Text};
 use std::alloc::Global;
 use std::random::RandomSource;
@@ -251,6 +251,11 @@ fn writes_reports(rt: HostRuntime) -> Result<(), Fail> {
             assert!(rt; answer.is_ok());
             assert_eq!(rt; page.bytes(), list.as_str().as_bytes(), "of {trace:?}");
         }
+        let mut traces = Text::new(trace.as_bytes(), 4096, None);
+        let mut reports = Text::new(report.as_bytes(), 4096, None);
+        let mut said = Page::new(rt.alloc(), 100, 4096, None)?;
+        let answer = check(&rt, rt.alloc(), &mut traces, &mut reports, &mut said);
+        assert!(rt; matches!(answer, Ok(Verdict::Good { .. })), "of {trace:?}");
     }
     Ok(())
 }
