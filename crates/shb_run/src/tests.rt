@@ -2,21 +2,21 @@
 //! give for each trace.
 ghost use Rattle.std.specs.Prelude.{◌<◌};
 
-use crate::{RunError, Settings, Summary, Workers, exit_status, fault_line, run};
+use crate::{RunError, Settings, Summary, Verdict, Workers, check, exit_status, fault_line, run};
 use shb_io::{NoMemory, Page, Text};
 use std::alloc::Global;
+use std::process::Abort;
 use std::random::RandomSource;
 use std::sync::Wait;
 use std::test::Fail;
 use std::thread::Threads;
 
-/// How a run is made, with schedules or without.
-fn settings(schedules: bool) -> Settings {
-    let workers = match Workers::new(4) {
-        Some(workers) => workers,
-        None => unreachable!(),
-    };
-    Settings { workers, schedules }
+/// How a run is made: by so many workers, with schedules or without.
+fn settings<R: Abort>(rt: &R, workers: u32, schedules: bool) -> Settings {
+    Settings {
+        workers: Workers::new(workers).expect(rt, "1 to 64 workers"),
+        schedules,
+    }
 }
 
 /// Traces, and the report of each with schedules.
@@ -229,13 +229,13 @@ fn run_over<R: Threads + Wait + Sync + RandomSource + AllocGlobal>(
     rt: &R,
     trace: &[u8],
     step: usize,
-    schedules: bool,
+    settings: Settings,
 ) -> Result<(Result<Summary, RunError>, Page), NoMemory>
     requires { 0 < step }
 {
     let mut source = Text::new(trace, step, None);
     let mut sink = Page::new(rt.alloc(), 300_000, step, None)?;
-    let answer = run(rt, rt.alloc(), &mut source, &mut sink, settings(schedules));
+    let answer = run(rt, rt.alloc(), &mut source, &mut sink, settings);
     Ok((answer, sink))
 }
 
@@ -243,14 +243,21 @@ fn run_over<R: Threads + Wait + Sync + RandomSource + AllocGlobal>(
 fn writes_reports(rt: HostRuntime) -> Result<(), Fail> {
     for (trace, report) in REPORTS {
         let list = without_schedules(rt.alloc(), report)?;
-        for step in [1, 4096] {
-            let (answer, page) = run_over(&rt, trace.as_bytes(), step, true)?;
+        for (step, workers) in [(1, 4), (4096, 1), (4096, 2), (4096, 64)] {
+            let full = settings(&rt, workers, true);
+            let (answer, page) = run_over(&rt, trace.as_bytes(), step, full)?;
             assert!(rt; answer.is_ok());
             assert_eq!(rt; page.bytes(), report.as_bytes(), "of {trace:?}");
-            let (answer, page) = run_over(&rt, trace.as_bytes(), step, false)?;
+            let short = settings(&rt, workers, false);
+            let (answer, page) = run_over(&rt, trace.as_bytes(), step, short)?;
             assert!(rt; answer.is_ok());
             assert_eq!(rt; page.bytes(), list.as_str().as_bytes(), "of {trace:?}");
         }
+        let mut traces = Text::new(trace.as_bytes(), 4096, None);
+        let mut reports = Text::new(report.as_bytes(), 4096, None);
+        let mut said = Page::new(rt.alloc(), 100, 4096, None)?;
+        let answer = check(&rt, rt.alloc(), &mut traces, &mut reports, &mut said);
+        assert!(rt; matches!(answer, Ok(Verdict::Good { .. })), "of {trace:?}");
     }
     Ok(())
 }
@@ -259,7 +266,7 @@ fn writes_reports(rt: HostRuntime) -> Result<(), Fail> {
 fn refuses_traces(rt: HostRuntime) -> Result<(), Fail> {
     for (trace, words) in REFUSALS {
         for step in [1, 4096] {
-            let (answer, page) = run_over(&rt, trace.as_bytes(), step, true)?;
+            let (answer, page) = run_over(&rt, trace.as_bytes(), step, settings(&rt, 4, true))?;
             let said = match answer {
                 Ok(_) => String::new(rt.alloc()),
                 Err(error) => {
@@ -288,7 +295,7 @@ fn lines_of_threads(alloc: Global, count: u32, operation: &str) -> Result<String
 #[test]
 fn holds_the_limits(rt: HostRuntime) -> Result<(), Fail> {
     let most = lines_of_threads(rt.alloc(), 1024, "r(a)")?;
-    let (answer, _) = run_over(&rt, most.as_str().as_bytes(), 4096, true)?;
+    let (answer, _) = run_over(&rt, most.as_str().as_bytes(), 4096, settings(&rt, 4, true))?;
     assert!(rt;
         matches!(
             answer,
@@ -302,12 +309,17 @@ fn holds_the_limits(rt: HostRuntime) -> Result<(), Fail> {
         )
     );
     let more = lines_of_threads(rt.alloc(), 1025, "r(a)")?;
-    let (answer, _) = run_over(&rt, more.as_str().as_bytes(), 4096, true)?;
+    let (answer, _) = run_over(&rt, more.as_str().as_bytes(), 4096, settings(&rt, 4, true))?;
     assert!(rt; matches!(answer, Err(RunError::Trace { line: 1025, .. })));
 
     // 65 writes make two pieces, and 2,080 races.
     let racing = lines_of_threads(rt.alloc(), 65, "w(x)")?;
-    let (answer, page) = run_over(&rt, racing.as_str().as_bytes(), 4096, false)?;
+    let (answer, page) = run_over(
+        &rt,
+        racing.as_str().as_bytes(),
+        4096,
+        settings(&rt, 4, false),
+    )?;
     assert!(rt; matches!(answer, Ok(Summary { races: 2080, .. })));
     let head =
         "shb-report 2\nevents 65 threads 65 locks 0 variables 1\nraces 2080\nplaces 1\nplace 1: 2080\nat \nand \nrace 1: 1 2\n";
@@ -325,7 +337,13 @@ fn says_which_device_failed(rt: HostRuntime) -> Result<(), Fail> {
     for fail_at in 1..=trace.len() as u64 + 1 {
         let mut source = Text::new(trace.as_bytes(), 1, Some(fail_at));
         let mut sink = Page::new(rt.alloc(), 1000, 1, None)?;
-        let answer = run(&rt, rt.alloc(), &mut source, &mut sink, settings(true));
+        let answer = run(
+            &rt,
+            rt.alloc(),
+            &mut source,
+            &mut sink,
+            settings(&rt, 4, true),
+        );
         assert!(rt;
             matches!(answer, Err(RunError::Source)),
             "at read {fail_at}"
@@ -337,14 +355,26 @@ fn says_which_device_failed(rt: HostRuntime) -> Result<(), Fail> {
     for fail_at in 1..=report.len() as u64 {
         let mut source = Text::new(trace.as_bytes(), 1, None);
         let mut sink = Page::new(rt.alloc(), 1000, 1, Some(fail_at))?;
-        let answer = run(&rt, rt.alloc(), &mut source, &mut sink, settings(true));
+        let answer = run(
+            &rt,
+            rt.alloc(),
+            &mut source,
+            &mut sink,
+            settings(&rt, 4, true),
+        );
         assert!(rt; matches!(answer, Err(RunError::Sink)), "at write {fail_at}");
         assert_eq!(rt; sink.bytes(), &report.as_bytes()[..fail_at as usize - 1]);
     }
     for (room, whole) in [(report.len() - 1, false), (report.len(), true)] {
         let mut source = Text::new(trace.as_bytes(), 1, None);
         let mut sink = Page::new(rt.alloc(), room, 4096, None)?;
-        let answer = run(&rt, rt.alloc(), &mut source, &mut sink, settings(true));
+        let answer = run(
+            &rt,
+            rt.alloc(),
+            &mut source,
+            &mut sink,
+            settings(&rt, 4, true),
+        );
         assert_eq!(rt; answer.is_ok(), whole);
         assert_eq!(rt; sink.bytes(), &report.as_bytes()[..room]);
     }
@@ -357,7 +387,13 @@ fn reads_before_it_judges(rt: HostRuntime) -> Result<(), Fail> {
     for fail_at in 1..=trace.len() as u64 + 2 {
         let mut source = Text::new(trace, 1, Some(fail_at));
         let mut sink = Page::new(rt.alloc(), 1000, 1, None)?;
-        let answer = run(&rt, rt.alloc(), &mut source, &mut sink, settings(true));
+        let answer = run(
+            &rt,
+            rt.alloc(),
+            &mut source,
+            &mut sink,
+            settings(&rt, 4, true),
+        );
         if fail_at <= trace.len() as u64 + 1 {
             assert!(rt;
                 matches!(answer, Err(RunError::Source)),
