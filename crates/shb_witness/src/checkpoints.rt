@@ -18,7 +18,7 @@ pub struct Checkpoint {
     pub(crate) places: Vec<u32>,
 }
 
-/// Checkpoints of a trace, at least 4096 events and 16 times the threads apart: less than a byte of
+/// Checkpoints of a trace, at least 64 events and 16 times the threads apart: about a byte of
 /// memory an event. `NoMemory` where memory was refused.
 pub fn checkpoints_of(
     alloc: Global,
@@ -29,7 +29,7 @@ pub fn checkpoints_of(
     ensures { IfOk result (λ points. All (IsReached trace.now.events.now) points.items) }
 {
     let mut places = vec![in alloc; 0u32; trace.sizes.threads as usize]?;
-    let apart = trace.sizes.threads.saturating_mul(16).max(4096);
+    let apart = trace.sizes.threads.saturating_mul(16).max(64);
     let mut next = apart;
     let mut points = Vec::new(alloc);
     for k in 0..trace.events.len() as u32 {
