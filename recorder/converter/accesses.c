@@ -1,0 +1,115 @@
+/* Accesses of memory: which blocks and pieces they use, and their events. */
+#include <stdio.h>
+#include "converter.h"
+
+int whole_trace;
+list_entry *list_entries;
+static u64 list_count, list_capacity;
+static map atomic_writers;
+
+void add_to_list(u32 *list, u32 thread) {
+    GROW(list_entries, list_count, list_capacity);
+    list_entries[list_count++] = (list_entry){thread, *list};
+    *list = list_count;
+}
+
+static u64 end_of(u64 i) { return address_of(i) + accessed_bytes(i); }
+
+/* Lies it in a block that one thread alone uses? */
+static int is_private(u64 i) {
+    block *b = block_at(address_of(i));
+    return !whole_trace && b && !b->many_users;
+}
+
+/* ---- 1: users of blocks; a range over several is shared, to be cut at their bounds ---- */
+static void use_block(block *b, u32 t, int with_others) {
+    if (!b) return;
+    if (!b->user) b->user = t + 1;
+    if (b->user != t + 1 || with_others) b->many_users = 1;
+}
+
+void find_users(u64 i) {
+    u64 end = end_of(i);
+    block *first = block_at(address_of(i));
+    for (u64 at = address_of(i); at < end; at = next_cut(at, end)) {
+        block *b = block_at(at);
+        use_block(b, thread_of(i), b != first);
+        if (b != first) use_block(first, thread_of(i), 1);
+    }
+}
+
+/* ---- 2: cuts ---- */
+void find_cuts(u64 i) {
+    if (!accessed_bytes(i) || is_private(i)) return;
+    cut(address_of(i));
+    if (operation_of(i) != OP_FREE) cut(end_of(i));
+}
+
+/* ---- 3: users of pieces ---- */
+static void share_piece(u64 i, piece *p) {
+    u32 t = thread_of(i);
+    if (!p->user) p->user = t + 1;
+    if (p->user != t + 1) p->many_users = 1;
+    if (writes_plainly(i)) p->written = 1;
+    if (writes_atomically(i)) {
+        u64 before = atomic_writers.count;
+        map_number(&atomic_writers, piece_number(p), t);
+        if (atomic_writers.count > before) add_to_list(&p->atomic_writers, t);
+    }
+    if (operation_of(i) != OP_READ) return;
+    if (!p->reader) p->reader = t + 1;
+    if (p->reader != t + 1) p->many_readers = 1;
+}
+
+void share_pieces(u64 i) {
+    if (is_private(i)) return;
+    u64 end = end_of(i);
+    for (u64 at = address_of(i); at < end; at = next_cut(at, end)) share_piece(i, piece_at(at));
+}
+
+/* ---- 4: events ---- */
+/* The same read, by the same thread at the same place, with no write of the variable since, and nothing since by which
+   the thread could order another: all that it conflicts with, and all that it orders, the first does too. */
+static int repeats(u64 i, const piece *p) {
+    enum { RECENT = 1 << 18 };
+    typedef struct { u64 caller, epoch; u32 piece, thread, writes; } read;
+    static read recent[RECENT];
+    u32 t = thread_of(i), number = piece_number(p);
+    read this = {caller_of(i), thread_epoch(t) + 1, number, t, p->writes};
+    read *last = &recent[mix(number, this.caller ^ (u64)t << 48) & (RECENT - 1)];
+    int same = last->caller == this.caller && last->epoch == this.epoch && last->piece == number && last->thread == t
+        && last->writes == this.writes;
+    *last = this;
+    return same && !whole_trace;
+}
+
+/* An event of the variable that stands for the atomic writes of p by one thread. */
+static void writer_event(u64 i, u64 at, const char *operation, u32 writer) {
+    char tail[100];
+    snprintf(tail, sizeof tail, "!%s", thread_name(writer));
+    event(thread_of(i), operation, variable_name(at, block_at(at)), tail, caller_of(i));
+}
+
+/* An atomic write is a read of X, so that it conflicts with plain writes, and a write of a variable of X and its
+   thread alone, which the plain reads of others read too: so it conflicts with these, and never with an atomic access. */
+static void piece_events(u64 i, u64 at) {
+    piece *p = piece_at(at);
+    u32 t = thread_of(i);
+    int writes = writes_plainly(i), atomically = writes_atomically(i), shared = p->many_users && p->written;
+    if (!writes && !atomically && repeats(i, p)) return;
+    if (shared || whole_trace) event(t, writes ? "w" : "r", variable_name(at, block_at(at)), "", caller_of(i));
+    if (writes) p->writes++;
+    if (atomically && (p->many_readers || (p->reader && p->reader != t + 1))) {
+        writer_event(i, at, "w", t);
+        p->writes++;
+    }
+    if (operation_of(i) != OP_READ) return;
+    for (u32 k = p->atomic_writers; k; k = list_entries[k - 1].next)
+        if (list_entries[k - 1].thread != t) writer_event(i, at, "r", list_entries[k - 1].thread);
+}
+
+void access_events(u64 i) {
+    if (is_private(i)) return;
+    u64 end = end_of(i);
+    for (u64 at = address_of(i); at < end && !cut_reason; at = next_cut(at, end)) piece_events(i, at);
+}

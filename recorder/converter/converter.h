@@ -1,0 +1,80 @@
+/* What the parts of the converter share. */
+#include <stddef.h>
+#include <stdint.h>
+#include "../record.h"
+
+typedef uint64_t u64;
+typedef uint32_t u32;
+enum { THREADS = 65536 };
+
+/* tables.c: arrays that grow, and maps from two words to a number from 1, in the order of asking. */
+typedef struct { u64 *keys; u32 *values; u64 count, capacity; } map;
+void die(const char *format, ...) __attribute__((noreturn, format(printf, 1, 2)));
+void *zeroed(size_t count, size_t size);
+void *grown(void *array, u64 count, u64 *capacity, size_t size);
+#define GROW(array, count, capacity) ((array) = grown((array), (count), &(capacity), sizeof *(array)))  /* by one */
+u32 map_find(const map *m, u64 a, u64 b);                    /* 0: it isn't there */
+u32 map_number(map *m, u64 a, u64 b);
+u64 mix(u64 a, u64 b);
+
+/* records.c: the record. */
+extern u64 record_count;
+void open_record(const char *path);
+enum operation operation_of(u64 i);
+u64 address_of(u64 i), caller_of(u64 i), size_of(u64 i);
+u32 thread_of(u64 i);
+int writes_plainly(u64 i), is_atomic(u64 i), writes_atomically(u64 i);
+int is_for_object(u64 i);
+u64 accessed_bytes(u64 i);
+
+/* names.c: modules, symbols, lines of code. */
+enum { NAME_BYTES = 1400, PLACE_BYTES = 1000 };              /* shb takes lines of 4,096 bytes */
+extern int whole_paths;
+void read_modules(char *header);
+void note_caller(u64 caller);
+void find_places(void);                /* of all callers that were noted */
+const char *place_of(u64 caller);
+const char *function_name(u64 address, char *buffer, size_t size);       /* "" where it is not known */
+void symbol_name(u64 address, char *buffer, size_t size);
+
+/* memory.c: blocks and pieces. */
+typedef struct { u64 at, size, caller; int stack, many_users; u32 thread, user; } block;
+typedef struct {
+    u32 user, reader;                  /* the first thread that used it, and that read it plainly; plus one */
+    u32 atomic_writers;                /* a list */
+    u32 writes;                        /* events so far that wrote it */
+    uint8_t many_users, many_readers, written;
+} piece;
+extern u64 range_steps;                /* in this pass: pages and pieces behind the first of each range */
+void begin_memory_pass(void);
+void meet_block(u64 i);                /* each pass calls it for each record: the newest block holds its addresses */
+block *block_at(u64 address);          /* or null */
+u32 block_number(const block *b);      /* from 1; of null 0 */
+void cut(u64 address);
+u64 next_cut(u64 from, u64 end);       /* the first cut behind `from`, or the end */
+piece *piece_at(u64 address);          /* makes it */
+u32 piece_number(const piece *p);
+
+/* accesses.c, objects.c: what the passes do with a record. */
+extern int whole_trace;                /* also what cannot conflict */
+void find_users(u64 i);
+void find_cuts(u64 i);
+void share_pieces(u64 i);
+void share_object(u64 i);
+void forget_states(void);              /* of objects, between the passes */
+void access_events(u64 i);
+void object_events(u64 i);
+
+/* A list of threads is the number of its first entry, or 0. */
+typedef struct { u32 thread, next; } list_entry;
+extern list_entry *list_entries;
+void add_to_list(u32 *list, u32 thread);
+
+/* events.c: the events of the trace. */
+extern u64 event_limit, events;
+extern const char *cut_reason;         /* null while the trace goes on */
+void name_thread(u32 t, u64 function);
+const char *thread_name(u32 t);
+u64 thread_epoch(u32 t);               /* it grows with each event of the thread that could order another */
+const char *variable_name(u64 address, const block *b);
+void event(u32 t, const char *operation, const char *name, const char *tail, u64 caller);

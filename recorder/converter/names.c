@@ -1,0 +1,205 @@
+/* Names: of variables by `nm`, of lines of code by `addr2line`.  Without these tools addresses stand in their place. */
+#include <stdio.h>
+#include <stdlib.h>
+#include <string.h>
+#include <sys/wait.h>
+#include <unistd.h>
+#include "converter.h"
+
+enum { MAX_MODULES = 512, LINE_BYTES = 8192 };
+typedef struct { u64 at, size; char *name; int twice; } symbol;
+typedef struct { u64 low, high, base; char *path; symbol *symbols; u64 count; int read; } module;
+
+int whole_paths;
+static module modules[MAX_MODULES];
+static int module_count;
+static map callers;
+static char **places;
+
+static module *module_at(u64 address) {
+    for (int i = 0; i < module_count; i++)
+        if (address >= modules[i].low && address < modules[i].high) return &modules[i];
+    return 0;
+}
+
+static char *tidy(char *text) {        /* what would end a field or a line */
+    for (char *p = text; *p; p++)
+        if (*p == '|' || (unsigned char)*p < ' ') *p = '!';
+    return text;
+}
+
+static char *copy(const char *text) {
+    char *p = strdup(text);
+    if (!p) die("out of memory");
+    return p;
+}
+
+static FILE *run_tool(const char *words, const char *path, const char *rest) {
+    char command[LINE_BYTES + 600];
+    if (strchr(path, '\'')) return 0;
+    snprintf(command, sizeof command, "%s '%s' %s 2>/dev/null", words, path, rest);
+    return popen(command, "r");
+}
+
+static void end_tool(FILE *f) {
+    static int said;
+    int status = pclose(f);
+    if (WIFEXITED(status) && WEXITSTATUS(status) == 127 && !said++)
+        fprintf(stderr, "shb-std: nm and addr2line (binutils) are missing: names and places are addresses\n");
+}
+
+void read_modules(char *header) {
+    char *rest = 0;
+    for (char *line = strtok_r(header, "\n", &rest); line && module_count < MAX_MODULES; line = strtok_r(0, "\n", &rest)) {
+        module *m = &modules[module_count];
+        int path = 0;
+        if (sscanf(line, "%lx %lx %lx %n", &m->low, &m->high, &m->base, &path) < 3 || !path) continue;
+        m->path = copy(line + path);
+        module_count++;
+    }
+}
+
+/* ---- symbols ---- */
+static int by_address(const void *a, const void *b) {
+    const symbol *x = a, *y = b;
+    return x->at < y->at ? -1 : x->at > y->at;
+}
+static int by_name(const void *a, const void *b) { return strcmp((*(symbol **)a)->name, (*(symbol **)b)->name); }
+
+static void mark_doubles(module *m) {  /* variables of one name, static in several files */
+    symbol **sorted = zeroed(m->count + 1, sizeof *sorted);
+    for (u64 i = 0; i < m->count; i++) sorted[i] = &m->symbols[i];
+    qsort(sorted, m->count, sizeof *sorted, by_name);
+    for (u64 i = 1; i < m->count; i++)
+        if (!strcmp(sorted[i]->name, sorted[i - 1]->name)) sorted[i]->twice = sorted[i - 1]->twice = 1;
+    free(sorted);
+}
+
+static void read_symbols(module *m) {
+    char line[LINE_BYTES], type;
+    u64 capacity = 0, at, size;
+    int name = 0;
+    m->read = 1;
+    FILE *f = run_tool("nm -C -S --defined-only", m->path, "");
+    while (f && fgets(line, sizeof line, f)) {
+        if (sscanf(line, "%lx %lx %c %n", &at, &size, &type, &name) < 3 || !strchr("bBdDrRuVgGsStTwWi", type)) continue;
+        line[strcspn(line, "\n")] = 0;
+        GROW(m->symbols, m->count, capacity);
+        m->symbols[m->count++] = (symbol){at + m->base, size, copy(tidy(line + name)), 0};
+    }
+    if (f) end_tool(f);
+    if (m->count) qsort(m->symbols, m->count, sizeof *m->symbols, by_address);
+    mark_doubles(m);
+}
+
+static symbol *symbol_at(module *m, u64 address) {
+    if (!m->read) read_symbols(m);
+    u64 low = 0, high = m->count;
+    while (low < high) {
+        u64 middle = (low + high) / 2;
+        if (m->symbols[middle].at <= address) low = middle + 1;
+        else high = middle;
+    }
+    return low && address < m->symbols[low - 1].at + m->symbols[low - 1].size ? &m->symbols[low - 1] : 0;
+}
+
+static const char *leaf(const char *path) {
+    const char *slash = strrchr(path, '/');
+    return slash && !whole_paths ? slash + 1 : path;
+}
+
+const char *function_name(u64 address, char *buffer, size_t size) {
+    module *m = module_at(address);
+    symbol *s = m ? symbol_at(m, address) : 0;
+    snprintf(buffer, size, "%s", s ? s->name : "");
+    buffer[strcspn(buffer, "(")] = 0;
+    return buffer;
+}
+
+/* "x", "x+8"; of a name that isn't the only one "x~ADDRESS"; outside the program "lib.so:x". */
+void symbol_name(u64 address, char *buffer, size_t size) {
+    module *m = module_at(address);
+    symbol *s = m ? symbol_at(m, address) : 0;
+    if (!s) {
+        snprintf(buffer, size, "0x%lx", address);
+        return;
+    }
+    const char *library = m == modules ? "" : leaf(m->path), *colon = *library ? ":" : "";
+    int cut_off = strlen(s->name) > 1000;
+    int n = snprintf(buffer, size, "%.200s%s%.1000s", library, colon, s->name);
+    if (s->twice || cut_off) n += snprintf(buffer + n, size - n, "~%lx", s->at - m->base);
+    if (address != s->at) snprintf(buffer + n, size - n, "+%lu", address - s->at);
+}
+
+/* ---- lines of code ---- */
+void note_caller(u64 caller) { map_number(&callers, caller, 0); }
+
+static int write_addresses(FILE *f, module *m) {
+    int some = 0;
+    for (u64 i = 0; i < callers.capacity; i++) {
+        u64 caller = callers.keys[2 * i];
+        if (!callers.values[i] || !caller || module_at(caller) != m) continue;
+        fprintf(f, "%lx\n", caller - m->base - 1);           /* the call, not where it returns to */
+        some = 1;
+    }
+    return some;
+}
+
+static int in_system(const char *path) { return !strncmp(path, "/usr/", 5); }
+
+/* Of inlined code addr2line gives several lines: the first outside /usr/ stands, else the first. */
+static void read_places(FILE *f, module *m) {
+    char line[LINE_BYTES];
+    u32 number = 0;
+    while (fgets(line, sizeof line, f)) {
+        if (!strncmp(line, "0x", 2)) {
+            number = map_find(&callers, strtoull(line, 0, 16) + m->base + 1, 0);
+            continue;
+        }
+        line[strcspn(line, " (\n")] = 0;
+        char *colon = strrchr(line, ':');
+        if (!number || !colon || line[0] == '?' || colon[1] == '?' || colon[1] == '0') continue;
+        if (!places[number] || (in_system(places[number]) && !in_system(line))) places[number] = copy(tidy(line));
+    }
+}
+
+static void find_places_in(module *m) {
+    char name[] = P_tmpdir "/shb-std-XXXXXX", rest[100];
+    int descriptor = mkstemp(name);
+    FILE *addresses = descriptor < 0 ? 0 : fdopen(descriptor, "w");
+    if (!addresses) die("cannot write to " P_tmpdir);
+    int some = write_addresses(addresses, m);
+    if (fclose(addresses)) die("cannot write to " P_tmpdir);
+    snprintf(rest, sizeof rest, "-a -i < %s", name);
+    FILE *f = some ? run_tool("addr2line -e", m->path, rest) : 0;
+    if (f) {
+        read_places(f, m);
+        end_tool(f);
+    }
+    unlink(name);
+}
+
+static char *address_place(u64 caller) {
+    char text[PLACE_BYTES];
+    module *m = module_at(caller);
+    if (m) snprintf(text, sizeof text, "%.900s+0x%lx", leaf(m->path), caller - m->base - 1);
+    else snprintf(text, sizeof text, "0x%lx", caller);
+    return copy(tidy(text));
+}
+
+void find_places(void) {
+    places = zeroed(callers.count + 1, sizeof *places);
+    for (int i = 0; i < module_count; i++) find_places_in(&modules[i]);
+    for (u64 i = 0; i < callers.capacity; i++) {
+        char **place = &places[callers.values[i]];
+        if (!callers.values[i]) continue;
+        if (!*place) *place = address_place(callers.keys[2 * i]);
+        else if (strlen(*place) > PLACE_BYTES) *place += strlen(*place) - PLACE_BYTES;
+        else *place = copy(leaf(*place));
+    }
+}
+
+const char *place_of(u64 caller) {
+    u32 number = map_find(&callers, caller, 0);
+    return number ? places[number] : "?";
+}

@@ -1,0 +1,236 @@
+/* Objects: locks, and all whose order is told by locks. */
+#include <stdio.h>
+#include <string.h>
+#include "converter.h"
+
+typedef struct {
+    u64 at;
+    u32 block, user;                   /* the block's number; the first thread that used it, plus one */
+    u32 holder, depth;                 /* of a lock: the thread that took it, plus one, and how often */
+    u32 version, head;                 /* how often it was stored to; the version that heads the release sequence */
+    u32 posts, *waiters;               /* of a semaphore; of a reader-writer lock: the readers since the last writer */
+    u64 waiter_count, waiter_capacity;
+    u32 count, users, arrivals;        /* of a barrier */
+    uint8_t many_users, recounted;     /* recounted: begun again with another count */
+    uint8_t foreign;                   /* released by another thread than took it */
+} object;
+
+static object *objects;
+static u64 object_count, object_capacity;
+static map object_map, seen_map, version_map;
+static u32 *seen;                      /* for object and thread: the last version, post or round that it has seen */
+static u64 seen_count, seen_capacity;
+static u32 *version_readers;           /* for object and version: the list of those who will read it */
+static u64 version_count, version_capacity;
+
+static object *object_at(u64 address) {
+    u32 block = block_number(block_at(address)), number = map_number(&object_map, address, block);
+    if (number > object_count) {
+        GROW(objects, object_count, object_capacity);
+        objects[object_count++] = (object){.at = address, .block = block};
+    }
+    return &objects[number - 1];
+}
+
+static u32 *seen_by(object *o, u32 t) {
+    u32 number = map_number(&seen_map, o - objects, t);
+    if (number > seen_count) {
+        GROW(seen, seen_count, seen_capacity);
+        seen[seen_count++] = 0;
+    }
+    return &seen[number - 1];
+}
+
+static void new_version(object *o, u32 t) { *seen_by(o, t) = ++o->version; }
+
+static int sees_version(object *o, u32 t) {                  /* for the first time */
+    u32 *last = seen_by(o, t);
+    if (*last == o->version) return 0;
+    *last = o->version;
+    return 1;
+}
+
+static void add_waiter(object *o, u32 t) {
+    for (u64 i = 0; i < o->waiter_count; i++)
+        if (o->waiters[i] == t) return;
+    GROW(o->waiters, o->waiter_count, o->waiter_capacity);
+    o->waiters[o->waiter_count++] = t;
+}
+
+/* ---- 3: who uses and who reads what ---- */
+/* A store passes what it carries to each of its readers by a lock of these two alone, so that no reader orders
+   another.  For this the readers of each version are found first. */
+static void will_read(object *o, u32 t) {
+    if (!sees_version(o, t)) return;
+    u32 number = map_number(&version_map, o - objects, o->version);
+    if (number > version_count) {
+        GROW(version_readers, version_count, version_capacity);
+        version_readers[version_count++] = 0;
+    }
+    add_to_list(&version_readers[number - 1], t);
+}
+
+static void share_lock(object *o, u32 t, enum operation operation) {
+    int taken = o->depth && o->holder == t + 1;
+    if (operation == OP_LOCK) {
+        if (o->depth && !taken) o->foreign = 1;
+        o->holder = t + 1;
+        o->depth++;
+    } else if (operation == OP_UNLOCK) {
+        if (!taken) o->foreign = 1;
+        if (o->depth) o->depth--;
+    } else {
+        if (o->depth) o->foreign = 1;
+        o->depth = 0;
+    }
+}
+
+void share_object(u64 i) {
+    u32 t = thread_of(i);
+    enum operation operation = operation_of(i);
+    object *o = object_at(address_of(i));
+    if (!o->user) o->user = t + 1;
+    if (o->user != t + 1) o->many_users = 1;
+    switch (operation) {
+    case OP_LOCK: case OP_UNLOCK: case OP_LOCK_INIT: share_lock(o, t, operation); break;
+    case OP_ATOMIC_LOAD: case OP_READ_LOCK: will_read(o, t); break;
+    case OP_ATOMIC_STORE: case OP_ATOMIC_UPDATE: new_version(o, t); break;
+    case OP_WRITE_LOCK: o->holder = t + 1; break;
+    case OP_RW_UNLOCK:
+        if (o->holder != t + 1) break;
+        o->holder = 0;
+        new_version(o, t);
+        break;
+    case OP_WAIT: add_waiter(o, t); break;
+    case OP_BARRIER_INIT:
+        if (o->count && o->count != size_of(i)) o->recounted = 1;
+        o->count = size_of(i);
+        break;
+    case OP_ARRIVE:
+        if (!*seen_by(o, t)) o->users++;
+        *seen_by(o, t) = 1;
+        break;
+    default: break;
+    }
+}
+
+void forget_states(void) {
+    for (u64 i = 0; i < object_count; i++) objects[i].depth = objects[i].holder = objects[i].version = 0;
+    if (seen_count) memset(seen, 0, seen_count * sizeof *seen);
+}
+
+/* ---- 4: events ---- */
+static void lock_event(object *o, u32 t, const char *operation, const char *tail, u64 caller) {
+    event(t, operation, variable_name(o->at, block_at(o->at)), tail, caller);
+}
+
+static void pass_lock(object *o, u32 t, const char *tail, u64 caller) {
+    lock_event(o, t, "acq", tail, caller);
+    lock_event(o, t, "rel", tail, caller);
+}
+
+/* Locks of the object's own: "X@3"; "X@3>T2" (passed to T2), "X@3<T2" (passed by T2). */
+static const char *tail(u32 version) {
+    static char text[20];
+    snprintf(text, sizeof text, "@%u", version);
+    return text;
+}
+
+static const char *thread_tail(u32 version, char sign, u32 t) {
+    static char text[120];
+    snprintf(text, sizeof text, "@%u%c%s", version, sign, thread_name(t));
+    return text;
+}
+
+static void publish(object *o, u32 t, u64 caller) {
+    u32 number = map_find(&version_map, o - objects, o->version);
+    for (u32 k = number ? version_readers[number - 1] : 0; k; k = list_entries[k - 1].next)
+        pass_lock(o, t, thread_tail(o->version, '>', list_entries[k - 1].thread), caller);
+}
+
+static void receive(object *o, u32 t, u64 caller) {
+    if (sees_version(o, t)) pass_lock(o, t, thread_tail(o->version, '>', t), caller);
+}
+
+static void load_events(u64 i, object *o) {
+    receive(o, thread_of(i), caller_of(i));
+    access_events(i);
+}
+
+/* An update takes what the store at the head of its release sequence gave, and all updates since. */
+static void store_events(u64 i, object *o) {
+    u32 t = thread_of(i);
+    new_version(o, t);
+    if (operation_of(i) == OP_ATOMIC_STORE) o->head = o->version;
+    lock_event(o, t, "acq", tail(o->head), caller_of(i));
+    access_events(i);
+    lock_event(o, t, "rel", tail(o->head), caller_of(i));
+    publish(o, t, caller_of(i));
+}
+
+static void write_lock_events(object *o, u32 t, u64 caller) {
+    pass_lock(o, t, tail(o->version), caller);
+    for (u64 k = 0; k < o->waiter_count; k++) pass_lock(o, t, thread_tail(o->version, '<', o->waiters[k]), caller);
+    o->waiter_count = 0;
+    o->holder = t + 1;
+}
+
+static void rw_unlock_events(object *o, u32 t, u64 caller) {
+    if (o->holder != t + 1) {          /* a reader */
+        pass_lock(o, t, thread_tail(o->version, '<', t), caller);
+        add_waiter(o, t);
+        return;
+    }
+    o->holder = 0;
+    new_version(o, t);
+    pass_lock(o, t, tail(o->version), caller);
+    publish(o, t, caller);
+}
+
+static void post_events(object *o, u32 t, u64 caller) {
+    o->posts++;
+    for (u64 k = 0; k < o->waiter_count; k++)
+        if (o->waiters[k] != t) pass_lock(o, t, thread_tail(o->posts, '>', o->waiters[k]), caller);
+}
+
+static void wait_events(object *o, u32 t, u64 caller) {
+    u32 *last = seen_by(o, t);
+    for (u32 k = *last + 1; k <= o->posts && !cut_reason; k++) pass_lock(o, t, thread_tail(k, '>', t), caller);
+    *last = o->posts;
+}
+
+static void arrive_events(object *o, u32 t, u64 caller) {    /* rounds are told apart where no thread can skip one */
+    int has_rounds = o->count && o->users <= o->count && !o->recounted;
+    u32 round = has_rounds ? o->arrivals / o->count : 0;
+    o->arrivals++;
+    *seen_by(o, t) = round;
+    pass_lock(o, t, tail(round), caller);
+}
+
+static void order_events(u64 i, object *o) {
+    u32 t = thread_of(i);
+    u64 caller = caller_of(i);
+    switch (operation_of(i)) {
+    case OP_LOCK: case OP_UNLOCK:
+        if (o->foreign) pass_lock(o, t, "", caller);
+        else lock_event(o, t, operation_of(i) == OP_LOCK ? "acq" : "rel", "", caller);
+        break;
+    case OP_READ_LOCK: receive(o, t, caller); break;
+    case OP_WRITE_LOCK: write_lock_events(o, t, caller); break;
+    case OP_RW_UNLOCK: rw_unlock_events(o, t, caller); break;
+    case OP_POST: post_events(o, t, caller); break;
+    case OP_WAIT: wait_events(o, t, caller); break;
+    case OP_ARRIVE: arrive_events(o, t, caller); break;
+    case OP_DEPART: pass_lock(o, t, tail(*seen_by(o, t)), caller); break;
+    case OP_ATOMIC_LOAD: load_events(i, o); break;
+    case OP_ATOMIC_STORE: case OP_ATOMIC_UPDATE: store_events(i, o); break;
+    default: break;
+    }
+}
+
+void object_events(u64 i) {
+    object *o = object_at(address_of(i));
+    int orders = o->many_users || whole_trace;
+    if (!is_atomic(i) || !orders) access_events(i);
+    if (orders) order_events(i, o);
+}

@@ -1,0 +1,93 @@
+/* The record as it stands in the file, and what each of its entries accesses. */
+#define _GNU_SOURCE
+#include <errno.h>
+#include <fcntl.h>
+#include <string.h>
+#include <sys/mman.h>
+#include <sys/stat.h>
+#include "converter.h"
+
+enum { MAX_FREED = 1024 };
+#define MAX_SIZE (1ull << 36)
+
+static struct record *records;
+u64 record_count;
+
+enum operation operation_of(u64 i) { return records[i].what >> 48 & 63; }
+u64 address_of(u64 i) { return records[i].where & LOW_48_BITS; }
+u64 caller_of(u64 i) { return records[i].what & LOW_48_BITS; }
+u32 thread_of(u64 i) { return records[i].where >> 48; }
+
+static int size_follows(u64 i) { return records[i].what >> 54 == SIZE_FOLLOWS; }
+
+u64 size_of(u64 i) { return size_follows(i) ? records[i + 1].where : records[i].what >> 54; }
+
+static int is_good(u64 i) {
+    enum operation operation = operation_of(i);
+    if (operation == OP_NONE || operation >= OPERATIONS) return 0;
+    if (operation == OP_SIZE) return i > 0 && size_follows(i - 1) && !size_follows(i);
+    if (size_follows(i) && (operation_of(i + 1) != OP_SIZE || size_of(i) >= MAX_SIZE)) return 0;
+    return (operation != OP_FORK && operation != OP_JOIN) || address_of(i) < THREADS;
+}
+
+static char *map_file(const char *path, u64 *size) {
+    int f = open(path, O_RDONLY);
+    struct stat status;
+    if (f < 0 || fstat(f, &status)) die("cannot read %s: %s", path, strerror(errno));
+    *size = status.st_size;
+    if (!S_ISREG(status.st_mode) || *size < HEADER_BYTES) die("%s is no record", path);
+    char *file = mmap(0, *size, PROT_READ, MAP_PRIVATE, f, 0);
+    if (file == MAP_FAILED) die("cannot read %s: %s", path, strerror(errno));
+    return file;
+}
+
+void open_record(const char *path) {
+    static char header[HEADER_BYTES + 1];
+    u64 size;
+    char *file = map_file(path, &size);
+    if (strncmp(file, RECORD_MAGIC, strlen(RECORD_MAGIC))) die("%s is no record", path);
+    records = (struct record *)(file + HEADER_BYTES);
+    u64 most = (size - HEADER_BYTES) / sizeof *records;
+    while (record_count < most && records[record_count].what) record_count++;
+    if (record_count && size_follows(record_count - 1)) record_count--;  /* cut in two */
+    for (u64 i = 0; i < record_count; i++)
+        if (!is_good(i)) die("record %lu of %s is damaged", i + 1, path);
+    memcpy(header, file, HEADER_BYTES);
+    read_modules(header);
+}
+
+/* ---- what a record accesses ---- */
+int is_atomic(u64 i) { return operation_of(i) >= OP_ATOMIC_LOAD && operation_of(i) <= OP_ATOMIC_UPDATE; }
+int writes_atomically(u64 i) { return is_atomic(i) && operation_of(i) != OP_ATOMIC_LOAD; }
+
+int writes_plainly(u64 i) {
+    enum operation operation = operation_of(i);
+    return operation == OP_WRITE || operation == OP_FREE || operation == OP_DESTROY;
+}
+
+int is_for_object(u64 i) { return is_atomic(i) || (operation_of(i) >= OP_LOCK_INIT && operation_of(i) < OP_USE); }
+
+/* The use of a lock is a read of its first byte.  A descriptor is no memory; who leaves a barrier uses it no more, for
+   POSIX lets another thread end it then. */
+static int uses_object(u64 i) {
+    enum operation operation = operation_of(i);
+    return address_of(i) < FIRST_DESCRIPTOR && operation >= OP_LOCK && operation <= OP_USE
+        && operation != OP_BARRIER_INIT && operation != OP_DEPART;
+}
+
+/* Of a block that was seen; its allocator may free more than was asked for. */
+static u64 freed_bytes(u64 address) {
+    block *b = block_at(address);
+    if (!b || b->at != address) return 0;
+    return b->size < MAX_FREED ? b->size : MAX_FREED;
+}
+
+u64 accessed_bytes(u64 i) {
+    switch (operation_of(i)) {
+    case OP_READ: case OP_WRITE:
+    case OP_ATOMIC_LOAD: case OP_ATOMIC_STORE: case OP_ATOMIC_UPDATE: return size_of(i);
+    case OP_FREE: return freed_bytes(address_of(i));
+    case OP_DESTROY: return 1;
+    default: return uses_object(i);
+    }
+}

@@ -1,0 +1,27 @@
+/* The record: a file that the run-time library writes and the converter reads.
+
+   HEADER_BYTES of text: the magic line, then a line "LOW HIGH BASE PATH" (hexadecimal numbers) for each module of code.
+   Then records of 16 bytes in the order in which things happened, until one of zeros or the file's end. */
+#include <stdint.h>
+
+#define RECORD_MAGIC "shb-record 2\n"
+#define HEADER_BYTES 65536
+#define LOW_48_BITS 0xffffffffffffull
+#define FIRST_DESCRIPTOR (1ul << 47)   /* no program's address: descriptor D is at 16 D behind it, its data 8 further */
+#define SIZE_FOLLOWS 1023              /* such a size or a greater one stands in a record OP_SIZE behind this one */
+
+struct record {
+    uint64_t where;                    /* 48 bits: the address (of a fork or join: the other thread); 16: the thread */
+    uint64_t what;                     /* 48 bits: the return address of the call; 6: the operation; 10: the size */
+};
+
+enum operation {
+    OP_NONE, OP_SIZE,
+    OP_READ, OP_WRITE, OP_ATOMIC_LOAD, OP_ATOMIC_STORE, OP_ATOMIC_UPDATE,
+    OP_FORK, OP_JOIN, OP_START, OP_ALLOC, OP_FREE,
+    OP_LOCK_INIT, OP_LOCK, OP_UNLOCK, OP_READ_LOCK, OP_WRITE_LOCK, OP_RW_UNLOCK,
+    OP_POST, OP_WAIT, OP_BARRIER_INIT, OP_ARRIVE, OP_DEPART,
+    OP_USE,                            /* a use of an object that orders nothing */
+    OP_DESTROY,                        /* the end of an object, or a second beginning */
+    OPERATIONS
+};

@@ -1,0 +1,217 @@
+/* The calls that order threads: each is recorded and passed on.  A call that takes something (a lock, a token) is
+   recorded after it, one that gives something before it; a call that may wait does so without the turn. */
+#define _GNU_SOURCE
+#include <errno.h>
+#include <semaphore.h>
+#include <sys/syscall.h>
+#include <threads.h>
+#include <time.h>
+#include <unistd.h>
+#include "runtime.h"
+
+typedef const struct timespec *deadline;
+
+/* ---- the shapes of the calls below; r is what the real call gives ---- */
+/* TAKES: it may wait; recorded after it, if it was done.  The quick form is tried first, for it needs no hand-over. */
+#define TAKES(name, operation, object, busy, quick, done, parameters, arguments) \
+    PUBLIC int name parameters { \
+        thread *t = enter(MAY_YIELD); \
+        if (!t) return REAL(name) arguments; \
+        int r = quick; \
+        if (busy) r = BLOCKING(t, REAL(name) arguments); \
+        if (done) put(t, operation, object, 0, CALLER); \
+        leave(t); \
+        return r; \
+    }
+/* TRIES: as TAKES, but never waits. */
+#define TRIES(name, operation, object, done, parameters, arguments) \
+    PUBLIC int name parameters { \
+        thread *t = enter(MAY_YIELD); \
+        int r = REAL(name) arguments; \
+        if (!t) return r; \
+        if (done) put(t, operation, object, 0, CALLER); \
+        else note_spin(t, CALLER); \
+        leave(t); \
+        return r; \
+    }
+/* GIVES: recorded before it; never waits. */
+#define GIVES(name, operation, object, size, parameters, arguments) \
+    PUBLIC int name parameters { \
+        thread *t = enter(MAY_YIELD); \
+        if (t) put(t, operation, object, size, CALLER); \
+        int r = REAL(name) arguments; \
+        if (t) leave(t); \
+        return r; \
+    }
+/* BEGINS: makes an object; while there are threads that is a write of it, too. */
+#define BEGINS(name, operation, object, size, parameters, arguments) \
+    PUBLIC int name parameters { \
+        thread *t = enter(MAY_YIELD); \
+        if (t && others) put(t, OP_DESTROY, object, 0, CALLER); \
+        if (t) put(t, operation, object, size, CALLER); \
+        int r = REAL(name) arguments; \
+        if (t) leave(t); \
+        return r; \
+    }
+/* ENDS: recorded before it; it may wait for those who still use the object. */
+#define ENDS(type, name, parameter) \
+    PUBLIC type name(parameter *object) { \
+        thread *t = others ? enter(MAY_YIELD) : 0; \
+        if (t) { \
+            put(t, OP_DESTROY, object, 0, CALLER); \
+            give_turn(t); \
+            leave(t); \
+        } \
+        return REAL(name)(object); \
+    }
+#define LOCKS(name, operation, quick, parameters, arguments) \
+    TAKES(name, operation, m, r == EBUSY, REAL(quick)(m), !r || r == EOWNERDEAD, parameters, arguments)
+#define TRIES_LOCK(name, operation, type) TRIES(name, operation, m, !r || r == EOWNERDEAD, (type *m), (m))
+
+/* ---- locks ---- */
+LOCKS(pthread_mutex_lock, OP_LOCK, pthread_mutex_trylock, (pthread_mutex_t *m), (m))
+LOCKS(pthread_mutex_timedlock, OP_LOCK, pthread_mutex_trylock, (pthread_mutex_t *m, deadline d), (m, d))
+LOCKS(pthread_mutex_clocklock, OP_LOCK, pthread_mutex_trylock, (pthread_mutex_t *m, clockid_t c, deadline d), (m, c, d))
+TRIES_LOCK(pthread_mutex_trylock, OP_LOCK, pthread_mutex_t)
+GIVES(pthread_mutex_unlock, OP_UNLOCK, m, 0, (pthread_mutex_t *m), (m))
+BEGINS(pthread_mutex_init, OP_LOCK_INIT, m, 0, (pthread_mutex_t *m, const pthread_mutexattr_t *a), (m, a))
+ENDS(int, pthread_mutex_destroy, pthread_mutex_t)
+
+LOCKS(pthread_rwlock_rdlock, OP_READ_LOCK, pthread_rwlock_tryrdlock, (pthread_rwlock_t *m), (m))
+LOCKS(pthread_rwlock_wrlock, OP_WRITE_LOCK, pthread_rwlock_trywrlock, (pthread_rwlock_t *m), (m))
+LOCKS(pthread_rwlock_timedrdlock, OP_READ_LOCK, pthread_rwlock_tryrdlock, (pthread_rwlock_t *m, deadline d), (m, d))
+LOCKS(pthread_rwlock_timedwrlock, OP_WRITE_LOCK, pthread_rwlock_trywrlock, (pthread_rwlock_t *m, deadline d), (m, d))
+LOCKS(pthread_rwlock_clockrdlock, OP_READ_LOCK, pthread_rwlock_tryrdlock, (pthread_rwlock_t *m, clockid_t c, deadline d), (m, c, d))
+LOCKS(pthread_rwlock_clockwrlock, OP_WRITE_LOCK, pthread_rwlock_trywrlock, (pthread_rwlock_t *m, clockid_t c, deadline d), (m, c, d))
+TRIES_LOCK(pthread_rwlock_tryrdlock, OP_READ_LOCK, pthread_rwlock_t)
+TRIES_LOCK(pthread_rwlock_trywrlock, OP_WRITE_LOCK, pthread_rwlock_t)
+GIVES(pthread_rwlock_unlock, OP_RW_UNLOCK, m, 0, (pthread_rwlock_t *m), (m))
+BEGINS(pthread_rwlock_init, OP_LOCK_INIT, m, 0, (pthread_rwlock_t *m, const pthread_rwlockattr_t *a), (m, a))
+ENDS(int, pthread_rwlock_destroy, pthread_rwlock_t)
+
+TRIES_LOCK(pthread_spin_trylock, OP_LOCK, pthread_spinlock_t)
+GIVES(pthread_spin_unlock, OP_UNLOCK, m, 0, (pthread_spinlock_t *m), (m))
+BEGINS(pthread_spin_init, OP_LOCK_INIT, m, 0, (pthread_spinlock_t *m, int shared), (m, shared))
+ENDS(int, pthread_spin_destroy, pthread_spinlock_t)
+PUBLIC int pthread_spin_lock(pthread_spinlock_t *m) {
+    thread *t = enter(MAY_YIELD);
+    if (!t) return REAL(pthread_spin_lock)(m);
+    int error;
+    while ((error = REAL(pthread_spin_trylock)(m)) == EBUSY) BLOCKING(t, syscall(SYS_sched_yield));
+    if (!error) put(t, OP_LOCK, m, 0, CALLER);
+    leave(t);
+    return error;
+}
+
+#define C11_LOCKS(name, parameters, arguments) \
+    TAKES(name, OP_LOCK, m, r == thrd_busy, REAL(mtx_trylock)(m), r == thrd_success, parameters, arguments)
+C11_LOCKS(mtx_lock, (mtx_t *m), (m))
+C11_LOCKS(mtx_timedlock, (mtx_t *m, deadline d), (m, d))
+TRIES(mtx_trylock, OP_LOCK, m, r == thrd_success, (mtx_t *m), (m))
+GIVES(mtx_unlock, OP_UNLOCK, m, 0, (mtx_t *m), (m))
+BEGINS(mtx_init, OP_LOCK_INIT, m, 0, (mtx_t *m, int type), (m, type))
+ENDS(void, mtx_destroy, mtx_t)
+
+/* ---- conditions: the mutex is given up and taken again; a signal orders nothing by itself ---- */
+struct waking { thread *t; void *mutex; uint64_t caller; };
+
+static void has_woken(void *waking_) {                       /* also where the wait was cancelled */
+    struct waking *waking = waking_;
+    waking->t->inside = 1;
+    take_turn(waking->t);
+    put(waking->t, OP_LOCK, waking->mutex, 0, waking->caller);
+    leave(waking->t);
+}
+
+#define WAITS(name, parameters, arguments) \
+    PUBLIC int name parameters { \
+        thread *t = enter(MAY_YIELD); \
+        if (!t) return REAL(name) arguments; \
+        struct waking waking = {t, m, CALLER}; \
+        put(t, OP_USE, c, 0, CALLER); \
+        put(t, OP_UNLOCK, m, 0, CALLER); \
+        int r; \
+        pthread_cleanup_push(has_woken, &waking); \
+        give_turn(t); \
+        leave(t); \
+        r = REAL(name) arguments; \
+        pthread_cleanup_pop(1); \
+        return r; \
+    }
+WAITS(pthread_cond_wait, (pthread_cond_t *c, pthread_mutex_t *m), (c, m))
+WAITS(pthread_cond_timedwait, (pthread_cond_t *c, pthread_mutex_t *m, deadline d), (c, m, d))
+WAITS(pthread_cond_clockwait, (pthread_cond_t *c, pthread_mutex_t *m, clockid_t k, deadline d), (c, m, k, d))
+GIVES(pthread_cond_signal, OP_USE, c, 0, (pthread_cond_t *c), (c))
+GIVES(pthread_cond_broadcast, OP_USE, c, 0, (pthread_cond_t *c), (c))
+ENDS(int, pthread_cond_destroy, pthread_cond_t)
+WAITS(cnd_wait, (cnd_t *c, mtx_t *m), (c, m))
+WAITS(cnd_timedwait, (cnd_t *c, mtx_t *m, deadline d), (c, m, d))
+GIVES(cnd_signal, OP_USE, c, 0, (cnd_t *c), (c))
+GIVES(cnd_broadcast, OP_USE, c, 0, (cnd_t *c), (c))
+ENDS(void, cnd_destroy, cnd_t)
+
+/* ---- semaphores, barriers, once ---- */
+#define WAITS_FOR_TOKEN(name, parameters, arguments) \
+    TAKES(name, OP_WAIT, s, r && errno == EAGAIN, REAL(sem_trywait)(s), !r, parameters, arguments)
+WAITS_FOR_TOKEN(sem_wait, (sem_t *s), (s))
+WAITS_FOR_TOKEN(sem_timedwait, (sem_t *s, deadline d), (s, d))
+WAITS_FOR_TOKEN(sem_clockwait, (sem_t *s, clockid_t c, deadline d), (s, c, d))
+TRIES(sem_trywait, OP_WAIT, s, !r, (sem_t *s), (s))
+GIVES(sem_post, OP_POST, s, 0, (sem_t *s), (s))
+ENDS(int, sem_destroy, sem_t)
+
+BEGINS(pthread_barrier_init, OP_BARRIER_INIT, b, n, (pthread_barrier_t *b, const pthread_barrierattr_t *a, unsigned n), (b, a, n))
+ENDS(int, pthread_barrier_destroy, pthread_barrier_t)
+PUBLIC int pthread_barrier_wait(pthread_barrier_t *b) {
+    thread *t = enter(MAY_YIELD);
+    if (!t) return REAL(pthread_barrier_wait)(b);
+    put(t, OP_ARRIVE, b, 0, CALLER);
+    int r = BLOCKING(t, REAL(pthread_barrier_wait)(b));
+    put(t, OP_DEPART, b, 0, CALLER);
+    leave(t);
+    return r;
+}
+
+static __thread struct { void (*function)(void); void *flag; } once;
+static void run_once(void) {
+    void *flag = once.flag;            /* the function may come to another once */
+    once.function();
+    note(OP_POST, flag, CALLER);
+}
+PUBLIC int pthread_once(pthread_once_t *flag, void (*function)(void)) {
+    thread *t = enter(MAY_YIELD);
+    if (!t) return REAL(pthread_once)(flag, function);
+    give_turn(t);
+    leave(t);
+    once.function = function;
+    once.flag = flag;
+    int error = REAL(pthread_once)(flag, run_once);
+    note(OP_WAIT, flag, CALLER);
+    return error;
+}
+PUBLIC void call_once(once_flag *flag, void (*function)(void)) { pthread_once((pthread_once_t *)flag, function); }
+
+/* of C++ local statics: like an atomic byte */
+int __cxa_guard_acquire(char *), __cxa_guard_release(char *);
+PUBLIC int __cxa_guard_acquire(char *byte) {
+    thread *t = enter(MAY_YIELD);
+    if (!t) return REAL(__cxa_guard_acquire)(byte);
+    int r = BLOCKING(t, REAL(__cxa_guard_acquire)(byte));
+    if (others) put(t, OP_ATOMIC_LOAD, byte, 1, CALLER);
+    leave(t);
+    return r;
+}
+PUBLIC int __cxa_guard_release(char *byte) {
+    if (others) {
+        thread *t = enter(MAY_YIELD);
+        if (t) put(t, OP_ATOMIC_STORE, byte, 1, CALLER);
+        if (t) leave(t);
+    }
+    return REAL(__cxa_guard_release)(byte);
+}
+
+/* said by the program itself */
+PUBLIC void __tsan_acquire(void *p) { note(OP_WAIT, p, CALLER); }
+PUBLIC void __tsan_release(void *p) { note(OP_POST, p, CALLER); }
+PUBLIC void AnnotateHappensBefore(const char *file, int line, const volatile void *p) { note(OP_POST, p, CALLER); }
+PUBLIC void AnnotateHappensAfter(const char *file, int line, const volatile void *p) { note(OP_WAIT, p, CALLER); }

@@ -1,0 +1,113 @@
+/* Functions that give, take, copy or fill memory. */
+#define _GNU_SOURCE
+#include <errno.h>
+#include <stdlib.h>
+#include <string.h>
+#include <sys/mman.h>
+#include <sys/syscall.h>
+#include <unistd.h>
+#include "runtime.h"
+
+void *__libc_malloc(size_t), *__libc_calloc(size_t, size_t), *__libc_realloc(void *, size_t), *__libc_memalign(size_t, size_t);
+void __libc_free(void *);
+
+/* ---- memory: a new block is new variables; a free is a write ---- */
+static void *allocated(void *p, size_t size, uint64_t caller) {
+    thread *t = p ? enter(NEVER_YIELD) : 0;
+    if (!t) return p;
+    put(t, OP_ALLOC, p, size ? size : 1, t->new_caller ? t->new_caller : caller);
+    leave(t);
+    return p;
+}
+
+/* What uninstrumented code frees, it may have ordered by means that nobody sees. */
+static void will_free(void *p, uint64_t caller) {
+    if (!p || !others || !instrumented(caller)) return;
+    thread *t = enter(NEVER_YIELD);
+    if (!t) return;
+    put(t, OP_FREE, p, 0, caller);
+    leave(t);
+}
+
+PUBLIC void *malloc(size_t n) { return allocated(__libc_malloc(n), n, CALLER); }
+PUBLIC void *calloc(size_t k, size_t n) { return allocated(__libc_calloc(k, n), k * n, CALLER); }
+PUBLIC void *memalign(size_t a, size_t n) { return allocated(__libc_memalign(a, n), n, CALLER); }
+PUBLIC void *aligned_alloc(size_t a, size_t n) { return allocated(__libc_memalign(a, n), n, CALLER); }
+PUBLIC void free(void *p) { will_free(p, CALLER); __libc_free(p); }
+
+PUBLIC void *realloc(void *p, size_t n) {
+    will_free(p, CALLER);
+    return allocated(__libc_realloc(p, n), n, CALLER);
+}
+
+PUBLIC int posix_memalign(void **result, size_t a, size_t n) {
+    if (a % sizeof(void *) || !a || a & (a - 1)) return EINVAL;
+    void *p = allocated(__libc_memalign(a, n), n, CALLER);
+    if (!p) return ENOMEM;
+    *result = p;
+    return 0;
+}
+
+PUBLIC void *mmap(void *at, size_t n, int protection, int flags, int f, off_t offset) {
+    void *p = (void *)syscall(SYS_mmap, at, n, protection, flags, f, offset);
+    return p == MAP_FAILED || protection == PROT_NONE ? p : allocated(p, n, CALLER);
+}
+PUBLIC void *mmap64(void *, size_t, int, int, int, off_t) __attribute__((alias("mmap")));
+
+/* C++: the block's place is that of the `new`, and the free below a `delete` is the program's. */
+void *_Znwm(size_t), *_Znam(size_t);
+void _ZdlPv(void *), _ZdaPv(void *), _ZdlPvm(void *, size_t), _ZdaPvm(void *, size_t);
+static void *called_new(void *(*real)(size_t), size_t n, uint64_t caller) {
+    thread *t = self;
+    if (!t || t->new_caller) return real(n);
+    t->new_caller = caller;
+    void *p = real(n);
+    t->new_caller = 0;
+    return p;
+}
+PUBLIC void *_Znwm(size_t n) { return called_new(REAL(_Znwm), n, CALLER); }
+PUBLIC void *_Znam(size_t n) { return called_new(REAL(_Znam), n, CALLER); }
+PUBLIC void _ZdlPv(void *p) { will_free(p, CALLER); __libc_free(p); }
+PUBLIC void _ZdaPv(void *p) { will_free(p, CALLER); __libc_free(p); }
+PUBLIC void _ZdlPvm(void *p, size_t n) { will_free(p, CALLER); __libc_free(p); }
+PUBLIC void _ZdaPvm(void *p, size_t n) { will_free(p, CALLER); __libc_free(p); }
+
+/* ---- ranges: never yields, for this may be the tail of a structure's copy ---- */
+static void note_copy(void *to, const void *from, size_t n, uint64_t caller) {
+    thread *t = others && n && instrumented(caller) ? enter(NEVER_YIELD) : 0;
+    if (!t) return;
+    if (from) put(t, OP_READ, from, n, caller);
+    put(t, OP_WRITE, to, n, caller);
+    t->wrote = 0;
+    leave(t);
+}
+
+static void copy_up(void *to, const void *from, size_t n) {
+    __asm__ volatile("rep movsb" : "+D"(to), "+S"(from), "+c"(n) : : "memory");
+}
+
+static void copy_down(void *to, const void *from, size_t n) {
+    char *last = (char *)to + n - 1;
+    const char *source = (const char *)from + n - 1;
+    __asm__ volatile("std; rep movsb; cld" : "+D"(last), "+S"(source), "+c"(n) : : "memory");
+}
+
+PUBLIC void *memcpy(void *to, const void *from, size_t n) {
+    note_copy(to, from, n, CALLER);
+    copy_up(to, from, n);
+    return to;
+}
+
+PUBLIC void *memmove(void *to, const void *from, size_t n) {
+    note_copy(to, from, n, CALLER);
+    if ((uint64_t)to - (uint64_t)from >= n) copy_up(to, from, n);
+    else copy_down(to, from, n);
+    return to;
+}
+
+PUBLIC void *memset(void *to, int c, size_t n) {
+    note_copy(to, 0, n, CALLER);
+    void *p = to;
+    __asm__ volatile("rep stosb" : "+D"(p), "+c"(n) : "a"(c) : "memory");
+    return to;
+}

@@ -1,0 +1,76 @@
+/* The modules of code in the program: which are instrumented, and the functions behind those that stand here. */
+#define _GNU_SOURCE
+#include <dlfcn.h>
+#include <limits.h>
+#include <link.h>
+#include <stdio.h>
+#include <string.h>
+#include <unistd.h>
+#include "runtime.h"
+
+enum { MAX_MODULES = 256 };
+static struct { uint64_t low, high; } modules[MAX_MODULES];    /* the instrumented ones */
+static int module_count;
+
+int instrumented(uint64_t caller) {
+    for (int i = 0; i < module_count; i++)
+        if (caller >= modules[i].low && caller < modules[i].high) return 1;
+    return 0;
+}
+
+static void note_module(struct dl_phdr_info *info, uint64_t low, uint64_t high) {
+    char path[PATH_MAX] = "", line[PATH_MAX + 64];
+    if (!*info->dlpi_name && readlink("/proc/self/exe", path, sizeof path - 1) < 0) return;
+    snprintf(line, sizeof line, "%lx %lx %lx %s\n", low, high, (long)info->dlpi_addr, *path ? path : info->dlpi_name);
+    note_text(line);
+}
+
+/* Compiled with -fsanitize=thread is what imports the hooks.  (Who calls __tsan_init says less: it may be a jump.) */
+static int imports_hooks(struct dl_phdr_info *info, const ElfW(Phdr) *dynamic) {
+    static const char name[] = "\0__tsan_init";
+    uint64_t strings = 0, size = 0;
+    for (ElfW(Dyn) *d = (void *)(info->dlpi_addr + dynamic->p_vaddr); d->d_tag != DT_NULL; d++) {
+        if (d->d_tag == DT_STRTAB) strings = d->d_un.d_ptr;
+        if (d->d_tag == DT_STRSZ) size = d->d_un.d_val;
+    }
+    if (strings < info->dlpi_addr) strings += info->dlpi_addr;
+    return strings && memmem((void *)strings, size, name, sizeof name);
+}
+
+static int see_module(struct dl_phdr_info *info, size_t size, void *unused) {
+    uint64_t low = ~0ull, high = 0;
+    int hooks = 0;
+    for (int i = 0; i < info->dlpi_phnum; i++) {
+        const ElfW(Phdr) *part = &info->dlpi_phdr[i];
+        uint64_t from = info->dlpi_addr + part->p_vaddr;
+        if (part->p_type == PT_DYNAMIC) hooks = imports_hooks(info, part);
+        if (part->p_type != PT_LOAD) continue;
+        if (from < low) low = from;
+        if (from + part->p_memsz > high) high = from + part->p_memsz;
+    }
+    note_module(info, low, high);
+    if (!hooks || instrumented(low) || module_count == MAX_MODULES) return 0;
+    modules[module_count].low = low;
+    modules[module_count++].high = high;
+    return 0;
+}
+
+void *next_symbol(const char *name) {
+    void *p = 0;
+    if (!strncmp(name, "pthread_cond_", 13)) p = dlvsym(RTLD_NEXT, name, "GLIBC_2.3.2");   /* not the older interface */
+    return p ? p : dlsym(RTLD_NEXT, name);
+}
+
+static int count_modules(struct dl_phdr_info *info, size_t size, void *count) {
+    *(unsigned long long *)count = info->dlpi_adds;
+    return 1;
+}
+
+PUBLIC void __tsan_init(void) {        /* called by each instrumented file's constructor, so also after a dlopen */
+    static unsigned long long seen;
+    unsigned long long count = 0;
+    dl_iterate_phdr(count_modules, &count);
+    if (count == seen) return;
+    seen = count;
+    dl_iterate_phdr(see_module, 0);
+}

@@ -1,0 +1,155 @@
+/* The file of the record: it is mapped, and grows in steps.  Whatever fails ends the recording and not the program. */
+#define _GNU_SOURCE
+#include <errno.h>
+#include <fcntl.h>
+#include <stdio.h>
+#include <string.h>
+#include <sys/mman.h>
+#include <sys/resource.h>
+#include <sys/syscall.h>
+#include <unistd.h>
+#include "runtime.h"
+
+#define STEP_BYTES (4 << 20)           /* the file grows by so much */
+
+int stall_seconds;
+static char *header;
+static struct record *records;
+static uint64_t written, most_records;
+static _Atomic uint64_t room;          /* records that the file has disk space for */
+static int file = -1;
+
+/* ---- disk space: taken before it is written, for a full disk would be a SIGBUS at the write ---- */
+static int add_space(uint64_t from, uint64_t bytes) {
+    static const char zeros[1 << 16];
+    if (syscall(SYS_fallocate, file, 0, from, bytes) == 0) return 1;
+    if (errno != EOPNOTSUPP && errno != ENOSYS) return 0;
+    for (uint64_t at = from; at < from + bytes; at += sizeof zeros)      /* this file system has no such call */
+        if (syscall(SYS_pwrite64, file, zeros, sizeof zeros, at) != sizeof zeros) return 0;
+    return 1;
+}
+
+static void grow(void) {
+    uint64_t have = atomic_load(&room);
+    int saved = errno, done = add_space(HEADER_BYTES + have * sizeof *records, STEP_BYTES);
+    if (done) atomic_compare_exchange_strong(&room, &have, have + STEP_BYTES / sizeof *records);
+    else if (errno != EINTR) {
+        char reason[120];
+        snprintf(reason, sizeof reason, "no disk space for the record (%s)", strerror(errno));
+        stop_recording(reason);
+    }
+    errno = saved;
+}
+
+/* ---- records ---- */
+/* Afterwards t has the turn and room for a record, or it answers 0.  The thread may sleep in grow, and then the turn
+   may be taken over: so it is asked for behind that. */
+int make_room(thread *t) {
+    for (;;) {
+        if (!keep_turn(t)) take_turn(t);
+        if (!recording) return 0;
+        if (written + 2 > most_records) {
+            stop_recording("SHB_RECORDS is reached");
+            return 0;
+        }
+        if (written + 2 <= atomic_load(&room)) return 1;
+        grow();
+    }
+}
+
+void put(thread *t, enum operation operation, const volatile void *address, uint64_t size, uint64_t caller) {
+    if (!make_room(t)) return;
+    uint64_t inside = size < SIZE_FOLLOWS ? size : SIZE_FOLLOWS;
+    struct record r = {((uint64_t)address & LOW_48_BITS) | (uint64_t)t->number << 48,
+                       (caller & LOW_48_BITS) | (uint64_t)operation << 48 | inside << 54};
+    struct record *before = written ? &records[written - 1] : 0;
+    if (operation == OP_READ && before && before->where == r.where && before->what == r.what)
+        return;                                              /* the same read with nothing in between */
+    records[written++] = r;
+    if (inside == SIZE_FOLLOWS) records[written++] = (struct record){size, (uint64_t)OP_SIZE << 48};
+}
+
+/* A hook of its own for one record. */
+void note(enum operation operation, const volatile void *object, uint64_t caller) {
+    int saved = errno;
+    thread *t = enter(MAY_YIELD);
+    if (t) {
+        put(t, operation, object, 0, caller);
+        leave(t);
+    }
+    errno = saved;
+}
+
+/* ---- begin and end ---- */
+void stop_recording(const char *reason) {
+    char text[240];
+    int n = snprintf(text, sizeof text, "shb recorder: %s; the recording ends here, the program goes on\n", reason);
+    if (end_turns()) syscall(SYS_write, 2, text, n);
+}
+
+/* The calls of the C library would be points where a thread may be cancelled. */
+int read_task_file(pid_t system_id, const char *leaf, char *text, int size) {
+    char path[64];
+    snprintf(path, sizeof path, "/proc/self/task/%d/%s", system_id, leaf);
+    int f = syscall(SYS_openat, AT_FDCWD, path, O_RDONLY | O_CLOEXEC, 0);
+    if (f < 0) return -errno;
+    int n = syscall(SYS_read, f, text, size - 1), error = errno;
+    syscall(SYS_close, f);
+    if (n < 0) return -error;
+    text[n] = 0;
+    return n;
+}
+
+static int refuse(const char *path) {
+    fprintf(stderr, "shb recorder: cannot write %s: %s; the program runs unrecorded\n", path, strerror(errno));
+    return 0;
+}
+
+/* Past the limit of a file's size a signal would kill the program: so there are fewer records, or none. */
+static int fit_size_limit(uint64_t *most) {
+    struct rlimit limit;
+    if (getrlimit(RLIMIT_FSIZE, &limit) || limit.rlim_cur >= HEADER_BYTES + *most * sizeof *records + STEP_BYTES) return 1;
+    errno = EFBIG;
+    if (limit.rlim_cur < 2 * STEP_BYTES) return 0;
+    *most = (limit.rlim_cur - STEP_BYTES - HEADER_BYTES) / sizeof *records;
+    return 1;
+}
+
+static int can_look_at_threads(void) { /* without it no turn could be taken over */
+    char text[512];
+    if (read_task_file(syscall(SYS_gettid), "syscall", text, sizeof text) > 0) return 1;
+    fprintf(stderr, "shb recorder: cannot read /proc/self/task/*/syscall; the program runs unrecorded\n");
+    return 0;
+}
+
+int open_recording(const char *path, uint64_t most) {
+    if (!can_look_at_threads()) return 0;
+    if (!fit_size_limit(&most)) return refuse(path);
+    file = open(path, O_RDWR | O_CREAT | O_TRUNC | O_CLOEXEC, 0666);
+    if (file < 0 || !add_space(0, HEADER_BYTES)) return refuse(path);
+    uint64_t bytes = HEADER_BYTES + most * sizeof *records;
+    void *map = mmap(0, bytes, PROT_READ | PROT_WRITE, MAP_SHARED | MAP_NORESERVE, file, 0);
+    if (map == MAP_FAILED) return refuse(path);
+    header = map;
+    records = (struct record *)(header + HEADER_BYTES);
+    most_records = most;
+    note_text(RECORD_MAGIC);
+    return 1;
+}
+
+/* With the turn nobody else writes, so the file can be cut.  Without it (the recording had ended before) a last record
+   may still be on its way: then the zeros behind the records stay. */
+void close_recording(void) {
+    thread *t = enter(NEVER_YIELD);
+    end_turns();
+    if (!t) return;
+    int failed = ftruncate(file, HEADER_BYTES + written * sizeof *records);
+    (void)failed;                                            /* then the zeros stay too */
+    leave(t);
+}
+
+void note_text(const char *line) {
+    if (!header) return;
+    size_t at = strlen(header), n = strlen(line);
+    if (at + n < HEADER_BYTES && !strstr(header, line)) memcpy(header + at, line, n);
+}

@@ -1,0 +1,79 @@
+/* What the parts of the run-time library share. */
+#include <pthread.h>
+#include <signal.h>
+#include <stdatomic.h>
+#include <stdint.h>
+#include <sys/types.h>
+#include "../record.h"
+
+#define PUBLIC __attribute__((visibility("default")))
+#define CALLER ((uint64_t)__builtin_return_address(0))
+
+typedef struct thread {
+    uint32_t number;                   /* in the order of creation, from 0 */
+    pid_t system_id;
+    pthread_t handle;
+    _Atomic int wakes;                 /* futex: raised to make the thread look at the turn again */
+    int quantum;                       /* hooks until it gives the turn to a waiter */
+    uint64_t last_read;                /* which read was its last, to see that it spins */
+    int spins;                         /* how often in a row it made that one */
+    volatile char inside;              /* the recorder: hooks met now are not recorded */
+    volatile char deferred;            /* a signal came meanwhile and waits for the end of the hook */
+    char wrote;                        /* its last hook was of a write */
+    char joined;
+    int exit_rounds;                   /* of destructors of thread-specific data */
+    uint64_t new_caller;               /* who called operator new */
+    void *(*function)(void *);         /* what it runs; or of a C11 thread the next */
+    int (*c11_function)(void *);
+    void *argument;
+    sigset_t mask;                     /* before a signal was deferred */
+} thread;
+
+/* turn.c: who runs.  Each hook is enter .. leave; enter gives no thread where nothing is to be recorded. */
+enum yields { NEVER_YIELD, MAY_YIELD };
+extern __thread thread *self __attribute__((tls_model("initial-exec")));
+extern volatile int recording;
+void begin_turns(int slice, uint64_t seed);
+int end_turns(void);                   /* all threads run free from here on; gives whether they took turns before */
+thread *new_thread(void);
+thread *thread_of(pthread_t handle);
+thread *enter(enum yields yields);
+void leave(thread *t);
+void give_turn(thread *t);
+void take_turn(thread *t);
+int keep_turn(thread *t);
+void note_spin(thread *t, uint64_t read);
+
+/* A call that may block, made inside a hook: without the turn, and its own hooks (of handlers, say) are recorded. */
+#define BLOCKING(t, call) ({ \
+    give_turn(t); \
+    leave(t); \
+    __typeof__(call) result_ = (call); \
+    (t)->inside = 1; \
+    take_turn(t); \
+    result_; \
+})
+
+/* recording.c: the file. */
+extern int stall_seconds;
+int open_recording(const char *path, uint64_t most_records);
+void close_recording(void);
+void stop_recording(const char *reason);
+void note_text(const char *line);      /* adds a line to the header */
+int make_room(thread *t);
+void put(thread *t, enum operation operation, const volatile void *address, uint64_t size, uint64_t caller);
+void note(enum operation operation, const volatile void *object, uint64_t caller);
+int read_task_file(pid_t system_id, const char *leaf, char *text, int size);
+
+/* modules.c */
+int instrumented(uint64_t caller);     /* lies the code in a module compiled with -fsanitize=thread? */
+void *next_symbol(const char *name);
+void __tsan_init(void);
+#define REAL(f) ({ \
+    static __typeof__(&f) real_; \
+    if (!real_) real_ = (__typeof__(&f))next_symbol(#f); \
+    real_; \
+})
+
+/* threads.c */
+extern volatile int others;            /* threads that were created and not joined */

@@ -1,0 +1,54 @@
+/* Signals: no handler runs inside a hook.  One that comes there is blocked, sent again, and comes after it.  What a
+   handler does is recorded as its thread's own. */
+#define _GNU_SOURCE
+#include <errno.h>
+#include <sys/syscall.h>
+#include <ucontext.h>
+#include <unistd.h>
+#include "runtime.h"
+
+/* ---- signals: no handler runs inside a hook.  One that comes there is blocked, sent again, and comes after it.  What
+   a handler does is recorded as its thread's own. ---- */
+static struct sigaction handlers[NSIG];
+enum { HANDLER_HOOKS = 1000 };         /* so many before a handler may give the turn up: an access may lie under it */
+
+static int from_the_code_itself(int signal) {
+    return signal == SIGSEGV || signal == SIGBUS || signal == SIGFPE || signal == SIGILL || signal == SIGTRAP || signal == SIGABRT;
+}
+
+static void handle(int signal, siginfo_t *info, void *context) {
+    thread *t = self;
+    int saved = errno;
+    if (t && t->inside && !from_the_code_itself(signal)) {
+        sigset_t *mask = &((ucontext_t *)context)->uc_sigmask;
+        if (!t->deferred) t->mask = *mask;
+        t->deferred = 1;
+        sigaddset(mask, signal);
+        syscall(SYS_rt_tgsigqueueinfo, getpid(), t->system_id, signal, info);
+    } else {
+        if (t && t->quantum < HANDLER_HOOKS) t->quantum += HANDLER_HOOKS;
+        handlers[signal].sa_sigaction(signal, info, context);
+    }
+    errno = saved;
+}
+
+PUBLIC int sigaction(int signal, const struct sigaction *new, struct sigaction *old) {
+    int direct = new && new->sa_flags & SA_RESETHAND;       /* sent again it would meet no handler */
+    if (!self || direct || signal <= 0 || signal >= NSIG) return REAL(sigaction)(signal, new, old);
+    struct sigaction before = handlers[signal], ours;
+    if (new && new->sa_handler != SIG_DFL && new->sa_handler != SIG_IGN) {
+        handlers[signal] = ours = *new;
+        ours.sa_sigaction = handle;
+        ours.sa_flags |= SA_SIGINFO;
+        new = &ours;
+    }
+    int error = REAL(sigaction)(signal, new, old);
+    if (error) handlers[signal] = before;
+    else if (old && old->sa_sigaction == handle) *old = before;
+    return error;
+}
+
+PUBLIC void (*signal(int number, void (*handler)(int)))(int) {
+    struct sigaction new = {.sa_handler = handler, .sa_flags = SA_RESTART}, old;
+    return sigaction(number, &new, &old) ? SIG_ERR : old.sa_handler;
+}

@@ -1,0 +1,140 @@
+/* The begin and the end of the program and of its threads. */
+#define _GNU_SOURCE
+#include <errno.h>
+#include <limits.h>
+#include <stdlib.h>
+#include <sys/syscall.h>
+#include <threads.h>
+#include <time.h>
+#include <unistd.h>
+#include "runtime.h"
+
+typedef const struct timespec *deadline;
+volatile int others;
+
+/* ---- the program ---- */
+extern void *__libc_stack_end;
+static pthread_key_t at_exit;
+static pid_t process;
+
+static uint64_t setting(const char *name, uint64_t otherwise) {
+    const char *value = getenv(name);
+    uint64_t n = value ? strtoull(value, 0, 10) : 0;
+    return n ? n : otherwise;
+}
+
+/* The thread's stack is new variables.  The main thread's is noted for its name alone. */
+static void note_stack(thread *t, uint64_t function) {
+    pthread_attr_t attributes;
+    size_t size = 8 << 20;
+    void *low = (char *)__libc_stack_end - size;
+    if (t->number) {
+        if (pthread_getattr_np(pthread_self(), &attributes)) return;
+        pthread_attr_getstack(&attributes, &low, &size);
+        pthread_attr_destroy(&attributes);
+    }
+    put(t, OP_START, low, size, function);
+}
+
+static void begin_thread(thread *t, uint64_t function) {
+    t->system_id = syscall(SYS_gettid);
+    t->handle = pthread_self();
+    t->inside = 1;
+    self = t;
+    pthread_setspecific(at_exit, t);
+    take_turn(t);
+    note_stack(t, function);
+    leave(t);
+}
+
+static void thread_exits(void *t_) {   /* runs again in each round of destructors, until the last */
+    thread *t = t_;
+    if (++t->exit_rounds < PTHREAD_DESTRUCTOR_ITERATIONS) pthread_setspecific(at_exit, t);
+    give_turn(t);
+}
+
+static void in_child(void) {           /* a forked process is not recorded */
+    recording = 0;
+    self = 0;
+}
+
+__attribute__((constructor(101))) static void begin(void) {
+    const char *path = getenv("SHB_RECORD");
+    if (!path || !*path || process) return;
+    process = getpid();
+    stall_seconds = setting("SHB_STALL", 60);
+    if (!open_recording(path, setting("SHB_RECORDS", 64000000))) return;
+    unsetenv("SHB_RECORD");            /* a program started by this one would write over it */
+    __tsan_init();
+    thread *t = new_thread();
+    if (!t || pthread_key_create(&at_exit, thread_exits) || pthread_atfork(0, 0, in_child)) return;
+    begin_turns(setting("SHB_SLICE", 200), setting("SHB_SEED", 0));
+    begin_thread(t, 0);
+}
+
+__attribute__((destructor(101))) static void end(void) {
+    if (process && getpid() == process) close_recording();
+}
+
+/* ---- threads ---- */
+static void *run(void *t_) {
+    thread *t = t_;
+    begin_thread(t, t->c11_function ? (uint64_t)t->c11_function : (uint64_t)t->function);
+    void *result = t->c11_function ? (void *)(long)t->c11_function(t->argument) : t->function(t->argument);
+    give_turn(t);
+    return result;
+}
+
+/* Records the fork and starts the thread, whose function and argument are in `start`. */
+static int create(thread *t, thread start, pthread_t *handle, const pthread_attr_t *attributes, uint64_t caller) {
+    thread *child = new_thread();
+    if (!child) {
+        stop_recording("too many threads");
+        return EAGAIN;
+    }
+    child->function = start.function;
+    child->c11_function = start.c11_function;
+    child->argument = start.argument;
+    others++;
+    put(t, OP_FORK, (void *)(uint64_t)child->number, 0, caller);
+    pthread_t created;                 /* where the caller wants it only when it is known: others may read that */
+    int error = REAL(pthread_create)(&created, attributes, run, child);
+    if (error) others--;
+    else *handle = child->handle = created;
+    return error;
+}
+
+PUBLIC int pthread_create(pthread_t *handle, const pthread_attr_t *attributes, void *(*function)(void *), void *argument) {
+    thread *t = enter(MAY_YIELD);
+    if (!t) return REAL(pthread_create)(handle, attributes, function, argument);
+    int error = create(t, (thread){.function = function, .argument = argument}, handle, attributes, CALLER);
+    leave(t);
+    return error;
+}
+
+PUBLIC int thrd_create(thrd_t *handle, thrd_start_t function, void *argument) {
+    thread *t = enter(MAY_YIELD);
+    if (!t) return REAL(thrd_create)(handle, function, argument);
+    int error = create(t, (thread){.c11_function = function, .argument = argument}, handle, 0, CALLER);
+    leave(t);
+    return !error ? thrd_success : error == EAGAIN || error == ENOMEM ? thrd_nomem : thrd_error;
+}
+
+#define JOIN(name, parameters, arguments) \
+    PUBLIC int name parameters { \
+        thread *t = enter(MAY_YIELD); \
+        if (!t) return REAL(name) arguments; \
+        thread *child = thread_of(h); \
+        int error = BLOCKING(t, REAL(name) arguments); \
+        if (!error && child) { \
+            child->joined = 1; \
+            others--; \
+            put(t, OP_JOIN, (void *)(uint64_t)child->number, 0, CALLER); \
+        } \
+        leave(t); \
+        return error; \
+    }
+JOIN(pthread_join, (pthread_t h, void **value), (h, value))
+JOIN(pthread_tryjoin_np, (pthread_t h, void **value), (h, value))
+JOIN(pthread_timedjoin_np, (pthread_t h, void **value, deadline d), (h, value, d))
+JOIN(thrd_join, (thrd_t h, int *value), (h, value))

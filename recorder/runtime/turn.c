@@ -1,0 +1,242 @@
+/* The order of the record.
+
+   One thread at a time has the *turn*.  A hook takes it, writes its record and returns with the turn, so the access that
+   follows is done before any other thread writes a record.  A thread loses the turn only
+     (a) at a later hook of its own, when it is no longer in the access before: it *gives* it, to a waiter or to nobody;
+     (b) around a call that may block: it gives it likewise;
+     (c) to a waiter that sees it asleep inside a system call: between a hook and its access there is none;
+     (d) to a waiter that sees that it has computed for 100 ms since its last hook: no access takes so long.
+   In (c) and (d) the waiter *takes it over*.  The word `turn` has the holder and a count that each hook raises.  The
+   waiter reads the word, then looks at the holder, then swaps itself in if the word is still the same: so there was no
+   hook since, and it looked at a thread past its access.  The holder finds another one in the word at its next hook.
+
+   All other changes of hands are made under `guard`.  A waiter stands in `waiting` from its first step in take_turn to
+   its last, put in and taken out by itself.  To be given the turn is no more than to be named in the word: until the
+   waiter has accepted, by a swap like the one above, another may take the turn over, and then it just waits on.
+   tests/model.py searches all interleavings of this. */
+#define _GNU_SOURCE
+#include <errno.h>
+#include <linux/futex.h>
+#include <stdlib.h>
+#include <string.h>
+#include <sys/mman.h>
+#include <sys/syscall.h>
+#include <time.h>
+#include <unistd.h>
+#include "runtime.h"
+
+#define MAX_THREADS 65534              /* the holder's number plus one takes 16 bits */
+#define NOBODY 0
+#define HOLDER(word) ((uint32_t)((word) >> 48))
+#define NAME(t) ((t)->number + 1)
+#define COMPUTES_TICKS 10              /* of 10 ms */
+#ifdef HASTY                           /* for the tests: turns are taken over sooner, and others run in between */
+#define PATIENCE_NS 10000
+#define TEST_YIELD() syscall(SYS_sched_yield)
+#else
+#define PATIENCE_NS 300000             /* then a lone waiter looks at the holder; one of several after ten times it */
+#define TEST_YIELD() (void)0
+#endif
+
+__thread thread *self __attribute__((tls_model("initial-exec")));
+volatile int recording;
+
+static _Atomic uint64_t turn;
+static _Atomic int guard;
+static thread *waiting[MAX_THREADS];
+static volatile int waiters;
+static thread *threads[MAX_THREADS];
+static uint32_t thread_count;
+static uint64_t random_state = 88172645463325252ull;
+static int slice;
+
+static uint64_t draw(void) {           /* xorshift; with the turn or the guard */
+    random_state ^= random_state << 13;
+    random_state ^= random_state >> 7;
+    random_state ^= random_state << 17;
+    return random_state;
+}
+
+/* ---- who has the turn ---- */
+static void lock_guard(void) {
+    for (int n = 0; atomic_exchange_explicit(&guard, 1, memory_order_acquire); n++)
+        if (n > 50) syscall(SYS_sched_yield);
+        else __builtin_ia32_pause();
+}
+
+static void unlock_guard(void) { atomic_store_explicit(&guard, 0, memory_order_release); }
+
+/* The word after this one, with t as the holder. */
+static uint64_t next_word(thread *t, uint64_t word) {
+    return (uint64_t)(t ? NAME(t) : NOBODY) << 48 | ((word + 1) & LOW_48_BITS);
+}
+
+static int swap_in(thread *t, uint64_t seen) {
+    return atomic_compare_exchange_strong(&turn, &seen, next_word(t, seen));
+}
+
+static void wake(thread *t) {
+    atomic_fetch_add(&t->wakes, 1);
+    syscall(SYS_futex, &t->wakes, FUTEX_WAKE_PRIVATE, 1, 0, 0, 0);
+}
+
+/* Has t the turn still?  Raises the count, so that no waiter that looked before this takes the turn over. */
+int keep_turn(thread *t) {
+    uint64_t word = atomic_load_explicit(&turn, memory_order_relaxed);
+    return HOLDER(word) == NAME(t) && swap_in(t, word);
+}
+
+void give_turn(thread *t) {
+    thread *next = 0;
+    lock_guard();
+    uint64_t word = atomic_load(&turn);
+    if (HOLDER(word) == NAME(t)) {
+        if (waiters) next = waiting[draw() % waiters];
+        atomic_store(&turn, next_word(next, word));
+    }
+    unlock_guard();
+    TEST_YIELD();
+    if (next) wake(next);
+}
+
+static void stop_waiting(thread *t) {
+    for (int i = 0; i < waiters; i++)
+        if (waiting[i] == t) {
+            waiting[i] = waiting[--waiters];
+            return;
+        }
+}
+
+/* Takes the turn if nobody has it, else stands among the waiters. */
+static int take_free(thread *t) {
+    lock_guard();
+    uint64_t word = atomic_load(&turn);
+    int done = !recording || (HOLDER(word) == NOBODY && swap_in(t, word));
+    if (!done) waiting[waiters++] = t;
+    unlock_guard();
+    return done;
+}
+
+/* The waiter's last step: takes the turn if its word is still the one seen; also where the recording has ended. */
+static int accept(thread *t, uint64_t seen) {
+    TEST_YIELD();
+    lock_guard();
+    int done = !recording || swap_in(t, seen);
+    if (done) stop_waiting(t);
+    unlock_guard();
+    return done;
+}
+
+/* ---- a waiter looks at the holder ---- */
+/* The processor time that a thread has spent outside the system, in ticks: 11 words behind its state. */
+static long user_ticks(const char *state) {
+    const char *p = state;
+    for (int i = 0; i < 11 && p; i++) p = strchr(p + 1, ' ');
+    return p ? strtol(p, 0, 10) : 0;
+}
+
+/* Is the thread gone, or asleep inside a system call?  A page fault is no system call.  *ticks gets its time. */
+static int gone_or_asleep(pid_t system_id, long *ticks) {
+    char text[512];
+    int n = read_task_file(system_id, "stat", text, sizeof text);
+    if (n == -ENOENT || n == -ESRCH) return 1;
+    char *p = n > 0 ? strrchr(text, ')') : 0;
+    if (!p || !p[1]) return 0;
+    char state = p[2];
+    *ticks = user_ticks(p + 2);
+    if (state == 'Z' || state == 'X') return 1;
+    if (state != 'S' && state != 'D') return 0;
+    n = read_task_file(system_id, "syscall", text, sizeof text);
+    return n > 0 && text[0] >= '0' && text[0] <= '9';
+}
+
+struct watch { uint64_t word; long ticks; time_t since; };   /* the turn when it was last seen to change */
+
+/* May the turn, whose word was read before this look at the holder, be taken over? */
+static int past_its_access(uint64_t word, struct watch *watch) {
+    struct timespec now;
+    clock_gettime(CLOCK_MONOTONIC, &now);
+    long ticks = watch->ticks;
+    if (HOLDER(word) == NOBODY || gone_or_asleep(threads[HOLDER(word) - 1]->system_id, &ticks)) return 1;
+    if (word != watch->word) *watch = (struct watch){word, ticks, now.tv_sec};
+    if (now.tv_sec - watch->since > stall_seconds)
+        stop_recording("one thread neither slept, computed nor came to a hook for SHB_STALL seconds");
+    return ticks >= watch->ticks + COMPUTES_TICKS;
+}
+
+void take_turn(thread *t) {
+    struct watch watch = {0, 0, 0};
+    struct timespec patience = {0, waiters ? 10 * PATIENCE_NS : PATIENCE_NS};
+    int look = 0, saved = errno;
+    if (!take_free(t)) for (;;) {
+        int wakes = atomic_load(&t->wakes);                  /* before the turn: a later wake changes it */
+        uint64_t word = atomic_load(&turn);
+        if (!recording || HOLDER(word) == NAME(t) || (look && past_its_access(word, &watch)))
+            if (accept(t, word)) break;
+        look = syscall(SYS_futex, &t->wakes, FUTEX_WAIT_PRIVATE, wakes, &patience, 0, 0) && errno == ETIMEDOUT;
+    }
+    t->quantum = 1 + draw() % (2 * slice);
+    errno = saved;
+}
+
+/* ---- hooks ---- */
+thread *enter(enum yields yields) {
+    thread *t = self;
+    if (!t || !recording || t->inside) return 0;
+    t->inside = 1;
+    if (--t->quantum <= 0 && yields && waiters) give_turn(t);
+    if (!keep_turn(t)) take_turn(t);
+    return t;
+}
+
+void leave(thread *t) {
+    TEST_YIELD();
+    t->inside = 0;
+    if (t->deferred) {                                       /* the signal is pending: it comes when the mask lets it */
+        t->deferred = 0;
+        pthread_sigmask(SIG_SETMASK, &t->mask, 0);
+    }
+}
+
+/* A loop that makes one read again and again waits for another thread: that one shall run. */
+void note_spin(thread *t, uint64_t read) {
+    if (t->last_read != read) {
+        t->last_read = read;
+        t->spins = 0;
+    } else if (++t->spins > 3) {
+        t->spins = 0;
+        t->quantum = 0;
+    }
+}
+
+/* ---- begin and end ---- */
+void begin_turns(int slice_, uint64_t seed) {
+    slice = slice_;
+    random_state ^= seed * 0x9E3779B97F4A7C15ull;
+    if (!random_state) random_state = 1;
+    for (int i = 0; i < 8; i++) draw();
+    recording = 1;
+}
+
+int end_turns(void) {
+    lock_guard();
+    int was = recording;
+    recording = 0;
+    for (int i = 0; i < waiters; i++) wake(waiting[i]);
+    unlock_guard();
+    return was;
+}
+
+thread *new_thread(void) {             /* with the turn */
+    if (thread_count >= MAX_THREADS) return 0;
+    thread *t = mmap(0, sizeof *t, PROT_READ | PROT_WRITE, MAP_PRIVATE | MAP_ANONYMOUS, -1, 0);
+    if (t == MAP_FAILED) return 0;
+    t->number = thread_count;
+    return threads[thread_count++] = t;
+}
+
+thread *thread_of(pthread_t handle) {  /* asked before a join: a handle is used again after it */
+    for (uint32_t i = thread_count; i-- > 0;)
+        if (threads[i]->handle == handle && !threads[i]->joined) return threads[i];
+    return 0;
+}

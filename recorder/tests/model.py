@@ -1,0 +1,314 @@
+"""The protocol of turn.c as a model, and a search through all interleavings of small programs.
+
+A program is a word for each thread; its letters are
+  h  a hook and the access after it                 s  a system call that sleeps, not wrapped
+  b  a wrapped blocking call, recorded after it     c  a computation of more than 100 ms without a hook
+  x  the end of the recording
+Properties, in every state:
+  window    no thread is between its record and its access while another writes a record or makes an access
+  record    no access without its record while the recording is on
+  wake      no thread sleeps on its futex while the turn names it, nobody has it, or the recording has ended, unless
+            some thread is on its way to wake it: no hand-over needs a timeout
+  listed    a thread stands among the waiters once from its first step in take_turn to its last, else never
+  end       from every state the end of all threads can be reached
+The steps are those at which threads meet: each load, store and swap of the turn and of a thread's wakes, the guard's
+lock, the futex calls, the look at the holder. The count in the turn's word is not stored: a thread's view of the word
+is fresh until the word changes and never again, for counts don't return; likewise its view of its wakes. A look may
+say yes wherever the holder isn't between the swap in put (or take_turn) and its access: more often than turn.c says it.
+"""
+
+import typing
+
+NONE = -1
+PROGRAMS = ["hhh hhh", "hbh hsh", "hch hbh", "hsb hcb", "hxh hbh", "h h h", "h s b", "hh b h"]
+LONG_PROGRAMS = ["hhhh hhhh", "hbhsh hchbh", "hsxh hbch", "hh hh h", "hs hb h", "hx hb h", "hc hh b", "hb hs hh", "hh hh hh"]
+
+# Bugs to plant, and the property that each breaks.
+PUT_DOES_NOT_ASK = "put does not ask for the turn again"
+PUT_SKIPS = "put skips the record where the turn is lost"
+NO_COUNT = "a hook does not raise the count"
+TAKES_BLINDLY = "a waiter takes the turn over though its word has changed"
+WORD_FIRST = "a waiter reads the word before its wakes"
+UNLISTED = "the giver takes the next holder off the waiters"
+NAMED_RUNS = "a thread runs when it is named, without accepting"
+BUGS = {PUT_DOES_NOT_ASK: "window", PUT_SKIPS: "record", NO_COUNT: "window", TAKES_BLINDLY: "window",
+        WORD_FIRST: "wake", UNLISTED: "wake", NAMED_RUNS: "record"}
+
+
+class Thread(typing.NamedTuple):
+    at: int = 0  # in its program
+    step: str = "next"
+    after: str = ""  # the step behind take_turn or give_turn
+    word: bool = False  # is its view of the turn's word fresh?
+    wakes: bool = False  # is its view of its wakes fresh?
+    look: bool = False  # its sleep ended by the timeout: it looks at the holder
+    target: int = 0  # whom it wakes
+
+
+class State(typing.NamedTuple):
+    threads: tuple
+    holder: int = NONE
+    guard: int = NONE
+    waiting: frozenset = frozenset()
+    on: bool = True  # is the recording on?
+    window: int = NONE  # who is between its record and its access
+
+
+class Broken(Exception):
+    """A property that doesn't hold, and where."""
+
+
+WAITING_STEPS = {"read_wakes", "read_word", "look_at_holder", "accept", "swap_in", "wait", "sleep"}
+IN_ITS_ACCESS = {"check", "record", "access"}
+
+
+class Step:
+    """One step of one thread: the method of its name gives the states that may follow."""
+
+    def __init__(self, state, number, program, bug):
+        self.state, self.number, self.program, self.bug = state, number, program, bug
+        self.thread = state.threads[number]
+        self.first_of_wait = "read_word" if bug == WORD_FIRST else "read_wakes"
+
+    def to(self, step, threads=None, changed=False, shared=(), **own):
+        """The state in which this thread is at `step`; `changed`: the turn's word, so that all views of it are old."""
+        threads = list(threads or self.state.threads)
+        if changed:
+            threads = [thread._replace(word=False) for thread in threads]
+            own["word"] = False
+        threads[self.number] = self.thread._replace(step=step, **own)
+        return self.state._replace(threads=tuple(threads), **dict(shared))
+
+    def locked(self, step):
+        if self.state.guard == NONE:
+            yield self.to(step, shared={"guard": self.number})
+
+    def has_turn(self):
+        return self.state.holder == self.number
+
+    # between two hooks
+    def next(self):
+        program = self.program[self.number]
+        if self.thread.at == len(program):
+            yield self.to("give", after="gone")
+            return
+        first = {"h": ("keep", ""), "b": ("give", "blocked"), "x": ("stop", ""), "s": ("away", ""), "c": ("away", "")}
+        step, after = first[program[self.thread.at]]
+        yield self.to(step, after=after)
+        if step == "keep" and self.state.waiting:  # its quantum is used up
+            yield self.to("give", after="keep")
+
+    def away(self):
+        yield self.to("next", at=self.thread.at + 1)
+
+    def blocked(self):
+        yield self.to("take", after="put")
+
+    # keep_turn, in enter and in put
+    def keep(self):
+        yield from self.ask("put")
+
+    def put(self):
+        if self.bug == PUT_DOES_NOT_ASK:
+            yield self.to("check", after="")
+        elif self.bug in (PUT_SKIPS, NAMED_RUNS) and not self.has_turn():
+            yield self.to("access_unrecorded", after="")
+        else:
+            yield from self.ask("check")
+
+    def ask(self, after):
+        yield self.to("raise_count", after=after, word=True) if self.has_turn() else self.to("take", after=after)
+
+    def raise_count(self):
+        if self.thread.word:
+            yield self.to(self.thread.after, after="", word=False, changed=self.bug != NO_COUNT)
+        else:
+            yield self.to("take")
+
+    # put: the record, then the access behind the hook
+    def check(self):
+        if not self.state.on:
+            yield self.to("next", at=self.thread.at + 1)
+            return
+        yield self.to("record")
+        yield self.to("grow")
+
+    def grow(self):  # asleep inside the hook, for disk space
+        yield self.to("put")
+
+    def record(self):
+        if self.state.window != NONE:
+            raise Broken(f"window: thread {self.number} records, thread {self.state.window} has yet to make its access")
+        yield self.to("access", shared={"window": self.number})
+
+    def access(self):
+        if self.state.window != self.number:
+            raise Broken(f"window: thread {self.number}")
+        yield self.to("next", at=self.thread.at + 1, shared={"window": NONE})
+
+    def access_unrecorded(self):
+        if self.state.on:
+            raise Broken(f"record: thread {self.number} makes an access without one")
+        yield self.to("next", at=self.thread.at + 1)
+
+    # give_turn
+    def give(self):
+        yield from self.locked("hand_over")
+
+    def hand_over(self):
+        waiting, after = self.state.waiting, self.thread.after
+        if not self.has_turn():
+            yield self.to(after, after="", shared={"guard": NONE})
+        elif not waiting:
+            yield self.to(after, after="", changed=True, shared={"guard": NONE, "holder": NONE})
+        else:
+            for next in waiting:
+                left = waiting - {next} if self.bug in (UNLISTED, NAMED_RUNS) else waiting
+                yield self.to("raise_wakes", changed=True, target=next,
+                              shared={"guard": NONE, "holder": next, "waiting": left})
+
+    def raise_wakes(self):
+        threads = list(self.state.threads)
+        threads[self.thread.target] = threads[self.thread.target]._replace(wakes=False)
+        yield self.to("wake", threads)
+
+    def wake(self):
+        threads = list(self.state.threads)
+        if threads[self.thread.target].step == "sleep":
+            threads[self.thread.target] = self.woken(threads[self.thread.target])
+        yield self.to(self.thread.after, threads, after="", target=0)
+
+    def woken(self, thread):
+        if self.bug == NAMED_RUNS:
+            return Thread(thread.at, thread.after, target=thread.target)
+        return thread._replace(step=self.first_of_wait, look=False)
+
+    # take_turn
+    def take(self):
+        yield from self.locked("take_free")
+
+    def done(self, changed=False, **shared):
+        return self.to(self.thread.after, changed=changed, shared={"guard": NONE, **shared},
+                       after="", word=False, wakes=False, look=False)
+
+    def take_free(self):
+        if not self.state.on:
+            yield self.done()
+        elif self.state.holder == NONE:
+            yield self.done(changed=True, holder=self.number)
+        else:
+            waiting = self.state.waiting | {self.number}
+            yield self.to(self.first_of_wait, shared={"guard": NONE, "waiting": waiting})
+
+    def read_wakes(self):
+        yield self.to("wait" if self.bug == WORD_FIRST else "read_word", wakes=True)
+
+    def read_word(self):
+        if not self.state.on or self.has_turn():
+            yield self.to("accept", word=True)
+        elif self.thread.look:
+            yield self.to("look_at_holder", word=True)
+        else:
+            yield self.to(self.before_sleep(), word=True)
+
+    def before_sleep(self):
+        return "read_wakes" if self.bug == WORD_FIRST else "wait"
+
+    def look_at_holder(self):
+        yield self.to(self.before_sleep())
+        holder = self.state.holder
+        if not self.thread.word or holder == NONE or self.state.threads[holder].step not in IN_ITS_ACCESS:
+            yield self.to("accept")
+
+    def accept(self):
+        yield from self.locked("swap_in")
+
+    def swap_in(self):
+        waiting = self.state.waiting - {self.number}
+        if not self.state.on:
+            yield self.done(waiting=waiting)
+        elif self.thread.word or self.bug == TAKES_BLINDLY:
+            yield self.done(changed=True, waiting=waiting, holder=self.number)
+        else:
+            yield self.to(self.before_sleep(), shared={"guard": NONE})
+
+    def wait(self):  # the futex sleeps only if the wakes are as they were seen
+        yield self.to("sleep") if self.thread.wakes else self.to(self.first_of_wait, look=False)
+
+    def sleep(self):
+        yield self.to(self.first_of_wait, look=True)
+
+    # end_turns
+    def stop(self):
+        yield from self.locked("stopping")
+
+    def stopping(self):
+        threads = list(self.state.threads)
+        for waiter in self.state.waiting:
+            threads[waiter] = threads[waiter]._replace(wakes=False)
+            if threads[waiter].step == "sleep":
+                threads[waiter] = self.woken(threads[waiter])
+        yield self.to("next", threads, at=self.thread.at + 1, shared={"guard": NONE, "on": False})
+
+    def gone(self):
+        return ()
+
+
+def check(state, bug):
+    """Raises Broken where a property of single states doesn't hold."""
+    waking = {thread.target for thread in state.threads if thread.step in ("raise_wakes", "wake")}
+    for number, thread in enumerate(state.threads):
+        if thread.step == "sleep" and number not in waking and (state.holder in (number, NONE) or not state.on):
+            raise Broken(f"wake: thread {number} sleeps and only a timeout wakes it")
+        if (number in state.waiting) != (thread.step in WAITING_STEPS) and bug != UNLISTED:
+            raise Broken(f"listed: thread {number} at {thread.step}")
+
+
+def search(program, bug=""):
+    """Searches all states of a program, and gives their number; raises Broken at the first that breaks a property."""
+    start = State(tuple(Thread() for _ in program))
+    numbers, before, todo, ends = {start: 0}, [[]], [start], []
+    while todo:
+        state = todo.pop()
+        if all(thread.step == "gone" for thread in state.threads):
+            ends.append(numbers[state])
+        for number, thread in enumerate(state.threads):
+            for after in getattr(Step(state, number, program, bug), thread.step)():
+                if after not in numbers:
+                    if bug != NAMED_RUNS:  # that one is to be found by its worst effect
+                        check(after, bug)
+                    numbers[after] = len(numbers)
+                    before.append([])
+                    todo.append(after)
+                before[numbers[after]].append(numbers[state])
+    without_end = len(numbers) - count_leading_to(ends, before)
+    if without_end:
+        raise Broken(f"end: {without_end} states from which not all threads can end")
+    return len(numbers)
+
+
+def count_leading_to(ends, before):
+    """How many states lead to one of `ends`."""
+    reached, todo = set(ends), list(ends)
+    while todo:
+        for state in before[todo.pop()]:
+            if state not in reached:
+                reached.add(state)
+                todo.append(state)
+    return len(reached)
+
+
+def faults(bug):
+    """What breaks in the programs where the bug is planted."""
+    for program in PROGRAMS:
+        try:
+            search(program.split(), bug)
+        except Broken as broken:
+            yield str(broken)
+
+
+if __name__ == "__main__":  # the longer search, by hand
+    for words in PROGRAMS + LONG_PROGRAMS:
+        print(f"{words}: {search(words.split())} states", flush=True)
+    for planted in BUGS:
+        print(f"{planted}: {next(faults(planted))}", flush=True)

@@ -1,0 +1,74 @@
+"""The recorder, built for the tests, and the programs that are recorded with it."""
+
+import os
+import pathlib
+import re
+import shutil
+import subprocess
+import tempfile
+import unittest
+
+HERE = pathlib.Path(__file__).resolve().parent
+SOURCES = HERE.parent
+PROGRAMS = HERE / "programs"
+SHB = SOURCES.parent / "crates" / "shb" / "out" / "shb"
+BUILT = None  # where the recorder was built
+SECONDS = 300  # after so long a command hangs
+
+
+def call(*words, **how):
+    """Runs a command to its end, and gives its status and what it wrote."""
+    how = {"stdin": subprocess.DEVNULL, **how}
+    if "input" in how:
+        del how["stdin"]
+    return subprocess.run([str(word) for word in words], capture_output=True, timeout=SECONDS, **how)
+
+
+def must(answer):
+    """The answer of a command that has to succeed."""
+    if answer.returncode:
+        raise AssertionError(f"{answer.args}: status {answer.returncode}\n{answer.stderr.decode(errors='replace')}")
+    return answer
+
+
+def build_recorder(folder, *settings):
+    """Builds the recorder from its sources in a new folder."""
+    global BUILT
+    copy = folder / "recorder"
+    shutil.copytree(SOURCES, copy, ignore=shutil.ignore_patterns("lib", "shb-std", "tests"))
+    must(call("make", "-C", copy, *settings))
+    BUILT = BUILT or copy
+    return copy
+
+
+def build(source, option, program, built=None):
+    """Builds a program that is to be recorded, as the README says."""
+    compiler = "g++" if source.suffix == ".cc" else "gcc"
+    words = ["-w", "-g", option, "-fsanitize=thread", "-pthread", f"-B{built or BUILT}/lib/", source, "-o", program]
+    must(call(compiler, *words))
+
+
+def settings(path, seed=1, slice=200, **more):
+    """The environment that has a program recorded."""
+    return {**os.environ, "SHB_RECORD": str(path), "SHB_SEED": str(seed), "SHB_SLICE": str(slice), **more}
+
+
+def convert(path, *options):
+    return call(BUILT / "shb-std", *options, path)
+
+
+def places(trace):
+    """The pairs of places that the analyser lists for a trace, without order."""
+    listed = must(call(SHB, "races", "--list", input=trace)).stdout.decode()
+    return {tuple(sorted(pair)) for pair in re.findall(r"^at (.*)\nand (.*)$", listed, re.M)}
+
+
+class Case(unittest.TestCase):
+    """A test with a folder of its own."""
+
+    maxDiff = None
+
+    def setUp(self):
+        room = tempfile.TemporaryDirectory()
+        self.addCleanup(room.cleanup)
+        self.folder = pathlib.Path(room.name)

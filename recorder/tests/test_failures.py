@@ -1,0 +1,65 @@
+"""What fails ends the recording, or the trace, and never the program."""
+
+import signal
+import subprocess
+
+import recorder
+
+
+class Failures(recorder.Case):
+    def program(self, name):
+        recorder.build(recorder.PROGRAMS / name, "-O1", self.folder / "app")
+        return self.folder / "app"
+
+    def test_a_record_that_cannot_be_written(self):
+        program = self.program("mutex_ok.c")
+        for path, reason in (("/dev/full", b"No such device"), (self.folder / "none" / "app.rec", b"No such file or directory"),
+                             (self.folder, b"Is a directory")):
+            ran = recorder.must(recorder.call(program, env=recorder.settings(path)))
+            self.assertIn(reason + b"; the program runs unrecorded", ran.stderr)
+
+    def test_a_limit_of_the_size_of_files(self):
+        program, path = self.program("mutex_ok.c"), self.folder / "app.rec"
+        for blocks, refused in ((900, True), (40000, False)):  # of 512 or 1,024 bytes
+            limited = "sh", "-c", f"ulimit -f {blocks}; exec {program}"
+            ran = recorder.must(recorder.call(*limited, env=recorder.settings(path)))
+            self.assertEqual(b"File too large" in ran.stderr, refused)
+
+    def test_a_disk_that_is_full_later(self):
+        refuse, path = self.folder / "refuse.so", self.folder / "app.rec"
+        source = recorder.HERE / "refuse_space.c"
+        recorder.must(recorder.call("gcc", "-O1", "-fno-builtin", "-fPIC", "-shared", source, "-o", refuse))
+        program = self.program("long_run.c")
+        for request, records in ((2, 0), (3, (4 << 20) // 16)):  # the first is the header's
+            how = recorder.settings(path, LD_PRELOAD=str(refuse), REFUSE_SPACE=str(request))
+            ran = recorder.must(recorder.call(program, env=how))
+            self.assertIn(b"no disk space for the record (No space left on device); the recording ends here", ran.stderr)
+            answer = recorder.must(recorder.convert(path))
+            self.assertRegex(answer.stderr.decode(), rf"shb-std: {max(records - 1, 0)} records|shb-std: {records} records")
+            self.assertEqual(recorder.places(answer.stdout), set())
+
+    def test_a_limit_of_records(self):
+        path = self.folder / "app.rec"
+        ran = recorder.must(recorder.call(self.program("mutex_ok.c"), env=recorder.settings(path, SHB_RECORDS="1000")))
+        self.assertIn(b"SHB_RECORDS is reached; the recording ends here, the program goes on", ran.stderr)
+        answer = recorder.must(recorder.convert(path))
+        self.assertIn(b"shb-std: 999 records", answer.stderr)
+        self.assertEqual(recorder.places(answer.stdout), set())
+
+    def test_too_many_threads(self):
+        path = self.folder / "app.rec"
+        recorder.must(recorder.call(self.program("many_threads.c"), env=recorder.settings(path)))
+        answer = recorder.must(recorder.convert(path))
+        self.assertIn(b"the trace is cut before a thread too many: shb takes 1,024", answer.stderr)
+        self.assertIn(b"fork(T1023.work)", answer.stdout)
+        self.assertNotIn(b"T1024", answer.stdout)
+        self.assertEqual(recorder.places(answer.stdout), set())
+
+    def test_a_deadlocked_program_that_is_killed(self):
+        path = self.folder / "app.rec"
+        with subprocess.Popen([self.program("deadlock.c")], env=recorder.settings(path), stdout=subprocess.PIPE) as running:
+            self.assertEqual(running.stdout.read(2), b"..")  # each has its first lock
+            running.send_signal(signal.SIGKILL)
+        self.assertEqual(running.returncode, -signal.SIGKILL)
+        trace = recorder.must(recorder.convert(path)).stdout
+        self.assertEqual(recorder.places(trace), {("deadlock.c:9", "deadlock.c:9")})

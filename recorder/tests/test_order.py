@@ -1,0 +1,78 @@
+"""The lines stand in the order of the accesses: each value read is that of the last write before it in the trace."""
+
+import os
+import re
+
+import recorder
+
+THREADS, STEPS = 6, 3000  # as in order.c
+SEEDS = range(4)
+
+
+def accesses(thread, values):
+    """What the thread does, in its order: writes (w), atomic writes (a) and reads (r), with their values."""
+    random = (thread * 7919 + 1) & 0xFFFFFFFF
+    for step in range(STEPS):
+        random = (random * 1103515245 + 12345) & 0xFFFFFFFF
+        if random >> 16 & 1:
+            yield "w", thread << 32 | step
+        elif random >> 17 & 1:
+            yield "a", thread << 32 | step
+        yield "r", values[step]
+
+
+def reads(trace, output):
+    """For each read in the trace: the value that it got, and the one that stood there by the trace."""
+    values = [[] for _ in range(THREADS)]
+    for line in output.splitlines():
+        thread, value = line.split()
+        values[int(thread)].append(int(value))
+    programs = [accesses(thread, values[thread]) for thread in range(THREADS)]
+    now = 0
+    for thread, kind in trace:
+        expected, value = next(programs[thread])
+        assert kind == expected, "the trace is out of step"
+        if kind == "r":
+            yield value, now
+        else:
+            now = value
+
+
+def steps(text):
+    """The accesses of x in a trace of `shb-std -a`. An atomic store is an acq, a read and a rel: the acq counts."""
+    storing = set()
+    for name, operation, version in re.findall(r"^T(\d+)\.work\|(w|r|acq|rel)\(x(@\d+)?\)\|", text, re.M):
+        thread = int(name) - 1
+        if operation == "acq":
+            storing.add(thread)
+            yield thread, "a"
+        elif operation == "rel":
+            storing.discard(thread)
+        elif thread not in storing:
+            yield thread, operation
+
+
+class Order(recorder.Case):
+    def check_order(self, option, built=None, **how):
+        program, path = self.folder / "order", self.folder / "order.rec"
+        recorder.build(recorder.PROGRAMS / "order.c", option, program, built)
+        for seed in SEEDS:
+            ran = recorder.must(recorder.call(program, env=recorder.settings(path, seed + 1, (200, 7, 1, 50)[seed]), **how))
+            text = recorder.must(recorder.convert(path, "-a")).stdout.decode()
+            pairs = list(reads(steps(text), ran.stdout.decode()))
+            self.assertEqual(len(pairs), THREADS * STEPS)
+            self.assertEqual([pair for pair in pairs if pair[0] != pair[1]], [])
+
+    def test_unoptimised(self):
+        self.check_order("-O0")
+
+    def test_optimised(self):
+        self.check_order("-O2")
+
+    def test_more_threads_than_cores(self):
+        core = min(os.sched_getaffinity(0))
+        self.check_order("-O2", preexec_fn=lambda: os.sched_setaffinity(0, {core}))
+
+    def test_turns_that_are_taken_over_in_haste(self):
+        hasty = recorder.build_recorder(self.folder, "CFLAGS=-O2 -DHASTY")
+        self.check_order("-O2", hasty)

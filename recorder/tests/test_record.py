@@ -1,0 +1,128 @@
+"""The converter: a record made by hand with the trace worked out from the table in README.md, and damaged records."""
+
+import os
+import random
+import re
+import struct
+
+import recorder
+
+HEADER = b"shb-record 2\n".ljust(65536, b"\0")
+DEFINED = re.search(r"enum operation \{(.*?)\n\};", (recorder.SOURCES / "record.h").read_text(), re.S)[1]
+OPERATIONS = re.findall(r"OP_\w+", re.sub(r"/\*.*?\*/", "", DEFINED))
+SIZE_FOLLOWS = 1023
+
+
+def entry(thread, operation, address, caller, size=0):
+    number = OPERATIONS.index("OP_" + operation)
+    follows = struct.pack("<QQ", size, OPERATIONS.index("OP_SIZE") << 48) if size >= SIZE_FOLLOWS else b""
+    return struct.pack("<QQ", address | thread << 48, caller | number << 48 | min(size, SIZE_FOLLOWS) << 54) + follows
+
+
+BLOCK, STACK, ATOMIC, LOCK, SEMAPHORE, RANGE = 0x20000000, 0x30000000, 0x10000000, 0x10000010, 0x10000020, 0x40000000
+CANNED = [  # entries of a record, and the lines that each becomes
+    (entry(0, "ALLOC", BLOCK, 0x100, 32), []),
+    (entry(0, "FORK", 1, 0x101), ["main|fork(T1)|0x101"]),
+    (entry(1, "START", STACK, 0x500, 4096), []),
+    (entry(0, "WRITE", BLOCK, 0x102, 8), ["main|w(0x100#1+4)|0x102"]),  # its upper half is shared
+    (entry(1, "READ", BLOCK + 4, 0x201, 4), ["T1|r(0x100#1+4)|0x201"]),
+    (entry(1, "WRITE", STACK + 16, 0x202, 8), []),  # its own stack
+    (entry(0, "ATOMIC_STORE", ATOMIC, 0x103, 4),
+     ["main|acq(0x10000000@1)|0x103", "main|w(0x10000000!main)|0x103", "main|rel(0x10000000@1)|0x103",
+      "main|acq(0x10000000@1>T1)|0x103", "main|rel(0x10000000@1>T1)|0x103"]),
+    (entry(1, "READ", ATOMIC, 0x203, 4), ["T1|r(0x10000000!main)|0x203"]),
+    (entry(1, "ATOMIC_LOAD", ATOMIC, 0x204, 4), ["T1|acq(0x10000000@1>T1)|0x204", "T1|rel(0x10000000@1>T1)|0x204"]),
+    (entry(0, "LOCK", LOCK, 0x104), ["main|acq(0x10000010)|0x104"]),
+    (entry(0, "UNLOCK", LOCK, 0x105), ["main|rel(0x10000010)|0x105"]),
+    (entry(1, "LOCK", LOCK, 0x205), ["T1|acq(0x10000010)|0x205"]),
+    (entry(1, "UNLOCK", LOCK, 0x206), ["T1|rel(0x10000010)|0x206"]),
+    (entry(0, "WRITE", RANGE, 0x106, 4096), ["main|w(0x40000800)|0x106"]),  # one piece of three is shared
+    (entry(1, "POST", SEMAPHORE, 0x207), ["T1|acq(0x10000020@1>main)|0x207", "T1|rel(0x10000020@1>main)|0x207"]),
+    (entry(0, "WAIT", SEMAPHORE, 0x107), ["main|acq(0x10000020@1>main)|0x107", "main|rel(0x10000020@1>main)|0x107"]),
+    (entry(1, "WRITE", RANGE + 2048, 0x208, 1), ["T1|w(0x40000800)|0x208"]),
+    (entry(0, "JOIN", 1, 0x108), ["main|join(T1)|0x108"]),
+]
+TRACE = [line for _, lines in CANNED for line in lines]
+ENTRIES = b"".join(record for record, _ in CANNED)
+RACES = {("0x102", "0x201"), ("0x103", "0x203"), ("0x106", "0x208")}
+
+
+class Canned(recorder.Case):
+    def setUp(self):
+        super().setUp()
+        self.record = self.folder / "app.rec"
+        self.record.write_bytes(HEADER + ENTRIES + bytes(64))
+
+    def test_the_trace(self):
+        lines = recorder.must(recorder.convert(self.record)).stdout.decode().splitlines()
+        self.assertEqual(lines, TRACE)
+
+    def test_the_races(self):
+        trace = recorder.must(recorder.convert(self.record)).stdout
+        self.assertEqual(recorder.places(trace), RACES)
+
+    def test_a_record_cut_short_is_a_prefix(self):
+        for entries in range(len(CANNED)):
+            record = b"".join(record for record, _ in CANNED[:entries])
+            for more in (b"", bytes(16), CANNED[entries][0][:7]):
+                self.record.write_bytes(HEADER + record + more)
+                lines = recorder.must(recorder.convert(self.record, "-a")).stdout.decode()
+                recorder.places(lines.encode())  # is accepted
+
+    def test_a_limit_of_events_is_said(self):
+        answer = recorder.convert(self.record, "-n", "5")
+        self.assertEqual(answer.stdout.decode().splitlines(), TRACE[:5])
+        self.assertIn(b"the trace is cut at the limit of events", answer.stderr)
+        self.assertNotIn(b"cut", recorder.convert(self.record, "-n", str(len(TRACE))).stderr)
+
+    def test_a_trace_that_cannot_be_written(self):
+        with open("/dev/full", "wb") as full:
+            answer = recorder.subprocess.run([recorder.BUILT / "shb-std", self.record], stdout=full, stderr=-1)
+        self.assertEqual(answer.returncode, 2)
+        self.assertIn(b"cannot write the trace", answer.stderr)
+
+    def test_long_ranges_without_end_are_cut(self):
+        ranges = b"".join(entry(k % 2, "WRITE", RANGE, 0x300 + k, (1 << 36) - 1) for k in range(2000))
+        self.record.write_bytes(HEADER + ENTRIES[:64] + ranges)
+        answer = recorder.must(recorder.convert(self.record))
+        self.assertIn(b"the trace is cut where its accesses of long ranges take too much work", answer.stderr)
+
+
+def damaged_records():
+    good, draw = HEADER + ENTRIES * 2, random.Random(1)
+    yield from (good[:size] for size in (0, 5, 12, 65535, 65536, 65537))
+    yield from (good[:65536 + size] for size in range(1, len(ENTRIES), 9))
+    for _ in range(150):
+        record = bytearray(good)
+        for _ in range(draw.randrange(1, 6)):
+            record[draw.randrange(65536, len(record))] = draw.randrange(256)
+        yield bytes(record)
+    yield from (HEADER + draw.randbytes(16 * entries) for entries in range(20))
+    yield draw.randbytes(70000)
+    yield b"shb-record 2\nffff 1 2 \n1 2\nx y z\n0 ffffffffffff 0 /\n".ljust(65536, b"1") + ENTRIES
+
+
+class Damaged(recorder.Case):
+    def test_is_refused_or_converted_and_nothing_else(self):
+        converter, record = self.folder / "shb-std", self.folder / "app.rec"
+        sanitizers = "-fsanitize=address,undefined", "-fno-sanitize-recover"
+        sources = sorted(recorder.SOURCES.glob("converter/*.c"))
+        recorder.must(recorder.call("gcc", "-g", "-O1", *sanitizers, *sources, "-o", converter))
+        statuses = []
+        for number, damaged in enumerate(damaged_records()):
+            record.write_bytes(damaged)
+            answer = recorder.call(converter, record, env={**os.environ, "ASAN_OPTIONS": "detect_leaks=0"})
+            with self.subTest(number):
+                self.assertIn(answer.returncode, (0, 2), answer.stderr[-2000:])
+                self.assertIn(b"shb-std: ", answer.stderr)
+                self.assertNotRegex(answer.stderr, b"Sanitizer|runtime error")
+            statuses.append(answer.returncode)
+        self.assertGreater(statuses.count(0), 20)
+        self.assertGreater(statuses.count(2), 20)
+
+    def test_what_is_no_record(self):
+        for path, reason in ((self.folder / "none", b"cannot read"), (self.folder, b"is no record"),
+                             ("/dev/null", b"is no record")):
+            answer = recorder.convert(path)
+            self.assertEqual(answer.returncode, 2)
+            self.assertIn(reason, answer.stderr)
