@@ -3,10 +3,11 @@
 #include <string.h>
 #include "converter.h"
 
-enum { SHB_EVENTS = 4194304 };
+enum { SHB_EVENTS = 4194304, SHB_LINE = 4096, SHB_BYTES = 1 << 30 };
 
 u64 event_limit = SHB_EVENTS, events;
 const char *cut_reason;
+static u64 bytes;
 static struct { char name[80]; u64 epoch; } threads[THREADS];
 
 void name_thread(u32 t, u64 function) {
@@ -36,9 +37,13 @@ const char *variable_name(u64 address, const block *b) {
 }
 
 void event(u32 t, const char *operation, const char *name, const char *tail, u64 caller) {
+    char line[SHB_LINE];
+    u64 length = snprintf(line, sizeof line, "%s|%s(%s%s)|%s\n", thread_name(t), operation, name, tail, place_of(caller));
     if (events == event_limit) cut_reason = "at the limit of events";
+    else if (bytes + length > SHB_BYTES) cut_reason = "at 1 GiB of text";
     if (cut_reason) return;
     events++;
-    printf("%s|%s(%s%s)|%s\n", thread_name(t), operation, name, tail, place_of(caller));
+    bytes += length;
+    fputs(line, stdout);
     if (strcmp(operation, "r")) threads[t].epoch++;
 }

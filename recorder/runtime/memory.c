@@ -1,6 +1,7 @@
 /* Functions that give, take, copy or fill memory. */
 #define _GNU_SOURCE
 #include <errno.h>
+#include <stdarg.h>
 #include <stdlib.h>
 #include <string.h>
 #include <sys/mman.h>
@@ -11,7 +12,7 @@
 void *__libc_malloc(size_t), *__libc_calloc(size_t, size_t), *__libc_realloc(void *, size_t), *__libc_memalign(size_t, size_t);
 void __libc_free(void *);
 
-/* ---- memory: a new block is new variables; a free is a write ---- */
+/* ---- a new block is new variables; a free is a write ---- */
 static void *allocated(void *p, size_t size, uint64_t caller) {
     thread *t = p ? enter(NEVER_YIELD) : 0;
     if (!t) return p;
@@ -33,7 +34,12 @@ PUBLIC void *malloc(size_t n) { return allocated(__libc_malloc(n), n, CALLER); }
 PUBLIC void *calloc(size_t k, size_t n) { return allocated(__libc_calloc(k, n), k * n, CALLER); }
 PUBLIC void *memalign(size_t a, size_t n) { return allocated(__libc_memalign(a, n), n, CALLER); }
 PUBLIC void *aligned_alloc(size_t a, size_t n) { return allocated(__libc_memalign(a, n), n, CALLER); }
-PUBLIC void free(void *p) { will_free(p, CALLER); __libc_free(p); }
+PUBLIC void *valloc(size_t n) { return allocated(__libc_memalign(getpagesize(), n), n, CALLER); }
+
+PUBLIC void free(void *p) {
+    will_free(p, CALLER);
+    __libc_free(p);
+}
 
 PUBLIC void *realloc(void *p, size_t n) {
     will_free(p, CALLER);
@@ -54,23 +60,41 @@ PUBLIC void *mmap(void *at, size_t n, int protection, int flags, int f, off_t of
 }
 PUBLIC void *mmap64(void *, size_t, int, int, int, off_t) __attribute__((alias("mmap")));
 
+PUBLIC void *mremap(void *old, size_t old_size, size_t size, int flags, ...) {
+    va_list more;
+    va_start(more, flags);
+    char *p = (char *)syscall(SYS_mremap, old, old_size, size, flags, flags & MREMAP_FIXED ? va_arg(more, void *) : 0);
+    va_end(more);
+    size_t kept = p == old ? old_size : 0;
+    if (p != MAP_FAILED && size > kept) allocated(p + kept, size - kept, CALLER);
+    return p;
+}
+
 /* C++: the block's place is that of the `new`, and the free below a `delete` is the program's. */
 void *_Znwm(size_t), *_Znam(size_t);
 void _ZdlPv(void *), _ZdaPv(void *), _ZdlPvm(void *, size_t), _ZdaPvm(void *, size_t);
+
+static void end_new(thread **t) { (*t)->new_caller = 0; }    /* also where it throws */
+
 static void *called_new(void *(*real)(size_t), size_t n, uint64_t caller) {
-    thread *t = self;
-    if (!t || t->new_caller) return real(n);
+    if (!self || self->new_caller) return real(n);
+    thread *t __attribute__((cleanup(end_new))) = self;
     t->new_caller = caller;
-    void *p = real(n);
-    t->new_caller = 0;
-    return p;
+    return real(n);
 }
+
 PUBLIC void *_Znwm(size_t n) { return called_new(REAL(_Znwm), n, CALLER); }
 PUBLIC void *_Znam(size_t n) { return called_new(REAL(_Znam), n, CALLER); }
-PUBLIC void _ZdlPv(void *p) { will_free(p, CALLER); __libc_free(p); }
-PUBLIC void _ZdaPv(void *p) { will_free(p, CALLER); __libc_free(p); }
-PUBLIC void _ZdlPvm(void *p, size_t n) { will_free(p, CALLER); __libc_free(p); }
-PUBLIC void _ZdaPvm(void *p, size_t n) { will_free(p, CALLER); __libc_free(p); }
+
+#define DELETES(name, parameters) \
+    PUBLIC void name parameters { \
+        will_free(p, CALLER); \
+        __libc_free(p); \
+    }
+DELETES(_ZdlPv, (void *p))
+DELETES(_ZdaPv, (void *p))
+DELETES(_ZdlPvm, (void *p, size_t n))
+DELETES(_ZdaPvm, (void *p, size_t n))
 
 /* ---- ranges: never yields, for this may be the tail of a structure's copy ---- */
 static void note_copy(void *to, const void *from, size_t n, uint64_t caller) {

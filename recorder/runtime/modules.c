@@ -38,7 +38,7 @@ static int imports_hooks(struct dl_phdr_info *info, const ElfW(Phdr) *dynamic) {
 }
 
 static int see_module(struct dl_phdr_info *info, size_t size, void *unused) {
-    uint64_t low = ~0ull, high = 0;
+    uint64_t low = ~0ull, high = 0, own = (uint64_t)see_module;
     int hooks = 0;
     for (int i = 0; i < info->dlpi_phnum; i++) {
         const ElfW(Phdr) *part = &info->dlpi_phdr[i];
@@ -49,7 +49,7 @@ static int see_module(struct dl_phdr_info *info, size_t size, void *unused) {
         if (from + part->p_memsz > high) high = from + part->p_memsz;
     }
     note_module(info, low, high);
-    if (!hooks || instrumented(low) || module_count == MAX_MODULES) return 0;
+    if (!hooks || (own >= low && own < high) || instrumented(low) || module_count == MAX_MODULES) return 0;
     modules[module_count].low = low;
     modules[module_count++].high = high;
     return 0;

@@ -7,8 +7,6 @@
 #include <unistd.h>
 #include "runtime.h"
 
-/* ---- signals: no handler runs inside a hook.  One that comes there is blocked, sent again, and comes after it.  What
-   a handler does is recorded as its thread's own. ---- */
 static struct sigaction handlers[NSIG];
 enum { HANDLER_HOOKS = 1000 };         /* so many before a handler may give the turn up: an access may lie under it */
 
