@@ -135,3 +135,8 @@ PUBLIC void *memset(void *to, int c, size_t n) {
     __asm__ volatile("rep stosb" : "+D"(p), "+c"(n) : "a"(c) : "memory");
     return to;
 }
+
+/* What newer clangs call instead. */
+PUBLIC void *__tsan_memcpy(void *, const void *, size_t) __attribute__((alias("memcpy"), copy(memcpy)));
+PUBLIC void *__tsan_memmove(void *, const void *, size_t) __attribute__((alias("memmove"), copy(memmove)));
+PUBLIC void *__tsan_memset(void *, int, size_t) __attribute__((alias("memset"), copy(memset)));
