@@ -1,31 +1,23 @@
-"""view/shb-view: its text by hand, what it shows against plain definitions, its page parsed, and what it refuses."""
+"""view/shb-view: its text by hand, what it shows against plain definitions, and what it refuses."""
 
 import contextlib
-import html.parser
 import io
 import os
 import pty
 import random
 import re
-import subprocess
-import sys
 
 import judge
 import made_traces
 import program
 import shb
+from viewing import MADE, QUIET, made, read, run, run_here
 
-VIEW = program.HERE.parent / "view"
-sys.path.insert(0, str(VIEW))
-
-from shb_view import command, explain, names, page, picture, progress, text
+from shb_view import explain, names, progress
 from shb_view.refused import Refused
-from shb_view.report import Report
 from shb_view.trace import read_trace
 
 EXAMPLES = program.HERE.parent / "examples"
-MADE = 150  # traces
-QUIET = progress.Progress(io.StringIO())
 
 FORK_JOIN = """\
 fork-join.std: 1 race at 1 place (7 events, 2 threads, 0 locks, 2 variables)
@@ -83,37 +75,6 @@ Place 1 of 1, 1 race: write and read of x
   Locks held by both: none
   Race 1 of the report, in the order of the trace.
 """
-
-
-def read(trace, report):
-    """The trace and the places of a report of it."""
-    trace = read_trace(trace, QUIET)
-    return trace, explain.read_places(trace, Report(io.BytesIO(report), trace), lambda done: None)
-
-
-def run(words, **how):
-    how = {"stdout": subprocess.PIPE, "stderr": subprocess.PIPE, **how}
-    ran = subprocess.run([sys.executable, VIEW / "shb-view", *words], timeout=program.SECONDS, **how)
-    return program.Answer(ran.returncode, ran.stdout, ran.stderr)
-
-
-def run_here(words):
-    """The same in this process: what isn't answered ends the test."""
-    out, err = io.TextIOWrapper(io.BytesIO(), "utf-8"), io.StringIO()
-    with contextlib.redirect_stdout(out), contextlib.redirect_stderr(err):
-        status = command.main([str(word) for word in words])
-    out.flush()
-    return status, out.buffer.getvalue().decode(), err.getvalue()
-
-
-def made(how_many, seed=1):
-    """Made traces that keep the rules, with their events."""
-    pick = random.Random(seed)
-    while how_many:
-        trace = made_traces.made_trace(pick)
-        with contextlib.suppress(shb.Refused):
-            yield pick, trace, shb.read_trace(trace)[0]
-            how_many -= 1
 
 
 class Text(program.Case):

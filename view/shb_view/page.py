@@ -86,9 +86,9 @@ def section(view, number, place):
         yield from access_facts(trace, place_number, access, f"p{number}e")
     yield f"<p>Locks held by both: {html.escape(both_text(trace, place.accesses))}</p>"
     yield f"<p>{ending(place)}</p></div>"
-    yield f'<div class="wide">{picture(trace, place, f"p{number}e")}</div></div>'
+    yield f'<div class="wide picture">{picture(trace, place, f"p{number}e")}</div>'
     yield from lines_table(trace, place, f"p{number}e")
-    yield "</section>"
+    yield "</div></section>"
 
 
 def access_facts(trace, number, access, anchor):
@@ -120,7 +120,8 @@ def lines_table(trace, place, anchor):
     """The lines of the trace that the place's numbers link to."""
     events = linked_events(trace, place)
     numbers = trace.line_numbers(events)
-    yield '<div class="wide"><table class="lines"><thead><tr><th scope="col">Event</th><th scope="col">Line</th><th scope="col">Text in the trace</th></tr></thead><tbody>'
+    yield '<div class="wide"><table class="lines"><thead><tr>'
+    yield "".join(f'<th scope="col">{name}</th>' for name in ("Event", "Line", "Text of the line")) + "</tr></thead><tbody>"
     for event in events:
         kind = ' class="access"' if event in place.accesses else ""
         yield (f'<tr id="{anchor}{event}"{kind}><td class="n">{event}</td><td class="n">{numbers[event]}</td>'
