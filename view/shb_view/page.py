@@ -13,9 +13,10 @@ from shb_view.text import KINDS, both_text, counted, ending, location_text, note
 HERE = pathlib.Path(__file__).resolve().parent
 NAME = 80  # columns
 LINE = 240
-LEGEND = ("A lane is a thread, time goes down. An arrow goes from an event to one that has to come after it: a release and an "
-          "acquire, a fork, a join; broken, a write and the read that sees it. A bar left of a lane is a lock held. A broken "
-          "lane leaves events out. After what is above them, both accesses in the last row can come next.")
+LEGEND = ("In a picture each lane is a thread, and time runs down. A solid arrow leads from a release to the acquire after it, from a "
+          "fork to the thread's first event, or from a thread's last event to a join; a dashed arrow from a write to the read that "
+          "sees it. A bar beside a lane is a lock held. Where a lane is dashed, events are left out. After the events above them, "
+          "both accesses of the last row can come next.")
 
 
 def page_text(view):
@@ -58,7 +59,7 @@ def code(text):
 
 def table(view):
     """A row for each place."""
-    yield '<div class="wide"><table class="places"><thead><tr>'
+    yield '<div class="wide" id="places"><table class="places"><thead><tr>'
     for name in ("Place", "Races", "Variable", "First access", "Second access"):
         yield f'<th scope="col">{name}</th>'
     yield "</tr></thead><tbody>"
@@ -80,7 +81,7 @@ def section(view, number, place):
     yield f'<section id="p{number}">'
     yield f'<h2><a href="#p{number}">{number}</a> {KINDS[first.word].capitalize()} and {KINDS[second.word]} of {code(short(first.name, NAME))}</h2>'
     yield (f'<p>{code(location_text(first.location, NAME))} and {code(location_text(second.location, NAME))}: '
-           f"{counted(place.races, 'race')}</p>")
+           f"{counted(place.races, 'race')}. <a href=\"#places\">All places</a></p>")
     yield '<div class="parts"><div class="facts">'
     for place_number, access in enumerate(place.accesses, 1):
         yield from access_facts(trace, place_number, access, f"p{number}e")
@@ -94,8 +95,8 @@ def section(view, number, place):
 def access_facts(trace, number, access, anchor):
     """An access, the locks that its thread holds, and how its thread was started."""
     event, fork = trace.event(access), trace.fork(access)
-    started = f"{code(short(trace.event(fork).thread, NAME))} {where(trace, fork, anchor)}" if fork else "no event of the trace"
-    held = [f"{code(short(trace.event(acquire).name, NAME))} {where(trace, acquire, anchor)}" for acquire in trace.held(access)]
+    started = f"{code(short(trace.event(fork).thread, NAME))} at {where(trace, fork, anchor)}" if fork else "no event of the trace"
+    held = [f"{code(short(trace.event(acquire).name, NAME))}, acquired at {where(trace, acquire, anchor)}" for acquire in trace.held(access)]
     yield f'<h3><span class="mark">{number}</span> {KINDS[event.word].capitalize()} by {code(short(event.thread, NAME))}</h3>'
     yield f"<dl><dt>Where</dt><dd>{where(trace, access, anchor)}</dd>"
     yield "<dt>Holds</dt>" + "".join(f"<dd>{lock}</dd>" for lock in held or ["no lock"])
@@ -104,8 +105,8 @@ def access_facts(trace, number, access, anchor):
 
 def where(trace, event, anchor):
     """An event's location and number, as a link to its line."""
-    location = html.escape(location_text(trace.event(event).location, NAME))
-    return f'<span class="where">{location} · <a href="#{anchor}{event}">{event}</a></span>'
+    location = code(location_text(trace.event(event).location, NAME))
+    return f'{location}, <a href="#{anchor}{event}">event {event}</a>'
 
 
 def linked_events(trace, place):

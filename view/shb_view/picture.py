@@ -11,10 +11,10 @@ from shb_view.names import columns, short, shown
 from shb_view.text import location_text
 
 ROW, HEAD, BAND = 36, 20, 76  # heights of an event, of a thread's name, of the last row
-LEFT, GAP, STEP = 14, 16, 7  # left edge, room beside a lane, room for a bar or an arrow more
+LEFT, GAP, STEP = 14, 18, 7  # left edge, room beside a lane, room for a bar or an arrow more
 STUB = 14  # how far a bar goes on where its lock's acquire or release isn't shown
 ROUND = 5
-TEXT = 36  # columns of a text
+TEXT = 36  # columns of a text, at most
 COLUMN = 7.3  # width of a column
 MOST_BARS = 4
 COLOURS = 4  # of bars
@@ -91,7 +91,20 @@ class Drawing:
         self.texts = self.x[-1] + GAP
 
     def width(self):
-        return int(max(self.texts, *self.x) + TEXT * COLUMN) + 8
+        """Up to the right edge of the widest text."""
+        names = [self.x[lane] + COLUMN * columns(self.thread_text(thread)) for thread, lane in self.lanes.items()]
+        texts = [self.texts + COLUMN * columns(text) for event in self.y for text in self.event_texts(event)]
+        return int(max(names + texts)) + 12
+
+    def thread_text(self, thread):
+        return short(self.trace.event(self.events_of(thread)[0]).thread, TEXT)
+
+    def event_texts(self, number):
+        """An event's operation, and its location with its number behind it."""
+        event = self.trace.event(number)
+        front = f"{self.place.accesses.index(number) + 1}  " if number in self.place.accesses else ""
+        behind = f" · {number}"
+        return front + short(event.operation, TEXT - len(front)), location_text(event.location, TEXT - len(behind)) + behind
 
     def height(self):
         return self.band + BAND + 2
@@ -115,8 +128,9 @@ def lane_parts(drawing, anchor):
     trace = drawing.trace
     for thread, lane in drawing.lanes.items():
         events, x = drawing.events_of(thread), drawing.x[lane]
-        name, top = trace.event(events[0]).thread, HEAD * (lane + 1)
-        yield f'<text class="thread lane{min(lane, 2)}" x="{x - 4}" y="{top - 6}">{html.escape(short(name, TEXT))}<title>{html.escape(shown(name))}</title></text>'
+        name, top = html.escape(shown(trace.event(events[0]).thread)), HEAD * (lane + 1)
+        yield f'<g><title>{name}</title><text class="thread lane{min(lane, 2)}" x="{x - 4}" y="{top - 6}">'
+        yield f"{html.escape(drawing.thread_text(thread))}</text></g>"
         before = 0
         for event in events:
             kind = "lane" if trace.previous[event] == before else "lane gap"
@@ -138,7 +152,7 @@ def edge_parts(drawing, anchor):
     """An arrow for each edge: along the row of the earlier event, down beside the lane of the later one, and to it."""
     for edge, slot in zip(drawing.place.edges, drawing.edge_slots):
         (x1, x2), (y1, y2) = (drawing.x[drawing.lane(event)] for event in edge), map(drawing.y.get, edge)
-        down = drawing.x[drawing.gap_of(edge)] + GAP + STEP * slot - 4
+        down = drawing.x[drawing.gap_of(edge)] + GAP + STEP * slot - 2
         turn = ROUND if x1 < down else -ROUND
         back = ROUND if down < x2 else -ROUND
         is_read = drawing.trace.event(edge[1]).word == b"r" and drawing.trace.source[edge[1]] == edge[0]
@@ -161,20 +175,20 @@ def access_parts(drawing, anchor):
     y = drawing.band + BAND // 2
     yield f'<line class="next" x1="{xs[0]}" y1="{y}" x2="{xs[1]}" y2="{y}"/>'
     for number, (access, x) in enumerate(zip(drawing.place.accesses, xs), 1):
-        row = drawing.band + 2 + ROW * number - ROW // 2
-        yield f'<g class="access">{tip(drawing.trace, access)}<circle cx="{x}" cy="{y}" r="8"/><text class="number" x="{x}" y="{y + 4}">{number}</text>'
-        yield f'{event_text(drawing, access, row, anchor, f"{number}  ")}</g>'
+        yield f'<g class="access">{tip(drawing.trace, access)}<circle cx="{x}" cy="{y}" r="8"/>'
+        yield f'<text class="number" x="{x}" y="{y + 4}">{number}</text>'
+        yield f"{event_text(drawing, access, drawing.band + 2 + ROW * number - ROW // 2, anchor)}</g>"
 
 
 def tip(trace, event):
+    """What a browser says of an event that is pointed at."""
     held = ", ".join(shown(trace.event(acquire).name) for acquire in trace.held(event))
     return f"<title>{html.escape(shown(trace.line(event)))}\nholds {html.escape(held) or 'no lock'}</title>"
 
 
-def event_text(drawing, number, y, anchor, front=""):
-    """An event's operation, its location and its number."""
-    event = drawing.trace.event(number)
-    operation = html.escape(front + short(event.operation, TEXT - len(front)))
-    location = html.escape(location_text(event.location, TEXT - 5 - len(str(number))))
-    return (f'<text x="{drawing.texts}" y="{y - 2}">{operation}</text><text class="at" x="{drawing.texts}" y="{y + 12}">{location} · '
-            f'<a href="#{anchor}{number}">{number}</a></text>')
+def event_text(drawing, number, y, anchor):
+    """The two texts of an event, its number as a link."""
+    operation, location = map(html.escape, drawing.event_texts(number))
+    link = f'<a href="#{anchor}{number}">{number}</a>'
+    return (f'<text x="{drawing.texts}" y="{y - 2}">{operation}</text>'
+            f'<text class="at" x="{drawing.texts}" y="{y + 12}">{location[:-len(str(number))]}{link}</text>')

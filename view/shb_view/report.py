@@ -17,6 +17,7 @@ AT, AND = (re.compile(word + rb" ([^\n]{0,4096})\n") for word in (rb"at", rb"and
 RACE = re.compile(rb"race %b: %b %b\n" % (NUMBER, NUMBER, NUMBER))
 FIRST, SECOND = (re.compile(word + rb" ([^\n]{1,4096})\n") for word in (rb"first", rb"second"))
 SCHEDULE = re.compile(rb"schedule %b:([0-9 ]*)\n" % NUMBER)
+NO_LIST = re.compile(rb"\A[0-9]| \Z|  | 0[0-9]")  # in the numbers of a schedule
 END = re.compile(rb"end\n")
 LONGEST = 60  # columns of a line that a refusal shows
 
@@ -130,8 +131,7 @@ class Report:
     def read_schedule(self):
         form = "schedule N: N EVENTS"
         count, events = self.lines.next(SCHEDULE, form)
-        is_list = events[:1] == b" " and events[-1:] != b" " and b"  " not in events
-        if events.count(b" ") != int(count) or (events and not is_list):
+        if events.count(b" ") != int(count) or NO_LIST.search(events):
             raise Refused(f"line {self.lines.number} of the report isn't a schedule of {int(count)} events; it should be `{form}`")
         return events + b" "
 

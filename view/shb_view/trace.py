@@ -8,9 +8,9 @@ import typing
 from shb_view.refused import Refused
 
 MOST_BYTES, MOST_LINE, MOST_EVENTS, MOST_THREADS = 1_073_741_824, 4_096, 4_194_304, 1_024
-ACCESSES = {b"r", b"w"}
+ACCESSES, THREAD_WORDS = {b"r", b"w"}, {b"fork", b"join"}
 MARKS = {b"begin", b"end"}
-WORDS = {b"r", b"w", b"acq", b"rel", b"fork", b"join", *MARKS}
+NAMED = {b"r", b"w", b"acq", b"rel", b"fork", b"join"}
 BETWEEN_STEPS = 65_536  # events between two words on how far the reading is
 
 
@@ -54,7 +54,8 @@ class Trace:
         return line[:-1] if line.endswith(b"\r") else line
 
     def event(self, event):
-        return fields_of(self.line(event))
+        thread, operation, *location = fields_of(self.line(event))
+        return Event(thread, operation, *operation_of(operation), b"".join(location))
 
     def held(self, event):
         """The locks that the event's thread holds right before it, as their acquires, oldest first. Of nested acquires of a
@@ -88,21 +89,25 @@ class Fault(Exception):
 
 
 def fields_of(line):
-    """The fields of a line that isn't empty; or its fault of form."""
-    thread, *rest = line.split(b"|", 2)
-    if not rest:
+    """The thread, the operation and the location of a line that isn't empty."""
+    fields = line.split(b"|", 2)
+    if len(fields) < 2:
         raise Fault("the line has no operation field")
-    if not thread:
+    if not fields[0]:
         raise Fault("the thread name is empty")
-    operation = rest[0]
-    word, bracket, operand = operation.partition(b"(")
-    if word not in WORDS:
+    return fields
+
+
+def operation_of(operation):
+    """The word and the name of an operation; of a mark no name."""
+    word, _, operand = operation.partition(b"(")
+    if operand.endswith(b")") and len(operand) > 1 and word in NAMED:
+        return word, operand[:-1]
+    if word not in NAMED and word not in MARKS:
         raise Fault("the operation is not known")
-    is_whole = operand.endswith(b")") and (len(operand) > 1 or word in MARKS)
-    if not is_whole and (bracket or word not in MARKS):
+    if word in NAMED or (operation != word and not operand.endswith(b")")):
         raise Fault("the operand is not a name in parentheses")
-    name = b"" if word in MARKS else operand[:-1]
-    return Event(thread, operation, word, name, rest[1] if len(rest) > 1 else b"")
+    return word, b""
 
 
 class Reader:
@@ -113,7 +118,7 @@ class Reader:
         self.threads = {}  # numbers of threads by name
         self.last = []  # by number of thread: its last event, or 0
         self.open = []  # by number of thread: its acquires; the last of them isn't released
-        self.joined = set()  # names of threads
+        self.joined = []  # by number of thread: whether a join of it was taken
         self.releases = {}  # by name of lock: its last release, or 0
         self.nests = {}  # by name of lock: its acquires that aren't released
         self.writes = {}  # by name of variable: its last write, or 0
@@ -122,20 +127,22 @@ class Reader:
 
     def take(self, start, line):
         """One more event, whose line begins at this place of the text."""
-        fields, trace = fields_of(line), self.trace
+        name, operation, *_ = fields_of(line)
+        word, operand = operation_of(operation)
+        trace = self.trace
         number = len(trace.starts)
         if number > MOST_EVENTS:
             raise Fault(f"there are more than {MOST_EVENTS} events")
-        thread = self.thread_number(fields.thread)
-        if fields.word in (b"fork", b"join"):
-            self.thread_number(fields.name)
+        thread = self.thread_number(name)
+        if word in THREAD_WORDS:
+            self.thread_number(operand)
         if len(self.threads) > MOST_THREADS:
             raise Fault(f"there are more than {MOST_THREADS} threads")
-        if fields.thread in self.joined:
+        if self.joined[thread]:
             raise Fault("the thread was joined before")
         held = self.open[thread]
         trace.holding.append(held[-1] if held else 0)
-        source = self.takers[fields.word](number, thread, fields)
+        source = self.takers[word](number, thread, operand)
         trace.source.append(source if trace.threads[source] != thread else 0)
         trace.starts.append(start)
         trace.threads.append(thread)
@@ -144,60 +151,65 @@ class Reader:
         self.last[thread] = number
 
     def thread_number(self, name):
-        number = self.threads.setdefault(name, len(self.threads))
-        if number == len(self.last):
+        """The number of the thread with this name, a new one where it has none."""
+        number = self.threads.get(name)
+        if number is None:
+            number = self.threads[name] = len(self.threads)
             self.last.append(0)
             self.open.append([])
+            self.joined.append(False)
         return number
 
-    def mark(self, number, thread, fields):
+    def mark(self, number, thread, name):
         return 0
 
-    def read(self, number, thread, fields):
-        return self.writes.setdefault(fields.name, 0)
+    def read(self, number, thread, variable):
+        return self.writes.setdefault(variable, 0)
 
-    def write(self, number, thread, fields):
-        self.writes[fields.name] = number
+    def write(self, number, thread, variable):
+        self.writes[variable] = number
         return 0
 
-    def acquire(self, number, thread, fields):
-        nest = self.nests.setdefault(fields.name, [])
+    def acquire(self, number, thread, lock):
+        nest = self.nests.setdefault(lock, [])
         if nest and self.trace.threads[nest[-1]] != thread:
             raise Fault("the lock is held by another thread")
         nest.append(number)
         self.open[thread].append(number)
-        return self.releases.setdefault(fields.name, 0)
+        return self.releases.setdefault(lock, 0)
 
-    def release(self, number, thread, fields):
-        nest = self.nests.get(fields.name)
+    def release(self, number, thread, lock):
+        nest = self.nests.get(lock)
         if not nest or self.trace.threads[nest[-1]] != thread:
             raise Fault("the lock is not held by this thread")
-        self.trace.released[nest.pop()] = number
+        released, held = self.trace.released, self.open[thread]
+        released[nest.pop()] = number
         if not nest:
-            del self.nests[fields.name]
-        held = self.open[thread]
-        while held and self.trace.released[held[-1]]:
+            del self.nests[lock]
+        while held and released[held[-1]]:
             held.pop()
-        self.releases[fields.name] = number
+        self.releases[lock] = number
         return 0
 
-    def fork(self, number, thread, fields):
-        if fields.name == fields.thread:
+    def fork(self, number, thread, name):
+        forked = self.threads[name]
+        if forked == thread:
             raise Fault("a thread cannot fork itself")
-        if self.last[self.threads[fields.name]]:
+        if self.last[forked]:
             raise Fault("the forked thread has started already")
-        if fields.name in self.trace.forks:
+        if name in self.trace.forks:
             raise Fault("the thread was forked before")
-        if fields.name in self.joined:
+        if self.joined[forked]:
             raise Fault("the forked thread was joined before")
-        self.trace.forks[fields.name] = number
+        self.trace.forks[name] = number
         return 0
 
-    def join(self, number, thread, fields):
-        if fields.name == fields.thread:
+    def join(self, number, thread, name):
+        ended = self.threads[name]
+        if ended == thread:
             raise Fault("a thread cannot join itself")
-        self.joined.add(fields.name)
-        return self.last[self.threads[fields.name]]
+        self.joined[ended] = True
+        return self.last[ended]
 
     def whole(self):
         """The trace of all lines taken."""
