@@ -38,6 +38,81 @@ Place 1 of 1, 1 race: write and write of count
   After the schedule of race 1 (3 events) both accesses come next.
 """
 
+UNLOCKED_READ = """\
+unlocked-read.std: 3 races at 3 places (18 events, 3 threads, 1 lock, 3 variables)
+shb check: ok 3
+
+Place 1 of 3, 1 race: write and read of items
+  Write by producer at queue.c:22 (event 12)
+    Locks held: lock, acquired at queue.c:20 (event 10)
+    Thread started by main at main.c:9 (event 2)
+    Before it:
+      10  acq(lock)       queue.c:20
+      11  r(taken)        queue.c:21
+  Read by main at main.c:11 (event 13)
+    Locks held: none
+    Thread started by no event of the trace
+    Before it:
+       1  w(items)        main.c:8
+       2  fork(producer)  main.c:9
+       3  fork(consumer)  main.c:10
+  Locks held by both: none
+  After the schedule of race 1 (10 events) both accesses come next.
+
+Place 2 of 3, 1 race: read and write of closed
+  Read by consumer at queue.c:29 (event 9)
+    Locks held: none
+    Thread started by main at main.c:10 (event 3)
+    Before it:
+       6  r(items)        queue.c:31
+       7  w(taken)        queue.c:32
+       8  rel(lock)       queue.c:33
+  Write by main at main.c:12 (event 15)
+    Locks held: none
+    Thread started by no event of the trace
+    Before it:
+       2  fork(producer)  main.c:9
+       3  fork(consumer)  main.c:10
+      13  r(items)        main.c:11
+  Locks held by both: none
+  After the schedule of race 2 (12 events) both accesses come next.
+
+Place 3 of 3, 1 race: write and read of closed
+  Write by main at main.c:12 (event 15)
+    Locks held: none
+    Thread started by no event of the trace
+    Before it:
+       2  fork(producer)  main.c:9
+       3  fork(consumer)  main.c:10
+      13  r(items)        main.c:11
+  Read by consumer at queue.c:29 (event 16)
+    Locks held: none
+    Thread started by main at main.c:10 (event 3)
+    Before it:
+       7  w(taken)        queue.c:32
+       8  rel(lock)       queue.c:33
+       9  r(closed)       queue.c:29
+  Locks held by both: none
+  After the schedule of race 3 (13 events) both accesses come next.
+"""
+
+READ_ORDERS = """\
+read-orders.std: 1 race at 1 place (4 events, 2 threads, 0 locks, 2 variables)
+
+Place 1 of 1, 1 race: write and read of ready
+  Write by T1 at p.c:2 (event 2)
+    Locks held: none
+    Thread started by no event of the trace
+    Before it:
+      1  w(data)  p.c:1
+  Read by T2 at c.c:1 (event 3)
+    Locks held: none
+    Thread started by no event of the trace
+    Before it: nothing
+  Locks held by both: none
+  After the schedule of race 1 (1 event) both accesses come next.
+"""
+
 # Two threads under nested locks of their own; the third to sixth event of each stand before its access.
 NESTED = b"""\
 main|fork(A)|m.c:1
@@ -83,8 +158,10 @@ class Text(program.Case):
         self.assertEqual((status, err), (0, ""))
         return out
 
-    def test_an_example_by_hand(self):
-        self.expect(run([EXAMPLES / "fork-join.std", EXAMPLES / "fork-join.report"]), 0, FORK_JOIN.encode())
+    def test_examples_by_hand(self):
+        for name, said, words in (("fork-join", FORK_JOIN, []), ("read-orders", READ_ORDERS, []),
+                                  ("unlocked-read", UNLOCKED_READ, ["--check", "--shb", program.PATH])):
+            self.expect(run([*words, EXAMPLES / f"{name}.std", EXAMPLES / f"{name}.report"]), 0, said.encode())
 
     def test_nested_locks_by_hand(self):
         self.assertEqual(self.shown(NESTED, shb.report(NESTED, False)), NESTED_LIST)

@@ -76,7 +76,7 @@ class Pages(program.Case):
     def test_facts_of_an_example(self):
         page = self.page(*self.example("fork-join"))
         self.assertEqual([text for _, text in page.all("dd")],
-                         ["worker.c:3, event 4", "no lock", "main at start.c:5, event 2", "start.c:6, event 5", "no lock", "no event of the trace"])
+                         ["worker.c:3 event 4", "no lock", "main at start.c:5 event 2", "start.c:6 event 5", "no lock", "no event of the trace"])
         self.assertEqual([text for _, text in page.all("td")][5:], [
             "1", "1", "main|w(config)|start.c:4", "2", "2", "main|fork(worker)|start.c:5", "3", "3", "worker|r(config)|worker.c:2",
             "4", "4", "worker|w(count)|worker.c:3", "5", "5", "main|w(count)|start.c:6"])

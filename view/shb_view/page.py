@@ -96,17 +96,17 @@ def access_facts(trace, number, access, anchor):
     """An access, the locks that its thread holds, and how its thread was started."""
     event, fork = trace.event(access), trace.fork(access)
     started = f"{code(short(trace.event(fork).thread, NAME))} at {where(trace, fork, anchor)}" if fork else "no event of the trace"
-    held = [f"{code(short(trace.event(acquire).name, NAME))}, acquired at {where(trace, acquire, anchor)}" for acquire in trace.held(access)]
+    held = [f"{code(short(trace.event(acquire).name, NAME))} acquired at {where(trace, acquire, anchor)}" for acquire in trace.held(access)]
     yield f'<h3><span class="mark">{number}</span> {KINDS[event.word].capitalize()} by {code(short(event.thread, NAME))}</h3>'
     yield f"<dl><dt>Where</dt><dd>{where(trace, access, anchor)}</dd>"
     yield "<dt>Holds</dt>" + "".join(f"<dd>{lock}</dd>" for lock in held or ["no lock"])
-    yield f"<dt>Thread started by</dt><dd>{started}</dd></dl>"
+    yield f"<dt>Started by</dt><dd>{started}</dd></dl>"
 
 
 def where(trace, event, anchor):
     """An event's location and number, as a link to its line."""
     location = code(location_text(trace.event(event).location, NAME))
-    return f'{location}, <a href="#{anchor}{event}">event {event}</a>'
+    return f'{location} <a href="#{anchor}{event}">event {event}</a>'
 
 
 def linked_events(trace, place):
