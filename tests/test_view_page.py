@@ -180,16 +180,17 @@ class Pictures(program.Case):
             for a in at:
                 for b in at:
                     self.assertEqual(at[a][0] == at[b][0], trace.threads[a] == trace.threads[b])
-            drawn = [self.ends(attributes["d"]) for attributes, _ in page.all("path", "edge")]
+            drawn = [self.ends(attributes["d"], at.values()) for attributes, _ in page.all("path", "edge")]
             self.assertEqual(drawn, [at[source] + at[event] for source, event in place.edges])
             arrows += len(drawn)
         self.assertGreater(arrows, 50)
 
-    def ends(self, path):
-        """Where an arrow starts, and the middle of the circle at which it ends."""
+    def ends(self, path, places):
+        """Where an arrow starts, and where the next event in its last direction stands."""
         numbers = list(map(float, re.findall(r"-?[\d.]+", path)))
-        turn, end = numbers[-3], numbers[-1]
-        return numbers[0], numbers[1], end + (picture.ROUND if turn < end + picture.ROUND and turn <= end else -picture.ROUND), numbers[-2]
+        turn, height, end = numbers[-3:]
+        ahead = [x for x, y in places if y == height and (x > end) == (end >= turn)]
+        return numbers[0], numbers[1], min(ahead, key=lambda x: abs(x - end)), height
 
     def test_bars_are_the_locks_held(self):
         bars = 0

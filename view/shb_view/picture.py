@@ -13,7 +13,9 @@ from shb_view.text import location_text
 ROW, HEAD, BAND = 36, 20, 76  # heights of an event, of a thread's name, of the last row
 LEFT, GAP, STEP = 14, 18, 7  # left edge, room beside a lane, room for a bar or an arrow more
 STUB = 14  # how far a bar goes on where its lock's acquire or release isn't shown
-ROUND = 5
+ROUND = 5  # how far from an event an arrow ends, and the radius of its turns
+ACCESS = 8  # the radius of an access
+BARS = 6  # how far from a lane its bars begin
 TEXT = 36  # columns of a text, at most
 COLUMN = 7.3  # width of a column
 MOST_BARS = 4
@@ -86,7 +88,7 @@ class Drawing:
         for thread, lane in self.lanes.items():
             bars = [slot for bar, slot in zip(self.bars, self.bar_slots) if bar.thread == thread]
             arrows = [slot for edge, slot in zip(self.place.edges, self.edge_slots) if self.gap_of(edge) == lane]
-            self.x.append(right + STEP * (max(bars) + 1 if bars else 0))
+            self.x.append(right + (BARS + STEP * (max(bars) + 1) if bars else 0))
             right = self.x[-1] + GAP + STEP * (max(arrows) + 1 if arrows else 0) + ROUND
         self.texts = self.x[-1] + GAP
 
@@ -143,7 +145,7 @@ def bar_parts(drawing, anchor):
     locks = {}
     for bar, slot in zip(drawing.bars, drawing.bar_slots):
         colour = locks.setdefault(bar.lock, len(locks)) % COLOURS
-        x = drawing.x[drawing.lanes[bar.thread]] - STEP * (slot + 1) - 2
+        x = drawing.x[drawing.lanes[bar.thread]] - BARS - STEP * (slot + 1)
         yield (f'<rect class="lock lock{colour}" x="{x}" y="{bar.top}" width="4" height="{bar.bottom - bar.top}" rx="2">'
                f'<title>{html.escape(shown(bar.lock))}</title></rect>')
 
@@ -154,10 +156,11 @@ def edge_parts(drawing, anchor):
         (x1, x2), (y1, y2) = (drawing.x[drawing.lane(event)] for event in edge), map(drawing.y.get, edge)
         down = drawing.x[drawing.gap_of(edge)] + GAP + STEP * slot - 2
         turn = ROUND if x1 < down else -ROUND
-        back = ROUND if down < x2 else -ROUND
+        reach = ACCESS + 1 if edge[1] in drawing.place.accesses else ROUND
+        back, end = (ROUND, x2 - reach) if down < x2 else (-ROUND, x2 + reach)
         is_read = drawing.trace.event(edge[1]).word == b"r" and drawing.trace.source[edge[1]] == edge[0]
         yield (f'<path class="edge{" seen" if is_read else ""}" d="M{x1} {y1}H{down - turn}Q{down} {y1} {down} {y1 + ROUND}'
-               f'V{y2 - ROUND}Q{down} {y2} {down + back} {y2}H{x2 - back}" marker-end="url(#to)"/>')
+               f'V{y2 - ROUND}Q{down} {y2} {down + back} {y2}H{end}" marker-end="url(#to)"/>')
 
 
 def event_parts(drawing, anchor):
@@ -175,7 +178,7 @@ def access_parts(drawing, anchor):
     y = drawing.band + BAND // 2
     yield f'<line class="next" x1="{xs[0]}" y1="{y}" x2="{xs[1]}" y2="{y}"/>'
     for number, (access, x) in enumerate(zip(drawing.place.accesses, xs), 1):
-        yield f'<g class="access">{tip(drawing.trace, access)}<circle cx="{x}" cy="{y}" r="8"/>'
+        yield f'<g class="access">{tip(drawing.trace, access)}<circle cx="{x}" cy="{y}" r="{ACCESS}"/>'
         yield f'<text class="number" x="{x}" y="{y + 4}">{number}</text>'
         yield f"{event_text(drawing, access, drawing.band + 2 + ROW * number - ROW // 2, anchor)}</g>"
 
