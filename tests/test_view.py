@@ -386,6 +386,8 @@ class Reports(program.Case):
             (b"race 1: 3 4", b"race 2: 3 4", "line 8 of the report has the number 2; it should be `race 1: I J`"),
             (b"schedule 2: 1 2", b"schedule 1: 1", "race 1 of the report: its schedule lacks event 2, which comes before an access"),
             (b"schedule 2: 1 2", b"schedule 2: 1", "line 11 of the report isn't a schedule of 2 events; it should be `schedule N: N EVENTS`"),
+            (b"schedule 2: 1 2", b"schedule 2: 1 02", "line 11 of the report isn't a schedule of 2 events; it should be `schedule N: N EVENTS`"),
+            (b"schedule 2: 1 2", b"schedule 2:1 2 ", "line 11 of the report isn't a schedule of 2 events; it should be `schedule N: N EVENTS`"),
             (b"schedule 2: 1 2", b"schedule 2: 1  ", "line 11 of the report isn't a schedule of 2 events; it should be `schedule N: N EVENTS`"),
             (b"at 3", b"at 4", "the places that the report begins with aren't those of its races"),
             (b"end\n", b"end", "line 12 of the report is cut off: `end`; it should be `end`"),

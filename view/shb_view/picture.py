@@ -19,7 +19,7 @@ BARS = 6  # how far from a lane its bars begin
 TEXT = 36  # columns of a text, at most
 COLUMN = 7.3  # width of a column
 MOST_BARS = 4
-COLOURS = 4  # of bars
+COLOURS = 6  # of bars
 
 
 class Bar(typing.NamedTuple):

@@ -17,7 +17,7 @@ AT, AND = (re.compile(word + rb" ([^\n]{0,4096})\n") for word in (rb"at", rb"and
 RACE = re.compile(rb"race %b: %b %b\n" % (NUMBER, NUMBER, NUMBER))
 FIRST, SECOND = (re.compile(word + rb" ([^\n]{1,4096})\n") for word in (rb"first", rb"second"))
 SCHEDULE = re.compile(rb"schedule %b:([0-9 ]*)\n" % NUMBER)
-NO_LIST = re.compile(rb"\A[0-9]| \Z|  | 0[0-9]")  # in the numbers of a schedule
+LEADING_ZERO = re.compile(rb" 0[0-9]")
 END = re.compile(rb"end\n")
 LONGEST = 60  # columns of a line that a refusal shows
 
@@ -69,6 +69,13 @@ def said(line):
     if not line.endswith(b"\n"):
         return f"cut off: `{short(line, LONGEST)}`"
     return f"`{short(line[:-1], LONGEST)}`"
+
+
+def is_list(digits):
+    """Whether digits and blanks are numbers, each with one blank before it."""
+    if not digits.startswith(b" ") or digits.endswith(b" "):
+        return not digits
+    return b"  " not in digits and not LEADING_ZERO.search(digits)
 
 
 class Report:
@@ -131,7 +138,7 @@ class Report:
     def read_schedule(self):
         form = "schedule N: N EVENTS"
         count, events = self.lines.next(SCHEDULE, form)
-        if events.count(b" ") != int(count) or NO_LIST.search(events):
+        if events.count(b" ") != int(count) or not is_list(events):
             raise Refused(f"line {self.lines.number} of the report isn't a schedule of {int(count)} events; it should be `{form}`")
         return events + b" "
 
