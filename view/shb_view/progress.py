@@ -1,0 +1,31 @@
+"""How far a long reading is, on standard error where that is a terminal."""
+
+import sys
+import time
+
+PATIENCE = 1.0  # seconds before anything is said
+PAUSE = 0.2  # seconds between two words
+
+
+class Progress:
+    def __init__(self, out=sys.stderr):
+        self.out = out
+        self.next = time.monotonic() + PATIENCE if out.isatty() else float("inf")
+        self.said = False
+
+    def step(self, doing, done, whole):
+        """Says what is done and how much of it, where it is time to."""
+        now = time.monotonic()
+        if now < self.next:
+            return
+        self.next, self.said = now + PAUSE, True
+        part = f" {100 * min(done, whole) // whole}%" if whole else ""
+        self.out.write(f"\r\x1b[Kshb-view: {doing}{part}")
+        self.out.flush()
+
+    def clear(self):
+        """Takes the words away again."""
+        if self.said:
+            self.out.write("\r\x1b[K")
+            self.out.flush()
+            self.said = False
