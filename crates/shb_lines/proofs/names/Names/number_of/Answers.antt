@@ -22,6 +22,10 @@ returns-in-Some-clause-names c =
     let names = names_in c.args.self.now.table.entries in
     sym (with_name-known names c.args.name.now _ (c.in-Some.ensures.number names c.args.name.now c.args.self.now.remembered c.ends_of-ends.ensures.ends))
 
+pub returns-then-is_named-clause-names : goal.returns-then-is_named-clause-names
+returns-then-is_named-clause-names c =
+    sym (with_name-known (names_in c.args.self.now.table.entries) c.args.name.now _ (c.is_named.ensures.number c.if-is_named.true))
+
 -- what is remembered stays true, and the name's number is that of every name with its ends
 pub invariant_of-self-2 : goal.invariant_of-self-2
 invariant_of-self-2 c =
@@ -30,8 +34,8 @@ invariant_of-self-2 c =
     let ends = c.ends_of-ends.result in
     let name = c.args.name.now in
     let buckets = c.args.self.now.recent.buckets.items in
-    let kept = AreRemembered-more before after buckets c.in_ok-number.ensures.known c.args.self.now.remembered in
-    let told : (other : List ℕ) → HasEnds ends.first ends.last ends.len other → slice_get after c.in_ok-number.number ≡ Some other = λ other has.
+    let kept = AreRemembered-more before after buckets c.in_ok-number-2.ensures.known c.args.self.now.remembered in
+    let told : (other : List ℕ) → HasEnds ends.first ends.last ends.len other → slice_get after c.in_ok-number-2.number ≡ Some other = λ other has.
     let same : name ≡ other = one_name ends.first ends.last ends.len name other c.ends_of-ends.ensures.ends has in
-    c.in_ok-number.ensures.number ∙ ap Some same in
+    c.in_ok-number-2.ensures.number ∙ ap Some same in
     record { remembered = c.remember.ensures.remembered after kept told }
