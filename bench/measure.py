@@ -1,9 +1,11 @@
 #!/usr/bin/env python3
-"""Times the built program on made traces, and prints a table: for each trace, form of the report and number
-of workers the least wall time of some runs, its ratio to that with one worker, the processor time of that run
-and the most memory; and, of one worker, the ratio to `wc -l` of the trace. All is of this one run.
+"""Times the built program on made traces, or on the given ones, and prints a table: for each trace, form of the
+report and number of workers the least wall time of some runs, its ratio to that with one worker, the processor
+time of that run and the most memory; and, of one worker, the ratio to `wc -l` of the trace. All is of this one
+run. Of given traces list reports are made, or with --full full ones.
 
     measure.py [--large] [--repeats N] [--only WORD] [PROGRAM]
+    measure.py [--full] [--repeats N] PROGRAM TRACE..
 """
 
 import argparse
@@ -37,6 +39,7 @@ TRACES = [
     Trace("a million, 4 locks", million("--locks", "4", *SOME_RACES)),
     Trace("a million, one hot variable", million("--hot")),
     Trace("a million, 200,000 variables", million("--variables", "200000", *SOME_RACES)),
+    Trace("a million, names as recorded, 260,000 variables", million("--threads", "8", "--variables", "200000", "--own", "8000", "--recorded", *SOME_RACES)),
     Trace("a million, mostly reads", million("--reads", "95", *SOME_RACES)),
     Trace("a million, 32 threads", million("--threads", "32", *SOME_RACES)),
     Trace("a million, 1,024 threads", million("--threads", "1024", *SOME_RACES)),
@@ -70,11 +73,17 @@ def number_of_races(report):
         return next(int(line.split()[1]) for line in lines if line.startswith(b"races "))
 
 
-def measure(program, folder, trace, repeats):
-    text, report = folder / "trace.std", folder / "report"
+def made(folder, trace):
+    """The text of a made trace, in a file."""
+    text = folder / "trace.std"
     with open(text, "wb") as out:
         subprocess.run([sys.executable, HERE / "generate.py", *trace.options], stdout=out, check=True)
-    for form in trace.forms:
+    return text
+
+
+def measure(program, folder, name, text, forms, repeats):
+    report = folder / "report"
+    for form in forms:
         runs = {workers: [] for workers in WORKERS}
         counts = []
         # in turn, so that a busy machine disturbs all alike
@@ -89,7 +98,7 @@ def measure(program, folder, trace, repeats):
             wall, processor, megabytes = best[workers]
             counted = f"{wall / min(counts):.0f}" if workers == 1 else ""
             print(
-                f"| {trace.name} | {events} | {text.stat().st_size / 1e6:.1f} | {form} | {number_of_races(report)} "
+                f"| {name} | {events} | {text.stat().st_size / 1e6:.1f} | {form} | {number_of_races(report)} "
                 f"| {report.stat().st_size / 1e6:.2f} | {workers} | {wall:.3f} | {wall / best[1].wall:.2f} "
                 f"| {processor:.3f} | {megabytes:.0f} | {counted} |",
                 flush=True,
@@ -99,9 +108,11 @@ def measure(program, folder, trace, repeats):
 def arguments():
     parser = argparse.ArgumentParser(description=__doc__.splitlines()[0])
     parser.add_argument("--large", action="store_true", help="four million events too")
+    parser.add_argument("--full", action="store_true", help="schedules too, of given traces")
     parser.add_argument("--repeats", type=int, default=3)
     parser.add_argument("--only", default="", help="traces whose names have this word")
     parser.add_argument("program", nargs="?", default=HERE.parent / "bin" / "shb", type=pathlib.Path)
+    parser.add_argument("traces", nargs="*", type=pathlib.Path, help="recorded traces, in place of the made ones")
     return parser.parse_args()
 
 
@@ -109,10 +120,14 @@ def main():
     options = arguments()
     print("| trace | events | MB | form | races | report MB | workers | wall s | x 1 worker | processor s | peak MB | x wc -l |")
     print("|---|---|---|---|---|---|---|---|---|---|---|---|")
+    program = options.program.resolve()
     with tempfile.TemporaryDirectory() as room:
-        for trace in TRACES:
+        folder = pathlib.Path(room)
+        for path in options.traces:
+            measure(program, folder, path.stem, path, ["full"] if options.full else ["list"], options.repeats)
+        for trace in [] if options.traces else TRACES:
             if options.only in trace.name and (options.large or not trace.is_large):
-                measure(options.program.resolve(), pathlib.Path(room), trace, options.repeats)
+                measure(program, folder, trace.name, made(folder, trace), trace.forms, options.repeats)
 
 
 if __name__ == "__main__":

@@ -1,4 +1,5 @@
-"""Sizes that small traces never reach: more than 65,536 races, names, kept clocks and events of a schedule."""
+"""Sizes that small traces never reach: more than 65,536 races, names, kept clocks and events of a schedule; and
+as many locks, names and events of a schedule as a trace of the most events has."""
 
 import program
 
@@ -39,6 +40,22 @@ def many_names():
     return b"".join(lines), b"".join(report), 1
 
 
+def the_most():
+    """As many events as there may be. Two threads go through groups of six events, each with a lock and a variable of
+    its own; at the end both write without a lock, and all other events stand in the schedule of this race."""
+    groups = (MOST_EVENTS - 4) // 6
+    group = b"T1|acq(l%d)\nT1|w(v%d)\nT1|rel(l%d)\nT2|acq(l%d)\nT2|r(v%d)\nT2|rel(l%d)\n"
+    lines = [b"T1|begin\nT2|begin\n", *(group % ((k,) * 6) for k in range(groups)), b"T1|w(z)\nT2|w(z)\n"]
+    numbers = b"".join(b" %d" % k for k in range(1, MOST_EVENTS - 1))
+    report = [
+        b"shb-report 2\nevents %d threads 2 locks %d variables %d\n" % (MOST_EVENTS, groups, groups + 1),
+        b"races 1\n" + places(1),
+        b"race 1: %d %d\nfirst T1|w(z)\nsecond T2|w(z)\n" % (MOST_EVENTS - 1, MOST_EVENTS),
+        b"schedule %d:" % (MOST_EVENTS - 2) + numbers + b"\nend\n",
+    ]
+    return b"".join(lines), b"".join(report), 1
+
+
 class Large(program.Case):
     def compare(self, text, report, races):
         trace = self.file(text)
@@ -72,3 +89,8 @@ class Large(program.Case):
         self.expect(program.run(["races"], text + b"T|r(x)\n"), 2, b"", said)
         said = b"line %d: the line has no operation field\n" % (MOST_EVENTS + 1)
         self.expect(program.run(["races"], text + b"oops\n"), 2, b"", said)
+
+    def test_the_most_locks_variables_and_events_of_a_schedule(self):
+        text, report, races = the_most()
+        self.assertEqual(text.count(b"\n"), MOST_EVENTS)
+        self.compare(text, report, races)

@@ -12,6 +12,7 @@ pub mod TraceData
 pub mod Taking
 -- what the reader and the trace hold
 pub mod Ends
+pub mod Hashing
 pub mod Spans
 pub mod Reader
 pub mod Parsed

@@ -1,6 +1,8 @@
 //! Names that were looked up lately, remembered by their first and last bytes.
 ghost use Rattle.std.specs.Prelude.{◌≡◌, ◌+◌, ◌<◌, ◌≤◌, ℕ, List, true, Some, length, slice_get, vec_len, IfOk, IfSome};
+ghost use Rattle.std.specs.Int.{w16, w32, w64, from_le_bytes};
 ghost use Rattle.shb_lines.specs.text.Ends.{AreRemembered, HasEnds, word_bytes};
+ghost use Rattle.shb_lines.specs.text.Hashing.{first_word, last_word};
 
 use shb_io::NoMemory;
 use std::alloc::Global;
@@ -14,8 +16,8 @@ const BEGIN: usize = 1 << 9;
 /// With this many buckets a memory grows no more.
 const MOST: usize = 1 << 18;
 
-/// The ends of a name: its first and its last bytes as two words, which for a name of up to 16 bytes have
-/// all of them, and its length. Names of more bytes have the length 17 here.
+/// The ends of a name of up to 16 bytes: its first and its last bytes as two words, which have all of
+/// them, and its length.
 #[derive(Clone, Copy)]
 pub struct Ends {
     pub first: u64,
@@ -48,9 +50,9 @@ const NOTHING: Known = Known {
     number: 0,
 };
 
-/// Numbers of names that were looked up lately. For names of up to 16 bytes a look-up reads one bucket and
-/// neither the table nor the text, which are seldom in the cache: this takes a third off the time of
-/// reading a trace. It grows with the names, and is empty again where it has grown.
+/// Numbers of names of up to 16 bytes that were looked up lately. A look-up reads one bucket and neither
+/// the table nor the text, which are seldom in the cache. It grows with the names, and is empty again
+/// where it has grown.
 #[derive(Drop)]
 pub struct Recent {
     pub buckets: Vec<Bucket>,
@@ -59,9 +61,10 @@ pub struct Recent {
 }
 
 /// Eight bytes as a word.
-fn eight(bytes: &[u8]) -> u64
+pub fn eight(bytes: &[u8]) -> u64
     requires { length bytes.now ≡ 8 }
-    ensures { word_bytes 8 result ≡ bytes.now }
+    ensures bytes { word_bytes 8 result ≡ bytes.now }
+    ensures word { result ≡ from_le_bytes w64 bytes.now }
 {
     u64::from_le_bytes([
         bytes[0], bytes[1], bytes[2], bytes[3], bytes[4], bytes[5], bytes[6], bytes[7],
@@ -71,7 +74,8 @@ fn eight(bytes: &[u8]) -> u64
 /// Four bytes as a word.
 fn four(bytes: &[u8]) -> u64
     requires { length bytes.now ≡ 4 }
-    ensures { word_bytes 4 result ≡ bytes.now }
+    ensures bytes { word_bytes 4 result ≡ bytes.now }
+    ensures word { result ≡ from_le_bytes w32 bytes.now }
 {
     u64::from(u32::from_le_bytes([bytes[0], bytes[1], bytes[2], bytes[3]]))
 }
@@ -79,18 +83,21 @@ fn four(bytes: &[u8]) -> u64
 /// Two bytes as a word.
 fn two(bytes: &[u8]) -> u64
     requires { length bytes.now ≡ 2 }
-    ensures { word_bytes 2 result ≡ bytes.now }
+    ensures bytes { word_bytes 2 result ≡ bytes.now }
+    ensures word { result ≡ from_le_bytes w16 bytes.now }
 {
     u64::from(u16::from_le_bytes([bytes[0], bytes[1]]))
 }
 
-/// The ends of a name.
+/// The ends of a name of up to 16 bytes.
 pub fn ends_of(name: &[u8]) -> Ends
-    ensures ends { length name.now ≤ 16 → HasEnds result.first result.last result.len name.now }
-    ensures long { result.len ≤ 16 → length name.now ≤ 16 }
+    requires { length name.now ≤ 16 }
+    ensures ends { HasEnds result.first result.last result.len name.now }
+    ensures first { result.first ≡ first_word name.now }
+    ensures last { result.last ≡ last_word name.now }
 {
     let n = name.len();
-    let len = n.min(MOST_TOLD + 1) as u32;
+    let len = n as u32;
     if n >= 8 {
         let (first, last) = (eight(&name[..8]), eight(&name[n - 8..]));
         Ends { first, last, len }
@@ -111,7 +118,7 @@ pub fn ends_of(name: &[u8]) -> Ends
 }
 
 /// Which of so many buckets a name's ends are kept in. Every bit of them counts: without the fold of the
-/// high bits into the low ones, long names that differ in their last letters alone would meet.
+/// high bits into the low ones, names that differ in their last letters alone would meet.
 fn place_of(ends: Ends, count: usize) -> usize
     requires { 0 < count }
     ensures { result < count }
@@ -156,7 +163,7 @@ impl Recent {
         })
     }
 
-    /// The number that is remembered for a name's ends. For a name of up to 16 bytes it is the name's.
+    /// The number that is remembered for a name's ends: the name's.
     pub fn number_of(&self, ends: Ends) -> Option<u32>
         ensures number { (names : List (List ℕ)) (name : List ℕ) → AreRemembered names self.now.buckets.items
             → HasEnds ends.first ends.last ends.len name → IfSome result (λ number. slice_get names number ≡ Some name) }

@@ -4,7 +4,6 @@ use Rattle.std.proofs.lemmas.Bool.Decides.{nat_tests}
 use Rattle.std.proofs.lemmas.List.{take-take}
 use Rattle.std.specs.Prelude.{slice_set}
 use Rattle.shb_lines.specs.declared.recent.Bucket.{Bucket}
-use Rattle.shb_lines.specs.declared.recent.Known.{Known}
 use Rattle.shb_lines.specs.text.Ends.{AreRemembered, HasEnds, IsKnown, end_len}
 
 -- a list is what stands before a place and from it on
@@ -41,6 +40,10 @@ one_byte (x ∷ []) b len is small =
 pub no_byte : (name : List ℕ) → length name ≡ 0 → HasEnds 0 0 0 name
 no_byte [] len = record { few = omega arith; len_is = refl; first_is = refl; last_is = refl }
 no_byte (x ∷ name) len = absurd (omega arith)
+
+pub no_byte_read : (name : List ℕ) → length name ≡ 0 → get_or name 0 0 ≡ 0
+no_byte_read [] len = refl
+no_byte_read (x ∷ name) len = absurd (omega arith)
 
 slice_get-set : {X : Type 0} (xs : List X) (i k : ℕ) (x y : X) → slice_get (slice_set xs i x) k ≡ Some y → (x ≡ y) ⊎ (slice_get xs k ≡ Some y)
 slice_get-set [] i k x y h = absurd cc

@@ -8,7 +8,7 @@ use Rattle.shb_lines.specs.declared.names.Span.{Span}
 use Rattle.shb_lines.specs.declared.reader.Reader.{Reader}
 use Rattle.shb_lines.specs.declared.trace.Places.{Places}
 use Rattle.shb_lines.specs.text.Limits.{most_events, most_text}
-use Rattle.shb_lines.specs.text.Spans.{IsLineFrom, line_from, NamesWithSpans, StandIn, StandsAt, bytes_at, names_in, spans_in}
+use Rattle.shb_lines.specs.text.Spans.{IsLineFrom, line_from, NamesWithSpans, StandIn, names_in, spans_in}
 use Rattle.shb_lines.specs.text.Parsed.{HasRead}
 use Rattle.shb_lines.specs.text.Numbers.{IsEventOf}
 use Rattle.shb_lines.specs.text.Reader.{HasRoom, tables_of}

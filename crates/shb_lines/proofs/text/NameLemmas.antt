@@ -1,6 +1,5 @@
 -- What an insertion does to the names.
 use Rattle.std.proofs.Common.{◌≡◌, ◌+◌, ◌≤◌, ◌||◌, ℕ, Bool, true, false, cond, not, zero, suc, List, [], ◌∷◌, length, add-zero, is_some, Some, slice_get, refl, sym, ap, subst, ◌∙◌, arith}
-use Rattle.std.specs.Borrow.{Bor}
 use mir.Val.{bool_byte}
 use Rattle.std.specs.List.{list_any, position_or_len}
 use Rattle.std.specs.Str.{bytes_eq}
@@ -8,6 +7,7 @@ use Rattle.std.proofs.lemmas.Slice.Eq.{bytes_eq-Decides}
 use Rattle.std.proofs.Math.Numerals.{one-add}
 use Rattle.std.specs.Map.{keys_of, lookup}
 use Rattle.indexmap.specs.IndexMap.{insert_entry}
+use Rattle.shb_lines.specs.declared.names.Name.{Name}
 use Rattle.shb_lines.specs.declared.names.Span.{Span}
 use Rattle.shb_lines.specs.text.Reader.{with_names}
 use Rattle.shb_lines.specs.text.Names.{with_name}
@@ -17,25 +17,25 @@ use Rattle.shb_lines.specs.text.Spans.{names_in, NamesWithSpans, StandsAt, Stand
 bytes_eq-same : (xs ys : List ℕ) → bytes_eq xs ys ≡ true → xs ≡ ys
 bytes_eq-same xs ys = (bytes_eq-Decides xs ys).0
 
-abbrev pub same_name : Bor (List ℕ) → Bor (List ℕ) → Bool
-same_name x y = bytes_eq x.now y.now
+abbrev pub same_name : Name → Name → Bool
+same_name x y = bytes_eq x.bytes.now y.bytes.now
 
-module _ (name : Bor (List ℕ)) (span : Span) where
-  pub names_in-insert_entry : (entries : NamesWithSpans) → names_in (insert_entry same_name entries name span) ≡ with_name (names_in entries) name.now
+module _ (name : Name) (span : Span) where
+  pub names_in-insert_entry : (entries : NamesWithSpans) → names_in (insert_entry same_name entries name span) ≡ with_name (names_in entries) name.bytes.now
   names_in-insert_entry [] = refl
-  names_in-insert_entry (e ∷ entries) = by (bytes_eq name.now e.0.now) (names_in-insert_entry entries)
+  names_in-insert_entry (e ∷ entries) = by (bytes_eq name.bytes.now e.0.bytes.now) (names_in-insert_entry entries)
     where
-      by : (b : Bool) → names_in (insert_entry same_name entries name span) ≡ with_name (names_in entries) name.now
-          → names_in (cond b ((e.0, span) ∷ entries) (e ∷ insert_entry same_name entries name span)) ≡ cond b (e.0.now ∷ names_in entries) (e.0.now ∷ with_name (names_in entries) name.now)
+      by : (b : Bool) → names_in (insert_entry same_name entries name span) ≡ with_name (names_in entries) name.bytes.now
+          → names_in (cond b ((e.0, span) ∷ entries) (e ∷ insert_entry same_name entries name span)) ≡ cond b (e.0.bytes.now ∷ names_in entries) (e.0.bytes.now ∷ with_name (names_in entries) name.bytes.now)
       by true rest = refl
-      by false rest = ap (λ names. e.0.now ∷ names) rest
+      by false rest = ap (λ names. e.0.bytes.now ∷ names) rest
 
-  pub StandIn-insert_entry : (text : List ℕ) (entries : NamesWithSpans) → StandsAt text name.now span → StandIn text entries → StandIn text (insert_entry same_name entries name span)
+  pub StandIn-insert_entry : (text : List ℕ) (entries : NamesWithSpans) → StandsAt text name.bytes.now span → StandIn text entries → StandIn text (insert_entry same_name entries name span)
   StandIn-insert_entry text [] here all = (here, tt)
-  StandIn-insert_entry text (e ∷ entries) here all = by (bytes_eq name.now e.0.now) refl (StandIn-insert_entry text entries here all.1)
+  StandIn-insert_entry text (e ∷ entries) here all = by (bytes_eq name.bytes.now e.0.bytes.now) refl (StandIn-insert_entry text entries here all.1)
     where
-      by : (b : Bool) → bytes_eq name.now e.0.now ≡ b → StandIn text (insert_entry same_name entries name span) → StandIn text (cond b ((e.0, span) ∷ entries) (e ∷ insert_entry same_name entries name span))
-      by true same rest = (subst (λ bytes. StandsAt text bytes span) (bytes_eq-same name.now e.0.now same) here, all.1)
+      by : (b : Bool) → bytes_eq name.bytes.now e.0.bytes.now ≡ b → StandIn text (insert_entry same_name entries name span) → StandIn text (cond b ((e.0, span) ∷ entries) (e ∷ insert_entry same_name entries name span))
+      by true same rest = (subst (λ bytes. StandsAt text bytes span) (bytes_eq-same name.bytes.now e.0.bytes.now same) here, all.1)
       by false same rest = (all.0, rest)
 
 -- a name's number is its place in the table
@@ -49,9 +49,9 @@ with_name-at (known ∷ names) name = by (bytes_eq name known) refl (with_name-a
     by false same rest = rw (one-add (position_or_len (bytes_eq name) names)) rest
 
 -- the keys' places are the names' places
-pub position-names_in : (name : Bor (List ℕ)) (entries : NamesWithSpans) → position_or_len (same_name name) (keys_of entries) ≡ position_or_len (bytes_eq name.now) (names_in entries)
+pub position-names_in : (name : Name) (entries : NamesWithSpans) → position_or_len (same_name name) (keys_of entries) ≡ position_or_len (bytes_eq name.bytes.now) (names_in entries)
 position-names_in name [] = refl
-position-names_in name (e ∷ entries) = ap (λ n. cond (not (bytes_eq name.now e.0.now)) (1 + n) 0) (position-names_in name entries)
+position-names_in name (e ∷ entries) = ap (λ n. cond (not (bytes_eq name.bytes.now e.0.bytes.now)) (1 + n) 0) (position-names_in name entries)
 
 -- a known name keeps its number when a name is put last
 pub slice_get-with_name : (names : List (List ℕ)) (name known : List ℕ) (number : ℕ) → slice_get names number ≡ Some known → slice_get (with_name names name) number ≡ Some known
@@ -124,12 +124,12 @@ length-with_names_le [] names = omega arith
 length-with_names_le (name ∷ more) names = omega (arith, length-with_names_le more (with_name names name), length-with_name_le names name)
 
 -- a table has a name where a look-up finds it
-pub lookup-names_in : (name : List ℕ) (entries : NamesWithSpans) → is_some (lookup (λ k. bytes_eq name k.now) entries) ≡ list_any (bytes_eq name) (names_in entries)
+pub lookup-names_in : (name : List ℕ) (entries : NamesWithSpans) → is_some (lookup (λ k. bytes_eq name k.bytes.now) entries) ≡ list_any (bytes_eq name) (names_in entries)
 lookup-names_in name [] = refl
-lookup-names_in name (e ∷ entries) = by (bytes_eq name e.0.now) (lookup-names_in name entries)
+lookup-names_in name (e ∷ entries) = by (bytes_eq name e.0.bytes.now) (lookup-names_in name entries)
   where
-    by : (b : Bool) → is_some (lookup (λ k. bytes_eq name k.now) entries) ≡ list_any (bytes_eq name) (names_in entries)
-        → is_some (cond b (Some e.1) (lookup (λ k. bytes_eq name k.now) entries)) ≡ (b || list_any (bytes_eq name) (names_in entries))
+    by : (b : Bool) → is_some (lookup (λ k. bytes_eq name k.bytes.now) entries) ≡ list_any (bytes_eq name) (names_in entries)
+        → is_some (cond b (Some e.1) (lookup (λ k. bytes_eq name k.bytes.now) entries)) ≡ (b || list_any (bytes_eq name) (names_in entries))
     by true rest = refl
     by false rest = rest
 

@@ -1,8 +1,8 @@
 -- Where names and lines stand in a text, as the reader of texts holds them.
 use Rattle.std.specs.Prelude.{◌≡◌, ◌==◌, ◌+◌, ◌≤◌, ℕ, List, length, take, drop, map}
-use Rattle.std.specs.Borrow.{Bor}
 use Rattle.std.specs.List.{AllByRecursion, before_first}
 use Rattle.std.specs.Str.Lines.{strip_carriage_return}
+use Rattle.shb_lines.specs.declared.names.Name.{Name}
 use Rattle.shb_lines.specs.declared.names.Span.{Span}
 
 -- the bytes of the text in a span
@@ -10,10 +10,10 @@ abbrev pub bytes_at : List ℕ → Span → List ℕ
 bytes_at text span = take span.len (drop span.start text)
 
 abbrev pub NamesWithSpans : Type 0
-NamesWithSpans = List (Bor (List ℕ) × Span)
+NamesWithSpans = List (Name × Span)
 
 abbrev pub names_in : NamesWithSpans → List (List ℕ)
-names_in entries = map (λ e. e.0.now) entries
+names_in entries = map (λ e. e.0.bytes.now) entries
 
 -- the span lies in the text and has these bytes
 pub record StandsAt (text bytes : List ℕ) (span : Span) : Type 0 where
@@ -22,7 +22,7 @@ pub record StandsAt (text bytes : List ℕ) (span : Span) : Type 0 where
 
 -- each name stands in the text where its span says
 abbrev pub StandIn : List ℕ → NamesWithSpans → Type 0
-StandIn text entries = AllByRecursion (λ e. StandsAt text e.0.now e.1) entries
+StandIn text entries = AllByRecursion (λ e. StandsAt text e.0.bytes.now e.1) entries
 
 -- the places of the names
 abbrev pub spans_in : NamesWithSpans → List Span

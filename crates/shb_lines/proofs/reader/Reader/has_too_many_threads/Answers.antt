@@ -13,7 +13,7 @@ pub returns-then-known-most : goal.returns-then-known-most
 returns-then-known-most c =
     let found = c.args.found.now in
     let entries = c.args.self.now.threads.table.entries in
-    not_less _ _ (omega (arith, length-threads_le found.kind found.thread.now found.operand.now (names_in entries), length-map entries (λ e. e.0.now), c.len-known.ensures.len, c.if-known-most.true))
+    not_less _ _ (omega (arith, length-threads_le found.kind found.thread.now found.operand.now (names_in entries), length-map entries (λ e. e.0.bytes.now), c.len-known.ensures.len, c.if-known-most.true))
 
 pub returns : goal.returns
 returns c = ap (nat_lt c.args.limits.now.threads) (ap (λ n. n + c.new_threads.result) c.len-known.ensures.len ∙ sym c.new_threads.ensures.count)

@@ -1,0 +1,61 @@
+-- What a hasher of names computes, by words under two keys.
+use Rattle.std.specs.Prelude.{ℕ, zero, suc, ◌+◌, ◌-◌, ◌*◌, ◌/◌, ◌^◌, List, length, take, slice_range, get_or, if◌then◌else◌, nat_le, nat_lt, bit_and, bit_xor}
+use Rattle.std.specs.Int.{w16, w32, w64, from_le_bytes}
+use Rattle.shb_lines.specs.declared.hashing.NameHasher.{NameHasher}
+use Rattle.shb_lines.specs.declared.hashing.NameKeys.{NameKeys}
+
+-- the two halves of the 128 bits of a product, joined by xor
+unfoldable pub folded_product : ℕ → ℕ → ℕ
+folded_product a b = bit_xor (bit_and (a * b) (2 ^ 64 - 1)) (a * b / 2 ^ 64)
+
+-- the eight bytes from a place on, as a word
+unfoldable pub word_at : List ℕ → ℕ → ℕ
+word_at bytes at = from_le_bytes w64 (slice_range bytes at (at + 8))
+
+-- the first bytes of a name of at most 16 as a word, and its last bytes
+unfoldable pub first_word : List ℕ → ℕ
+first_word name =
+    let n = length name in
+    if nat_lt n 2 then get_or name 0 0
+    else (if nat_lt n 4 then from_le_bytes w16 (take 2 name)
+    else (if nat_lt n 8 then from_le_bytes w32 (take 4 name) else from_le_bytes w64 (take 8 name)))
+
+unfoldable pub last_word : List ℕ → ℕ
+last_word name =
+    let n = length name in
+    if nat_lt n 2 then get_or name 0 0
+    else (if nat_lt n 4 then from_le_bytes w16 (slice_range name (n - 2) n)
+    else (if nat_lt n 8 then from_le_bytes w32 (slice_range name (n - 4) n) else from_le_bytes w64 (slice_range name (n - 8) n)))
+
+-- the state after the two words at a place
+abbrev pub with_words : List ℕ → ℕ → ℕ → ℕ → ℕ
+with_words bytes key state at = folded_product (bit_xor state (word_at bytes at)) (bit_xor key (word_at bytes (at + 8)))
+
+-- the state after the first n times 16 bytes
+unfoldable pub with_blocks : List ℕ → ℕ → ℕ → ℕ → ℕ
+with_blocks bytes key state zero = state
+with_blocks bytes key state (suc n) = with_words bytes key (with_blocks bytes key state n) (16 * n)
+
+-- of at most 16 bytes both ends; of more 16 at a time, and the last 16 once more
+unfoldable pub short_hash : ℕ → ℕ → List ℕ → ℕ
+short_hash state key bytes = folded_product (bit_xor state (first_word bytes)) (bit_xor key (last_word bytes))
+
+unfoldable pub long_hash : ℕ → ℕ → List ℕ → ℕ
+long_hash state key bytes =
+    let n = length bytes in
+    with_words bytes key (with_blocks bytes key state ((n - 1) / 16)) (n - 16)
+
+-- the state after some bytes: their length is mixed in first
+unfoldable pub hash : ℕ → ℕ → List ℕ → ℕ
+hash state key bytes =
+    let n = length bytes in
+    let seeded = folded_product (bit_xor state n) key in
+    if nat_le n 16 then short_hash seeded key bytes else long_hash seeded key bytes
+
+-- the hasher after bytes were written
+abbrev pub written : NameHasher → List ℕ → NameHasher
+written h bytes = record h { state = hash h.state h.key bytes }
+
+-- the hasher that the keys make
+abbrev pub keyed : NameKeys → NameHasher
+keyed keys = record { state = keys.first; key = keys.second }

@@ -1,0 +1,134 @@
+//! How names are hashed: by words, under two secret keys.
+//!
+//! The hash is a chain of products of two words, each joined with a key or with the state so far, and
+//! each folded to 64 bits. It is no cryptographic hash. What it keeps off is someone who chooses the
+//! names of a trace: without the keys no names are known that meet in a table more often than by chance.
+//! Who knew the keys could make all names meet, and a trace would take time with the square of its
+//! names. So each table of each run has keys of its own, which are shown nowhere. Nothing proves that
+//! they are random, since a contract takes whatever a random source gives. Names that meet cost time
+//! alone: the table compares them whole.
+ghost use Rattle.std.specs.Prelude.{◌≡◌, ◌+◌, ◌<◌, ◌≤◌, length};
+ghost use Rattle.shb_lines.specs.text.Hashing as spec;
+
+use crate::recent::{MOST_TOLD, eight, ends_of};
+use shb_io::NoMemory;
+use std::hash::{BuildHasher, Hasher};
+use std::random::RandomSource;
+
+/// Both halves of the 128 bits of a product, joined by xor.
+fn folded_product(a: u64, b: u64) -> u64
+    ensures { result ≡ spec.folded_product a b }
+{
+    let product = u128::from(a) * u128::from(b);
+    (product & 0xFFFF_FFFF_FFFF_FFFF) as u64 ^ (product >> 64) as u64
+}
+
+/// The eight bytes from a place on, as a word.
+fn word_at(bytes: &[u8], at: usize) -> u64
+    requires { at + 8 ≤ length bytes.now }
+    ensures { result ≡ spec.word_at bytes.now at }
+{
+    eight(&bytes[at..at + 8])
+}
+
+/// The state after the two words at a place.
+fn with_words(bytes: &[u8], key: u64, state: u64, at: usize) -> u64
+    requires { at + 16 ≤ length bytes.now }
+    ensures { result ≡ spec.with_words bytes.now key state at }
+{
+    folded_product(state ^ word_at(bytes, at), key ^ word_at(bytes, at + 8))
+}
+
+/// The state after at most 16 bytes: their ends have them all.
+fn short_hash(state: u64, key: u64, bytes: &[u8]) -> u64
+    requires { length bytes.now ≤ 16 }
+    ensures { result ≡ spec.short_hash state key bytes.now }
+{
+    let ends = ends_of(bytes);
+    folded_product(state ^ ends.first, key ^ ends.last)
+}
+
+/// The state after more than 16 bytes: 16 at a time, and the last 16 once more.
+fn long_hash(state: u64, key: u64, bytes: &[u8]) -> u64
+    requires { 16 < length bytes.now }
+    ensures { result ≡ spec.long_hash state key bytes.now }
+{
+    let len = bytes.len();
+    let mut mixed = state;
+    let mut at = 0;
+    while len - at > 16 {
+        mixed = with_words(bytes, key, mixed, at);
+        at += 16;
+    }
+    with_words(bytes, key, mixed, len - 16)
+}
+
+/// The state after some bytes.
+fn hash(state: u64, key: u64, bytes: &[u8]) -> u64
+    ensures { result ≡ spec.hash state key bytes.now }
+{
+    let len = bytes.len();
+    let seeded = folded_product(state ^ len as u64, key);
+    if len <= MOST_TOLD {
+        short_hash(seeded, key, bytes)
+    } else {
+        long_hash(seeded, key, bytes)
+    }
+}
+
+/// Hashes bytes by words under two keys; their length goes in first, by a product of its own. (Joined by
+/// xor alone, names of different lengths could be made to meet under all keys.)
+#[derive(Clone, Copy)]
+pub struct NameHasher {
+    state: u64,
+    key: u64,
+}
+
+impl Hasher for NameHasher {
+    ghost write = { spec.written };
+
+    ghost finish = { λ h. h.state };
+
+    fn finish(&self) -> u64 {
+        self.state
+    }
+
+    fn write(&mut self, bytes: &[u8]) {
+        self.state = hash(self.state, self.key, bytes);
+    }
+}
+
+/// The two keys of a table of names, which make its hashers.
+#[derive(Clone, Copy)]
+pub struct NameKeys {
+    first: u64,
+    second: u64,
+}
+
+impl NameKeys {
+    /// Keys from the random source. A source that fails is answered like want of memory.
+    pub fn new<R: RandomSource>(rt: &R) -> Result<NameKeys, NoMemory> {
+        let mut bytes = [0; 16];
+        let Ok(()) = rt.fill_bytes(&mut bytes) else {
+            return Err(NoMemory);
+        };
+        let keys = u128::from_le_bytes(bytes);
+        Ok(NameKeys {
+            first: (keys & 0xFFFF_FFFF_FFFF_FFFF) as u64,
+            second: (keys >> 64) as u64,
+        })
+    }
+}
+
+impl BuildHasher for NameKeys {
+    type Hasher = NameHasher;
+
+    ghost build_hasher = { spec.keyed };
+
+    fn build_hasher(&self) -> NameHasher {
+        NameHasher {
+            state: self.first,
+            key: self.second,
+        }
+    }
+}
