@@ -46,6 +46,10 @@ pub data IsLatestStamp (trace : List Event) (rows : List (List ℕ)) (P : ℕ �
   of_event : (e : ℕ) → IsLatestBefore P n e → IsStampOf trace rows e stamp → IsLatestStamp trace rows P n stamp
   of_none : ((k : ℕ) → k < n → ¬ P k) → stamp.place ≡ 0 → IsLatestStamp trace rows P n stamp
 
+-- thread t, which knows this row but for its own entry, knows the event of the stamp, or the stamp is of no event
+abbrev pub KnowsStamp : List ℕ → ℕ → Stamp → Type 0
+KnowsStamp row t stamp = (stamp.thread ≡ t) ⊎ (stamp.place ≤ slice_index_or row stamp.thread 0)
+
 abbrev pub empty_stamp : Stamp
 empty_stamp = record { row = 0; thread = 0; place = 0 }
 

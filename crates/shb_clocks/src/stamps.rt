@@ -1,11 +1,11 @@
 //! The sweep by stamps: rows that never change, and stamps that name them.
 
-ghost use Rattle.std.specs.Prelude.{◌≡◌, ℕ, ◌+◌, ◌<◌, ◌^◌, List, [], ◌∷◌, Some, IfOk, OnOk, length, replicate};
+ghost use Rattle.std.specs.Prelude.{◌≡◌, ℕ, ◌+◌, ◌<◌, ◌^◌, List, [], ◌∷◌, Some, IfOk, OnOk, length, replicate, slice_index_or};
 ghost use Rattle.shb_lines.specs.declared.event.Op.TheVariants.{Join};
 ghost use Rattle.shb_lines.specs.events.Events.{op_at, thread_at};
 ghost use Rattle.shb_lines.specs.events.Order.{BelowPred, ShbBelow};
 ghost use Rattle.shb_links.specs.Latest.{WritesVariable};
-ghost use Rattle.shb_clocks.specs.Stamps.{AreCurrent, AreStamps, HasGrown, HasRowsBefore, IsRowFor, IsSource, IsStampOf, IsSwept, ReleasesLock, empty_stamp};
+ghost use Rattle.shb_clocks.specs.Stamps.{AreCurrent, AreStamps, HasGrown, HasRowsBefore, IsRowFor, IsSource, IsStampOf, IsSwept, KnowsStamp, ReleasesLock, empty_stamp};
 
 use crate::clock::Clock;
 use crate::rows::Rows;
@@ -58,9 +58,9 @@ fn first_row(alloc: Global, threads: u32, clock: &Clock) -> Result<Rows, NoMemor
     Ok(rows)
 }
 
-/// The number of the row of what the thread of e knows behind it: the one before it where the source
-/// tells nothing more, else a new one.
-fn row_behind(
+/// The number of the row of what the thread of e knows after it: the one before it where the source
+/// tells nothing more, and no row is made then; else a new one.
+fn row_after(
     rows: &mut Rows,
     clock: &mut Clock,
     trace: &Disciplined<'_>,
@@ -77,6 +77,8 @@ fn row_behind(
     ensures long { OnOk result (length clock.new ≡ trace.now.sizes.threads) }
     ensures grown { OnOk result (HasGrown rows.old rows.new) }
     ensures row { (t : ℕ) → thread_at trace.now.events.now e ≡ Some t → IfOk result (IsRowFor trace.now.events.now rows.new.rows t (λ k. ShbBelow trace.now.events.now k e)) }
+    ensures shared { (t : ℕ) → thread_at trace.now.events.now e ≡ Some t → KnowsStamp (slice_index_or rows.old.rows before []) t source
+        → OnOk result (rows.new ≡ rows.old) }
 {
     let thread = trace.events[e as usize].thread;
     if source.is_known(thread, rows.row(before)) {
@@ -204,7 +206,7 @@ impl Stamps {
         let thread = trace.events[e as usize].thread;
         let before = self.current[thread as usize];
         let source = self.source(trace, links, e);
-        let row = row_behind(&mut self.rows, &mut self.clock, trace, e, before, source)?;
+        let row = row_after(&mut self.rows, &mut self.clock, trace, e, before, source)?;
         let stamp = Stamp {
             row,
             thread,

@@ -14,8 +14,8 @@ use Rattle.shb_clocks.proofs.stamps.Stamps.take.Goals as goal
 abbrev no_event : Event
 no_event = record { thread = 0; op = Read 0; line = 0 }
 
-pub row_behind-requires-clause-before : goal.row_behind-requires-clause-before
-row_behind-requires-clause-before c t of_t =
+pub row_after-requires-clause-before : goal.row_after-requires-clause-before
+row_after-requires-clause-before c t of_t =
     let trace : List Event = c.args.trace.now.events.now in
     let of_e = thread_item trace c.args.e no_event c.requires.in_range in
     let u : ℕ = (get_or trace c.args.e no_event).thread in
@@ -38,12 +38,12 @@ returns c =
     let first = c.in_ok-row.ensures.grown in
     let second = c.in_ok-pass_on.ensures.grown in
     let rows = c.args.self.now.rows.rows in
-    let grown = more_chain rows c.row_behind.new.rows.rows c.pass_on.new.rows.rows first.more second.more in
+    let grown = more_chain rows c.row_after.new.rows.rows c.pass_on.new.rows.rows first.more second.more in
     let of_e = thread_item trace c.args.e no_event c.requires.in_range in
     let u : ℕ = (get_or trace c.args.e no_event).thread in
     let stamp : Stamp = record { row = c.in_ok-row.row; thread = u; place = c.local.result } in
-    let is : IsStampOf trace c.row_behind.new.rows.rows c.args.e stamp = record { of_thread = of_e; place_is = local_is trace c.args.links.now c.args.e c.local.result u c.requires.of_trace c.local.ensures.place of_e; row_is = c.in_ok-row.ensures.row u of_e } in
-    let kept = stamp_more trace c.row_behind.new.rows.rows c.pass_on.new.rows.rows c.args.e stamp second.more is in
+    let is : IsStampOf trace c.row_after.new.rows.rows c.args.e stamp = record { of_thread = of_e; place_is = local_is trace c.args.links.now c.args.e c.local.result u c.requires.of_trace c.local.ensures.place of_e; row_is = c.in_ok-row.ensures.row u of_e } in
+    let kept = stamp_more trace c.row_after.new.rows.rows c.pass_on.new.rows.rows c.args.e stamp second.more is in
     let row = current_item trace rows c.args.e sizes.threads u c.index-before.result.now c.args.self.now.current.items old.current (thread_low trace sizes c.args.e u c.args.trace.now.within of_e) c.index-before.ensures in
     let before = row_same trace rows u c.index-before.result.now (IsKnown trace u c.args.e) (λ k. BelowPred trace k c.args.e) (λ s k of_k ne. known_pred trace c.args.trace.now.meets c.args.e u of_e k) row in
     record {
