@@ -13,12 +13,12 @@ use Rattle.shb_lines.specs.events.Order.{ShbBelow, here, step, same_thread, lock
 use Rattle.shb_lines.proofs.events.Counts.{count_mono, counted_before}
 use Rattle.shb_lines.proofs.events.Events.{thread_is, op_is, event_of_op, fork_allowed, fork_earlier, is_fork_true, is_acquire_parts}
 use Rattle.shb_lines.proofs.events.Schedulable.{thread_below_pred, fork_below_pred, pred_earlier}
-use Rattle.shb_links.specs.Latest.{IsLatestBefore, OfThread, WritesVariable}
+use Rattle.shb_links.specs.Latest.{IsLatestBefore, OfThread, WritesVariable, ReleasesLock}
 use Rattle.shb_links.proofs.Balance.{HasHolder, IsPassing, balanced, disciplined_below, holder_after, some_counted}
 use Rattle.shb_clocks.specs.Fronts.{IsFront, BelowRelease, Learns, StrictlyBelow}
 use Rattle.shb_clocks.specs.Learned.{IsFrontBut}
 use Rattle.shb_clocks.specs.Rows.{AreMore, RowsData}
-use Rattle.shb_clocks.specs.Stamps.{AreCurrent, AreStamps, HasGrown, HasRowsBefore, IsKnown, IsLatestStamp, of_event, of_none, IsRowFor, IsSource, from_event, from_none, IsStampOf, ReleasesLock, empty_stamp}
+use Rattle.shb_clocks.specs.Stamps.{AreCurrent, AreStamps, HasGrown, HasRowsBefore, IsKnown, IsLatestStamp, of_event, of_none, IsRowFor, IsSource, from_event, from_none, IsStampOf, empty_stamp}
 use Rattle.shb_clocks.specs.declared.stamp.Stamp.{Stamp}
 use Rattle.shb_clocks.proofs.Fronts.{thread_in_range}
 use Rattle.shb_clocks.proofs.LearnedLemmas.{front_but_same, front_whole, thread_same}

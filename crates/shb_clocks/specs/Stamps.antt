@@ -1,12 +1,12 @@
 -- What the sweep by stamps keeps: rows of clocks, and stamps that name one and an event.
 use Rattle.std.specs.Prelude.{◌≡◌, ℕ, ◌+◌, ◌*◌, ◌<◌, ◌≤◌, ◌⊎◌, ◌↔◌, List, [], Some, length, slice_index_or}
 use Rattle.shb_lines.specs.declared.event.Event.{Event}
-use Rattle.shb_lines.specs.declared.event.Op.TheVariants.{Release, Fork}
+use Rattle.shb_lines.specs.declared.event.Op.TheVariants.{Fork}
 use Rattle.shb_lines.specs.declared.event.Sizes.{Sizes}
 use Rattle.shb_lines.specs.events.Events.{thread_at, op_at}
 use Rattle.shb_lines.specs.events.Discipline.{place_in_thread}
 use Rattle.shb_lines.specs.events.Order.{ShbBelow, BelowPred}
-use Rattle.shb_links.specs.Latest.{IsLatestBefore, WritesVariable}
+use Rattle.shb_links.specs.Latest.{IsLatestBefore, ReleasesLock, WritesVariable}
 use Rattle.shb_clocks.specs.Fronts.{Learns}
 use Rattle.shb_clocks.specs.Learned.{IsFrontBut}
 use Rattle.shb_clocks.specs.Rows.{AreMore, RowsData}
@@ -46,6 +46,10 @@ pub data IsLatestStamp (trace : List Event) (rows : List (List ℕ)) (P : ℕ �
   of_event : (e : ℕ) → IsLatestBefore P n e → IsStampOf trace rows e stamp → IsLatestStamp trace rows P n stamp
   of_none : ((k : ℕ) → k < n → ¬ P k) → stamp.place ≡ 0 → IsLatestStamp trace rows P n stamp
 
+-- thread t, which knows this row but for its own entry, knows the event of the stamp, or the stamp is of no event
+abbrev pub KnowsStamp : List ℕ → ℕ → Stamp → Type 0
+KnowsStamp row t stamp = (stamp.thread ≡ t) ⊎ (stamp.place ≤ slice_index_or row stamp.thread 0)
+
 abbrev pub empty_stamp : Stamp
 empty_stamp = record { row = 0; thread = 0; place = 0 }
 
@@ -53,10 +57,6 @@ empty_stamp = record { row = 0; thread = 0; place = 0 }
 pub record AreStamps (trace : List Event) (rows : List (List ℕ)) (P : ℕ → ℕ → Type 0) (n size : ℕ) (stamps : List Stamp) : Type 0 where
   pub as_many : length stamps ≡ size
   pub each : (x : ℕ) → x < size → IsLatestStamp trace rows (P x) n (slice_index_or stamps x empty_stamp)
-
--- the event at k releases the lock
-abbrev pub ReleasesLock : List Event → ℕ → ℕ → Type 0
-ReleasesLock trace l k = op_at trace k ≡ Some (Release l)
 
 -- the stamp of all that e learns of other threads: an earlier event's, or an empty one where that is nothing
 pub data IsSource (trace : List Event) (rows : List (List ℕ)) (e : ℕ) (stamp : Stamp) : Type 0 where

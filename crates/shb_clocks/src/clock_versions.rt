@@ -10,7 +10,7 @@ use crate::order::Order;
 use shb_discipline::Disciplined;
 use shb_io::NoMemory;
 use shb_lines::Event;
-use shb_links::Links;
+use shb_links::{Linked, Links};
 use std::alloc::Global;
 use std::marker::Model;
 
@@ -18,17 +18,16 @@ use std::marker::Model;
 /// as the list of events of the trace that it orders. It may be shared between threads.
 #[derive(Drop)]
 pub struct ClockVersions<'a> {
-    trace: &'a Disciplined<'a>,
-    links: &'a Links<'a>,
+    linked: Linked<'a>,
     clocks: KeptClocks,
 }
 
 impl<'a> Model for ClockVersions<'a> {
     ghost Value = { List Event };
 
-    ghost view = { λ o. o.trace.now.events.now };
+    ghost view = { λ o. o.linked.events.now };
 
-    ghost invariant = { λ o. (o.links.now ≡ o.trace.now.events.now) × AreKept o.trace.now.events.now (length o.trace.now.events.now) o.trace.now.sizes.threads o.clocks.rows o.clocks.threads.items };
+    ghost invariant = { λ o. AreKept o.linked.events.now (length o.linked.events.now) o.linked.sizes.threads o.clocks.rows o.clocks.threads.items };
 }
 
 /// The order of a trace by vector clocks, found by one forward pass. A clock is kept only where a
@@ -49,12 +48,9 @@ pub fn versions<'a>(
     requires of_trace { links.now ≡ trace.now.events.now }
     ensures { IfOk result (λ order. order ≡ trace.now.events.now) }
 {
-    let clocks = sweep(alloc, trace, links)?;
-    Ok(ClockVersions {
-        trace,
-        links,
-        clocks,
-    })
+    let linked = Linked::new(trace, links);
+    let clocks = sweep(alloc, &linked)?;
+    Ok(ClockVersions { linked, clocks })
 }
 
 impl<'a> ClockVersions<'a> {
@@ -75,6 +71,6 @@ impl<'a> Order for ClockVersions<'a> {
     ghost trace = { λ o. o };
 
     fn below_pred(&self, e: u32, t: u32) -> u32 {
-        self.clocks.below_pred(self.trace, self.links, e, t)
+        self.clocks.below_pred(&self.linked, e, t)
     }
 }

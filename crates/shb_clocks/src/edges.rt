@@ -5,7 +5,7 @@ ghost use Rattle.shb_lines.specs.events.Order.{ShbEdge};
 ghost use Rattle.shb_lines.specs.events.Tests.{is_hb_rule, passes_lock, forks_thread, joins_thread};
 
 use shb_lines::{Event, Op};
-use shb_links::Links;
+use shb_links::Linked;
 
 fn forks(op: Op, thread: u32) -> bool
     ensures { result ≡ forks_thread op thread }
@@ -42,16 +42,15 @@ fn happens_first(e: Event, d: Event) -> bool
 }
 
 /// Whether an SHB edge leads from a to b.
-pub fn is_edge(events: &[Event], links: &Links<'_>, a: u32, b: u32) -> bool
-    requires of_trace { links.now ≡ events.now }
+pub fn is_edge(linked: &Linked<'_>, a: u32, b: u32) -> bool
     requires earlier { a < b }
-    requires in_range { b < length events.now }
-    ensures { IsTrue result ↔ ShbEdge events.now a b }
+    requires in_range { b < length linked.now.events.now }
+    ensures { IsTrue result ↔ ShbEdge linked.now.events.now a b }
 {
-    if happens_first(events[a as usize], events[b as usize]) {
+    if happens_first(linked.events[a as usize], linked.events[b as usize]) {
         return true;
     }
-    match links.last_write(b) {
+    match linked.links.last_write(b) {
         Some(w) => w == a,
         None => false,
     }

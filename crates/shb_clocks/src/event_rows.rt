@@ -11,7 +11,7 @@ use crate::stamps::sweep;
 use shb_discipline::Disciplined;
 use shb_io::NoMemory;
 use shb_lines::Event;
-use shb_links::Links;
+use shb_links::{Linked, Links};
 use std::alloc::Global;
 use std::marker::Model;
 
@@ -20,8 +20,7 @@ use std::marker::Model;
 /// may be shared between threads.
 #[derive(Drop)]
 pub struct EventRows<'a> {
-    trace: &'a Disciplined<'a>,
-    links: &'a Links<'a>,
+    linked: Linked<'a>,
     rows: Rows,
     /// For each event the number of the row of what its thread knew before it.
     before: Vec<u32>,
@@ -30,9 +29,9 @@ pub struct EventRows<'a> {
 impl<'a> Model for EventRows<'a> {
     ghost Value = { List Event };
 
-    ghost view = { λ o. o.trace.now.events.now };
+    ghost view = { λ o. o.linked.events.now };
 
-    ghost invariant = { λ o. (o.links.now ≡ o.trace.now.events.now) × (o.rows.width ≡ o.trace.now.sizes.threads) × HasRowsBefore o.trace.now.events.now o.rows.rows (length o.trace.now.events.now) o.before.items };
+    ghost invariant = { λ o. (o.rows.width ≡ o.linked.sizes.threads) × HasRowsBefore o.linked.events.now o.rows.rows (length o.linked.events.now) o.before.items };
 }
 
 /// The order of a trace by rows of clocks and the number of a row for each event, found by one
@@ -51,10 +50,10 @@ pub fn by_event<'a>(
     requires of_trace { links.now ≡ trace.now.events.now }
     ensures { IfOk result (λ order. order ≡ trace.now.events.now) }
 {
-    let (rows, before) = sweep(alloc, trace, links)?;
+    let linked = Linked::new(trace, links);
+    let (rows, before) = sweep(alloc, &linked)?;
     Ok(EventRows {
-        trace,
-        links,
+        linked,
         rows,
         before,
     })
@@ -64,8 +63,8 @@ impl<'a> Order for EventRows<'a> {
     ghost trace = { λ o. o };
 
     fn below_pred(&self, e: u32, t: u32) -> u32 {
-        if t == self.trace.events[e as usize].thread {
-            return self.links.local(e) - 1;
+        if t == self.linked.events[e as usize].thread {
+            return self.linked.links.local(e) - 1;
         }
         entry(self.rows.row(self.before[e as usize]), t)
     }

@@ -10,7 +10,7 @@ use crate::past::Past;
 use shb_discipline::Disciplined;
 use shb_io::NoMemory;
 use shb_lines::Event;
-use shb_links::Links;
+use shb_links::{Linked, Links};
 use std::alloc::Global;
 use std::marker::Model;
 
@@ -18,18 +18,16 @@ use std::marker::Model;
 /// that it orders. It may be shared between threads.
 #[derive(Drop)]
 pub struct FullClocks<'a> {
-    trace: &'a Disciplined<'a>,
-    links: &'a Links<'a>,
-    threads: u32,
+    linked: Linked<'a>,
     clocks: Vec<u32>,
 }
 
 impl<'a> Model for FullClocks<'a> {
     ghost Value = { List Event };
 
-    ghost view = { λ o. o.trace.now.events.now };
+    ghost view = { λ o. o.linked.events.now };
 
-    ghost invariant = { λ o. (o.links.now ≡ o.trace.now.events.now) × HasClocks o.trace.now.events.now (length o.trace.now.events.now) o.threads o.clocks.items };
+    ghost invariant = { λ o. HasClocks o.linked.events.now (length o.linked.events.now) o.linked.sizes.threads o.clocks.items };
 }
 
 /// The order of a trace by a vector clock for each event, found by one forward pass. Time and memory
@@ -46,28 +44,28 @@ pub fn full<'a>(
     requires of_trace { links.now ≡ trace.now.events.now }
     ensures { IfOk result (λ order. order ≡ trace.now.events.now) }
 {
-    let mut clock = Clock::new(alloc, trace.sizes.threads as usize)?;
-    let mut past = Past::new(alloc, trace)?;
-    for e in 0..trace.events.len() as u32 {
-        past.set_clock(trace, links, e, &mut clock);
-        past.add(trace, e, &clock)?;
+    let linked = Linked::new(trace, links);
+    let mut clock = Clock::new(alloc, linked.sizes.threads as usize)?;
+    let mut past = Past::new(alloc, &linked)?;
+    for e in 0..linked.events.len() as u32 {
+        past.set_clock(&linked, e, &mut clock);
+        past.add(&linked, e, &clock)?;
     }
     let Past { clocks, .. } = past;
-    Ok(FullClocks {
-        trace,
-        links,
-        threads: trace.sizes.threads,
-        clocks,
-    })
+    Ok(FullClocks { linked, clocks })
 }
 
 impl<'a> Order for FullClocks<'a> {
     ghost trace = { λ o. o };
 
     fn below_pred(&self, e: u32, t: u32) -> u32 {
-        match self.links.pred(e) {
+        match self.linked.links.pred(e) {
             Some(p) => entry(
-                row(self.clocks.as_slice(), self.threads as usize, p as usize),
+                row(
+                    self.clocks.as_slice(),
+                    self.linked.sizes.threads as usize,
+                    p as usize,
+                ),
                 t,
             ),
             None => 0,

@@ -6,10 +6,9 @@ ghost use Rattle.shb_clocks.specs.Fronts.{IsFront, StrictlyBelow};
 ghost use Rattle.shb_clocks.specs.Past.{HasLockClocks, IsPast};
 
 use crate::clock::{Clock, row};
-use shb_discipline::Disciplined;
 use shb_io::NoMemory;
 use shb_lines::Op;
-use shb_links::Links;
+use shb_links::Linked;
 use std::alloc::Global;
 
 /// The clocks of the events so far, and of the locks.
@@ -20,53 +19,52 @@ pub struct Past {
 }
 
 /// A clock of zeros for each lock.
-pub fn lock_clocks(alloc: Global, trace: &Disciplined<'_>) -> Result<Vec<Clock>, NoMemory>
-    ensures { IfOk result (λ locks. HasLockClocks trace.now.events.now 0 trace.now.sizes.threads trace.now.sizes.locks locks.items) }
+pub fn lock_clocks(alloc: Global, linked: &Linked<'_>) -> Result<Vec<Clock>, NoMemory>
+    ensures { IfOk result (λ locks. HasLockClocks linked.now.events.now 0 linked.now.sizes.threads linked.now.sizes.locks locks.items) }
 {
     let mut locks = Vec::new(alloc);
-    for lock in 0..trace.sizes.locks {
-        locks.push(Clock::new(alloc, trace.sizes.threads as usize)?)?;
+    for lock in 0..linked.sizes.locks {
+        locks.push(Clock::new(alloc, linked.sizes.threads as usize)?)?;
     }
     Ok(locks)
 }
 
 /// Raises the clock of a lock that e releases to that of e.
-fn release(trace: &Disciplined<'_>, e: u32, clock: &Clock, locks: &mut Vec<Clock>)
-    requires in_range { e < length trace.now.events.now }
-    requires long { length clock.now ≡ trace.now.sizes.threads }
-    requires front { IsFront trace.now.events.now (λ k. ShbBelow trace.now.events.now k e) clock.now }
-    requires locks { HasLockClocks trace.now.events.now e trace.now.sizes.threads trace.now.sizes.locks locks.old.items }
-    ensures { HasLockClocks trace.now.events.now (e + 1) trace.now.sizes.threads trace.now.sizes.locks locks.new.items }
+fn release(linked: &Linked<'_>, e: u32, clock: &Clock, locks: &mut Vec<Clock>)
+    requires in_range { e < length linked.now.events.now }
+    requires long { length clock.now ≡ linked.now.sizes.threads }
+    requires front { IsFront linked.now.events.now (λ k. ShbBelow linked.now.events.now k e) clock.now }
+    requires locks { HasLockClocks linked.now.events.now e linked.now.sizes.threads linked.now.sizes.locks locks.old.items }
+    ensures { HasLockClocks linked.now.events.now (e + 1) linked.now.sizes.threads linked.now.sizes.locks locks.new.items }
 {
-    if let Op::Release(lock) = trace.events[e as usize].op {
+    if let Op::Release(lock) = linked.events[e as usize].op {
         locks[lock as usize].join(clock.as_slice());
     }
 }
 
 impl Past {
     /// What is known before the first event.
-    pub fn new(alloc: Global, trace: &Disciplined<'_>) -> Result<Self, NoMemory>
-        ensures { IfOk result (IsPast trace.now.events.now 0 trace.now.sizes) }
+    pub fn new(alloc: Global, linked: &Linked<'_>) -> Result<Self, NoMemory>
+        ensures { IfOk result (IsPast linked.now.events.now 0 linked.now.sizes) }
     {
         Ok(Past {
             clocks: Vec::new(alloc),
-            locks: lock_clocks(alloc, trace)?,
+            locks: lock_clocks(alloc, linked)?,
         })
     }
 
     /// Sets the clock to that of the predecessor of e.
-    fn start(&self, trace: &Disciplined<'_>, links: &Links<'_>, e: u32, clock: &mut Clock)
-        requires of_trace { links.now ≡ trace.now.events.now }
-        requires in_range { e < length trace.now.events.now }
-        requires past { IsPast trace.now.events.now e trace.now.sizes self.now }
-        requires long { length clock.old ≡ trace.now.sizes.threads }
-        ensures long { length clock.new ≡ trace.now.sizes.threads }
-        ensures front { IsFront trace.now.events.now (λ k. BelowPred trace.now.events.now k e) clock.new }
+    fn start(&self, linked: &Linked<'_>, e: u32, clock: &mut Clock)
+        requires in_range { e < length linked.now.events.now }
+        requires past { IsPast linked.now.events.now e linked.now.sizes self.now }
+        requires long { length clock.old ≡ linked.now.sizes.threads }
+        ensures long { length clock.new ≡ linked.now.sizes.threads }
+        ensures front { IsFront linked.now.events.now (λ k. BelowPred linked.now.events.now k e) clock.new }
     {
-        match links.pred(e) {
+        match linked.links.pred(e) {
             Some(p) => clock.copy(row(
                 self.clocks.as_slice(),
-                trace.sizes.threads as usize,
+                linked.sizes.threads as usize,
                 p as usize,
             )),
             None => clock.clear(),
@@ -74,31 +72,30 @@ impl Past {
     }
 
     /// Raises the clock by what e itself learns of other threads.
-    fn learn(&self, trace: &Disciplined<'_>, links: &Links<'_>, e: u32, clock: &mut Clock)
-        requires of_trace { links.now ≡ trace.now.events.now }
-        requires in_range { e < length trace.now.events.now }
-        requires past { IsPast trace.now.events.now e trace.now.sizes self.now }
-        requires long { length clock.old ≡ trace.now.sizes.threads }
-        requires front { IsFront trace.now.events.now (λ k. BelowPred trace.now.events.now k e) clock.old }
-        ensures long { length clock.new ≡ trace.now.sizes.threads }
-        ensures front { IsFront trace.now.events.now (StrictlyBelow trace.now.events.now e) clock.new }
+    fn learn(&self, linked: &Linked<'_>, e: u32, clock: &mut Clock)
+        requires in_range { e < length linked.now.events.now }
+        requires past { IsPast linked.now.events.now e linked.now.sizes self.now }
+        requires long { length clock.old ≡ linked.now.sizes.threads }
+        requires front { IsFront linked.now.events.now (λ k. BelowPred linked.now.events.now k e) clock.old }
+        ensures long { length clock.new ≡ linked.now.sizes.threads }
+        ensures front { IsFront linked.now.events.now (StrictlyBelow linked.now.events.now e) clock.new }
     {
-        match trace.events[e as usize].op {
+        match linked.events[e as usize].op {
             Op::Acquire(lock) => clock.join(self.locks[lock as usize].as_slice()),
             Op::Join(thread) => {
-                if let Some(last) = links.last_of(thread) {
+                if let Some(last) = linked.links.last_of(thread) {
                     clock.join(row(
                         self.clocks.as_slice(),
-                        trace.sizes.threads as usize,
+                        linked.sizes.threads as usize,
                         last as usize,
                     ));
                 }
             }
             Op::Read(_) => {
-                if let Some(write) = links.last_write(e) {
+                if let Some(write) = linked.links.last_write(e) {
                     clock.join(row(
                         self.clocks.as_slice(),
-                        trace.sizes.threads as usize,
+                        linked.sizes.threads as usize,
                         write as usize,
                     ));
                 }
@@ -108,29 +105,31 @@ impl Past {
     }
 
     /// Sets the clock to that of e.
-    pub fn set_clock(&self, trace: &Disciplined<'_>, links: &Links<'_>, e: u32, clock: &mut Clock)
-        requires of_trace { links.now ≡ trace.now.events.now }
-        requires in_range { e < length trace.now.events.now }
-        requires past { IsPast trace.now.events.now e trace.now.sizes self.now }
-        requires long { length clock.old ≡ trace.now.sizes.threads }
-        ensures long { length clock.new ≡ trace.now.sizes.threads }
-        ensures front { IsFront trace.now.events.now (λ k. ShbBelow trace.now.events.now k e) clock.new }
+    pub fn set_clock(&self, linked: &Linked<'_>, e: u32, clock: &mut Clock)
+        requires in_range { e < length linked.now.events.now }
+        requires past { IsPast linked.now.events.now e linked.now.sizes self.now }
+        requires long { length clock.old ≡ linked.now.sizes.threads }
+        ensures long { length clock.new ≡ linked.now.sizes.threads }
+        ensures front { IsFront linked.now.events.now (λ k. ShbBelow linked.now.events.now k e) clock.new }
     {
-        self.start(trace, links, e, clock);
-        self.learn(trace, links, e, clock);
-        clock.put(trace.events[e as usize].thread as usize, links.local(e));
+        self.start(linked, e, clock);
+        self.learn(linked, e, clock);
+        clock.put(
+            linked.events[e as usize].thread as usize,
+            linked.links.local(e),
+        );
     }
 
     /// Adds the event e, which has this clock.
-    pub fn add(&mut self, trace: &Disciplined<'_>, e: u32, clock: &Clock) -> Result<(), NoMemory>
-        requires in_range { e < length trace.now.events.now }
-        requires long { length clock.now ≡ trace.now.sizes.threads }
-        requires front { IsFront trace.now.events.now (λ k. ShbBelow trace.now.events.now k e) clock.now }
-        requires past { IsPast trace.now.events.now e trace.now.sizes self.old }
-        ensures { IfOk result (λ _. IsPast trace.now.events.now (e + 1) trace.now.sizes self.new) }
+    pub fn add(&mut self, linked: &Linked<'_>, e: u32, clock: &Clock) -> Result<(), NoMemory>
+        requires in_range { e < length linked.now.events.now }
+        requires long { length clock.now ≡ linked.now.sizes.threads }
+        requires front { IsFront linked.now.events.now (λ k. ShbBelow linked.now.events.now k e) clock.now }
+        requires past { IsPast linked.now.events.now e linked.now.sizes self.old }
+        ensures { IfOk result (λ _. IsPast linked.now.events.now (e + 1) linked.now.sizes self.new) }
     {
         self.clocks.extend_from_slice(clock.as_slice())?;
-        release(trace, e, clock, &mut self.locks);
+        release(linked, e, clock, &mut self.locks);
         Ok(())
     }
 }

@@ -12,7 +12,7 @@ use crate::order::Order;
 use shb_discipline::Disciplined;
 use shb_io::NoMemory;
 use shb_lines::Event;
-use shb_links::Links;
+use shb_links::{Linked, Links};
 use std::alloc::Global;
 use std::marker::Model;
 
@@ -20,16 +20,16 @@ use std::marker::Model;
 /// the list of events of the trace that it orders. It may be shared between threads.
 #[derive(Drop)]
 pub struct PlainOrder<'a> {
-    trace: &'a Disciplined<'a>,
+    linked: Linked<'a>,
     rows: Vec<Marks>,
 }
 
 impl<'a> Model for PlainOrder<'a> {
     ghost Value = { List Event };
 
-    ghost view = { λ o. o.trace.now.events.now };
+    ghost view = { λ o. o.linked.events.now };
 
-    ghost invariant = { λ o. HasRows o.trace.now.events.now (length o.trace.now.events.now) o.rows.items };
+    ghost invariant = { λ o. HasRows o.linked.events.now (length o.linked.events.now) o.rows.items };
 }
 
 /// No marks.
@@ -40,17 +40,15 @@ fn unmarked(alloc: Global, n: usize) -> Result<Vec<bool>, NoMemory>
 }
 
 /// Whether a is SHB-below p, from the marks after a.
-fn reaches(events: &[Event], links: &Links<'_>, marks: &[bool], a: u32, p: u32) -> bool
-    requires of_trace { links.now ≡ events.now }
+fn reaches(linked: &Linked<'_>, marks: &[bool], a: u32, p: u32) -> bool
     requires earlier { a < p }
-    requires in_range { p < length events.now }
-    requires as_long { length marks.now ≡ length events.now }
-    requires small { length events.now < 2 ^ 32 }
-    requires known { (k : ℕ) → a < k → k < length events.now → (slice_index_or marks.now k false ≡ true) ↔ ShbBelow events.now k p }
-    ensures { IsTrue result ↔ ShbBelow events.now a p }
+    requires in_range { p < length linked.now.events.now }
+    requires as_long { length marks.now ≡ length linked.now.events.now }
+    requires known { (k : ℕ) → a < k → k < length linked.now.events.now → (slice_index_or marks.now k false ≡ true) ↔ ShbBelow linked.now.events.now k p }
+    ensures { IsTrue result ↔ ShbBelow linked.now.events.now a p }
 {
     for b in a + 1..p + 1 {
-        if marks[b as usize] && is_edge(events, links, a, b) {
+        if marks[b as usize] && is_edge(linked, a, b) {
             return true;
         }
     }
@@ -58,20 +56,14 @@ fn reaches(events: &[Event], links: &Links<'_>, marks: &[bool], a: u32, p: u32) 
 }
 
 /// Marks the events that are SHB-below p, by a backward sweep.
-fn marks_below(
-    alloc: Global,
-    trace: &Disciplined<'_>,
-    links: &Links<'_>,
-    p: u32,
-) -> Result<Vec<bool>, NoMemory>
-    requires of_trace { links.now ≡ trace.now.events.now }
-    requires in_range { p < length trace.now.events.now }
-    ensures { IfOk result (λ marks. MarksFrom trace.now.events.now p 0 marks.items) }
+fn marks_below(alloc: Global, linked: &Linked<'_>, p: u32) -> Result<Vec<bool>, NoMemory>
+    requires in_range { p < length linked.now.events.now }
+    ensures { IfOk result (λ marks. MarksFrom linked.now.events.now p 0 marks.items) }
 {
-    let mut marks = unmarked(alloc, trace.events.len())?;
+    let mut marks = unmarked(alloc, linked.events.len())?;
     marks[p as usize] = true;
     for a in (0..p).rev() {
-        if reaches(trace.events, links, marks.as_slice(), a, p) {
+        if reaches(linked, marks.as_slice(), a, p) {
             marks[a as usize] = true;
         }
     }
@@ -79,19 +71,13 @@ fn marks_below(
 }
 
 /// The marks of one event.
-fn row_of(
-    alloc: Global,
-    trace: &Disciplined<'_>,
-    links: &Links<'_>,
-    e: u32,
-) -> Result<Marks, NoMemory>
-    requires of_trace { links.now ≡ trace.now.events.now }
-    requires in_range { e < length trace.now.events.now }
-    ensures { IfOk result (λ row. IsRowOf trace.now.events.now e row) }
+fn row_of(alloc: Global, linked: &Linked<'_>, e: u32) -> Result<Marks, NoMemory>
+    requires in_range { e < length linked.now.events.now }
+    ensures { IfOk result (λ row. IsRowOf linked.now.events.now e row) }
 {
-    match links.pred(e) {
-        Some(p) => Ok(Marks::new(marks_below(alloc, trace, links, p)?)),
-        None => Ok(Marks::new(unmarked(alloc, trace.events.len())?)),
+    match linked.links.pred(e) {
+        Some(p) => Ok(Marks::new(marks_below(alloc, linked, p)?)),
+        None => Ok(Marks::new(unmarked(alloc, linked.events.len())?)),
     }
 }
 
@@ -110,11 +96,12 @@ pub fn plain<'a>(
     requires { links.now ≡ trace.now.events.now }
     ensures { IfOk result (λ order. order ≡ trace.now.events.now) }
 {
+    let linked = Linked::new(trace, links);
     let mut rows = Vec::new(alloc);
-    for e in 0..trace.events.len() as u32 {
-        rows.push(row_of(alloc, trace, links, e)?)?;
+    for e in 0..linked.events.len() as u32 {
+        rows.push(row_of(alloc, &linked, e)?)?;
     }
-    Ok(PlainOrder { trace, rows })
+    Ok(PlainOrder { linked, rows })
 }
 
 /// How many events of a thread are marked.
@@ -136,6 +123,6 @@ impl<'a> Order for PlainOrder<'a> {
     ghost trace = { λ o. o };
 
     fn below_pred(&self, e: u32, t: u32) -> u32 {
-        count_marked(self.trace.events, &self.rows[e as usize], t)
+        count_marked(self.linked.events, &self.rows[e as usize], t)
     }
 }

@@ -1,7 +1,7 @@
 //! Stamps: the clock of an event in twelve bytes, over a row that others share.
 
 ghost use Rattle.std.specs.Prelude.{◌≡◌, ℕ, ◌+◌, ◌<◌, ◌≤◌, ◌⊎◌, ◌^◌, ◌↔◌, [], IsTrue, IfOk, OnOk, length, max, set, slice_index_or};
-ghost use Rattle.shb_clocks.specs.Stamps.{HasGrown, empty_stamp};
+ghost use Rattle.shb_clocks.specs.Stamps.{HasGrown, KnowsStamp, empty_stamp};
 
 use crate::clock::{Clock, EventClock, entry};
 use crate::rows::Rows;
@@ -30,7 +30,7 @@ impl Stamp {
 
     /// Whether a thread that knows a row, but for its own entry, knows the event of this stamp.
     pub fn is_known(self, thread: u32, row: &[u32]) -> bool
-        ensures { IsTrue result ↔ ((self.thread ≡ thread) ⊎ (self.place ≤ slice_index_or row.now self.thread 0)) }
+        ensures { IsTrue result ↔ KnowsStamp row.now thread self }
     {
         self.thread == thread || self.place <= entry(row, self.thread)
     }

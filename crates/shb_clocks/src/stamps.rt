@@ -1,19 +1,18 @@
 //! The sweep by stamps: rows that never change, and stamps that name them.
 
-ghost use Rattle.std.specs.Prelude.{◌≡◌, ℕ, ◌+◌, ◌<◌, ◌^◌, List, [], ◌∷◌, Some, IfOk, OnOk, length, replicate};
+ghost use Rattle.std.specs.Prelude.{◌≡◌, ℕ, ◌+◌, ◌<◌, ◌^◌, List, [], ◌∷◌, Some, IfOk, OnOk, length, replicate, slice_index_or};
 ghost use Rattle.shb_lines.specs.declared.event.Op.TheVariants.{Join};
 ghost use Rattle.shb_lines.specs.events.Events.{op_at, thread_at};
 ghost use Rattle.shb_lines.specs.events.Order.{BelowPred, ShbBelow};
-ghost use Rattle.shb_links.specs.Latest.{WritesVariable};
-ghost use Rattle.shb_clocks.specs.Stamps.{AreCurrent, AreStamps, HasGrown, HasRowsBefore, IsRowFor, IsSource, IsStampOf, IsSwept, ReleasesLock, empty_stamp};
+ghost use Rattle.shb_links.specs.Latest.{ReleasesLock, WritesVariable};
+ghost use Rattle.shb_clocks.specs.Stamps.{AreCurrent, AreStamps, HasGrown, HasRowsBefore, IsRowFor, IsSource, IsStampOf, IsSwept, KnowsStamp, empty_stamp};
 
 use crate::clock::Clock;
 use crate::rows::Rows;
 use crate::stamp::{Stamp, push_joined, push_stamp};
-use shb_discipline::Disciplined;
 use shb_io::NoMemory;
 use shb_lines::Op;
-use shb_links::Links;
+use shb_links::Linked;
 use std::alloc::{AllocError, Global};
 
 /// What the sweep keeps after some events.
@@ -58,27 +57,29 @@ fn first_row(alloc: Global, threads: u32, clock: &Clock) -> Result<Rows, NoMemor
     Ok(rows)
 }
 
-/// The number of the row of what the thread of e knows behind it: the one before it where the source
-/// tells nothing more, else a new one.
-fn row_behind(
+/// The number of the row of what the thread of e knows after it: the one before it where the source
+/// tells nothing more, and no row is made then; else a new one.
+fn row_after(
     rows: &mut Rows,
     clock: &mut Clock,
-    trace: &Disciplined<'_>,
+    linked: &Linked<'_>,
     e: u32,
     before: u32,
     source: Stamp,
 ) -> Result<u32, NoMemory>
-    requires in_range { e < length trace.now.events.now }
-    requires width { rows.old.width ≡ trace.now.sizes.threads }
+    requires in_range { e < length linked.now.events.now }
+    requires width { rows.old.width ≡ linked.now.sizes.threads }
     requires few { length rows.old.rows + 1 < 2 ^ 32 }
-    requires long { length clock.old ≡ trace.now.sizes.threads }
-    requires before { (t : ℕ) → thread_at trace.now.events.now e ≡ Some t → IsRowFor trace.now.events.now rows.old.rows t (λ k. BelowPred trace.now.events.now k e) before }
-    requires source { IsSource trace.now.events.now rows.old.rows e source }
-    ensures long { OnOk result (length clock.new ≡ trace.now.sizes.threads) }
+    requires long { length clock.old ≡ linked.now.sizes.threads }
+    requires before { (t : ℕ) → thread_at linked.now.events.now e ≡ Some t → IsRowFor linked.now.events.now rows.old.rows t (λ k. BelowPred linked.now.events.now k e) before }
+    requires source { IsSource linked.now.events.now rows.old.rows e source }
+    ensures long { OnOk result (length clock.new ≡ linked.now.sizes.threads) }
     ensures grown { OnOk result (HasGrown rows.old rows.new) }
-    ensures row { (t : ℕ) → thread_at trace.now.events.now e ≡ Some t → IfOk result (IsRowFor trace.now.events.now rows.new.rows t (λ k. ShbBelow trace.now.events.now k e)) }
+    ensures row { (t : ℕ) → thread_at linked.now.events.now e ≡ Some t → IfOk result (IsRowFor linked.now.events.now rows.new.rows t (λ k. ShbBelow linked.now.events.now k e)) }
+    ensures shared { (t : ℕ) → thread_at linked.now.events.now e ≡ Some t → KnowsStamp (slice_index_or rows.old.rows before []) t source
+        → OnOk result (rows.new ≡ rows.old) }
 {
-    let thread = trace.events[e as usize].thread;
+    let thread = linked.events[e as usize].thread;
     if source.is_known(thread, rows.row(before)) {
         return Ok(before);
     }
@@ -91,83 +92,82 @@ fn row_behind(
 fn pass_on(
     rows: &mut Rows,
     clock: &mut Clock,
-    trace: &Disciplined<'_>,
+    linked: &Linked<'_>,
     e: u32,
     stamp: Stamp,
     current: &mut Vec<u32>,
 ) -> Result<(), NoMemory>
-    requires in_range { e < length trace.now.events.now }
-    requires width { rows.old.width ≡ trace.now.sizes.threads }
+    requires in_range { e < length linked.now.events.now }
+    requires width { rows.old.width ≡ linked.now.sizes.threads }
     requires few { length rows.old.rows + 1 < 2 ^ 32 }
-    requires long { length clock.old ≡ trace.now.sizes.threads }
-    requires stamp { IsStampOf trace.now.events.now rows.old.rows e stamp }
-    requires current { AreCurrent trace.now.events.now rows.old.rows e trace.now.sizes.threads current.old.items }
-    ensures long { OnOk result (length clock.new ≡ trace.now.sizes.threads) }
+    requires long { length clock.old ≡ linked.now.sizes.threads }
+    requires stamp { IsStampOf linked.now.events.now rows.old.rows e stamp }
+    requires current { AreCurrent linked.now.events.now rows.old.rows e linked.now.sizes.threads current.old.items }
+    ensures long { OnOk result (length clock.new ≡ linked.now.sizes.threads) }
     ensures grown { OnOk result (HasGrown rows.old rows.new) }
-    ensures current { OnOk result (AreCurrent trace.now.events.now rows.new.rows (e + 1) trace.now.sizes.threads current.new.items) }
+    ensures current { OnOk result (AreCurrent linked.now.events.now rows.new.rows (e + 1) linked.now.sizes.threads current.new.items) }
 {
     current[stamp.thread as usize] = stamp.row;
-    if let Op::Fork(child) = trace.events[e as usize].op {
+    if let Op::Fork(child) = linked.events[e as usize].op {
         current[child as usize] = push_stamp(rows, clock, stamp)?;
     }
     Ok(())
 }
 
 /// Keeps the stamp of e, where it is a release, as that of the last release of its lock.
-fn note_release(trace: &Disciplined<'_>, e: u32, stamp: Stamp, locks: &mut Vec<Stamp>)
-    requires in_range { e < length trace.now.events.now }
-    requires as_many { length locks.old.items ≡ trace.now.sizes.locks }
-    ensures { (rows : List (List ℕ)) → IsStampOf trace.now.events.now rows e stamp
-        → AreStamps trace.now.events.now rows (ReleasesLock trace.now.events.now) e trace.now.sizes.locks locks.old.items
-        → AreStamps trace.now.events.now rows (ReleasesLock trace.now.events.now) (e + 1) trace.now.sizes.locks locks.new.items }
+fn note_release(linked: &Linked<'_>, e: u32, stamp: Stamp, locks: &mut Vec<Stamp>)
+    requires in_range { e < length linked.now.events.now }
+    requires as_many { length locks.old.items ≡ linked.now.sizes.locks }
+    ensures { (rows : List (List ℕ)) → IsStampOf linked.now.events.now rows e stamp
+        → AreStamps linked.now.events.now rows (ReleasesLock linked.now.events.now) e linked.now.sizes.locks locks.old.items
+        → AreStamps linked.now.events.now rows (ReleasesLock linked.now.events.now) (e + 1) linked.now.sizes.locks locks.new.items }
 {
-    if let Op::Release(lock) = trace.events[e as usize].op {
+    if let Op::Release(lock) = linked.events[e as usize].op {
         locks[lock as usize] = stamp;
     }
 }
 
 /// Keeps the stamp of e, where it is a write, as that of the last write of its variable.
-fn note_write(trace: &Disciplined<'_>, e: u32, stamp: Stamp, variables: &mut Vec<Stamp>)
-    requires in_range { e < length trace.now.events.now }
-    requires as_many { length variables.old.items ≡ trace.now.sizes.variables }
-    ensures { (rows : List (List ℕ)) → IsStampOf trace.now.events.now rows e stamp
-        → AreStamps trace.now.events.now rows (WritesVariable trace.now.events.now) e trace.now.sizes.variables variables.old.items
-        → AreStamps trace.now.events.now rows (WritesVariable trace.now.events.now) (e + 1) trace.now.sizes.variables variables.new.items }
+fn note_write(linked: &Linked<'_>, e: u32, stamp: Stamp, variables: &mut Vec<Stamp>)
+    requires in_range { e < length linked.now.events.now }
+    requires as_many { length variables.old.items ≡ linked.now.sizes.variables }
+    ensures { (rows : List (List ℕ)) → IsStampOf linked.now.events.now rows e stamp
+        → AreStamps linked.now.events.now rows (WritesVariable linked.now.events.now) e linked.now.sizes.variables variables.old.items
+        → AreStamps linked.now.events.now rows (WritesVariable linked.now.events.now) (e + 1) linked.now.sizes.variables variables.new.items }
 {
-    if let Op::Write(variable) = trace.events[e as usize].op {
+    if let Op::Write(variable) = linked.events[e as usize].op {
         variables[variable as usize] = stamp;
     }
 }
 
 impl Stamps {
     /// What is known before the first event.
-    pub fn new(alloc: Global, trace: &Disciplined<'_>) -> Result<Self, NoMemory>
-        ensures { IfOk result (IsSwept trace.now.events.now 0 trace.now.sizes) }
+    pub fn new(alloc: Global, linked: &Linked<'_>) -> Result<Self, NoMemory>
+        ensures { IfOk result (IsSwept linked.now.events.now 0 linked.now.sizes) }
     {
-        let clock = Clock::new(alloc, trace.sizes.threads as usize)?;
+        let clock = Clock::new(alloc, linked.sizes.threads as usize)?;
         Ok(Stamps {
-            rows: first_row(alloc, trace.sizes.threads, &clock)?,
-            before: Vec::with_capacity(alloc, trace.events.len())?,
-            current: zeros(alloc, trace.sizes.threads)?,
-            locks: no_stamps(alloc, trace.sizes.locks)?,
-            variables: no_stamps(alloc, trace.sizes.variables)?,
+            rows: first_row(alloc, linked.sizes.threads, &clock)?,
+            before: Vec::with_capacity(alloc, linked.events.len())?,
+            current: zeros(alloc, linked.sizes.threads)?,
+            locks: no_stamps(alloc, linked.sizes.locks)?,
+            variables: no_stamps(alloc, linked.sizes.variables)?,
             clock,
         })
     }
 
     /// The stamp of the last event of a thread that e joins, or an empty one.
-    fn join_source(&self, trace: &Disciplined<'_>, links: &Links<'_>, e: u32, thread: u32) -> Stamp
-        requires of_trace { links.now ≡ trace.now.events.now }
-        requires in_range { e < length trace.now.events.now }
-        requires joins { op_at trace.now.events.now e ≡ Some (Join thread) }
-        requires swept { IsSwept trace.now.events.now e trace.now.sizes self.now }
-        ensures { IsSource trace.now.events.now self.now.rows.rows e result }
+    fn join_source(&self, linked: &Linked<'_>, e: u32, thread: u32) -> Stamp
+        requires in_range { e < length linked.now.events.now }
+        requires joins { op_at linked.now.events.now e ≡ Some (Join thread) }
+        requires swept { IsSwept linked.now.events.now e linked.now.sizes self.now }
+        ensures { IsSource linked.now.events.now self.now.rows.rows e result }
     {
-        match links.last_of(thread) {
+        match linked.links.last_of(thread) {
             Some(last) => Stamp {
                 row: self.current[thread as usize],
                 thread,
-                place: links.local(last),
+                place: linked.links.local(last),
             },
             None => Stamp::empty(),
         }
@@ -175,48 +175,41 @@ impl Stamps {
 
     /// The stamp of what e learns of other threads: by an acquire that of the lock's last release, by
     /// a read that of the variable's last write, and by a join that of the thread's last event.
-    fn source(&self, trace: &Disciplined<'_>, links: &Links<'_>, e: u32) -> Stamp
-        requires of_trace { links.now ≡ trace.now.events.now }
-        requires in_range { e < length trace.now.events.now }
-        requires swept { IsSwept trace.now.events.now e trace.now.sizes self.now }
-        ensures { IsSource trace.now.events.now self.now.rows.rows e result }
+    fn source(&self, linked: &Linked<'_>, e: u32) -> Stamp
+        requires in_range { e < length linked.now.events.now }
+        requires swept { IsSwept linked.now.events.now e linked.now.sizes self.now }
+        ensures { IsSource linked.now.events.now self.now.rows.rows e result }
     {
-        match trace.events[e as usize].op {
+        match linked.events[e as usize].op {
             Op::Acquire(lock) => self.locks[lock as usize],
             Op::Read(variable) => self.variables[variable as usize],
-            Op::Join(thread) => self.join_source(trace, links, e, thread),
+            Op::Join(thread) => self.join_source(linked, e, thread),
             _ => Stamp::empty(),
         }
     }
 
     /// Takes the event e.
-    pub fn take(
-        &mut self,
-        trace: &Disciplined<'_>,
-        links: &Links<'_>,
-        e: u32,
-    ) -> Result<(), NoMemory>
-        requires of_trace { links.now ≡ trace.now.events.now }
-        requires in_range { e < length trace.now.events.now }
-        requires swept { IsSwept trace.now.events.now e trace.now.sizes self.old }
-        ensures { OnOk result (IsSwept trace.now.events.now (e + 1) trace.now.sizes self.new) }
+    pub fn take(&mut self, linked: &Linked<'_>, e: u32) -> Result<(), NoMemory>
+        requires in_range { e < length linked.now.events.now }
+        requires swept { IsSwept linked.now.events.now e linked.now.sizes self.old }
+        ensures { OnOk result (IsSwept linked.now.events.now (e + 1) linked.now.sizes self.new) }
     {
-        let thread = trace.events[e as usize].thread;
+        let thread = linked.events[e as usize].thread;
         let before = self.current[thread as usize];
-        let source = self.source(trace, links, e);
-        let row = row_behind(&mut self.rows, &mut self.clock, trace, e, before, source)?;
+        let source = self.source(linked, e);
+        let row = row_after(&mut self.rows, &mut self.clock, linked, e, before, source)?;
         let stamp = Stamp {
             row,
             thread,
-            place: links.local(e),
+            place: linked.links.local(e),
         };
         self.before.push(before)?;
-        note_release(trace, e, stamp, &mut self.locks);
-        note_write(trace, e, stamp, &mut self.variables);
+        note_release(linked, e, stamp, &mut self.locks);
+        note_write(linked, e, stamp, &mut self.variables);
         pass_on(
             &mut self.rows,
             &mut self.clock,
-            trace,
+            linked,
             e,
             stamp,
             &mut self.current,
@@ -226,18 +219,13 @@ impl Stamps {
 }
 
 /// The rows of a trace and the number of the row before each event, found by one forward pass.
-pub fn sweep(
-    alloc: Global,
-    trace: &Disciplined<'_>,
-    links: &Links<'_>,
-) -> Result<(Rows, Vec<u32>), NoMemory>
-    requires of_trace { links.now ≡ trace.now.events.now }
-    ensures width { IfOk result (λ kept. kept.0.width ≡ trace.now.sizes.threads) }
-    ensures before { IfOk result (λ kept. HasRowsBefore trace.now.events.now kept.0.rows (length trace.now.events.now) kept.1.items) }
+pub fn sweep(alloc: Global, linked: &Linked<'_>) -> Result<(Rows, Vec<u32>), NoMemory>
+    ensures width { IfOk result (λ kept. kept.0.width ≡ linked.now.sizes.threads) }
+    ensures before { IfOk result (λ kept. HasRowsBefore linked.now.events.now kept.0.rows (length linked.now.events.now) kept.1.items) }
 {
-    let mut stamps = Stamps::new(alloc, trace)?;
-    for e in 0..trace.events.len() as u32 {
-        stamps.take(trace, links, e)?;
+    let mut stamps = Stamps::new(alloc, linked)?;
+    for e in 0..linked.events.len() as u32 {
+        stamps.take(linked, e)?;
     }
     let Stamps { rows, before, .. } = stamps;
     Ok((rows, before))

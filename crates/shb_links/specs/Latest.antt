@@ -1,7 +1,7 @@
 -- The latest position before n that has a property.
 use Rattle.std.specs.Prelude.{◌≡◌, ℕ, ◌<◌, List, Option, Some, None, length, slice_index_or}
 use Rattle.shb_lines.specs.declared.event.Event.{Event}
-use Rattle.shb_lines.specs.declared.event.Op.TheVariants.{Write, Fork}
+use Rattle.shb_lines.specs.declared.event.Op.TheVariants.{Write, Release, Fork}
 use Rattle.shb_lines.specs.events.Events.{thread_at, op_at}
 
 -- k is the latest position before n that has the property
@@ -31,3 +31,7 @@ WritesVariable trace x k = op_at trace k ≡ Some (Write x)
 -- the event at k forks thread t
 abbrev pub ForksThread : List Event → ℕ → ℕ → Type 0
 ForksThread trace t k = op_at trace k ≡ Some (Fork t)
+
+-- the event at k releases the lock l
+abbrev pub ReleasesLock : List Event → ℕ → ℕ → Type 0
+ReleasesLock trace l k = op_at trace k ≡ Some (Release l)

@@ -5,12 +5,16 @@
 //! variable, the fork of each thread. A predecessor and a last write are kept as one more than the
 //! position, 0 for none: four bytes each. The table of last events is kept too: by the discipline
 //! nothing of a thread follows a join of it, so at a join it tells the thread's last event so far.
+//!
+//! [`Linked`] is a trace with its links, which the crates above hand on as one.
 #![tactic(auto)]
 
-pub mod latest;
+mod latest;
 mod link;
-pub mod links;
+mod linked;
+mod links;
 
+pub use linked::Linked;
 pub use links::{Links, links_of};
 
 #[cfg(test)]

@@ -136,7 +136,7 @@ fn last_write_of(trace: &Disciplined<'_>, writes: &[Option<u32>], e: u32) -> Lin
 
 /// Notes event `e` as the last of its thread, in a table of the last event of each thread before
 /// `e`.
-pub fn note_thread(events: &[Event], sizes: Sizes, last: &mut Vec<Option<u32>>, e: u32)
+fn note_thread(events: &[Event], sizes: Sizes, last: &mut Vec<Option<u32>>, e: u32)
     requires in_range { e < length events.now }
     requires within { IsWithin events.now sizes }
     requires last { IsLatestTable (OfThread events.now) e sizes.threads last.old.items }

@@ -1,11 +1,13 @@
 -- Runs that grow by one position.
-use Rattle.std.proofs.Common.{◌≡◌, ℕ, zero, suc, ◌+◌, ◌-◌, ◌<◌, ◌≤◌, List, [], ◌∷◌, ◌++◌, length, refl, sym, ap, ◌∙◌, arith, append_assoc, append-nil, get_or, set, All, ◌^◌, subst}
+use Rattle.std.proofs.Common.{◌≡◌, ◌≢◌, ℕ, zero, suc, ◌+◌, ◌-◌, ◌<◌, ◌≤◌, List, [], ◌∷◌, ◌++◌, length, refl, sym, ap, ◌∙◌, arith, append_assoc, append-nil, get_or, set, All, ◌^◌, subst, take, drop}
 use Rattle.std.specs.List.{range_with_len}
 use Rattle.std.proofs.lemmas.List.Elements.{All-cons, All-nil}
+use Rattle.std.proofs.Math.Seq.{take-length}
+use Rattle.std.proofs.lemmas.List.{take-append-le}
 use Rattle.std.proofs.lemmas.List.FromFn.{length-range_with_len}
 use Rattle.std.proofs.lemmas.List.Concat.{flat_map-append}
 use Rattle.shb_positions.specs.declared.positions.Run.{Run}
-use Rattle.shb_positions.specs.Runs.{EndsInRange, positions_in, run_positions}
+use Rattle.shb_positions.specs.Runs.{AreApart, EndsInRange, LeavesGap, positions_in, run_positions}
 
 last : (a n j : ℕ) → a + n ≡ j → range_with_len a (suc n) ≡ range_with_len a n ++ j ∷ []
 last a zero j e = let same : a ≡ j = omega arith in ap (λ k. k ∷ []) same
@@ -38,8 +40,38 @@ longer_last (run ∷ next ∷ runs) (suc n) position old new long is follows fro
     ∙ sym (append_assoc (run_positions run) (positions_in (next ∷ runs)) (position ∷ []))
 
 -- one run from the first position on
-pub one_run : (count n : ℕ) (runs : List Run) → runs ≡ record { first = 0; len = count } ∷ [] → n ≡ count → count < 2 ^ 32 → (n ≡ length (positions_in runs)) × All EndsInRange runs
+pub one_run : (count n : ℕ) (runs : List Run) → runs ≡ record { first = 0; len = count } ∷ [] → n ≡ count → count < 2 ^ 32 → (n ≡ length (positions_in runs)) × All EndsInRange runs × AreApart runs
 one_run count n runs is same small = (
   same ∙ sym (length-range_with_len 0 count) ∙ ap length (sym (append-nil (range_with_len 0 count))) ∙ ap (λ (l : List Run). length (positions_in l)) (sym is),
   subst (λ (l : List Run). All EndsInRange l) (sym is) (All-cons EndsInRange (record { first = 0; len = count }) [] (omega (arith, small)) (All-nil EndsInRange)),
+  subst (λ (l : List Run). AreApart l) (sym is) tt,
 )
+
+-- the last run grows: where runs begin is as before
+pub longer_apart : (runs : List Run) (n : ℕ) (old new : Run) → length runs ≡ n + 1 → old ≡ get_or runs n old → new.first ≡ old.first → AreApart runs → AreApart (set runs n new)
+longer_apart [] n old new long is from apart = absurd (omega (arith, long))
+longer_apart (run ∷ []) zero old new long is from apart = tt
+longer_apart (run ∷ []) (suc n) old new long is from apart = absurd (omega (arith, long))
+longer_apart (run ∷ next ∷ runs) zero old new long is from apart = absurd (omega (arith, long))
+longer_apart (run ∷ next ∷ []) (suc zero) old new long is from apart = (λ ends. apart.0 (ends ∙ from ∙ ap (λ (r : Run). r.first) is), tt)
+longer_apart (run ∷ next ∷ []) (suc (suc n)) old new long is from apart = absurd (omega (arith, long))
+longer_apart (run ∷ next ∷ more ∷ runs) (suc zero) old new long is from apart = absurd (omega (arith, long))
+longer_apart (run ∷ next ∷ more ∷ runs) (suc (suc n)) old new long is from apart = (apart.0, longer_apart (next ∷ more ∷ runs) (suc n) old new (omega (arith, long)) is from apart.1)
+
+-- a run more, behind a gap
+pub more_apart : (runs : List Run) (new : Run) → AreApart runs → LeavesGap runs new.first → AreApart (runs ++ new ∷ [])
+more_apart [] new apart gap = tt
+more_apart (run ∷ []) new apart gap = (gap, tt)
+more_apart (run ∷ next ∷ runs) new apart gap = (apart.0, more_apart (next ∷ runs) new apart.1 gap)
+
+-- the gap behind the last run
+pub last_leaves_gap : (runs : List Run) (n position : ℕ) (last : Run) → length runs ≡ n + 1 → last ≡ get_or runs n last → last.first + last.len ≢ position → LeavesGap runs position
+last_leaves_gap [] n position last long is gap = tt
+last_leaves_gap (run ∷ []) zero position last long is gap = λ ends. gap (ap (λ (r : Run). r.first + r.len) is ∙ ends)
+last_leaves_gap (run ∷ []) (suc n) position last long is gap = absurd (omega (arith, long))
+last_leaves_gap (run ∷ next ∷ runs) zero position last long is gap = absurd (omega (arith, long))
+last_leaves_gap (run ∷ next ∷ runs) (suc n) position last long is gap = last_leaves_gap (next ∷ runs) n position last (omega (arith, long)) is gap
+
+-- runs that were lent and came back as they were
+pub all_kept : (runs back : List Run) (n : ℕ) → back ≡ runs → n ≡ length runs → take n (back ++ drop (length back) runs) ≡ runs
+all_kept runs back n same long = rw (same, long) (take-append-le (length runs) runs (drop (length runs) runs) (omega arith) ∙ take-length runs)

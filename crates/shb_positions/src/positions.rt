@@ -2,7 +2,7 @@
 
 ghost use Rattle.std.specs.Prelude.{◌≡◌, ◌+◌, ◌-◌, ◌^◌, ◌<◌, ◌++◌, ◌∷◌, [], length, All, IfOk, OnErr, OnOk, IsTrue, IsFalse};
 ghost use Rattle.std.specs.List.{range_with_len};
-ghost use Rattle.shb_positions.specs.Runs.{EndsInRange, positions_in, run_positions};
+ghost use Rattle.shb_positions.specs.Runs.{AreApart, EndsInRange, LeavesGap, positions_in, run_positions};
 
 use shb_io::NoMemory;
 use std::alloc::Global;
@@ -27,13 +27,13 @@ pub struct Positions {
 
 impl Model for Positions {
     ghost use Rattle.std.specs.Prelude.{◌≡◌, ℕ, All, List, length};
-    ghost use Rattle.shb_positions.specs.Runs.{EndsInRange, positions_in};
+    ghost use Rattle.shb_positions.specs.Runs.{AreApart, EndsInRange, positions_in};
 
     ghost Value = { List ℕ };
 
     ghost view = { λ p. positions_in p.runs.items };
 
-    ghost invariant = { λ p. (p.count ≡ length (positions_in p.runs.items)) × All EndsInRange p.runs.items };
+    ghost invariant = { λ p. (p.count ≡ length (positions_in p.runs.items)) × All EndsInRange p.runs.items × AreApart p.runs.items };
 }
 
 impl Positions {
@@ -82,10 +82,12 @@ impl Positions {
         self.count
     }
 
-    /// The runs, in the order of the positions.
+    /// The runs, in the order of the positions. No run begins where the one before it ends, so as many
+    /// positions in a row are one run.
     pub fn runs(&self) -> &[Run]
         ensures positions { positions_in result.now ≡ self.now }
         ensures ends { All EndsInRange result.now }
+        ensures apart { AreApart result.now }
     {
         &self.runs
     }
@@ -106,7 +108,10 @@ impl Positions {
 fn extend_last(runs: &mut [Run], position: u32) -> bool
     requires fits { position < 2 ^ 32 - 1 }
     requires ends { All EndsInRange runs.old }
+    requires apart { AreApart runs.old }
     ensures ends { All EndsInRange runs.new }
+    ensures apart { AreApart runs.new }
+    ensures gap { IsFalse result → LeavesGap runs.old position }
     ensures added { IsTrue result → positions_in runs.new ≡ positions_in runs.old ++ position ∷ [] }
     ensures kept { IsFalse result → runs.new ≡ runs.old }
 {
@@ -125,7 +130,9 @@ fn extend_last(runs: &mut [Run], position: u32) -> bool
 fn add_position(runs: &mut Vec<Run>, position: u32) -> Result<(), NoMemory>
     requires fits { position < 2 ^ 32 - 1 }
     requires ends { All EndsInRange runs.old.items }
+    requires apart { AreApart runs.old.items }
     ensures ends { All EndsInRange runs.new.items }
+    ensures apart { AreApart runs.new.items }
     ensures added { OnOk result (positions_in runs.new.items ≡ positions_in runs.old.items ++ position ∷ []) }
     ensures kept { OnErr result (runs.new.items ≡ runs.old.items) }
 {

@@ -16,7 +16,7 @@ use Rattle.shb_replay.specs.declared.broken.Why.TheVariants as whys
 use Rattle.shb_replay.specs.Reasons.{StandsEarlier, IsUnbroken}
 use Rattle.shb_replay.proofs.Standing.{widen}
 use Rattle.shb_replay.proofs.Closed.{once, thread_stands, fork_stands, joined_stands, release_stands}
-use Rattle.shb_replay.proofs.Balance.{HasHolder, IsPassing, acquires_yes, releases_no, holder_after, disciplined_below, some_counted, others_balanced}
+use Rattle.shb_links.proofs.Balance.{HasHolder, IsPassing, acquires_yes, releases_no, holder_after, disciplined_below, some_counted, others_balanced}
 use Rattle.shb_replay.proofs.Cuts.{IsCut, IsEventAt, place_of_event, own_count, cut_of}
 
 fork_op : (u : ℕ) (op : Op) → op_is_fork u op ≡ true → op ≡ Fork u

@@ -9,9 +9,9 @@ use Rattle.shb_lines.specs.declared.event.Op.TheVariants.{Acquire, Release}
 use Rattle.shb_lines.specs.events.Events.{op_at}
 use Rattle.shb_lines.specs.events.Sizes.{IsWithin}
 use Rattle.shb_lines.proofs.events.Items.{op_item}
-use Rattle.shb_links.specs.Latest.{Latest, IsLatestTable}
+use Rattle.shb_links.specs.Latest.{Latest, IsLatestTable, ReleasesLock}
 use Rattle.shb_links.proofs.Tables.{table_mark, table_skip, op_within, op_other}
-use Rattle.shb_replay.specs.Walks.{ReleasesLock, HasHandovers}
+use Rattle.shb_replay.specs.Walks.{HasHandovers}
 
 release_alone : (trace : List Event) (e l m : ℕ) → op_at trace e ≡ Some (Release l) → op_at trace e ≡ Some (Release m) → m ≡ l
 release_alone trace e l m h g = let s : Some (Release l) ≡ Some (Release m) = sym h ∙ g in cc

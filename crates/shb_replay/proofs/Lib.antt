@@ -1,6 +1,5 @@
 pub mod Standing
 pub mod Closed
-pub mod Balance
 pub mod Cuts
 pub mod FrontDiscipline
 pub mod LastWrites

@@ -14,15 +14,15 @@ use Rattle.shb_lines.specs.events.Discipline.{IsDisciplined, MayDo, acquires, re
 use Rattle.shb_lines.specs.events.Order.{LastWrite}
 use Rattle.shb_lines.proofs.events.Counts.{count_mono}
 use Rattle.shb_lines.proofs.events.Events.{thread_is, op_is, event_of_thread, event_of_op, is_acquire_parts}
-use Rattle.shb_links.specs.Latest.{Latest, IsLatestTable, OfThread}
+use Rattle.shb_links.specs.Latest.{Latest, IsLatestTable, OfThread, ReleasesLock}
 use Rattle.shb_links.specs.Links.{Exactly}
 use Rattle.shb_replay.specs.declared.broken.Why.{Why}
 use Rattle.shb_replay.specs.declared.broken.Why.TheVariants as whys
 use Rattle.shb_replay.specs.Reasons.{number_of, StandsEarlier, IsLatestWrite, HasReason, IsUnbroken}
-use Rattle.shb_replay.specs.Walks.{AreLatestWrites, HasHandovers, IsLowestIn, JoinStands, ReleasesLock, TellsLack}
+use Rattle.shb_replay.specs.Walks.{AreLatestWrites, HasHandovers, IsLowestIn, JoinStands, TellsLack}
 use Rattle.shb_replay.proofs.Standing.{widen}
 use Rattle.shb_replay.proofs.Closed.{thread_stands, release_stands}
-use Rattle.shb_replay.proofs.Balance.{HasHolder, IsPassing, balanced, disciplined_below, holder_after, some_counted}
+use Rattle.shb_links.proofs.Balance.{HasHolder, IsPassing, balanced, disciplined_below, holder_after, some_counted}
 use Rattle.shb_replay.proofs.LastWrites.{writes_agree, writes_differ}
 
 module _ (trace : List Event) (disciplined : IsDisciplined trace) (s : List ℕ) (p : ℕ) (unbroken : IsUnbroken trace s p) where

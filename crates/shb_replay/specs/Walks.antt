@@ -2,30 +2,24 @@
 use Rattle.std.specs.Prelude.{◌≡◌, ℕ, ◌<◌, ◌≤◌, Bool, true, false, List, Option, Some, slice_get, slice_index_or, length, None}
 use Rattle.shb_lines.specs.declared.event.Event.{Event}
 use Rattle.shb_lines.specs.declared.event.Sizes.{Sizes}
-use Rattle.shb_lines.specs.declared.event.Op.TheVariants.{Write, Acquire, Release, Join}
+use Rattle.shb_lines.specs.declared.event.Op.TheVariants.{Write, Acquire, Join}
 use Rattle.shb_lines.specs.events.Events.{op_at}
 use Rattle.shb_lines.specs.events.Schedule.{IsNext}
-use Rattle.shb_links.specs.Latest.{Latest, IsLatestTable, OfThread}
+use Rattle.shb_links.specs.Latest.{Latest, ReleasesLock}
 use Rattle.shb_links.specs.Links.{Exactly}
-use Rattle.shb_replay.specs.declared.demands.Demands.{Demands}
 use Rattle.shb_replay.specs.declared.walked.Walked.{Walked}
 use Rattle.shb_replay.specs.declared.broken.Why.{Why}
 use Rattle.shb_replay.specs.declared.broken.Broken.{Broken}
 use Rattle.shb_replay.specs.Reasons.{number_of, StandsEarlier, IsLatestWrite, IsBroken, IsUnbroken}
-
--- the event at k releases the lock l
-abbrev pub ReleasesLock : List Event → ℕ → ℕ → Type 0
-ReleasesLock trace l k = op_at trace k ≡ Some (Release l)
 
 -- for each of the first n events that acquires a lock, the latest earlier release of the lock
 pub record HasHandovers (trace : List Event) (n : ℕ) (handovers : List (Option ℕ)) : Type 0 where
   pub as_long : length handovers ≡ n
   pub each : (e l : ℕ) → e < n → op_at trace e ≡ Some (Acquire l) → Latest (ReleasesLock trace l) e (slice_index_or handovers e None)
 
--- the last event of each thread, and the handovers of all events
-pub record HasDemands (trace : List Event) (sizes : Sizes) (demands : Demands) : Type 0 where
-  pub ends : IsLatestTable (OfThread trace) (length trace) sizes.threads demands.ends.items
-  pub handovers : HasHandovers trace (length trace) demands.handovers.items
+-- the handovers of all events
+abbrev pub AreRules : List Event → List (Option ℕ) → Type 0
+AreRules trace handovers = HasHandovers trace (length trace) handovers
 
 -- the flag tells whether the fact holds
 abbrev pub Tells : Bool → Type 0 → Type 0

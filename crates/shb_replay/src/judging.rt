@@ -4,49 +4,41 @@ ghost use Rattle.std.specs.Prelude.{◌≡◌, ◌<◌, ◌↔◌, ℕ, List, If
 ghost use Rattle.shb_lines.specs.declared.event.Event.{Event};
 ghost use Rattle.shb_lines.specs.events.Schedule.{IsSchedule};
 ghost use Rattle.shb_replay.specs.Reasons.{IsBroken};
-ghost use Rattle.shb_replay.specs.Walks.{HasDemands, IsAnswer, IsBlank, IsWalked, walked_to};
+ghost use Rattle.shb_replay.specs.Walks.{AreRules, IsAnswer, IsBlank, IsWalked, walked_to};
 
 use crate::broken::{Broken, Why};
-use crate::demands::Demands;
+use crate::rules::Rules;
 use crate::walked::Walked;
 use shb_discipline::Disciplined;
 use shb_io::NoMemory;
 use shb_lines::Pair;
-use shb_links::Links;
+use shb_links::{Linked, Links};
 use std::alloc::Global;
 use std::marker::Model;
 
 /// Walks over a list from its first place up to the first with a reason, and answers where and why it
 /// is no schedule of the pair.
-fn walk(
-    walked: &mut Walked,
-    trace: &Disciplined<'_>,
-    links: &Links<'_>,
-    demands: &Demands,
-    list: &[u32],
-    pair: Pair,
-) -> Option<Broken>
-    requires linked { links.now ≡ trace.now.events.now }
-    requires first { pair.first < length trace.now.events.now }
-    requires second { pair.second < length trace.now.events.now }
-    requires demands { HasDemands trace.now.events.now trace.now.sizes demands.now }
-    requires blank { IsBlank trace.now.events.now trace.now.sizes walked.old }
-    ensures answer { IsAnswer trace.now.events.now list.now pair.first pair.second result }
-    ensures walked { IsWalked trace.now.events.now trace.now.sizes list.now
+fn walk(walked: &mut Walked, rules: &Rules<'_>, list: &[u32], pair: Pair) -> Option<Broken>
+    requires first { pair.first < length rules.now.linked.events.now }
+    requires second { pair.second < length rules.now.linked.events.now }
+    requires rules { AreRules rules.now.linked.events.now rules.now.handovers.items }
+    requires blank { IsBlank rules.now.linked.events.now rules.now.linked.sizes walked.old }
+    ensures answer { IsAnswer rules.now.linked.events.now list.now pair.first pair.second result }
+    ensures walked { IsWalked rules.now.linked.events.now rules.now.linked.sizes list.now
         (walked_to list.now result) walked.new }
 {
     for at in 0..list.len() {
-        if let Some(why) = walked.reason(trace, links, demands, list, at) {
+        if let Some(why) = walked.reason(rules, list, at) {
             return Some(Broken { at, why });
         }
-        walked.note(trace, list, at);
+        walked.note(&rules.linked, list, at);
     }
     let at = list.len();
     let why = Why::NotNext;
-    if !walked.is_next(trace, links, list, pair.first) {
+    if !walked.is_next(&rules.linked, list, pair.first) {
         return Some(Broken { at, why });
     }
-    if !walked.is_next(trace, links, list, pair.second) {
+    if !walked.is_next(&rules.linked, list, pair.second) {
         return Some(Broken { at, why });
     }
     None
@@ -66,24 +58,21 @@ fn places_walked(list: &[u32], answer: Option<Broken>) -> usize
 /// itself, twice, and takes no memory. Contracts see it as the list of the trace's events.
 #[derive(Drop)]
 pub struct Judge<'a> {
-    trace: &'a Disciplined<'a>,
-    links: &'a Links<'a>,
-    demands: Demands,
+    rules: Rules<'a>,
     walked: Walked,
 }
 
 impl<'a> Model for Judge<'a> {
     ghost Value = { List Event };
 
-    ghost view = { λ j. j.trace.now.events.now };
+    ghost view = { λ j. j.rules.linked.events.now };
 
-    ghost invariant = { λ j. (j.links.now ≡ j.trace.now.events.now)
-        × HasDemands j.trace.now.events.now j.trace.now.sizes j.demands
-        × IsBlank j.trace.now.events.now j.trace.now.sizes j.walked };
+    ghost invariant = { λ j. AreRules j.rules.linked.events.now j.rules.handovers.items
+        × IsBlank j.rules.linked.events.now j.rules.linked.sizes j.walked };
 }
 
 impl<'a> Judge<'a> {
-    /// A judge of lists of this trace, by three passes over it. `NoMemory` where memory was refused.
+    /// A judge of lists of this trace, by two passes over it. `NoMemory` where memory was refused.
     pub fn new(
         alloc: Global,
         trace: &'a Disciplined<'a>,
@@ -92,14 +81,10 @@ impl<'a> Judge<'a> {
         requires linked { links.now ≡ trace.now.events.now }
         ensures { IfOk result (λ judge. judge ≡ trace.now.events.now) }
     {
-        let demands = Demands::new(alloc, trace)?;
-        let walked = Walked::new(alloc, trace)?;
-        Ok(Judge {
-            trace,
-            links,
-            demands,
-            walked,
-        })
+        let linked = Linked::new(trace, links);
+        let rules = Rules::new(alloc, linked)?;
+        let walked = Walked::new(alloc, &rules.linked)?;
+        Ok(Judge { rules, walked })
     }
 
     /// As [`replay`], of this judge's trace.
@@ -111,16 +96,9 @@ impl<'a> Judge<'a> {
         ensures broken { IfSome result (λ b. IsBroken self.old list.now pair.first pair.second
             b.at b.why) }
     {
-        let answer = walk(
-            &mut self.walked,
-            self.trace,
-            self.links,
-            &self.demands,
-            list,
-            pair,
-        );
-        self.walked
-            .clear(self.trace, list, places_walked(list, answer));
+        let answer = walk(&mut self.walked, &self.rules, list, pair);
+        let end = places_walked(list, answer);
+        self.walked.clear(&self.rules.linked, list, end);
         answer
     }
 }
@@ -131,7 +109,7 @@ impl<'a> Judge<'a> {
 /// `None` exactly where it is one. Else the first place with a reason, and the lowest reason there
 /// (see [`Why`]). `NoMemory` where memory was refused.
 ///
-/// Two passes over the list and three over the trace; memory for the events, threads and names of the
+/// Two passes over the list and two over the trace; memory for the events, threads and names of the
 /// trace. Whoever has many lists of one trace makes a [`Judge`].
 pub fn replay(
     alloc: Global,

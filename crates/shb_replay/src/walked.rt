@@ -3,15 +3,13 @@
 ghost use Rattle.std.specs.Prelude.{◌≡◌, ◌+◌, ◌<◌, ◌≤◌, ℕ, List, IfOk, IfSome, Some, length, slice_get, vec_len, false, replicate};
 ghost use Rattle.shb_lines.specs.events.Schedule.{IsNext};
 ghost use Rattle.shb_replay.specs.Reasons.{HasReason, IsLowest, IsUnbroken, StandsEarlier};
-ghost use Rattle.shb_replay.specs.Walks.{AreFlags, HasDemands, IsBlank, IsLeft, IsLowestIn, IsWalked, Tells, TellsLack};
+ghost use Rattle.shb_replay.specs.Walks.{AreFlags, AreRules, IsBlank, IsLeft, IsLowestIn, IsWalked, Tells, TellsLack};
 
 use crate::broken::Why;
-use crate::demands::Demands;
-use shb_discipline::Disciplined;
+use crate::rules::{Rules, no_positions};
 use shb_io::NoMemory;
 use shb_lines::{Event, Op};
-use shb_links::Links;
-use shb_links::latest::empty_table;
+use shb_links::Linked;
 use std::alloc::Global;
 
 /// What stands at the places of a list that were walked.
@@ -34,13 +32,13 @@ fn unset_flags(alloc: Global, size: usize) -> Result<Vec<bool>, NoMemory>
 
 impl Walked {
     /// Before the first place: nothing stands.
-    pub(crate) fn new(alloc: Global, trace: &Disciplined<'_>) -> Result<Walked, NoMemory>
-        ensures { IfOk result (IsBlank trace.now.events.now trace.now.sizes) }
+    pub(crate) fn new(alloc: Global, linked: &Linked<'_>) -> Result<Walked, NoMemory>
+        ensures { IfOk result (IsBlank linked.now.events.now linked.now.sizes) }
     {
         Ok(Walked {
-            stands: unset_flags(alloc, trace.events.len())?,
-            joined: unset_flags(alloc, trace.sizes.threads as usize)?,
-            writes: empty_table(alloc, trace.sizes.variables)?,
+            stands: unset_flags(alloc, linked.events.len())?,
+            joined: unset_flags(alloc, linked.sizes.threads as usize)?,
+            writes: no_positions(alloc, linked.sizes.variables)?,
         })
     }
 
@@ -58,29 +56,22 @@ impl Walked {
 
     /// The reason of thread order that the event at a place has, if it has one: its predecessor
     /// doesn't stand.
-    fn order_reason(
-        &self,
-        trace: &Disciplined<'_>,
-        links: &Links<'_>,
-        list: &[u32],
-        at: usize,
-    ) -> Option<Why>
+    fn order_reason(&self, linked: &Linked<'_>, list: &[u32], at: usize) -> Option<Why>
         requires at { at < length list.now }
         requires in_trace { (e : ℕ) → slice_get list.now at ≡ Some e
-            → e < length trace.now.events.now }
-        requires linked { links.now ≡ trace.now.events.now }
-        requires walked { IsWalked trace.now.events.now trace.now.sizes list.now at self.now }
+            → e < length linked.now.events.now }
+        requires walked { IsWalked linked.now.events.now linked.now.sizes list.now at self.now }
         ensures { (e : ℕ) → slice_get list.now at ≡ Some e
-            → IsLowestIn 3 4 (HasReason trace.now.events.now list.now at e) result }
+            → IsLowestIn 3 4 (HasReason linked.now.events.now list.now at e) result }
     {
         let e = list[at];
-        let Some(p) = links.pred(e) else {
+        let Some(p) = linked.links.pred(e) else {
             return None;
         };
         if self.stands[p as usize] {
             return None;
         }
-        if trace.events[p as usize].thread == trace.events[e as usize].thread {
+        if linked.events[p as usize].thread == linked.events[e as usize].thread {
             Some(Why::ThreadOrder)
         } else {
             Some(Why::ForkMissing)
@@ -88,29 +79,21 @@ impl Walked {
     }
 
     /// The reason that the event at a place has by its operation, if it has one.
-    fn operation_reason(
-        &self,
-        trace: &Disciplined<'_>,
-        links: &Links<'_>,
-        demands: &Demands,
-        list: &[u32],
-        at: usize,
-    ) -> Option<Why>
+    fn operation_reason(&self, rules: &Rules<'_>, list: &[u32], at: usize) -> Option<Why>
         requires at { at < length list.now }
         requires in_trace { (e : ℕ) → slice_get list.now at ≡ Some e
-            → e < length trace.now.events.now }
-        requires linked { links.now ≡ trace.now.events.now }
-        requires demands { HasDemands trace.now.events.now trace.now.sizes demands.now }
-        requires walked { IsWalked trace.now.events.now trace.now.sizes list.now at self.now }
-        requires unbroken { IsUnbroken trace.now.events.now list.now at }
+            → e < length rules.now.linked.events.now }
+        requires rules { AreRules rules.now.linked.events.now rules.now.handovers.items }
+        requires walked { IsWalked rules.now.linked.events.now rules.now.linked.sizes list.now at self.now }
+        requires unbroken { IsUnbroken rules.now.linked.events.now list.now at }
         ensures { (e : ℕ) → slice_get list.now at ≡ Some e
-            → IsLowestIn 5 8 (HasReason trace.now.events.now list.now at e) result }
+            → IsLowestIn 5 8 (HasReason rules.now.linked.events.now list.now at e) result }
     {
         let e = list[at];
-        let Event { op, .. } = trace.events[e as usize];
+        let Event { op, .. } = rules.linked.events[e as usize];
         match op {
             Op::Join(thread) => {
-                if self.lacks(demands.ends[thread as usize]) {
+                if self.lacks(rules.linked.links.last_of(thread)) {
                     Some(Why::JoinEarly)
                 } else {
                     None
@@ -124,14 +107,14 @@ impl Walked {
                 }
             }
             Op::Acquire(_) => {
-                if self.lacks(demands.handovers[e as usize]) {
+                if self.lacks(rules.handovers[e as usize]) {
                     Some(Why::LockOrder)
                 } else {
                     None
                 }
             }
             Op::Read(variable) => {
-                if self.writes[variable as usize] == links.last_write(e) {
+                if self.writes[variable as usize] == rules.linked.links.last_write(e) {
                     None
                 } else {
                     Some(Why::LastWrite)
@@ -142,46 +125,38 @@ impl Walked {
     }
 
     /// The reason of lowest number that the event at a place has, if it has one.
-    pub(crate) fn reason(
-        &self,
-        trace: &Disciplined<'_>,
-        links: &Links<'_>,
-        demands: &Demands,
-        list: &[u32],
-        at: usize,
-    ) -> Option<Why>
+    pub(crate) fn reason(&self, rules: &Rules<'_>, list: &[u32], at: usize) -> Option<Why>
         requires at { at < length list.now }
-        requires linked { links.now ≡ trace.now.events.now }
-        requires demands { HasDemands trace.now.events.now trace.now.sizes demands.now }
-        requires walked { IsWalked trace.now.events.now trace.now.sizes list.now at self.now }
-        requires unbroken { IsUnbroken trace.now.events.now list.now at }
+        requires rules { AreRules rules.now.linked.events.now rules.now.handovers.items }
+        requires walked { IsWalked rules.now.linked.events.now rules.now.linked.sizes list.now at self.now }
+        requires unbroken { IsUnbroken rules.now.linked.events.now list.now at }
         ensures { (e : ℕ) → slice_get list.now at ≡ Some e
-            → IsLowest (HasReason trace.now.events.now list.now at e) result }
+            → IsLowest (HasReason rules.now.linked.events.now list.now at e) result }
     {
         let e = list[at] as usize;
-        if e >= trace.events.len() {
+        if e >= rules.linked.events.len() {
             return Some(Why::NoSuchEvent);
         }
         if self.stands[e] {
             return Some(Why::Repeated);
         }
-        match self.order_reason(trace, links, list, at) {
+        match self.order_reason(&rules.linked, list, at) {
             Some(why) => Some(why),
-            None => self.operation_reason(trace, links, demands, list, at),
+            None => self.operation_reason(rules, list, at),
         }
     }
 
     /// Takes note of the event at a place, which has no reason.
-    pub(crate) fn note(&mut self, trace: &Disciplined<'_>, list: &[u32], at: usize)
+    pub(crate) fn note(&mut self, linked: &Linked<'_>, list: &[u32], at: usize)
         requires at { at < length list.now }
         requires in_trace { (e : ℕ) → slice_get list.now at ≡ Some e
-            → e < length trace.now.events.now }
-        requires walked { IsWalked trace.now.events.now trace.now.sizes list.now at self.old }
-        ensures { IsWalked trace.now.events.now trace.now.sizes list.now (at + 1) self.new }
+            → e < length linked.now.events.now }
+        requires walked { IsWalked linked.now.events.now linked.now.sizes list.now at self.old }
+        ensures { IsWalked linked.now.events.now linked.now.sizes list.now (at + 1) self.new }
     {
         let e = list[at];
         self.stands[e as usize] = true;
-        match trace.events[e as usize].op {
+        match linked.events[e as usize].op {
             Op::Join(thread) => self.joined[thread as usize] = true,
             Op::Write(variable) => self.writes[variable as usize] = Some(e),
             _ => {}
@@ -189,16 +164,16 @@ impl Walked {
     }
 
     /// Forgets the event at a place.
-    fn forget(&mut self, trace: &Disciplined<'_>, list: &[u32], at: usize, end: usize)
+    fn forget(&mut self, linked: &Linked<'_>, list: &[u32], at: usize, end: usize)
         requires at { at < length list.now }
         requires in_trace { (e : ℕ) → slice_get list.now at ≡ Some e
-            → e < length trace.now.events.now }
-        requires left { IsLeft trace.now.events.now trace.now.sizes list.now at end self.old }
-        ensures { IsLeft trace.now.events.now trace.now.sizes list.now (at + 1) end self.new }
+            → e < length linked.now.events.now }
+        requires left { IsLeft linked.now.events.now linked.now.sizes list.now at end self.old }
+        ensures { IsLeft linked.now.events.now linked.now.sizes list.now (at + 1) end self.new }
     {
         let e = list[at];
         self.stands[e as usize] = false;
-        match trace.events[e as usize].op {
+        match linked.events[e as usize].op {
             Op::Join(thread) => self.joined[thread as usize] = false,
             Op::Write(variable) => self.writes[variable as usize] = None,
             _ => {}
@@ -206,35 +181,28 @@ impl Walked {
     }
 
     /// Forgets the events at the first places of a list, which are all that it knows.
-    pub(crate) fn clear(&mut self, trace: &Disciplined<'_>, list: &[u32], end: usize)
+    pub(crate) fn clear(&mut self, linked: &Linked<'_>, list: &[u32], end: usize)
         requires end { end ≤ length list.now }
-        requires walked { IsWalked trace.now.events.now trace.now.sizes list.now end self.old }
-        requires unbroken { IsUnbroken trace.now.events.now list.now end }
-        ensures { IsBlank trace.now.events.now trace.now.sizes self.new }
+        requires walked { IsWalked linked.now.events.now linked.now.sizes list.now end self.old }
+        requires unbroken { IsUnbroken linked.now.events.now list.now end }
+        ensures { IsBlank linked.now.events.now linked.now.sizes self.new }
     {
         for at in 0..end {
-            self.forget(trace, list, at, end);
+            self.forget(linked, list, at, end);
         }
     }
 
     /// Whether an event is next after the list that was walked.
-    pub(crate) fn is_next(
-        &self,
-        trace: &Disciplined<'_>,
-        links: &Links<'_>,
-        list: &[u32],
-        e: u32,
-    ) -> bool
-        requires in_trace { e < length trace.now.events.now }
-        requires linked { links.now ≡ trace.now.events.now }
-        requires walked { IsWalked trace.now.events.now trace.now.sizes list.now (length list.now)
+    pub(crate) fn is_next(&self, linked: &Linked<'_>, list: &[u32], e: u32) -> bool
+        requires in_trace { e < length linked.now.events.now }
+        requires walked { IsWalked linked.now.events.now linked.now.sizes list.now (length list.now)
             self.now }
-        requires unbroken { IsUnbroken trace.now.events.now list.now (length list.now) }
-        ensures { Tells result (IsNext trace.now.events.now list.now e) }
+        requires unbroken { IsUnbroken linked.now.events.now list.now (length list.now) }
+        ensures { Tells result (IsNext linked.now.events.now list.now e) }
     {
         if self.stands[e as usize] {
             return false;
         }
-        !self.lacks(links.pred(e))
+        !self.lacks(linked.links.pred(e))
     }
 }

@@ -3,7 +3,7 @@ use Rattle.std.proofs.Common.{◌≡◌, ℕ, Bool, List, sym, subst, ◌∙◌}
 use Rattle.shb_lines.specs.text.Text.{lines_of}
 use Rattle.shb_lines.specs.text.TraceData.{IsTraceOf, TraceData, tables_in}
 use Rattle.shb_discipline.proofs.Numbering.{one_trace}
-use Rattle.shb_pairs.proofs.Listing.{race_list_unique}
+use Rattle.shb_lines.proofs.events.RaceList.{race_list_unique}
 use Rattle.shb_report.specs.Report.{IsReport, IsReportOf}
 use Rattle.shb_report.proofs.Blocks.{IsReport-unique}
 

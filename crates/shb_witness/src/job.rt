@@ -9,7 +9,7 @@ ghost use Rattle.shb_witness.specs.Schedules.{Asked, AreRaces, schedule_at};
 
 use crate::checkpoints::Checkpoint;
 use crate::schedules::schedule_runs;
-use shb_clocks::Order;
+use shb_clocks::{Order, Ordered};
 use shb_discipline::Disciplined;
 use shb_fan::Job;
 use shb_io::NoMemory;
@@ -24,9 +24,7 @@ use std::marker::Model;
 /// trace and its races, which fix every schedule.
 #[derive(Drop)]
 pub struct WitnessJob<'a, O: Order> {
-    order: &'a O,
-    trace: &'a Disciplined<'a>,
-    links: &'a Links<'a>,
+    ordered: Ordered<'a, O>,
     pairs: &'a [Pair],
     points: Option<&'a [Checkpoint]>,
 }
@@ -34,12 +32,10 @@ pub struct WitnessJob<'a, O: Order> {
 impl<'a, O: Order> Model for WitnessJob<'a, O> {
     ghost Value = { Asked };
 
-    ghost view = { λ j. record { trace = j.trace.now.events.now; races = j.pairs.now } };
+    ghost view = { λ j. record { trace = j.ordered.trace.now.events.now; races = j.pairs.now } };
 
-    ghost invariant = { λ j. (O.trace j.order.now ≡ j.trace.now.events.now)
-        × (j.links.now ≡ j.trace.now.events.now)
-        × AreRaces j.trace.now.events.now j.pairs.now
-        × AreReached j.trace.now.events.now j.points };
+    ghost invariant = { λ j. AreRaces j.ordered.trace.now.events.now j.pairs.now
+        × AreReached j.ordered.trace.now.events.now j.points };
 }
 
 impl<'a, O: Order> WitnessJob<'a, O> {
@@ -55,10 +51,13 @@ impl<'a, O: Order> WitnessJob<'a, O> {
         requires races { AreRaces trace.now.events.now pairs.now }
         ensures { result ≡ record { trace = trace.now.events.now; races = pairs.now } }
     {
-        WitnessJob {
+        let ordered = Ordered {
             order,
             trace,
             links,
+        };
+        WitnessJob {
+            ordered,
             pairs,
             points: None,
         }
@@ -93,13 +92,6 @@ impl<'a, O: Order> Job for WitnessJob<'a, O> {
     }
 
     fn run(&self, alloc: Global, k: u64) -> Result<Positions, NoMemory> {
-        schedule_runs(
-            alloc,
-            self.order,
-            self.trace,
-            self.links,
-            self.points,
-            self.pairs[k as usize],
-        )
+        schedule_runs(alloc, &self.ordered, self.points, self.pairs[k as usize])
     }
 }

@@ -7,7 +7,7 @@ ghost use Rattle.shb_witness.specs.Checkpoints.{AreReached};
 
 use crate::checkpoints::{Checkpoint, front_of};
 use crate::cuts::{cuts_of, end_of};
-use shb_clocks::Order;
+use shb_clocks::{Order, Ordered};
 use shb_discipline::Disciplined;
 use shb_io::NoMemory;
 use shb_lines::Pair;
@@ -37,32 +37,33 @@ pub fn schedule<O: Order>(
     ensures schedule { IfOk result (λ s. IsSchedule trace.now.events.now s.items
         pair.first pair.second) }
 {
-    schedule_runs(alloc, order, trace, links, None, pair)?.to_vec(alloc)
+    let ordered = Ordered {
+        order: &*order,
+        trace: &*trace,
+        links: &*links,
+    };
+    schedule_runs(alloc, &ordered, None, pair)?.to_vec(alloc)
 }
 
 /// The printed schedule of a race, as [`schedule`] gives it, kept as runs of consecutive events. No
 /// event is looked at before the last checkpoint up to which none is left out.
 pub(crate) fn schedule_runs<O: Order>(
     alloc: Global,
-    order: &O,
-    trace: &Disciplined<'_>,
-    links: &Links<'_>,
+    ordered: &Ordered<'_, O>,
     points: Option<&[Checkpoint]>,
     pair: Pair,
 ) -> Result<Positions, NoMemory>
-    requires of_trace { O.trace order.now ≡ trace.now.events.now }
-    requires linked { links.now ≡ trace.now.events.now }
-    requires points { AreReached trace.now.events.now points }
-    requires race { Race trace.now.events.now pair.first pair.second }
-    ensures { IfOk result (λ s. IsPrintedSchedule trace.now.events.now s pair.first pair.second) }
+    requires points { AreReached ordered.now.trace.now.events.now points }
+    requires race { Race ordered.now.trace.now.events.now pair.first pair.second }
+    ensures { IfOk result (λ s. IsPrintedSchedule ordered.now.trace.now.events.now s pair.first pair.second) }
 {
-    let cuts = cuts_of(alloc, order, trace, pair)?;
-    let end = end_of(trace, links, pair);
+    let cuts = cuts_of(alloc, ordered, pair)?;
+    let end = end_of(ordered, pair);
     let front = front_of(points, &cuts).min(end);
     let mut positions = Positions::first(alloc, front)?;
     for k in front..end {
-        let thread = trace.events[k as usize].thread;
-        if links.local(k) <= cuts[thread as usize] {
+        let thread = ordered.trace.events[k as usize].thread;
+        if ordered.links.local(k) <= cuts[thread as usize] {
             positions.push(k)?;
         }
     }

@@ -10,8 +10,8 @@ returns-then-happens_first c = ((λ h. edge_by_rule _ _ _ _ c.requires.earlier c
 
 pub returns-in-Some : goal.returns-in-Some
 returns-in-Some c =
-    let last = subst (λ (tr : List Event). LastWrite tr c.in-Some.w c.args.b) c.requires.of_trace c.in-Some.ensures in
-    ((λ h. subst (λ k. ShbEdge c.args.events.now k c.args.b) (eqb-true c.in-Some.w c.args.a h) (read_from last)), (λ e. eq-eqb c.in-Some.w c.args.a (edge_by_write _ _ _ _ _ c.requires.earlier c.requires.in_range (sym c.happens_first.ensures ∙ c.if-happens_first.false) last e)))
+    let last = subst (λ (tr : List Event). LastWrite tr c.in-Some.w c.args.b) c.args.linked.now.of_links c.in-Some.ensures in
+    ((λ h. subst (λ k. ShbEdge c.args.linked.now.events.now k c.args.b) (eqb-true c.in-Some.w c.args.a h) (read_from last)), (λ e. eq-eqb c.in-Some.w c.args.a (edge_by_write _ _ _ _ _ c.requires.earlier c.requires.in_range (sym c.happens_first.ensures ∙ c.if-happens_first.false) last e)))
 
 pub returns-in-None : goal.returns-in-None
-returns-in-None c = ((λ h. absurd (let f : ⊥ = cc in f)), (λ e. absurd (no_edge _ _ _ _ c.requires.earlier c.requires.in_range (sym c.happens_first.ensures ∙ c.if-happens_first.false) (λ w last. c.in-None.ensures w (subst (λ (tr : List Event). LastWrite tr w c.args.b) (sym c.requires.of_trace) last)) e)))
+returns-in-None c = ((λ h. absurd (let f : ⊥ = cc in f)), (λ e. absurd (no_edge _ _ _ _ c.requires.earlier c.requires.in_range (sym c.happens_first.ensures ∙ c.if-happens_first.false) (λ w last. c.in-None.ensures w (subst (λ (tr : List Event). LastWrite tr w c.args.b) (sym c.args.linked.now.of_links) last)) e)))

@@ -4,6 +4,6 @@ use Rattle.shb_clocks.proofs.learned_past.sweep.Given as goal
 
 abbrev pub invariant-loop-e : goal.invariant-loop-e
 invariant-loop-e l = record {
-  long : length l.clock ≡ l.fn.trace.sizes.threads;
-  past : IsLearnedPast l.fn.trace.events.now l.e l.fn.trace.sizes l.past;
+  long : length l.clock ≡ l.linked.sizes.threads;
+  past : IsLearnedPast l.linked.events.now l.e l.linked.sizes l.past;
 }

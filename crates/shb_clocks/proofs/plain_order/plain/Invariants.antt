@@ -2,4 +2,4 @@ use Rattle.shb_clocks.specs.Marks.{HasRows}
 use Rattle.shb_clocks.proofs.plain_order.plain.Given as goal
 
 abbrev pub invariant-loop-e : goal.invariant-loop-e
-invariant-loop-e l = HasRows l.fn.trace.events.now l.e l.rows.items
+invariant-loop-e l = HasRows l.linked.events.now l.e l.rows.items

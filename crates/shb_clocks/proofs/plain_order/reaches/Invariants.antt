@@ -3,4 +3,4 @@ use Rattle.shb_lines.specs.events.Order.{ShbEdge}
 use Rattle.shb_clocks.proofs.plain_order.reaches.Given as goal
 
 abbrev pub invariant-loop-b : goal.invariant-loop-b
-invariant-loop-b l = (m : ℕ) → l.a < m → m < l.b → get_or l.marks m false ≡ true → ShbEdge l.events l.a m → ⊥
+invariant-loop-b l = (m : ℕ) → l.a < m → m < l.b → get_or l.marks m false ≡ true → ShbEdge l.linked.events.now l.a m → ⊥

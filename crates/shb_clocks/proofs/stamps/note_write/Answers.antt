@@ -12,9 +12,9 @@ no_event = record { thread = 0; op = Read 0; line = 0 }
 
 pub returns-in-Write : goal.returns-in-Write
 returns-in-Write c rows is old =
-    let there = op_is c.args.trace.now.events.now c.args.e no_event _ c.requires.in_range c.in-Write.is in
-    stamps_set c.args.trace.now.events.now rows (WritesVariable c.args.trace.now.events.now) c.args.e c.args.trace.now.sizes.variables c.in-Write.variable c.args.variables.now.items c.args.stamp (op_low c.args.trace.now.events.now c.args.trace.now.sizes c.args.e _ c.args.trace.now.within there) there
+    let there = op_is c.args.linked.now.events.now c.args.e no_event _ c.requires.in_range c.in-Write.is in
+    stamps_set c.args.linked.now.events.now rows (WritesVariable c.args.linked.now.events.now) c.args.e c.args.linked.now.sizes.variables c.in-Write.variable c.args.variables.now.items c.args.stamp (op_low c.args.linked.now.events.now c.args.linked.now.sizes c.args.e _ c.args.linked.now.within there) there
     (λ y h. (let s : Some (Write c.in-Write.variable) ≡ Some (Write y) = sym there ∙ h in cc)) is old
 
 pub returns-in_default : goal.returns-in_default
-returns-in_default c rows is old = stamps_skip c.args.trace.now.events.now rows (WritesVariable c.args.trace.now.events.now) c.args.e c.args.trace.now.sizes.variables c.args.variables.now.items (λ y. op_other c.args.trace.now.events.now c.args.e no_event (Write y) c.requires.in_range (c.in_default.not-Write y)) old
+returns-in_default c rows is old = stamps_skip c.args.linked.now.events.now rows (WritesVariable c.args.linked.now.events.now) c.args.e c.args.linked.now.sizes.variables c.args.variables.now.items (λ y. op_other c.args.linked.now.events.now c.args.e no_event (Write y) c.requires.in_range (c.in_default.not-Write y)) old

@@ -4,5 +4,5 @@ use Rattle.shb_clocks.proofs.stamps.sweep.Goals as goal
 
 pub returns-clause-before : goal.returns-clause-before
 returns-clause-before c =
-    let all : c.loop-e.e ≡ length c.args.trace.now.events.now = omega arith in
-    subst (λ (n : ℕ). HasRowsBefore c.args.trace.now.events.now c.loop-e.stamps.rows.rows n c.loop-e.stamps.before.items) all c.loop-e.invariant.before
+    let all : c.loop-e.e ≡ length c.args.linked.now.events.now = omega arith in
+    subst (λ (n : ℕ). HasRowsBefore c.args.linked.now.events.now c.loop-e.stamps.rows.rows n c.loop-e.stamps.before.items) all c.loop-e.invariant.before

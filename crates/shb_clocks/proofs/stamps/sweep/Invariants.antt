@@ -2,4 +2,4 @@ use Rattle.shb_clocks.specs.Stamps.{IsSwept}
 use Rattle.shb_clocks.proofs.stamps.sweep.Given as goal
 
 abbrev pub invariant-loop-e : goal.invariant-loop-e
-invariant-loop-e l = IsSwept l.trace.events.now l.e l.trace.sizes l.stamps
+invariant-loop-e l = IsSwept l.linked.events.now l.e l.linked.sizes l.stamps

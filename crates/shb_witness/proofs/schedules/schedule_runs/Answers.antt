@@ -25,29 +25,29 @@ end_of-end-requires-clause-second g c = (race_ends _ _ _ c.requires.race).1
 
 pub index-requires : goal.index-requires
 index-requires g c =
-    let low = (c.args.trace.now.within c.loop-k.k _ (slice_get-get_or c.args.trace.now.events.now c.loop-k.k record { thread = 0; op = Read 0; line = 0 } (omega arith))).thread in
+    let low = (c.args.ordered.now.trace.now.within c.loop-k.k _ (slice_get-get_or c.args.ordered.now.trace.now.events.now c.loop-k.k record { thread = 0; op = Read 0; line = 0 } (omega arith))).thread in
     let long = c.in_ok-cuts.ensures.as_long in
     omega (arith, low, long, c.in_ok-cuts.cuts.ok.0)
 
 pub loop-k-init : goal.loop-k-init
 loop-k-init g c =
-    let trace = c.args.trace.now.events.now in
+    let trace = c.args.ordered.now.trace.now.events.now in
     let front = c.min-front.result in
     let small : front ≤ length trace = omega (arith, c.min-front.ensures, c.end_of-end.ensures.within) in
     let reached = subst (λ (l : List ℕ). Reach trace c.front_of.result l) c.deref.ensures.value (c.front_of.ensures trace c.requires.points) in
     let listed =
-    front_listed trace c.args.pair.first c.args.pair.second c.args.trace.now.sizes.threads front c.in_ok-cuts.cuts.items c.in_ok-positions.positions
-    (λ k d lt. (c.args.trace.now.within k _ (slice_get-get_or trace k d lt)).thread) small c.in_ok-cuts.ensures
+    front_listed trace c.args.pair.first c.args.pair.second c.args.ordered.now.trace.now.sizes.threads front c.in_ok-cuts.cuts.items c.in_ok-positions.positions
+    (λ k d lt. (c.args.ordered.now.trace.now.within k _ (slice_get-get_or trace k d lt)).thread) small c.in_ok-cuts.ensures
     (λ k t lt of. reached k t (omega (arith, lt, c.min-front.ensures)) of) c.in_ok-positions.ensures in
     record { found = listed.0; few = listed.1 }
 
 pub loop-k-preserved : goal.loop-k-preserved
 loop-k-preserved g c =
-    let trace = c.args.trace.now.events.now in
+    let trace = c.args.ordered.now.trace.now.events.now in
     let pair = c.args.pair in
     let inside : c.loop-k.k < length trace = omega (arith, c.end_of-end.ensures.within) in
-    let low = (c.args.trace.now.within c.loop-k.k _ (slice_get-get_or trace c.loop-k.k _ inside)).thread in
-    let test = cut_test trace c.args.links.now pair.first pair.second c.args.trace.now.sizes.threads c.loop-k.k _ _ c.in_ok-cuts.cuts.items _ c.requires.linked c.in_ok-cuts.ensures low inside c.local.ensures.place c.index.ensures in
+    let low = (c.args.ordered.now.trace.now.within c.loop-k.k _ (slice_get-get_or trace c.loop-k.k _ inside)).thread in
+    let test = cut_test trace c.args.ordered.now.links.now pair.first pair.second c.args.ordered.now.trace.now.sizes.threads c.loop-k.k _ _ c.in_ok-cuts.cuts.items _ c.args.ordered.now.linked c.in_ok-cuts.ensures low inside c.local.ensures.place c.index.ensures in
     elim c.if-local-index.branch [
       | then-local-index+in_ok-push w ↦
           (let e : c.if-local-index.positions ≡ c.loop-k.positions ++ c.loop-k.k ∷ [] = w.positions-is ∙ w.in_ok-push.ensures.pushed in
@@ -65,7 +65,7 @@ loop-k-preserved g c =
 
 pub returns : goal.returns
 returns g c =
-    let trace = c.args.trace.now.events.now in
+    let trace = c.args.ordered.now.trace.now.events.now in
     printed_before trace c.args.pair.first c.args.pair.second c.loop-k.k c.loop-k.positions
     (λ k below. let lt = c.end_of-end.ensures.above k below in omega (arith, lt))
     c.loop-k.invariant.found

@@ -5,9 +5,8 @@ use Rattle.shb_clocks.proofs.clock_versions.ClockVersionsOrder.below_pred.Goals 
 
 pub below_pred-requires : goal.below_pred-requires
 below_pred-requires c = record {
-  of_trace = c.self.invariant.0;
   in_range = subst (λ (tr : List Event). c.args.e < length tr) (sym c.self.view_is) c.requires;
-  whole = c.self.invariant.1;
+  whole = c.self.invariant;
 }
 
 pub returns : goal.returns

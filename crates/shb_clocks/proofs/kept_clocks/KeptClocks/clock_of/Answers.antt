@@ -12,32 +12,32 @@ use Rattle.shb_clocks.proofs.kept_clocks.KeptClocks.clock_of.Goals as goal
 pub row_up_to-row-requires-clause-some : goal.row_up_to-row-requires-clause-some
 row_up_to-row-requires-clause-some c =
     let d : Event = record { thread = 0; op = Read 0; line = 0 } in
-    let of_e = thread_item c.args.trace.now.events.now c.args.e d c.requires.in_range in
-    let low = (c.args.trace.now.within c.args.e _ (slice_get-get_or c.args.trace.now.events.now c.args.e d c.requires.in_range)).thread in
-    let kept = kept_item c.args.trace.now.events.now c.requires.taken.0 _ c.args.trace.now.sizes.threads c.args.self.now.rows _ _ c.requires.taken.2 low c.index.ensures in
+    let of_e = thread_item c.args.linked.now.events.now c.args.e d c.requires.in_range in
+    let low = (c.args.linked.now.within c.args.e _ (slice_get-get_or c.args.linked.now.events.now c.args.e d c.requires.in_range)).thread in
+    let kept = kept_item c.args.linked.now.events.now c.requires.taken.0 _ c.args.linked.now.sizes.threads c.args.self.now.rows _ _ c.requires.taken.2 low c.index.ensures in
     (kept.begun c.args.e c.requires.taken.1 of_e).0
 
 pub row_up_to-row-requires-clause-first : goal.row_up_to-row-requires-clause-first
 row_up_to-row-requires-clause-first c =
     let d : Event = record { thread = 0; op = Read 0; line = 0 } in
-    let of_e = thread_item c.args.trace.now.events.now c.args.e d c.requires.in_range in
-    let low = (c.args.trace.now.within c.args.e _ (slice_get-get_or c.args.trace.now.events.now c.args.e d c.requires.in_range)).thread in
-    let kept = kept_item c.args.trace.now.events.now c.requires.taken.0 _ c.args.trace.now.sizes.threads c.args.self.now.rows _ _ c.requires.taken.2 low c.index.ensures in
-    let place = local_is c.args.trace.now.events.now c.args.links.now c.args.e c.local-place.result _ c.requires.of_trace c.local-place.ensures.place of_e in
+    let of_e = thread_item c.args.linked.now.events.now c.args.e d c.requires.in_range in
+    let low = (c.args.linked.now.within c.args.e _ (slice_get-get_or c.args.linked.now.events.now c.args.e d c.requires.in_range)).thread in
+    let kept = kept_item c.args.linked.now.events.now c.requires.taken.0 _ c.args.linked.now.sizes.threads c.args.self.now.rows _ _ c.requires.taken.2 low c.index.ensures in
+    let place = local_is c.args.linked.now.events.now c.args.linked.now.links.now c.args.e c.local-place.result _ c.args.linked.now.of_links c.local-place.ensures.place of_e in
     let least = (kept.begun c.args.e c.requires.taken.1 of_e).1 in
     omega (arith, place, least)
 
 pub row-requires : goal.row-requires
 row-requires c =
     let d : Event = record { thread = 0; op = Read 0; line = 0 } in
-    let low = (c.args.trace.now.within c.args.e _ (slice_get-get_or c.args.trace.now.events.now c.args.e d c.requires.in_range)).thread in
-    let kept = kept_item c.args.trace.now.events.now c.requires.taken.0 _ c.args.trace.now.sizes.threads c.args.self.now.rows _ _ c.requires.taken.2 low c.index.ensures in
-    row_within c.args.trace.now.events.now c.requires.taken.0 _ c.local-place.result c.row_up_to-row.result c.args.self.now.rows.rows _ kept c.row_up_to-row.ensures
+    let low = (c.args.linked.now.within c.args.e _ (slice_get-get_or c.args.linked.now.events.now c.args.e d c.requires.in_range)).thread in
+    let kept = kept_item c.args.linked.now.events.now c.requires.taken.0 _ c.args.linked.now.sizes.threads c.args.self.now.rows _ _ c.requires.taken.2 low c.index.ensures in
+    row_within c.args.linked.now.events.now c.requires.taken.0 _ c.local-place.result c.row_up_to-row.result c.args.self.now.rows.rows _ kept c.row_up_to-row.ensures
 
 pub new-requires : goal.new-requires
 new-requires c =
     let d : Event = record { thread = 0; op = Read 0; line = 0 } in
-    let low = (c.args.trace.now.within c.args.e _ (slice_get-get_or c.args.trace.now.events.now c.args.e d c.requires.in_range)).thread in
+    let low = (c.args.linked.now.within c.args.e _ (slice_get-get_or c.args.linked.now.events.now c.args.e d c.requires.in_range)).thread in
     let long = c.row.ensures.long in
     let width = c.requires.taken.2.width in
     omega (arith, low, long, width)
@@ -45,13 +45,13 @@ new-requires c =
 pub returns-clause-front : goal.returns-clause-front
 returns-clause-front c =
     let d : Event = record { thread = 0; op = Read 0; line = 0 } in
-    let u = (get_or c.args.trace.now.events.now c.args.e d).thread in
-    let of_e = thread_item c.args.trace.now.events.now c.args.e d c.requires.in_range in
-    let low = (c.args.trace.now.within c.args.e _ (slice_get-get_or c.args.trace.now.events.now c.args.e d c.requires.in_range)).thread in
+    let u = (get_or c.args.linked.now.events.now c.args.e d).thread in
+    let of_e = thread_item c.args.linked.now.events.now c.args.e d c.requires.in_range in
+    let low = (c.args.linked.now.within c.args.e _ (slice_get-get_or c.args.linked.now.events.now c.args.e d c.requires.in_range)).thread in
     let long = c.row.ensures.long in
     let width = c.requires.taken.2.width in
-    let kept = kept_item c.args.trace.now.events.now c.requires.taken.0 u c.args.trace.now.sizes.threads c.args.self.now.rows _ _ c.requires.taken.2 low c.index.ensures in
-    let place = local_is c.args.trace.now.events.now c.args.links.now c.args.e c.local-place.result u c.requires.of_trace c.local-place.ensures.place of_e in
+    let kept = kept_item c.args.linked.now.events.now c.requires.taken.0 u c.args.linked.now.sizes.threads c.args.self.now.rows _ _ c.requires.taken.2 low c.index.ensures in
+    let place = local_is c.args.linked.now.events.now c.args.linked.now.links.now c.args.e c.local-place.result u c.args.linked.now.of_links c.local-place.ensures.place of_e in
     let but = kept.clocks c.args.e c.row_up_to-row.result c.requires.taken.1 of_e (subst (λ (m : ℕ). IsRowUpTo c.index.result.now m c.row_up_to-row.result) place c.row_up_to-row.ensures) in
-    let whole = front_whole c.args.trace.now.events.now c.args.e u c.row.result.now of_e (omega (arith, low, long, width)) (subst (IsFrontBut c.args.trace.now.events.now u (λ k. ShbBelow c.args.trace.now.events.now k c.args.e)) (sym c.row.ensures.row) but) in
-    subst (IsFront c.args.trace.now.events.now (λ k. ShbBelow c.args.trace.now.events.now k c.args.e)) (sym (c.new.ensures ∙ ap (λ (m : ℕ). set c.row.result.now u m) place)) whole
+    let whole = front_whole c.args.linked.now.events.now c.args.e u c.row.result.now of_e (omega (arith, low, long, width)) (subst (IsFrontBut c.args.linked.now.events.now u (λ k. ShbBelow c.args.linked.now.events.now k c.args.e)) (sym c.row.ensures.row) but) in
+    subst (IsFront c.args.linked.now.events.now (λ k. ShbBelow c.args.linked.now.events.now k c.args.e)) (sym (c.new.ensures ∙ ap (λ (m : ℕ). set c.row.result.now u m) place)) whole

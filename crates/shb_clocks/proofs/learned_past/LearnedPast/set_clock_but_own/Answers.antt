@@ -10,6 +10,6 @@ use Rattle.shb_clocks.proofs.learned_past.LearnedPast.set_clock_but_own.Goals as
 pub returns-clause-front : goal.returns-clause-front
 returns-clause-front c t of_e =
     let d : Event = record { thread = 0; op = Read 0; line = 0 } in
-    let u : ℕ = (get_or c.args.trace.now.events.now c.args.e d).thread in
-    let same : u ≡ t = (let s : Some u ≡ Some t = sym (thread_item c.args.trace.now.events.now c.args.e d c.requires.in_range) ∙ of_e in cc) in
-    subst (IsFrontBut c.args.trace.now.events.now t (λ k. ShbBelow c.args.trace.now.events.now k c.args.e)) (sym (c.put.ensures ∙ ap (λ (m : ℕ). set c.learn.new.clock m 0) same)) (front_without_own c.args.trace.now.events.now c.args.e t of_e c.args.trace.now.meets 0 c.learn.new.clock c.learn.ensures.front)
+    let u : ℕ = (get_or c.args.linked.now.events.now c.args.e d).thread in
+    let same : u ≡ t = (let s : Some u ≡ Some t = sym (thread_item c.args.linked.now.events.now c.args.e d c.requires.in_range) ∙ of_e in cc) in
+    subst (IsFrontBut c.args.linked.now.events.now t (λ k. ShbBelow c.args.linked.now.events.now k c.args.e)) (sym (c.put.ensures ∙ ap (λ (m : ℕ). set c.learn.new.clock m 0) same)) (front_without_own c.args.linked.now.events.now c.args.e t of_e c.args.linked.now.meets 0 c.learn.new.clock c.learn.ensures.front)

@@ -5,6 +5,6 @@ use Rattle.shb_clocks.proofs.past.Past.add.Goals as goal
 
 pub returns : goal.returns
 returns c = record {
-  event_clocks = subst (HasClocks c.args.trace.now.events.now _ c.args.trace.now.sizes.threads) (sym (c.in_ok-extend_from_slice.ensures.items ∙ ap (λ (xs : List ℕ). c.args.self.now.clocks.items ++ xs) c.as_slice.ensures)) (clocks_more c.args.trace.now.events.now c.args.e c.args.trace.now.sizes.threads c.args.self.now.clocks.items c.args.clock.now c.requires.long c.requires.front c.requires.past.event_clocks);
+  event_clocks = subst (HasClocks c.args.linked.now.events.now _ c.args.linked.now.sizes.threads) (sym (c.in_ok-extend_from_slice.ensures.items ∙ ap (λ (xs : List ℕ). c.args.self.now.clocks.items ++ xs) c.as_slice.ensures)) (clocks_more c.args.linked.now.events.now c.args.e c.args.linked.now.sizes.threads c.args.self.now.clocks.items c.args.clock.now c.requires.long c.requires.front c.requires.past.event_clocks);
   lock_clocks = c.release.ensures;
 }

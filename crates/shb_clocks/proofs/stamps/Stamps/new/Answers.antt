@@ -1,15 +1,14 @@
 use Rattle.std.proofs.Common.{ℕ, List, [], length, get_or, ap, ◌∙◌, arith}
 use Rattle.std.proofs.Math.ListN.{length-replicate}
-use Rattle.shb_links.specs.Latest.{WritesVariable}
-use Rattle.shb_clocks.specs.Stamps.{ReleasesLock}
+use Rattle.shb_links.specs.Latest.{WritesVariable, ReleasesLock}
 use Rattle.shb_clocks.proofs.StampItems.{current_start}
 use Rattle.shb_clocks.proofs.Stamping.{before_start, stamps_start}
 use Rattle.shb_clocks.proofs.stamps.Stamps.new.Goals as goal
 
 pub returns : goal.returns
 returns c =
-    let trace = c.args.trace.now.events.now in
-    let sizes = c.args.trace.now.sizes in
+    let trace = c.args.linked.now.events.now in
+    let sizes = c.args.linked.now.sizes in
     let rows = c.in_ok-first_row.ensures.rows in
     let one = ap length rows in
     record {

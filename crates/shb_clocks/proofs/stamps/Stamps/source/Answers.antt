@@ -1,9 +1,9 @@
 use Rattle.std.proofs.Common.{List, ap}
 use Rattle.shb_lines.specs.declared.event.Event.{Event}
 use Rattle.shb_lines.specs.declared.event.Op.TheVariants.{Read}
-use Rattle.shb_links.specs.Latest.{WritesVariable}
+use Rattle.shb_links.specs.Latest.{WritesVariable, ReleasesLock}
 use Rattle.shb_lines.proofs.events.Items.{op_item}
-use Rattle.shb_clocks.specs.Stamps.{ReleasesLock, from_none}
+use Rattle.shb_clocks.specs.Stamps.{from_none}
 use Rattle.shb_clocks.specs.declared.stamp.Stamp.{Stamp}
 use Rattle.shb_clocks.proofs.PastLemmas.{learns_nothing}
 use Rattle.shb_clocks.proofs.StampItems.{op_is, op_low, stamp_item}
@@ -14,23 +14,23 @@ abbrev no_event : Event
 no_event = record { thread = 0; op = Read 0; line = 0 }
 
 pub join_source-requires-clause-joins : goal.join_source-requires-clause-joins
-join_source-requires-clause-joins c = op_is c.args.trace.now.events.now c.args.e no_event _ c.requires.in_range c.in-Join.is
+join_source-requires-clause-joins c = op_is c.args.linked.now.events.now c.args.e no_event _ c.requires.in_range c.in-Join.is
 
 pub returns-in-Acquire : goal.returns-in-Acquire
 returns-in-Acquire c =
-    let trace : List Event = c.args.trace.now.events.now in
+    let trace : List Event = c.args.linked.now.events.now in
     let there = op_is trace c.args.e no_event _ c.requires.in_range c.in-Acquire.is in
-    source_acquire trace c.args.trace.now.meets c.args.self.now.rows.rows c.args.e c.in-Acquire.lock c.index.result.now there
-    (stamp_item trace c.args.self.now.rows.rows (ReleasesLock trace) c.args.e c.args.trace.now.sizes.locks c.in-Acquire.lock c.args.self.now.locks.items c.index.result.now c.requires.swept.locks (op_low trace c.args.trace.now.sizes c.args.e _ c.args.trace.now.within there) c.index.ensures)
+    source_acquire trace c.args.linked.now.meets c.args.self.now.rows.rows c.args.e c.in-Acquire.lock c.index.result.now there
+    (stamp_item trace c.args.self.now.rows.rows (ReleasesLock trace) c.args.e c.args.linked.now.sizes.locks c.in-Acquire.lock c.args.self.now.locks.items c.index.result.now c.requires.swept.locks (op_low trace c.args.linked.now.sizes c.args.e _ c.args.linked.now.within there) c.index.ensures)
 
 pub returns-in-Read : goal.returns-in-Read
 returns-in-Read c =
-    let trace : List Event = c.args.trace.now.events.now in
+    let trace : List Event = c.args.linked.now.events.now in
     let there = op_is trace c.args.e no_event _ c.requires.in_range c.in-Read.is in
-    source_read trace c.args.trace.now.meets c.args.self.now.rows.rows c.args.e c.in-Read.variable c.index-in-Read.result.now there
-    (stamp_item trace c.args.self.now.rows.rows (WritesVariable trace) c.args.e c.args.trace.now.sizes.variables c.in-Read.variable c.args.self.now.variables.items c.index-in-Read.result.now c.requires.swept.variables (op_low trace c.args.trace.now.sizes c.args.e _ c.args.trace.now.within there) c.index-in-Read.ensures)
+    source_read trace c.args.linked.now.meets c.args.self.now.rows.rows c.args.e c.in-Read.variable c.index-in-Read.result.now there
+    (stamp_item trace c.args.self.now.rows.rows (WritesVariable trace) c.args.e c.args.linked.now.sizes.variables c.in-Read.variable c.args.self.now.variables.items c.index-in-Read.result.now c.requires.swept.variables (op_low trace c.args.linked.now.sizes c.args.e _ c.args.linked.now.within there) c.index-in-Read.ensures)
 
 pub returns-in_default : goal.returns-in_default
 returns-in_default c = from_none
-    (λ k. learns_nothing c.args.trace.now.events.now c.args.trace.now.meets c.args.e _ k (op_item c.args.trace.now.events.now c.args.e no_event c.requires.in_range) c.in_default.not-Acquire c.in_default.not-Join c.in_default.not-Read)
+    (λ k. learns_nothing c.args.linked.now.events.now c.args.linked.now.meets c.args.e _ k (op_item c.args.linked.now.events.now c.args.e no_event c.requires.in_range) c.in_default.not-Acquire c.in_default.not-Join c.in_default.not-Read)
     (ap (λ (s : Stamp). s.place) c.empty.ensures)

@@ -9,7 +9,7 @@ use Rattle.shb_replay.proofs.walked.Walked.is_next.Goals as goal
 
 pub returns-then-index : goal.returns-then-index
 returns-then-index c =
-    let trace = c.args.trace.now in
+    let trace = c.args.linked.now in
     let stands = c.args.self.now.stands in
     let long = c.requires.walked.stands.as_long in
     let lt = c.requires.in_trace in
@@ -19,13 +19,13 @@ returns-then-index c =
 pub lacks-requires : goal.lacks-requires
 lacks-requires c =
     let long = c.requires.walked.stands.as_long in
-    preds_in_trace c.args.trace.now.events.now c.args.links.now c.args.e c.pred.result c.args.self.now.stands.len c.requires.linked c.pred.ensures (let len = c.args.self.now.stands.ok.0 in omega (arith, long, len))
+    preds_in_trace c.args.linked.now.events.now c.args.linked.now.links.now c.args.e c.pred.result c.args.self.now.stands.len c.args.linked.now.of_links c.pred.ensures (let len = c.args.self.now.stands.ok.0 in omega (arith, long, len))
 
 pub returns : goal.returns
 returns c =
-    let trace = c.args.trace.now in
+    let trace = c.args.linked.now in
     let stands = c.args.self.now.stands in
     let long = c.requires.walked.stands.as_long in
     let lt = c.requires.in_trace in
     let flag = slice_get_read stands.items stands.len c.args.e c.index.result.now stands.ok.0 (let len = stands.ok.0 in omega (arith, lt, long, len)) c.index.ensures in
-    next_tells trace.events.now trace.meets c.args.list.now c.requires.unbroken c.args.e c.pred.result c.lacks.result (subst (λ (tr : List Event). Exactly (λ a. IsPred tr a c.args.e) c.pred.result) c.requires.linked c.pred.ensures) (flag_false (StandsEarlier c.args.list.now (length c.args.list.now)) (length trace.events.now) c.args.e stands.items c.index.result.now c.requires.walked.stands flag c.if-index.false) (c.lacks.ensures c.args.list.now (length c.args.list.now) (length trace.events.now) c.requires.walked.stands)
+    next_tells trace.events.now trace.meets c.args.list.now c.requires.unbroken c.args.e c.pred.result c.lacks.result (subst (λ (tr : List Event). Exactly (λ a. IsPred tr a c.args.e) c.pred.result) c.args.linked.now.of_links c.pred.ensures) (flag_false (StandsEarlier c.args.list.now (length c.args.list.now)) (length trace.events.now) c.args.e stands.items c.index.result.now c.requires.walked.stands flag c.if-index.false) (c.lacks.ensures c.args.list.now (length c.args.list.now) (length trace.events.now) c.requires.walked.stands)

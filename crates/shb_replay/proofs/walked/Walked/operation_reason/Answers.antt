@@ -5,28 +5,28 @@ use Rattle.shb_lines.specs.declared.event.Op.TheVariants.{Read, Fork, Join}
 use Rattle.shb_lines.specs.events.Order.{LastWrite}
 use Rattle.shb_lines.proofs.events.Items.{op_item}
 use Rattle.shb_links.proofs.Tables.{op_within}
-use Rattle.shb_links.specs.Latest.{OfThread}
+use Rattle.shb_links.specs.Latest.{Latest, OfThread}
 use Rattle.shb_links.specs.Links.{Exactly}
 use Rattle.shb_replay.specs.Reasons.{HasReason}
 use Rattle.shb_replay.specs.Walks.{IsLowestIn, JoinStands, TellsLack}
 use Rattle.shb_replay.specs.declared.broken.Why.TheVariants as whys
 use Rattle.shb_replay.proofs.OrderReasons.{at_place, flag_false, flag_true}
-use Rattle.shb_replay.proofs.OperationReasons.{entry_is, fork_no_reason, fork_reason, handover_in_trace, handover_is, join_no_reason, join_reason, lock_no_reason, lock_reason, options_differ, options_same, other_operation, read_no_reason, read_reason, write_is}
+use Rattle.shb_replay.proofs.OperationReasons.{fork_no_reason, fork_reason, handover_in_trace, handover_is, join_no_reason, join_reason, lock_no_reason, lock_reason, options_differ, options_same, other_operation, read_no_reason, read_reason, write_is}
 use Rattle.shb_replay.proofs.walked.Walked.operation_reason.Goals as goal
 
 pub lacks-requires-in-Acquire : goal.lacks-requires-in-Acquire
 lacks-requires-in-Acquire c =
-    let trace = c.args.trace.now in
+    let trace = c.args.rules.now.linked in
     let x = slice_index_or c.args.list.now c.args.at 0 in
     let lt = c.requires.in_trace _ (slice_get-get_or c.args.list.now c.args.at 0 c.requires.at) in
     let takes = op_item trace.events.now x _ lt ∙ ap (λ o. Some o) c.in-Acquire.is in
     let long = c.requires.walked.stands.as_long in
     let len = c.args.self.now.stands.ok.0 in
-    handover_in_trace trace.events.now c.in-Acquire.field-0 x c.args.self.now.stands.len c.index-in-Acquire.result.now (handover_is trace.events.now (length trace.events.now) x c.in-Acquire.field-0 c.args.demands.now.handovers.items c.index-in-Acquire.result.now c.requires.demands.handovers lt takes c.index-in-Acquire.ensures) (omega (arith, lt, long, len))
+    handover_in_trace trace.events.now c.in-Acquire.field-0 x c.args.self.now.stands.len c.index-in-Acquire.result.now (handover_is trace.events.now (length trace.events.now) x c.in-Acquire.field-0 c.args.rules.now.handovers.items c.index-in-Acquire.result.now c.requires.rules lt takes c.index-in-Acquire.ensures) (omega (arith, lt, long, len))
 
 pub index-requires-in-Read : goal.index-requires-in-Read
 index-requires-in-Read c =
-    let trace = c.args.trace.now in
+    let trace = c.args.rules.now.linked in
     let lt = c.requires.in_trace _ (slice_get-get_or c.args.list.now c.args.at 0 c.requires.at) in
     let low : c.in-Read.variable < trace.sizes.variables = op_within trace.events.now trace.sizes _ _ (Read c.in-Read.variable) trace.within lt c.in-Read.is in
     let long = c.requires.walked.writes.as_long in
@@ -36,38 +36,36 @@ index-requires-in-Read c =
 pub last_write-requires : goal.last_write-requires
 last_write-requires c =
     let lt = c.requires.in_trace _ (slice_get-get_or c.args.list.now c.args.at 0 c.requires.at) in
-    let size = ap (λ (tr : List Event). length tr) c.requires.linked in
+    let size = ap (λ (tr : List Event). length tr) c.args.rules.now.linked.of_links in
     omega (arith, lt, size)
 
 pub returns-then-lacks : goal.returns-then-lacks
 returns-then-lacks c =
-    let trace = c.args.trace.now in
+    let trace = c.args.rules.now.linked in
     let s = c.args.list.now in
     let p = c.args.at in
     let x = slice_index_or s p 0 in
     let lt = c.requires.in_trace _ (slice_get-get_or s p 0 c.requires.at) in
     let joins = op_item trace.events.now x _ lt ∙ ap (λ o. Some o) c.in-Join.is in
-    let within : c.in-Join.thread < trace.sizes.threads = op_within trace.events.now trace.sizes x _ (Join c.in-Join.thread) trace.within lt c.in-Join.is in
-    let latest = entry_is (OfThread trace.events.now) (length trace.events.now) trace.sizes.threads c.in-Join.thread c.args.demands.now.ends.items c.index.result.now c.requires.demands.ends within c.index.ensures in
-    let lacks = subst (λ (b : Bool). TellsLack s p c.index.result.now b) c.if-lacks.true (c.lacks.ensures s p (length trace.events.now) c.requires.walked.stands) in
-    at_place (λ e. IsLowestIn 5 8 (HasReason trace.events.now s p e) (Some whys.JoinEarly)) s p (join_reason trace.events.now trace.meets s p c.requires.unbroken x c.in-Join.thread c.index.result.now joins latest lacks)
+    let latest = subst (λ (tr : List Event). Latest (OfThread tr c.in-Join.thread) (length tr) c.last_of.result) trace.of_links c.last_of.ensures in
+    let lacks = subst (λ (b : Bool). TellsLack s p c.last_of.result b) c.if-lacks.true (c.lacks.ensures s p (length trace.events.now) c.requires.walked.stands) in
+    at_place (λ e. IsLowestIn 5 8 (HasReason trace.events.now s p e) (Some whys.JoinEarly)) s p (join_reason trace.events.now trace.meets s p c.requires.unbroken x c.in-Join.thread c.last_of.result joins latest lacks)
 
 pub returns-else-lacks : goal.returns-else-lacks
 returns-else-lacks c =
-    let trace = c.args.trace.now in
+    let trace = c.args.rules.now.linked in
     let s = c.args.list.now in
     let p = c.args.at in
     let x = slice_index_or s p 0 in
     let lt = c.requires.in_trace _ (slice_get-get_or s p 0 c.requires.at) in
     let joins = op_item trace.events.now x _ lt ∙ ap (λ o. Some o) c.in-Join.is in
-    let within : c.in-Join.thread < trace.sizes.threads = op_within trace.events.now trace.sizes x _ (Join c.in-Join.thread) trace.within lt c.in-Join.is in
-    let latest = entry_is (OfThread trace.events.now) (length trace.events.now) trace.sizes.threads c.in-Join.thread c.args.demands.now.ends.items c.index.result.now c.requires.demands.ends within c.index.ensures in
-    let all = subst (λ (b : Bool). TellsLack s p c.index.result.now b) c.if-lacks.false (c.lacks.ensures s p (length trace.events.now) c.requires.walked.stands) in
-    at_place (λ e. IsLowestIn 5 8 (HasReason trace.events.now s p e) None) s p (join_no_reason trace.events.now trace.meets s p c.requires.unbroken x c.in-Join.thread c.index.result.now joins latest all)
+    let latest = subst (λ (tr : List Event). Latest (OfThread tr c.in-Join.thread) (length tr) c.last_of.result) trace.of_links c.last_of.ensures in
+    let all = subst (λ (b : Bool). TellsLack s p c.last_of.result b) c.if-lacks.false (c.lacks.ensures s p (length trace.events.now) c.requires.walked.stands) in
+    at_place (λ e. IsLowestIn 5 8 (HasReason trace.events.now s p e) None) s p (join_no_reason trace.events.now trace.meets s p c.requires.unbroken x c.in-Join.thread c.last_of.result joins latest all)
 
 pub returns-then-index : goal.returns-then-index
 returns-then-index c =
-    let trace = c.args.trace.now in
+    let trace = c.args.rules.now.linked in
     let joined = c.args.self.now.joined in
     let s = c.args.list.now in
     let p = c.args.at in
@@ -76,13 +74,13 @@ returns-then-index c =
     let forks = op_item trace.events.now x _ lt ∙ ap (λ o. Some o) c.in-Fork.is in
     let within : c.in-Fork.thread < trace.sizes.threads = op_within trace.events.now trace.sizes x _ (Fork c.in-Fork.thread) trace.within lt c.in-Fork.is in
     let long = c.requires.walked.joined.as_long in
-    let flag = slice_get_read joined.items joined.len c.in-Fork.thread c.index-in-Fork.result.now joined.ok.0 (let len = joined.ok.0 in omega (arith, within, long, len)) c.index-in-Fork.ensures in
-    let stands = flag_true (JoinStands trace.events.now s p) trace.sizes.threads c.in-Fork.thread joined.items c.index-in-Fork.result.now c.requires.walked.joined flag c.if-index.true in
+    let flag = slice_get_read joined.items joined.len c.in-Fork.thread c.index.result.now joined.ok.0 (let len = joined.ok.0 in omega (arith, within, long, len)) c.index.ensures in
+    let stands = flag_true (JoinStands trace.events.now s p) trace.sizes.threads c.in-Fork.thread joined.items c.index.result.now c.requires.walked.joined flag c.if-index.true in
     at_place (λ e. IsLowestIn 5 8 (HasReason trace.events.now s p e) (Some whys.JoinEarly)) s p (fork_reason trace.events.now trace.meets s p c.requires.unbroken x c.in-Fork.thread forks stands)
 
 pub returns-else-index : goal.returns-else-index
 returns-else-index c =
-    let trace = c.args.trace.now in
+    let trace = c.args.rules.now.linked in
     let joined = c.args.self.now.joined in
     let s = c.args.list.now in
     let p = c.args.at in
@@ -91,37 +89,37 @@ returns-else-index c =
     let forks = op_item trace.events.now x _ lt ∙ ap (λ o. Some o) c.in-Fork.is in
     let within : c.in-Fork.thread < trace.sizes.threads = op_within trace.events.now trace.sizes x _ (Fork c.in-Fork.thread) trace.within lt c.in-Fork.is in
     let long = c.requires.walked.joined.as_long in
-    let flag = slice_get_read joined.items joined.len c.in-Fork.thread c.index-in-Fork.result.now joined.ok.0 (let len = joined.ok.0 in omega (arith, within, long, len)) c.index-in-Fork.ensures in
-    let none = flag_false (JoinStands trace.events.now s p) trace.sizes.threads c.in-Fork.thread joined.items c.index-in-Fork.result.now c.requires.walked.joined flag c.if-index.false in
+    let flag = slice_get_read joined.items joined.len c.in-Fork.thread c.index.result.now joined.ok.0 (let len = joined.ok.0 in omega (arith, within, long, len)) c.index.ensures in
+    let none = flag_false (JoinStands trace.events.now s p) trace.sizes.threads c.in-Fork.thread joined.items c.index.result.now c.requires.walked.joined flag c.if-index.false in
     at_place (λ e. IsLowestIn 5 8 (HasReason trace.events.now s p e) None) s p (fork_no_reason trace.events.now trace.meets s p c.requires.unbroken x c.in-Fork.thread forks none)
 
 pub returns-then-lacks-2 : goal.returns-then-lacks-2
 returns-then-lacks-2 c =
-    let trace = c.args.trace.now in
+    let trace = c.args.rules.now.linked in
     let s = c.args.list.now in
     let p = c.args.at in
     let x = slice_index_or s p 0 in
     let lt = c.requires.in_trace _ (slice_get-get_or s p 0 c.requires.at) in
     let takes = op_item trace.events.now x _ lt ∙ ap (λ o. Some o) c.in-Acquire.is in
-    let latest = handover_is trace.events.now (length trace.events.now) x c.in-Acquire.field-0 c.args.demands.now.handovers.items c.index-in-Acquire.result.now c.requires.demands.handovers lt takes c.index-in-Acquire.ensures in
+    let latest = handover_is trace.events.now (length trace.events.now) x c.in-Acquire.field-0 c.args.rules.now.handovers.items c.index-in-Acquire.result.now c.requires.rules lt takes c.index-in-Acquire.ensures in
     let lacks = subst (λ (b : Bool). TellsLack s p c.index-in-Acquire.result.now b) c.if-lacks-2.true (c.lacks-in-Acquire.ensures s p (length trace.events.now) c.requires.walked.stands) in
     at_place (λ e. IsLowestIn 5 8 (HasReason trace.events.now s p e) (Some whys.LockOrder)) s p (lock_reason trace.events.now trace.meets s p c.requires.unbroken x c.in-Acquire.field-0 c.index-in-Acquire.result.now takes latest lacks)
 
 pub returns-else-lacks-2 : goal.returns-else-lacks-2
 returns-else-lacks-2 c =
-    let trace = c.args.trace.now in
+    let trace = c.args.rules.now.linked in
     let s = c.args.list.now in
     let p = c.args.at in
     let x = slice_index_or s p 0 in
     let lt = c.requires.in_trace _ (slice_get-get_or s p 0 c.requires.at) in
     let takes = op_item trace.events.now x _ lt ∙ ap (λ o. Some o) c.in-Acquire.is in
-    let latest = handover_is trace.events.now (length trace.events.now) x c.in-Acquire.field-0 c.args.demands.now.handovers.items c.index-in-Acquire.result.now c.requires.demands.handovers lt takes c.index-in-Acquire.ensures in
+    let latest = handover_is trace.events.now (length trace.events.now) x c.in-Acquire.field-0 c.args.rules.now.handovers.items c.index-in-Acquire.result.now c.requires.rules lt takes c.index-in-Acquire.ensures in
     let all = subst (λ (b : Bool). TellsLack s p c.index-in-Acquire.result.now b) c.if-lacks-2.false (c.lacks-in-Acquire.ensures s p (length trace.events.now) c.requires.walked.stands) in
     at_place (λ e. IsLowestIn 5 8 (HasReason trace.events.now s p e) None) s p (lock_no_reason trace.events.now trace.meets s p c.requires.unbroken x c.in-Acquire.field-0 c.index-in-Acquire.result.now takes latest all)
 
 pub returns-then-eq : goal.returns-then-eq
 returns-then-eq c =
-    let trace = c.args.trace.now in
+    let trace = c.args.rules.now.linked in
     let s = c.args.list.now in
     let p = c.args.at in
     let x = slice_index_or s p 0 in
@@ -129,12 +127,12 @@ returns-then-eq c =
     let reads = op_item trace.events.now x _ lt ∙ ap (λ o. Some o) c.in-Read.is in
     let within : c.in-Read.variable < trace.sizes.variables = op_within trace.events.now trace.sizes x _ (Read c.in-Read.variable) trace.within lt c.in-Read.is in
     let latest = write_is trace.events.now s p trace.sizes.variables c.in-Read.variable c.args.self.now.writes.items c.index-in-Read.result.now c.requires.walked.writes within c.index-in-Read.ensures in
-    let last = subst (λ (tr : List Event). Exactly (λ w. LastWrite tr w x) c.last_write.result) c.requires.linked c.last_write.ensures in
+    let last = subst (λ (tr : List Event). Exactly (λ w. LastWrite tr w x) c.last_write.result) c.args.rules.now.linked.of_links c.last_write.ensures in
     at_place (λ e. IsLowestIn 5 8 (HasReason trace.events.now s p e) None) s p (read_no_reason trace.events.now trace.meets s p c.requires.unbroken x c.in-Read.variable c.index-in-Read.result.now c.last_write.result reads latest last (options_same c.index-in-Read.result.now c.last_write.result c.if-eq.ensures))
 
 pub returns-else-eq : goal.returns-else-eq
 returns-else-eq c =
-    let trace = c.args.trace.now in
+    let trace = c.args.rules.now.linked in
     let s = c.args.list.now in
     let p = c.args.at in
     let x = slice_index_or s p 0 in
@@ -142,12 +140,12 @@ returns-else-eq c =
     let reads = op_item trace.events.now x _ lt ∙ ap (λ o. Some o) c.in-Read.is in
     let within : c.in-Read.variable < trace.sizes.variables = op_within trace.events.now trace.sizes x _ (Read c.in-Read.variable) trace.within lt c.in-Read.is in
     let latest = write_is trace.events.now s p trace.sizes.variables c.in-Read.variable c.args.self.now.writes.items c.index-in-Read.result.now c.requires.walked.writes within c.index-in-Read.ensures in
-    let last = subst (λ (tr : List Event). Exactly (λ w. LastWrite tr w x) c.last_write.result) c.requires.linked c.last_write.ensures in
+    let last = subst (λ (tr : List Event). Exactly (λ w. LastWrite tr w x) c.last_write.result) c.args.rules.now.linked.of_links c.last_write.ensures in
     at_place (λ e. IsLowestIn 5 8 (HasReason trace.events.now s p e) (Some whys.LastWrite)) s p (read_reason trace.events.now trace.meets s p c.requires.unbroken x c.in-Read.variable c.index-in-Read.result.now c.last_write.result reads latest last (options_differ c.index-in-Read.result.now c.last_write.result c.if-eq.ensures))
 
 pub returns-in_default : goal.returns-in_default
 returns-in_default c =
-    let trace = c.args.trace.now in
+    let trace = c.args.rules.now.linked in
     let s = c.args.list.now in
     let p = c.args.at in
     let x = slice_index_or s p 0 in

@@ -9,16 +9,16 @@ use Rattle.shb_replay.proofs.walked.Walked.order_reason.Goals as goal
 
 pub returns-in_default : goal.returns-in_default
 returns-in_default c =
-    let trace = c.args.trace.now in
+    let trace = c.args.linked.now in
     let x = slice_index_or c.args.list.now c.args.at 0 in
     at_place (λ e. IsLowestIn 3 4 (HasReason trace.events.now c.args.list.now c.args.at e) None) c.args.list.now c.args.at
-    (order_none trace.events.now trace.meets c.args.list.now c.args.at x (λ a pred. absurd (link_none (λ events b. IsPred events b x) trace.events.now c.args.links.now c.pred.result c.requires.linked c.pred.ensures c.in_default.is a pred)))
+    (order_none trace.events.now trace.meets c.args.list.now c.args.at x (λ a pred. absurd (link_none (λ events b. IsPred events b x) trace.events.now c.args.linked.now.links.now c.pred.result c.args.linked.now.of_links c.pred.ensures c.in_default.is a pred)))
 
 pub index-requires : goal.index-requires
 index-requires c =
-    let trace = c.args.trace.now in
+    let trace = c.args.linked.now in
     let x = slice_index_or c.args.list.now c.args.at 0 in
-    let pred = link_is (λ events b. IsPred events b x) trace.events.now c.args.links.now c.pred.result c.in-Some.p c.requires.linked c.pred.ensures c.in-Some.is in
+    let pred = link_is (λ events b. IsPred events b x) trace.events.now c.args.linked.now.links.now c.pred.result c.in-Some.p c.args.linked.now.of_links c.pred.ensures c.in-Some.is in
     let low = pred_in_trace trace.events.now c.in-Some.p x pred in
     let long = c.requires.walked.stands.as_long in
     let len = c.args.self.now.stands.ok.0 in
@@ -26,46 +26,46 @@ index-requires c =
 
 pub returns-then-index : goal.returns-then-index
 returns-then-index c =
-    let trace = c.args.trace.now in
+    let trace = c.args.linked.now in
     let stands = c.args.self.now.stands in
     let x = slice_index_or c.args.list.now c.args.at 0 in
-    let pred = link_is (λ events b. IsPred events b x) trace.events.now c.args.links.now c.pred.result c.in-Some.p c.requires.linked c.pred.ensures c.in-Some.is in
+    let pred = link_is (λ events b. IsPred events b x) trace.events.now c.args.linked.now.links.now c.pred.result c.in-Some.p c.args.linked.now.of_links c.pred.ensures c.in-Some.is in
     let low = pred_in_trace trace.events.now c.in-Some.p x pred in
     let long = c.requires.walked.stands.as_long in
     let flag = slice_get_read stands.items stands.len c.in-Some.p c.index.result.now stands.ok.0 (let len = stands.ok.0 in omega (arith, low, long, len)) c.index.ensures in
     at_place (λ e. IsLowestIn 3 4 (HasReason trace.events.now c.args.list.now c.args.at e) None) c.args.list.now c.args.at
     (order_standing trace.events.now trace.meets c.args.list.now c.args.at x c.in-Some.p pred (flag_true (StandsEarlier c.args.list.now c.args.at) (length trace.events.now) c.in-Some.p stands.items c.index.result.now c.requires.walked.stands flag c.if-index.true))
 
-pub bounds-trace-p : goal.bounds-trace-p
-bounds-trace-p c =
+pub bounds-linked-p : goal.bounds-linked-p
+bounds-linked-p c =
     let x = slice_index_or c.args.list.now c.args.at 0 in
-    pred_in_trace c.args.trace.now.events.now c.in-Some.p x (link_is (λ events b. IsPred events b x) c.args.trace.now.events.now c.args.links.now c.pred.result c.in-Some.p c.requires.linked c.pred.ensures c.in-Some.is)
+    pred_in_trace c.args.linked.now.events.now c.in-Some.p x (link_is (λ events b. IsPred events b x) c.args.linked.now.events.now c.args.linked.now.links.now c.pred.result c.in-Some.p c.args.linked.now.of_links c.pred.ensures c.in-Some.is)
 
-pub bounds-trace-e : goal.bounds-trace-e
-bounds-trace-e c = c.requires.in_trace _ (slice_get-get_or c.args.list.now c.args.at 0 c.requires.at)
+pub bounds-linked-e : goal.bounds-linked-e
+bounds-linked-e c = c.requires.in_trace _ (slice_get-get_or c.args.list.now c.args.at 0 c.requires.at)
 
-pub returns-then-trace-p : goal.returns-then-trace-p
-returns-then-trace-p c =
-    let trace = c.args.trace.now in
+pub returns-then-linked-p : goal.returns-then-linked-p
+returns-then-linked-p c =
+    let trace = c.args.linked.now in
     let stands = c.args.self.now.stands in
     let x = slice_index_or c.args.list.now c.args.at 0 in
-    let pred = link_is (λ events b. IsPred events b x) trace.events.now c.args.links.now c.pred.result c.in-Some.p c.requires.linked c.pred.ensures c.in-Some.is in
+    let pred = link_is (λ events b. IsPred events b x) trace.events.now c.args.linked.now.links.now c.pred.result c.in-Some.p c.args.linked.now.of_links c.pred.ensures c.in-Some.is in
     let low = pred_in_trace trace.events.now c.in-Some.p x pred in
     let lt = c.requires.in_trace _ (slice_get-get_or c.args.list.now c.args.at 0 c.requires.at) in
     let long = c.requires.walked.stands.as_long in
     let flag = slice_get_read stands.items stands.len c.in-Some.p c.index.result.now stands.ok.0 (let len = stands.ok.0 in omega (arith, low, long, len)) c.index.ensures in
     at_place (λ e. IsLowestIn 3 4 (HasReason trace.events.now c.args.list.now c.args.at e) (Some whys.ThreadOrder)) c.args.list.now c.args.at
-    (order_thread trace.events.now trace.meets c.args.list.now c.args.at x c.in-Some.p pred (flag_false (StandsEarlier c.args.list.now c.args.at) (length trace.events.now) c.in-Some.p stands.items c.index.result.now c.requires.walked.stands flag c.if-index.false) (threads_same trace.events.now c.in-Some.p x _ low lt c.if-trace-p.true))
+    (order_thread trace.events.now trace.meets c.args.list.now c.args.at x c.in-Some.p pred (flag_false (StandsEarlier c.args.list.now c.args.at) (length trace.events.now) c.in-Some.p stands.items c.index.result.now c.requires.walked.stands flag c.if-index.false) (threads_same trace.events.now c.in-Some.p x _ low lt c.if-linked-p.true))
 
-pub returns-else-trace-p : goal.returns-else-trace-p
-returns-else-trace-p c =
-    let trace = c.args.trace.now in
+pub returns-else-linked-p : goal.returns-else-linked-p
+returns-else-linked-p c =
+    let trace = c.args.linked.now in
     let stands = c.args.self.now.stands in
     let x = slice_index_or c.args.list.now c.args.at 0 in
-    let pred = link_is (λ events b. IsPred events b x) trace.events.now c.args.links.now c.pred.result c.in-Some.p c.requires.linked c.pred.ensures c.in-Some.is in
+    let pred = link_is (λ events b. IsPred events b x) trace.events.now c.args.linked.now.links.now c.pred.result c.in-Some.p c.args.linked.now.of_links c.pred.ensures c.in-Some.is in
     let low = pred_in_trace trace.events.now c.in-Some.p x pred in
     let lt = c.requires.in_trace _ (slice_get-get_or c.args.list.now c.args.at 0 c.requires.at) in
     let long = c.requires.walked.stands.as_long in
     let flag = slice_get_read stands.items stands.len c.in-Some.p c.index.result.now stands.ok.0 (let len = stands.ok.0 in omega (arith, low, long, len)) c.index.ensures in
     at_place (λ e. IsLowestIn 3 4 (HasReason trace.events.now c.args.list.now c.args.at e) (Some whys.ForkMissing)) c.args.list.now c.args.at
-    (order_fork trace.events.now trace.meets c.args.list.now c.args.at x c.in-Some.p pred (flag_false (StandsEarlier c.args.list.now c.args.at) (length trace.events.now) c.in-Some.p stands.items c.index.result.now c.requires.walked.stands flag c.if-index.false) (threads_differ trace.events.now c.in-Some.p x _ low lt c.if-trace-p.false))
+    (order_fork trace.events.now trace.meets c.args.list.now c.args.at x c.in-Some.p pred (flag_false (StandsEarlier c.args.list.now c.args.at) (length trace.events.now) c.in-Some.p stands.items c.index.result.now c.requires.walked.stands flag c.if-index.false) (threads_differ trace.events.now c.in-Some.p x _ low lt c.if-linked-p.false))

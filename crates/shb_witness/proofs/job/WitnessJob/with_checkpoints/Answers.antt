@@ -7,7 +7,5 @@ use Rattle.shb_witness.proofs.job.WitnessJob.with_checkpoints.Goals as goal
 pub invariant_of-result : goal.invariant_of-result
 invariant_of-result g c = (
   c.self.invariant.0,
-  c.self.invariant.1,
-  c.self.invariant.2,
   subst (λ (trace : List Event). All (IsReached trace) c.args.points.now) (sym (ap (λ (a : Asked). a.trace) c.self.view_is)) c.requires,
 )

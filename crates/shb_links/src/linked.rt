@@ -1,0 +1,42 @@
+//! A trace with its links.
+
+ghost use Rattle.std.specs.Prelude.{◌≡◌, ◌≤◌, length};
+ghost use Rattle.shb_lines.specs.events.Discipline.{IsDisciplined, IsDisciplined-prop};
+ghost use Rattle.shb_lines.specs.events.Sizes.{IsNumberedByAccess, IsNumberedByAccess-prop, IsWithin, IsWithin-prop};
+
+use crate::links::Links;
+use shb_discipline::Disciplined;
+use shb_lines::{Event, Sizes};
+
+/// The events of a disciplined trace with their links. What a [`Disciplined`] says of its events is
+/// part of the type, and so is that the links are those of these events: a function that takes one
+/// has no condition on the two. It borrows both, and can be copied.
+#[derive(Clone, Copy)]
+pub struct Linked<'a> {
+    /// The events, in the order of the trace.
+    pub events: &'a [Event],
+    /// How many threads, locks and variables the trace names.
+    pub sizes: Sizes,
+    /// The links of the events: place in the thread, predecessor, last write.
+    pub links: &'a Links<'a>,
+    pub ghost of_links: { links.now ≡ events.now },
+    pub ghost few: { length events.now ≤ 4194304 },
+    pub ghost within: { IsWithin events.now sizes } by { IsWithin-prop events.now sizes },
+    pub ghost numbered: { IsNumberedByAccess events.now } by { IsNumberedByAccess-prop events.now },
+    pub ghost meets: { IsDisciplined events.now } by { IsDisciplined-prop events.now },
+}
+
+impl<'a> Linked<'a> {
+    /// A trace with its links.
+    pub fn new(trace: &'a Disciplined<'a>, links: &'a Links<'a>) -> Linked<'a>
+        requires linked { links.now ≡ trace.now.events.now }
+        ensures events { result.events.now ≡ trace.now.events.now }
+        ensures sizes { result.sizes ≡ trace.now.sizes }
+    {
+        Linked {
+            events: trace.events,
+            sizes: trace.sizes,
+            links,
+        }
+    }
+}
