@@ -34,6 +34,10 @@ module _ {T M : Type 0} (meaning : T → M) (value : ℕ → M) where
   abbrev pub AreFirst : ℕ → List T → Type 0
   AreFirst k given = map meaning given ≡ values_of value k
 
+  -- the taker may be given the result of each piece after those of the pieces below it
+  abbrev pub MayTake : {K : Type 0} → (K → List T → T → Type 0) → ℕ → K → Type 0
+  MayTake may_take count start = (k : ℕ) (given : List T) (out : T) → k < count → AreFirst k given → meaning out ≡ value k → may_take start given out
+
   -- the taker was given the results of the pieces below k in order
   abbrev pub HasTaken : {K : Type 0} → (K → List T → K → Type 0) → K → ℕ → K → Type 0
   HasTaken takes start k end = (given : List T) × AreFirst k given × takes start given end

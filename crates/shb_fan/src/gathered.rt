@@ -30,6 +30,8 @@ impl<T: Drop> Taker<T> for Keeper<T> {
 
     ghost takes = { λ start given end. end.values.items ≡ start.values.items ++ given };
 
+    ghost may_take = { λ _ _ _. Unit {0} };
+
     ghost refuses = { λ start given _ _ end. end.values.items ≡ start.values.items ++ given };
 
     ghost nothing = { λ s. sym (append-nil s.values.items) };
@@ -53,6 +55,8 @@ impl<T: Drop> Taker<Vec<T>> for RunKeeper<T> {
     type Error = NoMemory;
 
     ghost takes = { λ start given end. end.values.items ≡ start.values.items ++ flat_map (λ run. run.items) given };
+
+    ghost may_take = { λ _ _ _. Unit {0} };
 
     ghost refuses = { λ _ _ _ _ _. Unit {0} };
 

@@ -1,7 +1,7 @@
 //! Results in the order of their pieces, while others are computed.
 ghost use Rattle.std.specs.Prelude.{◌≡◌, ◌∷◌, ◌<◌, [], None, All, IfOk, IfSome, IsTrue, IsFalse, length};
 ghost use Rattle.shb_fan.specs.Seated.{IsSeatOf, IsNewSeat, job_of, claimed_of};
-ghost use Rattle.shb_fan.specs.Streamed.{IsShared, IsIdle, CanWork, CanTake, HasTaken, Ended};
+ghost use Rattle.shb_fan.specs.Streamed.{IsShared, IsIdle, CanWork, CanTake, MayTake, HasTaken, Ended};
 
 use crate::gate::Gate;
 use crate::job::Job;
@@ -162,6 +162,7 @@ fn take_all<R: Wait, T: Drop, M, J: Job<Out = T, Meaning = M>, G: Gate, E, K: Ta
     taker: &mut K,
 ) -> Result<(), StreamError<E>>
     requires ready { CanTake J.value J.count shared.now caller.old }
+    requires may_take { MayTake J.meaning (J.value shared.now.job.now) K.may_take (J.count shared.now.job.now) taker.old }
     ensures { Ended J.meaning (J.value shared.now.job.now) K.takes K.refuses (J.count shared.now.job.now) taker.old result taker.new }
 {
     for k in 0..shared.pieces {
@@ -195,11 +196,11 @@ impl<'a, T: Drop, M, J: Job<Out = T, Meaning = M>, G: Gate, E, K: Taker<T, Error
     Caller<T, M>,
     K,
 > for Shared<'a, T, M, J, G> {
-    ghost use Rattle.shb_fan.specs.Streamed.{CanTake, Ended};
+    ghost use Rattle.shb_fan.specs.Streamed.{CanTake, MayTake, Ended};
 
     type Answer = Result<(), StreamError<E>>;
 
-    ghost can_take = { λ shared caller _. CanTake J.value J.count shared caller };
+    ghost can_take = { λ shared caller taker. CanTake J.value J.count shared caller × MayTake J.meaning (J.value shared.job.now) K.may_take (J.count shared.job.now) taker };
 
     ghost gives = { λ shared start answer end. Ended J.meaning (J.value shared.job.now) K.takes K.refuses (J.count shared.job.now) start answer end };
 
@@ -260,6 +261,7 @@ fn work_and_take<
     requires ring { job_of ring.now ≡ job.now }
     requires workers { All (IsIdle J.value J.count tickets.now ring.now) workers.old }
     requires caller { IsIdle J.value J.count tickets.now ring.now caller.old.own × (caller.old.kept ≡ None) }
+    requires may_take { MayTake J.meaning (J.value job.now) K.may_take (J.count job.now) taker.old }
     ensures { Ended J.meaning (J.value job.now) K.takes K.refuses (J.count job.now) taker.old result taker.new }
 {
     let begun = AtomicBool::new(false);
@@ -276,6 +278,10 @@ fn work_and_take<
 }
 
 /// Hands the values of all pieces to the taker in order, while workers run pieces at once.
+///
+/// At each call of the taker, also of a run that never ends, its number is how many came before it, what
+/// came before are the values of the pieces below that number in order, and the result is that of the
+/// piece. What the taker asks of such a call is all that the caller has to show.
 ///
 /// The caller's thread takes; each worker runs in a thread of its own where the system has one for it, and
 /// where it has none the caller runs the pieces itself. `Memory` where memory was refused, here or to a
@@ -297,6 +303,7 @@ pub fn stream<
     workers: Workers,
     taker: &mut K,
 ) -> Result<(), StreamError<E>>
+    requires { MayTake J.meaning (J.value job.now) K.may_take (J.count job.now) taker.old }
     ensures { Ended J.meaning (J.value job.now) K.takes K.refuses (J.count job.now) taker.old result taker.new }
 {
     let threads = workers.get() + 1;

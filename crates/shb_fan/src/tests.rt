@@ -247,6 +247,8 @@ impl Taker<u64> for Keeper {
 
     ghost takes = { λ _ _ _. Unit {0} };
 
+    ghost may_take = { λ _ _ _. Unit {0} };
+
     ghost refuses = { λ _ _ _ _ _. Unit {0} };
 
     ghost nothing = { λ _. tt };
@@ -422,6 +424,8 @@ impl<'a> Taker<Counted<'a>> for Limit {
     type Error = u64;
 
     ghost takes = { λ _ _ _. Unit {0} };
+
+    ghost may_take = { λ _ _ _. Unit {0} };
 
     ghost refuses = { λ _ _ _ _ _. Unit {0} };
 

@@ -18,11 +18,11 @@ use Rattle.shb_witness.specs.Schedules.{Asked, schedule_at}
 use Rattle.shb_witness.proofs.Printed.{computed_is_printed}
 use Rattle.shb_run.specs.declared.block_writer.BlockWriter.{BlockWriter}
 use Rattle.shb_run.specs.declared.errors.WriteError.{WriteError}
-use Rattle.shb_run.specs.Scheduled.{HasStopped, HasWritten, behind, scheduled_blocks, shown_from}
+use Rattle.shb_run.specs.Scheduled.{HasStopped, HasWritten, MayWrite, behind, scheduled_blocks, shown_from}
 use Rattle.shb_run.specs.Written.{WritesBlocks}
 use Rattle.shb_run.proofs.Blocks.{AreBlocks-more, blocks_from-push, front_of, shows_printed}
 
-abbrev none : Pair
+abbrev pub none : Pair
 none = record { first = 0; second = 0 }
 
 -- as many races are shown as there are schedules
@@ -88,27 +88,28 @@ module _ {K : Type 0} (taken : K → Option (List ℕ)) (failures : K → ℕ) w
   refused start before after given s race number (Ok x) is numbered sink written counted has = tt
   refused start before after given s race number (Err e) is numbered sink written counted has = record {
     same_sink = sink ∙ has.same_sink;
-    failed = λ there room. record {
+    failed = record {
       front = subst (AppendsPrefix (taken start.sink.now) (taken after.sink.now)) (sym (next_block start before given s race number is numbered has)) (AppendsPrefix-after _ _ _ _ _ has.appended written);
       counted = counted ∙ ap (λ n. n + 1) has.counted;
     };
   }
 
-  -- there is no next race
-  pub none_left : (start before : BlockWriter K) (schedules : List (List ℕ)) (s : List ℕ) → length before.races.now ≤ before.written → HasWritten taken failures start schedules before → HasStopped taken failures start schedules s before
-  none_left start before schedules s all has = record {
-    same_sink = has.same_sink;
-    failed = λ there room. absurd (let f : ⊥ = omega (arith, all, there, has.as_many, behind-is start.written schedules, ap length has.same_races) in f);
-  }
+  -- there is a next race
+  pub next_there : (start before : BlockWriter K) (schedules : List (List ℕ)) (s : List ℕ) → HasWritten taken failures start schedules before → MayWrite failures start schedules s → before.written < length before.races.now
+  next_there start before schedules s has may = omega (arith, may.room, has.as_many, behind-is start.written schedules, ap length has.same_races)
 
-  -- the sink can count no failure more
-  pub no_room : (start before : BlockWriter K) (schedules : List (List ℕ)) (s : List ℕ) → failures before.sink.now ≡ 2 ^ 64 - 1 → HasWritten taken failures start schedules before → HasStopped taken failures start schedules s before
-  no_room start before schedules s full has = record {
-    same_sink = has.same_sink;
-    failed = λ there room. absurd (let f : ⊥ = omega (arith, full, room, has.counted) in f);
-  }
+  -- the sink can count a failure more
+  pub next_countable : (start before : BlockWriter K) (schedules : List (List ℕ)) (s : List ℕ) → HasWritten taken failures start schedules before → MayWrite failures start schedules s → failures before.sink.now < 2 ^ 64 - 1
+  next_countable start before schedules s has may = omega (arith, may.countable, has.counted)
 
 -- ---- the blocks that stand after the first k schedules
+
+-- counted on from none
+counted_on : (f : ℕ → List ℕ) (n m : ℕ) → n ≡ 0 → values_of f m ≡ values_of (λ j. f (n + j)) m
+counted_on f n zero none_before = refl
+counted_on f n (suc m) none_before =
+    ap (λ l. l ++ f m ∷ []) (counted_on f n m none_before)
+    ∙ ap (λ k. values_of (λ j. f (n + j)) m ++ f k ∷ []) (let e : m ≡ n + m = omega (arith, none_before) in e)
 
 module _ (trace : TraceData) (events : List Event) (races : List Pair) (same : events ≡ trace.events) where
   abbrev schedules : ℕ → List (List ℕ)
@@ -196,9 +197,21 @@ module _ (trace : TraceData) (events : List Event) (races : List Pair) (same : e
     some_came k given old new e le first disciplined written =
         streamed_some k old new e (omega (arith, le, as_long)) disciplined (subst (λ l. Appends old new (scheduled_blocks trace 0 races l)) (came k given first) written)
 
-    -- there is a race for the schedule that was refused
-    pub one_left : (k : ℕ) (given : List (List ℕ)) → k < length asked.races → given ≡ values_of (schedule_at asked.trace asked.races) k → 0 + length given < length races
-    one_left k given lt first = omega (arith, lt, as_long, ap length first, length-values (schedule_at asked.trace asked.races) k)
+    -- each schedule may come after those before it
+    pub may_come : {K : Type 0} (failures : K → ℕ) (start : BlockWriter K) → start.trace.now ≡ trace → start.races.now ≡ races → start.written ≡ 0 → failures start.sink.now < 2 ^ 64 - 1
+        → (k : ℕ) (given : List (List ℕ)) (s : List ℕ) → k < length asked.races → given ≡ values_of (schedule_at asked.trace asked.races) k → s ≡ schedule_at asked.trace asked.races k → MayWrite failures start given s
+    may_come failures start of_trace of_races at_first countable k given s lt first next =
+        let long : length given ≡ k = ap length first ∙ length-values (schedule_at asked.trace asked.races) k in record {
+          room = omega (arith, lt, as_long, long, at_first, ap length of_races);
+          countable = countable;
+          right =
+              ap (λ l. l ++ s ∷ []) (came k given first)
+              ∙ ap (λ v. values_of (schedule_at events races) k ++ v ∷ []) (next ∙ ap (λ (a : Asked). schedule_at a.trace a.races k) is)
+              ∙ ap (values_of (schedule_at events races)) (let up : suc k ≡ length given + 1 = omega (arith, long) in up)
+              ∙ ap (λ (e : List Event). values_of (schedule_at e races) (length given + 1)) (same ∙ ap (λ (t : TraceData). t.events) (sym of_trace))
+              ∙ ap (λ (l : List Pair). values_of (schedule_at start.trace.now.events l) (length given + 1)) (sym of_races)
+              ∙ counted_on (schedule_at start.trace.now.events start.races.now) start.written (length given + 1) at_first;
+        }
 
     -- the sink failed in the block of schedule k
     pub less_came : {T : Type 0} (k : ℕ) (given : List (List ℕ)) (s : List ℕ) (old new : Option (List ℕ)) (e : WriteError) → k < length asked.races → given ≡ values_of (schedule_at asked.trace asked.races) k

@@ -24,7 +24,7 @@ pub(crate) struct BlockWriter<'s, 't, 'r, 'n, K> {
 }
 
 impl<'s, 't, 'r, 'n, K: Sink> Taker<Positions> for BlockWriter<'s, 't, 'r, 'n, K> {
-    ghost use Rattle.shb_run.specs.Scheduled.{HasStopped, HasWritten};
+    ghost use Rattle.shb_run.specs.Scheduled.{HasStopped, HasWritten, MayWrite};
     ghost use Rattle.std.proofs.Common.{refl};
     ghost use Rattle.shb_io.proofs.Growth.{Appends-nil};
 
@@ -32,26 +32,16 @@ impl<'s, 't, 'r, 'n, K: Sink> Taker<Positions> for BlockWriter<'s, 't, 'r, 'n, K
 
     ghost takes = { λ start given end. HasWritten K.taken K.failure_count start given end };
 
+    ghost may_take = { λ start given schedule. MayWrite K.failure_count start given schedule };
+
     ghost refuses = { λ start given schedule _ end. HasStopped K.taken K.failure_count start given schedule end };
 
     ghost nothing = { λ s. record { same_sink = refl; same_trace = refl; same_races = refl; as_many = refl; appended = Appends-nil (K.taken s.sink.now); counted = refl } };
 
     fn take(&mut self, _k: u64, schedule: Positions) -> Result<(), Failed> {
-        let Some(race) = self.races.get(self.written) else {
-            return Err(Failed);
-        };
-        if self.sink.failures() == u64::MAX {
-            return Err(Failed);
-        }
+        let race = self.races[self.written];
         self.written += 1;
         let number = self.written as u64;
-        scheduled_block(
-            self.sink,
-            self.trace,
-            number,
-            *race,
-            self.numbers,
-            &schedule,
-        )
+        scheduled_block(self.sink, self.trace, number, race, self.numbers, &schedule)
     }
 }

@@ -1,11 +1,11 @@
-use Rattle.std.proofs.Common.{rules, ◌≡◌, ◌+◌, ◌∙◌, true, map, Ok, Err, subst, sym}
+use Rattle.std.proofs.Common.{rules, ◌≡◌, ◌+◌, ◌∙◌, true, map, Ok, Err, refl, subst, sym}
 use Rattle.std.proofs.lemmas.List.{map-id}
 use Rattle.shb_lines.specs.events.Discipline.{IsDisciplined}
 use Rattle.shb_pairs.specs.Races.{ends}
 use Rattle.shb_run.specs.Written.{WritesBlocks}
 use Rattle.shb_run.specs.declared.errors.WriteError.TheVariants as errors
 use Rattle.shb_run.proofs.Ranges.{first_in_range, second_in_range}
-use Rattle.shb_run.proofs.Streamed.{all_came, left_behind, less_came, one_left, some_came}
+use Rattle.shb_run.proofs.Streamed.{all_came, left_behind, less_came, may_come, some_came}
 use Rattle.shb_run.proofs.write.write_made.Goals as goal
 
 pub invariant_of-writer : goal.invariant_of-writer
@@ -37,9 +37,8 @@ returns-in-Err-Taker-clause-blocks g c =
     let trace = c.args.ordered.now.trace.now in
     let ended = rw c.in-Err-Taker.field-0-is at c.in-Err-Taker.ensures in
     let same = ended.2.4.same_sink in
-    let there = one_left trace.trace.now trace.events.now c.args.races.now trace.of_trace c.with_checkpoints-job.result (c.with_checkpoints-job.ensures ∙ c.new.ensures) ended.0 ended.2.0 ended.1 (sym (map-id ended.2.0) ∙ ended.2.2) in
     left_behind (λ s. WritesBlocks {T = Unit {0}} true trace.trace.now (map ends c.args.races.now) (g.K.Sink.taken c.args.sink.now) (g.K.Sink.taken s) (Err errors.Sink)) _ c.stream.new.taker.sink.now
-    (less_came trace.trace.now trace.events.now c.args.races.now trace.of_trace c.with_checkpoints-job.result (c.with_checkpoints-job.ensures ∙ c.new.ensures) ended.0 ended.2.0 ended.2.1 _ (g.K.Sink.taken c.stream.new.taker.sink.now) errors.Sink ended.1 (sym (map-id ended.2.0) ∙ ended.2.2) ended.2.3 (subst IsDisciplined trace.of_trace trace.meets) (ended.2.4.failed there c.requires.countable).front)
+    (less_came trace.trace.now trace.events.now c.args.races.now trace.of_trace c.with_checkpoints-job.result (c.with_checkpoints-job.ensures ∙ c.new.ensures) ended.0 ended.2.0 ended.2.1 _ (g.K.Sink.taken c.stream.new.taker.sink.now) errors.Sink ended.1 (sym (map-id ended.2.0) ∙ ended.2.2) ended.2.3 (subst IsDisciplined trace.of_trace trace.meets) ended.2.4.failed.front)
     (search rules)
 
 pub returns-in-Err-Taker-clause-counted : goal.returns-in-Err-Taker-clause-counted
@@ -47,5 +46,9 @@ returns-in-Err-Taker-clause-counted g c =
     let trace = c.args.ordered.now.trace.now in
     let ended = rw c.in-Err-Taker.field-0-is at c.in-Err-Taker.ensures in
     let same = ended.2.4.same_sink in
-    let there = one_left trace.trace.now trace.events.now c.args.races.now trace.of_trace c.with_checkpoints-job.result (c.with_checkpoints-job.ensures ∙ c.new.ensures) ended.0 ended.2.0 ended.1 (sym (map-id ended.2.0) ∙ ended.2.2) in
-    left_behind (λ s. g.K.Sink.failure_count s ≡ g.K.Sink.failure_count c.args.sink.now + 1) _ c.stream.new.taker.sink.now (ended.2.4.failed there c.requires.countable).counted (search rules)
+    left_behind (λ s. g.K.Sink.failure_count s ≡ g.K.Sink.failure_count c.args.sink.now + 1) _ c.stream.new.taker.sink.now ended.2.4.failed.counted (search rules)
+
+pub stream-requires-after_bounds : goal.stream-requires-after_bounds
+stream-requires-after_bounds g c κs within k given s inside first next =
+    let trace = c.args.ordered.now.trace.now in
+    may_come trace.trace.now trace.events.now c.args.races.now trace.of_trace c.with_checkpoints-job.result (c.with_checkpoints-job.ensures ∙ c.new.ensures) g.K.Sink.failure_count _ refl refl refl c.requires.countable k given s inside (sym (map-id given) ∙ first) next
