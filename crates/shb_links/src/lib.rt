@@ -16,6 +16,3 @@ mod links;
 
 pub use linked::Linked;
 pub use links::{Links, links_of};
-
-#[cfg(test)]
-mod tests;
