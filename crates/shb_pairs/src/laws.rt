@@ -24,11 +24,6 @@ pub fn piece_gives_its_races()
     ensures { (a : Listed) (k : ℕ) → k < length (pieces_in a) → AreRacesOfRun a (piece_at (pieces_in a) k) (races_at a k) }
 {}
 
-/// A trace has one race list.
-pub fn race_list_is_unique()
-    ensures { (trace : List Event) (races others : List (ℕ × ℕ)) → IsRaceList trace races → IsRaceList trace others → races ≡ others }
-{}
-
 /// The printed schedule of a race is a schedule of it.
 pub fn printed_schedule_is_schedule()
     ensures { (trace : List Event) (s : List ℕ) (i j : ℕ) → IsDisciplined trace → Race trace i j → IsPrintedSchedule trace s i j → IsSchedule trace s i j }
