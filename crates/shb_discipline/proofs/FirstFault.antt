@@ -17,7 +17,7 @@ use Rattle.shb_lines.specs.text.Text.{LocatedEvent, lines_of, trace_of}
 use Rattle.shb_lines.specs.text.TraceData.{IsReadingOf, IsTraceOf, TraceData, tables_in}
 use Rattle.shb_discipline.specs.Faults.{HasDisciplineFault, IsFirstDisciplineFault}
 use Rattle.shb_discipline.specs.FirstFault.{BreaksDiscipline, HasAnyFault, HasFirstFault, HasNoFault, IsFaultFree}
-use Rattle.shb_discipline.proofs.Faultless.{no_fault}
+use Rattle.shb_discipline.proofs.Faultless.{may_come, no_fault}
 use Rattle.shb_discipline.proofs.Lines.{line_bounds, lines_rise, located_from, trace_of-split}
 use Rattle.shb_discipline.proofs.Numbering.{front_trace, one_trace}
 
@@ -235,3 +235,13 @@ stopped limits text trace stop reading disciplined = first_of_lines text reading
 
 pub accepted : (limits : Limits) (text : List ℕ) (trace : TraceData) → IsReadingOf limits text trace None → IsDisciplined trace.events → HasNoFault limits text × IsTraceOf (lines_of text) trace
 accepted limits text trace reading disciplined = (disciplined_lines text (length (lines_of text)) trace (whole text trace reading.1) limits reading.0 disciplined, reading.1)
+
+-- a text with no fault has a disciplined trace
+pub faultless_disciplined : (limits : Limits) (text : List ℕ) (trace : TraceData) → HasNoFault limits text → IsTraceOf (lines_of text) trace → IsDisciplined trace.events
+faultless_disciplined limits text trace none h = λ p e at.
+    let m = length (lines_of text) in
+    let front = whole text trace h in
+    let bounds = line_within text m trace front p e at in
+    let on_line : e.line ≡ (e.line - 1) + 1 = omega (arith, bounds.0) in
+    let few : e.line - 1 < m = omega (arith, bounds.0, bounds.1, length-take m (lines_of text)) in
+    may_come (take p trace.events) e (λ f has. none (e.line - 1) f few (inr (breaks text m trace front p e f (e.line - 1) at on_line has)))

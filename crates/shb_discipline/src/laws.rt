@@ -45,3 +45,9 @@ pub fn first_fault_is_one()
         → HasFirstFault limits text line fault → HasFirstFault limits text other further
         → (line ≡ other) × (fault ≡ further) }
 {}
+
+/// The trace of a text that has no fault is disciplined.
+pub fn faultless_text_is_disciplined()
+    ensures { (limits : Limits) (text : List ℕ) (trace : TraceData)
+        → HasNoFault limits text → IsTraceOf (lines_of text) trace → IsDisciplined trace.events }
+{}

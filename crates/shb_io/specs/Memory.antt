@@ -1,13 +1,14 @@
 -- What contracts see of the sources and the sink in memory, and which of their calls fail.
 use Rattle.std.specs.Prelude.{◌≡◌, ℕ, ◌+◌, ◌-◌, ◌^◌, ◌<◌, min, List, Option, Some}
 
--- a text: the bytes still to come, the most bytes of one read, the number of the read that is to fail, and how many reads were made and how many of them failed
+-- a text: the bytes still to come, the most bytes of one read, the number of the read that is to fail, and how many reads were made, how many of them failed, and how many bytes they gave
 pub record TextState : Type 0 where
   pub rest : List ℕ
   pub step : ℕ
   pub fail_at : Option ℕ
   pub calls : ℕ
   pub failures : ℕ
+  pub given : ℕ
 
 -- a page: the bytes taken, the most that it holds, the most bytes of one write, the number of the write that is to fail, and how many writes were made and how many of them failed
 pub record PageState : Type 0 where

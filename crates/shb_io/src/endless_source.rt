@@ -1,6 +1,6 @@
 //! A source that never ends, for tests of limits.
 ghost use Rattle.std.specs.Prelude.{◌≡◌, ◌≤◌, Ok, None, length, replicate, IfOk};
-ghost use Rattle.shb_io.specs.Devices.{IsCounted};
+ghost use Rattle.shb_io.specs.Devices.{IsCounted, IsGivenCounted};
 ghost use Rattle.shb_io.specs.Memory.{EndlessState, counted_on};
 
 use crate::traits::{Failed, Source};
@@ -40,10 +40,13 @@ impl Source for Endless {
 
     ghost failure_count = { λ _. 0 };
 
+    ghost given_count = { λ e. e.given };
+
     /// Fills the buffer. It always succeeds.
     fn read(&mut self, buf: &mut [u8]) -> Result<usize, Failed>
         ensures bound { IfOk result (λ n. n ≤ length buf.new) }
         ensures counted { IsCounted 0 0 result }
+        ensures given_counted { IsGivenCounted self.old.given self.new.given result }
         ensures filled { buf.new ≡ replicate (length buf.old) self.old.byte }
         ensures count { result ≡ Ok (length buf.old) }
         ensures given { self.new ≡ record self.old { given = counted_on self.old.given (length buf.old) } }

@@ -13,17 +13,20 @@ use std::io::{ErrorKind, Read};
 pub struct FromRead<R> {
     reader: R,
     failures: u64,
+    given: u64,
 }
 
 impl<R: Read> FromRead<R> {
-    /// A source of what the reader gives from here on. No read has failed.
+    /// A source of what the reader gives from here on. No read has failed, and no byte was given.
     pub fn new(reader: R) -> FromRead<R>
         ensures tells { ⟦<FromRead<R> as Source>⟧.remaining result ≡ R.remaining reader }
         ensures fresh { ⟦<FromRead<R> as Source>⟧.failure_count result ≡ 0 }
+        ensures unread { ⟦<FromRead<R> as Source>⟧.given_count result ≡ 0 }
     {
         FromRead {
             reader,
             failures: 0,
+            given: 0,
         }
     }
 }
@@ -33,10 +36,15 @@ impl<R: Read> Source for FromRead<R> {
 
     ghost failure_count = { λ s. s.failures };
 
+    ghost given_count = { λ s. s.given };
+
     fn read(&mut self, buf: &mut [u8]) -> Result<usize, Failed> {
         for _try in 0..TRIES {
             match self.reader.read(buf) {
-                Ok(count) => return Ok(count),
+                Ok(count) => {
+                    self.given = self.given.saturating_add(count as u64);
+                    return Ok(count);
+                }
                 Err(error) if error.kind() == ErrorKind::Interrupted => {}
                 Err(_) => break,
             }

@@ -1,7 +1,7 @@
 //! A source in memory for tests of what stands above: it hands out few bytes at a time, and fails on request.
 ghost use Rattle.std.specs.Prelude.{◌≡◌, ◌+◌, ◌-◌, ◌^◌, ◌<◌, ◌≤◌, ◌↔◌, Some, length, drop, min, IfOk, OnErr, IsErr};
 ghost use Rattle.std.specs.Io.KnownBytes.{ReadConsumes};
-ghost use Rattle.shb_io.specs.Devices.{IsCounted};
+ghost use Rattle.shb_io.specs.Devices.{IsCounted, IsGivenCounted};
 ghost use Rattle.shb_io.specs.Memory.{TextState, counted_on, IsCallToFail};
 
 use crate::calls::is_call_to_fail;
@@ -16,12 +16,13 @@ pub struct Text<'a> {
     fail_at: Option<u64>,
     calls: u64,
     failures: u64,
+    given: u64,
 }
 
 impl<'a> Model for Text<'a> {
     ghost Value = { TextState };
 
-    ghost view = { λ t. record { rest = t.rest.now; step = t.step; fail_at = t.fail_at; calls = t.calls; failures = t.failures } };
+    ghost view = { λ t. record { rest = t.rest.now; step = t.step; fail_at = t.fail_at; calls = t.calls; failures = t.failures; given = t.given } };
 
     ghost invariant = { λ t. 0 < t.step };
 }
@@ -33,7 +34,7 @@ impl<'a> Text<'a> {
         requires { 0 < step }
         ensures tells { ⟦<Text<'a> as Source>⟧.remaining result ≡ Some bytes.now }
         ensures fresh { ⟦<Text<'a> as Source>⟧.failure_count result ≡ 0 }
-        ensures starts { result ≡ record { rest = bytes.now; step = step; fail_at = fail_at; calls = 0; failures = 0 } }
+        ensures starts { result ≡ record { rest = bytes.now; step = step; fail_at = fail_at; calls = 0; failures = 0; given = 0 } }
     {
         Text {
             rest: bytes,
@@ -41,6 +42,7 @@ impl<'a> Text<'a> {
             fail_at,
             calls: 0,
             failures: 0,
+            given: 0,
         }
     }
 }
@@ -50,6 +52,8 @@ impl Source for Text<'_> {
 
     ghost failure_count = { λ s. s.failures };
 
+    ghost given_count = { λ s. s.given };
+
     /// Fails exactly at the read that is to fail, and moves no byte then. Else it hands out as many bytes
     /// as there is room for, as one read may, and as are left.
     fn read(&mut self, buf: &mut [u8]) -> Result<usize, Failed>
@@ -58,11 +62,13 @@ impl Source for Text<'_> {
         ensures bound { IfOk result (λ n. n ≤ length buf.new) }
         ensures bytes { ReadConsumes (Some self.old.rest) (Some self.new.rest) result buf.new }
         ensures counted { IsCounted self.old.failures self.new.failures result }
+        ensures given { IsGivenCounted self.old.given self.new.given result }
         ensures fails { IsErr result ↔ IsCallToFail self.old.fail_at (counted_on self.old.calls 1) }
         ensures count { IfOk result (λ n. n ≡ min (min (length buf.old) self.old.step) (length self.old.rest)) }
         ensures ok { IfOk result (λ n. self.new ≡ record self.old {
           rest = drop n self.old.rest;
           calls = counted_on self.old.calls 1;
+          given = counted_on self.old.given n;
         }) }
         ensures err { OnErr result (self.new ≡ record self.old {
           calls = counted_on self.old.calls 1;
@@ -78,6 +84,7 @@ impl Source for Text<'_> {
         let (next, later) = self.rest.split_at(count);
         buf[..count].copy_from_slice(next);
         self.rest = later;
+        self.given = self.given.saturating_add(count as u64);
         Ok(count)
     }
 

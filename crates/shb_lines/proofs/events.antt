@@ -9,7 +9,7 @@ pub mod Listed
 pub mod Locks
 pub mod Places
 pub mod Prefix
-pub mod RaceList
+pub mod RaceLists
 pub mod Reach
 pub mod Reordered
 pub mod Schedulable

@@ -34,6 +34,8 @@ fn read_onto<S: Source>(
         × Consumes (S.remaining source.old) (S.remaining source.new) bytes) }
     ensures end { IfOk result (λ count. count ≡ 0 → IsAtEnd (S.remaining source.new)) }
     ensures taken { TakesAtMost room (S.remaining source.old) (S.remaining source.new) }
+    ensures given { S.given_count source.new ≤ S.given_count source.old + room }
+    ensures given_ok { IfOk result (λ count. S.given_count source.new ≤ S.given_count source.old + count) }
     ensures counted { IsSourceCounted (S.failure_count source.old) (S.failure_count source.new) result }
 {
     let Ok(count) = source.read(&mut piece[..room]) else {
@@ -57,6 +59,7 @@ pub fn read_whole<S: Source>(
         × Consumes (S.remaining source.old) (S.remaining source.new) text.items
         × (vec_len text ≤ limit → IsAtEnd (S.remaining source.new))) }
     ensures taken { TakesAtMost (limit + 1) (S.remaining source.old) (S.remaining source.new) }
+    ensures given { S.given_count source.new ≤ S.given_count source.old + (limit + 1) }
     ensures counted { IsSourceCounted (S.failure_count source.old) (S.failure_count source.new) result }
 {
     let most = limit as usize + 1;

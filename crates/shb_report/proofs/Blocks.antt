@@ -8,6 +8,7 @@ use Rattle.shb_lines.specs.events.Race.{IsRaceList}
 use Rattle.shb_lines.specs.events.Schedule.{IsPrintedSchedule}
 use Rattle.shb_lines.specs.text.TraceData.{TraceData}
 use Rattle.shb_lines.proofs.events.Decide.{printed_exists}
+use Rattle.shb_lines.proofs.events.RaceLists.{race_list_unique}
 use Rattle.shb_report.specs.Report.{AreBlocks, HasSchedule, IsReport, ShownRace, block_bytes, blocks_from, front_bytes, tail_bytes}
 use Rattle.shb_report.proofs.Increasing.{increasing_unique}
 
@@ -65,14 +66,10 @@ AreBlocks-unique with_schedules trace races blocks others h g =
     let lengths = ap length after.1 in
     same_if_long others blocks before.0 before.1 (omega (arith, length-append blocks after.0))
 
--- There is one race list. That is proved where race lists are made, so it is handed in here.
-abbrev pub HasOneRaceList : TraceData → Type 0
-HasOneRaceList trace = (races more : List (ℕ × ℕ)) → IsRaceList trace.events races → IsRaceList trace.events more → races ≡ more
-
 -- a trace has one report
-pub IsReport-unique : (with_schedules : Bool) (trace : TraceData) (bytes others : List ℕ) → HasOneRaceList trace → IsReport with_schedules trace bytes → IsReport with_schedules trace others → bytes ≡ others
-IsReport-unique with_schedules trace bytes others one_list h g =
-    let same : h.races ≡ g.races = one_list h.races g.races h.races_are g.races_are in
+pub IsReport-unique : (with_schedules : Bool) (trace : TraceData) (bytes others : List ℕ) → IsReport with_schedules trace bytes → IsReport with_schedules trace others → bytes ≡ others
+IsReport-unique with_schedules trace bytes others h g =
+    let same : h.races ≡ g.races = race_list_unique trace.events h.races g.races h.races_are g.races_are in
     let blocks : h.blocks ≡ g.blocks = AreBlocks-unique with_schedules trace g.races h.blocks g.blocks (subst (λ l. AreBlocks with_schedules trace l h.blocks) same h.blocks_are) g.blocks_are in
     h.bytes_are
     ∙ ap (λ l. front_bytes trace l ++ (h.blocks ++ tail_bytes)) same

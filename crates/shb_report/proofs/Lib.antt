@@ -7,7 +7,7 @@ mod Fronts
 mod Machine
 mod Language
 mod Values
-mod Bad
+pub mod Bad
 mod Digits
 mod Peeling
 mod Listing

@@ -13,10 +13,9 @@ ghost use Rattle.shb_report.specs.Written.{IsShowable, written_report};
 ghost use Rattle.shb_report.specs.declared.verdict.Verdict.{Verdict};
 ghost use Rattle.shb_report.specs.declared.verdict.Verdict.TheVariants.{Good};
 
-/// A trace has at most one report in each form, since it has at most one race list.
+/// A trace has at most one report in each form.
 pub fn report_is_unique()
     ensures { (with_schedules : Bool) (trace : TraceData) (bytes others : List ℕ)
-        → ((races more : List (ℕ × ℕ)) → IsRaceList trace.events races → IsRaceList trace.events more → races ≡ more)
         → IsReport with_schedules trace bytes → IsReport with_schedules trace others → bytes ≡ others }
 {}
 

@@ -1,6 +1,6 @@
 //! A report that was read.
-ghost use Rattle.std.specs.Prelude.{◌≡◌, ◌+◌, ◌<◌, ◌≤◌, ◌^◌, ◌-◌, ℕ, List, Some, length, take, drop, option_map, slice_get, IfOk, IfSome};
-ghost use Rattle.shb_lines.specs.text.Taking.{TakesAtMost};
+ghost use Rattle.std.specs.Prelude.{◌≡◌, ◌+◌, ◌<◌, ◌≤◌, ◌^◌, ◌-◌, ℕ, List, Some, length, take, drop, option_map, slice_get, IfOk};
+ghost use Rattle.shb_lines.specs.text.Taking.{ReadsText, TakesAtMost};
 ghost use Rattle.shb_report.specs.Judging.{block_in};
 ghost use Rattle.shb_report.specs.Lines.{IfBad, IfStop};
 ghost use Rattle.shb_report.specs.Parts.{ArePartsIn, bytes_at, report_at};
@@ -237,7 +237,8 @@ fn report_of(alloc: Global, text: Vec<u8>, limit: u64) -> Result<Report, Stop>
 /// lines of no report, and n is the least such number. A line that is missing, the last bytes of a text
 /// that have no line feed, bytes behind the last line, and the line to which the byte behind the limit
 /// belongs are bad lines. `Source` where the source failed in this call, and only there. `Memory` where a
-/// growth was refused. What was read of the source stays read.
+/// growth was refused. What was read of the source stays read: where a report or a bad line is answered,
+/// all of it, or the limit and one byte.
 pub fn read_report_within<S: Source>(
     alloc: Global,
     source: &mut S,
@@ -245,10 +246,15 @@ pub fn read_report_within<S: Source>(
 ) -> Result<Report, ReportError>
     requires standard { limit ≤ 1073741824 }
     requires countable { S.failure_count source.old < 2 ^ 64 - 1 }
-    // Of a source that tells its bytes: they are all the text of the report, or this is their bad line.
-    ensures report { IfOk result (λ report. IfSome (S.remaining source.old) (λ text. IsReportText limit text report)) }
-    ensures bad { IfBadLine result (λ n. IfSome (S.remaining source.old) (λ text. IsBadLine limit text n)) }
+    // The text that was read, all bytes of a source that tells them, is that of the report, or this is its
+    // bad line. Its first bytes are gone then, up to one more than the limit.
+    ensures report { IfOk result (λ report. ReadsText (limit + 1) (S.remaining source.old) (S.remaining source.new)
+        (λ text. IsReportText limit text report)) }
+    ensures bad { IfBadLine result (λ n. ReadsText (limit + 1) (S.remaining source.old) (S.remaining source.new)
+        (λ text. IsBadLine limit text n)) }
+    // No more than those are gone, whatever is answered.
     ensures taken { TakesAtMost (limit + 1) (S.remaining source.old) (S.remaining source.new) }
+    ensures given { S.given_count source.new ≤ S.given_count source.old + (limit + 1) }
     ensures counted { IsSourceCounted (S.failure_count source.old) (S.failure_count source.new) result }
 {
     let text = match read_whole(alloc, source, limit) {
@@ -267,9 +273,12 @@ pub fn read_report_within<S: Source>(
 /// its memory.
 pub fn read_report<S: Source>(alloc: Global, source: &mut S) -> Result<Report, ReportError>
     requires { S.failure_count source.old < 2 ^ 64 - 1 }
-    ensures report { IfOk result (λ report. IfSome (S.remaining source.old) (λ text. IsReportText 1073741824 text report)) }
-    ensures bad { IfBadLine result (λ n. IfSome (S.remaining source.old) (λ text. IsBadLine 1073741824 text n)) }
+    ensures report { IfOk result (λ report. ReadsText 1073741825 (S.remaining source.old) (S.remaining source.new)
+        (λ text. IsReportText 1073741824 text report)) }
+    ensures bad { IfBadLine result (λ n. ReadsText 1073741825 (S.remaining source.old) (S.remaining source.new)
+        (λ text. IsBadLine 1073741824 text n)) }
     ensures taken { TakesAtMost 1073741825 (S.remaining source.old) (S.remaining source.new) }
+    ensures given { S.given_count source.new ≤ S.given_count source.old + 1073741825 }
     ensures counted { IsSourceCounted (S.failure_count source.old) (S.failure_count source.new) result }
 {
     read_report_within(alloc, source, 1_073_741_824)

@@ -1,18 +1,19 @@
 -- From what the parts of a run answer to what the run says of the text.
-use Rattle.std.proofs.Common.{◌≡◌, ℕ, inl, inr, Bool, List, [], length, map, None, Some, Option, Result, Ok, Err, IfSome, IfErr, IsErrAnd, refl, sym, ap, subst, ◌∙◌, arith}
+use Rattle.std.proofs.Common.{◌≡◌, ◌⊎◌, ℕ, inl, inr, Bool, List, [], length, map, None, Some, Option, Result, Ok, Err, IfSome, IfErr, IsErrAnd, refl, sym, ap, subst, ◌∙◌, arith}
 use Rattle.std.proofs.lemmas.List.{length-map}
 use Rattle.std.proofs.lemmas.Option.{IfSome_then}
-use Rattle.std.specs.Io.KnownBytes.{Consumes, Keeps}
-use Rattle.shb_io.proofs.Growth.{Appends-kept, Appends-nil}
+use Rattle.std.specs.Io.KnownBytes.{Consumes}
+use Rattle.shb_io.proofs.Growth.{Appends-nil}
 use Rattle.shb_lines.specs.declared.event.Event.{Event}
 use Rattle.shb_lines.specs.declared.event.Fault.{Fault}
 use Rattle.shb_lines.specs.declared.event.LineFault.{LineFault}
 use Rattle.shb_lines.specs.declared.event.Pair.{Pair}
 use Rattle.shb_lines.specs.events.Discipline.{IsDisciplined}
 use Rattle.shb_lines.specs.events.Race.{IsRaceList}
-use Rattle.shb_lines.specs.text.Taking.{TakesAtMost}
+use Rattle.shb_lines.specs.text.Taking.{ReadsText, TakesAtMost}
 use Rattle.shb_lines.specs.text.Text.{lines_of}
 use Rattle.shb_lines.specs.text.TraceData.{IsReadingOf, IsTraceOf, TraceData}
+use Rattle.shb_lines.proofs.text.TakingLemmas.{reads_then}
 use Rattle.shb_lines.proofs.events.Decide.{decide_below_pred, printed_exists}
 use Rattle.shb_lines.proofs.events.Schedulable.{printed_is_schedule}
 use Rattle.shb_lines.proofs.events.Unschedulable.{race_of_schedule}
@@ -25,17 +26,20 @@ use Rattle.shb_report.specs.Report.{IsReport, IsReportOf}
 use Rattle.shb_pairs.specs.Races.{ends}
 use Rattle.shb_run.specs.declared.errors.RunError.{RunError}
 use Rattle.shb_run.specs.declared.errors.RunError.TheVariants.{Trace, Source, Sink, Memory}
+use Rattle.shb_run.specs.declared.errors.WriteError.{WriteError}
+use Rattle.shb_run.specs.declared.errors.WriteError.TheVariants as writing
 use Rattle.shb_run.specs.declared.settings.Summary.{Summary}
 use Rattle.shb_lines.specs.declared.read.ReadError.{ReadError}
 use Rattle.shb_lines.specs.declared.read.ReadError.TheVariants as reading
-use Rattle.shb_run.specs.Errors.{error_of_checking, error_of_reading}
-use Rattle.shb_run.specs.Runs.{IsAccepted, IsCutShort, IsRefusalOf, IsReported, Grows, ListsSchedulable, OnBrokenOff, OnJudged, limits}
-use Rattle.shb_run.specs.Written.{IsCutOff, ReportsTrace, WritesReport, summary_of}
-
--- known bytes that nothing was done to
-pub Keeps-same : (a : Option (List ℕ)) → Keeps a a
-Keeps-same None = tt
-Keeps-same (Some x) = refl
+use Rattle.shb_report.specs.declared.verdict.Verdict.{Verdict}
+use Rattle.shb_report.specs.declared.verdict.Verdict.TheVariants.{Good, BadLine, BadCounts, BadRace, BadPlaces}
+use Rattle.shb_report.specs.Reading.{IsReportText}
+use Rattle.shb_report.specs.Value.{ReportValue}
+use Rattle.shb_report.specs.Verdicts.{IsVerdict}
+use Rattle.shb_run.specs.Checks.{IsChecked, IsVerdictFor, most_bytes}
+use Rattle.shb_run.specs.Errors.{error_of_checking, error_of_reading, error_of_writing}
+use Rattle.shb_run.specs.Runs.{AreWords, HasTrace, IsAccepted, IsRefusalOf, IsReported, Grows, ListsSchedulable, OnJudged, OnMemory, OnSink, OnTrace, OnWriting, limits}
+use Rattle.shb_run.specs.Written.{CutsBlocks, CutsReport, OnFailedSink, OnNoMemory, ReportsTrace, WritesReport, summary_of}
 
 -- a text with no fault has no first one
 pub no_first_fault : (text : List ℕ) (line : ℕ) (fault : Fault) → HasNoFault limits text → HasFirstFault limits text line fault → ⊥
@@ -63,21 +67,26 @@ report_of_text ws text bytes read stop trace accepted reading report = record {
 }
 
 pub reported_of : (ws : Bool) (text : List ℕ) (read : TraceData) (stop : Option LineFault) (events : List Event) (trace : TraceData) (summary : Summary) (old new : Option (List ℕ))
-    → IsDisciplined events → events ≡ trace.events → IsAccepted read stop trace → ReportsTrace ws trace summary old new → IsReadingOf limits text read stop → IsReported ws text summary old new
-reported_of ws text read stop events trace summary old new disciplined same accepted written reading = record {
+    → IsDisciplined events → events ≡ trace.events → IsAccepted read stop trace → ReportsTrace ws trace summary old new → AreWords summary → IsReadingOf limits text read stop → IsReported ws text summary old new
+reported_of ws text read stop events trace summary old new disciplined same accepted written words reading = record {
   faultless = accepted.faultless text reading;
   bytes = written.bytes;
   report = report_of_text ws text written.bytes read stop trace accepted reading written.report;
   disciplined = subst IsDisciplined same disciplined;
   written = written.written;
   summary_is = written.summary_is;
+  words = words;
   schedulable = schedulable_of trace.events written.report.races (subst IsDisciplined same disciplined) written.report.races_are;
 }
 
-pub cut_short_of : (ws : Bool) (text : List ℕ) (read : TraceData) (stop : Option LineFault) (trace : TraceData) (old new : Option (List ℕ))
-    → IsAccepted read stop trace → IsCutOff ws trace old new → IsReadingOf limits text read stop → IsCutShort ws text old new
-cut_short_of ws text read stop trace old new accepted (inl kept) reading = inl kept
-cut_short_of ws text read stop trace old new accepted (inr front) reading = inr (front.0, report_of_text ws text front.0 read stop trace accepted reading front.1, front.2)
+-- a text that has no fault, and what holds of its trace
+pub has_trace : (text : List ℕ) (read : TraceData) (stop : Option LineFault) (trace : TraceData) (P : TraceData → Type 0) → IsAccepted read stop trace → P trace → IsReadingOf limits text read stop → HasTrace text P
+has_trace text read stop trace P accepted holds reading = record {
+  faultless = accepted.faultless text reading;
+  trace = trace;
+  trace_is = subst (IsTraceOf (lines_of text)) (sym accepted.same) (accepted.whole text reading);
+  holds = holds;
+}
 
 -- the lines were stopped, and no event before that breaks the discipline
 pub stopped_of : (read : TraceData) (stop : Option LineFault) (found : LineFault) (events : List Event) (trace : TraceData)
@@ -98,9 +107,9 @@ accepted_of read stop events trace disciplined same as_read is = record {
     all text reading = accepted limits text read (subst (IsReadingOf limits text read) is reading) (subst (λ t. IsDisciplined t.events) as_read (subst IsDisciplined same disciplined))
 
 -- the summary of the report that was written
-pub reports_of : {T : Type 0} (ws : Bool) (trace : TraceData) (races : List Pair) (count : ℕ) (summary : Summary) (old new : Option (List ℕ)) (x : T)
-    → summary ≡ summary_of trace count → count ≡ length races → WritesReport ws trace (map ends races) old new (Ok x) → ReportsTrace ws trace summary old new
-reports_of ws trace races count summary old new x is counted written = record {
+pub reports_of : (ws : Bool) (trace : TraceData) (races : List Pair) (count : ℕ) (summary : Summary) (old new : Option (List ℕ)) 
+    → summary ≡ summary_of trace count → count ≡ length races → WritesReport ws trace (map ends races) old new → ReportsTrace ws trace summary old new
+reports_of ws trace races count summary old new is counted written = record {
   bytes = written.bytes;
   report = written.report;
   written = written.written;
@@ -117,33 +126,70 @@ refused_of read stop error (Err e) is refusal = subst (IsRefusalOf read stop) (s
     told (checking.Undisciplined line fault) first = λ text reading. undisciplined limits text read stop line fault reading first
     told checking.Memory first = tt
 
--- what holds of each run that ended while it worked on a trace
-pub broken_off : {T : Type 0} (r : Result T RunError) (P : Type 0) → P → OnBrokenOff r P
-broken_off (Ok x) P p = tt
-broken_off (Err (Trace line fault)) P p = tt
-broken_off (Err Source) P p = tt
-broken_off (Err Sink) P p = p
-broken_off (Err Memory) P p = p
+-- the fault of a refusal is the first of the text that was read
+pub refusal_first : {T : Type 0} (read : TraceData) (stop : Option LineFault) (n : ℕ) (known left : Option (List ℕ)) (error : RunError) (r : Result T RunError) → IsErrAnd r (λ e. e ≡ error)
+    → ReadsText n known left (λ text. IsReadingOf limits text read stop) → IsRefusalOf read stop error → OnTrace r (λ line fault. ReadsText n known left (λ text. HasFirstFault limits text line fault))
+refusal_first read stop n known left error (Ok x) is reading refusal = absurd is
+refusal_first {T} read stop n known left error (Err e) is reading refusal =
+    subst (λ (x : RunError). OnTrace {T = T} (Err x) (λ line fault. ReadsText n known left (λ text. HasFirstFault limits text line fault))) (sym is) (told error refusal)
+  where
+    told : (error : RunError) → IsRefusalOf read stop error → OnTrace {T = T} (Err error) (λ line fault. ReadsText n known left (λ text. HasFirstFault limits text line fault))
+    told (Trace line fault) refusal = reads_then n known left (λ text. IsReadingOf limits text read stop) (λ text. HasFirstFault limits text line fault) reading refusal
+    told Source refusal = tt
+    told Sink refusal = tt
+    told Memory refusal = tt
+
+-- what is said where memory was refused
+pub on_memory : {T : Type 0} (r : Result T RunError) (P : Type 0) → P → OnMemory r P
+on_memory (Ok x) P p = tt
+on_memory (Err (Trace line fault)) P p = tt
+on_memory (Err Source) P p = tt
+on_memory (Err Sink) P p = tt
+on_memory (Err Memory) P p = p
+
+-- from the writing of a report to the run
+pub sink_of : {T : Type 0} (U : Type 0) (error : WriteError) (r : Result T RunError) (P Q : Type 0) → IsErrAnd r (λ e. e ≡ error_of_writing error) → OnFailedSink {T = U} (Err error) P → (P → Q) → OnSink r Q
+sink_of U error (Ok x) P Q is cut then = absurd is
+sink_of {T} U error (Err e) P Q is cut then = subst (λ (e : RunError). OnSink {T = T} (Err e) Q) (sym is) (told error cut)
+  where
+    told : (error : WriteError) → OnFailedSink {T = U} (Err error) P → OnSink {T = T} (Err (error_of_writing error)) Q
+    told writing.Sink p = then p
+    told writing.Memory p = tt
+
+pub memory_of : {T : Type 0} (U : Type 0) (error : WriteError) (r : Result T RunError) (P Q : Type 0) → IsErrAnd r (λ e. e ≡ error_of_writing error) → OnNoMemory {T = U} (Err error) P → (P → Q) → OnMemory r Q
+memory_of U error (Ok x) P Q is cut then = absurd is
+memory_of {T} U error (Err e) P Q is cut then = subst (λ (e : RunError). OnMemory {T = T} (Err e) Q) (sym is) (told error cut)
+  where
+    told : (error : WriteError) → OnNoMemory {T = U} (Err error) P → OnMemory {T = T} (Err (error_of_writing error)) Q
+    told writing.Sink p = tt
+    told writing.Memory p = then p
+
+pub or_then : {A B C : Type 0} → A ⊎ B → (B → C) → A ⊎ C
+or_then (inl a) then = inl a
+or_then (inr b) then = inr (then b)
 
 -- a text with no fault has none of which anything is to be said
 pub none_found : (read : TraceData) (stop : Option LineFault) (trace : TraceData) (known : Option (List ℕ)) (P : Type 0)
     → IsAccepted read stop trace → IfSome known (λ text. IsReadingOf limits text read stop) → IfSome known (λ text. (line : ℕ) (fault : Fault) → HasFirstFault limits text line fault → P)
 none_found read stop trace known P accepted reading = IfSome_then known reading (λ text one line fault first. absurd (no_first_fault text line fault (accepted.faultless text one) first))
 
--- a text with no fault has none to be silent on
-pub not_silent : (read : TraceData) (stop : Option LineFault) (trace : TraceData) (known old new : Option (List ℕ))
-    → IsAccepted read stop trace → IfSome known (λ text. IsReadingOf limits text read stop) → IfSome known (λ text. (line : ℕ) (fault : Fault) → HasFirstFault limits text line fault → Keeps old new)
-not_silent read stop trace known old new accepted reading = none_found read stop trace known (Keeps old new) accepted reading
-
 -- what holds of each run that read its text
 pub judged : {T : Type 0} (r : Result T RunError) (P : Type 0) → P → OnJudged r P
 judged (Ok x) P p = p
 judged (Err (Trace line fault)) P p = p
 judged (Err Source) P p = tt
-judged (Err Sink) P p = tt
+judged (Err Sink) P p = p
 judged (Err Memory) P p = tt
 
--- a text that was not read was not judged
+-- what holds of each check that came to write
+pub came_to_write : {T : Type 0} (r : Result T RunError) (P : Type 0) → P → OnWriting r P
+came_to_write (Ok x) P p = p
+came_to_write (Err (Trace line fault)) P p = tt
+came_to_write (Err Source) P p = tt
+came_to_write (Err Sink) P p = p
+came_to_write (Err Memory) P p = tt
+
+-- a text that was not read was not judged, nothing was written, and no sink failed
 pub not_judged : {T : Type 0} (error : ReadError) (r : Result T RunError) (P : Type 0) → IsErrAnd r (λ e. e ≡ error_of_reading error) → OnJudged r P
 not_judged error (Ok x) P is = absurd is
 not_judged {T} error (Err e) P is = subst (λ (e : RunError). OnJudged {T = T} (Err e) P) (sym is) (told error)
@@ -151,6 +197,14 @@ not_judged {T} error (Err e) P is = subst (λ (e : RunError). OnJudged {T = T} (
     told : (error : ReadError) → OnJudged {T = T} (Err (error_of_reading error)) P
     told reading.Source = tt
     told reading.Memory = tt
+
+pub not_written : {T : Type 0} (error : ReadError) (r : Result T RunError) (P : Type 0) → IsErrAnd r (λ e. e ≡ error_of_reading error) → OnWriting r P × OnSink r P
+not_written error (Ok x) P is = absurd is
+not_written {T} error (Err e) P is = subst (λ (e : RunError). OnWriting {T = T} (Err e) P × OnSink {T = T} (Err e) P) (sym is) (told error)
+  where
+    told : (error : ReadError) → OnWriting {T = T} (Err (error_of_reading error)) P × OnSink {T = T} (Err (error_of_reading error)) P
+    told reading.Source = (tt, tt)
+    told reading.Memory = (tt, tt)
 
 -- a source of which nothing was taken
 pub Takes-none : (n : ℕ) (a : Option (List ℕ)) → TakesAtMost n a a
@@ -165,6 +219,34 @@ pub Grows-same : (a : Option (List ℕ)) → Grows a a
 Grows-same a = ([], Appends-nil a)
 
 -- known bytes that grew by the front of a report
-pub grown_of_cut : (ws : Bool) (trace : TraceData) (old new : Option (List ℕ)) → IsCutOff ws trace old new → Grows old new
-grown_of_cut ws trace old new (inl kept) = ([], Appends-kept old new kept)
-grown_of_cut ws trace old new (inr front) = (_, front.2.2)
+pub grown_of_cut : {K : Type 0} (U : Type 0) (taken : K → Option (List ℕ)) (ws : Bool) (trace : TraceData) (before after : K) (error : WriteError)
+    → OnFailedSink {T = U} (Err error) (CutsReport ws trace (taken before) (taken after)) → OnNoMemory {T = U} (Err error) ((after ≡ before) ⊎ CutsBlocks ws trace (taken before) (taken after))
+    → Grows (taken before) (taken after)
+grown_of_cut U taken ws trace before after writing.Sink cut refused = (_, cut.written)
+grown_of_cut U taken ws trace before after writing.Memory cut (inl same) = subst (λ s. Grows (taken before) (taken s)) (sym same) (Grows-same (taken before))
+grown_of_cut U taken ws trace before after writing.Memory cut (inr refused) = (_, refused.cut.written)
+
+-- the verdict on two texts that were read
+pub checked_of : (text report : List ℕ) (read : TraceData) (stop : Option LineFault) (events : List Event) (trace : TraceData) (verdict : Verdict)
+    → IsDisciplined events → events ≡ trace.events → IsAccepted read stop trace → IsReadingOf limits text read stop → IsVerdictFor trace report verdict → IsChecked text report verdict
+checked_of text report read stop events trace verdict disciplined same accepted reading is = record {
+  faultless = accepted.faultless text reading;
+  verdict_is = record {
+    trace = trace;
+    trace_is = subst (IsTraceOf (lines_of text)) (sym accepted.same) (accepted.whole text reading);
+    disciplined = subst IsDisciplined same disciplined;
+    verdict_is = is;
+  };
+}
+
+-- the verdict on a report that was read is that on its text
+pub verdict_on_text : (trace : TraceData) (n : ℕ) (known left : Option (List ℕ)) (report : ReportValue) (verdict : Verdict)
+    → ReadsText n known left (λ text. IsReportText most_bytes text report) → IsVerdict trace report verdict → ReadsText n known left (λ text. IsVerdictFor trace text verdict)
+verdict_on_text trace n known left report verdict read is = reads_then n known left _ (λ text. IsVerdictFor trace text verdict) read (λ text one. on_text text one verdict is)
+  where
+    on_text : (text : List ℕ) → IsReportText most_bytes text report → (verdict : Verdict) → IsVerdict trace report verdict → IsVerdictFor trace text verdict
+    on_text text one (Good races) is = record { report = report; report_is = one; verdict_is = is }
+    on_text text one (BadLine line) is = absurd is
+    on_text text one BadCounts is = record { report = report; report_is = one; verdict_is = is }
+    on_text text one (BadRace race why) is = record { report = report; report_is = one; verdict_is = is }
+    on_text text one BadPlaces is = record { report = report; report_is = one; verdict_is = is }

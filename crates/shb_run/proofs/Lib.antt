@@ -1,4 +1,5 @@
 pub mod OneReport
+pub mod OneVerdict
 pub mod OwnReport
 pub mod Streamed
 pub mod Blocks

@@ -3,7 +3,6 @@ use Rattle.std.proofs.Common.{◌≡◌, ℕ, Bool, List, sym, subst, ◌∙◌}
 use Rattle.shb_lines.specs.text.Text.{lines_of}
 use Rattle.shb_lines.specs.text.TraceData.{IsTraceOf, TraceData, tables_in}
 use Rattle.shb_discipline.proofs.Numbering.{one_trace}
-use Rattle.shb_lines.proofs.events.RaceList.{race_list_unique}
 use Rattle.shb_report.specs.Report.{IsReport, IsReportOf}
 use Rattle.shb_report.proofs.Blocks.{IsReport-unique}
 
@@ -18,4 +17,4 @@ one_whole_trace lines a b of_a of_b =
 pub one_report : (with_schedules : Bool) (text bytes others : List ℕ) → IsReportOf with_schedules text bytes → IsReportOf with_schedules text others → bytes ≡ others
 one_report with_schedules text bytes others a b =
     let same : a.trace ≡ b.trace = one_whole_trace (lines_of text) a.trace b.trace a.trace_is b.trace_is in
-    IsReport-unique with_schedules b.trace bytes others (race_list_unique b.trace.events) (subst (λ t. IsReport with_schedules t bytes) same a.report) b.report
+    IsReport-unique with_schedules b.trace bytes others (subst (λ t. IsReport with_schedules t bytes) same a.report) b.report

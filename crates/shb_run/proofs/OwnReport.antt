@@ -19,8 +19,8 @@ use Rattle.shb_report.proofs.Injective.{report_same}
 use Rattle.shb_report.proofs.VerdictLaws.{one_verdict}
 use Rattle.shb_report.proofs.WrittenGood.{written_good}
 use Rattle.shb_run.specs.declared.settings.Summary.{Summary}
-use Rattle.shb_run.specs.Checks.{AreWords, IsJudged, IsVerdictFor, IsVerdictOf, most_bytes}
-use Rattle.shb_run.specs.Runs.{IsReported, limits}
+use Rattle.shb_run.specs.Checks.{IsJudged, IsVerdictFor, IsVerdictOf, most_bytes}
+use Rattle.shb_run.specs.Runs.{AreWords, IsReported, limits}
 use Rattle.shb_run.proofs.OneReport.{one_whole_trace}
 
 -- the lines of the trace of a text that has no fault
@@ -34,7 +34,10 @@ showable_of text trace none is counts =
       line_texts = subst (AllByRecursion IsLineText) (sym held.1.lines_are) held.2;
     }
 
-module _ (text : List ℕ) (summary : Summary) (old new : Option (List ℕ)) (reported : IsReported true text summary old new) (words : AreWords summary) where
+module _ (text : List ℕ) (summary : Summary) (old new : Option (List ℕ)) (reported : IsReported true text summary old new) where
+  words : AreWords summary
+  words = reported.words
+
   abbrev trace : TraceData
   trace = reported.report.trace
 

@@ -1,8 +1,11 @@
 -- A report from its parts.
-use Rattle.std.proofs.Common.{◌≡◌, ℕ, ◌<◌, Bool, List, [], ◌∷◌, ◌++◌, length, map, get_or, All, Contains, Option, Result, refl, sym, ap, subst, ◌∙◌}
+use Rattle.std.proofs.Common.{◌≡◌, ℕ, ◌+◌, ◌<◌, Bool, List, [], ◌∷◌, ◌++◌, length, map, take, get_or, All, Contains, Option, Result, Ok, Err, refl, sym, ap, subst, ◌∙◌, arith, length-append}
+use Rattle.std.specs.Io.KnownBytes.{Appends}
+use Rattle.std.proofs.Math.Seq.{take-append-add}
 use Rattle.std.proofs.lemmas.List.{get_or-map, length-map}
 use Rattle.std.proofs.lemmas.List.Elements.{Contains-get_or, All-from_get_or}
-use Rattle.shb_io.specs.Devices.{Writes}
+use Rattle.shb_io.specs.Devices.{AppendsPrefix}
+use Rattle.shb_io.proofs.Growth.{Appends-trans}
 use Rattle.shb_lines.specs.declared.event.Event.{Event}
 use Rattle.shb_lines.specs.declared.event.Pair.{Pair}
 use Rattle.shb_lines.specs.events.Discipline.{IsDisciplined}
@@ -10,10 +13,11 @@ use Rattle.shb_lines.specs.events.Race.{IsRaceList, Race}
 use Rattle.shb_lines.specs.text.TraceData.{TraceData}
 use Rattle.shb_report.specs.declared.places.PlaceCount.{PlaceCount}
 use Rattle.shb_report.specs.Places.{IsPairOf, counts_in, places_of_pairs, section_bytes}
-use Rattle.shb_report.specs.Report.{AreBlocks, counts_of, front_bytes, head_bytes, pair_of, tail_bytes}
+use Rattle.shb_report.specs.Report.{AreBlocks, IsReport, counts_of, front_bytes, head_bytes, pair_of, tail_bytes}
 use Rattle.shb_run.specs.declared.errors.WriteError.{WriteError}
+use Rattle.shb_run.specs.declared.errors.WriteError.TheVariants.{Sink, Memory}
 use Rattle.shb_pairs.specs.Races.{ends}
-use Rattle.shb_run.specs.Written.{WritesReport}
+use Rattle.shb_run.specs.Written.{CutsBlocks, CutsReport, OnFailedSink, OnNoMemory, WritesReport}
 use Rattle.shb_run.proofs.Blocks.{AreBlocks-more, AreBlocks-nil}
 use Rattle.shb_run.proofs.Ranges.{first_in_range, second_in_range}
 
@@ -52,19 +56,50 @@ front_is trace races count places counted are =
     ap (λ n. head_bytes (counts_of trace) n ++ section_bytes trace places) (counted ∙ sym (length-map races ends))
     ∙ ap (λ p. head_bytes (counts_of trace) (length (map ends races)) ++ section_bytes trace p) (are ∙ ap (λ l. counts_in (places_of_pairs trace l)) (sym (pairs_back races)))
 
--- what was written, of the lines before the blocks, the blocks and the tail
-pub report_from : {T : Type 0} (ws : Bool) (trace : TraceData) (events : List Event) (races : List Pair) (blocks : List ℕ) (old new : Option (List ℕ)) (r : Result T WriteError)
-    → events ≡ trace.events → IsRaceList events (map ends races) → AreBlocks ws trace (map ends races) blocks
-    → Writes old new r (front_bytes trace (map ends races) ++ (blocks ++ tail_bytes)) → WritesReport ws trace (map ends races) old new r
-report_from ws trace events races blocks old new r same listed are written = record {
-  bytes = front_bytes trace (map ends races) ++ (blocks ++ tail_bytes);
-  report = record {
+-- the lines before the blocks, the blocks and the tail
+abbrev pub bytes_with : TraceData → List Pair → List ℕ → List ℕ
+bytes_with trace races blocks = front_bytes trace (map ends races) ++ (blocks ++ tail_bytes)
+
+module _ (ws : Bool) (trace : TraceData) (events : List Event) (races : List Pair) (blocks : List ℕ) (same : events ≡ trace.events) (listed : IsRaceList events (map ends races)) (are : AreBlocks ws trace (map ends races) blocks) where
+  abbrev report_of : IsReport ws trace (bytes_with trace races blocks)
+  report_of = record {
     races = map ends races;
     blocks = blocks;
     races_are = subst (λ e. IsRaceList e (map ends races)) same listed;
     blocks_are = are;
     bytes_are = refl;
-  };
-  races_are = refl;
-  written = written;
-}
+  }
+
+  pub report_written : (old new : Option (List ℕ)) → Appends old new (bytes_with trace races blocks) → WritesReport ws trace (map ends races) old new
+  report_written old new written = record { bytes = bytes_with trace races blocks; report = report_of; races_are = refl; written = written }
+
+  -- the front of them was written
+  pub report_cut : (old new : Option (List ℕ)) → AppendsPrefix old new (bytes_with trace races blocks) → CutsReport ws trace old new
+  report_cut old new front = record { bytes = bytes_with trace races blocks; report = report_of; count = front.0; some_missing = front.1; written = front.2 }
+
+  -- the lines before the blocks were written, and the front of what comes behind
+  pub blocks_cut : (old now new : Option (List ℕ)) → Appends old now (front_bytes trace (map ends races)) → AppendsPrefix now new (blocks ++ tail_bytes) → CutsBlocks ws trace old new
+  blocks_cut old now new before front =
+      let lines = front_bytes trace (map ends races) in
+      let behind = blocks ++ tail_bytes in
+      record {
+        cut = record {
+          bytes = bytes_with trace races blocks;
+          report = report_of;
+          count = length lines + front.0;
+          some_missing = omega (arith, length-append lines behind, front.1);
+          written = subst (Appends old new) (sym (take-append-add lines behind front.0)) (Appends-trans old now new lines (take front.0 behind) before front.2);
+        };
+        front = omega arith;
+      }
+
+-- what holds where the sink failed, and where memory was refused
+pub on_sink : {T : Type 0} (r : Result T WriteError) (P : Type 0) → P → OnFailedSink r P
+on_sink (Ok x) P p = tt
+on_sink (Err Sink) P p = p
+on_sink (Err Memory) P p = tt
+
+pub on_memory : {T : Type 0} (r : Result T WriteError) (P : Type 0) → P → OnNoMemory r P
+on_memory (Ok x) P p = tt
+on_memory (Err Sink) P p = tt
+on_memory (Err Memory) P p = p

@@ -1,25 +1,18 @@
 -- What a check says of the texts of a trace and of a report, and what it leaves in the sink.
-use Rattle.std.specs.Prelude.{◌≡◌, ℕ, ◌+◌, ◌⊎◌, List, Option, Result, Err}
-use Rattle.std.specs.Io.KnownBytes.{Keeps}
+use Rattle.std.specs.Prelude.{◌≡◌, ℕ, ◌+◌, ◌⊎◌, List, length, Option, Result, Err}
 use Rattle.shb_io.specs.Devices.{AppendsPrefix}
+use Rattle.shb_lines.specs.events.Discipline.{IsDisciplined}
 use Rattle.shb_lines.specs.text.Text.{lines_of}
 use Rattle.shb_lines.specs.text.TraceData.{IsTraceOf, TraceData}
+use Rattle.shb_discipline.specs.FirstFault.{HasNoFault}
 use Rattle.shb_report.specs.declared.verdict.Verdict.{Verdict}
 use Rattle.shb_report.specs.declared.verdict.Verdict.TheVariants.{BadLine}
 use Rattle.shb_report.specs.Reading.{IsBadLine, IsReportText}
-use Rattle.shb_report.specs.Value.{IsShown, ReportValue}
-use Rattle.shb_report.specs.Verdicts.{IsVerdict, verdict_bytes}
+use Rattle.shb_report.specs.Value.{ReportValue}
+use Rattle.shb_report.specs.Verdicts.{IsGoodReport, IsVerdict, verdict_bytes}
 use Rattle.shb_run.specs.declared.errors.RunError.{RunError}
 use Rattle.shb_run.specs.declared.errors.RunError.TheVariants.{Source}
-use Rattle.shb_run.specs.declared.settings.Summary.{Summary}
-
--- the numbers of a summary have 64 bits, as they have in each summary that a run gives
-pub record AreWords (summary : Summary) : Type 0 where
-  pub events : IsShown summary.events
-  pub threads : IsShown summary.threads
-  pub locks : IsShown summary.locks
-  pub variables : IsShown summary.variables
-  pub races : IsShown summary.races
+use Rattle.shb_run.specs.Runs.{limits}
 
 -- how many bytes a report may have
 abbrev pub most_bytes : ℕ
@@ -36,15 +29,32 @@ abbrev pub IsVerdictFor : TraceData → List ℕ → Verdict → Type 0
 IsVerdictFor trace text (BadLine line) = IsBadLine most_bytes text line
 IsVerdictFor trace text verdict = IsJudged trace text verdict
 
--- the verdict on the text of a report against the trace of all lines of a text
+-- the verdict on the text of a report against the trace of all lines of a text, which is disciplined
 pub record IsVerdictOf (text report : List ℕ) (verdict : Verdict) : Type 0 where
   pub trace : TraceData
   pub trace_is : IsTraceOf (lines_of text) trace
+  pub disciplined : IsDisciplined trace.events
   pub verdict_is : IsVerdictFor trace report verdict
 
--- nothing was written, or the front of the verdict's line, which lacks some bytes of it
-abbrev pub IsLineCutShort : List ℕ → List ℕ → Option (List ℕ) → Option (List ℕ) → Type 0
-IsLineCutShort text report old new = Keeps old new ⊎ ((verdict : Verdict) × IsVerdictOf text report verdict × AppendsPrefix old new (verdict_bytes verdict))
+-- a text is a report that is good for the trace of another, with so many races
+pub record IsGoodFor (text report : List ℕ) (races : ℕ) : Type 0 where
+  pub trace : TraceData
+  pub trace_is : IsTraceOf (lines_of text) trace
+  pub value : ReportValue
+  pub value_is : IsReportText most_bytes report value
+  pub good : IsGoodReport trace value
+  pub races_are : races ≡ length value.blocks
+
+-- the text of the trace has no fault, and this is the verdict of the two texts
+pub record IsChecked (text report : List ℕ) (verdict : Verdict) : Type 0 where
+  pub faultless : HasNoFault limits text
+  pub verdict_is : IsVerdictOf text report verdict
+
+-- of the verdict's line the first bytes were written, not all of them
+pub record IsLineCutShort (text report : List ℕ) (old new : Option (List ℕ)) : Type 0 where
+  pub verdict : Verdict
+  pub checked : IsChecked text report verdict
+  pub written : AppendsPrefix old new (verdict_bytes verdict)
 
 -- one of the two sources failed once where that is the answer, and else none
 abbrev pub CountsSources : {T : Type 0} → ℕ → ℕ → ℕ → ℕ → Result T RunError → Type 0

@@ -1,7 +1,6 @@
 -- What a run says of the text that it read, and what it leaves in the sink.
-use Rattle.std.specs.Prelude.{◌≡◌, ℕ, ◌+◌, ◌<◌, ◌⊎◌, Bool, List, length, Contains, Option, Result, Ok, Err, ⊤}
-use Rattle.std.specs.Io.KnownBytes.{Appends, Keeps}
-use Rattle.shb_io.specs.Devices.{AppendsPrefix}
+use Rattle.std.specs.Prelude.{◌≡◌, ℕ, ◌+◌, ◌<◌, Bool, List, length, Contains, Option, Result, Ok, Err, ⊤}
+use Rattle.std.specs.Io.KnownBytes.{Appends}
 use Rattle.shb_lines.specs.declared.event.Event.{Event}
 use Rattle.shb_lines.specs.declared.event.Fault.{Fault}
 use Rattle.shb_lines.specs.declared.event.Limits.{Limits}
@@ -14,6 +13,7 @@ use Rattle.shb_lines.specs.events.Race.{Conflict}
 use Rattle.shb_lines.specs.events.Schedule.{IsPrintedSchedule, IsSchedule}
 use Rattle.shb_discipline.specs.FirstFault.{HasFirstFault, HasNoFault}
 use Rattle.shb_report.specs.Report.{IsReportOf}
+use Rattle.shb_report.specs.Value.{IsShown}
 use Rattle.shb_run.specs.declared.errors.RunError.{RunError}
 use Rattle.shb_run.specs.declared.errors.RunError.TheVariants.{Trace, Source, Sink, Memory}
 use Rattle.shb_run.specs.declared.settings.Summary.{Summary}
@@ -29,6 +29,14 @@ pub record ListsSchedulable (events : List Event) (races : List (ℕ × ℕ)) : 
   pub unlisted : (i j : ℕ) → i < j → Conflict events i j → ¬ Contains races (i, j) → (s : List ℕ) → ¬ IsSchedule events s i j
   pub ordered : (i j : ℕ) → i < j → Conflict events i j → ¬ Contains races (i, j) → BelowPred events i j
 
+-- the numbers of a summary have 64 bits
+pub record AreWords (summary : Summary) : Type 0 where
+  pub events : IsShown summary.events
+  pub threads : IsShown summary.threads
+  pub locks : IsShown summary.locks
+  pub variables : IsShown summary.variables
+  pub races : IsShown summary.races
+
 -- the text has no fault, its report was written and nothing else, the trace of the report is disciplined, and the summary is that of the report
 pub record IsReported (with_schedules : Bool) (text : List ℕ) (summary : Summary) (old new : Option (List ℕ)) : Type 0 where
   pub faultless : HasNoFault limits text
@@ -37,11 +45,15 @@ pub record IsReported (with_schedules : Bool) (text : List ℕ) (summary : Summa
   pub disciplined : IsDisciplined report.trace.events
   pub written : Appends old new bytes
   pub summary_is : summary ≡ summary_of report.trace (length report.report.races)
+  pub words : AreWords summary
   pub schedulable : ListsSchedulable report.trace.events report.report.races
 
--- nothing was written, or the front of the report of the text, which lacks some bytes of it
-abbrev pub IsCutShort : Bool → List ℕ → Option (List ℕ) → Option (List ℕ) → Type 0
-IsCutShort with_schedules text old new = Keeps old new ⊎ ((bytes : List ℕ) × IsReportOf with_schedules text bytes × AppendsPrefix old new bytes)
+-- the text has no fault, and P holds of its trace
+pub record HasTrace (text : List ℕ) (P : TraceData → Type 0) : Type 0 where
+  pub faultless : HasNoFault limits text
+  pub trace : TraceData
+  pub trace_is : IsTraceOf (lines_of text) trace
+  pub holds : P trace
 
 -- for a refused trace, P of the line and its fault
 abbrev pub OnTrace : {T : Type 0} → Result T RunError → (ℕ → Fault → Type 0) → Type 0
@@ -54,22 +66,28 @@ OnNoTrace (Err (Trace line fault)) P = P
 OnNoTrace (Err Source) P = P
 OnNoTrace _ P = ⊤
 
--- for a run that ended while it worked on a trace
-abbrev pub OnBrokenOff : {T : Type 0} → Result T RunError → Type 0 → Type 0
-OnBrokenOff (Err Sink) P = P
-OnBrokenOff (Err Memory) P = P
-OnBrokenOff _ P = ⊤
+-- for a run whose sink failed
+abbrev pub OnSink : {T : Type 0} → Result T RunError → Type 0 → Type 0
+OnSink (Err Sink) P = P
+OnSink _ P = ⊤
 
 -- for a run to which memory was refused
 abbrev pub OnMemory : {T : Type 0} → Result T RunError → Type 0 → Type 0
 OnMemory (Err Memory) P = P
 OnMemory _ P = ⊤
 
--- for a run that judged all that it read
+-- for a run that read a trace and judged it: it was refused, or the report was written, or the sink failed
 abbrev pub OnJudged : {T : Type 0} → Result T RunError → Type 0 → Type 0
 OnJudged (Ok x) P = P
 OnJudged (Err (Trace line fault)) P = P
+OnJudged (Err Sink) P = P
 OnJudged _ P = ⊤
+
+-- for one that came to write
+abbrev pub OnWriting : {T : Type 0} → Result T RunError → Type 0 → Type 0
+OnWriting (Ok x) P = P
+OnWriting (Err Sink) P = P
+OnWriting _ P = ⊤
 
 -- known bytes have others behind them, or none
 abbrev pub Grows : Option (List ℕ) → Option (List ℕ) → Type 0

@@ -1,9 +1,8 @@
 -- What the writing of a report leaves in a sink.
-use Rattle.std.specs.Prelude.{◌≡◌, ℕ, ◌+◌, ◌⊎◌, Bool, List, length, take, Option, Result, Ok, Err, MatchResult}
-use Rattle.std.specs.Io.KnownBytes.{Appends, Keeps}
-use Rattle.shb_io.specs.Devices.{AppendsPrefix, Writes}
+use Rattle.std.specs.Prelude.{◌≡◌, ℕ, ◌+◌, ◌<◌, ◌≤◌, Bool, List, length, take, Option, Result, Ok, Err, MatchResult, ⊤}
+use Rattle.std.specs.Io.KnownBytes.{Appends}
 use Rattle.shb_lines.specs.text.TraceData.{TraceData}
-use Rattle.shb_report.specs.Report.{AreBlocks, IsReport}
+use Rattle.shb_report.specs.Report.{AreBlocks, IsReport, front_bytes}
 use Rattle.shb_run.specs.declared.errors.WriteError.{WriteError}
 use Rattle.shb_run.specs.declared.errors.WriteError.TheVariants.{Sink, Memory}
 use Rattle.shb_run.specs.declared.settings.Summary.{Summary}
@@ -13,6 +12,16 @@ abbrev pub IsSinkCounted : {T : Type 0} → ℕ → ℕ → Result T WriteError 
 IsSinkCounted old new (Ok x) = new ≡ old
 IsSinkCounted old new (Err Sink) = new ≡ old + 1
 IsSinkCounted old new (Err Memory) = new ≡ old
+
+-- for a writing in which the sink failed
+abbrev pub OnFailedSink : {T : Type 0} → Result T WriteError → Type 0 → Type 0
+OnFailedSink (Err Sink) P = P
+OnFailedSink _ P = ⊤
+
+-- for a writing to which memory was refused
+abbrev pub OnNoMemory : {T : Type 0} → Result T WriteError → Type 0 → Type 0
+OnNoMemory (Err Memory) P = P
+OnNoMemory _ P = ⊤
 
 -- known bytes grow by the first bytes of bs, perhaps by all of them
 abbrev pub AppendsFront : Option (List ℕ) → Option (List ℕ) → List ℕ → Type 0
@@ -24,12 +33,25 @@ pub record WritesBlocks {T : Type 0} (with_schedules : Bool) (trace : TraceData)
   pub blocks : AreBlocks with_schedules trace races bytes
   pub written : MatchResult r (λ _. Appends old new bytes) (λ _. AppendsFront old new bytes)
 
--- the report of a trace that has these races was written or, on an error, the front of it
-pub record WritesReport {T : Type 0} (with_schedules : Bool) (trace : TraceData) (races : List (ℕ × ℕ)) (old new : Option (List ℕ)) (r : Result T WriteError) : Type 0 where
+-- the report of a trace that has these races was written
+pub record WritesReport (with_schedules : Bool) (trace : TraceData) (races : List (ℕ × ℕ)) (old new : Option (List ℕ)) : Type 0 where
   pub bytes : List ℕ
   pub report : IsReport with_schedules trace bytes
   pub races_are : report.races ≡ races
-  pub written : Writes old new r bytes
+  pub written : Appends old new bytes
+
+-- of the report of a trace so many bytes were written, from its front on, and not all
+pub record CutsReport (with_schedules : Bool) (trace : TraceData) (old new : Option (List ℕ)) : Type 0 where
+  pub bytes : List ℕ
+  pub report : IsReport with_schedules trace bytes
+  pub count : ℕ
+  pub some_missing : count < length bytes
+  pub written : Appends old new (take count bytes)
+
+-- and all lines before its first block are among them
+pub record CutsBlocks (with_schedules : Bool) (trace : TraceData) (old new : Option (List ℕ)) : Type 0 where
+  pub cut : CutsReport with_schedules trace old new
+  pub front : length (front_bytes trace cut.report.races) ≤ cut.count
 
 -- what a run says of a trace with so many races
 abbrev pub summary_of : TraceData → ℕ → Summary
@@ -47,7 +69,3 @@ pub record ReportsTrace (with_schedules : Bool) (trace : TraceData) (summary : S
   pub report : IsReport with_schedules trace bytes
   pub written : Appends old new bytes
   pub summary_is : summary ≡ summary_of trace (length report.races)
-
--- nothing was written, or the front of the report of a trace, which lacks some bytes of it
-abbrev pub IsCutOff : Bool → TraceData → Option (List ℕ) → Option (List ℕ) → Type 0
-IsCutOff with_schedules trace old new = Keeps old new ⊎ ((bytes : List ℕ) × IsReport with_schedules trace bytes × AppendsPrefix old new bytes)

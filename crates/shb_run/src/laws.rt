@@ -1,13 +1,13 @@
 //! The laws of what runs write, over the definitions alone. Each function does nothing: its contract
 //! is the law.
-ghost use Rattle.std.specs.Prelude.{◌≡◌, ◌≤◌, ℕ, Bool, List, Option, length, true};
+ghost use Rattle.std.specs.Prelude.{◌≡◌, ◌≤◌, ◌↔◌, ℕ, Bool, List, Option, length, true};
 ghost use Rattle.shb_lines.specs.text.TraceData.{IsTraceOf, TraceData};
 ghost use Rattle.shb_report.specs.Report.{IsReportOf};
 ghost use Rattle.shb_report.specs.Value.{IsReportValue, ReportValue, report_text};
 ghost use Rattle.shb_report.specs.Verdicts.{IsVerdict};
 ghost use Rattle.shb_report.specs.declared.verdict.Verdict.{Verdict};
 ghost use Rattle.shb_report.specs.declared.verdict.Verdict.TheVariants.{Good};
-ghost use Rattle.shb_run.specs.Checks.{AreWords, IsVerdictOf, most_bytes};
+ghost use Rattle.shb_run.specs.Checks.{IsGoodFor, IsVerdictOf, most_bytes};
 ghost use Rattle.shb_run.specs.Runs.{IsReported};
 ghost use Rattle.shb_run.specs.declared.settings.Summary.{Summary};
 
@@ -27,8 +27,20 @@ pub fn trace_of_lines_is_unique()
 /// summary. `checked`: so no other verdict is that of these two texts, where the report isn't longer than
 /// the 1,073,741,824 bytes that a check reads; a longer one has a bad line there.
 pub fn own_report_is_good()
-    ensures value { (text : List ℕ) (summary : Summary) (old new : Option (List ℕ)) (reported : IsReported true text summary old new) → AreWords summary
+    ensures value { (text : List ℕ) (summary : Summary) (old new : Option (List ℕ)) (reported : IsReported true text summary old new)
         → (value : ReportValue) × IsReportValue value × (reported.bytes ≡ report_text value) × IsVerdict reported.report.trace value (Good summary.races) }
-    ensures checked { (text : List ℕ) (summary : Summary) (old new : Option (List ℕ)) (reported : IsReported true text summary old new) → AreWords summary
+    ensures checked { (text : List ℕ) (summary : Summary) (old new : Option (List ℕ)) (reported : IsReported true text summary old new)
         → (verdict : Verdict) → length reported.bytes ≤ most_bytes → IsVerdictOf text reported.bytes verdict → verdict ≡ Good summary.races }
+{}
+
+/// The texts of a trace and of a report have at most one verdict.
+pub fn verdict_of_texts_is_one()
+    ensures { (text report : List ℕ) (verdict other : Verdict) → IsVerdictOf text report verdict → IsVerdictOf text report other → verdict ≡ other }
+{}
+
+/// The verdict of two texts is `Good`, with so many races, exactly where the second is a report that is
+/// good for the trace of the first and has so many races.
+pub fn good_texts_are_called_good()
+    ensures { (text report : List ℕ) (verdict : Verdict) (races : ℕ) → IsVerdictOf text report verdict
+        → (verdict ≡ Good races) ↔ IsGoodFor text report races }
 {}

@@ -1,11 +1,10 @@
 //! The whole run: read, judge, find the races, write.
-ghost use Rattle.std.specs.Prelude.{◌≡◌, ◌-◌, ◌^◌, ◌<◌, ℕ, List, Some, IfErr, IfOk, IfSome, OnErr, drop};
-ghost use Rattle.std.specs.Io.KnownBytes.{Keeps};
+ghost use Rattle.std.specs.Prelude.{◌≡◌, ◌⊎◌, ◌+◌, ◌-◌, ◌^◌, ◌<◌, ◌≤◌, ℕ, List, Some, IfErr, IfOk, IfSome, drop};
 ghost use Rattle.shb_discipline.specs.FirstFault.{HasFirstFault};
 ghost use Rattle.shb_lines.specs.declared.event.Fault.{Fault};
-ghost use Rattle.shb_lines.specs.text.Taking.{TakesAtMost};
-ghost use Rattle.shb_run.specs.Runs.{CountsSink, CountsSource, Grows, IsAccepted, IsCutShort, IsRefusalOf, IsReported, OnBrokenOff, OnJudged, OnNoTrace, OnTrace, limits};
-ghost use Rattle.shb_run.specs.Written.{IsCutOff, IsSinkCounted, ReportsTrace, summary_of};
+ghost use Rattle.shb_lines.specs.text.Taking.{ReadsText, TakesAtMost};
+ghost use Rattle.shb_run.specs.Runs.{AreWords, CountsSink, CountsSource, Grows, HasTrace, IsAccepted, IsRefusalOf, IsReported, OnJudged, OnMemory, OnNoTrace, OnSink, OnTrace, limits};
+ghost use Rattle.shb_run.specs.Written.{CutsBlocks, CutsReport, IsSinkCounted, OnFailedSink, OnNoMemory, ReportsTrace, summary_of};
 
 use crate::errors::{RunError, WriteError};
 use crate::races::races_of;
@@ -39,7 +38,8 @@ pub(crate) fn judge<'a>(alloc: Global, parsed: &'a Parsed) -> Result<Disciplined
 
 /// What a run says of a trace that has so many races.
 fn summary_of(trace: &Trace, races: u64) -> Summary
-    ensures { result ≡ summary_of trace.now races }
+    ensures summary { result ≡ summary_of trace.now races }
+    ensures words { AreWords result }
 {
     Summary {
         events: u64::from(trace.len()),
@@ -73,7 +73,9 @@ fn report_by<
     requires of_trace { O.trace order.now ≡ trace.now.events.now }
     ensures report { IfOk result (λ summary. ReportsTrace settings.schedules trace.now.trace.now summary
         (K.taken sink.old) (K.taken sink.new)) }
-    ensures cut { OnErr result (IsCutOff settings.schedules trace.now.trace.now (K.taken sink.old) (K.taken sink.new)) }
+    ensures words { IfOk result AreWords }
+    ensures cut { OnFailedSink result (CutsReport settings.schedules trace.now.trace.now (K.taken sink.old) (K.taken sink.new)) }
+    ensures memory { OnNoMemory result ((sink.new ≡ sink.old) ⊎ CutsBlocks settings.schedules trace.now.trace.now (K.taken sink.old) (K.taken sink.new)) }
     ensures counted { IsSinkCounted (K.failure_count sink.old) (K.failure_count sink.new) result }
 {
     let ordered = Ordered {
@@ -99,7 +101,9 @@ fn report<R: Threads + Wait + Sync + RandomSource, K: Sink, P: Gate + Sync, W: G
     requires countable { K.failure_count sink.old < 2 ^ 64 - 1 }
     ensures report { IfOk result (λ summary. ReportsTrace settings.schedules trace.now.trace.now summary
         (K.taken sink.old) (K.taken sink.new)) }
-    ensures cut { OnErr result (IsCutOff settings.schedules trace.now.trace.now (K.taken sink.old) (K.taken sink.new)) }
+    ensures words { IfOk result AreWords }
+    ensures cut { OnFailedSink result (CutsReport settings.schedules trace.now.trace.now (K.taken sink.old) (K.taken sink.new)) }
+    ensures memory { OnNoMemory result ((sink.new ≡ sink.old) ⊎ CutsBlocks settings.schedules trace.now.trace.now (K.taken sink.old) (K.taken sink.new)) }
     ensures counted { IsSinkCounted (K.failure_count sink.old) (K.failure_count sink.new) result }
 {
     let links = links_of(alloc, &*trace)?;
@@ -127,9 +131,10 @@ fn report<R: Threads + Wait + Sync + RandomSource, K: Sink, P: Gate + Sync, W: G
 ///
 /// - [`RunError::Source`]: the source failed. Nothing was written.
 /// - [`RunError::Trace`]: the text has a fault, and this is the first. Nothing was written.
-/// - [`RunError::Sink`]: the sink failed. It took less than the report, the front of it.
-/// - [`RunError::Memory`]: memory was refused. The sink took less than the report, the front of it
-///   or nothing.
+/// - [`RunError::Sink`]: the sink failed. The text has no fault. The sink took less than the report, the
+///   front of it.
+/// - [`RunError::Memory`]: memory was refused. Nothing was written; or the text has no fault, and the sink
+///   took less than the report, all lines before the first block among it.
 ///
 /// What was read of the source stays read.
 pub fn run<S: Source, K: Sink, R: Threads + Wait + Sync + RandomSource>(
@@ -147,22 +152,34 @@ pub fn run<S: Source, K: Sink, R: Threads + Wait + Sync + RandomSource>(
     ensures reported { IfOk result (λ summary. IfSome (S.remaining source.old) (λ text.
         IsReported settings.schedules text summary (K.taken sink.old) (K.taken sink.new))) }
 
+    // The same, whether or not the source tells its bytes: of the text that was read.
+    ensures read { IfOk result (λ summary. ReadsText 1073741825 (S.remaining source.old) (S.remaining source.new) (λ text.
+        IsReported settings.schedules text summary (K.taken sink.old) (K.taken sink.new))) }
+
     // A refused trace has this fault first.
-    ensures refused { OnTrace result (λ line fault. IfSome (S.remaining source.old) (λ text.
+    ensures refused { OnTrace result (λ line fault. ReadsText 1073741825 (S.remaining source.old) (S.remaining source.new) (λ text.
         HasFirstFault limits text line fault)) }
 
-    // What is written where no report is. Where the text has a fault, that is nothing.
-    ensures unwritten { OnNoTrace result (Keeps (K.taken sink.old) (K.taken sink.new)) }
-    ensures cut { OnBrokenOff result (IfSome (S.remaining source.old) (λ text.
-        IsCutShort settings.schedules text (K.taken sink.old) (K.taken sink.new))) }
+    // What is written where no report is. Nothing, where the trace was refused or not read, and where
+    // the text has a fault.
+    ensures unwritten { OnNoTrace result (sink.new ≡ sink.old) }
     ensures silent { IfSome (S.remaining source.old) (λ text. (line : ℕ) (fault : Fault) →
-        HasFirstFault limits text line fault → Keeps (K.taken sink.old) (K.taken sink.new)) }
+        HasFirstFault limits text line fault → sink.new ≡ sink.old) }
 
-    // What the sink took before stays as it was, whether or not the source tells its bytes.
+    // Where the sink failed the text has no fault, and less than its report was written, the front of
+    // it. Where memory was refused it is the same, with all lines before the first block, or nothing.
+    ensures cut { OnSink result (ReadsText 1073741825 (S.remaining source.old) (S.remaining source.new) (λ text.
+        HasTrace text (λ trace. CutsReport settings.schedules trace (K.taken sink.old) (K.taken sink.new)))) }
+    ensures memory { OnMemory result ((sink.new ≡ sink.old) ⊎ ReadsText 1073741825 (S.remaining source.old) (S.remaining source.new) (λ text.
+        HasTrace text (λ trace. CutsBlocks settings.schedules trace (K.taken sink.old) (K.taken sink.new)))) }
+
+    // What the sink took before stays as it was.
     ensures grown { Grows (K.taken sink.old) (K.taken sink.new) }
 
-    // The source lost its first bytes, at most 1,073,741,825; exactly those where the text was judged.
+    // The source lost its first bytes, at most 1,073,741,825, and gave no more than those; it lost
+    // exactly those where the text was judged.
     ensures taken { TakesAtMost 1073741825 (S.remaining source.old) (S.remaining source.new) }
+    ensures given { S.given_count source.new ≤ S.given_count source.old + 1073741825 }
     ensures left { OnJudged result (IfSome (S.remaining source.old) (λ text.
         S.remaining source.new ≡ Some (drop 1073741825 text))) }
 
@@ -202,22 +219,34 @@ pub fn run_gated<
     ensures reported { IfOk result (λ summary. IfSome (S.remaining source.old) (λ text.
         IsReported settings.schedules text summary (K.taken sink.old) (K.taken sink.new))) }
 
+    // The same, whether or not the source tells its bytes: of the text that was read.
+    ensures read { IfOk result (λ summary. ReadsText 1073741825 (S.remaining source.old) (S.remaining source.new) (λ text.
+        IsReported settings.schedules text summary (K.taken sink.old) (K.taken sink.new))) }
+
     // A refused trace has this fault first.
-    ensures refused { OnTrace result (λ line fault. IfSome (S.remaining source.old) (λ text.
+    ensures refused { OnTrace result (λ line fault. ReadsText 1073741825 (S.remaining source.old) (S.remaining source.new) (λ text.
         HasFirstFault limits text line fault)) }
 
-    // What is written where no report is. Where the text has a fault, that is nothing.
-    ensures unwritten { OnNoTrace result (Keeps (K.taken sink.old) (K.taken sink.new)) }
-    ensures cut { OnBrokenOff result (IfSome (S.remaining source.old) (λ text.
-        IsCutShort settings.schedules text (K.taken sink.old) (K.taken sink.new))) }
+    // What is written where no report is. Nothing, where the trace was refused or not read, and where
+    // the text has a fault.
+    ensures unwritten { OnNoTrace result (sink.new ≡ sink.old) }
     ensures silent { IfSome (S.remaining source.old) (λ text. (line : ℕ) (fault : Fault) →
-        HasFirstFault limits text line fault → Keeps (K.taken sink.old) (K.taken sink.new)) }
+        HasFirstFault limits text line fault → sink.new ≡ sink.old) }
 
-    // What the sink took before stays as it was, whether or not the source tells its bytes.
+    // Where the sink failed the text has no fault, and less than its report was written, the front of
+    // it. Where memory was refused it is the same, with all lines before the first block, or nothing.
+    ensures cut { OnSink result (ReadsText 1073741825 (S.remaining source.old) (S.remaining source.new) (λ text.
+        HasTrace text (λ trace. CutsReport settings.schedules trace (K.taken sink.old) (K.taken sink.new)))) }
+    ensures memory { OnMemory result ((sink.new ≡ sink.old) ⊎ ReadsText 1073741825 (S.remaining source.old) (S.remaining source.new) (λ text.
+        HasTrace text (λ trace. CutsBlocks settings.schedules trace (K.taken sink.old) (K.taken sink.new)))) }
+
+    // What the sink took before stays as it was.
     ensures grown { Grows (K.taken sink.old) (K.taken sink.new) }
 
-    // The source lost its first bytes, at most 1,073,741,825; exactly those where the text was judged.
+    // The source lost its first bytes, at most 1,073,741,825, and gave no more than those; it lost
+    // exactly those where the text was judged.
     ensures taken { TakesAtMost 1073741825 (S.remaining source.old) (S.remaining source.new) }
+    ensures given { S.given_count source.new ≤ S.given_count source.old + 1073741825 }
     ensures left { OnJudged result (IfSome (S.remaining source.old) (λ text.
         S.remaining source.new ≡ Some (drop 1073741825 text))) }
 

@@ -1,12 +1,12 @@
 //! The check of a report: read the trace, judge it, read the report, judge it, write the verdict.
-ghost use Rattle.std.specs.Prelude.{◌≡◌, ◌-◌, ◌^◌, ◌<◌, ℕ, List, IfOk, IfSome};
-ghost use Rattle.std.specs.Io.KnownBytes.{Appends, Keeps};
-ghost use Rattle.shb_discipline.specs.FirstFault.{HasFirstFault, HasNoFault};
-ghost use Rattle.shb_lines.specs.text.Taking.{IsSourceCounted, TakesAtMost};
+ghost use Rattle.std.specs.Prelude.{◌≡◌, ◌+◌, ◌-◌, ◌^◌, ◌<◌, ◌≤◌, ℕ, List, Some, IfOk, IfSome, drop};
+ghost use Rattle.std.specs.Io.KnownBytes.{Appends};
+ghost use Rattle.shb_discipline.specs.FirstFault.{HasFirstFault};
+ghost use Rattle.shb_lines.specs.text.Taking.{IsSourceCounted, ReadsText, TakesAtMost};
 ghost use Rattle.shb_lines.specs.declared.event.Fault.{Fault};
 ghost use Rattle.shb_report.specs.Verdicts.{verdict_bytes};
-ghost use Rattle.shb_run.specs.Checks.{CountsSources, IsLineCutShort, IsVerdictFor, IsVerdictOf};
-ghost use Rattle.shb_run.specs.Runs.{CountsSink, Grows, OnBrokenOff, OnMemory, OnNoTrace, OnTrace, limits};
+ghost use Rattle.shb_run.specs.Checks.{CountsSources, IsChecked, IsLineCutShort, IsVerdictFor};
+ghost use Rattle.shb_run.specs.Runs.{CountsSink, Grows, OnJudged, OnMemory, OnNoTrace, OnSink, OnTrace, OnWriting, limits};
 
 use crate::errors::RunError;
 use crate::pipeline::judge;
@@ -26,9 +26,10 @@ fn verdict_of<S: Source, R: RandomSource>(
     source: &mut S,
 ) -> Result<Verdict, ReadError>
     requires countable { S.failure_count source.old < 2 ^ 64 - 1 }
-    ensures verdict { IfOk result (λ verdict. IfSome (S.remaining source.old) (λ text.
+    ensures verdict { IfOk result (λ verdict. ReadsText 1073741825 (S.remaining source.old) (S.remaining source.new) (λ text.
         IsVerdictFor trace.now.trace.now text verdict)) }
     ensures taken { TakesAtMost 1073741825 (S.remaining source.old) (S.remaining source.new) }
+    ensures given { S.given_count source.new ≤ S.given_count source.old + 1073741825 }
     ensures counted { IsSourceCounted (S.failure_count source.old) (S.failure_count source.new) result }
 {
     let report = match read_report(alloc, source) {
@@ -58,10 +59,12 @@ fn verdict_of<S: Source, R: RandomSource>(
 ///
 /// # Errors
 ///
-/// - [`RunError::Source`]: one of the two sources failed. Nothing was written.
+/// - [`RunError::Source`]: one of the two sources failed. Nothing was written. Where it was that of the
+///   trace, the report wasn't read.
 /// - [`RunError::Trace`]: the text of the trace has a fault, and this is the first. Nothing was written,
 ///   and the report wasn't read.
-/// - [`RunError::Sink`]: the sink failed. It took less than the line, the front of it.
+/// - [`RunError::Sink`]: the sink failed. The trace has no fault. The sink took less than the line, the
+///   front of it.
 /// - [`RunError::Memory`]: memory was refused. Nothing was written.
 ///
 /// What was read of the sources stays read.
@@ -76,36 +79,50 @@ pub fn check<S: Source, Q: Source, K: Sink, R: RandomSource>(
     requires report_countable { Q.failure_count report_source.old < 2 ^ 64 - 1 }
     requires sink_countable { K.failure_count sink.old < 2 ^ 64 - 1 }
 
-    // The trace has no fault, the verdict is that of the two texts, and its line was written.
-    ensures faultless { IfOk result (λ verdict. IfSome (S.remaining trace_source.old) (HasNoFault limits)) }
-    ensures verdict { IfOk result (λ verdict. IfSome (S.remaining trace_source.old) (λ text.
-        IfSome (Q.remaining report_source.old) (λ report. IsVerdictOf text report verdict))) }
+    // The trace has no fault, the verdict is that of the two texts that were read, and its line was written.
+    ensures verdict { IfOk result (λ verdict. ReadsText 1073741825 (S.remaining trace_source.old) (S.remaining trace_source.new) (λ text.
+        ReadsText 1073741825 (Q.remaining report_source.old) (Q.remaining report_source.new) (λ report.
+        IsChecked text report verdict))) }
     ensures line { IfOk result (λ verdict. Appends (K.taken sink.old) (K.taken sink.new) (verdict_bytes verdict)) }
 
     // A refused trace has this fault first.
-    ensures refused { OnTrace result (λ line fault. IfSome (S.remaining trace_source.old) (λ text.
+    ensures refused { OnTrace result (λ line fault. ReadsText 1073741825 (S.remaining trace_source.old) (S.remaining trace_source.new) (λ text.
         HasFirstFault limits text line fault)) }
 
-    // What is written where no verdict is. Where the trace has a fault, that is nothing.
-    ensures unwritten { OnNoTrace result (Keeps (K.taken sink.old) (K.taken sink.new)) }
-    ensures cut { OnBrokenOff result (IfSome (S.remaining trace_source.old) (λ text.
-        IfSome (Q.remaining report_source.old) (λ report.
-        IsLineCutShort text report (K.taken sink.old) (K.taken sink.new)))) }
+    // What is written where no verdict is. Nothing, where the trace was refused, where a source failed,
+    // where memory was refused, and where the trace has a fault.
+    ensures unwritten { OnNoTrace result (sink.new ≡ sink.old) }
+    ensures memory { OnMemory result (sink.new ≡ sink.old) }
     ensures silent { IfSome (S.remaining trace_source.old) (λ text. (line : ℕ) (fault : Fault) →
-        HasFirstFault limits text line fault → Keeps (K.taken sink.old) (K.taken sink.new)) }
-    ensures memory { OnMemory result (Keeps (K.taken sink.old) (K.taken sink.new)) }
+        HasFirstFault limits text line fault → sink.new ≡ sink.old) }
 
-    // What the sink took before stays as it was, whether or not the sources tell their bytes.
+    // Where the sink failed the trace has no fault, and less than the line of the verdict was written,
+    // the front of it.
+    ensures cut { OnSink result (ReadsText 1073741825 (S.remaining trace_source.old) (S.remaining trace_source.new) (λ text.
+        ReadsText 1073741825 (Q.remaining report_source.old) (Q.remaining report_source.new) (λ report.
+        IsLineCutShort text report (K.taken sink.old) (K.taken sink.new)))) }
+
+    // What the sink took before stays as it was.
     ensures grown { Grows (K.taken sink.old) (K.taken sink.new) }
 
-    // Where the trace has a fault the report isn't read, whatever is answered.
+    // Where the trace has a fault the report isn't read, whatever is answered; nor where the source of
+    // the trace failed.
     ensures unread { IfSome (S.remaining trace_source.old) (λ text. (line : ℕ) (fault : Fault) →
         HasFirstFault limits text line fault → report_source.new ≡ report_source.old) }
     ensures unread_after { OnTrace result (λ _ _. report_source.new ≡ report_source.old) }
+    ensures unread_failed { S.failure_count trace_source.new ≡ S.failure_count trace_source.old + 1 →
+        report_source.new ≡ report_source.old }
 
-    // Each source lost at most its first 1,073,741,825 bytes.
+    // Each source lost its first bytes, at most 1,073,741,825, and gave no more than those. It lost
+    // exactly those: of the trace where that was judged, of the report where a line was to be written.
     ensures trace_taken { TakesAtMost 1073741825 (S.remaining trace_source.old) (S.remaining trace_source.new) }
+    ensures trace_given { S.given_count trace_source.new ≤ S.given_count trace_source.old + 1073741825 }
+    ensures trace_left { OnJudged result (IfSome (S.remaining trace_source.old) (λ text.
+        S.remaining trace_source.new ≡ Some (drop 1073741825 text))) }
     ensures report_taken { TakesAtMost 1073741825 (Q.remaining report_source.old) (Q.remaining report_source.new) }
+    ensures report_given { Q.given_count report_source.new ≤ Q.given_count report_source.old + 1073741825 }
+    ensures report_left { OnWriting result (IfSome (Q.remaining report_source.old) (λ report.
+        Q.remaining report_source.new ≡ Some (drop 1073741825 report))) }
 
     // An error of a device comes with one failure more of that device, and no other answer does.
     ensures sources { CountsSources (S.failure_count trace_source.old) (S.failure_count trace_source.new)

@@ -6,4 +6,4 @@ pub returns-clause-report : goal.returns-clause-report
 returns-clause-report g c =
     let counted : c.len.result ≡ length c.deref.result.now = search rules in
     reports_of c.args.settings.schedules c.args.trace.now.trace.now c.deref.result.now c.len.result c.summary_of.result
-    (g.K.Sink.taken c.args.sink.now) (g.K.Sink.taken c.write_report.new.sink) _ c.summary_of.ensures counted c.in_ok-write_report.ensures.report
+    (g.K.Sink.taken c.args.sink.now) (g.K.Sink.taken c.write_report.new.sink) c.summary_of.ensures.summary counted c.in_ok-write_report.ensures.report

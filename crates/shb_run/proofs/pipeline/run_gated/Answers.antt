@@ -1,75 +1,145 @@
-use Rattle.std.proofs.Common.{IfSome}
-use Rattle.std.proofs.lemmas.Option.{IfSome_then}
+use Rattle.shb_lines.specs.text.Taking.{ReadsText}
 use Rattle.shb_lines.specs.text.TraceData.{IsReadingOf}
+use Rattle.shb_lines.proofs.text.TakingLemmas.{reads_left, reads_then, reads_told}
+use Rattle.shb_run.specs.declared.settings.Summary.{Summary}
 use Rattle.shb_run.specs.Runs.{limits}
-use Rattle.shb_run.proofs.Endings.{Grows-same, broken_off, cut_short_of, grown_of_cut, judged, not_judged, not_silent, reported_of}
+use Rattle.shb_run.proofs.Endings.{Grows-same, grown_of_cut, has_trace, judged, memory_of, none_found, not_judged, or_then, refusal_first, reported_of, sink_of}
 use Rattle.shb_run.proofs.pipeline.run_gated.Goals as goal
+
+pub returns-clause-reported : goal.returns-clause-reported
+returns-clause-reported g c =
+    let parsed = c.in_ok-parsed.parsed in
+    let known = g.S.Source.remaining c.args.source.now in
+    let left = g.S.Source.remaining c.parse.new.source in
+    let reading : ReadsText 1073741825 known left (λ text. IsReadingOf limits text parsed.trace parsed.stop) = rw c.standard.ensures at c.in_ok-parsed.ensures.reading in
+    let trace = c.in_ok-trace.trace in
+    reads_told 1073741825 known left _ (reads_then 1073741825 known left _ _ reading (λ text. reported_of c.args.settings.schedules text parsed.trace parsed.stop trace.events.now trace.trace.now _
+    (g.K.Sink.taken c.args.sink.now) (g.K.Sink.taken c.report.new.sink) trace.meets trace.of_trace c.in_ok-trace.ensures.accepted c.in_ok-report.ensures.report c.in_ok-report.ensures.words))
+
+pub returns-clause-read : goal.returns-clause-read
+returns-clause-read g c =
+    let parsed = c.in_ok-parsed.parsed in
+    let known = g.S.Source.remaining c.args.source.now in
+    let left = g.S.Source.remaining c.parse.new.source in
+    let reading : ReadsText 1073741825 known left (λ text. IsReadingOf limits text parsed.trace parsed.stop) = rw c.standard.ensures at c.in_ok-parsed.ensures.reading in
+    let trace = c.in_ok-trace.trace in
+    reads_then 1073741825 known left _ _ reading (λ text. reported_of c.args.settings.schedules text parsed.trace parsed.stop trace.events.now trace.trace.now _
+    (g.K.Sink.taken c.args.sink.now) (g.K.Sink.taken c.report.new.sink) trace.meets trace.of_trace c.in_ok-trace.ensures.accepted c.in_ok-report.ensures.report c.in_ok-report.ensures.words)
 
 pub returns-in_err-report-clause-cut : goal.returns-in_err-report-clause-cut
 returns-in_err-report-clause-cut g c =
     let parsed = c.in_ok-parsed.parsed in
     let known = g.S.Source.remaining c.args.source.now in
-    let reading : IfSome known (λ text. IsReadingOf limits text parsed.trace parsed.stop) = rw c.standard.ensures at c.in_ok-parsed.ensures.reading in
-    broken_off c.from_residual-in_err-report.result _
-    (IfSome_then known reading (λ text. cut_short_of c.args.settings.schedules text parsed.trace parsed.stop c.in_ok-trace.trace.trace.now
-    (g.K.Sink.taken c.args.sink.now) (g.K.Sink.taken c.report.new.sink) c.in_ok-trace.ensures.accepted c.in_err-report.ensures.cut))
+    let left = g.S.Source.remaining c.parse.new.source in
+    let reading : ReadsText 1073741825 known left (λ text. IsReadingOf limits text parsed.trace parsed.stop) = rw c.standard.ensures at c.in_ok-parsed.ensures.reading in
+    sink_of Summary _ c.from_residual-in_err-report.result _ _ c.from_residual-in_err-report.ensures.1 c.in_err-report.ensures.cut
+    (λ cut. reads_then 1073741825 known left _ _ reading (λ text. has_trace text parsed.trace parsed.stop c.in_ok-trace.trace.trace.now _ c.in_ok-trace.ensures.accepted cut))
+
+pub returns-in_err-report-clause-memory : goal.returns-in_err-report-clause-memory
+returns-in_err-report-clause-memory g c =
+    let parsed = c.in_ok-parsed.parsed in
+    let known = g.S.Source.remaining c.args.source.now in
+    let left = g.S.Source.remaining c.parse.new.source in
+    let reading : ReadsText 1073741825 known left (λ text. IsReadingOf limits text parsed.trace parsed.stop) = rw c.standard.ensures at c.in_ok-parsed.ensures.reading in
+    memory_of Summary _ c.from_residual-in_err-report.result _ _ c.from_residual-in_err-report.ensures.1 c.in_err-report.ensures.memory
+    (λ refused. or_then refused (λ cut. reads_then 1073741825 known left _ _ reading (λ text. has_trace text parsed.trace parsed.stop c.in_ok-trace.trace.trace.now _ c.in_ok-trace.ensures.accepted cut)))
 
 pub returns-in_err-report-clause-silent : goal.returns-in_err-report-clause-silent
 returns-in_err-report-clause-silent g c =
     let parsed = c.in_ok-parsed.parsed in
     let known = g.S.Source.remaining c.args.source.now in
-    let reading : IfSome known (λ text. IsReadingOf limits text parsed.trace parsed.stop) = rw c.standard.ensures at c.in_ok-parsed.ensures.reading in
-    not_silent parsed.trace parsed.stop c.in_ok-trace.trace.trace.now known (g.K.Sink.taken c.args.sink.now) (g.K.Sink.taken c.report.new.sink) c.in_ok-trace.ensures.accepted reading
-
-pub returns-clause-reported : goal.returns-clause-reported
-returns-clause-reported g c =
-    let parsed = c.in_ok-parsed.parsed in
-    let trace = c.in_ok-trace.trace in
-    let known = g.S.Source.remaining c.args.source.now in
-    let reading : IfSome known (λ text. IsReadingOf limits text parsed.trace parsed.stop) = rw c.standard.ensures at c.in_ok-parsed.ensures.reading in
-    IfSome_then known reading (λ text. reported_of c.args.settings.schedules text parsed.trace parsed.stop trace.events.now trace.trace.now _
-    (g.K.Sink.taken c.args.sink.now) (g.K.Sink.taken c.report.new.sink) trace.meets trace.of_trace c.in_ok-trace.ensures.accepted c.in_ok-report.ensures.report)
+    let left = g.S.Source.remaining c.parse.new.source in
+    let reading : ReadsText 1073741825 known left (λ text. IsReadingOf limits text parsed.trace parsed.stop) = rw c.standard.ensures at c.in_ok-parsed.ensures.reading in
+    none_found parsed.trace parsed.stop c.in_ok-trace.trace.trace.now known _ c.in_ok-trace.ensures.accepted (reads_told 1073741825 known left _ reading)
 
 pub returns-clause-silent : goal.returns-clause-silent
 returns-clause-silent g c =
     let parsed = c.in_ok-parsed.parsed in
     let known = g.S.Source.remaining c.args.source.now in
-    let reading : IfSome known (λ text. IsReadingOf limits text parsed.trace parsed.stop) = rw c.standard.ensures at c.in_ok-parsed.ensures.reading in
-    not_silent parsed.trace parsed.stop c.in_ok-trace.trace.trace.now known (g.K.Sink.taken c.args.sink.now) (g.K.Sink.taken c.report.new.sink) c.in_ok-trace.ensures.accepted reading
+    let left = g.S.Source.remaining c.parse.new.source in
+    let reading : ReadsText 1073741825 known left (λ text. IsReadingOf limits text parsed.trace parsed.stop) = rw c.standard.ensures at c.in_ok-parsed.ensures.reading in
+    none_found parsed.trace parsed.stop c.in_ok-trace.trace.trace.now known _ c.in_ok-trace.ensures.accepted (reads_told 1073741825 known left _ reading)
 
 pub returns-in_err-parsed-clause-taken : goal.returns-in_err-parsed-clause-taken
-returns-in_err-parsed-clause-taken g c = rw c.standard.ensures at c.in_err-parsed.ensures.taken
+returns-in_err-parsed-clause-taken g c =
+    rw c.standard.ensures at c.in_err-parsed.ensures.taken
+
+pub returns-in_err-parsed-clause-given : goal.returns-in_err-parsed-clause-given
+returns-in_err-parsed-clause-given g c =
+    rw c.standard.ensures at c.in_err-parsed.ensures.given
 
 pub returns-in_err-trace-clause-taken : goal.returns-in_err-trace-clause-taken
-returns-in_err-trace-clause-taken g c = rw c.standard.ensures at c.in_ok-parsed.ensures.taken
+returns-in_err-trace-clause-taken g c =
+    rw c.standard.ensures at c.in_ok-parsed.ensures.taken
+
+pub returns-in_err-trace-clause-given : goal.returns-in_err-trace-clause-given
+returns-in_err-trace-clause-given g c =
+    rw c.standard.ensures at c.in_ok-parsed.ensures.given
 
 pub returns-in_err-report-clause-taken : goal.returns-in_err-report-clause-taken
-returns-in_err-report-clause-taken g c = rw c.standard.ensures at c.in_ok-parsed.ensures.taken
+returns-in_err-report-clause-taken g c =
+    rw c.standard.ensures at c.in_ok-parsed.ensures.taken
+
+pub returns-in_err-report-clause-given : goal.returns-in_err-report-clause-given
+returns-in_err-report-clause-given g c =
+    rw c.standard.ensures at c.in_ok-parsed.ensures.given
 
 pub returns-clause-taken : goal.returns-clause-taken
-returns-clause-taken g c = rw c.standard.ensures at c.in_ok-parsed.ensures.taken
+returns-clause-taken g c =
+    rw c.standard.ensures at c.in_ok-parsed.ensures.taken
+
+pub returns-clause-given : goal.returns-clause-given
+returns-clause-given g c =
+    rw c.standard.ensures at c.in_ok-parsed.ensures.given
 
 pub returns-in_err-parsed-clause-left : goal.returns-in_err-parsed-clause-left
-returns-in_err-parsed-clause-left g c = not_judged _ c.from_residual.result _ c.from_residual.ensures.1
+returns-in_err-parsed-clause-left g c =
+    not_judged _ c.from_residual.result _ c.from_residual.ensures.1
 
 pub returns-in_err-trace-clause-left : goal.returns-in_err-trace-clause-left
-returns-in_err-trace-clause-left g c = judged _ _ (rw c.standard.ensures at c.in_ok-parsed.ensures.left)
+returns-in_err-trace-clause-left g c =
+    let parsed = c.in_ok-parsed.parsed in
+    let known = g.S.Source.remaining c.args.source.now in
+    let left = g.S.Source.remaining c.parse.new.source in
+    let reading : ReadsText 1073741825 known left (λ text. IsReadingOf limits text parsed.trace parsed.stop) = rw c.standard.ensures at c.in_ok-parsed.ensures.reading in
+    judged _ _ (reads_left 1073741825 known left _ reading)
 
 pub returns-in_err-report-clause-left : goal.returns-in_err-report-clause-left
-returns-in_err-report-clause-left g c = judged _ _ (rw c.standard.ensures at c.in_ok-parsed.ensures.left)
+returns-in_err-report-clause-left g c =
+    let parsed = c.in_ok-parsed.parsed in
+    let known = g.S.Source.remaining c.args.source.now in
+    let left = g.S.Source.remaining c.parse.new.source in
+    let reading : ReadsText 1073741825 known left (λ text. IsReadingOf limits text parsed.trace parsed.stop) = rw c.standard.ensures at c.in_ok-parsed.ensures.reading in
+    judged _ _ (reads_left 1073741825 known left _ reading)
 
 pub returns-clause-left : goal.returns-clause-left
-returns-clause-left g c = rw c.standard.ensures at c.in_ok-parsed.ensures.left
-
-pub returns-in_err-parsed-clause-grown : goal.returns-in_err-parsed-clause-grown
-returns-in_err-parsed-clause-grown g c = Grows-same _
-
-pub returns-in_err-trace-clause-grown : goal.returns-in_err-trace-clause-grown
-returns-in_err-trace-clause-grown g c = Grows-same _
+returns-clause-left g c =
+    let parsed = c.in_ok-parsed.parsed in
+    let known = g.S.Source.remaining c.args.source.now in
+    let left = g.S.Source.remaining c.parse.new.source in
+    let reading : ReadsText 1073741825 known left (λ text. IsReadingOf limits text parsed.trace parsed.stop) = rw c.standard.ensures at c.in_ok-parsed.ensures.reading in
+    reads_left 1073741825 known left _ reading
 
 pub returns-in_err-report-clause-grown : goal.returns-in_err-report-clause-grown
 returns-in_err-report-clause-grown g c =
-    grown_of_cut c.args.settings.schedules c.in_ok-trace.trace.trace.now (g.K.Sink.taken c.args.sink.now) (g.K.Sink.taken c.report.new.sink) c.in_err-report.ensures.cut
+    grown_of_cut Summary g.K.Sink.taken c.args.settings.schedules c.in_ok-trace.trace.trace.now c.args.sink.now c.report.new.sink _ c.in_err-report.ensures.cut c.in_err-report.ensures.memory
+
+pub returns-in_err-parsed-clause-grown : goal.returns-in_err-parsed-clause-grown
+returns-in_err-parsed-clause-grown g c =
+    Grows-same _
+
+pub returns-in_err-trace-clause-grown : goal.returns-in_err-trace-clause-grown
+returns-in_err-trace-clause-grown g c =
+    Grows-same _
 
 pub returns-clause-grown : goal.returns-clause-grown
-returns-clause-grown g c = (_, c.in_ok-report.ensures.report.written)
+returns-clause-grown g c =
+    (_, c.in_ok-report.ensures.report.written)
+
+pub returns-in_err-trace-clause-refused : goal.returns-in_err-trace-clause-refused
+returns-in_err-trace-clause-refused g c =
+    let parsed = c.in_ok-parsed.parsed in
+    let known = g.S.Source.remaining c.args.source.now in
+    let left = g.S.Source.remaining c.parse.new.source in
+    let reading : ReadsText 1073741825 known left (λ text. IsReadingOf limits text parsed.trace parsed.stop) = rw c.standard.ensures at c.in_ok-parsed.ensures.reading in
+    refusal_first parsed.trace parsed.stop 1073741825 known left _ c.from_residual-in_err-trace.result c.from_residual-in_err-trace.ensures.1 reading c.in_err-trace.ensures.refused

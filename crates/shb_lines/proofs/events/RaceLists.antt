@@ -1,9 +1,16 @@
 -- A trace has one race list.
 use Rattle.std.proofs.Common.{◌≡◌, ◌≢◌, ℕ, zero, suc, ◌<◌, ◌⊎◌, inl, inr, List, Option, None, Some, ap, arith, subst}
-use Rattle.std.proofs.lemmas.Bool.{cases_eq, cases_lt, cases_order}
+use Rattle.std.proofs.lemmas.Bool.{cases_lt, cases_order}
 use Rattle.shb_lines.specs.declared.event.Event.{Event}
 use Rattle.shb_lines.specs.events.Race.{variable_at, Race, FirstAccess, KeyBefore, RaceBefore, IsRaceList}
 use Rattle.shb_lines.proofs.events.Increasing.{same_in_order}
+
+is_or_not : (v : Option ℕ) (x : ℕ) → (v ≡ Some x) ⊎ (v ≢ Some x)
+is_or_not None x = inr (λ h. (let f : ⊥ = cc in f))
+is_or_not (Some y) x = elim (cases_order y x) [
+  | inl same ↦ inl (ap Some same)
+  | inr other ↦ inr (λ h. let same : y ≡ x = cc in elim other [ inl lt ↦ omega (arith, same, lt) | inr gt ↦ omega (arith, same, gt) ])
+]
 
 -- first accesses
 pub first_unique : (trace : List Event) (x f g : ℕ) → FirstAccess trace x f → FirstAccess trace x g → f ≡ g
@@ -12,20 +19,16 @@ first_unique trace x f g hf hg = elim (cases_order f g) [
   | inr h ↦ elim h [ inl lt ↦ absurd (hg.first f lt hf.accesses) | inr gt ↦ absurd (hf.first g gt hg.accesses) ]
 ]
 
-accesses_or_not : (o : Option ℕ) (x : ℕ) → (o ≡ Some x) ⊎ (o ≢ Some x)
-accesses_or_not None x = inr (λ h. (let f : ⊥ = cc in f))
-accesses_or_not (Some y) x = elim (cases_eq y x) [ inl same ↦ inl (ap (λ z. Some z) same) | inr ne ↦ inr (λ h. ne (let same : y ≡ x = cc in same)) ]
-
 first_below : (trace : List Event) (x n : ℕ) → ((f : ℕ) × FirstAccess trace x f) ⊎ ((k : ℕ) → k < n → variable_at trace k ≢ Some x)
 first_below trace x zero = inr (λ k lt h. omega arith)
-first_below trace x (suc n) = go (first_below trace x n) (accesses_or_not (variable_at trace n) x)
+first_below trace x (suc n) = go (first_below trace x n) (is_or_not (variable_at trace n) x)
   where
     go : ((f : ℕ) × FirstAccess trace x f) ⊎ ((k : ℕ) → k < n → variable_at trace k ≢ Some x) → (variable_at trace n ≡ Some x) ⊎ (variable_at trace n ≢ Some x) → ((f : ℕ) × FirstAccess trace x f) ⊎ ((k : ℕ) → k < suc n → variable_at trace k ≢ Some x)
     go (inl found) here = inl found
-    go (inr none) (inl here) = inl (n, record { accesses = here; first = none })
-    go (inr none) (inr other) = inr (λ k lt h. elim (cases_lt k n) [ inl below ↦ none k below h | inr at ↦ (let e : k ≡ n = omega arith in other (subst (λ (m : ℕ). variable_at trace m ≡ Some x) e h)) ])
+    go (inr none) (inl is_it) = inl (n, record { accesses = is_it; first = none })
+    go (inr none) (inr not_it) = inr (λ k lt h. elim (cases_lt k n) [ inl below ↦ none k below h | inr at ↦ not_it (let e : k ≡ n = omega arith in subst (λ (m : ℕ). variable_at trace m ≡ Some x) e h) ])
 
-pub first_exists : (trace : List Event) (x k : ℕ) → variable_at trace k ≡ Some x → (f : ℕ) × FirstAccess trace x f
+first_exists : (trace : List Event) (x k : ℕ) → variable_at trace k ≡ Some x → (f : ℕ) × FirstAccess trace x f
 first_exists trace x k h = elim (first_below trace x (suc k)) [ inl found ↦ found | inr none ↦ absurd (none k (omega arith) h) ]
 
 -- the order of races is strict
