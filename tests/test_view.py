@@ -248,7 +248,8 @@ class Definitions(program.Case):
 
     def test_limits(self):
         long_line, threads = b"T|w(" + b"x" * 4092 + b")", b"".join(b"T%d|w(x)\n" % k for k in range(1025))
-        for text, said in ((long_line, "line 1: the line is longer than 4096 bytes"), (long_line[1:], "line 1: the thread name is empty"),
+        for text, said in ((long_line, "line 1: the line is longer than 4096 bytes"),
+                           (long_line[1:], "line 1: the thread name is empty"),
                            (b"\n" + long_line, "line 2: the line is longer than 4096 bytes"),
                            (threads, "line 1025: there are more than 1024 threads")):
             self.assertEqual(self.fault_here(text), said)
@@ -340,7 +341,7 @@ class Reports(program.Case):
         self.assertEqual([(place.races, place.accesses) for place in read(trace, report)[1]], [(1, (1, 2)), (1, (3, 4))])
 
     def test_changed_reports(self):
-        """A good report is shown, and one whose form, counts or places are wrong is refused; the schedules are `check`'s to judge."""
+        """A good report is shown, and one whose form, counts or places are wrong is refused; `check` judges schedules."""
         shown = refused = 0
         for pick, text, _ in made(MADE):
             good = shb.report(text, True, pick.choice([1, 2]))
@@ -376,19 +377,23 @@ class Reports(program.Case):
             else:
                 self.assertEqual((status, out, err), (1, "", f"shb-view: {said}\n"))
 
-    def test_wrong_pairs_and_schedules(self):
+    def test_wrong_lines(self):
         trace = b"A|r(a)|1\nB|r(b)|2\nA|w(x)|3\nB|w(x)|4\n"
         report = shb.report(trace, True)
+        no_events = "race 1 of the report: %s aren't two events of the trace, the earlier first"
+        no_list = "line 11 of the report isn't a schedule of 2 events; it should be `schedule N: N EVENTS`"
         for old, new, said in (
-            (b"race 1: 3 4", b"race 1: 3 5", "race 1 of the report: 3 and 5 aren't two events of the trace, the earlier first"),
-            (b"race 1: 3 4", b"race 1: 4 3", "race 1 of the report: 4 and 3 aren't two events of the trace, the earlier first"),
+            (b"race 1: 3 4", b"race 1: 3 5", no_events % "3 and 5"),
+            (b"race 1: 3 4", b"race 1: 4 3", no_events % "4 and 3"),
+            (b"race 1: 3 4", b"race 1: 0 3", no_events % "0 and 3"),
+            (b"race 1: 3 4", b"race 1: 1 3", "race 1 of the report: the events 1 and 3 of the trace don't conflict"),
             (b"race 1: 3 4", b"race 1: 1 2", "race 1 of the report: the events 1 and 2 of the trace don't conflict"),
             (b"race 1: 3 4", b"race 2: 3 4", "line 8 of the report has the number 2; it should be `race 1: I J`"),
             (b"schedule 2: 1 2", b"schedule 1: 1", "race 1 of the report: its schedule lacks event 2, which comes before an access"),
-            (b"schedule 2: 1 2", b"schedule 2: 1", "line 11 of the report isn't a schedule of 2 events; it should be `schedule N: N EVENTS`"),
-            (b"schedule 2: 1 2", b"schedule 2: 1 02", "line 11 of the report isn't a schedule of 2 events; it should be `schedule N: N EVENTS`"),
-            (b"schedule 2: 1 2", b"schedule 2:1 2 ", "line 11 of the report isn't a schedule of 2 events; it should be `schedule N: N EVENTS`"),
-            (b"schedule 2: 1 2", b"schedule 2: 1  ", "line 11 of the report isn't a schedule of 2 events; it should be `schedule N: N EVENTS`"),
+            (b"schedule 2: 1 2", b"schedule 2: 1", no_list),
+            (b"schedule 2: 1 2", b"schedule 2: 1 02", no_list),
+            (b"schedule 2: 1 2", b"schedule 2:1 2 ", no_list),
+            (b"schedule 2: 1 2", b"schedule 2: 1  ", no_list),
             (b"at 3", b"at 4", "the places that the report begins with aren't those of its races"),
             (b"end\n", b"end", "line 12 of the report is cut off: `end`; it should be `end`"),
             (b"end\n", b"", "line 12 of the report is missing; it should be `end`"),
@@ -511,9 +516,11 @@ class Check(program.Case):
 
 class Names(program.Case):
     def test_shown(self):
-        for name, said in ((b"plain", "plain"), (b"\xff\x00a", r"\xff\x00a"), ("größe".encode(), "größe"), (b"\x1b[2J\t", r"\x1b[2J\t"),
+        for name, said in ((b"plain", "plain"), (b"\xff\x00a", r"\xff\x00a"), ("größe".encode(), "größe"),
+                           (b"\x1b[2J\t", r"\x1b[2J\t"),
                            ("a\u202eb".encode(), r"a\u202eb"), ("e\u0301".encode(), "e\u0301"), ("\u0301e".encode(), r"\u0301e"),
-                           (b"\xed\xa0\x80", r"\xed\xa0\x80"), ("e".encode() + "\u0301".encode() * 5, "e" + "\u0301" * 3 + r"\u0301\u0301")):
+                           (b"\xed\xa0\x80", r"\xed\xa0\x80"),
+                           ("e".encode() + "\u0301".encode() * 5, "e" + "\u0301" * 3 + r"\u0301\u0301")):
             self.assertEqual(names.shown(name), said)
 
     def test_short(self):

@@ -76,7 +76,7 @@ class Drawing:
         taken, slots = {}, []
         for group, top, bottom in spans:
             slot = 0
-            while any(top < other_bottom + STEP and other_top < bottom + STEP for other_top, other_bottom in taken.get((group, slot), [])):
+            while any(top < end + STEP and start < bottom + STEP for start, end in taken.get((group, slot), [])):
                 slot += 1
             taken.setdefault((group, slot), []).append((top, bottom))
             slots.append(slot)
@@ -126,7 +126,7 @@ def picture(trace, place, anchor):
 
 
 def lane_parts(drawing, anchor):
-    """A thread's name, and its line: broken where events are left out."""
+    """A thread's name, and its line: dashed where events are left out."""
     trace = drawing.trace
     for thread, lane in drawing.lanes.items():
         events, x = drawing.events_of(thread), drawing.x[lane]
@@ -168,8 +168,8 @@ def event_parts(drawing, anchor):
     for event in drawing.place.shown:
         x, y = drawing.x[drawing.lane(event)], drawing.y[event]
         yield f'<line class="guide" x1="{x + 7}" y1="{y}" x2="{drawing.texts - 6}" y2="{y}"/>'
-        yield f'<g class="event">{tip(drawing.trace, event)}<circle class="lane{min(drawing.lane(event), 2)}" cx="{x}" cy="{y}" r="4"/>'
-        yield f'{event_text(drawing, event, y, anchor)}</g>'
+        yield f'<g class="event">{tip(drawing.trace, event)}'
+        yield f'<circle class="lane{min(drawing.lane(event), 2)}" cx="{x}" cy="{y}" r="4"/>{event_text(drawing, event, y, anchor)}</g>'
 
 
 def access_parts(drawing, anchor):

@@ -44,10 +44,8 @@ def summary(view):
 
 
 def note(view):
-    """What the reader has to know of the report's schedules."""
-    if view.has_schedules:
-        return ""
-    return "The report has no schedules: events are shown in the order of the trace."
+    """What the reader has to know of a report without schedules."""
+    return "" if view.has_schedules else "The report has no schedules: events are shown in the order of the trace."
 
 
 def text_lines(view, ink):
@@ -56,7 +54,7 @@ def text_lines(view, ink):
     yield f"{ink.bold(f'{view.title}: {races}')} ({size})"
     if view.verdict:
         yield f"shb check: {view.verdict}"
-    if view.places and not view.has_schedules:
+    if note(view):
         yield note(view)
     for number, place in enumerate(view.places, 1):
         yield ""
