@@ -76,7 +76,8 @@ class Pages(program.Case):
     def test_facts_of_an_example(self):
         page = self.page(*self.example("fork-join"))
         self.assertEqual([text for _, text in page.all("dd")],
-                         ["worker.c:3 event 4", "no lock", "main at start.c:5 event 2", "start.c:6 event 5", "no lock", "no event of the trace"])
+                         ["worker.c:3 event 4", "no lock", "main at start.c:5 event 2",
+                          "start.c:6 event 5", "no lock", "no event of the trace"])
         self.assertEqual([text for _, text in page.all("td")][5:], [
             "1", "1", "main|w(config)|start.c:4", "2", "2", "main|fork(worker)|start.c:5", "3", "3", "worker|r(config)|worker.c:2",
             "4", "4", "worker|w(count)|worker.c:3", "5", "5", "main|w(count)|start.c:6"])
@@ -94,8 +95,8 @@ class Pages(program.Case):
         links = [attributes["href"] for _, attributes, _ in page.elements if "href" in attributes]
         self.assertGreater(len(links), 10)
         self.assertLessEqual(set(links), {"#" + name for name in ids})
-        wanted = {"class", "id", "href", "lang", "charset", "name", "content", "scope", "http-equiv", "role", "aria-label", "aria-hidden"}
-        shapes = {"width", "height", "viewbox", "x", "y", "x1", "x2", "y1", "y2", "cx", "cy", "r", "rx", "d", "refx", "refy",
+        wanted = {"class", "id", "href", "lang", "charset", "name", "content", "scope", "http-equiv"}
+        shapes = {"role", "aria-label", "aria-hidden", "width", "height", "viewbox", "x", "y", "x1", "x2", "y1", "y2", "cx", "cy", "r", "rx", "d", "refx", "refy",
                   "markerwidth", "markerheight", "orient", "marker-end"}
         self.assertLessEqual({name for _, attributes, _ in page.elements for name in attributes}, wanted | shapes)
         [(_, style)], [(_, script)] = page.all("style"), page.all("script")
@@ -200,7 +201,8 @@ class Pictures(program.Case):
         for trace, place, page in self.pictures:
             at = self.positions(page)
             lanes = sorted({x for x, _ in at.values()})
-            drawn = [([float(attributes[name]) for name in ("x", "y", "height")], text) for attributes, text in page.all("rect", "lock")]
+            drawn = [([float(attributes[name]) for name in ("x", "y", "height")], text)
+                     for attributes, text in page.all("rect", "lock")]
             for event, (x, y) in at.items():
                 here = [lock for (left, top, height), lock in drawn
                         if top < y <= top + height and min(lane for lane in lanes if lane > left) == x]
@@ -208,6 +210,15 @@ class Pictures(program.Case):
                 self.assertEqual(sorted(here), sorted(held))
             bars += len(drawn)
         self.assertGreater(bars, 50)
+
+    def test_bars_begin_and_end_by_hand(self):
+        """The consumer's ends at its release, event 8; the producer's begins at its acquire, event 10, and goes on."""
+        trace, places = read(*((EXAMPLES / f"unlocked-read.{end}").read_bytes() for end in ("std", "report")))
+        page = Page(picture.picture(trace, places[0], "e"))
+        at = self.positions(page)
+        consumer, producer = sorted((float(bar["y"]), float(bar["y"]) + float(bar["height"])) for bar, _ in page.all("rect", "lock"))
+        self.assertEqual((consumer[1], producer[0]), (at[8][1], at[10][1]))
+        self.assertGreater(producer[1], at[12][1])
 
     def test_no_line_crosses_a_text(self):
         lines = 0
