@@ -103,6 +103,16 @@ class Pages(program.Case):
         for text in (style, script):
             self.assertNotRegex(text, r"url\(|@import|https?:|fetch|XMLHttp|innerHTML")
 
+    def test_every_number_leads_to_its_line(self):
+        """Also those of locks that the picture leaves out."""
+        trace = b"".join(b"A|acq(%d)\n" % k for k in range(9)) + b"A|w(x)\nB|w(x)\n"
+        page = self.page(trace, shb.report(trace, True))
+        lines = {attributes["id"]: text for attributes, text in page.all("tr") if "id" in attributes}
+        links = [(attributes["href"][1:], text) for attributes, text in page.all("a") if attributes["href"].startswith("#p1e")]
+        self.assertEqual({int(text.split()[-1]) for _, text in links}, set(range(1, 12)))
+        for name, text in links:
+            self.assertTrue(lines[name].startswith(text.split()[-1]))
+
     def test_the_browser_may_run_its_own_style_and_script_alone(self):
         page = self.page(*self.example("places"))
         metas = [attributes for attributes, _ in page.all("meta")]
