@@ -355,6 +355,35 @@ class Reports(program.Case):
                     places = read(text, shb.report(text, schedules, version))[1]
                     self.assertEqual([(place.locations, place.races) for place in places], wanted)
 
+    def test_every_schedule_that_is_accepted(self):
+        """Schedules in other orders and with further events, as other tools may write them."""
+        pick, found = random.Random(5), 0
+        for _, text, events in made(MADE):
+            lines = shb.read_trace(text)[1]
+            head = b"shb-report 1\nevents %d threads %d locks %d variables %d\nraces 1\n" % shb.counts_of(events)
+            for i, j, printed in shb.races_and_schedules(events):
+                schedule = self.other_schedule(pick, events, (i, j))
+                if schedule is None or schedule == printed:
+                    continue
+                block = b"race 1: %d %d\nfirst %b\nsecond %b\nschedule %d:" % (i + 1, j + 1, lines[i], lines[j], len(schedule))
+                report = head + block + b"".join(b" %d" % (e + 1) for e in schedule) + b"\nend\n"
+                self.assertEqual(judge.verdict(text, report), b"ok 1\n")
+                [place] = read(text, report)[1]
+                self.assertEqual(place.shown, [e + 1 for e in schedule if e + 1 in place.shown])
+                found += 1
+        self.assertGreater(found, 50)
+
+    def other_schedule(self, pick, events, pair):
+        """A schedule of the pair, made event by event; None where that came to an end."""
+        schedule = []
+        while not all(judge.comes_next(events, schedule, e) for e in pair):
+            free = [e for e in range(len(events)) if e not in pair and judge.may_run(events, schedule, e)]
+            free = [e for e in free if all(events[e][0] != events[access][0] or e < access for access in pair)]
+            if not free:
+                return None
+            schedule.append(pick.choice(free))
+        return schedule
+
     def test_leading_races_alone(self):
         trace = (EXAMPLES / "places.std").read_bytes()
         report = (b"shb-report 2\nevents 4 threads 4 locks 0 variables 1\nraces 2\nplaces 2\n"
