@@ -387,7 +387,8 @@ class Reports(program.Case):
     def test_leading_races_alone(self):
         trace = (EXAMPLES / "places.std").read_bytes()
         report = (b"shb-report 2\nevents 4 threads 4 locks 0 variables 1\nraces 2\nplaces 2\n"
-                  b"place 1: 1\nat Counter.java:12\nand Counter.java:12\nplace 2: 1\nat Report.java:30\nand Counter.java:12\nrace 1: 1 2\nfirst T1|w(total)|Counter.java:12\n"
+                  b"place 1: 1\nat Counter.java:12\nand Counter.java:12\nplace 2: 1\nat Report.java:30\nand Counter.java:12\n"
+                  b"race 1: 1 2\nfirst T1|w(total)|Counter.java:12\n"
                   b"second T2|w(total)|Counter.java:12\nschedule 0:\nrace 2: 3 4\nfirst T3|r(total)|Report.java:30\n"
                   b"second T4|w(total)|Counter.java:12\nschedule 0:\nend\n")
         self.assertEqual(judge.verdict(trace, report), b"ok 2\n")

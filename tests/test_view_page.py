@@ -96,7 +96,8 @@ class Pages(program.Case):
         self.assertGreater(len(links), 10)
         self.assertLessEqual(set(links), {"#" + name for name in ids})
         wanted = {"class", "id", "href", "lang", "charset", "name", "content", "scope", "http-equiv"}
-        shapes = {"role", "aria-label", "aria-hidden", "width", "height", "viewbox", "x", "y", "x1", "x2", "y1", "y2", "cx", "cy", "r", "rx", "d", "refx", "refy",
+        shapes = {"role", "aria-label", "aria-hidden",
+                  "width", "height", "viewbox", "x", "y", "x1", "x2", "y1", "y2", "cx", "cy", "r", "rx", "d", "refx", "refy",
                   "markerwidth", "markerheight", "orient", "marker-end"}
         self.assertLessEqual({name for _, attributes, _ in page.elements for name in attributes}, wanted | shapes)
         [(_, style)], [(_, script)] = page.all("style"), page.all("script")
