@@ -188,8 +188,32 @@ class Text(program.Case):
         trace = b"A|acq(l)|a1\nA|w(x)|a2\nA|rel(l)|a3\nB|acq(l)|b1\nB|w(x)|b2\n"
         report = (b"shb-report 2\nevents 5 threads 2 locks 1 variables 1\nraces 1\nplaces 1\nplace 1: 1\nat a2\nand b2\n"
                   b"race 1: 2 5\nfirst A|w(x)|a2\nsecond B|w(x)|b2\nend\n")
-        self.assertIn("  Locks held by both: l, acquired at b1 (event 4), between the accesses: this orders them, so they are no race\n",
-                      self.shown(trace, report))
+        both = "l, acquired at b1 (event 4), between the accesses: this orders them, so they are no race"
+        self.assertIn(f"  Locks held by both: {both}\n", self.shown(trace, report))
+
+    def test_nothing_behind_an_access_is_shown_before_it(self):
+        """The second thread's acquire waits for a release that comes after the first access."""
+        trace = b"A|acq(l)\nA|w(x)\nA|rel(l)\nB|acq(l)\nB|w(x)\n"
+        report = b"shb-report 1\nevents 5 threads 2 locks 1 variables 1\nraces 1\nrace 1: 2 5\nfirst A|w(x)\nsecond B|w(x)\nend\n"
+        [place] = read(trace, report)[1]
+        self.assertEqual((place.shown, place.edges), ([1, 4], []))
+
+    def test_shown_events_and_edges_by_hand(self):
+        text, report = ((EXAMPLES / f"unlocked-read.{end}").read_bytes() for end in ("std", "report"))
+        _, (first, second, third) = read(text, report)
+        self.assertEqual((first.shown, first.edges), ([1, 2, 3, 7, 8, 10, 11], [(2, 10), (8, 10), (7, 11)]))
+        self.assertEqual((second.shown, second.edges), ([1, 2, 3, 4, 5, 6, 7, 8, 12, 13], [(3, 4), (1, 6), (12, 13)]))
+        self.assertEqual((third.shown, third.edges), ([1, 2, 3, 4, 5, 6, 7, 8, 9, 12, 13], [(3, 4), (1, 6), (12, 13)]))
+
+    def test_the_fork_of_a_thread_whose_first_event_is_an_access(self):
+        trace = b"main|fork(A)\nA|w(x)\nmain|w(x)\n"
+        [place] = read(trace, shb.report(trace, True))[1]
+        self.assertEqual((place.shown, place.edges), ([1], [(1, 2)]))
+
+    def test_an_acquire_long_before_the_access_is_shown(self):
+        trace = b"A|acq(l)\n" + b"A|r(y)\n" * 20 + b"A|w(x)\nB|w(x)\n"
+        [place] = read(trace, shb.report(trace, True))[1]
+        self.assertEqual(place.shown, [1, 16, 17, 18, 19, 20, 21])
 
     def test_schedules_decide_the_order(self):
         """A schedule of another tool may have the threads in another order."""
@@ -248,7 +272,8 @@ class Definitions(program.Case):
 
     def test_limits(self):
         long_line, threads = b"T|w(" + b"x" * 4092 + b")", b"".join(b"T%d|w(x)\n" % k for k in range(1025))
-        for text, said in ((long_line, "line 1: the line is longer than 4096 bytes"), (long_line[1:], "line 1: the thread name is empty"),
+        for text, said in ((long_line, "line 1: the line is longer than 4096 bytes"),
+                           (long_line[1:], "line 1: the thread name is empty"),
                            (b"\n" + long_line, "line 2: the line is longer than 4096 bytes"),
                            (threads, "line 1025: there are more than 1024 threads")):
             self.assertEqual(self.fault_here(text), said)
@@ -330,17 +355,47 @@ class Reports(program.Case):
                     places = read(text, shb.report(text, schedules, version))[1]
                     self.assertEqual([(place.locations, place.races) for place in places], wanted)
 
+    def test_every_schedule_that_is_accepted(self):
+        """Schedules in other orders and with further events, as other tools may write them."""
+        pick, found = random.Random(5), 0
+        for _, text, events in made(MADE):
+            lines = shb.read_trace(text)[1]
+            head = b"shb-report 1\nevents %d threads %d locks %d variables %d\nraces 1\n" % shb.counts_of(events)
+            for i, j, printed in shb.races_and_schedules(events):
+                schedule = self.other_schedule(pick, events, (i, j))
+                if schedule is None or schedule == printed:
+                    continue
+                block = b"race 1: %d %d\nfirst %b\nsecond %b\nschedule %d:" % (i + 1, j + 1, lines[i], lines[j], len(schedule))
+                report = head + block + b"".join(b" %d" % (e + 1) for e in schedule) + b"\nend\n"
+                self.assertEqual(judge.verdict(text, report), b"ok 1\n")
+                [place] = read(text, report)[1]
+                self.assertEqual(place.shown, [e + 1 for e in schedule if e + 1 in place.shown])
+                found += 1
+        self.assertGreater(found, 50)
+
+    def other_schedule(self, pick, events, pair):
+        """A schedule of the pair, made event by event; None where that came to an end."""
+        schedule = []
+        while not all(judge.comes_next(events, schedule, e) for e in pair):
+            free = [e for e in range(len(events)) if e not in pair and judge.may_run(events, schedule, e)]
+            free = [e for e in free if all(events[e][0] != events[access][0] or e < access for access in pair)]
+            if not free:
+                return None
+            schedule.append(pick.choice(free))
+        return schedule
+
     def test_leading_races_alone(self):
         trace = (EXAMPLES / "places.std").read_bytes()
-        report = (b"shb-report 2\nevents 4 threads 4 locks 0 variables 1\nraces 2\nplaces 2\nplace 1: 1\nat Counter.java:12\nand Counter.java:12\n"
-                  b"place 2: 1\nat Report.java:30\nand Counter.java:12\nrace 1: 1 2\nfirst T1|w(total)|Counter.java:12\n"
+        report = (b"shb-report 2\nevents 4 threads 4 locks 0 variables 1\nraces 2\nplaces 2\n"
+                  b"place 1: 1\nat Counter.java:12\nand Counter.java:12\nplace 2: 1\nat Report.java:30\nand Counter.java:12\n"
+                  b"race 1: 1 2\nfirst T1|w(total)|Counter.java:12\n"
                   b"second T2|w(total)|Counter.java:12\nschedule 0:\nrace 2: 3 4\nfirst T3|r(total)|Report.java:30\n"
                   b"second T4|w(total)|Counter.java:12\nschedule 0:\nend\n")
         self.assertEqual(judge.verdict(trace, report), b"ok 2\n")
         self.assertEqual([(place.races, place.accesses) for place in read(trace, report)[1]], [(1, (1, 2)), (1, (3, 4))])
 
     def test_changed_reports(self):
-        """A good report is shown, and one whose form, counts or places are wrong is refused; the schedules are `check`'s to judge."""
+        """A good report is shown, and one whose form, counts or places are wrong is refused; `check` judges schedules."""
         shown = refused = 0
         for pick, text, _ in made(MADE):
             good = shb.report(text, True, pick.choice([1, 2]))
@@ -376,19 +431,28 @@ class Reports(program.Case):
             else:
                 self.assertEqual((status, out, err), (1, "", f"shb-view: {said}\n"))
 
-    def test_wrong_pairs_and_schedules(self):
-        trace = b"A|r(a)|1\nB|r(b)|2\nA|w(x)|3\nB|w(x)|4\n"
-        report = shb.report(trace, True)
+    def test_wrong_lines(self):
+        trace = b"A|r(a)|1\nB|r(b)|2\nA|w(x)|3\nB|w(x)|4\nB|r(x)|5\nA|acq(x)|6\n"
+        report = shb.report(trace, True).replace(b"races 2", b"races 1").replace(b"places 2", b"places 1")
+        report = re.sub(rb"(?s)place 2.*?race 1", b"race 1", report)
+        report = re.sub(rb"(?s)race 2.*end", b"end", report)
+        no_events = "race 1 of the report: %s aren't two events of the trace, the earlier first"
+        no_list = "line 11 of the report isn't a schedule of 2 events; it should be `schedule N: N EVENTS`"
         for old, new, said in (
-            (b"race 1: 3 4", b"race 1: 3 5", "race 1 of the report: 3 and 5 aren't two events of the trace, the earlier first"),
-            (b"race 1: 3 4", b"race 1: 4 3", "race 1 of the report: 4 and 3 aren't two events of the trace, the earlier first"),
+            (b"race 1: 3 4", b"race 1: 3 7", no_events % "3 and 7"),
+            (b"race 1: 3 4", b"race 1: 4 3", no_events % "4 and 3"),
+            (b"race 1: 3 4", b"race 1: 0 3", no_events % "0 and 3"),
+            (b"race 1: 3 4", b"race 1: 1 3", "race 1 of the report: the events 1 and 3 of the trace don't conflict"),
             (b"race 1: 3 4", b"race 1: 1 2", "race 1 of the report: the events 1 and 2 of the trace don't conflict"),
+            (b"race 1: 3 4", b"race 1: 2 3", "race 1 of the report: the events 2 and 3 of the trace don't conflict"),
+            (b"race 1: 3 4", b"race 1: 4 5", "race 1 of the report: the events 4 and 5 of the trace don't conflict"),
+            (b"race 1: 3 4", b"race 1: 5 6", "race 1 of the report: the events 5 and 6 of the trace don't conflict"),
             (b"race 1: 3 4", b"race 2: 3 4", "line 8 of the report has the number 2; it should be `race 1: I J`"),
             (b"schedule 2: 1 2", b"schedule 1: 1", "race 1 of the report: its schedule lacks event 2, which comes before an access"),
-            (b"schedule 2: 1 2", b"schedule 2: 1", "line 11 of the report isn't a schedule of 2 events; it should be `schedule N: N EVENTS`"),
-            (b"schedule 2: 1 2", b"schedule 2: 1 02", "line 11 of the report isn't a schedule of 2 events; it should be `schedule N: N EVENTS`"),
-            (b"schedule 2: 1 2", b"schedule 2:1 2 ", "line 11 of the report isn't a schedule of 2 events; it should be `schedule N: N EVENTS`"),
-            (b"schedule 2: 1 2", b"schedule 2: 1  ", "line 11 of the report isn't a schedule of 2 events; it should be `schedule N: N EVENTS`"),
+            (b"schedule 2: 1 2", b"schedule 2: 1", no_list),
+            (b"schedule 2: 1 2", b"schedule 2: 1 02", no_list),
+            (b"schedule 2: 1 2", b"schedule 2:1 2 ", no_list),
+            (b"schedule 2: 1 2", b"schedule 2: 1  ", no_list),
             (b"at 3", b"at 4", "the places that the report begins with aren't those of its races"),
             (b"end\n", b"end", "line 12 of the report is cut off: `end`; it should be `end`"),
             (b"end\n", b"", "line 12 of the report is missing; it should be `end`"),
@@ -442,7 +506,8 @@ class Inputs(program.Case):
 
     def test_numbers_without_end(self):
         for line in (b"races " + b"9" * 5000, b"races 18446744073709551615", b"places 99999999999999999999"):
-            report = shb.report(NESTED, True).replace(b"races 1", line).replace(b"places 1", line if b"places" in line else b"places 1")
+            report = re.sub(rb"\n%b 1\n" % line.split()[0], b"\n" + line + b"\n", shb.report(NESTED, True))
+            self.assertIn(line, report)
             self.refused([self.file(NESTED), self.file(report, "t.report")])
 
     def test_files(self):
@@ -511,9 +576,11 @@ class Check(program.Case):
 
 class Names(program.Case):
     def test_shown(self):
-        for name, said in ((b"plain", "plain"), (b"\xff\x00a", r"\xff\x00a"), ("größe".encode(), "größe"), (b"\x1b[2J\t", r"\x1b[2J\t"),
+        for name, said in ((b"plain", "plain"), (b"\xff\x00a", r"\xff\x00a"), ("größe".encode(), "größe"),
+                           (b"\x1b[2J\t", r"\x1b[2J\t"),
                            ("a\u202eb".encode(), r"a\u202eb"), ("e\u0301".encode(), "e\u0301"), ("\u0301e".encode(), r"\u0301e"),
-                           (b"\xed\xa0\x80", r"\xed\xa0\x80"), ("e".encode() + "\u0301".encode() * 5, "e" + "\u0301" * 3 + r"\u0301\u0301")):
+                           (b"\xed\xa0\x80", r"\xed\xa0\x80"),
+                           ("e".encode() + "\u0301".encode() * 5, "e" + "\u0301" * 3 + r"\u0301\u0301")):
             self.assertEqual(names.shown(name), said)
 
     def test_short(self):

@@ -7,14 +7,15 @@ import re
 
 import program
 import shb
-from viewing import MADE, VIEW, made, read, run_here
+from viewing import MADE, made, read, run_here
 
-from shb_view import explain, names, picture
+from shb_view import names, picture
 
 EXAMPLES = program.HERE.parent / "examples"
 VOID = {"meta"}
 HOSTILE = [b"<script>alert(1)</script>", b'"><img src=x onerror=alert(1)>', b"' onload='alert(1)", b"&lt;b&gt;&amp;&#60;",
-           b"</title></style></svg></code>", b"<!-- ]]> <![CDATA[", b"\xff\xfe\x00<\x80", b"javascript:alert(1)", b"(" + b"<" * 3900 + b")"]
+           b"</title></style></svg></code>", b"<!-- ]]> <![CDATA[", b"\xff\xfe\x00<\x80", b"javascript:alert(1)",
+           b"(" + b"<" * 3900 + b")"]
 
 
 class Page(html.parser.HTMLParser):
@@ -65,10 +66,9 @@ class Pages(program.Case):
 
     def test_each_place_once(self):
         page = self.page(*self.example("places"))
-        cells = [re.split(r"\s+", text.strip()) for _, text in page.all("tr")][1:4]
         self.assertEqual([text for _, text in page.all("td")][:15], [
             "1", "3", "total", "Counter.java:12 write", "Counter.java:12 write", "2", "2", "total", "Counter.java:12 write",
-            "Report.java:30 read", "3", "1", "total", "Report.java:30 read", "Counter.java:12 write"], cells)
+            "Report.java:30 read", "3", "1", "total", "Report.java:30 read", "Counter.java:12 write"])
         self.assertEqual([attributes["id"] for attributes, _ in page.all("section")], ["p1", "p2", "p3"])
         self.assertEqual([attributes["aria-label"] for attributes, _ in page.all("svg")[1:]],
                          [f"What comes before events {a} and {b}" for a, b in ((1, 2), (1, 3), (3, 4))])
@@ -76,7 +76,8 @@ class Pages(program.Case):
     def test_facts_of_an_example(self):
         page = self.page(*self.example("fork-join"))
         self.assertEqual([text for _, text in page.all("dd")],
-                         ["worker.c:3 event 4", "no lock", "main at start.c:5 event 2", "start.c:6 event 5", "no lock", "no event of the trace"])
+                         ["worker.c:3 event 4", "no lock", "main at start.c:5 event 2",
+                          "start.c:6 event 5", "no lock", "no event of the trace"])
         self.assertEqual([text for _, text in page.all("td")][5:], [
             "1", "1", "main|w(config)|start.c:4", "2", "2", "main|fork(worker)|start.c:5", "3", "3", "worker|r(config)|worker.c:2",
             "4", "4", "worker|w(count)|worker.c:3", "5", "5", "main|w(count)|start.c:6"])
@@ -94,17 +95,29 @@ class Pages(program.Case):
         links = [attributes["href"] for _, attributes, _ in page.elements if "href" in attributes]
         self.assertGreater(len(links), 10)
         self.assertLessEqual(set(links), {"#" + name for name in ids})
-        wanted = {"class", "id", "href", "lang", "charset", "name", "content", "scope", "http-equiv", "role", "aria-label", "aria-hidden", "type"}
-        shapes = {"width", "height", "viewbox", "x", "y", "x1", "x2", "y1", "y2", "cx", "cy", "r", "rx", "d", "refx", "refy",
+        wanted = {"class", "id", "href", "lang", "charset", "name", "content", "scope", "http-equiv"}
+        shapes = {"role", "aria-label", "aria-hidden",
+                  "width", "height", "viewbox", "x", "y", "x1", "x2", "y1", "y2", "cx", "cy", "r", "rx", "d", "refx", "refy",
                   "markerwidth", "markerheight", "orient", "marker-end"}
         self.assertLessEqual({name for _, attributes, _ in page.elements for name in attributes}, wanted | shapes)
         [(_, style)], [(_, script)] = page.all("style"), page.all("script")
         for text in (style, script):
             self.assertNotRegex(text, r"url\(|@import|https?:|fetch|XMLHttp|innerHTML")
 
+    def test_every_number_leads_to_its_line(self):
+        """Also those of locks that the picture leaves out."""
+        trace = b"".join(b"A|acq(%d)\n" % k for k in range(9)) + b"A|w(x)\nB|w(x)\n"
+        page = self.page(trace, shb.report(trace, True))
+        lines = {attributes["id"]: text for attributes, text in page.all("tr") if "id" in attributes}
+        links = [(attributes["href"][1:], text) for attributes, text in page.all("a") if attributes["href"].startswith("#p1e")]
+        self.assertEqual({int(text.split()[-1]) for _, text in links}, set(range(1, 12)))
+        for name, text in links:
+            self.assertTrue(lines[name].startswith(text.split()[-1]))
+
     def test_the_browser_may_run_its_own_style_and_script_alone(self):
         page = self.page(*self.example("places"))
-        [policy] = [attributes["content"] for attributes, _ in page.all("meta") if attributes.get("http-equiv") == "Content-Security-Policy"]
+        metas = [attributes for attributes, _ in page.all("meta")]
+        [policy] = [meta["content"] for meta in metas if meta.get("http-equiv") == "Content-Security-Policy"]
         self.assertTrue(policy.startswith("default-src 'none'; "))
         for tag in ("style", "script"):
             [(_, text)] = page.all(tag)
@@ -114,13 +127,14 @@ class Pages(program.Case):
     def test_names_stay_names(self):
         """A page with other names has the same elements, and the names as its text."""
         def trace(thread, lock, variable, location):
-            return (b"%b|acq(%b)|%b\n%b|w(%b)|%b\nB|w(%b)|%b\n" % (thread, lock, location, thread, variable, location, variable, location))
+            lines = thread + b"|acq(" + lock + b")|", thread + b"|w(" + variable + b")|", b"B|w(" + variable + b")|"
+            return b"".join(line + location + b"\n" for line in lines)
 
         plain = trace(b"A", b"l", b"x", b"p")
         shape = self.page(plain, shb.report(plain, True)).shape()
         for name in HOSTILE:
             with self.subTest(name[:40]):
-                hostile = trace(name, name, name, name)[: 4096 * 9] if len(name) < 900 else trace(b"A", b"l", name, b"p")
+                hostile = trace(name, name, name, name) if len(name) < 900 else trace(b"A", b"l", name, b"p")
                 page = self.page(hostile, shb.report(hostile, True))
                 self.assertEqual(page.shape(), shape)
                 [(_, head)] = page.all("h2")
@@ -151,11 +165,12 @@ class Pages(program.Case):
 class Pictures(program.Case):
     """Pictures of made traces."""
 
-    def pictures(self):
-        for _, text, events in made(MADE):
+    @classmethod
+    def setUpClass(cls):
+        cls.pictures = []
+        for _, text, _ in made(MADE):
             trace, places = read(text, shb.report(text, True))
-            for place in places:
-                yield events, trace, place, Page(picture.picture(trace, place, "e"))
+            cls.pictures += [(trace, place, Page(picture.picture(trace, place, "e"))) for place in places]
 
     def positions(self, page):
         """Where each event's circle stands."""
@@ -169,7 +184,7 @@ class Pictures(program.Case):
 
     def test_events_edges_and_lanes(self):
         arrows = 0
-        for _, trace, place, page in self.pictures():
+        for trace, place, page in self.pictures:
             at = self.positions(page)
             self.assertEqual(sorted(at), sorted([*place.shown, *place.accesses]))
             heights = [at[event][1] for event in place.shown]
@@ -194,10 +209,11 @@ class Pictures(program.Case):
 
     def test_bars_are_the_locks_held(self):
         bars = 0
-        for _, trace, place, page in self.pictures():
+        for trace, place, page in self.pictures:
             at = self.positions(page)
             lanes = sorted({x for x, _ in at.values()})
-            drawn = [([float(attributes[name]) for name in ("x", "y", "height")], text) for attributes, text in page.all("rect", "lock")]
+            drawn = [([float(attributes[name]) for name in ("x", "y", "height")], text)
+                     for attributes, text in page.all("rect", "lock")]
             for event, (x, y) in at.items():
                 here = [lock for (left, top, height), lock in drawn
                         if top < y <= top + height and min(lane for lane in lanes if lane > left) == x]
@@ -206,10 +222,19 @@ class Pictures(program.Case):
             bars += len(drawn)
         self.assertGreater(bars, 50)
 
+    def test_bars_begin_and_end_by_hand(self):
+        """The consumer's ends at its release, event 8; the producer's begins at its acquire, event 10, and goes on."""
+        trace, places = read(*((EXAMPLES / f"unlocked-read.{end}").read_bytes() for end in ("std", "report")))
+        page = Page(picture.picture(trace, places[0], "e"))
+        at = self.positions(page)
+        consumer, producer = sorted((float(bar["y"]), float(bar["y"]) + float(bar["height"])) for bar, _ in page.all("rect", "lock"))
+        self.assertEqual((consumer[1], producer[0]), (at[8][1], at[10][1]))
+        self.assertGreater(producer[1], at[12][1])
+
     def test_no_line_crosses_a_text(self):
         lines = 0
-        for _, trace, place, page in self.pictures():
-            texts = [self.box(attributes, text) for attributes, text in page.all("text") if attributes.get("class") != "number"]
+        for trace, place, page in self.pictures:
+            texts = [self.box(*text) for text in page.all("text") if text[0].get("class") != "number"]
             for box in self.drawn(page):
                 lines += 1
                 for text in texts:

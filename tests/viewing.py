@@ -29,7 +29,7 @@ def read(trace, report):
 
 def run(words, **how):
     how = {"stdout": subprocess.PIPE, "stderr": subprocess.PIPE, **how}
-    ran = subprocess.run([sys.executable, VIEW / "shb-view", *words], timeout=program.SECONDS, **how)
+    ran = subprocess.run([sys.executable, "-B", VIEW / "shb-view", *words], timeout=program.SECONDS, **how)
     return program.Answer(ran.returncode, ran.stdout, ran.stderr)
 
 

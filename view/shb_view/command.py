@@ -78,7 +78,7 @@ def show(options, progress):
     if options.html:
         write_page(options, page.page_text(view))
     else:
-        write_text(text.text_lines(view, text.Ink(is_coloured(sys.stdout))))
+        write_text(text.text_lines(view, text.Colours(is_coloured(sys.stdout))))
     return 0 if is_good else 1
 
 

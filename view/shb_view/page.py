@@ -13,10 +13,11 @@ from shb_view.text import KINDS, both_text, counted, ending, location_text, note
 HERE = pathlib.Path(__file__).resolve().parent
 NAME = 80  # columns
 LINE = 240
-LEGEND = ("In a picture each lane is a thread, and time runs down. A solid arrow leads from a release to the acquire after it, from a "
-          "fork to the thread's first event, or from a thread's last event to a join; a dashed arrow from a write to the read that "
-          "sees it. A bar beside a lane is a lock held. Where a lane is dashed, events are left out. After the events above them, "
-          "both accesses of the last row can come next.")
+LEGEND = """\
+In a picture each lane is a thread, and time runs down. A solid arrow leads from a release to the acquire after it, from a fork
+to the thread's first event, or from a thread's last event to a join; a dashed arrow from a write to the read that sees it.
+A bar beside a lane is a lock held. Where a lane is dashed, events are left out. After the events above them, both accesses of
+the last row can come next."""
 
 
 def page_text(view):
@@ -33,8 +34,9 @@ def page_text(view):
              *notes(view), "</header>", "<main>"]
     if view.places:
         parts += [*table(view), f'<p class="faint">{LEGEND}</p>']
+    lines = view.trace.line_numbers({event for place in view.places for event in linked_events(view.trace, place)})
     for number, place in enumerate(view.places, 1):
-        parts += section(view, number, place)
+        parts += section(view.trace, number, place, lines)
     return "\n".join([*parts, "</main>", f"<script>{script}</script>", "</body>", "</html>"]) + "\n"
 
 
@@ -49,7 +51,7 @@ def notes(view):
     if view.verdict:
         kind = "good" if view.verdict.startswith("ok ") else "bad"
         yield f'<p class="verdict {kind}"><code>shb check</code>: {html.escape(view.verdict)}</p>'
-    if view.places and note(view):
+    if note(view):
         yield f"<p>{note(view)}</p>"
 
 
@@ -74,12 +76,12 @@ def access_cell(event):
     return f'<td>{code(location_text(event.location, NAME))} <span class="faint">{KINDS[event.word]}</span></td>'
 
 
-def section(view, number, place):
-    """All that is said of a place."""
-    trace = view.trace
+def section(trace, number, place, lines):
+    """All that is said of a place. `lines` are the numbers of the lines of its events."""
     first, second = (trace.event(access) for access in place.accesses)
     yield f'<section id="p{number}">'
-    yield f'<h2><a href="#p{number}">{number}</a> {KINDS[first.word].capitalize()} and {KINDS[second.word]} of {code(short(first.name, NAME))}</h2>'
+    kinds = f"{KINDS[first.word].capitalize()} and {KINDS[second.word]}"
+    yield f'<h2><a href="#p{number}">{number}</a> {kinds} of {code(short(first.name, NAME))}</h2>'
     yield (f'<p>{code(location_text(first.location, NAME))} and {code(location_text(second.location, NAME))}: '
            f"{counted(place.races, 'race')}. <a href=\"#places\">All places</a></p>")
     yield '<div class="parts"><div class="facts">'
@@ -88,7 +90,7 @@ def section(view, number, place):
     yield f"<p>Locks held by both: {html.escape(both_text(trace, place.accesses))}</p>"
     yield f"<p>{ending(place)}</p></div>"
     yield f'<div class="wide picture">{picture(trace, place, f"p{number}e")}</div>'
-    yield from lines_table(trace, place, f"p{number}e")
+    yield from lines_table(trace, place, f"p{number}e", lines)
     yield "</div></section>"
 
 
@@ -96,7 +98,8 @@ def access_facts(trace, number, access, anchor):
     """An access, the locks that its thread holds, and how its thread was started."""
     event, fork = trace.event(access), trace.fork(access)
     started = f"{code(short(trace.event(fork).thread, NAME))} at {where(trace, fork, anchor)}" if fork else "no event of the trace"
-    held = [f"{code(short(trace.event(acquire).name, NAME))} acquired at {where(trace, acquire, anchor)}" for acquire in trace.held(access)]
+    held = [f"{code(short(trace.event(acquire).name, NAME))} acquired at {where(trace, acquire, anchor)}"
+            for acquire in trace.held(access)]
     yield f'<h3><span class="mark">{number}</span> {KINDS[event.word].capitalize()} by {code(short(event.thread, NAME))}</h3>'
     yield f"<dl><dt>Where</dt><dd>{where(trace, access, anchor)}</dd>"
     yield "<dt>Holds</dt>" + "".join(f"<dd>{lock}</dd>" for lock in held or ["no lock"])
@@ -117,14 +120,12 @@ def linked_events(trace, place):
     return sorted(events)
 
 
-def lines_table(trace, place, anchor):
+def lines_table(trace, place, anchor, lines):
     """The lines of the trace that the place's numbers link to."""
-    events = linked_events(trace, place)
-    numbers = trace.line_numbers(events)
     yield '<div class="wide"><table class="lines"><thead><tr>'
     yield "".join(f'<th scope="col">{name}</th>' for name in ("Event", "Line", "Text of the line")) + "</tr></thead><tbody>"
-    for event in events:
+    for event in linked_events(trace, place):
         kind = ' class="access"' if event in place.accesses else ""
-        yield (f'<tr id="{anchor}{event}"{kind}><td class="n">{event}</td><td class="n">{numbers[event]}</td>'
+        yield (f'<tr id="{anchor}{event}"{kind}><td class="n">{event}</td><td class="n">{lines[event]}</td>'
                f"<td>{code(short(trace.line(event), LINE))}</td></tr>")
     yield "</tbody></table></div>"

@@ -76,7 +76,7 @@ class Drawing:
         taken, slots = {}, []
         for group, top, bottom in spans:
             slot = 0
-            while any(top < other_bottom + STEP and other_top < bottom + STEP for other_top, other_bottom in taken.get((group, slot), [])):
+            while any(top < end + STEP and start < bottom + STEP for start, end in taken.get((group, slot), [])):
                 slot += 1
             taken.setdefault((group, slot), []).append((top, bottom))
             slots.append(slot)
@@ -95,18 +95,18 @@ class Drawing:
     def width(self):
         """Up to the right edge of the widest text."""
         names = [self.x[lane] + COLUMN * columns(self.thread_text(thread)) for thread, lane in self.lanes.items()]
-        texts = [self.texts + COLUMN * columns(text) for event in self.y for text in self.event_texts(event)]
+        texts = [self.texts + COLUMN * max(columns(operation), columns(location) + len(f" · {event}"))
+                 for event in self.y for operation, location in [self.event_texts(event)]]
         return int(max(names + texts)) + 12
 
     def thread_text(self, thread):
         return short(self.trace.event(self.events_of(thread)[0]).thread, TEXT)
 
     def event_texts(self, number):
-        """An event's operation, and its location with its number behind it."""
+        """An event's operation, and its location, behind which its number stands."""
         event = self.trace.event(number)
         front = f"{self.place.accesses.index(number) + 1}  " if number in self.place.accesses else ""
-        behind = f" · {number}"
-        return front + short(event.operation, TEXT - len(front)), location_text(event.location, TEXT - len(behind)) + behind
+        return front + short(event.operation, TEXT - len(front)), location_text(event.location, TEXT - len(f" · {number}"))
 
     def height(self):
         return self.band + BAND + 2
@@ -126,7 +126,7 @@ def picture(trace, place, anchor):
 
 
 def lane_parts(drawing, anchor):
-    """A thread's name, and its line: broken where events are left out."""
+    """A thread's name, and its line: dashed where events are left out."""
     trace = drawing.trace
     for thread, lane in drawing.lanes.items():
         events, x = drawing.events_of(thread), drawing.x[lane]
@@ -168,8 +168,9 @@ def event_parts(drawing, anchor):
     for event in drawing.place.shown:
         x, y = drawing.x[drawing.lane(event)], drawing.y[event]
         yield f'<line class="guide" x1="{x + 7}" y1="{y}" x2="{drawing.texts - 6}" y2="{y}"/>'
-        yield f'<g class="event">{tip(drawing.trace, event)}<circle class="lane{min(drawing.lane(event), 2)}" cx="{x}" cy="{y}" r="4"/>'
-        yield f'{event_text(drawing, event, y, anchor)}</g>'
+        yield f'<g class="event">{tip(drawing.trace, event)}'
+        yield f'<circle class="lane{min(drawing.lane(event), 2)}" cx="{x}" cy="{y}" r="4"/>'
+        yield f"{event_text(drawing, event, y, anchor)}</g>"
 
 
 def access_parts(drawing, anchor):
@@ -192,6 +193,6 @@ def tip(trace, event):
 def event_text(drawing, number, y, anchor):
     """The two texts of an event, its number as a link."""
     operation, location = map(html.escape, drawing.event_texts(number))
-    link = f'<a href="#{anchor}{number}">{number}</a>'
     return (f'<text x="{drawing.texts}" y="{y - 2}">{operation}</text>'
-            f'<text class="at" x="{drawing.texts}" y="{y + 12}">{location[:-len(str(number))]}{link}</text>')
+            f'<text class="at" x="{drawing.texts}" y="{y + 12}"><tspan>{location}</tspan> · '
+            f'<a href="#{anchor}{number}">{number}</a></text>')

@@ -3,14 +3,14 @@
 import sys
 import time
 
-PATIENCE = 1.0  # seconds before anything is said
-PAUSE = 0.2  # seconds between two words
+WAIT = 1.0  # seconds before the first words
+PAUSE = 0.2  # seconds between further ones
 
 
 class Progress:
     def __init__(self, out=sys.stderr):
         self.out = out
-        self.next = time.monotonic() + PATIENCE if out.isatty() else float("inf")
+        self.next = time.monotonic() + WAIT if out.isatty() else float("inf")
         self.said = False
 
     def step(self, doing, done, whole):

@@ -8,23 +8,23 @@ NAME, LOCATION = 48, 48  # columns
 KINDS = {b"r": "read", b"w": "write"}
 
 
-class Ink:
+class Colours:
     """Colours of a terminal, or none."""
 
     def __init__(self, is_coloured):
         self.is_coloured = is_coloured
 
-    def paint(self, code, text):
+    def coded(self, code, text):
         return f"\x1b[{code}m{text}\x1b[0m" if self.is_coloured else text
 
     def bold(self, text):
-        return self.paint("1", text)
+        return self.coded("1", text)
 
     def red(self, text):
-        return self.paint("31", text)
+        return self.coded("31", text)
 
     def faint(self, text):
-        return self.paint("2", text)
+        return self.coded("2", text)
 
 
 def counted(count, word):
@@ -44,43 +44,41 @@ def summary(view):
 
 
 def note(view):
-    """What the reader has to know of the report's schedules."""
-    if view.has_schedules:
-        return ""
-    return "The report has no schedules: events are shown in the order of the trace."
+    """What the reader has to know of a report without schedules."""
+    return "" if view.has_schedules else "The report has no schedules: events are shown in the order of the trace."
 
 
-def text_lines(view, ink):
+def text_lines(view, colours):
     """The lines of the whole text."""
     races, size = summary(view)
-    yield f"{ink.bold(f'{view.title}: {races}')} ({size})"
+    yield f"{colours.bold(f'{view.title}: {races}')} ({size})"
     if view.verdict:
         yield f"shb check: {view.verdict}"
-    if view.places and not view.has_schedules:
+    if note(view):
         yield note(view)
     for number, place in enumerate(view.places, 1):
         yield ""
-        yield from place_lines(view, number, place, ink)
+        yield from place_lines(view, number, place, colours)
 
 
-def place_lines(view, number, place, ink):
+def place_lines(view, number, place, colours):
     trace = view.trace
     first, second = (trace.event(access) for access in place.accesses)
-    yield ink.bold(f"Place {number} of {len(view.places)}, {counted(place.races, 'race')}: "
+    yield colours.bold(f"Place {number} of {len(view.places)}, {counted(place.races, 'race')}: "
                    f"{KINDS[first.word]} and {KINDS[second.word]} of {short(first.name, NAME)}")
     before = [last_events(trace, access, BEFORE) for access in place.accesses]
     widths = widths_of(trace, before[0] + before[1])
     for access, events in zip(place.accesses, before):
-        yield from access_lines(trace, access, ink)
-        yield from event_lines(trace, events, widths, ink)
+        yield from access_lines(trace, access, colours)
+        yield from event_lines(trace, events, widths, colours)
     yield f"  Locks held by both: {both_text(trace, place.accesses)}"
     yield "  " + ending(place)
 
 
-def access_lines(trace, access, ink):
+def access_lines(trace, access, colours):
     """An access, the locks that its thread holds, and how its thread was started."""
     event = trace.event(access)
-    kind = ink.red(KINDS[event.word].capitalize())
+    kind = colours.red(KINDS[event.word].capitalize())
     yield f"  {kind} by {short(event.thread, NAME)} at {location_text(event.location)} (event {access})"
     held = [held_text(trace, acquire) for acquire in trace.held(access)] or ["none"]
     yield f"    Locks held: {held[0]}"
@@ -118,13 +116,13 @@ def widths_of(trace, events):
             max((columns(short(trace.event(event).operation, NAME)) for event in events), default=0))
 
 
-def event_lines(trace, events, widths, ink):
+def event_lines(trace, events, widths, colours):
     number_width, operation_width = widths
     yield "    Before it:" if events else "    Before it: nothing"
     for number in events:
         event = trace.event(number)
         operation = padded(short(event.operation, NAME), operation_width)
-        yield f"      {number:>{number_width}}  {operation}  {ink.faint(location_text(event.location))}"
+        yield f"      {number:>{number_width}}  {operation}  {colours.faint(location_text(event.location))}"
 
 
 def ending(place):

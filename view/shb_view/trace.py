@@ -100,14 +100,15 @@ def fields_of(line):
 
 def operation_of(operation):
     """The word and the name of an operation; of a mark no name."""
-    word, _, operand = operation.partition(b"(")
-    if operand.endswith(b")") and len(operand) > 1 and word in NAMED:
-        return word, operand[:-1]
-    if word not in NAMED and word not in MARKS:
+    word, bracket, operand = operation.partition(b"(")
+    is_mark = word in MARKS
+    if not is_mark and word not in NAMED:
         raise Fault("the operation is not known")
-    if word in NAMED or (operation != word and not operand.endswith(b")")):
+    if is_mark and not bracket:
+        return word, b""
+    if not operand.endswith(b")") or (len(operand) == 1 and not is_mark):
         raise Fault("the operand is not a name in parentheses")
-    return word, b""
+    return word, b"" if is_mark else operand[:-1]
 
 
 class Reader:
@@ -120,13 +121,13 @@ class Reader:
         self.open = []  # by number of thread: its acquires; the last of them isn't released
         self.joined = []  # by number of thread: whether a join of it was taken
         self.releases = {}  # by name of lock: its last release, or 0
-        self.nests = {}  # by name of lock: its acquires that aren't released
+        self.nests = {}  # by name of lock: its acquires that aren't released, none where it is free
         self.writes = {}  # by name of variable: its last write, or 0
         self.takers = {b"r": self.read, b"w": self.write, b"acq": self.acquire, b"rel": self.release, b"fork": self.fork,
                        b"join": self.join, b"begin": self.mark, b"end": self.mark}
 
     def take(self, start, line):
-        """One more event, whose line begins at this place of the text."""
+        """One more event, whose line begins at this place of the text. Of its faults the first in the order of `shb`."""
         name, operation, *_ = fields_of(line)
         word, operand = operation_of(operation)
         trace = self.trace
