@@ -36,7 +36,7 @@ static char *copy(const char *text) {
 
 static FILE *run_tool(const char *words, const char *path, const char *rest) {
     char command[LINE_BYTES + 600];
-    if (strchr(path, '\'')) return 0;
+    if (strchr(path, '\'') || *path == '-') return 0;        /* a record may come from anywhere */
     snprintf(command, sizeof command, "%s '%s' %s 2>/dev/null", words, path, rest);
     return popen(command, "r");
 }
@@ -82,7 +82,9 @@ static void read_symbols(module *m) {
     m->read = 1;
     FILE *f = run_tool("nm -C -S --defined-only", m->path, "");
     while (f && fgets(line, sizeof line, f)) {
-        if (sscanf(line, "%lx %lx %c %n", &at, &size, &type, &name) < 3 || !strchr("bBdDrRuVgGsStTwWi", type)) continue;
+        int sized = strlen(line) > 18 && line[18] != ' ';    /* else the type stands where the size would */
+        if (!sized || sscanf(line, "%lx %lx %c %n", &at, &size, &type, &name) < 3) continue;
+        if (!strchr("bBdDrRuVgGsStTwWi", type)) continue;
         line[strcspn(line, "\n")] = 0;
         GROW(m->symbols, m->count, capacity);
         m->symbols[m->count++] = (symbol){at + m->base, size, copy(tidy(line + name)), 0};

@@ -99,7 +99,7 @@ def damaged_records():
         yield bytes(record)
     yield from (HEADER + draw.randbytes(16 * entries) for entries in range(20))
     yield draw.randbytes(70000)
-    yield b"shb-record 2\nffff 1 2 \n1 2\nx y z\n0 ffffffffffff 0 /\n".ljust(65536, b"1") + ENTRIES
+    yield b"shb-record 2\nffff 1 2 \n1 2\nx y z\n0 fff 0 --help\n0 ffffffffffff 0 /\n".ljust(65536, b"1") + ENTRIES
 
 
 class Damaged(recorder.Case):
