@@ -100,6 +100,7 @@ DELETES(_ZdaPvm, (void *p, size_t n))
 static void note_copy(void *to, const void *from, size_t n, uint64_t caller) {
     thread *t = others && n && instrumented(caller) ? enter(NEVER_YIELD) : 0;
     if (!t) return;
+    make_room(t, ROOM_OF_COPY);        /* nobody comes between the two */
     if (from) put(t, OP_READ, from, n, caller);
     put(t, OP_WRITE, to, n, caller);
     t->wrote = 0;
