@@ -110,7 +110,8 @@ static void after_exchange(thread *t, int done, const volatile void *p, int size
     UPDATE(bits, type, fetch_nand, __atomic_fetch_nand) \
     COMPARE_EXCHANGE(bits, type, compare_exchange_strong) \
     COMPARE_EXCHANGE(bits, type, compare_exchange_weak) \
-    PUBLIC type __tsan_atomic##bits##_compare_exchange_val(volatile type *p, type expected, type value, int order, int fail_order) { \
+    PUBLIC type __tsan_atomic##bits##_compare_exchange_val(volatile type *p, type expected, type value, int order, \
+                                                           int fail_order) { \
         thread *t = before_exchange(); \
         int done = __atomic_compare_exchange_n(p, &expected, value, 0, __ATOMIC_SEQ_CST, __ATOMIC_SEQ_CST); \
         after_exchange(t, done, p, bits / 8, CALLER); \
