@@ -75,7 +75,8 @@ void begin_memory_pass(void) {
 void meet_block(u64 i) {
     enum operation operation = operation_of(i);
     if (operation != OP_ALLOC && operation != OP_START) return;
-    u64 size = size_of(i), from = address_of(i) & ~(GRAIN - 1ull), end = (address_of(i) + size + GRAIN - 1) & ~(GRAIN - 1ull);
+    u64 size = size_of(i), from = address_of(i) & ~(GRAIN - 1ull);
+    u64 end = (address_of(i) + size + GRAIN - 1) & ~(GRAIN - 1ull);
     if (!size || size >= MAX_BLOCK) return;
     if (++met > block_count) {         /* in the first pass */
         GROW(blocks, block_count, block_capacity);

@@ -22,7 +22,7 @@ static module *module_at(u64 address) {
     return 0;
 }
 
-static char *tidy(char *text) {        /* what would end a field or a line */
+static char *cleaned(char *text) {        /* what would end a field or a line */
     for (char *p = text; *p; p++)
         if (*p == '|' || (unsigned char)*p < ' ') *p = '!';
     return text;
@@ -36,7 +36,7 @@ static char *copy(const char *text) {
 
 static FILE *run_tool(const char *words, const char *path, const char *rest) {
     char command[LINE_BYTES + 600];
-    if (strchr(path, '\'')) return 0;
+    if (strchr(path, '\'') || *path == '-') return 0;        /* a record may come from anywhere */
     snprintf(command, sizeof command, "%s '%s' %s 2>/dev/null", words, path, rest);
     return popen(command, "r");
 }
@@ -82,10 +82,12 @@ static void read_symbols(module *m) {
     m->read = 1;
     FILE *f = run_tool("nm -C -S --defined-only", m->path, "");
     while (f && fgets(line, sizeof line, f)) {
-        if (sscanf(line, "%lx %lx %c %n", &at, &size, &type, &name) < 3 || !strchr("bBdDrRuVgGsStTwWi", type)) continue;
+        int sized = strlen(line) > 18 && line[18] != ' ';    /* else the type stands where the size would */
+        if (!sized || sscanf(line, "%lx %lx %c %n", &at, &size, &type, &name) < 3) continue;
+        if (!strchr("bBdDrRuVgGsStTwWi", type)) continue;
         line[strcspn(line, "\n")] = 0;
         GROW(m->symbols, m->count, capacity);
-        m->symbols[m->count++] = (symbol){at + m->base, size, copy(tidy(line + name)), 0};
+        m->symbols[m->count++] = (symbol){at + m->base, size, copy(cleaned(line + name)), 0};
     }
     if (f) end_tool(f);
     if (m->count) qsort(m->symbols, m->count, sizeof *m->symbols, by_address);
@@ -159,7 +161,7 @@ static void read_places(FILE *f, module *m) {
         line[strcspn(line, " (\n")] = 0;
         char *colon = strrchr(line, ':');
         if (!number || !colon || line[0] == '?' || colon[1] == '?' || colon[1] == '0') continue;
-        if (!places[number] || (in_system(places[number]) && !in_system(line))) places[number] = copy(tidy(line));
+        if (!places[number] || (in_system(places[number]) && !in_system(line))) places[number] = copy(cleaned(line));
     }
 }
 
@@ -184,7 +186,7 @@ static char *address_place(u64 caller) {
     module *m = module_at(caller);
     if (m) snprintf(text, sizeof text, "%.900s+0x%lx", leaf(m->path), caller - m->base - 1);
     else snprintf(text, sizeof text, "0x%lx", caller);
-    return copy(tidy(text));
+    return copy(cleaned(text));
 }
 
 void find_places(void) {

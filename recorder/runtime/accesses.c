@@ -60,7 +60,7 @@ static void after_atomic(thread *t) { if (t) leave(t); }
 /* Whether a compare-and-exchange is an update or a load is known after it: so its record has room before it is made. */
 static thread *before_exchange(void) {
     thread *t = enter(MAY_YIELD);
-    if (t && others) make_room(t);
+    if (t && others) make_room(t, ROOM);
     return t;
 }
 
@@ -110,7 +110,8 @@ static void after_exchange(thread *t, int done, const volatile void *p, int size
     UPDATE(bits, type, fetch_nand, __atomic_fetch_nand) \
     COMPARE_EXCHANGE(bits, type, compare_exchange_strong) \
     COMPARE_EXCHANGE(bits, type, compare_exchange_weak) \
-    PUBLIC type __tsan_atomic##bits##_compare_exchange_val(volatile type *p, type expected, type value, int order, int fail_order) { \
+    PUBLIC type __tsan_atomic##bits##_compare_exchange_val(volatile type *p, type expected, type value, int order, \
+                                                           int fail_order) { \
         thread *t = before_exchange(); \
         int done = __atomic_compare_exchange_n(p, &expected, value, 0, __ATOMIC_SEQ_CST, __ATOMIC_SEQ_CST); \
         after_exchange(t, done, p, bits / 8, CALLER); \

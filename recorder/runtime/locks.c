@@ -81,8 +81,10 @@ LOCKS(pthread_rwlock_rdlock, OP_READ_LOCK, pthread_rwlock_tryrdlock, (pthread_rw
 LOCKS(pthread_rwlock_wrlock, OP_WRITE_LOCK, pthread_rwlock_trywrlock, (pthread_rwlock_t *m), (m))
 LOCKS(pthread_rwlock_timedrdlock, OP_READ_LOCK, pthread_rwlock_tryrdlock, (pthread_rwlock_t *m, deadline d), (m, d))
 LOCKS(pthread_rwlock_timedwrlock, OP_WRITE_LOCK, pthread_rwlock_trywrlock, (pthread_rwlock_t *m, deadline d), (m, d))
-LOCKS(pthread_rwlock_clockrdlock, OP_READ_LOCK, pthread_rwlock_tryrdlock, (pthread_rwlock_t *m, clockid_t c, deadline d), (m, c, d))
-LOCKS(pthread_rwlock_clockwrlock, OP_WRITE_LOCK, pthread_rwlock_trywrlock, (pthread_rwlock_t *m, clockid_t c, deadline d), (m, c, d))
+LOCKS(pthread_rwlock_clockrdlock, OP_READ_LOCK, pthread_rwlock_tryrdlock,
+      (pthread_rwlock_t *m, clockid_t c, deadline d), (m, c, d))
+LOCKS(pthread_rwlock_clockwrlock, OP_WRITE_LOCK, pthread_rwlock_trywrlock,
+      (pthread_rwlock_t *m, clockid_t c, deadline d), (m, c, d))
 TRIES_LOCK(pthread_rwlock_tryrdlock, OP_READ_LOCK, pthread_rwlock_t)
 TRIES_LOCK(pthread_rwlock_trywrlock, OP_WRITE_LOCK, pthread_rwlock_t)
 GIVES(pthread_rwlock_unlock, OP_RW_UNLOCK, m, 0, (pthread_rwlock_t *m), (m))
@@ -160,7 +162,8 @@ TRIES(sem_trywait, OP_WAIT, s, !r, (sem_t *s), (s))
 GIVES(sem_post, OP_POST, s, 0, (sem_t *s), (s))
 ENDS(int, sem_destroy, sem_t)
 
-BEGINS(pthread_barrier_init, OP_BARRIER_INIT, b, n, (pthread_barrier_t *b, const pthread_barrierattr_t *a, unsigned n), (b, a, n))
+BEGINS(pthread_barrier_init, OP_BARRIER_INIT, b, n,
+       (pthread_barrier_t *b, const pthread_barrierattr_t *a, unsigned n), (b, a, n))
 ENDS(int, pthread_barrier_destroy, pthread_barrier_t)
 PUBLIC int pthread_barrier_wait(pthread_barrier_t *b) {
     thread *t = enter(MAY_YIELD);

@@ -9,7 +9,8 @@
 #include <unistd.h>
 #include "runtime.h"
 
-void *__libc_malloc(size_t), *__libc_calloc(size_t, size_t), *__libc_realloc(void *, size_t), *__libc_memalign(size_t, size_t);
+void *__libc_malloc(size_t), *__libc_calloc(size_t, size_t), *__libc_realloc(void *, size_t);
+void *__libc_memalign(size_t, size_t);
 void __libc_free(void *);
 
 /* ---- a new block is new variables; a free is a write ---- */
@@ -100,6 +101,7 @@ DELETES(_ZdaPvm, (void *p, size_t n))
 static void note_copy(void *to, const void *from, size_t n, uint64_t caller) {
     thread *t = others && n && instrumented(caller) ? enter(NEVER_YIELD) : 0;
     if (!t) return;
+    make_room(t, ROOM_OF_COPY);        /* nobody comes between the two */
     if (from) put(t, OP_READ, from, n, caller);
     put(t, OP_WRITE, to, n, caller);
     t->wrote = 0;

@@ -42,23 +42,24 @@ static void grow(void) {
 }
 
 /* ---- records ---- */
-/* Afterwards t has the turn and room for a record, or it answers 0.  The thread may sleep in grow, and then the turn
-   may be taken over: so it is asked for behind that. */
-int make_room(thread *t) {
+/* Afterwards t has the turn and there is room for so many records, or it answers 0.  The thread may sleep in grow, and
+   then the turn may be taken over: so it is asked for behind that. */
+int make_room(thread *t, int count) {
     for (;;) {
         if (!keep_turn(t)) take_turn(t);
         if (!recording) return 0;
-        if (written + 2 > most_records) {
+        if (written + count > most_records) {
             stop_recording("SHB_RECORDS is reached");
             return 0;
         }
-        if (written + 2 <= atomic_load(&room)) return 1;
+        if (written + count <= atomic_load(&room)) return 1;
         grow();
     }
 }
 
 void put(thread *t, enum operation operation, const volatile void *address, uint64_t size, uint64_t caller) {
-    if (!make_room(t)) return;
+    int count = operation == OP_WRITE ? ROOM_OF_COPY : ROOM;
+    if (!make_room(t, count)) return;
     uint64_t inside = size < SIZE_FOLLOWS ? size : SIZE_FOLLOWS;
     struct record r = {((uint64_t)address & LOW_48_BITS) | (uint64_t)t->number << 48,
                        (caller & LOW_48_BITS) | (uint64_t)operation << 48 | inside << 54};

@@ -60,7 +60,8 @@ int open_recording(const char *path, uint64_t most_records);
 void close_recording(void);
 void stop_recording(const char *reason);
 void note_text(const char *line);      /* adds a line to the header */
-int make_room(thread *t);
+enum { ROOM = 2, ROOM_OF_COPY = 4 };   /* records of one access, each with its size; of a copy's read and write */
+int make_room(thread *t, int count);
 void put(thread *t, enum operation operation, const volatile void *address, uint64_t size, uint64_t caller);
 void note(enum operation operation, const volatile void *object, uint64_t caller);
 int read_task_file(pid_t system_id, const char *leaf, char *text, int size);

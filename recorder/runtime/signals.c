@@ -11,7 +11,8 @@ static struct sigaction handlers[NSIG];
 enum { HANDLER_HOOKS = 1000 };         /* so many before a handler may give the turn up: an access may lie under it */
 
 static int from_the_code_itself(int signal) {
-    return signal == SIGSEGV || signal == SIGBUS || signal == SIGFPE || signal == SIGILL || signal == SIGTRAP || signal == SIGABRT;
+    return signal == SIGSEGV || signal == SIGBUS || signal == SIGFPE || signal == SIGILL || signal == SIGTRAP
+        || signal == SIGABRT;
 }
 
 static void handle(int signal, siginfo_t *info, void *context) {

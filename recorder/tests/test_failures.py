@@ -1,5 +1,6 @@
 """What fails ends the recording, or the trace, and never the program."""
 
+import re
 import signal
 import subprocess
 
@@ -35,7 +36,8 @@ class Failures(recorder.Case):
             ran = recorder.must(recorder.call(program, env=how))
             self.assertIn(b"no disk space for the record (No space left on device); the recording ends here", ran.stderr)
             answer = recorder.must(recorder.convert(path))
-            self.assertRegex(answer.stderr.decode(), rf"shb-std: {max(records - 1, 0)} records|shb-std: {records} records")
+            written = int(re.search(rb"shb-std: (\d+) records", answer.stderr)[1])
+            self.assertTrue(max(0, records - 4) <= written <= records, written)
             self.assertEqual(recorder.places(answer.stdout), set())
 
     def test_a_limit_of_records(self):
@@ -43,7 +45,7 @@ class Failures(recorder.Case):
         ran = recorder.must(recorder.call(self.program("mutex_ok.c"), env=recorder.settings(path, SHB_RECORDS="1000")))
         self.assertIn(b"SHB_RECORDS is reached; the recording ends here, the program goes on", ran.stderr)
         answer = recorder.must(recorder.convert(path))
-        self.assertIn(b"shb-std: 999 records", answer.stderr)
+        self.assertRegex(answer.stderr, rb"shb-std: (99[6-9]|1000) records")
         self.assertEqual(recorder.places(answer.stdout), set())
 
     def test_too_many_threads(self):

@@ -1,12 +1,17 @@
 """The lines stand in the order of the accesses: each value read is that of the last write before it in the trace."""
 
-import os
 import re
+import sys
 
 import recorder
 
 THREADS, STEPS = 6, 3000  # as in order.c
-SEEDS = range(4)
+SLICES = [200, 7, 1, 50]
+ON_ONE_CORE = """
+import os, sys
+os.sched_setaffinity(0, {min(os.sched_getaffinity(0))})
+os.execv(sys.argv[1], sys.argv[1:])
+"""
 
 
 def accesses(thread, values):
@@ -53,11 +58,12 @@ def steps(text):
 
 
 class Order(recorder.Case):
-    def check_order(self, option, built=None, **how):
+    def check_order(self, option, built=None, before=()):
         program, path = self.folder / "order", self.folder / "order.rec"
         recorder.build(recorder.PROGRAMS / "order.c", option, program, built)
-        for seed in SEEDS:
-            ran = recorder.must(recorder.call(program, env=recorder.settings(path, seed + 1, (200, 7, 1, 50)[seed]), **how))
+        for seed in range(len(SLICES)):
+            settings = recorder.settings(path, seed + 1, SLICES[seed])
+            ran = recorder.must(recorder.call(*before, program, env=settings))
             text = recorder.must(recorder.convert(path, "-a")).stdout.decode()
             pairs = list(reads(steps(text), ran.stdout.decode()))
             self.assertEqual(len(pairs), THREADS * STEPS)
@@ -70,8 +76,7 @@ class Order(recorder.Case):
         self.check_order("-O2")
 
     def test_more_threads_than_cores(self):
-        core = min(os.sched_getaffinity(0))
-        self.check_order("-O2", preexec_fn=lambda: os.sched_setaffinity(0, {core}))
+        self.check_order("-O2", before=(sys.executable, "-c", ON_ONE_CORE))
 
     def test_turns_that_are_taken_over_in_haste(self):
         hasty = recorder.build_recorder(self.folder, "CFLAGS=-O2 -DHASTY")

@@ -88,6 +88,10 @@ class Canned(recorder.Case):
         self.assertIn(b"the trace is cut where its accesses of long ranges take too much work", answer.stderr)
 
 
+def random_bytes(draw, count):
+    return bytes(draw.randrange(256) for _ in range(count))
+
+
 def damaged_records():
     good, draw = HEADER + ENTRIES * 2, random.Random(1)
     yield from (good[:size] for size in (0, 5, 12, 65535, 65536, 65537))
@@ -97,9 +101,9 @@ def damaged_records():
         for _ in range(draw.randrange(1, 6)):
             record[draw.randrange(65536, len(record))] = draw.randrange(256)
         yield bytes(record)
-    yield from (HEADER + draw.randbytes(16 * entries) for entries in range(20))
-    yield draw.randbytes(70000)
-    yield b"shb-record 2\nffff 1 2 \n1 2\nx y z\n0 ffffffffffff 0 /\n".ljust(65536, b"1") + ENTRIES
+    yield from (HEADER + random_bytes(draw, 16 * entries) for entries in range(20))
+    yield random_bytes(draw, 70000)
+    yield b"shb-record 2\nffff 1 2 \n1 2\nx y z\n0 fff 0 --help\n0 ffffffffffff 0 /\n".ljust(65536, b"1") + ENTRIES
 
 
 class Damaged(recorder.Case):

@@ -1,6 +1,8 @@
-/* Half a million accesses: records of more than one step of the file. */
+/* Each thread counts by itself: at 130,000 steps half a million accesses, records of more than one step of the file. */
 #include <pthread.h>
-enum { STEPS = 130000 };
+#ifndef STEPS
+#define STEPS 130000
+#endif
 static long sums[2];
 static void *work(void *sum) {
     for (int i = 0; i < STEPS; i++) *(volatile long *)sum += i;
