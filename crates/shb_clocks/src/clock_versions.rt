@@ -27,7 +27,8 @@ impl<'a> Model for ClockVersions<'a> {
 
     ghost view = { λ o. o.linked.events.now };
 
-    ghost invariant = { λ o. AreKept o.linked.events.now (length o.linked.events.now) o.linked.sizes.threads o.clocks.rows o.clocks.threads.items };
+    ghost invariant = { λ o. AreKept o.linked.events.now (length o.linked.events.now) o.linked.sizes.threads
+        o.clocks.rows o.clocks.threads.items };
 }
 
 /// The order of a trace by vector clocks, found by one forward pass. A clock is kept only where a

@@ -31,7 +31,8 @@ impl<'a> Model for EventRows<'a> {
 
     ghost view = { λ o. o.linked.events.now };
 
-    ghost invariant = { λ o. (o.rows.width ≡ o.linked.sizes.threads) × HasRowsBefore o.linked.events.now o.rows.rows (length o.linked.events.now) o.before.items };
+    ghost invariant = { λ o. (o.rows.width ≡ o.linked.sizes.threads)
+        × HasRowsBefore o.linked.events.now o.rows.rows (length o.linked.events.now) o.before.items };
 }
 
 /// The order of a trace by rows of clocks and the number of a row for each event, found by one

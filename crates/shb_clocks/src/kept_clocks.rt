@@ -62,7 +62,8 @@ impl KeptClocks {
     /// How many events of thread t are SHB-below the predecessor of e, where all events were taken.
     pub fn below_pred(&self, linked: &Linked<'_>, e: u32, t: u32) -> u32
         requires in_range { e < length linked.now.events.now }
-        requires whole { AreKept linked.now.events.now (length linked.now.events.now) linked.now.sizes.threads self.now.rows self.now.threads.items }
+        requires whole { AreKept linked.now.events.now (length linked.now.events.now) linked.now.sizes.threads
+            self.now.rows self.now.threads.items }
         ensures { IsBelowPredCount linked.now.events.now t e result }
     {
         match linked.links.pred(e) {
@@ -77,7 +78,8 @@ impl KeptClocks {
         requires in_range { e < length linked.now.events.now }
         requires learning { IsLearning linked.now.events.now e }
         requires long { length clock.now ≡ linked.now.sizes.threads }
-        requires front { (t : ℕ) → thread_at linked.now.events.now e ≡ Some t → IsFrontBut linked.now.events.now t (λ k. ShbBelow linked.now.events.now k e) clock.now }
+        requires front { (t : ℕ) → thread_at linked.now.events.now e ≡ Some t
+            → IsFrontBut linked.now.events.now t (λ k. ShbBelow linked.now.events.now k e) clock.now }
         requires kept { AreKept linked.now.events.now e linked.now.sizes.threads self.old.rows self.old.threads.items }
         ensures { IfOk result (λ _. AreKept linked.now.events.now (e + 1) linked.now.sizes.threads self.new.rows self.new.threads.items) }
     {

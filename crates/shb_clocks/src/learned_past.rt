@@ -112,7 +112,8 @@ impl LearnedPast {
         requires past { IsLearnedPast linked.now.events.now e linked.now.sizes self.now }
         requires long { length clock.old ≡ linked.now.sizes.threads }
         ensures long { length clock.new ≡ linked.now.sizes.threads }
-        ensures front { (t : ℕ) → thread_at linked.now.events.now e ≡ Some t → IsFrontBut linked.now.events.now t (λ k. ShbBelow linked.now.events.now k e) clock.new }
+        ensures front { (t : ℕ) → thread_at linked.now.events.now e ≡ Some t
+            → IsFrontBut linked.now.events.now t (λ k. ShbBelow linked.now.events.now k e) clock.new }
     {
         self.start(linked, e, clock);
         self.learn(linked, e, clock);
@@ -125,7 +126,8 @@ impl LearnedPast {
         requires past { IsLearnedPast linked.now.events.now e linked.now.sizes self.old }
         requires long { length clock.old ≡ linked.now.sizes.threads }
         ensures long { length clock.new ≡ linked.now.sizes.threads }
-        ensures kept { IfOk result (λ _. AreKept linked.now.events.now (e + 1) linked.now.sizes.threads self.new.clocks.rows self.new.clocks.threads.items) }
+        ensures kept { IfOk result (λ _. AreKept linked.now.events.now (e + 1) linked.now.sizes.threads
+            self.new.clocks.rows self.new.clocks.threads.items) }
         ensures locks { OnOk result (self.new.locks ≡ self.old.locks) }
     {
         if may_learn(linked, e) {
@@ -152,7 +154,8 @@ impl LearnedPast {
 
 /// The kept clocks of a trace, found by one forward pass.
 pub fn sweep(alloc: Global, linked: &Linked<'_>) -> Result<KeptClocks, NoMemory>
-    ensures { IfOk result (λ clocks. AreKept linked.now.events.now (length linked.now.events.now) linked.now.sizes.threads clocks.rows clocks.threads.items) }
+    ensures { IfOk result (λ clocks. AreKept linked.now.events.now (length linked.now.events.now)
+        linked.now.sizes.threads clocks.rows clocks.threads.items) }
 {
     let mut clock = Clock::new(alloc, linked.sizes.threads as usize)?;
     let mut past = LearnedPast::new(alloc, linked)?;

@@ -44,7 +44,8 @@ fn reaches(linked: &Linked<'_>, marks: &[bool], a: u32, p: u32) -> bool
     requires earlier { a < p }
     requires in_range { p < length linked.now.events.now }
     requires as_long { length marks.now ≡ length linked.now.events.now }
-    requires known { (k : ℕ) → a < k → k < length linked.now.events.now → (slice_index_or marks.now k false ≡ true) ↔ ShbBelow linked.now.events.now k p }
+    requires known { (k : ℕ) → a < k → k < length linked.now.events.now → (slice_index_or marks.now k false ≡ true)
+        ↔ ShbBelow linked.now.events.now k p }
     ensures { IsTrue result ↔ ShbBelow linked.now.events.now a p }
 {
     for b in a + 1..p + 1 {

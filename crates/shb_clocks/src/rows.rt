@@ -70,7 +70,8 @@ impl Rows {
         requires few { length self.old.rows + 1 < 2 ^ 32 }
         ensures width { OnOk result (self.new.width ≡ self.old.width) }
         ensures more { OnOk result ((length self.old.rows ≤ length self.new.rows) × (length self.new.rows ≤ length self.old.rows + 1)) }
-        ensures kept { (i : ℕ) → i < length self.old.rows → OnOk result (slice_index_or self.new.rows i [] ≡ slice_index_or self.old.rows i []) }
+        ensures kept { (i : ℕ) → i < length self.old.rows
+            → OnOk result (slice_index_or self.new.rows i [] ≡ slice_index_or self.old.rows i []) }
         ensures row { IfOk result (λ number. (number < length self.new.rows) × (slice_index_or self.new.rows number [] ≡ clock.now)) }
     {
         if self.row(given) == clock {

@@ -71,13 +71,15 @@ fn row_after(
     requires width { rows.old.width ≡ linked.now.sizes.threads }
     requires few { length rows.old.rows + 1 < 2 ^ 32 }
     requires long { length clock.old ≡ linked.now.sizes.threads }
-    requires before { (t : ℕ) → thread_at linked.now.events.now e ≡ Some t → IsRowFor linked.now.events.now rows.old.rows t (λ k. BelowPred linked.now.events.now k e) before }
+    requires before { (t : ℕ) → thread_at linked.now.events.now e ≡ Some t
+        → IsRowFor linked.now.events.now rows.old.rows t (λ k. BelowPred linked.now.events.now k e) before }
     requires source { IsSource linked.now.events.now rows.old.rows e source }
     ensures long { OnOk result (length clock.new ≡ linked.now.sizes.threads) }
     ensures grown { OnOk result (HasGrown rows.old rows.new) }
-    ensures row { (t : ℕ) → thread_at linked.now.events.now e ≡ Some t → IfOk result (IsRowFor linked.now.events.now rows.new.rows t (λ k. ShbBelow linked.now.events.now k e)) }
-    ensures shared { (t : ℕ) → thread_at linked.now.events.now e ≡ Some t → KnowsStamp (slice_index_or rows.old.rows before []) t source
-        → OnOk result (rows.new ≡ rows.old) }
+    ensures row { (t : ℕ) → thread_at linked.now.events.now e ≡ Some t
+        → IfOk result (IsRowFor linked.now.events.now rows.new.rows t (λ k. ShbBelow linked.now.events.now k e)) }
+    ensures shared { (t : ℕ) → thread_at linked.now.events.now e ≡ Some t
+        → KnowsStamp (slice_index_or rows.old.rows before []) t source → OnOk result (rows.new ≡ rows.old) }
 {
     let thread = linked.events[e as usize].thread;
     if source.is_known(thread, rows.row(before)) {

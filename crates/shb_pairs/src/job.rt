@@ -8,6 +8,7 @@ ghost use Rattle.shb_pairs.specs.Races.{ends, races_at};
 use crate::accesses::Accesses;
 use crate::piece::Piece;
 use crate::races::races_in;
+use crate::search::Search;
 use shb_clocks::{Order, Ordered};
 use shb_discipline::Disciplined;
 use shb_fan::Job;
@@ -88,7 +89,11 @@ impl<'a, O: Order> Job for PairJob<'a, O> {
     fn run(&self, alloc: Global, k: u64) -> Result<Vec<Pair>, NoMemory> {
         let pieces = self.pieces;
         let piece = pieces[k as usize];
-        let (variable, from, to) = (piece.variable, piece.from as usize, piece.to as usize);
-        Ok(races_in(alloc, &self.ordered, self.accesses, variable, from, to)?)
+        let search = Search {
+            ordered: &self.ordered,
+            accesses: self.accesses,
+            variable: piece.variable,
+        };
+        Ok(races_in(alloc, &search, piece.from as usize, piece.to as usize)?)
     }
 }

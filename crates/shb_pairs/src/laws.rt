@@ -15,7 +15,8 @@ ghost use Rattle.shb_pairs.specs.Races.{AreRacesOfRun, joined, piece_at, races_a
 
 /// The values of all pieces, joined, are the race list, where a variable that isn't open has no race.
 pub fn pieces_give_race_list()
-    ensures { (a : Listed) → IsNumberedByAccess a.trace → AreOpen a.trace a.flags → IsRaceList a.trace (joined (values_of (races_at a) (length (pieces_in a)))) }
+    ensures { (a : Listed) → IsNumberedByAccess a.trace → AreOpen a.trace a.flags
+        → IsRaceList a.trace (joined (values_of (races_at a) (length (pieces_in a)))) }
 {}
 
 /// The value of a piece is its own races: a pair is in it exactly where it is a race whose later access
@@ -26,7 +27,8 @@ pub fn piece_gives_its_races()
 
 /// The printed schedule of a race is a schedule of it.
 pub fn printed_schedule_is_schedule()
-    ensures { (trace : List Event) (s : List ℕ) (i j : ℕ) → IsDisciplined trace → Race trace i j → IsPrintedSchedule trace s i j → IsSchedule trace s i j }
+    ensures { (trace : List Event) (s : List ℕ) (i j : ℕ) → IsDisciplined trace → Race trace i j
+        → IsPrintedSchedule trace s i j → IsSchedule trace s i j }
 {}
 
 /// A conflicting pair that has a schedule is a race.
@@ -52,5 +54,6 @@ pub fn race_has_schedule()
 
 /// A pair has one printed schedule.
 pub fn printed_schedule_is_unique()
-    ensures { (trace : List Event) (s other : List ℕ) (i j : ℕ) → IsPrintedSchedule trace s i j → IsPrintedSchedule trace other i j → s ≡ other }
+    ensures { (trace : List Event) (s other : List ℕ) (i j : ℕ) → IsPrintedSchedule trace s i j
+        → IsPrintedSchedule trace other i j → s ≡ other }
 {}

@@ -25,6 +25,7 @@ mod race;
 mod races;
 mod rivals;
 mod screen;
+mod search;
 
 pub use accesses::{Accesses, accesses_of, accesses_of_open};
 pub use job::PairJob;

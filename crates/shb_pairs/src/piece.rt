@@ -17,9 +17,9 @@ const RUN_LENGTH: u32 = 64;
 pub struct Piece {
     /// The number of the variable.
     pub variable: u32,
-    /// The place of its first access in the list, from 0.
+    /// The index of its first access in the list, from 0.
     pub from: u32,
-    /// The place behind its last access.
+    /// The index after its last access.
     pub to: u32,
 }
 

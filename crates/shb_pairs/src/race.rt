@@ -37,7 +37,8 @@ pub(crate) fn is_race_by<O: Order>(ordered: &Ordered<'_, O>, first: u32, second:
     requires earlier { first < second }
     requires in_range { second < length ordered.now.trace.now.events.now }
     ensures race { IsTrue result ↔ Race ordered.now.trace.now.events.now first second }
-    ensures below { ¬ IsTrue result → Conflict ordered.now.trace.now.events.now first second → BelowPred ordered.now.trace.now.events.now first second }
+    ensures below { ¬ IsTrue result → Conflict ordered.now.trace.now.events.now first second
+        → BelowPred ordered.now.trace.now.events.now first second }
 {
     events_conflict_at(ordered.trace.events, first, second)
         && !is_below_pred(ordered, first, second)
@@ -63,7 +64,9 @@ pub fn is_race<O: Order>(
     requires earlier { first < second }
     requires in_range { second < length trace.now.events.now }
     ensures race { IsTrue result ↔ Race trace.now.events.now first second }
-    ensures schedulable { IsTrue result ↔ (Conflict trace.now.events.now first second × ((s : List ℕ) × IsSchedule trace.now.events.now s first second)) }
+    ensures schedulable { IsTrue result
+        ↔ (Conflict trace.now.events.now first second
+        × ((s : List ℕ) × IsSchedule trace.now.events.now s first second)) }
     ensures below { ¬ IsTrue result → Conflict trace.now.events.now first second → BelowPred trace.now.events.now first second }
 {
     let ordered = Ordered {

@@ -1,6 +1,8 @@
 //! The races with the accesses of one variable.
 
 ghost use Rattle.std.specs.Prelude.{◌≡◌, ◌++◌, ℕ, ◌+◌, ◌<◌, ◌≤◌, true, Some, All, IfOk, IfSome, IsTrue, ◌↔◌, flat_map, length, map, slice_index_or, slice_range};
+ghost use Rattle.shb_lines.specs.declared.event.Op.TheVariants.{Write};
+ghost use Rattle.shb_lines.specs.events.Events.{op_at};
 ghost use Rattle.shb_lines.specs.events.Order.{BelowPred};
 ghost use Rattle.shb_lines.specs.events.Race.{Race, variable_at};
 ghost use Rattle.shb_pairs.specs.Accesses.{accesses_in, variables_in};
@@ -8,9 +10,9 @@ ghost use Rattle.shb_pairs.specs.Listed.{is_open};
 ghost use Rattle.shb_pairs.specs.Races.{ends, races_with};
 ghost use Rattle.shb_pairs.specs.Search.{IsSettled, racing};
 
-use crate::accesses::Accesses;
 use crate::race::{is_below_pred, is_race_by, is_write};
 use crate::rivals::rivals_of;
+use crate::search::Search;
 use shb_clocks::{Order, Ordered};
 use shb_discipline::Disciplined;
 use shb_lines::Pair;
@@ -33,17 +35,14 @@ fn add_pairs(races: &mut Vec<Pair>, firsts: &[u32], second: u32) -> Result<(), A
 fn add_races<O: Order>(
     alloc: Global,
     races: &mut Vec<Pair>,
-    ordered: &Ordered<'_, O>,
-    accesses: &Accesses<'_>,
-    variable: u32,
+    search: &Search<'_, '_, O>,
     second: u32,
 ) -> Result<(), AllocError>
-    requires accesses { accesses.now.trace ≡ ordered.now.trace.now.events.now }
-    requires listed { is_open accesses.now.flags variable ≡ true }
-    requires accessed { variable_at ordered.now.trace.now.events.now second ≡ Some variable }
-    ensures { IfOk result (λ _. map ends races.new.items ≡ map ends races.old.items ++ races_with ordered.now.trace.now.events.now second) }
+    requires accessed { variable_at search.now.ordered.now.trace.now.events.now second ≡ Some search.now.variable }
+    ensures { IfOk result (λ _. map ends races.new.items ≡ map ends races.old.items
+        ++ races_with search.now.ordered.now.trace.now.events.now second) }
 {
-    let firsts = rivals_of(alloc, ordered, accesses, variable, second)?;
+    let firsts = rivals_of(alloc, search, second)?;
     add_pairs(races, firsts.as_slice(), second)
 }
 
@@ -56,7 +55,8 @@ fn add_races_among<O: Order>(
 ) -> Result<(), AllocError>
     requires in_range { second < length ordered.now.trace.now.events.now }
     requires earlier { All (λ i. i < second) firsts.now }
-    ensures { IfOk result (λ _. map ends races.new.items ≡ map ends races.old.items ++ map (λ i. (i, second)) (racing ordered.now.trace.now.events.now second firsts.now)) }
+    ensures { IfOk result (λ _. map ends races.new.items ≡ map ends races.old.items
+        ++ map (λ i. (i, second)) (racing ordered.now.trace.now.events.now second firsts.now)) }
 {
     for first in firsts {
         if is_race_by(ordered, *first, second) {
@@ -81,7 +81,7 @@ fn is_ordered<O: Order>(ordered: &Ordered<'_, O>, first: u32, second: u32) -> bo
 }
 
 /// Adds the races of the access at a place, where the last write before it has no race and is
-/// SHB-below its predecessor: then it races with reads behind that write alone.
+/// SHB-below its predecessor: then it races with reads after that write alone.
 fn add_races_since<O: Order>(
     races: &mut Vec<Pair>,
     ordered: &Ordered<'_, O>,
@@ -90,9 +90,12 @@ fn add_races_since<O: Order>(
     place: usize,
 ) -> Result<(), AllocError>
     requires inside { place < length accesses.now }
-    requires settled { (x : ℕ) × (accesses.now ≡ accesses_in ordered.now.trace.now.events.now x) × IsSettled ordered.now.trace.now.events.now x accesses.now place write }
-    requires ordered { BelowPred ordered.now.trace.now.events.now (slice_index_or accesses.now write 0) (slice_index_or accesses.now place 0) }
-    ensures { IfOk result (λ _. map ends races.new.items ≡ map ends races.old.items ++ races_with ordered.now.trace.now.events.now (slice_index_or accesses.now place 0)) }
+    requires settled { (x : ℕ) × (accesses.now ≡ accesses_in ordered.now.trace.now.events.now x)
+        × IsSettled ordered.now.trace.now.events.now x accesses.now place write }
+    requires ordered { BelowPred ordered.now.trace.now.events.now (slice_index_or accesses.now write 0)
+        (slice_index_or accesses.now place 0) }
+    ensures { IfOk result (λ _. map ends races.new.items ≡ map ends races.old.items
+        ++ races_with ordered.now.trace.now.events.now (slice_index_or accesses.now place 0)) }
 {
     let second = accesses[place];
     if is_write(ordered.trace.events[second as usize].op) {
@@ -112,9 +115,16 @@ fn ordered_write<O: Order>(
     place: usize,
 ) -> Option<usize>
     requires inside { place < length accesses.now }
-    requires settled { (x : ℕ) × (accesses.now ≡ accesses_in ordered.now.trace.now.events.now x) × IfSome settled (λ s. IsSettled ordered.now.trace.now.events.now x accesses.now place s) }
-    ensures settled { (x : ℕ) → IfSome settled (λ s. IsSettled ordered.now.trace.now.events.now x accesses.now place s) → IfSome result (λ s. IsSettled ordered.now.trace.now.events.now x accesses.now place s) }
-    ensures ordered { IfSome result (λ s. BelowPred ordered.now.trace.now.events.now (slice_index_or accesses.now s 0) (slice_index_or accesses.now place 0)) }
+    requires settled { (x : ℕ) × (accesses.now ≡ accesses_in ordered.now.trace.now.events.now x)
+        × IfSome settled (λ s. IsSettled ordered.now.trace.now.events.now x accesses.now place s) }
+    ensures settled { (x : ℕ) → IfSome settled (λ s. IsSettled ordered.now.trace.now.events.now x accesses.now place s)
+        → IfSome result (λ s. IsSettled ordered.now.trace.now.events.now x accesses.now place s) }
+    ensures used { (s : ℕ) → settled ≡ Some s
+        → BelowPred ordered.now.trace.now.events.now (slice_index_or accesses.now s 0)
+        (slice_index_or accesses.now place 0) → result ≡ Some s }
+    ensures ordered { IfSome result
+        (λ s. BelowPred ordered.now.trace.now.events.now (slice_index_or accesses.now s 0)
+        (slice_index_or accesses.now place 0)) }
 {
     match settled {
         Some(write) if is_ordered(ordered, accesses[write], accesses[place]) => { Some(write) }
@@ -133,7 +143,11 @@ fn next_settled(
     requires inside { place < length accesses.now }
     requires accesses { (x : ℕ) × (accesses.now ≡ accesses_in trace.now.events.now x) }
     requires free { IsTrue free → (i : ℕ) → ¬ Race trace.now.events.now i (slice_index_or accesses.now place 0) }
-    ensures { (x : ℕ) → accesses.now ≡ accesses_in trace.now.events.now x → IfSome settled (λ s. IsSettled trace.now.events.now x accesses.now place s) → IfSome result (λ s. IsSettled trace.now.events.now x accesses.now (place + 1) s) }
+    ensures settled { (x : ℕ) → accesses.now ≡ accesses_in trace.now.events.now x
+        → IfSome settled (λ s. IsSettled trace.now.events.now x accesses.now place s)
+        → IfSome result (λ s. IsSettled trace.now.events.now x accesses.now (place + 1) s) }
+    ensures fresh { IsTrue free → (x : ℕ)
+        → op_at trace.now.events.now (slice_index_or accesses.now place 0) ≡ Some (Write x) → result ≡ Some place }
 {
     if !is_write(trace.events[accesses[place] as usize].op) {
         settled
@@ -149,25 +163,24 @@ fn next_settled(
 fn add_races_at<O: Order>(
     alloc: Global,
     races: &mut Vec<Pair>,
-    ordered: &Ordered<'_, O>,
-    accesses: &Accesses<'_>,
-    variable: u32,
+    search: &Search<'_, '_, O>,
     settled: Option<usize>,
     place: usize,
 ) -> Result<(), AllocError>
-    requires accesses { accesses.now.trace ≡ ordered.now.trace.now.events.now }
-    requires listed { is_open accesses.now.flags variable ≡ true }
-    requires variable { variable < variables_in ordered.now.trace.now.events.now }
-    requires inside { place < length (accesses_in ordered.now.trace.now.events.now variable) }
-    requires settled { IfSome settled (λ s. IsSettled ordered.now.trace.now.events.now variable (accesses_in ordered.now.trace.now.events.now variable) place s) }
-    ensures { IfOk result (λ _. map ends races.new.items ≡ map ends races.old.items ++ races_with ordered.now.trace.now.events.now (slice_index_or (accesses_in ordered.now.trace.now.events.now variable) place 0)) }
+    requires inside { place < length (accesses_in search.now.ordered.now.trace.now.events.now search.now.variable) }
+    requires settled { IfSome settled
+        (λ s. IsSettled search.now.ordered.now.trace.now.events.now search.now.variable
+        (accesses_in search.now.ordered.now.trace.now.events.now search.now.variable) place s) }
+    ensures { IfOk result (λ _. map ends races.new.items ≡ map ends races.old.items
+        ++ races_with search.now.ordered.now.trace.now.events.now
+        (slice_index_or (accesses_in search.now.ordered.now.trace.now.events.now search.now.variable) place 0)) }
 {
-    let places = accesses.of(variable);
-    match ordered_write(ordered, places, settled, place) {
-        Some(write) => add_races_since(races, ordered, places, write, place),
+    let places = search.accesses.of(search.variable);
+    match ordered_write(search.ordered, places, settled, place) {
+        Some(write) => add_races_since(races, search.ordered, places, write, place),
         None => {
             let second = places[place];
-            add_races(alloc, races, ordered, accesses, variable, second)
+            add_races(alloc, races, search, second)
         }
     }
 }
@@ -175,34 +188,29 @@ fn add_races_at<O: Order>(
 /// The races whose later access is in a run of the accesses of one variable, by the later access,
 /// then by the earlier one.
 ///
-/// A write without a race orders all accesses before it. So for an access behind such a write, which
+/// A write without a race orders all accesses before it. So for an access after such a write, which
 /// is SHB-below its predecessor, only the accesses between the two are tested; for any other the
 /// accesses of each other thread are searched.
 pub(crate) fn races_in<O: Order>(
     alloc: Global,
-    ordered: &Ordered<'_, O>,
-    accesses: &Accesses<'_>,
-    variable: u32,
+    search: &Search<'_, '_, O>,
     from: usize,
     to: usize,
 ) -> Result<Vec<Pair>, AllocError>
-    requires accesses { accesses.now.trace ≡ ordered.now.trace.now.events.now }
-    requires listed { is_open accesses.now.flags variable ≡ true }
-    requires variable { variable < variables_in ordered.now.trace.now.events.now }
     requires forward { from ≤ to }
-    requires within { to ≤ length (accesses_in ordered.now.trace.now.events.now variable) }
-    ensures { IfOk result (λ v. map ends v.items ≡ flat_map (races_with ordered.now.trace.now.events.now) (slice_range (accesses_in ordered.now.trace.now.events.now variable) from to)) }
+    requires within { to ≤ length (accesses_in search.now.ordered.now.trace.now.events.now search.now.variable) }
+    ensures { IfOk result (λ v. map ends v.items
+        ≡ flat_map (races_with search.now.ordered.now.trace.now.events.now)
+        (slice_range (accesses_in search.now.ordered.now.trace.now.events.now search.now.variable) from to)) }
 {
-    let places = accesses.of(variable);
+    let places = search.accesses.of(search.variable);
     let mut races = Vec::new(alloc);
     let mut settled = None;
     for place in from..to {
         let count = races.len();
-        add_races_at(
-            alloc, &mut races, ordered, accesses, variable, settled, place,
-        )?;
+        add_races_at(alloc, &mut races, search, settled, place)?;
         let free = races.len() == count;
-        settled = next_settled(ordered.trace, places, settled, place, free);
+        settled = next_settled(search.ordered.trace, places, settled, place, free);
     }
     Ok(races)
 }

@@ -11,9 +11,9 @@ ghost use Rattle.shb_pairs.specs.Listed.{is_open};
 ghost use Rattle.shb_pairs.specs.Search.{AreRivals, IsOfOneThread, racing};
 ghost use Rattle.shb_pairs.specs.declared.buckets.Key.TheVariants.{Thread};
 
-use crate::accesses::Accesses;
 use crate::buckets::part;
 use crate::race::is_write;
+use crate::search::Search;
 use shb_clocks::{Order, Ordered};
 use shb_lines::Event;
 use shb_links::Links;
@@ -26,7 +26,9 @@ fn run_end(events: &[Event], positions: &[u32], start: usize) -> usize
     requires inside { start < length positions.now }
     ensures more { start < result }
     ensures within { result ≤ length positions.now }
-    ensures same_thread { (k : ℕ) → start ≤ k → k < result → key_at events.now Thread (slice_index_or positions.now k 0) ≡ key_at events.now Thread (slice_index_or positions.now start 0) }
+    ensures same_thread { (k : ℕ) → start ≤ k → k < result
+        → key_at events.now Thread (slice_index_or positions.now k 0)
+        ≡ key_at events.now Thread (slice_index_or positions.now start 0) }
 {
     let thread = events[positions[start] as usize].thread;
     let mut end = start + 1;
@@ -50,8 +52,10 @@ fn tail_start(links: &Links<'_>, positions: &[u32], end: usize, below: u32) -> u
     requires in_range { All (λ k. k < length links.now) positions.now }
     requires within { end ≤ length positions.now }
     ensures start { result ≤ end }
-    ensures above { (t k : ℕ) → result ≤ k → k < end → thread_at links.now (slice_index_or positions.now k 0) ≡ Some t → below < place_in_thread links.now t (slice_index_or positions.now k 0) }
-    ensures under { (t k : ℕ) → k + 1 ≡ result → thread_at links.now (slice_index_or positions.now k 0) ≡ Some t → place_in_thread links.now t (slice_index_or positions.now k 0) ≤ below }
+    ensures above { (t k : ℕ) → result ≤ k → k < end → thread_at links.now (slice_index_or positions.now k 0) ≡ Some t
+        → below < place_in_thread links.now t (slice_index_or positions.now k 0) }
+    ensures under { (t k : ℕ) → k + 1 ≡ result → thread_at links.now (slice_index_or positions.now k 0) ≡ Some t
+        → place_in_thread links.now t (slice_index_or positions.now k 0) ≤ below }
 {
     // From the newest back: each step but the last is a race that is found.
     for k in (0..end).rev() {
@@ -63,7 +67,7 @@ fn tail_start(links: &Links<'_>, positions: &[u32], end: usize, below: u32) -> u
 }
 
 /// Adds the positions, all of one thread, that race with a later access. Places in a thread rise with
-/// positions, so the races are the last ones before it: those behind the events of the thread that
+/// positions, so the races are the last ones before it: those after the events of the thread that
 /// are SHB-below its predecessor.
 fn add_tail<O: Order>(
     found: &mut Vec<u32>,
@@ -114,23 +118,19 @@ fn add_rivals<O: Order>(
 /// The accesses that race with a later access of a variable, in trace order.
 pub(crate) fn rivals_of<O: Order>(
     alloc: Global,
-    ordered: &Ordered<'_, O>,
-    accesses: &Accesses<'_>,
-    variable: u32,
+    search: &Search<'_, '_, O>,
     second: u32,
 ) -> Result<Vec<u32>, AllocError>
-    requires accesses { accesses.now.trace ≡ ordered.now.trace.now.events.now }
-    requires listed { is_open accesses.now.flags variable ≡ true }
-    requires accessed { variable_at ordered.now.trace.now.events.now second ≡ Some variable }
-    ensures { IfOk result (λ v. v.items ≡ numbers_where (λ i. is_race ordered.now.trace.now.events.now i second) second) }
+    requires accessed { variable_at search.now.ordered.now.trace.now.events.now second ≡ Some search.now.variable }
+    ensures { IfOk result (λ v. v.items ≡ numbers_where (λ i. is_race search.now.ordered.now.trace.now.events.now i second) second) }
 {
     let mut found = Vec::new(alloc);
-    let writes = accesses.writes_by_thread(variable);
-    add_rivals(&mut found, ordered, writes, second)?;
+    let writes = search.accesses.writes_by_thread(search.variable);
+    add_rivals(&mut found, search.ordered, writes, second)?;
     // A read conflicts with no read.
-    if is_write(ordered.trace.events[second as usize].op) {
-        let reads = accesses.reads_by_thread(variable);
-        add_rivals(&mut found, ordered, reads, second)?;
+    if is_write(search.ordered.trace.events[second as usize].op) {
+        let reads = search.accesses.reads_by_thread(search.variable);
+        add_rivals(&mut found, search.ordered, reads, second)?;
     }
     found.sort_unstable();
     Ok(found)

@@ -11,7 +11,7 @@ run_positions run = range_with_len run.first run.len
 abbrev pub positions_in : List Run → List ℕ
 positions_in runs = flat_map run_positions runs
 
--- the position behind the run is a number of 32 bits
+-- the position after the run is a number of 32 bits
 abbrev pub EndsInRange : Run → Type 0
 EndsInRange run = run.first + run.len < 2 ^ 32
 

@@ -62,7 +62,7 @@ impl Positions {
         })
     }
 
-    /// Adds a position behind the others. It goes into the last run where it follows on that.
+    /// Adds a position after the others. It goes into the last run where it follows on that.
     /// `NoMemory` where memory was refused; the positions are then as they were.
     pub fn push(&mut self, position: u32) -> Result<(), NoMemory>
         requires few { length self.old < 2 ^ 64 - 1 }
@@ -126,7 +126,7 @@ fn extend_last(runs: &mut [Run], position: u32) -> bool
     true
 }
 
-/// Adds a position behind those of some runs.
+/// Adds a position after those of some runs.
 fn add_position(runs: &mut Vec<Run>, position: u32) -> Result<(), NoMemory>
     requires fits { position < 2 ^ 32 - 1 }
     requires ends { All EndsInRange runs.old.items }
@@ -146,7 +146,7 @@ fn add_position(runs: &mut Vec<Run>, position: u32) -> Result<(), NoMemory>
     Ok(())
 }
 
-/// Adds the positions of a run behind others.
+/// Adds the positions of a run after others.
 fn push_run(positions: &mut Vec<u32>, run: Run) -> Result<(), NoMemory>
     requires ends { EndsInRange run }
     ensures { IfOk result (λ _. positions.new.items ≡ positions.old.items ++ run_positions run) }

@@ -1,4 +1,3 @@
 pub mod CheckpointLemmas
 pub mod CutLemmas
 pub mod Printed
-pub mod Rising

@@ -13,7 +13,7 @@ use Rattle.shb_lines.proofs.events.Listed.{IsListed}
 use Rattle.shb_lines.proofs.events.Schedulable.{printed_is_schedule}
 use Rattle.shb_lines.proofs.events.Reach.{numbers_listed, reflect_or, reflect_below_pred, event_at_access}
 use Rattle.std.proofs.lemmas.Option.{get_or_from_slice_get, slice_get_within}
-use Rattle.shb_witness.proofs.Rising.{increasing_equal}
+use Rattle.shb_lines.proofs.events.Increasing.{increasing_equal}
 use Rattle.shb_witness.specs.Cuts.{BelowEither}
 use Rattle.shb_witness.specs.Schedules.{Asked, printed_schedule, schedule_at}
 

@@ -1,4 +1,5 @@
-use Rattle.std.proofs.Common.{ℕ, Option, subst}
+use Rattle.std.proofs.Common.{◌≡◌, ℕ, Option, Some, get_or, subst, sym, ◌∙◌}
+use Rattle.shb_lines.specs.events.Order.{BelowPred}
 use Rattle.std.specs.Prelude.{IfSome}
 use Rattle.shb_pairs.specs.Search.{IsSettled}
 use Rattle.shb_pairs.proofs.Settled.{seen_access, seen_rises}
@@ -11,3 +12,12 @@ is_ordered-requires-clause-earlier g c =
 
 pub is_ordered-requires-clause-in_range : goal.is_ordered-requires-clause-in_range
 is_ordered-requires-clause-in_range g c = (seen_access c.args.ordered.now.trace.now.events.now c.requires.settled.0 c.args.accesses.now c.args.place c.requires.settled.1 c.requires.inside).1
+
+pub returns-in_default-clause-used : goal.returns-in_default-clause-used
+returns-in_default-clause-used g c s is below =
+    let trace = c.args.ordered.now.trace.now.events.now in
+    let same : c.in-Some.write ≡ s = (let e : Some c.in-Some.write ≡ Some s = sym c.in-Some.is ∙ is in cc) in
+    let here = subst (λ (k : ℕ). BelowPred trace (get_or c.args.accesses.now k 0) (get_or c.args.accesses.now c.args.place 0)) (sym same) below in
+    let passing = c.is_ordered.ensures.1 here in
+    let fails = c.if-is_ordered.false in
+    absurd (let f : ⊥ = cc in f)

@@ -14,20 +14,20 @@ pub loop-place-init : goal.loop-place-init
 loop-place-init g c = record {
   low = omega arith;
   high = (let le = c.requires.forward in omega (arith, le));
-  found = run_first c.args.ordered.now.trace.now.events.now (accesses_in c.args.ordered.now.trace.now.events.now c.args.variable) _ c.args.from c.new-races.ensures.items;
+  found = run_first c.args.search.now.ordered.now.trace.now.events.now (accesses_in c.args.search.now.ordered.now.trace.now.events.now c.args.search.now.variable) _ c.args.from c.new-races.ensures.items;
   settled = tt;
 }
 
 pub next_settled-settled-requires-clause-free : goal.next_settled-settled-requires-clause-free
 next_settled-settled-requires-clause-free g c same i race =
-    let is = c.of-places.ensures.exact ∙ listed_of_trace c.args.accesses.now c.args.ordered.now.trace.now.events.now c.args.variable c.requires.accesses c.requires.listed in
-    let there = subst (λ (ks : List ℕ). Race c.args.ordered.now.trace.now.events.now i (get_or ks c.loop-place.place 0)) is race in
+    let is = c.of-places.ensures.exact ∙ listed_of_trace c.args.search.now.accesses.now c.args.search.now.ordered.now.trace.now.events.now c.args.search.now.variable c.args.search.now.of_trace c.args.search.now.listed in
+    let there = subst (λ (ks : List ℕ). Race c.args.search.now.ordered.now.trace.now.events.now i (get_or ks c.loop-place.place 0)) is race in
     let old = length-map c.loop-place.races.items ends in
     let new = length-map c.add_races_at.new.races.items ends in
     let equal = eqb-true _ _ same in
     let first = c.len-count.ensures in
     let second = c.len.ensures in
-    none_added c.args.ordered.now.trace.now.events.now (get_or (accesses_in c.args.ordered.now.trace.now.events.now c.args.variable) c.loop-place.place 0) _ _ c.in_ok-add_races_at.ensures (omega (arith, old, new, equal, first, second)) i there
+    none_added c.args.search.now.ordered.now.trace.now.events.now (get_or (accesses_in c.args.search.now.ordered.now.trace.now.events.now c.args.search.now.variable) c.loop-place.place 0) _ _ c.in_ok-add_races_at.ensures (omega (arith, old, new, equal, first, second)) i there
 
 pub loop-place-preserved : goal.loop-place-preserved
 loop-place-preserved g c = record {
@@ -35,13 +35,13 @@ loop-place-preserved g c = record {
   high = omega arith;
   found = (let le = c.requires.within in
       c.in_ok-add_races_at.ensures
-      ∙ (ap (λ (ps : List (ℕ × ℕ)). ps ++ races_with c.args.ordered.now.trace.now.events.now (get_or (accesses_in c.args.ordered.now.trace.now.events.now c.args.variable) c.loop-place.place 0)) c.loop-place.invariant.found
-      ∙ sym (run_more c.args.ordered.now.trace.now.events.now (accesses_in c.args.ordered.now.trace.now.events.now c.args.variable) c.args.from c.loop-place.place c.loop-place.invariant.low (omega (arith, le)))));
-  settled = next_seen c.args.ordered.now.trace.now.events.now c.args.variable c.of-places.result.now c.loop-place.place c.loop-place.settled c.next_settled-settled.result (c.of-places.ensures.exact ∙ listed_of_trace c.args.accesses.now c.args.ordered.now.trace.now.events.now c.args.variable c.requires.accesses c.requires.listed) c.next_settled-settled.ensures c.loop-place.invariant.settled;
+      ∙ (ap (λ (ps : List (ℕ × ℕ)). ps ++ races_with c.args.search.now.ordered.now.trace.now.events.now (get_or (accesses_in c.args.search.now.ordered.now.trace.now.events.now c.args.search.now.variable) c.loop-place.place 0)) c.loop-place.invariant.found
+      ∙ sym (run_more c.args.search.now.ordered.now.trace.now.events.now (accesses_in c.args.search.now.ordered.now.trace.now.events.now c.args.search.now.variable) c.args.from c.loop-place.place c.loop-place.invariant.low (omega (arith, le)))));
+  settled = next_seen c.args.search.now.ordered.now.trace.now.events.now c.args.search.now.variable c.of-places.result.now c.loop-place.place c.loop-place.settled c.next_settled-settled.result (c.of-places.ensures.exact ∙ listed_of_trace c.args.search.now.accesses.now c.args.search.now.ordered.now.trace.now.events.now c.args.search.now.variable c.args.search.now.of_trace c.args.search.now.listed) c.next_settled-settled.ensures.settled c.loop-place.invariant.settled;
 }
 
 pub returns : goal.returns
 returns g c =
     let high = c.loop-place.invariant.high in
     let e : c.loop-place.place ≡ c.args.to = omega (arith, high) in
-    c.loop-place.invariant.found ∙ ap (λ (n : ℕ). flat_map (races_with c.args.ordered.now.trace.now.events.now) (take (n - c.args.from) (drop c.args.from (accesses_in c.args.ordered.now.trace.now.events.now c.args.variable)))) e
+    c.loop-place.invariant.found ∙ ap (λ (n : ℕ). flat_map (races_with c.args.search.now.ordered.now.trace.now.events.now) (take (n - c.args.from) (drop c.args.from (accesses_in c.args.search.now.ordered.now.trace.now.events.now c.args.search.now.variable)))) e

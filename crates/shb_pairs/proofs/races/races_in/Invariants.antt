@@ -9,6 +9,6 @@ abbrev pub invariant-loop-place : goal.invariant-loop-place
 invariant-loop-place g l = record {
   low : l.from ≤ l.place;
   high : l.place ≤ l.to;
-  found : map ends l.races.items ≡ flat_map (races_with l.ordered.trace.now.events.now) (take (l.place - l.from) (drop l.from (accesses_in l.ordered.trace.now.events.now l.variable)));
-  settled : IfSome l.settled (λ s. IsSettled l.ordered.trace.now.events.now l.variable (accesses_in l.ordered.trace.now.events.now l.variable) l.place s);
+  found : map ends l.races.items ≡ flat_map (races_with l.search.ordered.now.trace.now.events.now) (take (l.place - l.from) (drop l.from (accesses_in l.search.ordered.now.trace.now.events.now l.search.variable)));
+  settled : IfSome l.settled (λ s. IsSettled l.search.ordered.now.trace.now.events.now l.search.variable (accesses_in l.search.ordered.now.trace.now.events.now l.search.variable) l.place s);
 }

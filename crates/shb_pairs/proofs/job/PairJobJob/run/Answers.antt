@@ -4,25 +4,24 @@ use Rattle.shb_pairs.specs.Races.{piece_at}
 use Rattle.shb_pairs.proofs.Runs.{piece_value, run_small, run_value}
 use Rattle.shb_pairs.proofs.job.PairJobJob.run.Goals as goal
 
-pub overflow_cast-from : goal.overflow_cast-from
-overflow_cast-from g c =
+pub overflow_cast-piece : goal.overflow_cast-piece
+overflow_cast-piece g c =
     let run = (piece_value c.self.inside.accesses.now c.args.self.now c.self.inside.ordered.trace.now.events.now c.self.inside.pieces.now c.args.k c.self.view_is c.self.invariant.0 c.self.invariant.1 c.requires).0 in
     let small = (run_small _ _ _ run).0 in
     let few = c.self.inside.ordered.trace.now.few in
     omega (arith, small, few)
 
-pub overflow_cast-to : goal.overflow_cast-to
-overflow_cast-to g c =
+pub overflow_cast-piece-2 : goal.overflow_cast-piece-2
+overflow_cast-piece-2 g c =
     let run = (piece_value c.self.inside.accesses.now c.args.self.now c.self.inside.ordered.trace.now.events.now c.self.inside.pieces.now c.args.k c.self.view_is c.self.invariant.0 c.self.invariant.1 c.requires).0 in
     let small = (run_small _ _ _ run).1 in
     let few = c.self.inside.ordered.trace.now.few in
     omega (arith, small, few)
 
-pub races_in-requires-clause-listed : goal.races_in-requires-clause-listed
-races_in-requires-clause-listed g c = (piece_value c.self.inside.accesses.now c.args.self.now c.self.inside.ordered.trace.now.events.now c.self.inside.pieces.now c.args.k c.self.view_is c.self.invariant.0 c.self.invariant.1 c.requires).0.listed
-
-pub races_in-requires-clause-variable : goal.races_in-requires-clause-variable
-races_in-requires-clause-variable g c = (piece_value c.self.inside.accesses.now c.args.self.now c.self.inside.ordered.trace.now.events.now c.self.inside.pieces.now c.args.k c.self.view_is c.self.invariant.0 c.self.invariant.1 c.requires).0.variable
+pub invariant_of-search : goal.invariant_of-search
+invariant_of-search g c =
+    let run = (piece_value c.self.inside.accesses.now c.args.self.now c.self.inside.ordered.trace.now.events.now c.self.inside.pieces.now c.args.k c.self.view_is c.self.invariant.0 c.self.invariant.1 c.requires).0 in
+    record { of_trace = c.self.invariant.0; listed = run.listed; accessed = run.variable }
 
 pub races_in-requires-clause-forward : goal.races_in-requires-clause-forward
 races_in-requires-clause-forward g c = (piece_value c.self.inside.accesses.now c.args.self.now c.self.inside.ordered.trace.now.events.now c.self.inside.pieces.now c.args.k c.self.view_is c.self.invariant.0 c.self.invariant.1 c.requires).0.forward
