@@ -18,4 +18,6 @@ pub use job::WitnessJob;
 pub use schedules::schedule;
 
 #[cfg(test)]
+mod checkpoint_tests;
+#[cfg(test)]
 mod tests;

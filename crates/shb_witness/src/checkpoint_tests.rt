@@ -1,0 +1,36 @@
+//! Checkpoints of a longer trace. They only save time, so no clause says that they are there or that
+//! the last one is found.
+
+use crate::checkpoints::{checkpoints_of, front_of};
+use shb_discipline::check;
+use shb_io::Text;
+use shb_lines::{Limits, parse};
+use shb_links::links_of;
+use std::test::Fail;
+
+/// The text of 200 events of one thread.
+fn one_thread(rt: &HostRuntime) -> Result<Vec<u8>, Fail> {
+    let mut text = Vec::new(rt.alloc());
+    for _event in 0..200 {
+        text.extend_from_slice(b"a|w(x)\n")?;
+    }
+    Ok(text)
+}
+
+#[test]
+fn last_checkpoint_within_the_cut(rt: HostRuntime) -> Result<(), Fail> {
+    let text = one_thread(&rt)?;
+    let mut source = Text::new(text.as_slice(), 4096, None);
+    let parsed = parse(&rt, rt.alloc(), &mut source, &Limits::standard())?;
+    let trace = check(rt.alloc(), &parsed.trace)?;
+    let links = links_of(rt.alloc(), &trace)?;
+    let points = checkpoints_of(rt.alloc(), &trace, &links)?;
+    let mut fronts = Vec::new(rt.alloc());
+    for cut in [63, 64, 127, 128, 191, 192, 200] {
+        fronts.push(front_of(Some(points.as_slice()), &[cut]))?;
+    }
+    // Before each checkpoint stand 64 events more than before the one before it.
+    let wanted = [0, 64, 64, 128, 128, 192, 192];
+    assert_eq!(rt; fronts.as_slice(), wanted.as_slice());
+    Ok(())
+}
