@@ -1,12 +1,25 @@
 //! `shb check`: a report on standard input is judged against its trace.
+ghost use Rattle.std.specs.Prelude.{◌≡◌};
+ghost use Rattle.shb_run.specs.Words.{check_status_of};
+
 use crate::complaints::{FAILED, complain, complain_of};
 use crate::output::flushed;
 use shb_io::{FromRead, ToWrite};
-use shb_run::{check, status_of_check};
+use shb_run::{RunError, Verdict, check, status_of_check};
 use std::fs::File;
 use std::io::writer;
 use std::random::RandomSource;
 use std::rt::Files;
+
+/// Says on standard error why there is no verdict, where that is so, and gives the program's status.
+fn status_of_verdict<R: Eprint + AllocGlobal>(rt: &R, answer: &Result<Verdict, RunError>) -> u8
+    ensures { result ≡ check_status_of answer.now }
+{
+    if let Err(error) = answer {
+        complain_of(rt, error);
+    }
+    status_of_check(answer)
+}
 
 /// Judges the report on standard input against the trace of a file, writes the verdict to standard
 /// output, and gives the program's status.
@@ -24,8 +37,5 @@ pub(crate) fn check_report<R: Print + Eprint + Input + AllocGlobal + Files + Ran
         check(rt, rt.alloc(), &mut trace, &mut report, &mut sink),
         sink,
     );
-    if let Err(error) = &answer {
-        complain_of(rt, error);
-    }
-    status_of_check(&answer)
+    status_of_verdict(rt, &answer)
 }

@@ -1,10 +1,11 @@
 //! `shb races`: the report of a trace goes to standard output.
 ghost use Rattle.std.specs.Prelude.{◌≡◌};
+ghost use Rattle.shb_run.specs.Words.{run_status_of};
 
 use crate::complaints::{FAILED, complain, complain_of};
 use crate::output::flushed;
 use shb_io::{FromRead, Source, ToWrite};
-use shb_run::{Settings, run, status_of_run};
+use shb_run::{RunError, Settings, Summary, run, status_of_run};
 use std::fs::File;
 use std::io::{BufWriter, writer};
 use std::random::RandomSource;
@@ -14,6 +15,16 @@ use std::thread::Threads;
 
 /// How many bytes of a report are written at once.
 const REPORT_BUFFER: usize = 1 << 16;
+
+/// Says on standard error why no report was written, where that is so, and gives the program's status.
+fn status_of_races<R: Eprint + AllocGlobal>(rt: &R, answer: &Result<Summary, RunError>) -> u8
+    ensures { result ≡ run_status_of answer.now }
+{
+    if let Err(error) = answer {
+        complain_of(rt, error);
+    }
+    status_of_run(answer)
+}
 
 /// Writes the report of a source to standard output, and gives the program's status.
 fn write_report<R: Print + Eprint + AllocGlobal + RandomSource + Threads + Wait + Sync, S: Source>(
@@ -28,10 +39,7 @@ fn write_report<R: Print + Eprint + AllocGlobal + RandomSource + Threads + Wait 
     };
     let mut sink = ToWrite::new(buffer);
     let answer = flushed(run(rt, rt.alloc(), source, &mut sink, settings), sink);
-    if let Err(error) = &answer {
-        complain_of(rt, error);
-    }
-    status_of_run(&answer)
+    status_of_races(rt, &answer)
 }
 
 /// Writes the report of a file, or of standard input where none is named, to standard output, and gives

@@ -38,7 +38,7 @@ use Rattle.shb_report.specs.Value.{ReportValue}
 use Rattle.shb_report.specs.Verdicts.{IsVerdict}
 use Rattle.shb_run.specs.Checks.{IsChecked, IsVerdictFor, most_bytes}
 use Rattle.shb_run.specs.Errors.{error_of_checking, error_of_reading, error_of_writing}
-use Rattle.shb_run.specs.Runs.{AreWords, HasTrace, IsAccepted, IsRefusalOf, IsReported, Grows, ListsSchedulable, OnJudged, OnMemory, OnSink, OnTrace, OnWriting, limits}
+use Rattle.shb_run.specs.Runs.{AreWords, HasTrace, IsAccepted, IsRefusalOf, IsReported, Grows, ListsSchedulable, OnJudged, OnMemory, OnSink, OnTrace, limits}
 use Rattle.shb_run.specs.Written.{CutsBlocks, CutsReport, OnFailedSink, OnNoMemory, ReportsTrace, WritesReport, summary_of}
 
 -- a text with no fault has no first one
@@ -139,14 +139,6 @@ refusal_first {T} read stop n known left error (Err e) is reading refusal =
     told Sink refusal = tt
     told Memory refusal = tt
 
--- what is said where memory was refused
-pub on_memory : {T : Type 0} (r : Result T RunError) (P : Type 0) → P → OnMemory r P
-on_memory (Ok x) P p = tt
-on_memory (Err (Trace line fault)) P p = tt
-on_memory (Err Source) P p = tt
-on_memory (Err Sink) P p = tt
-on_memory (Err Memory) P p = p
-
 -- from the writing of a report to the run
 pub sink_of : {T : Type 0} (U : Type 0) (error : WriteError) (r : Result T RunError) (P Q : Type 0) → IsErrAnd r (λ e. e ≡ error_of_writing error) → OnFailedSink {T = U} (Err error) P → (P → Q) → OnSink r Q
 sink_of U error (Ok x) P Q is cut then = absurd is
@@ -181,15 +173,7 @@ judged (Err Source) P p = tt
 judged (Err Sink) P p = p
 judged (Err Memory) P p = tt
 
--- what holds of each check that came to write
-pub came_to_write : {T : Type 0} (r : Result T RunError) (P : Type 0) → P → OnWriting r P
-came_to_write (Ok x) P p = p
-came_to_write (Err (Trace line fault)) P p = tt
-came_to_write (Err Source) P p = tt
-came_to_write (Err Sink) P p = p
-came_to_write (Err Memory) P p = tt
-
--- a text that was not read was not judged, nothing was written, and no sink failed
+-- a text that was not read was not judged
 pub not_judged : {T : Type 0} (error : ReadError) (r : Result T RunError) (P : Type 0) → IsErrAnd r (λ e. e ≡ error_of_reading error) → OnJudged r P
 not_judged error (Ok x) P is = absurd is
 not_judged {T} error (Err e) P is = subst (λ (e : RunError). OnJudged {T = T} (Err e) P) (sym is) (told error)
@@ -197,14 +181,6 @@ not_judged {T} error (Err e) P is = subst (λ (e : RunError). OnJudged {T = T} (
     told : (error : ReadError) → OnJudged {T = T} (Err (error_of_reading error)) P
     told reading.Source = tt
     told reading.Memory = tt
-
-pub not_written : {T : Type 0} (error : ReadError) (r : Result T RunError) (P : Type 0) → IsErrAnd r (λ e. e ≡ error_of_reading error) → OnWriting r P × OnSink r P
-not_written error (Ok x) P is = absurd is
-not_written {T} error (Err e) P is = subst (λ (e : RunError). OnWriting {T = T} (Err e) P × OnSink {T = T} (Err e) P) (sym is) (told error)
-  where
-    told : (error : ReadError) → OnWriting {T = T} (Err (error_of_reading error)) P × OnSink {T = T} (Err (error_of_reading error)) P
-    told reading.Source = (tt, tt)
-    told reading.Memory = (tt, tt)
 
 -- a source of which nothing was taken
 pub Takes-none : (n : ℕ) (a : Option (List ℕ)) → TakesAtMost n a a

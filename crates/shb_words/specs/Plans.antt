@@ -3,7 +3,7 @@ use Rattle.std.specs.Prelude.{◌≡◌, true, None}
 use Rattle.shb_words.specs.declared.plan.Plan.{Plan}
 use Rattle.shb_words.specs.declared.plan.Plan.TheVariants.{Races}
 
--- the report of standard input, without schedules
+-- the report of standard input, without schedules, by 4 workers
 abbrev pub ListsInput : Plan → Type 0
-ListsInput (Races workers list trace) = (list ≡ true) × (trace ≡ None)
+ListsInput (Races workers list trace) = (list ≡ true) × (trace ≡ None) × (workers.count ≡ 4)
 ListsInput _ = ⊥

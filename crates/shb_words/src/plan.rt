@@ -50,7 +50,9 @@ impl<T: Drop> From<AllocFailed<T>> for WordsFault {
 }
 
 /// The number of workers where the words name none: 4.
-fn default_workers() -> Workers {
+fn default_workers() -> Workers
+    ensures { result.count ≡ 4 }
+{
     match Workers::new(4) {
         Some(workers) => workers,
         None => unreachable!(),
@@ -106,14 +108,14 @@ fn plan_of_error(alloc: Global, error: Error) -> Result<Plan, WordsFault> {
 
 /// The plan that the words of a command line ask for, the program's own name left out:
 /// `races [--workers N] [--list] [TRACE]` with N from 1 to 64, `check TRACE`, or help. No words at
-/// all are `races --list`.
+/// all are `races --list`, with 4 workers.
 ///
 /// # Errors
 ///
 /// [`WordsFault::Refused`] where the words ask for nothing of this, with the text that says so;
 /// [`WordsFault::Memory`] where memory was refused. The words stay as they are.
 pub fn plan_of(alloc: Global, words: &[String]) -> Result<Plan, WordsFault>
-    // No words ask for the report of standard input without schedules, and need no memory.
+    // No words ask for the report of standard input without schedules, by 4 workers, and need no memory.
     ensures no_words { words.now ≡ [] → IsOkAnd result ListsInput }
 {
     if words.is_empty() {

@@ -1,4 +1,4 @@
-use Rattle.std.proofs.Common.{arith, inl, inr, map, refl, subst}
+use Rattle.std.proofs.Common.{arith, inr, map, subst}
 use Rattle.shb_io.proofs.Growth.{Appends-trans, AppendsPrefix-after, AppendsPrefix-front}
 use Rattle.shb_lines.specs.events.Discipline.{IsDisciplined}
 use Rattle.shb_pairs.specs.Races.{ends}
