@@ -2,11 +2,15 @@
 
 .PHONY: build run test end-to-end recorder bench
 
-# Proves and builds the program (rt leaves it beside the crate) and copies it to bin/shb.
-build:
-	cd crates/shb && rt run > /dev/null
-	mkdir -p bin
-	cp crates/shb/out/shb bin/shb
+# What the program is made of.
+SOURCES = crates.txt HANDLES $(shell find crates -path '*/out' -prune -o -path '*/must-fail' -prune \
+	-o -path crates/shb_tests -prune -o -type f -print)
+
+# Proves and builds the program where a source is newer than it.
+build: bin/shb
+
+bin/shb: build.sh $(SOURCES)
+	./build.sh
 
 run: build
 	bin/shb races examples/two-lines.std

@@ -69,6 +69,8 @@ LINES = [
     (b"races 1", b"races 2", b"bad line 8"),
     (b"races 1", b"races 0", b"bad line 4"),
     (b"races 1\n" + ONE_BLOCK, b"races 0\n", b"ok 0"),
+    # the counts are compared before the blocks
+    (b"variables 2\nraces 1\nrace 1: 2 3", b"variables 1\nraces 1\nrace 1: 9 9", b"bad counts"),
     (b"race 1: 2 3", b"race 2: 2 3", b"bad line 4"),
     (b"race 1: 2 3", b"race 1: 2  3", b"bad line 4"),
     (b"first T1|w(y)", b"first ", b"bad line 5"),

@@ -88,6 +88,23 @@ class Refusals(program.Case):
     def test_that_threads_are_refused(self):
         self.assertTrue(self.run_refused(["races"], racing(64), REFUSE_THREADS=1)[1])
 
+    def threads_started(self, words, text):
+        """How many threads a run starts: the number before the first that is never asked for."""
+        return next(k for k in range(1000) if not self.run_refused(words, text, REFUSE_THREADS=k + 1)[1])
+
+    def test_numbers_of_workers(self):
+        """Each worker is a thread in the search, and one when schedules are made; 4 where no number is named."""
+        trace = self.file(racing(64))
+        for words, wanted in (
+            (["races", "--list", trace], 4),
+            (["races", trace], 8),
+            (["races", "--workers", "1", trace], 2),
+            (["races", "--workers", "3", trace], 6),
+            (["races", "--workers", "64", "--list", trace], 64),
+        ):
+            self.assertEqual(self.threads_started(words, b""), wanted)
+        self.assertEqual(self.threads_started([], racing(64)), 4)
+
     def test_nothing_is_read_after_the_end(self):
         trace, report = self.file(LOCKED), program.run(["races"], LOCKED).out
         for words, given in (([], LOCKED), (["races"], b""), (["races", trace], b""), (["check", trace], report), (["check", trace], b"")):

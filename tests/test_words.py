@@ -2,8 +2,46 @@
 
 import program
 
+# The first help: one screen of 24 lines of 80 columns.
+SCREEN = """\
+Finds the races of a trace of a run, and gives each a schedule that shows it
+
+Usage: shb <COMMAND>
+
+Commands:
+  races  Writes the report of a trace to standard output
+  check  Checks the report on standard input against its trace
+  help   Print this message or the help of the given subcommand(s)
+
+Options:
+  -h, --help  Print help
+
+With no words at all it does what 'shb races --list' does: it reads a trace from
+standard input and lists its races. Begin with the list: a full report has, for
+each race, a schedule that may be as long as the trace.
+
+  $ printf 'T1|w(y)|1\\nT2|r(y)|2\\n' | shb races --list
+
+'shb help races' says what a trace and a report look like, and 'shb help check'
+what a good report means.
+
+Exit status: 0 done, 2 trace refused, 3 words refused, 4 a file, a device or the
+memory failed, 5 report rejected
+"""
+
+HINT = b"\nFor more information, try '--help'.\n"
+NOT_IN_RANGE = b"error: invalid value '65' for '--workers <N>': 65 is not in 1..=64\n" + HINT
+NO_TRACE = b"error: the following required arguments were not provided:\n  <TRACE>\n\nUsage: shb check <TRACE>\n" + HINT
+
 
 class Words(program.Case):
+    def test_the_help_is_one_screen(self):
+        self.expect(program.run(["--help"]), 0, SCREEN.encode())
+
+    def test_whole_refusals(self):
+        self.expect(program.run(["races", "--workers", "65"]), 3, b"", NOT_IN_RANGE)
+        self.expect(program.run(["check"]), 3, b"", NO_TRACE)
+
     def test_help(self):
         for words in (["--help"], ["help"], ["-h"]):
             answer = program.run(words)
