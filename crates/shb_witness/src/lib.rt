@@ -16,6 +16,3 @@ mod schedules;
 pub use checkpoints::{Checkpoint, checkpoints_of};
 pub use job::WitnessJob;
 pub use schedules::schedule;
-
-#[cfg(test)]
-mod tests;
