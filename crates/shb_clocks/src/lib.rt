@@ -43,6 +43,3 @@ pub use full_clocks::{FullClocks, full};
 pub use order::Order;
 pub use ordered::Ordered;
 pub use plain_order::{PlainOrder, plain};
-
-#[cfg(test)]
-mod tests;

@@ -16,6 +16,3 @@ mod state;
 
 pub use checking::{CheckError, check};
 pub use disciplined::Disciplined;
-
-#[cfg(test)]
-mod tests;

@@ -52,8 +52,3 @@ pub use streaming::stream;
 pub use taker::{StreamError, Taker};
 pub use tickets::{Closed, Tickets};
 pub use workers::Workers;
-
-#[cfg(test)]
-mod machine_tests;
-#[cfg(test)]
-mod tests;

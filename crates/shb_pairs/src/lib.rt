@@ -32,6 +32,3 @@ pub use job::PairJob;
 pub use piece::{Piece, pieces};
 pub use race::is_race;
 pub use screen::open_variables;
-
-#[cfg(test)]
-mod tests;

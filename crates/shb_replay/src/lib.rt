@@ -18,8 +18,3 @@ mod walked;
 
 pub use broken::{Broken, Why};
 pub use judging::{Judge, replay};
-
-#[cfg(test)]
-mod brute_tests;
-#[cfg(test)]
-mod tests;

@@ -43,10 +43,3 @@ pub use report::{Report, ReportError, read_report, read_report_within};
 pub use verdict::{RaceFault, Verdict};
 pub use verdict_writer::verdict_line;
 pub use writer::{Counts, block, head, scheduled_block, tail};
-
-#[cfg(test)]
-mod place_tests;
-#[cfg(test)]
-mod read_tests;
-#[cfg(test)]
-mod tests;

@@ -25,10 +25,3 @@ pub use shb_fan::{FreeGate, Gate, Workers};
 pub use shb_report::{RaceFault, Verdict};
 pub use verdicts::check;
 pub use words::{exit_status, fault_line, status_of_check, status_of_run};
-
-#[cfg(test)]
-mod check_tests;
-#[cfg(test)]
-mod tests;
-#[cfg(test)]
-mod worker_tests;

@@ -9,6 +9,21 @@ pub fn same<T: PartialEq + Debug>(rt: &impl Abort, found: &T, wanted: &T, what: 
     assert_eq!(rt; found, wanted, "{what}");
 }
 
+/// Asserts that what was found is what this row of a table wants.
+pub fn same_in_row<T: PartialEq + Debug>(rt: &impl Abort, found: &T, wanted: &T, row: usize) {
+    assert_eq!(rt; found, wanted, "row {row}");
+}
+
+/// Asserts that these bytes were read or written.
+pub fn same_bytes(rt: &impl Abort, found: &[u8], wanted: &[u8], what: &str) {
+    assert_eq!(rt; found, wanted, "{what}");
+}
+
+/// Asserts that something holds.
+pub fn holds(rt: &impl Abort, condition: bool, what: &str) {
+    assert!(rt; condition, "{what}");
+}
+
 /// Asserts a length that the calls after it rest on.
 pub fn has_length(rt: &impl Abort, found: usize, wanted: usize)
     ensures { found ≡ wanted }

@@ -14,4 +14,40 @@
 #[cfg(test)]
 mod asserting;
 #[cfg(test)]
+mod brute_replay;
+#[cfg(test)]
+mod check;
+#[cfg(test)]
+mod checkpoints;
+#[cfg(test)]
+mod clocks;
+#[cfg(test)]
+mod discipline;
+#[cfg(test)]
+mod fan;
+#[cfg(test)]
+mod fan_machine;
+#[cfg(test)]
+mod fixtures;
+#[cfg(test)]
+mod io;
+#[cfg(test)]
+mod lines;
+#[cfg(test)]
 mod links;
+#[cfg(test)]
+mod pairs;
+#[cfg(test)]
+mod places;
+#[cfg(test)]
+mod replay;
+#[cfg(test)]
+mod report;
+#[cfg(test)]
+mod report_reading;
+#[cfg(test)]
+mod run;
+#[cfg(test)]
+mod witness;
+#[cfg(test)]
+mod workers;

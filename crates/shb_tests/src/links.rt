@@ -2,22 +2,16 @@
 ghost use Rattle.std.specs.Prelude.{◌<◌, length};
 
 use crate::asserting::{has_length, same};
+use crate::fixtures::parsed;
 use shb_discipline::{Disciplined, check};
-use shb_io::Text;
-use shb_lines::{Limits, Op, Trace, parse};
+use shb_lines::Op;
 use shb_links::links_of;
 use std::test::Fail;
 
-fn trace_of(rt: &HostRuntime, text: &[u8]) -> Result<Trace, Fail> {
-    let mut source = Text::new(text, 4096, None);
-    let parsed = parse(rt, rt.alloc(), &mut source, &Limits::standard())?;
-    Ok(parsed.trace)
-}
-
 #[test]
 fn a_join_before_the_first_event(rt: HostRuntime) -> Result<(), Fail> {
-    let trace = trace_of(&rt, b"T1|fork(T3)\nT2|join(T3)\nT1|w(x)\nT2|w(x)\n")?;
-    let trace = check(rt.alloc(), &trace)?;
+    let parsed = parsed(&rt, b"T1|fork(T3)\nT2|join(T3)\nT1|w(x)\nT2|w(x)\n")?;
+    let trace = check(rt.alloc(), &parsed.trace)?;
     let links = links_of(rt.alloc(), &trace)?;
     has_length(&rt, trace.events.len(), 4);
     same(&rt, &links.pred(2), &Some(0), "the predecessor of 2");
@@ -26,36 +20,42 @@ fn a_join_before_the_first_event(rt: HostRuntime) -> Result<(), Fail> {
     Ok(())
 }
 
-/// 200 lines by fixed numbers: of two threads at first, then of a third one too, which is forked at
-/// line 101.
-fn made_text(rt: &HostRuntime) -> Result<Vec<u8>, Fail> {
-    let calls: [&[u8]; 12] = [
-        b"T1|w(x)\n",
-        b"T1|r(x)\n",
-        b"T1|w(y)\n",
-        b"T1|r(y)\n",
-        b"T2|w(x)\n",
-        b"T2|r(x)\n",
-        b"T2|r(y)\n",
-        b"T2|r(z)\n",
-        b"T3|w(x)\n",
-        b"T3|r(x)\n",
-        b"T3|w(y)\n",
-        b"T3|r(y)\n",
-    ];
-    let mut text = Vec::new(rt.alloc());
-    let mut number: u32 = 1;
-    for line in 0..200u32 {
+/// Lines of two threads, and then of a third one.
+const LINES: [&[u8]; 12] = [
+    b"T1|w(x)\n",
+    b"T1|r(x)\n",
+    b"T1|w(y)\n",
+    b"T1|r(y)\n",
+    b"T2|w(x)\n",
+    b"T2|r(x)\n",
+    b"T2|r(y)\n",
+    b"T2|r(z)\n",
+    b"T3|w(x)\n",
+    b"T3|r(x)\n",
+    b"T3|w(y)\n",
+    b"T3|r(y)\n",
+];
+
+/// So many lines by fixed numbers, among the first `choices` of `LINES`.
+fn push_lines(text: &mut Vec<u8>, count: u32, choices: usize) -> Result<(), Fail>
+    requires { 0 < choices }
+{
+    let mut number: u32 = count;
+    for _ in 0..count {
         number = number.wrapping_mul(1_103_515_245).wrapping_add(12_345);
-        let choice = (number >> 16) as usize;
-        if line == 100 {
-            text.extend_from_slice(b"T1|fork(T3)\n")?;
-        } else if line < 100 {
-            text.extend_from_slice(calls[choice % 8])?;
-        } else {
-            text.extend_from_slice(calls[choice % 12])?;
+        if let Some(line) = LINES.get((number >> 16) as usize % choices) {
+            text.extend_from_slice(line)?;
         }
     }
+    Ok(())
+}
+
+/// 200 lines: of two threads at first, then of a third one too, which is forked at line 101.
+fn made_text(rt: &HostRuntime) -> Result<Vec<u8>, Fail> {
+    let mut text = Vec::new(rt.alloc());
+    push_lines(&mut text, 100, 8)?;
+    text.extend_from_slice(b"T1|fork(T3)\n")?;
+    push_lines(&mut text, 99, 12)?;
     Ok(text)
 }
 
@@ -123,8 +123,8 @@ fn plain_last_write(trace: &Disciplined<'_>, e: u32) -> Option<u32>
 #[test]
 fn a_made_trace(rt: HostRuntime) -> Result<(), Fail> {
     let text = made_text(&rt)?;
-    let trace = trace_of(&rt, text.as_slice())?;
-    let trace = check(rt.alloc(), &trace)?;
+    let parsed = parsed(&rt, text.as_slice())?;
+    let trace = check(rt.alloc(), &parsed.trace)?;
     let links = links_of(rt.alloc(), &trace)?;
     has_length(&rt, trace.events.len(), 200);
     for e in 0..trace.events.len() as u32 {

@@ -99,8 +99,10 @@ fn last_covered(points: &[Checkpoint], cuts: &[u32]) -> u32
     before
 }
 
-/// A position before which each event is within the cuts.
-pub(crate) fn front_of(points: Option<&[Checkpoint]>, cuts: &[u32]) -> u32
+/// A position before which each event is within the cuts: that of the last checkpoint within them, or 0.
+/// `cuts` has for each thread how many of its events are meant. No clause says that the checkpoint is the
+/// last one, since that saves time alone.
+pub fn front_of(points: Option<&[Checkpoint]>, cuts: &[u32]) -> u32
     ensures { (trace : List Event) → AreReached trace points.entry → Reach trace result cuts.now }
 {
     match points {

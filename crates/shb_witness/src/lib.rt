@@ -13,11 +13,6 @@ mod job;
 pub mod laws;
 mod schedules;
 
-pub use checkpoints::{Checkpoint, checkpoints_of};
+pub use checkpoints::{Checkpoint, checkpoints_of, front_of};
 pub use job::WitnessJob;
 pub use schedules::schedule;
-
-#[cfg(test)]
-mod checkpoint_tests;
-#[cfg(test)]
-mod tests;

@@ -3,7 +3,8 @@ ghost use Rattle.std.specs.Prelude.{◌≡◌, ℕ, ◌∷◌, ◌<◌, ◌≤�
 ghost use Rattle.shb_fan.specs.Passes.{fresh};
 ghost use Rattle.shb_fan.specs.Seated.{IsNewSeat, job_of};
 
-use crate::*;
+use crate::asserting::{holds, same};
+use shb_fan::*;
 use shb_io::NoMemory;
 use std::alloc::Global;
 use std::process::Abort;
@@ -75,42 +76,52 @@ fn close_two(alloc: Global, tickets: Tickets, a: Pass, b: Pass) -> Result<Closed
     Ok(tickets.close(passes))
 }
 
+fn expect_closed(rt: &impl Abort, closed: Closed, drawn: u64, stopped: bool) {
+    same(rt, &closed, &Closed { drawn, stopped }, "what was drawn");
+}
+
+/// Draws by a pass, and asserts what comes.
+fn expect_draw(rt: &impl Abort, tickets: &Tickets, pass: &mut Pass, wanted: Option<u64>)
+    requires { pass.old.source ≡ tickets.now }
+    ensures { pass.new.source ≡ tickets.now }
+{
+    same(rt, &tickets.draw(pass), &wanted, "a draw");
+}
+
 #[test]
 fn draws_in_turn(rt: HostRuntime) -> Result<(), Fail> {
     let (tickets, mut a, mut b) = two(rt.alloc(), 3)?;
-    assert_eq!(rt; tickets.draw(&mut a), Some(0));
-    assert_eq!(rt; tickets.draw(&mut b), Some(1));
-    assert_eq!(rt; tickets.draw(&mut a), Some(2));
-    assert_eq!(rt; tickets.draw(&mut b), None);
-    assert_eq!(rt; tickets.draw(&mut a), None);
+    expect_draw(&rt, &tickets, &mut a, Some(0));
+    expect_draw(&rt, &tickets, &mut b, Some(1));
+    expect_draw(&rt, &tickets, &mut a, Some(2));
+    expect_draw(&rt, &tickets, &mut b, None);
+    expect_draw(&rt, &tickets, &mut a, None);
     let closed = close_two(rt.alloc(), tickets, a, b)?;
-    assert_eq!(rt;
-        closed,
-        Closed {
-            drawn: 3,
-            stopped: false
-        }
-    );
+    expect_closed(&rt, closed, 3, false);
     Ok(())
 }
 
 #[test]
 fn stops_between(rt: HostRuntime) -> Result<(), Fail> {
     let (tickets, mut a, mut b) = two(rt.alloc(), 3)?;
-    assert_eq!(rt; tickets.draw(&mut a), Some(0));
-    assert_eq!(rt; tickets.stopped(&mut a), false);
-    tickets.stop(&mut b);
-    assert_eq!(rt; tickets.stopped(&mut a), true);
-    assert_eq!(rt; tickets.draw(&mut a), None);
-    assert_eq!(rt; tickets.draw(&mut b), None);
-    let closed = close_two(rt.alloc(), tickets, a, b)?;
-    assert_eq!(rt;
-        closed,
-        Closed {
-            drawn: 1,
-            stopped: true
-        }
+    expect_draw(&rt, &tickets, &mut a, Some(0));
+    same(
+        &rt,
+        &tickets.stopped(&mut a),
+        &false,
+        "whether it is stopped",
     );
+    tickets.stop(&mut b);
+    same(
+        &rt,
+        &tickets.stopped(&mut a),
+        &true,
+        "whether it is stopped",
+    );
+    expect_draw(&rt, &tickets, &mut a, None);
+    expect_draw(&rt, &tickets, &mut b, None);
+    let closed = close_two(rt.alloc(), tickets, a, b)?;
+    expect_closed(&rt, closed, 1, true);
     Ok(())
 }
 
@@ -120,16 +131,10 @@ fn draws_from_nothing(rt: HostRuntime) -> Result<(), Fail> {
     let Some(mut a) = passes.pop() else {
         unreachable!()
     };
-    assert_eq!(rt; tickets.draw(&mut a), None);
-    assert_eq!(rt; tickets.draw(&mut a), None);
+    expect_draw(&rt, &tickets, &mut a, None);
+    expect_draw(&rt, &tickets, &mut a, None);
     passes.push(a)?;
-    assert_eq!(rt;
-        tickets.close(passes),
-        Closed {
-            drawn: 0,
-            stopped: false
-        }
-    );
+    expect_closed(&rt, tickets.close(passes), 0, false);
     Ok(())
 }
 
@@ -138,20 +143,14 @@ fn stops_after_each_draw(rt: HostRuntime) -> Result<(), Fail> {
     for drawn in 0..4u64 {
         let (tickets, mut a, mut b) = two(rt.alloc(), 3)?;
         for k in 0..drawn {
-            assert_eq!(rt; tickets.draw(&mut a), Some(k));
+            expect_draw(&rt, &tickets, &mut a, Some(k));
         }
         tickets.stop(&mut b);
-        assert_eq!(rt; tickets.draw(&mut a), None);
-        assert_eq!(rt; tickets.draw(&mut b), None);
-        assert_eq!(rt; tickets.draw(&mut a), None);
+        expect_draw(&rt, &tickets, &mut a, None);
+        expect_draw(&rt, &tickets, &mut b, None);
+        expect_draw(&rt, &tickets, &mut a, None);
         let closed = close_two(rt.alloc(), tickets, a, b)?;
-        assert_eq!(rt;
-            closed,
-            Closed {
-                drawn,
-                stopped: true
-            }
-        );
+        expect_closed(&rt, closed, drawn, true);
     }
     Ok(())
 }
@@ -163,16 +162,16 @@ fn passes_one_slot_on(rt: HostRuntime) -> Result<(), Fail> {
     let Some(mut seat) = seats.pop() else {
         unreachable!()
     };
-    assert!(rt; ring.claim(&mut seat, 0));
-    assert_eq!(rt; ring.lift(&mut seat, 0), None);
+    holds(&rt, ring.claim(&mut seat, 0), "a claim");
+    same(&rt, &ring.lift(&mut seat, 0), &None, "a lift");
     ring.place(&mut seat, 0, 0);
-    assert!(rt; !ring.claim(&mut seat, 64));
-    assert!(rt; !ring.claim(&mut seat, 0));
-    assert_eq!(rt; ring.lift(&mut seat, 0), Some(0));
-    assert_eq!(rt; ring.lift(&mut seat, 0), None);
-    assert!(rt; ring.claim(&mut seat, 64));
+    holds(&rt, !ring.claim(&mut seat, 64), "a claim");
+    holds(&rt, !ring.claim(&mut seat, 0), "a claim");
+    same(&rt, &ring.lift(&mut seat, 0), &Some(0), "a lift");
+    same(&rt, &ring.lift(&mut seat, 0), &None, "a lift");
+    holds(&rt, ring.claim(&mut seat, 64), "a claim");
     ring.place(&mut seat, 64, 64);
-    assert_eq!(rt; ring.lift(&mut seat, 64), Some(64));
+    same(&rt, &ring.lift(&mut seat, 64), &Some(64), "a lift");
     seats.push(seat)?;
     ring.close(seats);
     Ok(())
@@ -214,15 +213,9 @@ fn four_threads_draw(rt: HostRuntime) -> Result<(), Fail> {
     }
     draw_each(&rt, &tickets, passes.as_mut_slice(), seen.as_slice());
     for times in &seen {
-        assert_eq!(rt; times.load(Ordering::SeqCst), 1);
+        same(&rt, &times.load(Ordering::SeqCst), &1, "draws of a number");
     }
-    assert_eq!(rt;
-        tickets.close(passes),
-        Closed {
-            drawn: 1000,
-            stopped: false
-        }
-    );
+    expect_closed(&rt, tickets.close(passes), 1000, false);
     Ok(())
 }
 
@@ -267,6 +260,7 @@ impl Taker<u64> for Keeper {
     }
 }
 
+/// Whether a list is 0, 1, 2 and so on, of this length.
 fn is_count(values: &[u64], len: u64) -> bool {
     for (k, value) in values.iter().enumerate() {
         if *value != k as u64 {
@@ -282,31 +276,38 @@ fn so_many<R: Abort>(rt: &R, workers: u32) -> Workers {
 
 #[test]
 fn numbers_of_workers(rt: HostRuntime) {
-    assert!(rt; Workers::new(0).is_none());
-    assert!(rt; Workers::new(65).is_none());
-    assert_eq!(rt; so_many(&rt, 64).get(), 64);
+    holds(&rt, Workers::new(0).is_none(), "no workers");
+    holds(&rt, Workers::new(65).is_none(), "65 workers");
+    same(&rt, &so_many(&rt, 64).get(), &64, "64 workers");
+}
+
+/// Streams so many pieces to a keeper that refuses one, and asserts the answer and what the keeper
+/// was given and kept.
+fn expect_stream<R: Threads + Wait + Sync + AllocGlobal + Abort>(
+    rt: &R,
+    pieces: u32,
+    workers: u32,
+    refused: Option<u64>,
+    given: u64,
+) {
+    let job = count_to(pieces, None);
+    let mut taker = make_keeper(rt.alloc(), refused);
+    let workers = so_many(rt, workers);
+    let answer = stream(rt, rt.alloc(), &job, &FreeGate, workers, &mut taker);
+    let wanted = refused.map_or(Ok(()), |k| Err(StreamError::Taker(k)));
+    same(rt, &answer, &wanted, "the answer of a stream");
+    let kept = if refused.is_some() { given - 1 } else { given };
+    holds(rt, is_count(taker.pieces.as_slice(), given), "pieces given");
+    holds(rt, is_count(taker.values.as_slice(), kept), "values kept");
 }
 
 #[test]
-fn streams_in_order(rt: HostRuntime) -> Result<(), Fail> {
+fn streams_in_order(rt: HostRuntime) {
     for pieces in [0, 1, 64, 65, 1000] {
         for workers in [1, 2, 64] {
-            let job = count_to(pieces, None);
-            let mut taker = make_keeper(rt.alloc(), None);
-            let answer = stream(
-                &rt,
-                rt.alloc(),
-                &job,
-                &FreeGate,
-                so_many(&rt, workers),
-                &mut taker,
-            );
-            assert_eq!(rt; answer, Ok(()), "{pieces} pieces, {workers} workers");
-            assert!(rt; is_count(taker.pieces.as_slice(), u64::from(pieces)));
-            assert!(rt; is_count(taker.values.as_slice(), u64::from(pieces)));
+            expect_stream(&rt, pieces, workers, None, u64::from(pieces));
         }
     }
-    Ok(())
 }
 
 #[test]
@@ -315,56 +316,52 @@ fn gathers_in_order(rt: HostRuntime) -> Result<(), Fail> {
         for workers in [1, 2, 64] {
             let job = count_to(pieces, None);
             let values = gather(&rt, rt.alloc(), &job, &FreeGate, so_many(&rt, workers))?;
-            assert!(rt;
-                is_count(values.as_slice(), u64::from(pieces)),
-                "{pieces} pieces, {workers} workers"
-            );
+            let is_whole = is_count(values.as_slice(), u64::from(pieces));
+            holds(&rt, is_whole, "values gathered");
         }
     }
     Ok(())
 }
 
 #[test]
-fn taker_refuses_each(rt: HostRuntime) -> Result<(), Fail> {
+fn taker_refuses_each(rt: HostRuntime) {
     for k in 0..70 {
-        let job = count_to(70, None);
-        let mut taker = make_keeper(rt.alloc(), Some(k));
-        let answer = stream(
-            &rt,
-            rt.alloc(),
-            &job,
-            &FreeGate,
-            so_many(&rt, 3),
-            &mut taker,
-        );
-        assert_eq!(rt; answer, Err(StreamError::Taker(k)));
-        assert!(rt; is_count(taker.pieces.as_slice(), k + 1));
-        assert!(rt; is_count(taker.values.as_slice(), k));
+        expect_stream(&rt, 70, 3, Some(k), k + 1);
     }
-    Ok(())
+}
+
+/// Whether a gather fails.
+fn fails_to_gather<R: Threads + Wait + Sync + AllocGlobal + Abort>(
+    rt: &R,
+    job: &Count,
+    workers: u32,
+) -> bool {
+    gather(rt, rt.alloc(), job, &FreeGate, so_many(rt, workers)).is_err()
 }
 
 #[test]
-fn job_refuses_each(rt: HostRuntime) -> Result<(), Fail> {
+fn job_refuses_each(rt: HostRuntime) {
     for k in 0..70 {
         let job = count_to(70, Some(k));
         let mut taker = make_keeper(rt.alloc(), None);
-        let answer = stream(
+        let workers = so_many(&rt, 3);
+        let answer = stream(&rt, rt.alloc(), &job, &FreeGate, workers, &mut taker);
+        same(&rt, &answer, &Err(StreamError::Memory), "the answer");
+        let taken = taker.values.len() as u64;
+        holds(&rt, taken <= k, "no value behind the refused piece");
+        holds(
             &rt,
-            rt.alloc(),
-            &job,
-            &FreeGate,
-            so_many(&rt, 3),
-            &mut taker,
+            is_count(taker.values.as_slice(), taken),
+            "values in order",
         );
-        assert_eq!(rt; answer, Err(StreamError::Memory));
-        assert!(rt; taker.values.len() as u64 <= k);
-        assert!(rt; is_count(taker.values.as_slice(), taker.values.len() as u64));
-        assert!(rt; gather(&rt, rt.alloc(), &job, &FreeGate, so_many(&rt, 3)).is_err());
+        holds(&rt, fails_to_gather(&rt, &job, 3), "a gather of 70 pieces");
         let runs = count_to(300, Some(k));
-        assert!(rt; gather(&rt, rt.alloc(), &runs, &FreeGate, so_many(&rt, 1)).is_err());
+        holds(
+            &rt,
+            fails_to_gather(&rt, &runs, 1),
+            "a gather of 300 pieces",
+        );
     }
-    Ok(())
 }
 
 /// A value that counts its end.
@@ -467,9 +464,15 @@ fn values_end_once(rt: HostRuntime) -> Result<(), Fail> {
             so_many(&rt, 3),
             &mut taker,
         );
-        assert_eq!(rt; answer, Err(StreamError::Taker(k)));
-        assert_eq!(rt; taker.calls, k + 1);
-        assert_eq!(rt; made.load(Ordering::SeqCst), ended.load(Ordering::SeqCst));
+        same(&rt, &answer, &Err(StreamError::Taker(k)), "the answer");
+        same(&rt, &taker.calls, &(k + 1), "calls of the taker");
+        let made = made.load(Ordering::SeqCst);
+        same(
+            &rt,
+            &ended.load(Ordering::SeqCst),
+            &made,
+            "values that ended",
+        );
     }
     Ok(())
 }
@@ -509,14 +512,22 @@ fn seven_are_held(rt: HostRuntime) -> Result<(), Fail> {
     let job = count_to(16, None);
     let gate = seven_held();
     let values = gather(&rt, rt.alloc(), &job, &gate, so_many(&rt, 8))?;
-    assert!(rt; is_count(values.as_slice(), 16));
-    assert!(rt; !gate.missed.load(Ordering::SeqCst));
+    holds(&rt, is_count(values.as_slice(), 16), "values gathered");
+    holds(
+        &rt,
+        !gate.missed.load(Ordering::SeqCst),
+        "nine others entered",
+    );
     let gate = seven_held();
     let mut taker = make_keeper(rt.alloc(), None);
     let answer = stream(&rt, rt.alloc(), &job, &gate, so_many(&rt, 8), &mut taker);
-    assert_eq!(rt; answer, Ok(()));
-    assert!(rt; is_count(taker.values.as_slice(), 16));
-    assert!(rt; !gate.missed.load(Ordering::SeqCst));
+    same(&rt, &answer, &Ok(()), "the answer");
+    holds(&rt, is_count(taker.values.as_slice(), 16), "values taken");
+    holds(
+        &rt,
+        !gate.missed.load(Ordering::SeqCst),
+        "nine others entered",
+    );
     Ok(())
 }
 
@@ -556,8 +567,17 @@ fn runs_are_shared_out(rt: HostRuntime) -> Result<(), Fail> {
         missed: AtomicBool::new(false),
     };
     let values = gather(&rt, rt.alloc(), &job, &gate, so_many(&rt, 2))?;
-    assert!(rt; is_count(values.as_slice(), 512));
-    assert_eq!(rt; gate.entered.load(Ordering::SeqCst), 512);
-    assert!(rt; !gate.missed.load(Ordering::SeqCst));
+    holds(&rt, is_count(values.as_slice(), 512), "values gathered");
+    same(
+        &rt,
+        &gate.entered.load(Ordering::SeqCst),
+        &512,
+        "pieces entered",
+    );
+    holds(
+        &rt,
+        !gate.missed.load(Ordering::SeqCst),
+        "nine others entered",
+    );
     Ok(())
 }

@@ -2,11 +2,12 @@
 
 ghost use Rattle.std.specs.Prelude.{◌<◌, length};
 
-use crate::*;
+use crate::asserting::{has_length, same};
+use crate::fixtures::{pair, parsed};
 use shb_discipline::check;
-use shb_io::Text;
-use shb_lines::{Limits, Pair, parse};
+use shb_lines::Pair;
 use shb_links::links_of;
+use shb_replay::{Broken, Judge, Why, replay};
 use std::test::Fail;
 
 /// The answer of `replay`, or None where the pair isn't of the trace.
@@ -16,8 +17,7 @@ fn answer(
     pair: Pair,
     list: &[u32],
 ) -> Result<Option<Option<Broken>>, Fail> {
-    let mut source = Text::new(text, 4096, None);
-    let parsed = parse(rt, rt.alloc(), &mut source, &Limits::standard())?;
+    let parsed = parsed(rt, text)?;
     let trace = check(rt.alloc(), &parsed.trace)?;
     let links = links_of(rt.alloc(), &trace)?;
     let events = trace.events.len();
@@ -49,11 +49,7 @@ type Row<'a> = (&'a [u8], u32, u32, &'a [u32], Option<Broken>);
 /// The first row whose answer is another one.
 fn first_wrong(rt: &HostRuntime, rows: &[Row<'_>]) -> Result<Option<usize>, Fail> {
     for (row, (text, first, second, list, wanted)) in rows.iter().enumerate() {
-        let pair = Pair {
-            first: *first,
-            second: *second,
-        };
-        if answer(rt, text, pair, list)? != Some(*wanted) {
+        if answer(rt, text, pair(*first, *second), list)? != Some(*wanted) {
             return Ok(Some(row));
         }
     }
@@ -74,7 +70,7 @@ fn each_reason(rt: HostRuntime) -> Result<(), Fail> {
         (PASSED, 1, 6, &[], broken(0, Why::NotNext)),
         (PASSED, 1, 6, &[0, 1], broken(2, Why::NotNext)),
     ];
-    assert_eq!(rt; first_wrong(&rt, &rows)?, None);
+    same(&rt, &first_wrong(&rt, &rows)?, &None, "a wrong row");
     Ok(())
 }
 
@@ -86,7 +82,7 @@ fn a_pair_that_is_not_listed(rt: HostRuntime) -> Result<(), Fail> {
         (BLOCKED, 0, 3, &[1, 2], broken(0, Why::ThreadOrder)),
         (BLOCKED, 0, 3, &[0, 1, 2], broken(3, Why::NotNext)),
     ];
-    assert_eq!(rt; first_wrong(&rt, &rows)?, None);
+    same(&rt, &first_wrong(&rt, &rows)?, &None, "a wrong row");
     Ok(())
 }
 
@@ -108,7 +104,7 @@ fn schedules_of_all_kinds(rt: HostRuntime) -> Result<(), Fail> {
         (PASSED, 0, 6, &[], None),
         (PASSED, 6, 6, &[], None),
     ];
-    assert_eq!(rt; first_wrong(&rt, &rows)?, None);
+    same(&rt, &first_wrong(&rt, &rows)?, &None, "a wrong row");
     Ok(())
 }
 
@@ -123,7 +119,7 @@ fn nested_acquires(rt: HostRuntime) -> Result<(), Fail> {
         (nested, 4, 7, &[0, 1, 2, 3, 5], broken(4, Why::LockOrder)),
         (nested, 6, 7, &[0, 1, 2, 3, 4, 5], None),
     ];
-    assert_eq!(rt; first_wrong(&rt, &rows)?, None);
+    same(&rt, &first_wrong(&rt, &rows)?, &None, "a wrong row");
     Ok(())
 }
 
@@ -137,7 +133,7 @@ fn another_order_of_threads(rt: HostRuntime) -> Result<(), Fail> {
         (apart, 4, 5, &[0, 2], broken(1, Why::LastWrite)),
         (apart, 4, 5, &[3], broken(0, Why::ThreadOrder)),
     ];
-    assert_eq!(rt; first_wrong(&rt, &rows)?, None);
+    same(&rt, &first_wrong(&rt, &rows)?, &None, "a wrong row");
     Ok(())
 }
 
@@ -156,18 +152,11 @@ fn answers(judge: &mut Judge<'_>, pair: Pair) -> [Option<Broken>; 5]
 
 #[test]
 fn one_judge_of_many_lists(rt: HostRuntime) -> Result<(), Fail> {
-    let mut source = Text::new(PASSED, 4096, None);
-    let parsed = parse(&rt, rt.alloc(), &mut source, &Limits::standard())?;
+    let parsed = parsed(&rt, PASSED)?;
     let trace = check(rt.alloc(), &parsed.trace)?;
     let links = links_of(rt.alloc(), &trace)?;
     let mut judge = Judge::new(rt.alloc(), &trace, &links)?;
-    let pair = Pair {
-        first: 4,
-        second: 6,
-    };
-    if trace.events.len() < 7 {
-        panic!(rt; "the trace has seven events");
-    }
+    has_length(&rt, trace.events.len(), 7);
     let wanted = [
         None,
         broken(2, Why::Repeated),
@@ -175,6 +164,7 @@ fn one_judge_of_many_lists(rt: HostRuntime) -> Result<(), Fail> {
         broken(1, Why::LockOrder),
         None,
     ];
-    assert_eq!(rt; answers(&mut judge, pair), wanted);
+    let found = answers(&mut judge, pair(4, 6));
+    same(&rt, &found, &wanted, "the answers of one judge");
     Ok(())
 }

@@ -1,6 +1,7 @@
 //! Worked lists of steps.
 
-use crate::machine::*;
+use crate::asserting::{same, same_in_row};
+use shb_fan::machine::*;
 use std::test::Fail;
 
 /// The place of the first step that isn't allowed, or None where all are.
@@ -28,12 +29,12 @@ fn lifts_in_order(rt: HostRuntime) -> Result<(), Fail> {
         Step::Place(1, 1),
         Step::Lift(1),
     ];
-    assert_eq!(rt; refused(&rt, 2, 2, &early)?, Some(4));
+    same(&rt, &refused(&rt, 2, 2, &early)?, &Some(4), "an early lift");
     let Replayed::Ended(mut fan) = replay(rt.alloc(), 2, 2, &[])? else {
         panic!(rt; "no step is refused");
     };
     for (at, step) in early.iter().enumerate() {
-        assert_eq!(rt; advance(&mut fan, *step)?, at < 4, "step {at}");
+        same_in_row(&rt, &advance(&mut fan, *step)?, &(at < 4), at);
     }
     let in_order = [
         Step::Draw(0),
@@ -49,27 +50,23 @@ fn lifts_in_order(rt: HostRuntime) -> Result<(), Fail> {
     let Replayed::Ended(fan) = replay(rt.alloc(), 2, 2, &in_order)? else {
         panic!(rt; "each step is allowed");
     };
-    assert_eq!(rt; fan.taken(), 2);
-    assert_eq!(rt; fan.next(), 2);
-    assert_eq!(rt; fan.stopped(), false);
+    same(&rt, &fan.taken(), &2, "pieces taken");
+    same(&rt, &fan.next(), &2, "the next piece");
+    same(&rt, &fan.stopped(), &false, "whether it is stopped");
     Ok(())
 }
 
 #[test]
 fn claims_what_it_drew(rt: HostRuntime) -> Result<(), Fail> {
-    assert_eq!(rt;
-        refused(&rt, 1, 2, &[Step::Draw(0), Step::Claim(0, 1)])?,
-        Some(1)
-    );
+    let refused = refused(&rt, 1, 2, &[Step::Draw(0), Step::Claim(0, 1)])?;
+    same(&rt, &refused, &Some(1), "the refused step");
     Ok(())
 }
 
 #[test]
 fn spent_actors_draw_no_more(rt: HostRuntime) -> Result<(), Fail> {
-    assert_eq!(rt;
-        refused(&rt, 1, 0, &[Step::Draw(0), Step::Draw(0)])?,
-        Some(1)
-    );
+    let refused = refused(&rt, 1, 0, &[Step::Draw(0), Step::Draw(0)])?;
+    same(&rt, &refused, &Some(1), "the refused step");
     Ok(())
 }
 
@@ -84,9 +81,15 @@ fn no_such_actor_or_piece(rt: HostRuntime) -> Result<(), Fail> {
         Step::Stop(u32::MAX),
     ];
     for step in none {
-        assert_eq!(rt; refused(&rt, 1, 1, &[step])?, Some(0));
+        same(
+            &rt,
+            &refused(&rt, 1, 1, &[step])?,
+            &Some(0),
+            "the refused step",
+        );
     }
-    assert_eq!(rt; refused(&rt, 1, 1, &[Step::Stop(0), Step::Draw(0)])?, None);
+    let stopped = refused(&rt, 1, 1, &[Step::Stop(0), Step::Draw(0)])?;
+    same(&rt, &stopped, &None, "the refused step");
     Ok(())
 }
 
@@ -97,16 +100,31 @@ fn a_slot_is_used_again(rt: HostRuntime) -> Result<(), Fail> {
         steps.push(Step::Draw(0))?;
     }
     steps.push(Step::Claim(0, 64))?;
-    assert_eq!(rt; refused(&rt, 1, 65, steps.as_slice())?, Some(65));
+    same(
+        &rt,
+        &refused(&rt, 1, 65, steps.as_slice())?,
+        &Some(65),
+        "the refused step",
+    );
     steps.pop();
     steps.push(Step::Claim(0, 0))?;
     steps.push(Step::Place(0, 0))?;
     steps.push(Step::Lift(0))?;
     steps.push(Step::Claim(0, 64))?;
-    assert_eq!(rt; refused(&rt, 1, 65, steps.as_slice())?, Some(68));
+    same(
+        &rt,
+        &refused(&rt, 1, 65, steps.as_slice())?,
+        &Some(68),
+        "the refused step",
+    );
     steps.pop();
     steps.push(Step::Free(0))?;
     steps.push(Step::Claim(0, 64))?;
-    assert_eq!(rt; refused(&rt, 1, 65, steps.as_slice())?, None);
+    same(
+        &rt,
+        &refused(&rt, 1, 65, steps.as_slice())?,
+        &None,
+        "the refused step",
+    );
     Ok(())
 }

@@ -1,25 +1,14 @@
 //! What the orders answer on small traces, and that all four answer alike.
-ghost use Rattle.std.specs.Prelude.{◌≡◌, ◌<◌, ◌≤◌, length};
-ghost use Rattle.shb_lines.specs.text.Limits.{AreStandard};
+ghost use Rattle.std.specs.Prelude.{◌≡◌};
 
-use crate::*;
+use crate::asserting::{same, same_in_row};
+use crate::fixtures::parsed;
+use shb_clocks::{Order, by_event, full, plain, versions};
 use shb_discipline::{Disciplined, check};
-use shb_io::{NoMemory, Text};
-use shb_lines::{Limits, Parsed, ReadError, parse};
-use shb_links::{Links, links_of};
+use shb_io::NoMemory;
+use shb_links::links_of;
 use std::alloc::Global;
 use std::test::Fail;
-
-fn parsed(rt: &HostRuntime, text: &[u8]) -> Result<Parsed, ReadError> {
-    let mut source = Text::new(text, 4096, None);
-    let limits = Limits {
-        text: 1_073_741_824,
-        line: 4096,
-        events: 4_194_304,
-        threads: 1024,
-    };
-    parse(rt, rt.alloc(), &mut source, &limits)
-}
 
 /// What an order answers, 0 for an event that isn't there.
 fn answer<O: Order>(order: &O, trace: &Disciplined<'_>, e: u32, t: u32) -> u32
@@ -73,102 +62,140 @@ fn difference(rt: &HostRuntime, text: &[u8]) -> Result<Option<(u32, u32)>, Fail>
     Ok(None)
 }
 
+const PASSED_ON: &[u8] = b"T1|acq(l)\nT1|w(x)\nT1|rel(l)\nT2|acq(l)\nT2|r(x)\nT2|rel(l)\nT3|w(x)\n";
+
+const FORKED: &[u8] = b"T1|fork(T3)\nT2|join(T3)\nT1|w(x)\nT2|w(x)\n";
+
+const THREE: &[u8] =
+    b"T1|acq(l)\nT1|rel(l)\nT2|acq(l)\nT2|w(x)\nT2|rel(l)\nT3|acq(l)\nT3|rel(l)\nT3|w(x)\n";
+
+const READ: &[u8] = b"T1|w(x)\nT2|w(z)\nT2|r(x)\nT2|w(y)\n";
+
+const NESTED: &[u8] =
+    b"T1|acq(l)\nT1|acq(l)\nT1|w(x)\nT1|rel(l)\nT1|w(y)\nT1|rel(l)\nT2|acq(l)\nT2|w(y)\nT2|rel(l)\nT2|w(x)\n";
+
+/// A text, an event, a thread, and what every order answers for them.
+const VALUES: [(&[u8], u32, u32, u32); 42] = [
+    (PASSED_ON, 0, 0, 0),
+    (PASSED_ON, 0, 1, 0),
+    (PASSED_ON, 0, 2, 0),
+    (PASSED_ON, 1, 0, 1),
+    (PASSED_ON, 1, 1, 0),
+    (PASSED_ON, 1, 2, 0),
+    (PASSED_ON, 2, 0, 2),
+    (PASSED_ON, 2, 1, 0),
+    (PASSED_ON, 2, 2, 0),
+    (PASSED_ON, 3, 0, 0),
+    (PASSED_ON, 3, 1, 0),
+    (PASSED_ON, 3, 2, 0),
+    (PASSED_ON, 4, 0, 3),
+    (PASSED_ON, 4, 1, 1),
+    (PASSED_ON, 4, 2, 0),
+    (PASSED_ON, 5, 0, 3),
+    (PASSED_ON, 5, 1, 2),
+    (PASSED_ON, 5, 2, 0),
+    (PASSED_ON, 6, 0, 0),
+    (PASSED_ON, 6, 1, 0),
+    (PASSED_ON, 6, 2, 0),
+    (FORKED, 3, 0, 0),
+    (FORKED, 3, 1, 0),
+    (FORKED, 3, 2, 1),
+    (THREE, 3, 0, 2),
+    (THREE, 3, 1, 1),
+    (THREE, 3, 2, 0),
+    (THREE, 7, 0, 2),
+    (THREE, 7, 1, 3),
+    (THREE, 7, 2, 2),
+    (READ, 2, 0, 0),
+    (READ, 2, 1, 1),
+    (READ, 2, 2, 0),
+    (READ, 3, 0, 1),
+    (READ, 3, 1, 2),
+    (READ, 3, 2, 0),
+    (NESTED, 7, 0, 6),
+    (NESTED, 7, 1, 1),
+    (NESTED, 7, 2, 0),
+    (NESTED, 9, 0, 6),
+    (NESTED, 9, 1, 3),
+    (NESTED, 9, 2, 0),
+];
+
 #[test]
 fn values(rt: HostRuntime) -> Result<(), Fail> {
-    let passed_on: &[u8] =
-        b"T1|acq(l)\nT1|w(x)\nT1|rel(l)\nT2|acq(l)\nT2|r(x)\nT2|rel(l)\nT3|w(x)\n";
-    let forked: &[u8] = b"T1|fork(T3)\nT2|join(T3)\nT1|w(x)\nT2|w(x)\n";
-    let three: &[u8] =
-        b"T1|acq(l)\nT1|rel(l)\nT2|acq(l)\nT2|w(x)\nT2|rel(l)\nT3|acq(l)\nT3|rel(l)\nT3|w(x)\n";
-    let read: &[u8] = b"T1|w(x)\nT2|w(z)\nT2|r(x)\nT2|w(y)\n";
-    let nested: &[u8] =
-        b"T1|acq(l)\nT1|acq(l)\nT1|w(x)\nT1|rel(l)\nT1|w(y)\nT1|rel(l)\nT2|acq(l)\nT2|w(y)\nT2|rel(l)\nT2|w(x)\n";
-    let rows: [(&[u8], u32, [u32; 3]); 14] = [
-        (passed_on, 0, [0, 0, 0]),
-        (passed_on, 1, [1, 0, 0]),
-        (passed_on, 2, [2, 0, 0]),
-        (passed_on, 3, [0, 0, 0]),
-        (passed_on, 4, [3, 1, 0]),
-        (passed_on, 5, [3, 2, 0]),
-        (passed_on, 6, [0, 0, 0]),
-        (forked, 3, [0, 0, 1]),
-        (three, 3, [2, 1, 0]),
-        (three, 7, [2, 3, 2]),
-        (read, 2, [0, 1, 0]),
-        (read, 3, [1, 2, 0]),
-        (nested, 7, [6, 1, 0]),
-        (nested, 9, [6, 3, 0]),
-    ];
-    for (text, e, wants) in rows {
-        for (t, want) in wants.into_iter().enumerate() {
-            assert_eq!(rt;
-                answers(&rt, text, e, t as u32)?,
-                [want; 4],
-                "event {e} thread {t} of {text:?}"
-            );
-        }
+    for (row, (text, e, t, wanted)) in VALUES.iter().enumerate() {
+        same_in_row(&rt, &answers(&rt, text, *e, *t)?, &[*wanted; 4], row);
     }
     Ok(())
 }
 
+/// A text, a thread, and the places at which the thread learned of others.
+const LEARNED: [(&[u8], u32, &[u32]); 9] = [
+    (PASSED_ON, 0, &[1]),
+    (PASSED_ON, 1, &[1, 2]),
+    (PASSED_ON, 2, &[1]),
+    (PASSED_ON, 3, &[]),
+    (b"T1|w(x)\nT1|w(y)\nT2|r(y)\nT2|w(x)\n", 0, &[1]),
+    (b"T1|w(x)\nT1|w(y)\nT2|r(y)\nT2|w(x)\n", 1, &[1]),
+    (
+        b"T1|fork(T2)\nT2|r(x)\nT2|w(x)\nT2|r(x)\nT1|join(T2)\n",
+        0,
+        &[1, 2],
+    ),
+    (
+        b"T1|fork(T2)\nT2|r(x)\nT2|w(x)\nT2|r(x)\nT1|join(T2)\n",
+        1,
+        &[1, 3],
+    ),
+    (
+        b"T1|fork(T2)\nT2|r(x)\nT2|w(x)\nT2|r(x)\nT1|join(T2)\n",
+        2,
+        &[],
+    ),
+];
+
 #[test]
 fn learned_places(rt: HostRuntime) -> Result<(), Fail> {
-    let rows: [(&[u8], [&[u32]; 4]); 3] = [
-        (
-            b"T1|acq(l)\nT1|w(x)\nT1|rel(l)\nT2|acq(l)\nT2|r(x)\nT2|rel(l)\nT3|w(x)\n",
-            [&[1], &[1, 2], &[1], &[]],
-        ),
-        (
-            b"T1|w(x)\nT1|w(y)\nT2|r(y)\nT2|w(x)\n",
-            [&[1], &[1], &[], &[]],
-        ),
-        (
-            b"T1|fork(T2)\nT2|r(x)\nT2|w(x)\nT2|r(x)\nT1|join(T2)\n",
-            [&[1, 2], &[1, 3], &[], &[]],
-        ),
-    ];
-    for (text, places) in rows {
+    for (row, (text, t, wanted)) in LEARNED.iter().enumerate() {
         let parsed = parsed(&rt, text)?;
         let trace = check(rt.alloc(), &parsed.trace)?;
         let links = links_of(rt.alloc(), &trace)?;
         let order = versions(rt.alloc(), &trace, &links)?;
-        for (t, want) in places.into_iter().enumerate() {
-            assert_eq!(rt; order.learned(t as u32), want, "thread {t} of {text:?}");
-        }
+        same_in_row(&rt, &order.learned(*t), wanted, row);
     }
     Ok(())
 }
 
+const SMALL_TRACES: [&[u8]; 24] = [
+    b"T1|w(y)|1\nT2|r(y)|2\n",
+    b"T1|w(x)\nT1|w(y)\nT2|r(y)\nT2|w(x)\n",
+    b"T1|w(x)\nT2|r(x)\nT2|r(x)\n",
+    b"T1|w(x)\nT2|w(x)\nT3|r(x)\n",
+    b"T1|acq(l)\nT1|w(x)\nT1|rel(l)\nT2|w(x)\n",
+    b"T1|w(x)\nT1|fork(T2)\nT2|w(x)\n",
+    b"T1|fork(T2)\nT1|w(x)\nT2|w(x)\n",
+    b"T1|fork(T2)\nT2|w(x)\nT1|join(T2)\nT1|r(x)\n",
+    b"T1|w(x)\nT1|acq(l)\nT1|rel(l)\nT2|acq(l)\nT2|rel(l)\nT2|w(x)\n",
+    b"",
+    b"\n\n\n",
+    b"T1|w(y)|a|b\r\n\r\nT2|r(y)",
+    b"T1|r(f(a))\n",
+    b"T1|acq(l)\nT1|acq(l)\n",
+    b"T1|w(x)\nT1|w(y)\nT2|w(y)\nT2|w(x)\n",
+    b"T1|acq(l)\nT1|w(x)\nT1|rel(l)\nT2|acq(l)\nT2|r(x)\nT2|rel(l)\nT3|w(x)\n",
+    b"T1|fork(T3)\nT2|join(T3)\nT1|w(x)\nT2|w(x)\n",
+    b"T1|w(x)\nT2|r(x)\nT2|w(y)\nT3|w(y)\n",
+    b"T1|acq(l)\nT1|rel(l)\nT2|acq(l)\nT2|w(x)\nT2|rel(l)\nT3|acq(l)\nT3|rel(l)\nT3|w(x)\n",
+    b"T1|w(x)\nT2|w(z)\nT2|r(x)\nT2|w(y)\n",
+    b"T1|acq(l)\nT1|acq(l)\nT1|w(x)\nT1|rel(l)\nT1|w(y)\nT1|rel(l)\nT2|acq(l)\nT2|w(y)\nT2|rel(l)\nT2|w(x)\n",
+    b"T1|acq(l)\nT1|acq(l)\nT1|w(x)\nT1|rel(l)\nT1|rel(l)\nT2|acq(l)\nT2|rel(l)\nT3|w(x)\n",
+    b"T1|begin\nT1|w(x)\nT1|end\nT2|begin(m)\nT2|w(x)\nT2|end()\n",
+    b"T1|w(x)|a\nT2|w(x)|a\nT3|w(x)|b\nT4|w(x)|b\n",
+];
+
 #[test]
 fn small_traces(rt: HostRuntime) -> Result<(), Fail> {
-    let texts: [&[u8]; 24] = [
-        b"T1|w(y)|1\nT2|r(y)|2\n",
-        b"T1|w(x)\nT1|w(y)\nT2|r(y)\nT2|w(x)\n",
-        b"T1|w(x)\nT2|r(x)\nT2|r(x)\n",
-        b"T1|w(x)\nT2|w(x)\nT3|r(x)\n",
-        b"T1|acq(l)\nT1|w(x)\nT1|rel(l)\nT2|w(x)\n",
-        b"T1|w(x)\nT1|fork(T2)\nT2|w(x)\n",
-        b"T1|fork(T2)\nT1|w(x)\nT2|w(x)\n",
-        b"T1|fork(T2)\nT2|w(x)\nT1|join(T2)\nT1|r(x)\n",
-        b"T1|w(x)\nT1|acq(l)\nT1|rel(l)\nT2|acq(l)\nT2|rel(l)\nT2|w(x)\n",
-        b"",
-        b"\n\n\n",
-        b"T1|w(y)|a|b\r\n\r\nT2|r(y)",
-        b"T1|r(f(a))\n",
-        b"T1|acq(l)\nT1|acq(l)\n",
-        b"T1|w(x)\nT1|w(y)\nT2|w(y)\nT2|w(x)\n",
-        b"T1|acq(l)\nT1|w(x)\nT1|rel(l)\nT2|acq(l)\nT2|r(x)\nT2|rel(l)\nT3|w(x)\n",
-        b"T1|fork(T3)\nT2|join(T3)\nT1|w(x)\nT2|w(x)\n",
-        b"T1|w(x)\nT2|r(x)\nT2|w(y)\nT3|w(y)\n",
-        b"T1|acq(l)\nT1|rel(l)\nT2|acq(l)\nT2|w(x)\nT2|rel(l)\nT3|acq(l)\nT3|rel(l)\nT3|w(x)\n",
-        b"T1|w(x)\nT2|w(z)\nT2|r(x)\nT2|w(y)\n",
-        b"T1|acq(l)\nT1|acq(l)\nT1|w(x)\nT1|rel(l)\nT1|w(y)\nT1|rel(l)\nT2|acq(l)\nT2|w(y)\nT2|rel(l)\nT2|w(x)\n",
-        b"T1|acq(l)\nT1|acq(l)\nT1|w(x)\nT1|rel(l)\nT1|rel(l)\nT2|acq(l)\nT2|rel(l)\nT3|w(x)\n",
-        b"T1|begin\nT1|w(x)\nT1|end\nT2|begin(m)\nT2|w(x)\nT2|end()\n",
-        b"T1|w(x)|a\nT2|w(x)|a\nT3|w(x)|b\nT4|w(x)|b\n",
-    ];
-    for text in texts {
-        assert_eq!(rt; difference(&rt, text)?, None, "in {text:?}");
+    for (row, text) in SMALL_TRACES.iter().enumerate() {
+        same_in_row(&rt, &difference(&rt, text)?, &None, row);
     }
     Ok(())
 }
@@ -210,7 +237,8 @@ fn long_text(alloc: Global) -> Result<String, NoMemory> {
 #[test]
 fn long_trace(rt: HostRuntime) -> Result<(), Fail> {
     let text = long_text(rt.alloc())?;
-    assert_eq!(rt; difference(&rt, text.as_bytes())?, None);
+    let found = difference(&rt, text.as_bytes())?;
+    same(&rt, &found, &None, "an answer that differs");
     Ok(())
 }
 
@@ -227,11 +255,8 @@ fn line_of_each(alloc: Global, threads: u32, operation: &str) -> Result<String, 
 fn many_threads(rt: HostRuntime) -> Result<(), Fail> {
     for (threads, operation) in [(65, "w(x)"), (1024, "r(a)")] {
         let text = line_of_each(rt.alloc(), threads, operation)?;
-        assert_eq!(rt;
-            difference(&rt, text.as_bytes())?,
-            None,
-            "of {threads} threads"
-        );
+        let found = difference(&rt, text.as_bytes())?;
+        same(&rt, &found, &None, "an answer that differs");
     }
     Ok(())
 }

@@ -1,28 +1,13 @@
 //! The schedules of worked traces.
-ghost use Rattle.std.specs.Prelude.{◌≡◌, ◌<◌, IsTrue, length};
-ghost use Rattle.shb_lines.specs.events.Race.{Race};
-
-use crate::*;
-use shb_clocks::{Order, full};
-use shb_discipline::{Disciplined, check};
+use crate::asserting::same_in_row;
+use crate::fixtures::{pair, parsed};
+use shb_clocks::full;
+use shb_discipline::check;
 use shb_fan::Job;
-use shb_io::Text;
-use shb_lines::{Limits, Pair, events_conflict_at, parse};
-use shb_links::{Links, links_of};
+use shb_links::links_of;
+use shb_pairs::is_race;
+use shb_witness::WitnessJob;
 use std::test::Fail;
-
-/// Whether a pair is a race.
-fn is_race<O: Order>(order: &O, trace: &Disciplined<'_>, links: &Links<'_>, pair: Pair) -> bool
-    requires of_trace { O.trace order.now ≡ trace.now.events.now }
-    requires linked { links.now ≡ trace.now.events.now }
-    requires earlier { pair.first < pair.second }
-    requires in_range { pair.second < length trace.now.events.now }
-    ensures { IsTrue result → Race trace.now.events.now pair.first pair.second }
-{
-    let thread = trace.events[pair.first as usize].thread;
-    let below = order.below_pred(pair.second, thread);
-    events_conflict_at(trace.events, pair.first, pair.second) && below < links.local(pair.first)
-}
 
 /// The schedule of a race of the text, as a piece of work. None where the pair is no race.
 fn scheduled(
@@ -31,19 +16,17 @@ fn scheduled(
     first: u32,
     second: u32,
 ) -> Result<Option<Vec<u32>>, Fail> {
-    let mut source = Text::new(text, 4096, None);
-    let parsed = parse(rt, rt.alloc(), &mut source, &Limits::standard())?;
+    let parsed = parsed(rt, text)?;
     let trace = check(rt.alloc(), &parsed.trace)?;
     let links = links_of(rt.alloc(), &trace)?;
     let order = full(rt.alloc(), &trace, &links)?;
-    let pair = Pair { first, second };
     if first >= second || second as usize >= trace.events.len() {
         return Ok(None);
     }
-    if !is_race(&order, &trace, &links, pair) {
+    if !is_race(&order, &trace, &links, first, second) {
         return Ok(None);
     }
-    let pairs = [pair];
+    let pairs = [pair(first, second)];
     let job = WitnessJob::new(&order, &trace, &links, &pairs);
     Ok(Some(job.run(rt.alloc(), 0)?.to_vec(rt.alloc())?))
 }
@@ -72,7 +55,7 @@ fn worked_schedules(rt: HostRuntime) -> Result<(), Fail> {
     for (row, (text, first, second, wanted)) in rows.iter().enumerate() {
         let positions = scheduled(&rt, text, *first, *second)?;
         let positions = positions.as_ref().map(|positions| positions.as_slice());
-        assert_eq!(rt; positions, Some(*wanted), "row {row}");
+        same_in_row(&rt, &positions, &Some(*wanted), row);
     }
     Ok(())
 }

@@ -1,14 +1,19 @@
 //! The races of small traces, and that the search finds what a scan of all pairs finds.
 ghost use Rattle.std.specs.Prelude.{◌≡◌, ◌<◌, ◌≤◌, length};
 
-use crate::*;
+use crate::asserting::{holds, same, same_in_row};
+use crate::fixtures::{pair, parsed};
 use shb_clocks::{Order, full, versions};
 use shb_discipline::{Disciplined, check};
 use shb_fan::Job;
-use shb_io::{NoMemory, Text};
-use shb_lines::{Limits, Pair, Parsed, ReadError, parse, variable};
+use shb_io::NoMemory;
+use shb_lines::{Pair, variable};
 use shb_links::{Links, links_of};
+use shb_pairs::{
+    Accesses, PairJob, Piece, accesses_of, accesses_of_open, is_race, open_variables, pieces,
+};
 use std::alloc::Global;
+use std::process::Abort;
 use std::test::Fail;
 
 /// The pieces of a trace, how many races each has, and all races.
@@ -17,11 +22,6 @@ struct Found {
     pieces: Vec<Piece>,
     counts: Vec<usize>,
     races: Vec<Pair>,
-}
-
-fn parsed(rt: &HostRuntime, text: &[u8]) -> Result<Parsed, ReadError> {
-    let mut source = Text::new(text, 4096, None);
-    parse(rt, rt.alloc(), &mut source, &Limits::standard())
 }
 
 /// Which variables of a trace are open.
@@ -98,7 +98,7 @@ fn plain_races(rt: &HostRuntime, text: &[u8]) -> Result<Vec<Pair>, Fail> {
             if variable(trace.events[second as usize].op) == Some(x) {
                 for first in 0..second {
                     if is_race(&order, &trace, &links, first, second) {
-                        races.push(Pair { first, second })?;
+                        races.push(pair(first, second))?;
                     }
                 }
             }
@@ -115,71 +115,76 @@ fn ends(alloc: Global, races: &[Pair]) -> Result<Vec<(u32, u32)>, NoMemory> {
     Ok(ends)
 }
 
+/// Texts and their races.
+const RACES: [(&[u8], &[(u32, u32)]); 8] = [
+    (b"T1|w(y)|1\nT2|r(y)|2\n", &[(0, 1)]),
+    (b"T1|w(x)\nT1|w(y)\nT2|r(y)\nT2|w(x)\n", &[(1, 2)]),
+    (b"T1|w(x)\nT2|r(x)\nT2|r(x)\n", &[(0, 1)]),
+    (b"T1|w(x)\nT2|w(x)\nT3|r(x)\n", &[(0, 1), (0, 2), (1, 2)]),
+    (b"T1|acq(l)\nT1|w(x)\nT1|rel(l)\nT2|w(x)\n", &[(1, 3)]),
+    (b"T1|w(x)\nT1|w(y)\nT2|w(y)\nT2|w(x)\n", &[(0, 3), (1, 2)]),
+    (
+        b"T1|acq(l)\nT1|w(x)\nT1|rel(l)\nT2|acq(l)\nT2|r(x)\nT2|rel(l)\nT3|w(x)\n",
+        &[(1, 6), (4, 6)],
+    ),
+    (b"T1|w(x)\nT2|r(x)\nT2|w(y)\nT3|w(y)\n", &[(0, 1), (2, 3)]),
+];
+
 #[test]
 fn small_traces(rt: HostRuntime) -> Result<(), Fail> {
-    let rows: [(&[u8], &[(u32, u32)]); 8] = [
-        (b"T1|w(y)|1\nT2|r(y)|2\n", &[(0, 1)]),
-        (b"T1|w(x)\nT1|w(y)\nT2|r(y)\nT2|w(x)\n", &[(1, 2)]),
-        (b"T1|w(x)\nT2|r(x)\nT2|r(x)\n", &[(0, 1)]),
-        (b"T1|w(x)\nT2|w(x)\nT3|r(x)\n", &[(0, 1), (0, 2), (1, 2)]),
-        (b"T1|acq(l)\nT1|w(x)\nT1|rel(l)\nT2|w(x)\n", &[(1, 3)]),
-        (b"T1|w(x)\nT1|w(y)\nT2|w(y)\nT2|w(x)\n", &[(0, 3), (1, 2)]),
-        (
-            b"T1|acq(l)\nT1|w(x)\nT1|rel(l)\nT2|acq(l)\nT2|r(x)\nT2|rel(l)\nT3|w(x)\n",
-            &[(1, 6), (4, 6)],
-        ),
-        (b"T1|w(x)\nT2|r(x)\nT2|w(y)\nT3|w(y)\n", &[(0, 1), (2, 3)]),
-    ];
-    for (text, want) in rows {
-        let found = search(&rt, text)?;
-        let races = ends(rt.alloc(), found.races.as_slice())?;
-        assert_eq!(rt; races.as_slice(), want, "in {text:?}");
-        let found = search_open(&rt, text)?;
-        let races = ends(rt.alloc(), found.races.as_slice())?;
-        assert_eq!(rt; races.as_slice(), want, "of open variables in {text:?}");
+    for (row, (text, wanted)) in RACES.iter().enumerate() {
+        for found in [search(&rt, text)?, search_open(&rt, text)?] {
+            let races = ends(rt.alloc(), found.races.as_slice())?;
+            same_in_row(&rt, &races.as_slice(), wanted, row);
+        }
     }
     Ok(())
 }
 
+/// Texts and which of their variables are open.
+const OPEN: [(&[u8], &[bool]); 8] = [
+    (b"T1|w(y)\nT2|r(y)\n", &[true]),
+    (b"T1|w(x)\nT1|w(y)\nT2|w(y)\nT1|r(x)\n", &[false, true]),
+    (
+        b"T1|acq(l)\nT1|w(x)\nT1|rel(l)\nT2|acq(l)\nT2|r(x)\nT2|w(x)\nT2|rel(l)\n",
+        &[false],
+    ),
+    (b"T1|r(x)\nT2|r(x)\nT3|r(x)\n", &[false]),
+    (b"T1|r(x)\nT2|r(x)\nT2|w(x)\n", &[true]),
+    (b"T1|w(x)\nT1|fork(T2)\nT2|r(x)\nT1|r(x)\n", &[false]),
+    (
+        b"T1|w(x)\nT1|fork(T2)\nT2|r(x)\nT1|join(T2)\nT1|w(x)\n",
+        &[false],
+    ),
+    // No pair races, but the two reads aren't ordered.
+    (
+        b"T1|w(x)\nT1|fork(T2)\nT2|r(x)\nT1|r(x)\nT1|join(T2)\nT1|w(x)\n",
+        &[true],
+    ),
+];
+
 #[test]
 fn open_variables_of_small_traces(rt: HostRuntime) -> Result<(), Fail> {
-    let rows: [(&[u8], &[bool]); 8] = [
-        (b"T1|w(y)\nT2|r(y)\n", &[true]),
-        (b"T1|w(x)\nT1|w(y)\nT2|w(y)\nT1|r(x)\n", &[false, true]),
-        (
-            b"T1|acq(l)\nT1|w(x)\nT1|rel(l)\nT2|acq(l)\nT2|r(x)\nT2|w(x)\nT2|rel(l)\n",
-            &[false],
-        ),
-        (b"T1|r(x)\nT2|r(x)\nT3|r(x)\n", &[false]),
-        (b"T1|r(x)\nT2|r(x)\nT2|w(x)\n", &[true]),
-        (b"T1|w(x)\nT1|fork(T2)\nT2|r(x)\nT1|r(x)\n", &[false]),
-        (
-            b"T1|w(x)\nT1|fork(T2)\nT2|r(x)\nT1|join(T2)\nT1|w(x)\n",
-            &[false],
-        ),
-        // No pair races, but the two reads aren't ordered.
-        (
-            b"T1|w(x)\nT1|fork(T2)\nT2|r(x)\nT1|r(x)\nT1|join(T2)\nT1|w(x)\n",
-            &[true],
-        ),
-    ];
-    for (text, want) in rows {
-        let flags = open_flags(&rt, text)?;
-        assert_eq!(rt; flags.as_slice(), want, "in {text:?}");
+    for (row, (text, wanted)) in OPEN.iter().enumerate() {
+        same_in_row(&rt, &open_flags(&rt, text)?.as_slice(), wanted, row);
     }
     Ok(())
+}
+
+fn piece(variable: u32, from: u32, to: u32) -> Piece {
+    Piece { variable, from, to }
+}
+
+/// Asserts the pieces of a search, and how many races each has.
+fn expect_pieces(rt: &impl Abort, found: &Found, pieces: &[Piece], counts: &[usize]) {
+    same(rt, &found.pieces.as_slice(), &pieces, "the pieces");
+    same(rt, &found.counts.as_slice(), &counts, "races of each piece");
 }
 
 #[test]
 fn settled_variables_have_no_piece(rt: HostRuntime) -> Result<(), Fail> {
     let found = search_open(&rt, b"T1|w(x)\nT1|w(y)\nT2|w(y)\nT1|r(x)\n")?;
-    let piece = Piece {
-        variable: 1,
-        from: 0,
-        to: 2,
-    };
-    assert_eq!(rt; found.pieces.as_slice(), [piece].as_slice());
-    assert_eq!(rt; found.counts.as_slice(), [1].as_slice());
+    expect_pieces(&rt, &found, &[piece(1, 0, 2)], &[1]);
     Ok(())
 }
 
@@ -197,37 +202,12 @@ fn writes(alloc: Global, lines: u32, apart: bool) -> Result<String, NoMemory> {
 fn many_writers(rt: HostRuntime) -> Result<(), Fail> {
     let text = writes(rt.alloc(), 65, true)?;
     let found = search(&rt, text.as_bytes())?;
-    assert_eq!(rt;
-        found.pieces.as_slice(),
-        [
-            Piece {
-                variable: 0,
-                from: 0,
-                to: 64
-            },
-            Piece {
-                variable: 0,
-                from: 64,
-                to: 65
-            },
-        ]
-        .as_slice()
-    );
-    assert_eq!(rt; found.counts.as_slice(), [2_016, 64].as_slice());
-    assert_eq!(rt;
-        found.races.first().copied(),
-        Some(Pair {
-            first: 0,
-            second: 1
-        })
-    );
-    assert_eq!(rt;
-        found.races.last().copied(),
-        Some(Pair {
-            first: 63,
-            second: 64
-        })
-    );
+    let pieces = [piece(0, 0, 64), piece(0, 64, 65)];
+    expect_pieces(&rt, &found, &pieces, &[2_016, 64]);
+    let first = found.races.first().copied();
+    same(&rt, &first, &Some(pair(0, 1)), "the first race");
+    let last = found.races.last().copied();
+    same(&rt, &last, &Some(pair(63, 64)), "the last race");
     Ok(())
 }
 
@@ -235,28 +215,8 @@ fn many_writers(rt: HostRuntime) -> Result<(), Fail> {
 fn many_accesses(rt: HostRuntime) -> Result<(), Fail> {
     let text = writes(rt.alloc(), 130, false)?;
     let found = search(&rt, text.as_bytes())?;
-    assert_eq!(rt;
-        found.pieces.as_slice(),
-        [
-            Piece {
-                variable: 0,
-                from: 0,
-                to: 64
-            },
-            Piece {
-                variable: 0,
-                from: 64,
-                to: 128
-            },
-            Piece {
-                variable: 0,
-                from: 128,
-                to: 130
-            },
-        ]
-        .as_slice()
-    );
-    assert_eq!(rt; found.counts.as_slice(), [0, 0, 0].as_slice());
+    let pieces = [piece(0, 0, 64), piece(0, 64, 128), piece(0, 128, 130)];
+    expect_pieces(&rt, &found, &pieces, &[0, 0, 0]);
     Ok(())
 }
 
@@ -292,9 +252,14 @@ fn search_and_scan(rt: HostRuntime) -> Result<(), Fail> {
     let text = mixed_text(rt.alloc())?;
     let found = search(&rt, text.as_bytes())?;
     let plain = plain_races(&rt, text.as_bytes())?;
-    assert!(rt; plain.len() > 1_000);
-    assert_eq!(rt; found.races.as_slice(), plain.as_slice());
+    holds(&rt, plain.len() > 1_000, "there are races");
+    same(&rt, &found.races, &plain, "what is found");
     let of_open = search_open(&rt, text.as_bytes())?;
-    assert_eq!(rt; of_open.races.as_slice(), plain.as_slice());
+    same(
+        &rt,
+        &of_open.races,
+        &plain,
+        "what is found by open variables",
+    );
     Ok(())
 }

@@ -1,6 +1,7 @@
 //! What no contract says: that calls succeed, which errors of a reader or a writer are tried again, what a
 //! flush that fails answers, and the bytes that arrive after a writer that is let go.
-use crate::*;
+use crate::asserting::{same, same_bytes};
+use shb_io::{Endless, Failed, FromRead, Page, Sink, Source, Text, ToWrite, write_all};
 use std::io::{self, BufWriter, ErrorKind, Read, Write};
 use std::process::Abort;
 use std::test::Fail;
@@ -96,10 +97,8 @@ impl Write for Full {
 fn expect_read<S: Source>(rt: &impl Abort, source: &mut S, want: Result<&[u8], Failed>) {
     let mut buf = [0; 10];
     assert!(rt; source.failures() < 9);
-    match source.read(&mut buf) {
-        Ok(count) => assert_eq!(rt; Ok(&buf[..count]), want),
-        Err(error) => assert_eq!(rt; Err(error), want),
-    }
+    let read = source.read(&mut buf).map(|count| &buf[..count]);
+    same(rt, &read, &want, "a read");
 }
 
 /// Writes all bytes, and looks at what the page holds.
@@ -111,8 +110,8 @@ fn expect_write(
     held: &[u8],
 ) {
     assert!(rt; page.failures() < 9);
-    assert_eq!(rt; write_all(page, bytes), want);
-    assert_eq!(rt; page.bytes(), held);
+    same(rt, &write_all(page, bytes), &want, "a write");
+    same_bytes(rt, page.bytes(), held, "what the page holds");
 }
 
 #[test]
@@ -127,12 +126,12 @@ fn texts_fail_in_mid_stream(rt: HostRuntime) {
     ] {
         expect_read(&rt, &mut by_one, want);
     }
-    assert_eq!(rt; by_one.failures(), 1);
+    same(&rt, &by_one.failures(), &1, "failures");
     let mut by_seven = Text::new(b"abcdefghijk", 7, Some(2));
     for want in [Ok(b"abcdefg".as_slice()), Err(Failed), Ok(b"hijk"), Ok(b"")] {
         expect_read(&rt, &mut by_seven, want);
     }
-    assert_eq!(rt; by_seven.failures(), 1);
+    same(&rt, &by_seven.failures(), &1, "failures");
     let mut never = Text::new(b"ab", 1, Some(0));
     for want in [Ok(b"a".as_slice()), Ok(b"b"), Ok(b"")] {
         expect_read(&rt, &mut never, want);
@@ -145,11 +144,11 @@ fn pages_fail_in_mid_stream(rt: HostRuntime) -> Result<(), Fail> {
     expect_write(&rt, &mut by_one, b"abcd", Err(Failed), b"a");
     expect_write(&rt, &mut by_one, b"bc", Ok(()), b"abc");
     expect_write(&rt, &mut by_one, b"d", Err(Failed), b"abc");
-    assert_eq!(rt; by_one.failures(), 2);
+    same(&rt, &by_one.failures(), &2, "failures");
     let mut by_seven = Page::new(rt.alloc(), 10, 7, Some(2))?;
     expect_write(&rt, &mut by_seven, b"abcdefghijk", Err(Failed), b"abcdefg");
     expect_write(&rt, &mut by_seven, b"hijk", Err(Failed), b"abcdefghij");
-    assert_eq!(rt; by_seven.failures(), 2);
+    same(&rt, &by_seven.failures(), &2, "failures");
     Ok(())
 }
 
@@ -157,10 +156,10 @@ fn pages_fail_in_mid_stream(rt: HostRuntime) -> Result<(), Fail> {
 fn interruptions_are_tried_again(rt: HostRuntime) {
     let mut patient = FromRead::new(Interrupted { times: 1_000 });
     expect_read(&rt, &mut patient, Ok(b"x"));
-    assert_eq!(rt; patient.failures(), 0);
+    same(&rt, &patient.failures(), &0, "failures");
     let mut too_many = FromRead::new(Interrupted { times: 1_001 });
     expect_read(&rt, &mut too_many, Err(Failed));
-    assert_eq!(rt; too_many.failures(), 1);
+    same(&rt, &too_many.failures(), &1, "failures");
 }
 
 #[test]
@@ -168,7 +167,7 @@ fn other_errors_of_a_reader_are_failures_at_once(rt: HostRuntime) {
     let mut source = FromRead::new(Broken { is_mended: false });
     expect_read(&rt, &mut source, Err(Failed));
     expect_read(&rt, &mut source, Ok(b"x"));
-    assert_eq!(rt; source.failures(), 1);
+    same(&rt, &source.failures(), &1, "failures");
 }
 
 #[test]
@@ -179,8 +178,8 @@ fn writes_are_tried_again_where_interrupted(rt: HostRuntime) {
         (1, ErrorKind::BrokenPipe, Err(Failed), 1),
     ] {
         let mut sink = ToWrite::new(Failing { times, kind });
-        assert_eq!(rt; sink.write(b"a"), want);
-        assert_eq!(rt; sink.failures(), failures);
+        same(&rt, &sink.write(b"a"), &want, "a write");
+        same(&rt, &sink.failures(), &failures, "failures");
     }
 }
 
@@ -192,17 +191,23 @@ fn flushes_are_tried_again_where_interrupted(rt: HostRuntime) {
         (1_001, ErrorKind::Interrupted, Err(Failed)),
         (1, ErrorKind::BrokenPipe, Err(Failed)),
     ] {
-        assert_eq!(rt; ToWrite::new(Failing { times, kind }).finish(), want);
+        let finished = ToWrite::new(Failing { times, kind }).finish();
+        same(&rt, &finished, &want, "a flush");
         let handed_back = ToWrite::new(Failing { times, kind }).into_writer();
-        assert_eq!(rt; handed_back.is_ok(), want.is_ok());
+        same(
+            &rt,
+            &handed_back.is_ok(),
+            &want.is_ok(),
+            "a writer handed back",
+        );
     }
 }
 
 #[test]
 fn a_write_of_no_bytes_is_a_failure(rt: HostRuntime) {
     let mut sink = ToWrite::new(Full);
-    assert_eq!(rt; sink.write(b"a"), Err(Failed));
-    assert_eq!(rt; sink.failures(), 1);
+    same(&rt, &sink.write(b"a"), &Err(Failed), "a write");
+    same(&rt, &sink.failures(), &1, "failures");
 }
 
 #[test]
@@ -213,11 +218,16 @@ fn all_bytes_arrive_behind_a_buffer(rt: HostRuntime) -> Result<(), Fail> {
     write_all(&mut sink, b"defghi")?;
     write_all(&mut sink, b"j")?;
     sink.finish()?;
-    assert_eq!(rt; memory.as_slice(), b"abcdefghij".as_slice());
+    same_bytes(&rt, memory.as_slice(), b"abcdefghij", "the memory");
     let mut owner = ToWrite::new(BufWriter::with_capacity(rt.alloc(), 4, Vec::new(rt.alloc()))?);
     write_all(&mut owner, b"abc")?;
     let writer = owner.into_writer()?;
-    assert_eq!(rt; writer.get_ref().as_slice(), b"abc".as_slice());
+    same_bytes(
+        &rt,
+        writer.get_ref().as_slice(),
+        b"abc",
+        "what the writer holds",
+    );
     Ok(())
 }
 
@@ -226,5 +236,5 @@ fn the_endless_source_counts(rt: HostRuntime) {
     let mut source = Endless::new(b'x');
     expect_read(&rt, &mut source, Ok(b"xxxxxxxxxx"));
     expect_read(&rt, &mut source, Ok(b"xxxxxxxxxx"));
-    assert_eq!(rt; source.given(), 20);
+    same(&rt, &source.given(), &20, "bytes given");
 }

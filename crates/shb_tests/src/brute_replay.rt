@@ -2,11 +2,12 @@
 
 ghost use Rattle.std.specs.Prelude.{◌≡◌, ◌<◌, ◌≤◌, length};
 
-use crate::replay;
+use crate::asserting::same;
+use crate::fixtures::{pair, parsed};
 use shb_discipline::{Disciplined, check};
-use shb_io::Text;
-use shb_lines::{Event, Limits, Op, Pair, parse};
+use shb_lines::{Event, Op};
 use shb_links::{Links, links_of};
+use shb_replay::replay;
 use std::alloc::Global;
 use std::test::Fail;
 
@@ -233,7 +234,7 @@ fn agrees(
             let wanted = reordering
                 && is_next(events, list, first)
                 && is_next(events, list, second);
-            let answer = replay(alloc, trace, links, list, Pair { first, second })?;
+            let answer = replay(alloc, trace, links, list, pair(first, second))?;
             if answer.is_none() != wanted {
                 return Ok(false);
             }
@@ -258,8 +259,7 @@ fn list_of(alloc: Global, code: u32, length: u32, base: u32) -> Result<Vec<u32>,
 /// The first list of a trace on which `replay` and the definition differ, where there is one. Of each
 /// trace's lists one number is of no event.
 fn first_difference(rt: &HostRuntime, text: &[u8]) -> Result<Option<Vec<u32>>, Fail> {
-    let mut source = Text::new(text, 4096, None);
-    let parsed = parse(rt, rt.alloc(), &mut source, &Limits::standard())?;
+    let parsed = parsed(rt, text)?;
     let trace = check(rt.alloc(), &parsed.trace)?;
     let links = links_of(rt.alloc(), &trace)?;
     let base = trace.events.len() as u32 + 1;
@@ -284,7 +284,12 @@ fn every_short_list(rt: HostRuntime) -> Result<(), Fail> {
         b"T1|w(x)\nT2|r(x)\nT2|w(x)\nT1|r(x)\nT3|r(x)\n",
     ];
     for text in texts {
-        assert_eq!(rt; first_difference(&rt, text)?, None);
+        same(
+            &rt,
+            &first_difference(&rt, text)?.is_none(),
+            &true,
+            "the answers agree",
+        );
     }
     Ok(())
 }

@@ -2,13 +2,16 @@
 //! their number changes nothing.
 ghost use Rattle.std.specs.Prelude.{◌<◌};
 
-use crate::{FreeGate, Gate, RunError, Settings, Workers, run, run_gated};
-use shb_io::{Failed, Page, Sink, Text};
+use crate::asserting::{holds, same, same_bytes};
+use crate::run::{Devices, ample, done, expect_run, failed, settings};
+use shb_io::{Failed, NoMemory, Page, Sink, Text};
+use shb_run::{FreeGate, Gate, Settings, run_gated};
 use std::process::Abort;
+use std::random::RandomSource;
 use std::sync::Wait;
 use std::sync::atomic::{AtomicBool, AtomicU64, Ordering};
 use std::test::Fail;
-use std::thread::yield_now;
+use std::thread::{Threads, yield_now};
 
 /// How many turns a gate waits at most.
 const TURNS: u32 = 1_000_000_000;
@@ -24,14 +27,6 @@ const THREE_RACES: &str = "T1|w(x)\nT2|w(x)\nT3|r(x)\n";
 
 const THREE_RACES_REPORT: &str =
     "shb-report 2\nevents 3 threads 3 locks 0 variables 1\nraces 3\nplaces 1\nplace 1: 3\nat \nand \nrace 1: 1 2\nfirst T1|w(x)\nsecond T2|w(x)\nschedule 0:\nrace 2: 1 3\nfirst T1|w(x)\nsecond T3|r(x)\nschedule 0:\nrace 3: 2 3\nfirst T2|w(x)\nsecond T3|r(x)\nschedule 0:\nend\n";
-
-/// Runs with schedules and so many workers.
-fn settings<R: Abort>(rt: &R, workers: u32) -> Settings {
-    Settings {
-        workers: Workers::new(workers).expect(rt, "1 to 64 workers"),
-        schedules: true,
-    }
-}
 
 /// Holds piece 0 until piece 1 has entered.
 #[derive(Drop)]
@@ -76,14 +71,23 @@ fn two_at_once(rt: HostRuntime) -> Result<(), Fail> {
         rt.alloc(),
         &mut source,
         &mut sink,
-        settings(&rt, 2),
+        settings(&rt, 2, true),
         &pair_gate,
         &witness_gate,
     );
-    assert!(rt; answer.is_ok());
-    assert_eq!(rt; sink.bytes(), TWO_PIECES_REPORT.as_bytes());
-    assert!(rt; !pair_gate.missed.load(Ordering::SeqCst));
-    assert!(rt; !witness_gate.missed.load(Ordering::SeqCst));
+    holds(&rt, answer.is_ok(), "the report is written");
+    same_bytes(
+        &rt,
+        sink.bytes(),
+        TWO_PIECES_REPORT.as_bytes(),
+        "the report",
+    );
+    holds(&rt, !pair_gate.missed.load(Ordering::SeqCst), "two search");
+    holds(
+        &rt,
+        !witness_gate.missed.load(Ordering::SeqCst),
+        "two make schedules",
+    );
     Ok(())
 }
 
@@ -155,64 +159,68 @@ fn written_early(rt: HostRuntime) -> Result<(), Fail> {
         rt.alloc(),
         &mut source,
         &mut sink,
-        settings(&rt, 2),
+        settings(&rt, 2, true),
         &FreeGate,
         &gate,
     );
-    assert!(rt; answer.is_ok());
-    assert!(rt; !gate.missed.load(Ordering::SeqCst));
+    holds(&rt, answer.is_ok(), "the report is written");
+    holds(
+        &rt,
+        !gate.missed.load(Ordering::SeqCst),
+        "blocks are written early",
+    );
 
     // The lines before the first block have 97 bytes.
     let front =
         "shb-report 2\nevents 65 threads 65 locks 0 variables 1\nraces 2080\nplaces 1\nplace 1: 2080\nat \nand \n";
-    assert_eq!(rt; front.len(), 97);
-    assert!(rt; sink.page.bytes().starts_with(front.as_bytes()));
+    same(&rt, &front.len(), &97, "bytes before the first block");
+    holds(
+        &rt,
+        sink.page.bytes().starts_with(front.as_bytes()),
+        "the front",
+    );
     let last = "race 2080: 64 65\nfirst T64|w(x)\nsecond T65|w(x)\nschedule 0:\nend\n";
-    assert!(rt; sink.page.bytes().ends_with(last.as_bytes()));
+    holds(
+        &rt,
+        sink.page.bytes().ends_with(last.as_bytes()),
+        "the last block",
+    );
     Ok(())
+}
+
+/// Runs with a sink that fails behind so many bytes.
+fn expect_cut<R: Threads + Wait + Sync + RandomSource + AllocGlobal + Abort>(
+    rt: &R,
+    settings: Settings,
+    written: u64,
+) -> Result<(), NoMemory> {
+    let devices = Devices {
+        write_fails: Some(written.saturating_add(1)),
+        ..ample(1)
+    };
+    let report = THREE_RACES_REPORT.as_bytes();
+    let front = report.split_at((written as usize).min(report.len())).0;
+    let wanted = failed("cannot write", front);
+    expect_run(rt, THREE_RACES, devices, settings, wanted)
 }
 
 #[test]
 fn workers_change_nothing(rt: HostRuntime) -> Result<(), Fail> {
+    let report = THREE_RACES_REPORT.as_bytes();
     for workers in [1, 2, 64] {
-        let mut source = Text::new(THREE_RACES.as_bytes(), 1, None);
-        let mut sink = Page::new(rt.alloc(), 1000, 1, None)?;
-        let settings = settings(&rt, workers);
-        let answer = run(&rt, rt.alloc(), &mut source, &mut sink, settings);
-        assert!(rt; answer.is_ok());
-        assert_eq!(rt;
-            sink.bytes(),
-            THREE_RACES_REPORT.as_bytes(),
-            "{workers} workers"
-        );
-
-        let mut source = Text::new(THREE_RACES.as_bytes(), 1, None);
-        let mut sink = Page::new(rt.alloc(), 1000, 1, Some(20))?;
-        let answer = run(&rt, rt.alloc(), &mut source, &mut sink, settings);
-        assert!(rt; matches!(answer, Err(RunError::Sink)));
-        assert_eq!(rt;
-            sink.bytes(),
-            b"shb-report 2\nevents".as_slice(),
-            "{workers} workers"
-        );
-
-        // The sink fails in each block, while workers make schedules.
-        for fail_at in 89..=THREE_RACES_REPORT.len() as u64 {
-            let mut source = Text::new(THREE_RACES.as_bytes(), 4096, None);
-            let mut sink = Page::new(rt.alloc(), 1000, 1, Some(fail_at))?;
-            let answer = run(&rt, rt.alloc(), &mut source, &mut sink, settings);
-            assert!(rt; matches!(answer, Err(RunError::Sink)), "at write {fail_at}");
-            assert_eq!(rt;
-                sink.bytes(),
-                &THREE_RACES_REPORT.as_bytes()[..fail_at as usize - 1]
-            );
+        let settings = settings(&rt, workers, true);
+        expect_run(&rt, THREE_RACES, ample(1), settings, done(report))?;
+        let reads = Devices {
+            read_fails: Some(3),
+            ..ample(1)
+        };
+        let wanted = failed("cannot read", b"");
+        expect_run(&rt, THREE_RACES, reads, settings, wanted)?;
+        // The sink fails in the head, and in each block, while workers make schedules.
+        expect_cut(&rt, settings, 19)?;
+        for written in 88..report.len() as u64 {
+            expect_cut(&rt, settings, written)?;
         }
-
-        let mut source = Text::new(THREE_RACES.as_bytes(), 1, Some(3));
-        let mut sink = Page::new(rt.alloc(), 1000, 1, None)?;
-        let answer = run(&rt, rt.alloc(), &mut source, &mut sink, settings);
-        assert!(rt; matches!(answer, Err(RunError::Source)));
-        assert_eq!(rt; sink.bytes().len(), 0);
     }
     Ok(())
 }

@@ -1,11 +1,11 @@
 //! Checkpoints of a longer trace. They only save time, so no clause says that they are there or that
 //! the last one is found.
 
-use crate::checkpoints::{checkpoints_of, front_of};
+use crate::asserting::same;
+use crate::fixtures::parsed;
 use shb_discipline::check;
-use shb_io::Text;
-use shb_lines::{Limits, parse};
 use shb_links::links_of;
+use shb_witness::{checkpoints_of, front_of};
 use std::test::Fail;
 
 /// The text of 200 events of one thread.
@@ -20,8 +20,7 @@ fn one_thread(rt: &HostRuntime) -> Result<Vec<u8>, Fail> {
 #[test]
 fn last_checkpoint_within_the_cut(rt: HostRuntime) -> Result<(), Fail> {
     let text = one_thread(&rt)?;
-    let mut source = Text::new(text.as_slice(), 4096, None);
-    let parsed = parse(&rt, rt.alloc(), &mut source, &Limits::standard())?;
+    let parsed = parsed(&rt, text.as_slice())?;
     let trace = check(rt.alloc(), &parsed.trace)?;
     let links = links_of(rt.alloc(), &trace)?;
     let points = checkpoints_of(rt.alloc(), &trace, &links)?;
@@ -31,6 +30,6 @@ fn last_checkpoint_within_the_cut(rt: HostRuntime) -> Result<(), Fail> {
     }
     // Before each checkpoint stand 64 events more than before the one before it.
     let wanted = [0, 64, 64, 128, 128, 192, 192];
-    assert_eq!(rt; fronts.as_slice(), wanted.as_slice());
+    same(&rt, &fronts.as_slice(), &wanted.as_slice(), "the fronts");
     Ok(())
 }

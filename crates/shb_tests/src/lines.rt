@@ -1,0 +1,283 @@
+//! Texts with their first faults, events and names as the rules of lines give them, over sources that hand
+//! out little and much.
+ghost use Rattle.std.specs.Prelude.{◌≡◌, ◌<◌};
+ghost use Rattle.shb_lines.specs.text.Limits.{AreStandard};
+
+use crate::asserting::{has_length, holds, same, same_bytes, same_in_row};
+use shb_io::{Endless, Source, Text};
+use shb_lines::Fault::{
+    BadOperand, EmptyThread, LineTooLong, MissingField, TextTooLong, TooManyEvents, TooManyThreads,
+    UnknownOperation,
+};
+use shb_lines::*;
+use std::test::Fail;
+
+/// The limits of a text's bytes, a line's bytes, events and threads.
+type Numbers = (u64, u32, u32, u32);
+
+const STANDARD: Numbers = (1_073_741_824, 4096, 4_194_304, 1024);
+
+/// The line of a fault, and the fault.
+type Stop = Option<(u32, Fault)>;
+
+/// The standard limits but for one of them.
+const TWO_THREADS: Numbers = (1_073_741_824, 4096, 4_194_304, 2);
+
+const ONE_THREAD: Numbers = (1_073_741_824, 4096, 4_194_304, 1);
+
+const ONE_EVENT: Numbers = (1_073_741_824, 4096, 1, 1024);
+
+const EIGHT_BYTES: Numbers = (8, 4096, 4_194_304, 1024);
+
+const THOUSAND_BYTES: Numbers = (1000, 4096, 4_194_304, 1024);
+
+const LINES_OF_EIGHT_BYTES: Numbers = (1_073_741_824, 8, 4_194_304, 1024);
+
+const EMPTY_LINES: Numbers = (1_073_741_824, 0, 4_194_304, 1024);
+
+fn limits_of(numbers: Numbers) -> Limits
+    ensures { AreStandard result }
+{
+    let (text, line, events, threads) = numbers;
+    Limits {
+        text: text.min(1_073_741_824),
+        line: line.min(4096),
+        events: events.min(4_194_304),
+        threads: threads.min(1024),
+    }
+}
+
+/// What is read of a text that is handed out in steps.
+fn parsed(
+    rt: &HostRuntime,
+    text: &[u8],
+    numbers: Numbers,
+    step: usize,
+) -> Result<Parsed, ReadError> {
+    let mut source = Text::new(text, step.max(1), None);
+    parse(rt, rt.alloc(), &mut source, &limits_of(numbers))
+}
+
+/// The first fault of a text that is handed out in steps, and how many events and threads there are.
+fn stop_of(
+    rt: &HostRuntime,
+    text: &[u8],
+    numbers: Numbers,
+    step: usize,
+) -> Result<(Stop, u32, u32), ReadError> {
+    let found = parsed(rt, text, numbers, step)?;
+    Ok((
+        found.stop.map(|stop| (stop.line, stop.fault)),
+        found.trace.len(),
+        found.trace.threads(),
+    ))
+}
+
+/// Steps in which a text is handed out.
+const STEPS: [usize; 2] = [1, 1 << 20];
+
+/// Limits, a text, its first fault, and how many events and threads stand before it.
+const FIRST_FAULTS: [(Numbers, &[u8], Stop, u32, u32); 36] = [
+    (STANDARD, b"", None, 0, 0),
+    (STANDARD, b"\n\n\n", None, 0, 0),
+    (STANDARD, b"T1|w(y)|a|b\r\n\r\nT2|r(y)", None, 2, 2),
+    (
+        STANDARD,
+        b"T1|w(x)\nT2|w(y)\nT2|rel(l)\nT1|w(x)\noops\n",
+        Some((5, MissingField)),
+        4,
+        2,
+    ),
+    (
+        STANDARD,
+        b"T1|w(x)\nT2|w(y)\noops\nT1|w(x)\nT2|rel(l)\n",
+        Some((3, MissingField)),
+        2,
+        2,
+    ),
+    // Operations and operands.
+    (STANDARD, b"T1|r()\n", Some((1, BadOperand)), 0, 0),
+    (STANDARD, b"T1|r(x\n", Some((1, BadOperand)), 0, 0),
+    (STANDARD, b"T1|r\n", Some((1, BadOperand)), 0, 0),
+    (STANDARD, b"T1|\n", Some((1, UnknownOperation)), 0, 0),
+    (STANDARD, b"T1|read(x)\n", Some((1, UnknownOperation)), 0, 0),
+    (STANDARD, b"T1 | r(x)\n", Some((1, UnknownOperation)), 0, 0),
+    (STANDARD, b"|r(x)\n", Some((1, EmptyThread)), 0, 0),
+    (STANDARD, b"||r(x)", Some((1, EmptyThread)), 0, 0),
+    (STANDARD, b"T1|r(f(a))\n", None, 1, 1),
+    // Marks.
+    (STANDARD, b"T1|begin\nT2|begin(m)\nT2|end()\n", None, 3, 2),
+    (STANDARD, b"T1|begin(\n", Some((1, BadOperand)), 0, 0),
+    (STANDARD, b"T1|begin(m\n", Some((1, BadOperand)), 0, 0),
+    (STANDARD, b"T1|begins\n", Some((1, UnknownOperation)), 0, 0),
+    (STANDARD, b"T1|begin)\n", Some((1, UnknownOperation)), 0, 0),
+    // Limits.
+    (
+        TWO_THREADS,
+        b"T1|fork(T2)\nT3|r(x)\n",
+        Some((2, TooManyThreads)),
+        1,
+        2,
+    ),
+    (
+        TWO_THREADS,
+        b"T1|r(x)\nT2|join(T3)\n",
+        Some((2, TooManyThreads)),
+        1,
+        1,
+    ),
+    (ONE_THREAD, b"T1|fork(T1)\n", None, 1, 1),
+    (
+        ONE_EVENT,
+        b"T1|r(x)\n\nT1|r(x)\n",
+        Some((3, TooManyEvents)),
+        1,
+        1,
+    ),
+    (
+        ONE_EVENT,
+        b"T1|r(x)\nT1|oops\n",
+        Some((2, UnknownOperation)),
+        1,
+        1,
+    ),
+    (EIGHT_BYTES, b"T1|r(x)\nT", Some((2, TextTooLong)), 1, 1),
+    (EIGHT_BYTES, b"T1|r(x)\n", None, 1, 1),
+    (EIGHT_BYTES, b"T1|r(xx)\n", Some((1, TextTooLong)), 0, 0),
+    (EIGHT_BYTES, b"T1|r(x)\n\n", Some((2, TextTooLong)), 1, 1),
+    (
+        EIGHT_BYTES,
+        b"oops\nT1|r(x)\n",
+        Some((1, MissingField)),
+        0,
+        0,
+    ),
+    (LINES_OF_EIGHT_BYTES, b"T1|r(xx)\n", None, 1, 1),
+    (
+        LINES_OF_EIGHT_BYTES,
+        b"T1|r(xx)\r\n",
+        Some((1, LineTooLong)),
+        0,
+        0,
+    ),
+    (EMPTY_LINES, b"\r\n", Some((1, LineTooLong)), 0, 0),
+    // Bytes.
+    (STANDARD, b"\r\r\n", Some((1, MissingField)), 0, 0),
+    (STANDARD, b"\r\n\r", None, 0, 0),
+    (STANDARD, b"\x00\xff|r(x)\n", None, 1, 1),
+    (STANDARD, b"T1|w(x)|\xff||\r\r\n", None, 1, 1),
+];
+
+#[test]
+fn first_faults(rt: HostRuntime) -> Result<(), Fail> {
+    for (row, (numbers, text, stop, events, threads)) in FIRST_FAULTS.iter().enumerate() {
+        for step in STEPS {
+            let found = stop_of(&rt, text, *numbers, step)?;
+            same_in_row(&rt, &found, &(*stop, *events, *threads), row);
+        }
+    }
+    Ok(())
+}
+
+#[test]
+fn limits_of_threads(rt: HostRuntime) -> Result<(), Fail> {
+    let mut text = Vec::new(rt.alloc());
+    for k in 1..=1024 {
+        text.extend_from_slice(format!(in rt.alloc(); "T{k}|r(a)\n")?.as_bytes())?;
+    }
+    for step in STEPS {
+        let found = stop_of(&rt, &text, STANDARD, step)?;
+        same(&rt, &found, &(None, 1024, 1024), "1,024 threads");
+    }
+    text.extend_from_slice(b"T1025|r(a)\n")?;
+    let found = stop_of(&rt, &text, STANDARD, 1)?;
+    let wanted = (Some((1025, TooManyThreads)), 1024, 1024);
+    same(&rt, &found, &wanted, "one thread more");
+    Ok(())
+}
+
+#[test]
+fn limits_of_lines(rt: HostRuntime) -> Result<(), Fail> {
+    for (letters, wanted) in [(4090, None), (4091, Some((1, LineTooLong)))] {
+        let mut text = Vec::from_slice(rt.alloc(), b"T1|r(")?;
+        text.resize(letters + 5, b'a')?;
+        text.push(b')')?;
+        let (found, _, _) = stop_of(&rt, &text, STANDARD, 1)?;
+        same(&rt, &found, &wanted, "a long line");
+    }
+    Ok(())
+}
+
+/// Events of a text: thread, operation, line, text of the line, location.
+const EVENTS: [(u32, Op, u32, &[u8], &[u8]); 5] = [
+    (0, Op::Fork(1), 1, b"T1|fork(T3)|9", b"9"),
+    (2, Op::Write(0), 3, b"T2|w(f(a))|a|b", b"a|b"),
+    (1, Op::Acquire(0), 4, b"T3|acq(T1)", b""),
+    (1, Op::Read(0), 5, b"T3|r(f(a))|", b""),
+    (1, Op::EndMark, 6, b"T3|end", b""),
+];
+
+#[test]
+fn events_and_names(rt: HostRuntime) -> Result<(), Fail> {
+    let text = b"T1|fork(T3)|9\n\nT2|w(f(a))|a|b\r\nT3|acq(T1)\nT3|r(f(a))|\nT3|end";
+    let Parsed { trace, stop } = parsed(&rt, text, STANDARD, 7)?;
+    same(&rt, &stop, &None, "the stop");
+    has_length(&rt, trace.len() as usize, 5);
+    has_length(&rt, trace.threads() as usize, 3);
+    has_length(&rt, trace.locks() as usize, 1);
+    has_length(&rt, trace.variables() as usize, 1);
+    for (row, (thread, op, line, text, location)) in EVENTS.iter().enumerate() {
+        let e = row as u32;
+        let event = Event {
+            thread: *thread,
+            op: *op,
+            line: *line,
+        };
+        same_in_row(&rt, &trace.event(e), &event, row);
+        same_in_row(&rt, &trace.line_text(e), text, row);
+        same_in_row(&rt, &trace.location(e), location, row);
+    }
+    same_bytes(&rt, trace.thread_name(1), b"T3", "a thread's name");
+    same_bytes(&rt, trace.lock_name(0), b"T1", "a lock's name");
+    same_bytes(&rt, trace.variable_name(0), b"f(a)", "a variable's name");
+    holds(&rt, conflicts(&trace, 1, 3), "a write and a read");
+    holds(&rt, !conflicts(&trace, 0, 1), "a fork and a write");
+    Ok(())
+}
+
+/// A source is read to its first empty read and no further, and its failure is answered.
+#[test]
+fn reads_that_fail(rt: HostRuntime) -> Result<(), Fail> {
+    for fail_at in 1..=15 {
+        let mut source = Text::new(b"T1|w(x)\noops\n", 1, Some(fail_at));
+        let found = parse(&rt, rt.alloc(), &mut source, &Limits::standard());
+        let stop = found.map(|parsed| parsed.stop.map(|stop| stop.line));
+        let wanted = if fail_at < 15 {
+            Err(ReadError::Source)
+        } else {
+            Ok(Some(2))
+        };
+        same(&rt, &stop, &wanted, "a read that fails");
+    }
+    Ok(())
+}
+
+#[test]
+fn sources_without_end(rt: HostRuntime) -> Result<(), Fail> {
+    for (byte, line) in [(b'a', 1), (b'\n', 1001)] {
+        let mut source = Endless::new(byte);
+        let found = parse(&rt, rt.alloc(), &mut source, &limits_of(THOUSAND_BYTES))?;
+        let stop = found.stop.map(|stop| (stop.line, stop.fault));
+        same(&rt, &stop, &Some((line, TextTooLong)), "the stop");
+        same(&rt, &source.given(), &1001, "bytes given");
+    }
+    Ok(())
+}
+
+#[test]
+fn words_of_faults(rt: HostRuntime) {
+    same(&rt, &TextTooLong.number(), &1, "the first number");
+    same(&rt, &Fault::JoinSelf.number(), &17, "the last number");
+    let words = MissingField.words();
+    same(&rt, &words, &"the line has no operation field", "words");
+}

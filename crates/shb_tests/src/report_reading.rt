@@ -1,0 +1,211 @@
+//! That reports worked by hand are read, and which lines of broken ones are bad.
+use crate::asserting::{has_length, same, same_bytes, same_in_row};
+use shb_io::{Source, Text};
+use shb_report::{Report, ReportError, read_report_within};
+use std::test::Fail;
+
+const ROW_2: &[u8] =
+    b"shb-report 1\nevents 4 threads 2 locks 0 variables 2\nraces 1\nrace 1: 2 3\nfirst T1|w(y)\nsecond T2|r(y)\nschedule 1: 1\nend\n";
+
+const ROW_1: &[u8] =
+    b"shb-report 1\nevents 2 threads 2 locks 0 variables 1\nraces 1\nrace 1: 1 2\nfirst T1|w(y)|1\nsecond T2|r(y)|2\nschedule 0:\nend\n";
+
+const LONGER: &[u8] = b"shb-report 1\nevents 0 threads 0 locks 0 variables 0\nraces 0\nend\nx";
+
+fn read<S: Source>(
+    rt: &HostRuntime,
+    source: &mut S,
+    limit: u64,
+) -> Option<Result<Report, ReportError>> {
+    if source.failures() < 9 && limit <= 1_073_741_824 {
+        Some(read_report_within(rt.alloc(), source, limit))
+    } else {
+        None
+    }
+}
+
+/// The number of the bad line, 0 where there is none.
+fn bad_line(rt: &HostRuntime, text: &[u8], step: usize, limit: u64) -> Option<u64> {
+    if step == 0 {
+        return None;
+    }
+    let mut source = Text::new(text, step, None);
+    match read(rt, &mut source, limit) {
+        Some(Ok(_report)) => Some(0),
+        Some(Err(ReportError::BadLine(n))) => Some(n),
+        _ => None,
+    }
+}
+
+/// Reports, and the number of the first bad line of each, 0 where there is none.
+const BAD_LINES: [(&[u8], u64); 30] = [
+    (ROW_2, 0),
+    (ROW_1, 0),
+    (
+        b"shb-report 1\nevents 0 threads 0 locks 0 variables 0\nraces 0\nend\n",
+        0,
+    ),
+    (b"", 1),
+    (
+        b"shb-report 1\r\nevents 0 threads 0 locks 0 variables 0\nraces 0\nend\n",
+        1,
+    ),
+    (
+        b"shb-report 3\nevents 0 threads 0 locks 0 variables 0\nraces 0\nend\n",
+        1,
+    ),
+    (
+        b"shb-report 1\nevents 0 threads 0 locks 0 variables 0\nraces 0\nend",
+        4,
+    ),
+    (
+        b"shb-report 1\nevents 0 threads 0 locks 0 variables 0\nraces 0\nend\n\n",
+        5,
+    ),
+    (
+        b"shb-report 1\nevents 0 threads 0 locks 0 variables 0\nraces 0\nend\nx",
+        5,
+    ),
+    (
+        b"shb-report 1\nevents 0 threads 0 locks 0 variables 00\nraces 0\nend\n",
+        2,
+    ),
+    (
+        b"shb-report 1\nevents 0 threads 0 locks 0 variables \nraces 0\nend\n",
+        2,
+    ),
+    (
+        b"shb-report 1\nevents 18446744073709551615 threads 0 locks 0 variables 0\nraces 0\nend\n",
+        0,
+    ),
+    (
+        b"shb-report 1\nevents 18446744073709551616 threads 0 locks 0 variables 0\nraces 0\nend\n",
+        2,
+    ),
+    (
+        b"shb-report 1\nevents 0 threads 0 locks 0 variables 0\nraces 1\nend\n",
+        4,
+    ),
+    (
+        b"shb-report 1\nevents 4 threads 2 locks 0 variables 2\nraces 18446744073709551615\nrace 1: 2 3\nfirst T1|w(y)\nsecond T2|r(y)\nschedule 1: 1\nend\n",
+        8,
+    ),
+    (
+        b"shb-report 1\nevents 4 threads 2 locks 0 variables 2\nraces 1\nrace 2: 2 3\nfirst T1|w(y)\nsecond T2|r(y)\nschedule 1: 1\nend\n",
+        4,
+    ),
+    (
+        b"shb-report 1\nevents 4 threads 2 locks 0 variables 2\nraces 1\nrace 1: 2 3\nfirst \nsecond T2|r(y)\nschedule 1: 1\nend\n",
+        5,
+    ),
+    (
+        b"shb-report 1\nevents 4 threads 2 locks 0 variables 2\nraces 1\nrace 1: 2 3\nfirst a\nsecond b\nschedule 18446744073709551615: 1\nend\n",
+        7,
+    ),
+    (
+        b"shb-report 1\nevents 4 threads 2 locks 0 variables 2\nraces 1\nrace 1: 2 3\nfirst a\nsecond b\nschedule 01: 1\nend\n",
+        7,
+    ),
+    (
+        b"shb-report 1\nevents 4 threads 2 locks 0 variables 2\nraces 1\nrace 1: 2 3\nfirst a\nsecond b\nschedule 1: 18446744073709551616\nend\n",
+        7,
+    ),
+    (
+        b"shb-report 1\nevents 4 threads 2 locks 0 variables 2\nraces 1\nrace 1: 2 3\nfirst a\nsecond b\nschedule 1: 1 \nend\n",
+        7,
+    ),
+    (
+        b"shb-report 1\nevents 4 threads 2 locks 0 variables 2\nraces 1\nrace 1: 2 3\nfirst a\nsecond b\nschedule 1: 1\n",
+        8,
+    ),
+    (
+        b"shb-report 1\nevents 4 threads 2 locks 0 variables 2\nraces 1\nrace 1: 2 3\nfirst a\nsecond b\nend\n",
+        7,
+    ),
+    (
+        b"shb-report 2\nevents 0 threads 0 locks 0 variables 0\nraces 0\nend\n",
+        4,
+    ),
+    (
+        b"shb-report 2\nevents 0 threads 0 locks 0 variables 0\nraces 0\nplaces 0\nend\n",
+        0,
+    ),
+    (
+        b"shb-report 2\nevents 0 threads 0 locks 0 variables 0\nraces 0\nplaces 1\nplace 1: 0\nat \nand \nend\n",
+        0,
+    ),
+    (
+        b"shb-report 2\nevents 0 threads 0 locks 0 variables 0\nraces 0\nplaces 2\nplace 1: 0\nat \nand \nend\n",
+        8,
+    ),
+    (
+        b"shb-report 2\nevents 0 threads 0 locks 0 variables 0\nraces 0\nplaces 1\nplace 1: 0\nat a\nand\nend\n",
+        7,
+    ),
+    (
+        b"shb-report 1\nevents 0 threads 0 locks 0 variables 0\nraces 0\nplaces 0\nend\n",
+        4,
+    ),
+    (
+        b"shb-report 2\nevents 2 threads 2 locks 0 variables 1\nraces 1\nplaces 1\nplace 1: 1\nat 1\nand 2\nrace 1: 1 2\nfirst T1|w(y)|1\nsecond T2|r(y)|2\nschedule 0:\nend\n",
+        0,
+    ),
+];
+
+#[test]
+fn names_the_first_bad_line(rt: HostRuntime) {
+    for (row, (text, wanted)) in BAD_LINES.iter().enumerate() {
+        for step in [1, 4096] {
+            let found = bad_line(&rt, text, step, 1_073_741_824);
+            same_in_row(&rt, &found, &Some(*wanted), row);
+        }
+    }
+}
+
+/// Reports, limits of bytes, and the number of the first bad line then.
+const LIMITS: [(&[u8], u64, u64); 12] = [
+    (ROW_1, 0, 1),
+    (ROW_1, 12, 1),
+    (ROW_1, 13, 2),
+    (ROW_1, 20, 2),
+    (ROW_1, 120, 8),
+    (ROW_1, 121, 0),
+    (ROW_1, 122, 0),
+    (LONGER, 59, 3),
+    (LONGER, 60, 4),
+    (LONGER, 63, 4),
+    (LONGER, 64, 5),
+    (LONGER, 65, 5),
+];
+
+#[test]
+fn keeps_within_the_limit(rt: HostRuntime) {
+    for (row, (text, limit, wanted)) in LIMITS.iter().enumerate() {
+        let found = bad_line(&rt, text, 7, *limit);
+        same_in_row(&rt, &found, &Some(*wanted), row);
+    }
+}
+
+#[test]
+fn gives_what_it_read(rt: HostRuntime) -> Result<(), Fail> {
+    let mut source = Text::new(ROW_2, 5, None);
+    let report = read_report_within(rt.alloc(), &mut source, 1_073_741_824)?;
+    same(&rt, &report.version(), &1, "the version");
+    same(&rt, &report.counts().events, &4, "events");
+    same(&rt, &report.counts().variables, &2, "variables");
+    has_length(&rt, report.len() as usize, 1);
+    same(&rt, &report.first(0), &2, "the first event");
+    same(&rt, &report.second(0), &3, "the second event");
+    same_bytes(&rt, report.first_line(0), b"T1|w(y)", "the first line");
+    same_bytes(&rt, report.second_line(0), b"T2|r(y)", "the second line");
+    same(&rt, &report.schedule(0), &[1u64].as_slice(), "the schedule");
+    same(&rt, &report.places(), &0, "places");
+    Ok(())
+}
+
+#[test]
+fn says_that_the_source_failed(rt: HostRuntime) {
+    let mut source = Text::new(b"shb-report 3\n", 5, Some(2));
+    let answer = read_report_within(rt.alloc(), &mut source, 1_073_741_824);
+    same(&rt, &answer.err(), &Some(ReportError::Source), "the error");
+}
