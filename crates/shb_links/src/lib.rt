@@ -12,6 +12,3 @@ mod link;
 pub mod links;
 
 pub use links::{Links, links_of};
-
-#[cfg(test)]
-mod tests;

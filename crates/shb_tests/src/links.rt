@@ -1,10 +1,11 @@
 //! The links of a worked trace, and of a made one against the plain definitions.
 ghost use Rattle.std.specs.Prelude.{◌<◌, length};
 
-use crate::*;
+use crate::asserting::{has_length, same};
 use shb_discipline::{Disciplined, check};
 use shb_io::Text;
 use shb_lines::{Limits, Op, Trace, parse};
+use shb_links::links_of;
 use std::test::Fail;
 
 fn trace_of(rt: &HostRuntime, text: &[u8]) -> Result<Trace, Fail> {
@@ -18,10 +19,10 @@ fn a_join_before_the_first_event(rt: HostRuntime) -> Result<(), Fail> {
     let trace = trace_of(&rt, b"T1|fork(T3)\nT2|join(T3)\nT1|w(x)\nT2|w(x)\n")?;
     let trace = check(rt.alloc(), &trace)?;
     let links = links_of(rt.alloc(), &trace)?;
-    assert_eq!(rt; trace.events.len(), 4);
-    assert_eq!(rt; links.pred(2), Some(0));
-    assert_eq!(rt; links.pred(3), Some(1));
-    assert_eq!(rt; links.forked_by(1), Some(0));
+    has_length(&rt, trace.events.len(), 4);
+    same(&rt, &links.pred(2), &Some(0), "the predecessor of 2");
+    same(&rt, &links.pred(3), &Some(1), "the predecessor of 3");
+    same(&rt, &links.forked_by(1), &Some(0), "the fork of 1");
     Ok(())
 }
 
@@ -125,34 +126,35 @@ fn a_made_trace(rt: HostRuntime) -> Result<(), Fail> {
     let trace = trace_of(&rt, text.as_slice())?;
     let trace = check(rt.alloc(), &trace)?;
     let links = links_of(rt.alloc(), &trace)?;
-    assert_eq!(rt; trace.events.len(), 200);
+    has_length(&rt, trace.events.len(), 200);
     for e in 0..trace.events.len() as u32 {
-        assert_eq!(rt;
-            links.local(e) as usize,
-            plain_local(&trace, e),
-            "the place of {e}"
+        let place = links.local(e) as usize;
+        same(
+            &rt,
+            &place,
+            &plain_local(&trace, e),
+            "the place of an event",
         );
-        assert_eq!(rt;
-            links.pred(e),
-            plain_pred(&trace, e),
-            "the predecessor of {e}"
-        );
-        assert_eq!(rt;
-            links.last_write(e),
-            plain_last_write(&trace, e),
-            "the last write of {e}"
+        same(&rt, &links.pred(e), &plain_pred(&trace, e), "a predecessor");
+        same(
+            &rt,
+            &links.last_write(e),
+            &plain_last_write(&trace, e),
+            "a last write",
         );
     }
     for thread in 0..4 {
-        assert_eq!(rt;
-            links.forked_by(thread),
-            plain_fork(&trace, thread),
-            "the fork of {thread}"
+        same(
+            &rt,
+            &links.forked_by(thread),
+            &plain_fork(&trace, thread),
+            "a fork",
         );
-        assert_eq!(rt;
-            links.last_of(thread),
-            plain_last(&trace, thread),
-            "the last event of {thread}"
+        same(
+            &rt,
+            &links.last_of(thread),
+            &plain_last(&trace, thread),
+            "a last event",
         );
     }
     Ok(())
