@@ -24,6 +24,8 @@ mod clocks;
 #[cfg(test)]
 mod discipline;
 #[cfg(test)]
+mod endings;
+#[cfg(test)]
 mod fan;
 #[cfg(test)]
 mod fan_machine;
