@@ -107,7 +107,7 @@ accepted_of read stop events trace disciplined same as_read is = record {
     all text reading = accepted limits text read (subst (IsReadingOf limits text read) is reading) (subst (λ t. IsDisciplined t.events) as_read (subst IsDisciplined same disciplined))
 
 -- the summary of the report that was written
-pub reports_of : (ws : Bool) (trace : TraceData) (races : List Pair) (count : ℕ) (summary : Summary) (old new : Option (List ℕ)) 
+pub reports_of : (ws : Bool) (trace : TraceData) (races : List Pair) (count : ℕ) (summary : Summary) (old new : Option (List ℕ))
     → summary ≡ summary_of trace count → count ≡ length races → WritesReport ws trace (map ends races) old new → ReportsTrace ws trace summary old new
 reports_of ws trace races count summary old new is counted written = record {
   bytes = written.bytes;
