@@ -9,16 +9,17 @@ const SCREEN: &str = "Finds the races of a trace of a run, and gives each a sche
 Usage: shb <COMMAND>
 
 Commands:
-  races  Writes the report of a trace to standard output
-  check  Checks the report on standard input against its trace
-  help   Print this message or the help of the given subcommand(s)
+  races   Writes the report of a trace to standard output
+  places  Writes the report of one race of each place of a trace
+  check   Checks the report on standard input against its trace
+  help    Print this message or the help of the given subcommand(s)
 
 Options:
   -h, --help  Print help
 
 With no words at all it does what 'shb races --list' does: it reads a trace from
-standard input and lists its races. Begin with the list: a full report has, for
-each race, a schedule that may be as long as the trace.
+standard input and lists its races. Begin with the list, then ask 'shb places'
+for one race of each place: a schedule may be as long as the trace.
 
   $ printf 'T1|w(y)|1\\nT2|r(y)|2\\n' | shb races --list
 
@@ -29,10 +30,12 @@ Exit status: 0 done, 2 trace refused, 3 words refused, 4 a file, a device or the
 memory failed, 5 report rejected
 ";
 
-/// Which of the three helps a text is.
+/// Which of the four helps a text is.
 fn topic_of(text: &str) -> &'static str {
     if text.contains("Usage: shb races [OPTIONS] [TRACE]\n") {
         "races"
+    } else if text.contains("Usage: shb places [OPTIONS] [TRACE]\n") {
+        "places"
     } else if text.contains("Usage: shb check <TRACE>\n") {
         "check"
     } else if text.contains("Usage: shb <COMMAND>\n") {
@@ -72,6 +75,16 @@ fn answer_of(alloc: Global, line: &str) -> Result<String, AllocError> {
             let path = trace.as_ref().map_or("-", |path| path.as_str());
             format!(in alloc; "races {} {list} {path}", workers.get())
         }
+        Ok(
+            Plan::Places {
+                workers,
+                list,
+                trace,
+            },
+        ) => {
+            let path = trace.as_ref().map_or("-", |path| path.as_str());
+            format!(in alloc; "places {} {list} {path}", workers.get())
+        }
         Ok(Plan::Check { trace }) => format!(in alloc; "check {trace}"),
         Ok(Plan::Help { text }) => { format!(in alloc; "help {}", topic_of(&text)) }
         Err(WordsFault::Refused { text }) => {
@@ -89,6 +102,11 @@ fn reads_the_words(rt: HostRuntime) -> Result<(), Fail> {
         ("races", "races 4 false -"),
         ("races --workers 64 --list t.std", "races 64 true t.std"),
         ("races --workers 1 t.std", "races 1 false t.std"),
+        ("places", "places 4 false -"),
+        ("places --workers 64 --list t.std", "places 64 true t.std"),
+        ("places --workers 1 t.std", "places 1 false t.std"),
+        ("places --workers 65", "refused true"),
+        ("places a b", "refused true"),
         ("races --workers 0", "refused true"),
         ("races --workers 65", "refused true"),
         ("races --workers x", "refused true"),
@@ -99,6 +117,8 @@ fn reads_the_words(rt: HostRuntime) -> Result<(), Fail> {
         ("--version", "refused true"),
         ("--help", "help shb"),
         ("races --help", "help races"),
+        ("places --help", "help places"),
+        ("help places", "help places"),
         ("check --help", "help check"),
         ("help", "help shb"),
         ("help races", "help races"),
