@@ -2,7 +2,8 @@
 """The definitions as a plain program: slow, short, and written apart from the proved code.
 
 Reads a trace from standard input and writes the full report (or, with --list, the list report) to
-standard output; a refused trace ends with status 2 and its fault on standard error.
+standard output, with --leading that of the leading races alone; a refused trace ends with status 2 and
+its fault on standard error.
 """
 
 import sys
@@ -172,13 +173,23 @@ def location(line):
     return b"|".join(line.split(b"|")[2:])
 
 
+def place(race, lines):
+    """The locations of the two events of a race."""
+    return location(lines[race[0]]), location(lines[race[1]])
+
+
 def places_of(races, lines):
     """How many of the races have each pair of locations, in the order of the first that has it."""
     counts = {}
-    for i, j, _ in races:
-        place = location(lines[i]), location(lines[j])
-        counts[place] = counts.get(place, 0) + 1
+    for race in races:
+        counts[place(race, lines)] = counts.get(place(race, lines), 0) + 1
     return counts
+
+
+def leading_races(races, lines):
+    """The races whose place no earlier race of the list has, in the order of the list."""
+    places = [place(race, lines) for race in races]
+    return [race for k, race in enumerate(races) if places[k] not in places[:k]]
 
 
 def counts_of(events):
@@ -189,9 +200,11 @@ def counts_of(events):
     return len(events), len(threads), len(locks), len(variables)
 
 
-def report(text, schedules, version=2):
+def report(text, schedules, version=2, leading=False):
     events, lines = read_trace(text)
     races = races_and_schedules(events)
+    if leading:
+        races = leading_races(races, lines)
     out = [
         b"shb-report %d\n" % version,
         b"events %d threads %d locks %d variables %d\n" % counts_of(events),
@@ -213,7 +226,8 @@ def report(text, schedules, version=2):
 
 def main():
     try:
-        sys.stdout.buffer.write(report(sys.stdin.buffer.read(), "--list" not in sys.argv))
+        text = sys.stdin.buffer.read()
+        sys.stdout.buffer.write(report(text, "--list" not in sys.argv, leading="--leading" in sys.argv))
     except Refused as refused:
         print(refused, file=sys.stderr)
         sys.exit(2)

@@ -46,6 +46,6 @@ class LargeTexts(program.Case):
         trace = self.folder / "empty.std"
         trace.write_bytes(b"")
         front = b"shb-report 2\nevents 0 threads 0 locks 0 variables 0\nraces 0\nplaces 0\n"
-        for size, line in ((LIMIT, 5), (LIMIT + 1, 5)):
+        for size, said in ((LIMIT, b""), (LIMIT + 1, b"the report is longer than 1073741824 bytes\n")):
             with open(self.zeros(front, size), "rb") as report:
-                self.assertEqual(program.run_over(["check", trace], report), (5, b"bad line %d\n" % line, b""))
+                self.assertEqual(program.run_over(["check", trace], report), (5, b"bad line 5\n", said))

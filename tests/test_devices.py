@@ -16,7 +16,7 @@ class Devices(program.Case):
 
     def writers(self):
         """The words that write, and what each is given."""
-        return (["races", self.trace], b""), (["races", "--list"], TRACE), ([], TRACE), (["check", self.trace], self.report), (["--help"], b"")
+        return (["races", self.trace], b""), (["races", "--list"], TRACE), ([], TRACE), (["places", self.trace], b""), (["check", self.trace], self.report), (["--help"], b"")
 
     def test_a_missing_file(self):
         for name in (self.folder / "none", "", self.trace / "below"):

@@ -62,6 +62,13 @@ class Refusals(program.Case):
         for workers in ("1", "2"):
             self.refuse_in_turn(["races", "--workers", workers], racing(5))
 
+    def test_memory_for_places(self):
+        for workers in ("1", "2"):
+            for given in (LOCKED, racing(5)):
+                self.refuse_in_turn(["places", "--workers", workers], given)
+                self.refuse_in_turn(["places", "--workers", workers, "--list"], given)
+        self.refuse_in_turn(["places"], REFUSED)
+
     def test_memory_for_a_refused_trace(self):
         self.refuse_in_turn(["races"], REFUSED)
         self.refuse_in_turn(["check", self.file(REFUSED)], b"")

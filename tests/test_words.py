@@ -9,16 +9,17 @@ Finds the races of a trace of a run, and gives each a schedule that shows it
 Usage: shb <COMMAND>
 
 Commands:
-  races  Writes the report of a trace to standard output
-  check  Checks the report on standard input against its trace
-  help   Print this message or the help of the given subcommand(s)
+  races   Writes the report of a trace to standard output
+  places  Writes the report of one race of each place of a trace
+  check   Checks the report on standard input against its trace
+  help    Print this message or the help of the given subcommand(s)
 
 Options:
   -h, --help  Print help
 
 With no words at all it does what 'shb races --list' does: it reads a trace from
-standard input and lists its races. Begin with the list: a full report has, for
-each race, a schedule that may be as long as the trace.
+standard input and lists its races. Begin with the list, then ask 'shb places'
+for one race of each place: a schedule may be as long as the trace.
 
   $ printf 'T1|w(y)|1\\nT2|r(y)|2\\n' | shb races --list
 
@@ -77,6 +78,8 @@ class Words(program.Case):
             (["check"], b"error: the following required arguments were not provided:\n  <TRACE>\n"),
             (["frobnicate"], b"error: unrecognized subcommand 'frobnicate'\n"),
             (["races", "a", "b"], b"error: unexpected argument 'b' found\n"),
+            (["places", "--workers", "65"], b"error: invalid value '65' for '--workers <N>': 65 is not in 1..=64\n"),
+            (["places", "a", "b"], b"error: unexpected argument 'b' found\n"),
             (["check", "a", "b"], b"error: unexpected argument 'b' found\n"),
             (["--version"], b"error: unexpected argument '--version' found\n"),
             (["help", "frobnicate"], b"error: unrecognized subcommand 'frobnicate'\n"),

@@ -7,9 +7,12 @@ use crate::output::flushed;
 use shb_io::{FromRead, ToWrite};
 use shb_run::{RunError, Verdict, check, status_of_check};
 use std::fs::File;
-use std::io::writer;
+use std::io::{Read, writer};
 use std::random::RandomSource;
 use std::rt::Files;
+
+/// How many bytes of a report are read: one more than it may have.
+const MOST_READ: u64 = 1_073_741_825;
 
 /// Says on standard error why there is no verdict, where that is so, and gives the program's status.
 fn status_of_verdict<R: Eprint + AllocGlobal>(rt: &R, answer: &Result<Verdict, RunError>) -> u8
@@ -22,7 +25,8 @@ fn status_of_verdict<R: Eprint + AllocGlobal>(rt: &R, answer: &Result<Verdict, R
 }
 
 /// Judges the report on standard input against the trace of a file, writes the verdict to standard
-/// output, and gives the program's status.
+/// output, and gives the program's status. Of a report that is longer than a check reads, standard error
+/// says so beside the verdict, which is a bad line.
 pub(crate) fn check_report<R: Print + Eprint + Input + AllocGlobal + Files + RandomSource>(
     rt: &R,
     trace: &str,
@@ -31,11 +35,15 @@ pub(crate) fn check_report<R: Print + Eprint + Input + AllocGlobal + Files + Ran
         return complain(rt, "cannot open", FAILED);
     };
     let mut trace = FromRead::new(file);
-    let mut report = FromRead::new(rt.reader());
+    let mut given = rt.reader().take(MOST_READ);
+    let mut report = FromRead::new(&mut given);
     let mut sink = ToWrite::new(writer(rt));
     let answer = flushed(
         check(rt, rt.alloc(), &mut trace, &mut report, &mut sink),
         sink,
     );
+    if answer.is_ok() && given.limit() == 0 {
+        let _ = rt.eprintln("the report is longer than 1073741824 bytes");
+    }
     status_of_verdict(rt, &answer)
 }

@@ -1,5 +1,5 @@
 //! The program: words, devices, texts of refusals and exit statuses. What it writes is the work of
-//! `shb_run::run` and `shb_run::check`.
+//! `run`, `run_places` and `check` of `shb_run`.
 #![tactic(auto)]
 
 mod checks;
@@ -9,7 +9,7 @@ mod reports;
 
 use crate::checks::check_report;
 use crate::complaints::{FAILED, WORDS_REFUSED, complain};
-use crate::reports::races;
+use crate::reports::{Listing, report};
 use shb_run::Settings;
 use shb_words::{Plan, WordsFault, plan_of};
 use std::env;
@@ -37,7 +37,22 @@ fn follow<R: Print + Eprint + Input + AllocGlobal + Files + RandomSource + Threa
                 workers,
                 schedules: !list,
             };
-            races(rt, trace.as_ref().map(|path| path.as_str()), settings)
+            let path = trace.as_ref().map(|path| path.as_str());
+            report(rt, path, Listing::Races, settings)
+        }
+        Ok(
+            Plan::Places {
+                workers,
+                list,
+                trace,
+            },
+        ) => {
+            let settings = Settings {
+                workers,
+                schedules: !list,
+            };
+            let path = trace.as_ref().map(|path| path.as_str());
+            report(rt, path, Listing::Places, settings)
         }
         Ok(Plan::Check { trace }) => check_report(rt, trace.as_str()),
         Ok(Plan::Help { text }) => match rt.print(text.as_str()) {

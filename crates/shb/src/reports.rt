@@ -1,11 +1,11 @@
-//! `shb races`: the report of a trace goes to standard output.
+//! `shb races` and `shb places`: the report of a trace goes to standard output.
 ghost use Rattle.std.specs.Prelude.{◌≡◌};
 ghost use Rattle.shb_run.specs.Words.{run_status_of};
 
 use crate::complaints::{FAILED, complain, complain_of};
 use crate::output::flushed;
 use shb_io::{FromRead, Source, ToWrite};
-use shb_run::{RunError, Settings, Summary, run, status_of_run};
+use shb_run::{RunError, Settings, Summary, run, run_places, status_of_run};
 use std::fs::File;
 use std::io::{BufWriter, writer};
 use std::random::RandomSource;
@@ -16,8 +16,17 @@ use std::thread::Threads;
 /// How many bytes of a report are written at once.
 const REPORT_BUFFER: usize = 1 << 16;
 
+/// Which races a report lists.
+#[derive(Clone, Copy)]
+pub(crate) enum Listing {
+    /// All of them.
+    Races,
+    /// One of each place.
+    Places,
+}
+
 /// Says on standard error why no report was written, where that is so, and gives the program's status.
-fn status_of_races<R: Eprint + AllocGlobal>(rt: &R, answer: &Result<Summary, RunError>) -> u8
+fn status_of_report<R: Eprint + AllocGlobal>(rt: &R, answer: &Result<Summary, RunError>) -> u8
     ensures { result ≡ run_status_of answer.now }
 {
     if let Err(error) = answer {
@@ -30,6 +39,7 @@ fn status_of_races<R: Eprint + AllocGlobal>(rt: &R, answer: &Result<Summary, Run
 fn write_report<R: Print + Eprint + AllocGlobal + RandomSource + Threads + Wait + Sync, S: Source>(
     rt: &R,
     source: &mut S,
+    listing: Listing,
     settings: Settings,
 ) -> u8
     requires { S.failure_count source.old ≡ 0 }
@@ -38,20 +48,24 @@ fn write_report<R: Print + Eprint + AllocGlobal + RandomSource + Threads + Wait 
         return complain(rt, "out of memory", FAILED);
     };
     let mut sink = ToWrite::new(buffer);
-    let answer = flushed(run(rt, rt.alloc(), source, &mut sink, settings), sink);
-    status_of_races(rt, &answer)
+    let answer = match listing {
+        Listing::Races => run(rt, rt.alloc(), source, &mut sink, settings),
+        Listing::Places => run_places(rt, rt.alloc(), source, &mut sink, settings),
+    };
+    let answer = flushed(answer, sink);
+    status_of_report(rt, &answer)
 }
 
 /// Writes the report of a file, or of standard input where none is named, to standard output, and gives
 /// the program's status.
-pub(crate) fn races<
+pub(crate) fn report<
     R: Print + Eprint + Input + AllocGlobal + Files + RandomSource + Threads + Wait + Sync,
->(rt: &R, trace: Option<&str>, settings: Settings) -> u8 {
+>(rt: &R, trace: Option<&str>, listing: Listing, settings: Settings) -> u8 {
     match trace {
         Some(path) => match File::open(rt, path) {
-            Ok(file) => write_report(rt, &mut FromRead::new(file), settings),
+            Ok(file) => write_report(rt, &mut FromRead::new(file), listing, settings),
             Err(_) => complain(rt, "cannot open", FAILED),
         },
-        None => write_report(rt, &mut FromRead::new(rt.reader()), settings),
+        None => write_report(rt, &mut FromRead::new(rt.reader()), listing, settings),
     }
 }

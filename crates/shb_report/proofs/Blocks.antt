@@ -9,8 +9,10 @@ use Rattle.shb_lines.specs.events.Schedule.{IsPrintedSchedule}
 use Rattle.shb_lines.specs.text.TraceData.{TraceData}
 use Rattle.shb_lines.proofs.events.Decide.{printed_exists}
 use Rattle.shb_lines.proofs.events.RaceLists.{race_list_unique}
-use Rattle.shb_report.specs.Report.{AreBlocks, HasSchedule, IsReport, ShownRace, block_bytes, blocks_from, front_bytes, tail_bytes}
+use Rattle.shb_report.specs.Leading.{AreLeading}
+use Rattle.shb_report.specs.Report.{AllRaces, AreBlocks, HasSchedule, IsReport, IsReportOn, LeadingRaces, ShownRace, block_bytes, blocks_from, front_bytes, pair_of, tail_bytes}
 use Rattle.shb_report.proofs.Increasing.{increasing_unique}
+use Rattle.shb_report.proofs.LeadingLemmas.{leading_unique}
 
 -- the pairs of some races that are shown
 abbrev pairs_of : List ShownRace → List (ℕ × ℕ)
@@ -66,15 +68,43 @@ AreBlocks-unique with_schedules trace races blocks others h g =
     let lengths = ap length after.1 in
     same_if_long others blocks before.0 before.1 (omega (arith, length-append blocks after.0))
 
--- a trace has one report
-pub IsReport-unique : (with_schedules : Bool) (trace : TraceData) (bytes others : List ℕ) → IsReport with_schedules trace bytes → IsReport with_schedules trace others → bytes ≡ others
-IsReport-unique with_schedules trace bytes others h g =
-    let same : h.races ≡ g.races = race_list_unique trace.events h.races g.races h.races_are g.races_are in
+-- a trace has one list of such races
+abbrev pub HasOneList : (TraceData → List (ℕ × ℕ) → Type 0) → TraceData → Type 0
+HasOneList Lists trace = (races more : List (ℕ × ℕ)) → Lists trace races → Lists trace more → races ≡ more
+
+-- a trace has one report on such races
+pub IsReportOn-unique : (Lists : TraceData → List (ℕ × ℕ) → Type 0) (with_schedules : Bool) (trace : TraceData) (bytes others : List ℕ) → HasOneList Lists trace
+    → IsReportOn Lists with_schedules trace bytes → IsReportOn Lists with_schedules trace others → bytes ≡ others
+IsReportOn-unique Lists with_schedules trace bytes others one_list h g =
+    let same : h.races ≡ g.races = one_list h.races g.races h.races_are g.races_are in
     let blocks : h.blocks ≡ g.blocks = AreBlocks-unique with_schedules trace g.races h.blocks g.blocks (subst (λ l. AreBlocks with_schedules trace l h.blocks) same h.blocks_are) g.blocks_are in
     h.bytes_are
     ∙ ap (λ l. front_bytes trace l ++ (h.blocks ++ tail_bytes)) same
     ∙ ap (λ l. front_bytes trace g.races ++ (l ++ tail_bytes)) blocks
     ∙ sym g.bytes_are
+
+pub one_race_list : (trace : TraceData) → HasOneList AllRaces trace
+one_race_list trace = race_list_unique trace.events
+
+pub one_leading_list : (trace : TraceData) → HasOneList LeadingRaces trace
+one_leading_list trace leading more h g =
+    let same : h.races ≡ g.races = race_list_unique trace.events h.races g.races h.races_are g.races_are in
+    pairs_same leading more (leading_unique trace (map pair_of g.races) (map pair_of leading) (map pair_of more)
+    (subst (λ (l : List (ℕ × ℕ)). AreLeading trace (map pair_of l) (map pair_of leading)) same h.leading_are) g.leading_are)
+  where
+    pairs_same : (xs ys : List (ℕ × ℕ)) → map pair_of xs ≡ map pair_of ys → xs ≡ ys
+    pairs_same [] [] e = refl
+    pairs_same [] (y ∷ ys) e = absurd (let lengths = ap length e in omega arith)
+    pairs_same (x ∷ xs) [] e = absurd (let lengths = ap length e in omega arith)
+    pairs_same (x ∷ xs) (y ∷ ys) e =
+        let heads : pair_of x ≡ pair_of y = cc in
+        let tails : map pair_of xs ≡ map pair_of ys = cc in
+        let rest = pairs_same xs ys tails in
+        λ k. (((heads k).first, (heads k).second) ∷ rest k)
+
+-- a trace has one report
+pub IsReport-unique : (with_schedules : Bool) (trace : TraceData) (bytes others : List ℕ) → IsReport with_schedules trace bytes → IsReport with_schedules trace others → bytes ≡ others
+IsReport-unique with_schedules trace bytes others h g = IsReportOn-unique AllRaces with_schedules trace bytes others (one_race_list trace) h g
 
 -- some pairs, each with its printed schedule or with none
 shown_of : (with_schedules : Bool) (trace : TraceData) → IsDisciplined trace.events → (races : List (ℕ × ℕ)) → (shown : List ShownRace) × (pairs_of shown ≡ races) × All (HasSchedule with_schedules trace) shown

@@ -17,6 +17,8 @@ mod EntryLemmas
 mod ScanLemmas
 pub mod Injective
 mod PlaceLemmas
+pub mod LeadingLemmas
+pub mod LeadingReports
 mod PlaceText
 pub mod WrittenText
 pub mod WrittenGood

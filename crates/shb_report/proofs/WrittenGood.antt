@@ -8,7 +8,7 @@ use Rattle.std.proofs.lemmas.List.Elements.{All-head, All-tail}
 use Rattle.std.proofs.lemmas.Option.{slice_get-get_or, slice_get_within}
 use Rattle.shb_lines.specs.declared.event.Pair.{Pair}
 use Rattle.shb_lines.specs.events.Discipline.{IsDisciplined}
-use Rattle.shb_lines.specs.events.Race.{IsRaceList, Race}
+use Rattle.shb_lines.specs.events.Race.{Race}
 use Rattle.shb_lines.specs.events.Schedule.{IsPrintedSchedule, IsSchedule}
 use Rattle.shb_lines.specs.text.Text.{IsLineText}
 use Rattle.shb_lines.specs.text.TraceData.{TraceData, location_of}
@@ -17,7 +17,7 @@ use Rattle.shb_lines.proofs.events.Schedulable.{printed_is_schedule}
 use Rattle.shb_lines.proofs.text.LineTexts.{location_short}
 use Rattle.shb_report.specs.declared.verdict.Verdict.TheVariants.{Good}
 use Rattle.shb_report.specs.Places.{PlaceOf, counts_in, location_at, places_of_pairs, shown_place, shown_places, with_one_more, with_pair}
-use Rattle.shb_report.specs.Report.{HasSchedule, IsReport, ShownRace, line_at, pair_of}
+use Rattle.shb_report.specs.Report.{AllRaces, HasSchedule, IsReportOn, ShownRace, line_at, pair_of}
 use Rattle.shb_report.specs.Value.{IsBlock, IsPlace, IsReportValue, IsRest, IsShown, ReportValue, report_text}
 use Rattle.shb_report.specs.Verdicts.{IsGoodBlock, IsGoodReport, IsVerdict, pair_in}
 use Rattle.shb_report.specs.Written.{IsShowable, block_of, written_report}
@@ -214,16 +214,21 @@ report_in_grammar trace shown disciplined showable count are h =
 
 -- ---- both
 
-pub written_good : (trace : TraceData) (bytes : List ℕ) → IsDisciplined trace.events → IsShowable trace → (report : IsReport true trace bytes) → IsShown (length report.races)
+pub written_good : (Lists : TraceData → List (ℕ × ℕ) → Type 0) (trace : TraceData) (bytes : List ℕ) → ((races : List (ℕ × ℕ)) → Lists trace races → (i j : ℕ) → Contains races (i, j) → Race trace.events i j)
+    → IsDisciplined trace.events → IsShowable trace → (report : IsReportOn Lists true trace bytes) → IsShown (length report.races)
     → (value : ReportValue) × IsReportValue value × (bytes ≡ report_text value) × IsVerdict trace value (Good (length report.races))
-written_good trace bytes disciplined showable report count =
+written_good Lists trace bytes races disciplined showable report count =
     let shown = report.blocks_are.shown in
-    let listed = subst (IsRaceList trace.events) (sym report.blocks_are.races_are) report.races_are in
-    let are = are_races trace shown (λ i j c. (listed.all i j).0 c) in
+    let listed = subst (Lists trace) (sym report.blocks_are.races_are) report.races_are in
+    let are = are_races trace shown (races (pairs_of shown) listed) in
     let schedules = report.blocks_are.schedules_are in
     let long : length report.races ≡ length shown = sym (ap (λ (l : List (ℕ × ℕ)). length l) report.blocks_are.races_are) ∙ length-map shown (λ race. race.pair) in (
       written_report trace shown,
       report_in_grammar trace shown disciplined showable (omega (arith, long, count)) are schedules,
-      written_is trace bytes report,
+      written_is Lists trace bytes report,
       (good_report trace shown disciplined are schedules, long ∙ sym (length-map shown (block_of trace))),
     )
+
+-- what is listed are races
+pub all_are_races : (trace : TraceData) (races : List (ℕ × ℕ)) → AllRaces trace races → (i j : ℕ) → Contains races (i, j) → Race trace.events i j
+all_are_races trace races listed i j c = (listed.all i j).0 c

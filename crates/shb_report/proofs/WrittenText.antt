@@ -9,7 +9,7 @@ use Rattle.shb_lines.specs.events.Race.{IsRaceList}
 use Rattle.shb_lines.specs.events.Schedule.{IsPrintedSchedule}
 use Rattle.shb_report.specs.declared.writer.Counts.{Counts}
 use Rattle.shb_report.specs.Places.{counts_in, places_of_pairs, section_bytes, shown_places}
-use Rattle.shb_report.specs.Report.{HasSchedule, IsReport, ShownRace, block_bytes, blocks_from, counts_of, event_numbers, head_bytes, line_at, pair_of, schedule_line, tail_bytes}
+use Rattle.shb_report.specs.Report.{AllRaces, HasSchedule, IsReport, IsReportOn, ShownRace, block_bytes, blocks_from, counts_of, event_numbers, head_bytes, line_at, pair_of, schedule_line, tail_bytes}
 use Rattle.shb_report.specs.Value.{Block, block_lines, counts_line, lines_text, listed, places_section, race_numbers_line, races_line, report_text}
 use Rattle.shb_report.specs.Written.{block_of, written_report}
 use Rattle.shb_report.proofs.EntryLemmas.{lines_text-append}
@@ -71,8 +71,8 @@ blocks_are trace number (race ∷ shown) h =
         by (Some s) h = (s, refl)
 
 -- the whole
-pub written_is : (trace : TraceData) (bytes : List ℕ) (h : IsReport true trace bytes) → bytes ≡ report_text (written_report trace h.blocks_are.shown)
-written_is trace bytes h =
+pub written_is : (Lists : TraceData → List (ℕ × ℕ) → Type 0) (trace : TraceData) (bytes : List ℕ) (h : IsReportOn Lists true trace bytes) → bytes ≡ report_text (written_report trace h.blocks_are.shown)
+written_is Lists trace bytes h =
     let shown = h.blocks_are.shown in
     let counts = counts_of trace in
     let blocks = map (block_of trace) shown in
@@ -90,4 +90,4 @@ written_is trace bytes h =
 
 pub written_law : (trace : TraceData) (bytes : List ℕ) → IsReport true trace bytes
     → (shown : List ShownRace) × IsRaceList trace.events (map (λ race. race.pair) shown) × All (HasSchedule true trace) shown × (bytes ≡ report_text (written_report trace shown))
-written_law trace bytes h = (h.blocks_are.shown, subst (IsRaceList trace.events) (sym h.blocks_are.races_are) h.races_are, h.blocks_are.schedules_are, written_is trace bytes h)
+written_law trace bytes h = (h.blocks_are.shown, subst (IsRaceList trace.events) (sym h.blocks_are.races_are) h.races_are, h.blocks_are.schedules_are, written_is AllRaces trace bytes h)

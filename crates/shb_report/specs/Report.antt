@@ -6,6 +6,7 @@ use Rattle.shb_lines.specs.events.Schedule.{IsPrintedSchedule}
 use Rattle.shb_lines.specs.text.Text.{lines_of}
 use Rattle.shb_lines.specs.text.TraceData.{IsTraceOf, TraceData}
 use Rattle.shb_report.specs.declared.writer.Counts.{Counts}
+use Rattle.shb_report.specs.Leading.{AreLeading}
 use Rattle.shb_report.specs.Places.{counts_in, places_of_pairs, section_bytes}
 use Rattle.shb_report.specs.Value.{counts_line, lines_text, races_line}
 
@@ -93,16 +94,36 @@ pair_of race = record { first = race.0; second = race.1 }
 abbrev pub front_bytes : TraceData → List (ℕ × ℕ) → List ℕ
 front_bytes trace races = head_bytes (counts_of trace) (length races) ++ section_bytes trace (counts_in (places_of_pairs trace (map pair_of races)))
 
--- the bytes are the report of a trace: the head, the places of the race list, a block for each of its races in order, and the tail
-pub record IsReport (with_schedules : Bool) (trace : TraceData) (bytes : List ℕ) : Type 0 where
+-- what a report may list: the race list of a trace; or its leading races, of each place the first race
+abbrev pub AllRaces : TraceData → List (ℕ × ℕ) → Type 0
+AllRaces trace races = IsRaceList trace.events races
+
+pub record LeadingRaces (trace : TraceData) (leading : List (ℕ × ℕ)) : Type 0 where
+  pub races : List (ℕ × ℕ)
+  pub races_are : IsRaceList trace.events races
+  pub leading_are : AreLeading trace (map pair_of races) (map pair_of leading)
+
+-- the bytes are the report of a trace that lists such races: the head, their places, a block for each of them in order, and the tail
+pub record IsReportOn (Lists : TraceData → List (ℕ × ℕ) → Type 0) (with_schedules : Bool) (trace : TraceData) (bytes : List ℕ) : Type 0 where
   pub races : List (ℕ × ℕ)
   pub blocks : List ℕ
-  pub races_are : IsRaceList trace.events races
+  pub races_are : Lists trace races
   pub blocks_are : AreBlocks with_schedules trace races blocks
   pub bytes_are : bytes ≡ front_bytes trace races ++ (blocks ++ tail_bytes)
 
--- the bytes are the report of a text: that of the trace of all its lines
-pub record IsReportOf (with_schedules : Bool) (text bytes : List ℕ) : Type 0 where
+-- the same of a text: the bytes are that of the trace of all its lines
+pub record IsReportOnText (Lists : TraceData → List (ℕ × ℕ) → Type 0) (with_schedules : Bool) (text bytes : List ℕ) : Type 0 where
   pub trace : TraceData
   pub trace_is : IsTraceOf (lines_of text) trace
-  pub report : IsReport with_schedules trace bytes
+  pub report : IsReportOn Lists with_schedules trace bytes
+
+-- the report of a trace, and of a text: of all races
+abbrev pub IsReport : Bool → TraceData → List ℕ → Type 0
+IsReport with_schedules trace bytes = IsReportOn AllRaces with_schedules trace bytes
+
+abbrev pub IsReportOf : Bool → List ℕ → List ℕ → Type 0
+IsReportOf with_schedules text bytes = IsReportOnText AllRaces with_schedules text bytes
+
+-- the places report of a text: of its leading races
+abbrev pub IsPlacesReportOf : Bool → List ℕ → List ℕ → Type 0
+IsPlacesReportOf with_schedules text bytes = IsReportOnText LeadingRaces with_schedules text bytes

@@ -1,10 +1,12 @@
 //! The laws of reports, over the definitions alone. Each function does nothing: its contract is the
 //! law.
-ghost use Rattle.std.specs.Prelude.{◌≡◌, ◌↔◌, ◌-◌, ℕ, All, Bool, List, length, map, true};
+ghost use Rattle.std.specs.Prelude.{◌≡◌, ◌↔◌, ◌-◌, ℕ, All, Bool, Contains, List, length, map, true};
 ghost use Rattle.std.specs.List.{AllByRecursion};
+ghost use Rattle.shb_lines.specs.declared.event.Pair.{Pair};
 ghost use Rattle.shb_lines.specs.events.Discipline.{IsDisciplined};
 ghost use Rattle.shb_lines.specs.events.Race.{IsRaceList, Race};
 ghost use Rattle.shb_lines.specs.text.TraceData.{TraceData};
+ghost use Rattle.shb_report.specs.Leading.{AreLeading, HasOnce, place_at};
 ghost use Rattle.shb_report.specs.Reading.{IsBadLine, IsReportText};
 ghost use Rattle.shb_report.specs.Report.{AreBlocks, HasSchedule, IsReport, ShownRace};
 ghost use Rattle.shb_report.specs.Value.{IsReportValue, IsShown, ReportValue, report_text};
@@ -77,4 +79,19 @@ pub fn good_reports_list_races()
 pub fn verdict_is_one()
     ensures { (trace : TraceData) (report : ReportValue) (verdict other : Verdict) → IsDisciplined trace.events
         → IsVerdict trace report verdict → IsVerdict trace report other → verdict ≡ other }
+{}
+
+/// A list has at most one list of leading races.
+pub fn leading_races_are_one()
+    ensures { (trace : TraceData) (races leading others : List Pair)
+        → AreLeading trace races leading → AreLeading trace races others → leading ≡ others }
+{}
+
+/// Each leading race is a race of the list, and each race of the list has the place of exactly one leading
+/// race. So a list of leading races leaves out no place, and shows none twice.
+pub fn each_place_has_one_leading_race()
+    ensures listed { (trace : TraceData) (races leading : List Pair) → AreLeading trace races leading
+        → (lead : Pair) → Contains leading lead → Contains races lead }
+    ensures once { (trace : TraceData) (races leading : List Pair) → AreLeading trace races leading
+        → (race : Pair) → Contains races race → HasOnce trace leading (place_at trace race.first race.second) }
 {}

@@ -5,6 +5,7 @@
 //! has a call that writes it into any sink. A call puts its text together in a buffer of 1 KiB and
 //! sends that when it is full and at the end; it takes no memory. [`scheduled_block`] copies the
 //! runs of a schedule out of one text of all numbers, [`NumberTexts`], which is made once.
+//! [`leading_of`] chooses of each place the first race that has it, for reports of those alone.
 //!
 //! [`read_report`] reads version 2 and version 1, which has no places, both with schedules. It
 //! reads the source whole and then line by line, by a list of the forms of the lines that are still
@@ -20,6 +21,7 @@ mod grammar;
 mod held;
 mod held_runs;
 pub mod laws;
+mod leading;
 mod lines;
 mod listed;
 mod number_texts;
@@ -36,6 +38,7 @@ mod verdict_writer;
 pub mod writer;
 
 pub use checking::check_report;
+pub use leading::leading_of;
 pub use number_texts::NumberTexts;
 pub use place_writer::place_lines;
 pub use places::{PlaceCount, Places, places_of};

@@ -22,12 +22,15 @@ use Rattle.shb_discipline.specs.declared.checking.CheckError.{CheckError}
 use Rattle.shb_discipline.specs.declared.checking.CheckError.TheVariants as checking
 use Rattle.shb_discipline.specs.Faults.{IsRefusal}
 use Rattle.shb_discipline.proofs.FirstFault.{accepted, stopped, undisciplined}
-use Rattle.shb_report.specs.Report.{IsReport, IsReportOf}
+use Rattle.shb_report.specs.Report.{AllRaces, IsReportOn, IsReportOnText, LeadingRaces}
+use Rattle.shb_report.proofs.LeadingReports.{leading_are_races, race_led_once}
 use Rattle.shb_pairs.specs.Races.{ends}
 use Rattle.shb_run.specs.declared.errors.RunError.{RunError}
 use Rattle.shb_run.specs.declared.errors.RunError.TheVariants.{Trace, Source, Sink, Memory}
 use Rattle.shb_run.specs.declared.errors.WriteError.{WriteError}
 use Rattle.shb_run.specs.declared.errors.WriteError.TheVariants as writing
+use Rattle.shb_run.specs.declared.settings.Choice.{Choice}
+use Rattle.shb_run.specs.declared.settings.Choice.TheVariants.{All, Leading}
 use Rattle.shb_run.specs.declared.settings.Summary.{Summary}
 use Rattle.shb_lines.specs.declared.read.ReadError.{ReadError}
 use Rattle.shb_lines.specs.declared.read.ReadError.TheVariants as reading
@@ -38,8 +41,9 @@ use Rattle.shb_report.specs.Value.{ReportValue}
 use Rattle.shb_report.specs.Verdicts.{IsVerdict}
 use Rattle.shb_run.specs.Checks.{IsChecked, IsVerdictFor, most_bytes}
 use Rattle.shb_run.specs.Errors.{error_of_checking, error_of_reading, error_of_writing}
-use Rattle.shb_run.specs.Runs.{AreWords, HasTrace, IsAccepted, IsRefusalOf, IsReported, Grows, ListsSchedulable, OnJudged, OnMemory, OnSink, OnTrace, limits}
-use Rattle.shb_run.specs.Written.{CutsBlocks, CutsReport, OnFailedSink, OnNoMemory, ReportsTrace, WritesReport, summary_of}
+use Rattle.shb_run.specs.Runs.{AreWords, HasTrace, IsAccepted, IsRefusalOf, IsReportedBy, Grows, ListsPlaces, ListsSchedulable, OnJudged, OnMemory, OnSink, OnTrace, limits}
+use Rattle.shb_run.specs.Written.{CutsBlocksOn, CutsReportOn, ListedBy, OnFailedSink, OnNoMemory, ReportsTrace, These, WritesReport, summary_of}
+use Rattle.shb_run.proofs.Reports.{known_blocks, known_cut, known_written}
 
 -- a text with no fault has no first one
 pub no_first_fault : (text : List ℕ) (line : ℕ) (fault : Fault) → HasNoFault limits text → HasFirstFault limits text line fault → ⊥
@@ -58,25 +62,45 @@ schedulable_of events races disciplined are = record {
       ];
 }
 
-abbrev pub report_of_text : (ws : Bool) (text bytes : List ℕ) (read : TraceData) (stop : Option LineFault) (trace : TraceData)
-    → IsAccepted read stop trace → IsReadingOf limits text read stop → IsReport ws trace bytes → IsReportOf ws text bytes
-report_of_text ws text bytes read stop trace accepted reading report = record {
+pub places_of : (trace : TraceData) (races : List (ℕ × ℕ)) → IsDisciplined trace.events → LeadingRaces trace races → ListsPlaces trace races
+places_of trace races disciplined lists = record {
+  race = leading_are_races trace races lists;
+  listed = λ i j is.
+      let printed = printed_exists trace.events disciplined i j in
+      (printed.0, printed.1, printed_is_schedule trace.events printed.0 i j disciplined (leading_are_races trace races lists i j is) printed.1);
+  once = race_led_once trace races lists;
+}
+
+abbrev pub report_of_text : (Lists : TraceData → List (ℕ × ℕ) → Type 0) (ws : Bool) (text bytes : List ℕ) (read : TraceData) (stop : Option LineFault) (trace : TraceData)
+    → IsAccepted read stop trace → IsReadingOf limits text read stop → IsReportOn Lists ws trace bytes → IsReportOnText Lists ws text bytes
+report_of_text Lists ws text bytes read stop trace accepted reading report = record {
   trace = trace;
   trace_is = subst (IsTraceOf (lines_of text)) (sym accepted.same) (accepted.whole text reading);
   report = report;
 }
 
-pub reported_of : (ws : Bool) (text : List ℕ) (read : TraceData) (stop : Option LineFault) (events : List Event) (trace : TraceData) (summary : Summary) (old new : Option (List ℕ))
-    → IsDisciplined events → events ≡ trace.events → IsAccepted read stop trace → ReportsTrace ws trace summary old new → AreWords summary → IsReadingOf limits text read stop → IsReported ws text summary old new
-reported_of ws text read stop events trace summary old new disciplined same accepted written words reading = record {
+pub reported_of : (choice : Choice) (ws : Bool) (text : List ℕ) (read : TraceData) (stop : Option LineFault) (events : List Event) (trace : TraceData) (summary : Summary) (old new : Option (List ℕ))
+    → IsDisciplined events → events ≡ trace.events → IsAccepted read stop trace → ReportsTrace (ListedBy choice) ws trace summary old new → AreWords summary → IsReadingOf limits text read stop
+    → IsReportedBy choice ws text summary old new
+reported_of All ws text read stop events trace summary old new disciplined same accepted written words reading = record {
   faultless = accepted.faultless text reading;
   bytes = written.bytes;
-  report = report_of_text ws text written.bytes read stop trace accepted reading written.report;
+  report = report_of_text AllRaces ws text written.bytes read stop trace accepted reading written.report;
   disciplined = subst IsDisciplined same disciplined;
   written = written.written;
   summary_is = written.summary_is;
   words = words;
   schedulable = schedulable_of trace.events written.report.races (subst IsDisciplined same disciplined) written.report.races_are;
+}
+reported_of Leading ws text read stop events trace summary old new disciplined same accepted written words reading = record {
+  faultless = accepted.faultless text reading;
+  bytes = written.bytes;
+  report = report_of_text LeadingRaces ws text written.bytes read stop trace accepted reading written.report;
+  disciplined = subst IsDisciplined same disciplined;
+  written = written.written;
+  summary_is = written.summary_is;
+  words = words;
+  places = places_of trace written.report.races (subst IsDisciplined same disciplined) written.report.races_are;
 }
 
 -- a text that has no fault, and what holds of its trace
@@ -107,14 +131,38 @@ accepted_of read stop events trace disciplined same as_read is = record {
     all text reading = accepted limits text read (subst (IsReadingOf limits text read) is reading) (subst (λ t. IsDisciplined t.events) as_read (subst IsDisciplined same disciplined))
 
 -- the summary of the report that was written
-pub reports_of : (ws : Bool) (trace : TraceData) (races : List Pair) (count : ℕ) (summary : Summary) (old new : Option (List ℕ))
-    → summary ≡ summary_of trace count → count ≡ length races → WritesReport ws trace (map ends races) old new → ReportsTrace ws trace summary old new
-reports_of ws trace races count summary old new is counted written = record {
+pub reports_of : (Lists : TraceData → List (ℕ × ℕ) → Type 0) (ws : Bool) (trace : TraceData) (races : List Pair) (count : ℕ) (summary : Summary) (old new : Option (List ℕ))
+    → summary ≡ summary_of trace count → count ≡ length races → Lists trace (map ends races) → WritesReport (These (map ends races)) ws trace old new → ReportsTrace Lists ws trace summary old new
+reports_of Lists ws trace races count summary old new is counted lists written = record {
   bytes = written.bytes;
-  report = written.report;
+  report = (known_written Lists ws trace (map ends races) lists old new written).report;
   written = written.written;
-  summary_is = is ∙ ap (summary_of trace) (counted ∙ sym (length-map races ends) ∙ sym (ap length written.races_are));
+  summary_is = is ∙ ap (summary_of trace) (counted ∙ sym (length-map races ends) ∙ sym (ap length written.report.races_are));
 }
+
+pub or_then : {A B C : Type 0} → A ⊎ B → (B → C) → A ⊎ C
+or_then (inl a) then = inl a
+or_then (inr b) then = inr (then b)
+
+-- what was written of the report where the sink failed, and where memory was refused
+module _ (choice : Choice) (ws : Bool) (trace : TraceData) (races : List (ℕ × ℕ)) (lists : ListedBy choice trace races) where
+  pub cut_known : {T : Type 0} (U : Type 0) (old new : Option (List ℕ)) (error : WriteError) (r : Result T WriteError) → IsErrAnd r (λ e. e ≡ error)
+      → OnFailedSink {T = U} (Err error) (CutsReportOn (These races) ws trace old new) → OnFailedSink r (CutsReportOn (ListedBy choice) ws trace old new)
+  cut_known U old new error (Ok x) is cut = absurd is
+  cut_known {T} U old new error (Err e) is cut = subst (λ (e : WriteError). OnFailedSink {T = T} (Err e) (CutsReportOn (ListedBy choice) ws trace old new)) (sym is) (by error cut)
+    where
+      by : (error : WriteError) → OnFailedSink {T = U} (Err error) (CutsReportOn (These races) ws trace old new) → OnFailedSink {T = T} (Err error) (CutsReportOn (ListedBy choice) ws trace old new)
+      by writing.Sink cut = known_cut (ListedBy choice) ws trace races lists old new cut
+      by writing.Memory cut = tt
+
+  pub memory_known : {T : Type 0} (U : Type 0) (same : Type 0) (old new : Option (List ℕ)) (error : WriteError) (r : Result T WriteError) → IsErrAnd r (λ e. e ≡ error)
+      → OnNoMemory {T = U} (Err error) (same ⊎ CutsBlocksOn (These races) ws trace old new) → OnNoMemory r (same ⊎ CutsBlocksOn (ListedBy choice) ws trace old new)
+  memory_known U same old new error (Ok x) is cut = absurd is
+  memory_known {T} U same old new error (Err e) is cut = subst (λ (e : WriteError). OnNoMemory {T = T} (Err e) (same ⊎ CutsBlocksOn (ListedBy choice) ws trace old new)) (sym is) (by error cut)
+    where
+      by : (error : WriteError) → OnNoMemory {T = U} (Err error) (same ⊎ CutsBlocksOn (These races) ws trace old new) → OnNoMemory {T = T} (Err error) (same ⊎ CutsBlocksOn (ListedBy choice) ws trace old new)
+      by writing.Sink cut = tt
+      by writing.Memory cut = or_then cut (known_blocks (ListedBy choice) ws trace races lists old new)
 
 -- what the check of the discipline refuses is refused for its first fault
 pub refused_of : {T : Type 0} (read : TraceData) (stop : Option LineFault) (error : CheckError) (r : Result T RunError)
@@ -156,10 +204,6 @@ memory_of {T} U error (Err e) P Q is cut then = subst (λ (e : RunError). OnMemo
     told writing.Sink p = tt
     told writing.Memory p = then p
 
-pub or_then : {A B C : Type 0} → A ⊎ B → (B → C) → A ⊎ C
-or_then (inl a) then = inl a
-or_then (inr b) then = inr (then b)
-
 -- a text with no fault has none of which anything is to be said
 pub none_found : (read : TraceData) (stop : Option LineFault) (trace : TraceData) (known : Option (List ℕ)) (P : Type 0)
     → IsAccepted read stop trace → IfSome known (λ text. IsReadingOf limits text read stop) → IfSome known (λ text. (line : ℕ) (fault : Fault) → HasFirstFault limits text line fault → P)
@@ -195,12 +239,12 @@ pub Grows-same : (a : Option (List ℕ)) → Grows a a
 Grows-same a = ([], Appends-nil a)
 
 -- known bytes that grew by the front of a report
-pub grown_of_cut : {K : Type 0} (U : Type 0) (taken : K → Option (List ℕ)) (ws : Bool) (trace : TraceData) (before after : K) (error : WriteError)
-    → OnFailedSink {T = U} (Err error) (CutsReport ws trace (taken before) (taken after)) → OnNoMemory {T = U} (Err error) ((after ≡ before) ⊎ CutsBlocks ws trace (taken before) (taken after))
+pub grown_of_cut : {K : Type 0} (U : Type 0) (taken : K → Option (List ℕ)) (Lists : TraceData → List (ℕ × ℕ) → Type 0) (ws : Bool) (trace : TraceData) (before after : K) (error : WriteError)
+    → OnFailedSink {T = U} (Err error) (CutsReportOn Lists ws trace (taken before) (taken after)) → OnNoMemory {T = U} (Err error) ((after ≡ before) ⊎ CutsBlocksOn Lists ws trace (taken before) (taken after))
     → Grows (taken before) (taken after)
-grown_of_cut U taken ws trace before after writing.Sink cut refused = (_, cut.written)
-grown_of_cut U taken ws trace before after writing.Memory cut (inl same) = subst (λ s. Grows (taken before) (taken s)) (sym same) (Grows-same (taken before))
-grown_of_cut U taken ws trace before after writing.Memory cut (inr refused) = (_, refused.cut.written)
+grown_of_cut U taken Lists ws trace before after writing.Sink cut refused = (_, cut.written)
+grown_of_cut U taken Lists ws trace before after writing.Memory cut (inl same) = subst (λ s. Grows (taken before) (taken s)) (sym same) (Grows-same (taken before))
+grown_of_cut U taken Lists ws trace before after writing.Memory cut (inr refused) = (_, refused.cut.written)
 
 -- the verdict on two texts that were read
 pub checked_of : (text report : List ℕ) (read : TraceData) (stop : Option LineFault) (events : List Event) (trace : TraceData) (verdict : Verdict)

@@ -2,9 +2,11 @@
 use Rattle.std.specs.Prelude.{◌≡◌, ℕ, ◌+◌, ◌<◌, ◌≤◌, Bool, List, length, take, Option, Result, Ok, Err, MatchResult, ⊤}
 use Rattle.std.specs.Io.KnownBytes.{Appends}
 use Rattle.shb_lines.specs.text.TraceData.{TraceData}
-use Rattle.shb_report.specs.Report.{AreBlocks, IsReport, front_bytes}
+use Rattle.shb_report.specs.Report.{AllRaces, AreBlocks, IsReportOn, LeadingRaces, front_bytes}
 use Rattle.shb_run.specs.declared.errors.WriteError.{WriteError}
 use Rattle.shb_run.specs.declared.errors.WriteError.TheVariants.{Sink, Memory}
+use Rattle.shb_run.specs.declared.settings.Choice.{Choice}
+use Rattle.shb_run.specs.declared.settings.Choice.TheVariants.{All, Leading}
 use Rattle.shb_run.specs.declared.settings.Summary.{Summary}
 
 -- the sink failed once where that is the answer, and else not at all
@@ -33,25 +35,40 @@ pub record WritesBlocks {T : Type 0} (with_schedules : Bool) (trace : TraceData)
   pub blocks : AreBlocks with_schedules trace races bytes
   pub written : MatchResult r (λ _. Appends old new bytes) (λ _. AppendsFront old new bytes)
 
--- the report of a trace that has these races was written
-pub record WritesReport (with_schedules : Bool) (trace : TraceData) (races : List (ℕ × ℕ)) (old new : Option (List ℕ)) : Type 0 where
+-- these races and no others are listed
+abbrev pub These : List (ℕ × ℕ) → TraceData → List (ℕ × ℕ) → Type 0
+These races trace listed = listed ≡ races
+
+-- the races that a report of this choice lists
+abbrev pub ListedBy : Choice → TraceData → List (ℕ × ℕ) → Type 0
+ListedBy All = AllRaces
+ListedBy Leading = LeadingRaces
+
+-- the report of a trace on such races was written
+pub record WritesReport (Lists : TraceData → List (ℕ × ℕ) → Type 0) (with_schedules : Bool) (trace : TraceData) (old new : Option (List ℕ)) : Type 0 where
   pub bytes : List ℕ
-  pub report : IsReport with_schedules trace bytes
-  pub races_are : report.races ≡ races
+  pub report : IsReportOn Lists with_schedules trace bytes
   pub written : Appends old new bytes
 
--- of the report of a trace so many bytes were written, from its front on, and not all
-pub record CutsReport (with_schedules : Bool) (trace : TraceData) (old new : Option (List ℕ)) : Type 0 where
+-- of the report of a trace on such races so many bytes were written, from its front on, and not all
+pub record CutsReportOn (Lists : TraceData → List (ℕ × ℕ) → Type 0) (with_schedules : Bool) (trace : TraceData) (old new : Option (List ℕ)) : Type 0 where
   pub bytes : List ℕ
-  pub report : IsReport with_schedules trace bytes
+  pub report : IsReportOn Lists with_schedules trace bytes
   pub count : ℕ
   pub some_missing : count < length bytes
   pub written : Appends old new (take count bytes)
 
 -- and all lines before its first block are among them
-pub record CutsBlocks (with_schedules : Bool) (trace : TraceData) (old new : Option (List ℕ)) : Type 0 where
-  pub cut : CutsReport with_schedules trace old new
+pub record CutsBlocksOn (Lists : TraceData → List (ℕ × ℕ) → Type 0) (with_schedules : Bool) (trace : TraceData) (old new : Option (List ℕ)) : Type 0 where
+  pub cut : CutsReportOn Lists with_schedules trace old new
   pub front : length (front_bytes trace cut.report.races) ≤ cut.count
+
+-- the same of the report of a trace, on all races
+abbrev pub CutsReport : Bool → TraceData → Option (List ℕ) → Option (List ℕ) → Type 0
+CutsReport with_schedules trace old new = CutsReportOn AllRaces with_schedules trace old new
+
+abbrev pub CutsBlocks : Bool → TraceData → Option (List ℕ) → Option (List ℕ) → Type 0
+CutsBlocks with_schedules trace old new = CutsBlocksOn AllRaces with_schedules trace old new
 
 -- what a run says of a trace with so many races
 abbrev pub summary_of : TraceData → ℕ → Summary
@@ -63,9 +80,9 @@ summary_of trace races = record {
   races = races;
 }
 
--- the report of a trace was written, and the summary is that of the report
-pub record ReportsTrace (with_schedules : Bool) (trace : TraceData) (summary : Summary) (old new : Option (List ℕ)) : Type 0 where
+-- the report of a trace on such races was written, and the summary is that of the report
+pub record ReportsTrace (Lists : TraceData → List (ℕ × ℕ) → Type 0) (with_schedules : Bool) (trace : TraceData) (summary : Summary) (old new : Option (List ℕ)) : Type 0 where
   pub bytes : List ℕ
-  pub report : IsReport with_schedules trace bytes
+  pub report : IsReportOn Lists with_schedules trace bytes
   pub written : Appends old new bytes
   pub summary_is : summary ≡ summary_of trace (length report.races)

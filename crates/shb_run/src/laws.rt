@@ -2,19 +2,25 @@
 //! is the law.
 ghost use Rattle.std.specs.Prelude.{◌≡◌, ◌≤◌, ◌↔◌, ℕ, Bool, List, Option, length, true};
 ghost use Rattle.shb_lines.specs.text.TraceData.{IsTraceOf, TraceData};
-ghost use Rattle.shb_report.specs.Report.{IsReportOf};
+ghost use Rattle.shb_report.specs.Report.{IsPlacesReportOf, IsReportOf};
 ghost use Rattle.shb_report.specs.Value.{IsReportValue, ReportValue, report_text};
 ghost use Rattle.shb_report.specs.Verdicts.{IsVerdict};
 ghost use Rattle.shb_report.specs.declared.verdict.Verdict.{Verdict};
 ghost use Rattle.shb_report.specs.declared.verdict.Verdict.TheVariants.{Good};
 ghost use Rattle.shb_run.specs.Checks.{IsGoodFor, IsVerdictOf, most_bytes};
-ghost use Rattle.shb_run.specs.Runs.{IsReported};
+ghost use Rattle.shb_run.specs.Runs.{IsPlacesReported, IsReported};
 ghost use Rattle.shb_run.specs.declared.settings.Summary.{Summary};
 
 /// A text has at most one report in each form: its lines have one trace, and a trace has one report.
 pub fn report_of_text_is_unique()
     ensures { (with_schedules : Bool) (text bytes others : List ℕ)
         → IsReportOf with_schedules text bytes → IsReportOf with_schedules text others → bytes ≡ others }
+{}
+
+/// A text has at most one report of its leading races in each form.
+pub fn places_report_of_text_is_unique()
+    ensures { (with_schedules : Bool) (text bytes others : List ℕ)
+        → IsPlacesReportOf with_schedules text bytes → IsPlacesReportOf with_schedules text others → bytes ≡ others }
 {}
 
 /// Some lines have at most one trace, with its names, their numbers and its lines.
@@ -30,6 +36,14 @@ pub fn own_report_is_good()
     ensures value { (text : List ℕ) (summary : Summary) (old new : Option (List ℕ)) (reported : IsReported true text summary old new)
         → (value : ReportValue) × IsReportValue value × (reported.bytes ≡ report_text value) × IsVerdict reported.report.trace value (Good summary.races) }
     ensures checked { (text : List ℕ) (summary : Summary) (old new : Option (List ℕ)) (reported : IsReported true text summary old new)
+        → (verdict : Verdict) → length reported.bytes ≤ most_bytes → IsVerdictOf text reported.bytes verdict → verdict ≡ Good summary.races }
+{}
+
+/// A check of what a run wrote with schedules of the leading races says that it is good, in the same words.
+pub fn own_places_report_is_good()
+    ensures value { (text : List ℕ) (summary : Summary) (old new : Option (List ℕ)) (reported : IsPlacesReported true text summary old new)
+        → (value : ReportValue) × IsReportValue value × (reported.bytes ≡ report_text value) × IsVerdict reported.report.trace value (Good summary.races) }
+    ensures checked { (text : List ℕ) (summary : Summary) (old new : Option (List ℕ)) (reported : IsPlacesReported true text summary old new)
         → (verdict : Verdict) → length reported.bytes ≤ most_bytes → IsVerdictOf text reported.bytes verdict → verdict ≡ Good summary.races }
 {}
 

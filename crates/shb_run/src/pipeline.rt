@@ -3,12 +3,12 @@ ghost use Rattle.std.specs.Prelude.{◌≡◌, ◌⊎◌, ◌+◌, ◌-◌, ◌^
 ghost use Rattle.shb_discipline.specs.FirstFault.{HasFirstFault};
 ghost use Rattle.shb_lines.specs.declared.event.Fault.{Fault};
 ghost use Rattle.shb_lines.specs.text.Taking.{ReadsText, TakesAtMost};
-ghost use Rattle.shb_run.specs.Runs.{AreWords, CountsSink, CountsSource, Grows, HasTrace, IsAccepted, IsRefusalOf, IsReported, OnJudged, OnMemory, OnNoTrace, OnSink, OnTrace, limits};
-ghost use Rattle.shb_run.specs.Written.{CutsBlocks, CutsReport, IsSinkCounted, OnFailedSink, OnNoMemory, ReportsTrace, summary_of};
+ghost use Rattle.shb_run.specs.Runs.{AreWords, CountsSink, CountsSource, Grows, HasTrace, IsAccepted, IsRefusalOf, IsReported, IsReportedBy, OnJudged, OnMemory, OnNoTrace, OnSink, OnTrace, limits};
+ghost use Rattle.shb_run.specs.Written.{CutsBlocks, CutsBlocksOn, CutsReport, CutsReportOn, IsSinkCounted, ListedBy, OnFailedSink, OnNoMemory, ReportsTrace, summary_of};
 
 use crate::errors::{RunError, WriteError};
-use crate::races::races_of;
-use crate::settings::{Settings, Summary};
+use crate::races::{chosen_of, races_of};
+use crate::settings::{Choice, Settings, Summary, Task};
 use crate::write::write_report;
 use shb_clocks::{Order, Ordered, by_event};
 use shb_discipline::{Disciplined, check};
@@ -50,7 +50,7 @@ fn summary_of(trace: &Trace, races: u64) -> Summary
     }
 }
 
-/// Finds the races of a trace by an order of it, and writes its report.
+/// Finds the races of a trace by an order of it, and writes the report of those that are asked for.
 fn report_by<
     R: Threads + Wait + Sync + RandomSource,
     K: Sink,
@@ -64,18 +64,18 @@ fn report_by<
     trace: &Disciplined<'_>,
     links: &Links<'_>,
     order: &O,
-    settings: Settings,
+    task: Task,
     pair_gate: &P,
     witness_gate: &W,
 ) -> Result<Summary, WriteError>
     requires countable { K.failure_count sink.old < 2 ^ 64 - 1 }
     requires linked { links.now ≡ trace.now.events.now }
     requires of_trace { O.trace order.now ≡ trace.now.events.now }
-    ensures report { IfOk result (λ summary. ReportsTrace settings.schedules trace.now.trace.now summary
+    ensures report { IfOk result (λ summary. ReportsTrace (ListedBy task.choice) task.settings.schedules trace.now.trace.now summary
         (K.taken sink.old) (K.taken sink.new)) }
     ensures words { IfOk result AreWords }
-    ensures cut { OnFailedSink result (CutsReport settings.schedules trace.now.trace.now (K.taken sink.old) (K.taken sink.new)) }
-    ensures memory { OnNoMemory result ((sink.new ≡ sink.old) ⊎ CutsBlocks settings.schedules trace.now.trace.now (K.taken sink.old) (K.taken sink.new)) }
+    ensures cut { OnFailedSink result (CutsReportOn (ListedBy task.choice) task.settings.schedules trace.now.trace.now (K.taken sink.old) (K.taken sink.new)) }
+    ensures memory { OnNoMemory result ((sink.new ≡ sink.old) ⊎ CutsBlocksOn (ListedBy task.choice) task.settings.schedules trace.now.trace.now (K.taken sink.old) (K.taken sink.new)) }
     ensures counted { IsSinkCounted (K.failure_count sink.old) (K.failure_count sink.new) result }
 {
     let ordered = Ordered {
@@ -83,27 +83,36 @@ fn report_by<
         trace: &*trace,
         links: &*links,
     };
-    let races = races_of(rt, alloc, &ordered, pair_gate, settings.workers)?;
-    write_report(rt, alloc, sink, &ordered, &races, witness_gate, settings)?;
-    Ok(summary_of(trace.trace, races.len() as u64))
+    let races = races_of(rt, alloc, &ordered, pair_gate, task.settings.workers)?;
+    let chosen = chosen_of(rt, alloc, trace, races, task.choice)?;
+    write_report(
+        rt,
+        alloc,
+        sink,
+        &ordered,
+        &chosen,
+        witness_gate,
+        task.settings,
+    )?;
+    Ok(summary_of(trace.trace, chosen.len() as u64))
 }
 
-/// Finds the races of a trace, and writes its report.
+/// Finds the races of a trace, and writes the report of those that are asked for.
 fn report<R: Threads + Wait + Sync + RandomSource, K: Sink, P: Gate + Sync, W: Gate + Sync>(
     rt: &R,
     alloc: Global,
     sink: &mut K,
     trace: &Disciplined<'_>,
-    settings: Settings,
+    task: Task,
     pair_gate: &P,
     witness_gate: &W,
 ) -> Result<Summary, WriteError>
     requires countable { K.failure_count sink.old < 2 ^ 64 - 1 }
-    ensures report { IfOk result (λ summary. ReportsTrace settings.schedules trace.now.trace.now summary
+    ensures report { IfOk result (λ summary. ReportsTrace (ListedBy task.choice) task.settings.schedules trace.now.trace.now summary
         (K.taken sink.old) (K.taken sink.new)) }
     ensures words { IfOk result AreWords }
-    ensures cut { OnFailedSink result (CutsReport settings.schedules trace.now.trace.now (K.taken sink.old) (K.taken sink.new)) }
-    ensures memory { OnNoMemory result ((sink.new ≡ sink.old) ⊎ CutsBlocks settings.schedules trace.now.trace.now (K.taken sink.old) (K.taken sink.new)) }
+    ensures cut { OnFailedSink result (CutsReportOn (ListedBy task.choice) task.settings.schedules trace.now.trace.now (K.taken sink.old) (K.taken sink.new)) }
+    ensures memory { OnNoMemory result ((sink.new ≡ sink.old) ⊎ CutsBlocksOn (ListedBy task.choice) task.settings.schedules trace.now.trace.now (K.taken sink.old) (K.taken sink.new)) }
     ensures counted { IsSinkCounted (K.failure_count sink.old) (K.failure_count sink.new) result }
 {
     let links = links_of(alloc, &*trace)?;
@@ -115,7 +124,7 @@ fn report<R: Threads + Wait + Sync + RandomSource, K: Sink, P: Gate + Sync, W: G
         trace,
         &links,
         &order,
-        settings,
+        task,
         pair_gate,
         witness_gate,
     )
@@ -254,7 +263,73 @@ pub fn run_gated<
     ensures source { CountsSource (S.failure_count source.old) (S.failure_count source.new) result }
     ensures sink { CountsSink (K.failure_count sink.old) (K.failure_count sink.new) result }
 {
+    let task = Task {
+        settings,
+        choice: Choice::All,
+    };
+    run_task(rt, alloc, source, sink, task, pair_gate, witness_gate)
+}
+
+/// Reads a trace, finds its races, and writes the report of those that are asked for: the body of [`run`],
+/// of [`run_gated`] and of `run_places`.
+pub(crate) fn run_task<
+    S: Source,
+    K: Sink,
+    R: Threads + Wait + Sync + RandomSource,
+    P: Gate + Sync,
+    W: Gate + Sync,
+>(
+    rt: &R,
+    alloc: Global,
+    source: &mut S,
+    sink: &mut K,
+    task: Task,
+    pair_gate: &P,
+    witness_gate: &W,
+) -> Result<Summary, RunError>
+    requires source_countable { S.failure_count source.old < 2 ^ 64 - 1 }
+    requires sink_countable { K.failure_count sink.old < 2 ^ 64 - 1 }
+
+    // The text has no fault, and the report that is asked for was written.
+    ensures reported { IfOk result (λ summary. IfSome (S.remaining source.old) (λ text.
+        IsReportedBy task.choice task.settings.schedules text summary (K.taken sink.old) (K.taken sink.new))) }
+
+    // The same, whether or not the source tells its bytes: of the text that was read.
+    ensures read { IfOk result (λ summary. ReadsText 1073741825 (S.remaining source.old) (S.remaining source.new) (λ text.
+        IsReportedBy task.choice task.settings.schedules text summary (K.taken sink.old) (K.taken sink.new))) }
+
+    // A refused trace has this fault first.
+    ensures refused { OnTrace result (λ line fault. ReadsText 1073741825 (S.remaining source.old) (S.remaining source.new) (λ text.
+        HasFirstFault limits text line fault)) }
+
+    // What is written where no report is. Nothing, where the trace was refused or not read, and where
+    // the text has a fault.
+    ensures unwritten { OnNoTrace result (sink.new ≡ sink.old) }
+    ensures silent { IfSome (S.remaining source.old) (λ text. (line : ℕ) (fault : Fault) →
+        HasFirstFault limits text line fault → sink.new ≡ sink.old) }
+
+    // Where the sink failed the text has no fault, and less than its report was written, the front of
+    // it. Where memory was refused it is the same, with all lines before the first block, or nothing.
+    ensures cut { OnSink result (ReadsText 1073741825 (S.remaining source.old) (S.remaining source.new) (λ text.
+        HasTrace text (λ trace. CutsReportOn (ListedBy task.choice) task.settings.schedules trace (K.taken sink.old) (K.taken sink.new)))) }
+    ensures memory { OnMemory result ((sink.new ≡ sink.old) ⊎ ReadsText 1073741825 (S.remaining source.old) (S.remaining source.new) (λ text.
+        HasTrace text (λ trace. CutsBlocksOn (ListedBy task.choice) task.settings.schedules trace (K.taken sink.old) (K.taken sink.new)))) }
+
+    // What the sink took before stays as it was.
+    ensures grown { Grows (K.taken sink.old) (K.taken sink.new) }
+
+    // The source lost its first bytes, at most 1,073,741,825, and gave no more than those; it lost
+    // exactly those where the text was judged.
+    ensures taken { TakesAtMost 1073741825 (S.remaining source.old) (S.remaining source.new) }
+    ensures given { S.given_count source.new ≤ S.given_count source.old + 1073741825 }
+    ensures left { OnJudged result (IfSome (S.remaining source.old) (λ text.
+        S.remaining source.new ≡ Some (drop 1073741825 text))) }
+
+    // An error of a device comes with one failure more of that device, and no other answer does.
+    ensures source { CountsSource (S.failure_count source.old) (S.failure_count source.new) result }
+    ensures sink { CountsSink (K.failure_count sink.old) (K.failure_count sink.new) result }
+{
     let parsed = parse(rt, alloc, source, &Limits::standard())?;
     let trace = judge(alloc, &parsed)?;
-    Ok(report(rt, alloc, sink, &trace, settings, pair_gate, witness_gate)?)
+    Ok(report(rt, alloc, sink, &trace, task, pair_gate, witness_gate)?)
 }

@@ -1,14 +1,19 @@
-//! The races of a trace, from the pieces of its accesses.
+//! The races of a trace, from the pieces of its accesses, and which of them a report lists.
 ghost use Rattle.std.specs.Prelude.{◌≡◌, IfOk, map};
 ghost use Rattle.shb_lines.specs.events.Race.{IsRaceList};
 ghost use Rattle.shb_pairs.specs.Races.{ends, joined};
+ghost use Rattle.shb_run.specs.Written.{ListedBy};
 
+use crate::settings::Choice;
 use shb_clocks::{Order, Ordered};
+use shb_discipline::Disciplined;
 use shb_fan::{Gate, Workers, gather};
 use shb_io::NoMemory;
 use shb_lines::Pair;
 use shb_pairs::{PairJob, accesses_of_open, open_variables, pieces};
+use shb_report::leading_of;
 use std::alloc::Global;
+use std::random::RandomSource;
 use std::sync::Wait;
 use std::thread::Threads;
 
@@ -46,4 +51,21 @@ pub fn races_of<R: Threads + Wait + Sync, O: Order + Sync, G: Gate + Sync>(
     );
     let lists = gather(rt, alloc, &job, gate, workers)?;
     join(alloc, lists)
+}
+
+/// Those of the races of a trace that a report lists. The others are let go.
+pub fn chosen_of<R: RandomSource>(
+    rt: &R,
+    alloc: Global,
+    trace: &Disciplined<'_>,
+    races: Vec<Pair>,
+    choice: Choice,
+) -> Result<Vec<Pair>, NoMemory>
+    requires { IsRaceList trace.now.events.now (map ends races.items) }
+    ensures chosen { IfOk result (λ chosen. ListedBy choice trace.now.trace.now (map ends chosen.items)) }
+{
+    match choice {
+        Choice::All => Ok(races),
+        Choice::Leading => leading_of(rt, alloc, trace.trace, &races),
+    }
 }

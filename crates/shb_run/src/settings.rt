@@ -10,6 +10,22 @@ pub struct Settings {
     pub schedules: bool,
 }
 
+/// Which races of a trace a report lists.
+#[derive(Clone, Copy)]
+pub(crate) enum Choice {
+    /// All of them.
+    All,
+    /// Of each place the first race that has it.
+    Leading,
+}
+
+/// A report that is asked for.
+#[derive(Clone, Copy)]
+pub(crate) struct Task {
+    pub(crate) settings: Settings,
+    pub(crate) choice: Choice,
+}
+
 /// What a run found in the trace.
 #[derive(Clone, Copy, Debug, PartialEq, Eq)]
 pub struct Summary {

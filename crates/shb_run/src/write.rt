@@ -1,12 +1,12 @@
-//! The report of a trace whose races are known.
+//! The report of a trace that lists races which are known.
 ghost use Rattle.std.specs.Prelude.{◌≡◌, ◌⊎◌, ◌-◌, ◌^◌, ◌<◌, All, IfOk, false, map, true};
 ghost use Rattle.shb_io.specs.Devices.{IsCounted, Writes};
-ghost use Rattle.shb_lines.specs.events.Race.{IsRaceList, Race};
+ghost use Rattle.shb_lines.specs.events.Race.{Race};
 ghost use Rattle.shb_pairs.specs.Races.{ends};
 ghost use Rattle.shb_report.specs.Places.{IsPlaceOf, counts_in, places_of_pairs};
 ghost use Rattle.shb_report.specs.Report.{counts_of, front_bytes};
 ghost use Rattle.shb_witness.specs.Checkpoints.{IsReached};
-ghost use Rattle.shb_run.specs.Written.{CutsBlocks, CutsReport, IsSinkCounted, OnFailedSink, OnNoMemory, WritesBlocks, WritesReport};
+ghost use Rattle.shb_run.specs.Written.{CutsBlocksOn, CutsReportOn, IsSinkCounted, OnFailedSink, OnNoMemory, These, WritesBlocks, WritesReport};
 
 use crate::block_writer::BlockWriter;
 use crate::errors::WriteError;
@@ -168,7 +168,7 @@ fn write_front<K: Sink>(
     place_lines(sink, trace, places)
 }
 
-/// Writes the report of a trace whose races these are. The places are made before anything is written:
+/// Writes the report of a trace that lists these races. The places are made before anything is written:
 /// so where memory is refused either nothing was written, or at least all lines before the first block.
 pub fn write_report<
     R: Threads + Wait + Sync + RandomSource,
@@ -185,13 +185,13 @@ pub fn write_report<
     settings: Settings,
 ) -> Result<(), WriteError>
     requires countable { K.failure_count sink.old < 2 ^ 64 - 1 }
-    requires races { IsRaceList ordered.now.trace.now.events.now (map ends races.now) }
-    ensures report { IfOk result (λ _. WritesReport settings.schedules ordered.now.trace.now.trace.now (map ends races.now)
+    requires races { All (λ pair. Race ordered.now.trace.now.events.now pair.first pair.second) races.now }
+    ensures report { IfOk result (λ _. WritesReport (These (map ends races.now)) settings.schedules ordered.now.trace.now.trace.now
         (K.taken sink.old) (K.taken sink.new)) }
-    ensures cut { OnFailedSink result (CutsReport settings.schedules ordered.now.trace.now.trace.now
+    ensures cut { OnFailedSink result (CutsReportOn (These (map ends races.now)) settings.schedules ordered.now.trace.now.trace.now
         (K.taken sink.old) (K.taken sink.new)) }
-    ensures memory { OnNoMemory result ((sink.new ≡ sink.old) ⊎ CutsBlocks settings.schedules ordered.now.trace.now.trace.now
-        (K.taken sink.old) (K.taken sink.new)) }
+    ensures memory { OnNoMemory result ((sink.new ≡ sink.old) ⊎ CutsBlocksOn (These (map ends races.now)) settings.schedules
+        ordered.now.trace.now.trace.now (K.taken sink.old) (K.taken sink.new)) }
     ensures counted { IsSinkCounted (K.failure_count sink.old) (K.failure_count sink.new) result }
 {
     let trace = ordered.trace.trace;

@@ -1,10 +1,15 @@
 //! The command line that is read.
-use crate::help::{ABOUT_CHECKS, ABOUT_THE_PROGRAM, ABOUT_TRACES};
+use crate::help::{ABOUT_CHECKS, ABOUT_PLACES, ABOUT_THE_PROGRAM, ABOUT_TRACES};
 use clap::{Arg, ArgAction, Command, value_parser};
 use std::alloc::{AllocError, Global};
 
-/// `races [--workers N] [--list] [TRACE]`
-fn races_command<'a>(alloc: Global) -> Result<Command<'a>, AllocError> {
+/// `NAME [--workers N] [--list] [TRACE]`: a command that writes a report.
+fn report_command<'a>(
+    alloc: Global,
+    name: &'a str,
+    about: &'a str,
+    details: &'a str,
+) -> Result<Command<'a>, AllocError> {
     let workers = Arg::new(alloc, "workers")
         .long("workers")
         .value_name("N")
@@ -17,9 +22,9 @@ fn races_command<'a>(alloc: Global) -> Result<Command<'a>, AllocError> {
     let trace = Arg::new(alloc, "trace").value_name("TRACE").help(
         "The file of the trace; standard input where it is left out",
     );
-    Command::new(alloc, "races")
-        .about("Writes the report of a trace to standard output")
-        .after_help(ABOUT_TRACES)
+    Command::new(alloc, name)
+        .about(about)
+        .after_help(details)
         .arg(workers)?
         .arg(list)?
         .arg(trace)
@@ -43,6 +48,17 @@ pub fn command<'a>(alloc: Global) -> Result<Command<'a>, AllocError> {
         .about("Finds the races of a trace of a run, and gives each a schedule that shows it")
         .after_help(ABOUT_THE_PROGRAM)
         .subcommand_required(true)
-        .subcommand(races_command(alloc)?)?
+        .subcommand(report_command(
+            alloc,
+            "races",
+            "Writes the report of a trace to standard output",
+            ABOUT_TRACES,
+        )?)?
+        .subcommand(report_command(
+            alloc,
+            "places",
+            "Writes the report of one race of each place of a trace",
+            ABOUT_PLACES,
+        )?)?
         .subcommand(check_command(alloc)?)
 }

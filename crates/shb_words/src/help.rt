@@ -3,8 +3,8 @@
 /// Under the list of commands: what to begin with, and the statuses.
 pub const ABOUT_THE_PROGRAM: &str =
     "With no words at all it does what 'shb races --list' does: it reads a trace from
-standard input and lists its races. Begin with the list: a full report has, for
-each race, a schedule that may be as long as the trace.
+standard input and lists its races. Begin with the list, then ask 'shb places'
+for one race of each place: a schedule may be as long as the trace.
 
   $ printf 'T1|w(y)|1\\nT2|r(y)|2\\n' | shb races --list
 
@@ -70,6 +70,44 @@ Example:
   end
 ";
 
+/// Under the options of `places`: which races it lists, and what that costs.
+pub const ABOUT_PLACES: &str =
+    "A place is a pair of locations: that of the first access of a race, and that of
+the second. Two locations in either order are two places. Of each place the
+first race is listed, in the order of 'shb races', so each race that there is
+has the place of one that is listed. The trace and the form of the report are
+those of 'shb help races'; the races have numbers of their own, and each place
+counts one. 'shb check' judges such a report as any other, and other tools read
+it as any other.
+
+Costs:
+  All races are looked for, but a schedule is made for those alone that are
+  listed. A trace has far fewer places than races, so this is how to see a
+  schedule of each kind of race. 'shb races --list' says how many races a place
+  has.
+
+Exit status:
+  0  the report was written, or the help that was asked for
+  2  the trace is refused; 'line N: REASON' is on standard error
+  3  the words are refused
+  4  a file, a device or the memory failed
+
+Example:
+  $ printf 'T1|w(y)|1\\nT2|r(y)|2\\nT3|r(y)|2\\n' | shb places
+  shb-report 2
+  events 3 threads 3 locks 0 variables 1
+  races 1
+  places 1
+  place 1: 1
+  at 1
+  and 2
+  race 1: 1 2
+  first T1|w(y)|1
+  second T2|r(y)|2
+  schedule 0:
+  end
+";
+
 /// Under the options of `check`: what it judges, and what it doesn't.
 pub const ABOUT_CHECKS: &str =
     "One line is written to standard output, the first of these that applies:
@@ -88,7 +126,9 @@ tool may have written the report.
 
 Not judged: whether races of the trace are left out, the order of those that are
 listed, and whether one is listed twice. A report made with --list has no
-schedules to judge: it is a 'bad line', unless it lists no race.
+schedules to judge: it is a 'bad line', unless it lists no race. So is a report
+of more than 1073741824 bytes, as standard error says then: check the report of
+'shb places' instead.
 
 Exit status:
   0  the report is good

@@ -18,6 +18,12 @@ pub enum Plan {
         list: bool,
         trace: Option<String>,
     },
+    /// Write the report of one race of each place of a trace, in the same way.
+    Places {
+        workers: Workers,
+        list: bool,
+        trace: Option<String>,
+    },
     /// Check the report on standard input against a trace.
     Check {
         trace: String,
@@ -59,20 +65,37 @@ fn default_workers() -> Workers
     }
 }
 
-/// The plan of the words behind `races`.
-fn races_plan(alloc: Global, matches: &ArgMatches<'_>) -> Result<Plan, WordsFault> {
-    let workers = matches
+/// The number of workers that the words behind `races` or `places` name, or 4.
+fn workers_in(matches: &ArgMatches<'_>) -> Workers {
+    matches
         .get_one::<u32>("workers")
         .and_then(Workers::new)
-        .unwrap_or(default_workers());
-    let trace = match matches.get_str("trace") {
-        Some(path) => Some(path.to_string(alloc)?),
-        None => None,
-    };
+        .unwrap_or(default_workers())
+}
+
+/// The file of the trace that these words name.
+fn trace_in(alloc: Global, matches: &ArgMatches<'_>) -> Result<Option<String>, WordsFault> {
+    match matches.get_str("trace") {
+        Some(path) => Ok(Some(path.to_string(alloc)?)),
+        None => Ok(None),
+    }
+}
+
+/// The plan of the words behind `races`.
+fn races_plan(alloc: Global, matches: &ArgMatches<'_>) -> Result<Plan, WordsFault> {
     Ok(Plan::Races {
-        workers,
+        workers: workers_in(matches),
         list: matches.get_flag("list"),
-        trace,
+        trace: trace_in(alloc, matches)?,
+    })
+}
+
+/// The plan of the words behind `places`.
+fn places_plan(alloc: Global, matches: &ArgMatches<'_>) -> Result<Plan, WordsFault> {
+    Ok(Plan::Places {
+        workers: workers_in(matches),
+        list: matches.get_flag("list"),
+        trace: trace_in(alloc, matches)?,
     })
 }
 
@@ -107,8 +130,8 @@ fn plan_of_error(alloc: Global, error: Error) -> Result<Plan, WordsFault> {
 }
 
 /// The plan that the words of a command line ask for, the program's own name left out:
-/// `races [--workers N] [--list] [TRACE]` with N from 1 to 64, `check TRACE`, or help. No words at
-/// all are `races --list`, with 4 workers.
+/// `races` or `places`, each with `[--workers N] [--list] [TRACE]` and N from 1 to 64, `check TRACE`, or
+/// help. No words at all are `races --list`, with 4 workers.
 ///
 /// # Errors
 ///
@@ -136,6 +159,7 @@ pub fn plan_of(alloc: Global, words: &[String]) -> Result<Plan, WordsFault>
     };
     match matches.subcommand() {
         Some(("races", inner)) => races_plan(alloc, inner),
+        Some(("places", inner)) => places_plan(alloc, inner),
         Some(("check", inner)) => check_plan(alloc, inner),
         _ => refused(alloc, "error: no command was given\n"),
     }

@@ -3,8 +3,9 @@ use Rattle.shb_lines.specs.text.TraceData.{IsReadingOf}
 use Rattle.shb_lines.proofs.text.TakingLemmas.{reads_left, reads_then, reads_told}
 use Rattle.shb_run.specs.declared.settings.Summary.{Summary}
 use Rattle.shb_run.specs.Runs.{limits}
+use Rattle.shb_run.specs.Written.{ListedBy}
 use Rattle.shb_run.proofs.Endings.{Grows-same, grown_of_cut, has_trace, judged, memory_of, none_found, not_judged, or_then, refusal_first, reported_of, sink_of}
-use Rattle.shb_run.proofs.pipeline.run_gated.Goals as goal
+use Rattle.shb_run.proofs.pipeline.run_task.Goals as goal
 
 pub returns-clause-reported : goal.returns-clause-reported
 returns-clause-reported g c =
@@ -13,7 +14,7 @@ returns-clause-reported g c =
     let left = g.S.Source.remaining c.parse.new.source in
     let reading : ReadsText 1073741825 known left (λ text. IsReadingOf limits text parsed.trace parsed.stop) = rw c.standard.ensures at c.in_ok-parsed.ensures.reading in
     let trace = c.in_ok-trace.trace in
-    reads_told 1073741825 known left _ (reads_then 1073741825 known left _ _ reading (λ text. reported_of c.args.settings.schedules text parsed.trace parsed.stop trace.events.now trace.trace.now _
+    reads_told 1073741825 known left _ (reads_then 1073741825 known left _ _ reading (λ text. reported_of c.args.task.choice c.args.task.settings.schedules text parsed.trace parsed.stop trace.events.now trace.trace.now _
     (g.K.Sink.taken c.args.sink.now) (g.K.Sink.taken c.report.new.sink) trace.meets trace.of_trace c.in_ok-trace.ensures.accepted c.in_ok-report.ensures.report c.in_ok-report.ensures.words))
 
 pub returns-clause-read : goal.returns-clause-read
@@ -23,7 +24,7 @@ returns-clause-read g c =
     let left = g.S.Source.remaining c.parse.new.source in
     let reading : ReadsText 1073741825 known left (λ text. IsReadingOf limits text parsed.trace parsed.stop) = rw c.standard.ensures at c.in_ok-parsed.ensures.reading in
     let trace = c.in_ok-trace.trace in
-    reads_then 1073741825 known left _ _ reading (λ text. reported_of c.args.settings.schedules text parsed.trace parsed.stop trace.events.now trace.trace.now _
+    reads_then 1073741825 known left _ _ reading (λ text. reported_of c.args.task.choice c.args.task.settings.schedules text parsed.trace parsed.stop trace.events.now trace.trace.now _
     (g.K.Sink.taken c.args.sink.now) (g.K.Sink.taken c.report.new.sink) trace.meets trace.of_trace c.in_ok-trace.ensures.accepted c.in_ok-report.ensures.report c.in_ok-report.ensures.words)
 
 pub returns-in_err-report-clause-cut : goal.returns-in_err-report-clause-cut
@@ -122,7 +123,7 @@ returns-clause-left g c =
 
 pub returns-in_err-report-clause-grown : goal.returns-in_err-report-clause-grown
 returns-in_err-report-clause-grown g c =
-    grown_of_cut Summary g.K.Sink.taken c.args.settings.schedules c.in_ok-trace.trace.trace.now c.args.sink.now c.report.new.sink _ c.in_err-report.ensures.cut c.in_err-report.ensures.memory
+    grown_of_cut Summary g.K.Sink.taken (ListedBy c.args.task.choice) c.args.task.settings.schedules c.in_ok-trace.trace.trace.now c.args.sink.now c.report.new.sink _ c.in_err-report.ensures.cut c.in_err-report.ensures.memory
 
 pub returns-in_err-parsed-clause-grown : goal.returns-in_err-parsed-clause-grown
 returns-in_err-parsed-clause-grown g c =
