@@ -159,7 +159,7 @@ fn stops_after_each_draw(rt: HostRuntime) -> Result<(), Fail> {
 #[test]
 fn passes_one_slot_on(rt: HostRuntime) -> Result<(), Fail> {
     let job = count_to(65, None);
-    let (ring, mut seats) = Ring::new(rt.alloc(), &job, 1)?;
+    let (ring, mut seats) = Ring::new(rt.alloc(), &job)?;
     let Some(mut seat) = seats.pop() else {
         unreachable!()
     };
@@ -173,8 +173,6 @@ fn passes_one_slot_on(rt: HostRuntime) -> Result<(), Fail> {
     assert!(rt; ring.claim(&mut seat, 64));
     ring.place(&mut seat, 64, 64);
     assert_eq!(rt; ring.lift(&mut seat, 64), Some(64));
-    seats.push(seat)?;
-    ring.close(seats);
     Ok(())
 }
 
@@ -276,6 +274,14 @@ fn is_count(values: &[u64], len: u64) -> bool {
     values.len() as u64 == len
 }
 
+/// How a draw ends where all pieces were drawn.
+fn all_of(drawn: u64) -> Result<Closed, StreamError<u64>> {
+    Ok(Closed {
+        drawn,
+        stopped: false,
+    })
+}
+
 fn so_many<R: Abort>(rt: &R, workers: u32) -> Workers {
     Workers::new(workers).expect(rt, "1 to 64 workers")
 }
@@ -301,7 +307,11 @@ fn streams_in_order(rt: HostRuntime) -> Result<(), Fail> {
                 so_many(&rt, workers),
                 &mut taker,
             );
-            assert_eq!(rt; answer, Ok(()), "{pieces} pieces, {workers} workers");
+            assert_eq!(rt;
+                answer,
+                all_of(u64::from(pieces)),
+                "{pieces} pieces, {workers} workers"
+            );
             assert!(rt; is_count(taker.pieces.as_slice(), u64::from(pieces)));
             assert!(rt; is_count(taker.values.as_slice(), u64::from(pieces)));
         }
@@ -514,7 +524,7 @@ fn seven_are_held(rt: HostRuntime) -> Result<(), Fail> {
     let gate = seven_held();
     let mut taker = make_keeper(rt.alloc(), None);
     let answer = stream(&rt, rt.alloc(), &job, &gate, so_many(&rt, 8), &mut taker);
-    assert_eq!(rt; answer, Ok(()));
+    assert_eq!(rt; answer, all_of(16));
     assert!(rt; is_count(taker.values.as_slice(), 16));
     assert!(rt; !gate.missed.load(Ordering::SeqCst));
     Ok(())
