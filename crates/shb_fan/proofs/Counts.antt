@@ -9,7 +9,7 @@ use lib.ListN.{get_elem?}
 use Rattle.atomic_table.proofs.Lists.{at_set, at_snoc}
 use Rattle.shb_fan.specs.declared.ticket_table.PassView.{PassView}
 use Rattle.shb_fan.specs.Numbers.{weight, times, once_below, total}
-use Rattle.shb_fan.specs.Drawing.{parts_of, Sound}
+use Rattle.shb_fan.specs.Drawing.{Sound}
 
 module _ {V : Type 0} where
   pub total-set : (f : V → ℕ) (views : List V) (id : ℕ) (v w : V) → get_elem? views id ≡ some v → total f (set views id w) + f v ≡ total f views + f w
@@ -31,20 +31,21 @@ module _ {V : Type 0} where
   total-le f g [] h = omega arith
   total-le f g (x ∷ xs) h = let a : f x ≤ g x = h 0 x refl in let r = total-le f g xs (λ id. h (suc id)) in omega arith
 
-total-none : (f : PassView → ℕ) (views : List PassView) → total parts_of views ≡ 0 → ((i : ℕ) (w : PassView) → get_elem? views i ≡ some w → w.parts ≡ 0 → f w ≡ 0) → total f views ≡ 0
-total-none f [] all empty = refl
-total-none f (x ∷ xs) all empty = let here : f x ≡ 0 = empty 0 x refl (omega arith) in let r = total-none f xs (omega arith) (λ i. empty (suc i)) in omega arith
+  module _ (parts : V → ℕ) (f : V → ℕ) where
+    total-none : (views : List V) → total parts views ≡ 0 → ((i : ℕ) (w : V) → get_elem? views i ≡ some w → parts w ≡ 0 → f w ≡ 0) → total f views ≡ 0
+    total-none [] all empty = refl
+    total-none (x ∷ xs) all empty = let here : f x ≡ 0 = empty 0 x refl (omega arith) in let r = total-none xs (omega arith) (λ i. empty (suc i)) in omega arith
 
--- one view has every part, and f is nothing at a view without a part
-pub total-whole : (f : PassView → ℕ) (views : List PassView) (id : ℕ) (v : PassView) → get_elem? views id ≡ some v → total parts_of views ≡ v.parts
-    → ((i : ℕ) (w : PassView) → get_elem? views i ≡ some w → w.parts ≡ 0 → f w ≡ 0) → total f views ≡ f v
-total-whole f [] id v e all empty = absurd (some-ne-none v (sym e))
-total-whole f (x ∷ xs) zero v e all empty =
-    let is : f x ≡ f v = ap f (some-injective x v e) in let same : x.parts ≡ v.parts = ap parts_of (some-injective x v e) in
-    let r = total-none f xs (omega arith) (λ i. empty (suc i)) in omega arith
-total-whole f (x ∷ xs) (suc id) v e all empty =
-    let some_of : v.parts ≤ total parts_of xs = total-at parts_of xs id v e in let here : f x ≡ 0 = empty 0 x refl (omega arith) in
-    let r = total-whole f xs id v e (omega arith) (λ i. empty (suc i)) in omega arith
+    -- one view has every part, and f is nothing at a view without a part
+    pub total-whole : (views : List V) (id : ℕ) (v : V) → get_elem? views id ≡ some v → total parts views ≡ parts v
+        → ((i : ℕ) (w : V) → get_elem? views i ≡ some w → parts w ≡ 0 → f w ≡ 0) → total f views ≡ f v
+    total-whole [] id v e all empty = absurd (some-ne-none v (sym e))
+    total-whole (x ∷ xs) zero v e all empty =
+        let is : f x ≡ f v = ap f (some-injective x v e) in let same : parts x ≡ parts v = ap parts (some-injective x v e) in
+        let r = total-none xs (omega arith) (λ i. empty (suc i)) in omega arith
+    total-whole (x ∷ xs) (suc id) v e all empty =
+        let some_of : parts v ≤ total parts xs = total-at parts xs id v e in let here : f x ≡ 0 = empty 0 x refl (omega arith) in
+        let r = total-whole xs id v e (omega arith) (λ i. empty (suc i)) in omega arith
 
 pub sound-set : (views : List PassView) (id : ℕ) (w : PassView) → Sound w → ((i : ℕ) (v : PassView) → get_elem? views i ≡ some v → Sound v)
     → (i : ℕ) (v : PassView) → get_elem? (set views id w) i ≡ some v → Sound v
@@ -71,6 +72,14 @@ pub weight-most : (b : Bool) → weight b ≤ 1
 weight-most true = omega arith
 weight-most false = omega arith
 
+-- a number above all others isn't among them
+pub times-below : (k : ℕ) (xs : List ℕ) → All (λ x. x < k) xs → times k xs ≡ 0
+times-below k [] all = refl
+times-below k (x ∷ xs) all =
+    let lt = all 0 x (omega arith) in
+    let here = weight-false (eqb k x) (grind (arith, nat_tests, lt)) in
+    let rest = times-below k xs (λ i d inside. all (suc i) d (omega (arith, inside))) in omega (arith, here, rest)
+
 pub once_below-more : (x n : ℕ) → once_below x (n + 1) ≡ once_below x n + weight (eqb x n)
 once_below-more x n = dite (ℕ_discrete x n)
     (λ e. let a = weight-true (ltb x (n + 1)) (grind (arith, nat_tests)) in let b = weight-false (ltb x n) (grind (arith, nat_tests)) in let d = weight-true (eqb x n) (grind (arith, nat_tests)) in omega arith)
@@ -83,7 +92,7 @@ times-here x [] k h e = absurd (omega arith)
 times-here x (y ∷ ys) zero h e = let a = weight-true (eqb x y) (grind (arith, nat_tests)) in omega arith
 times-here x (y ∷ ys) (suc k) h e = let r = times-here x ys k (omega arith) e in omega arith
 
-once-within : (x n : ℕ) → 1 ≤ once_below x n → x < n
+pub once-within : (x n : ℕ) → 1 ≤ once_below x n → x < n
 once-within x n h = dite (dec_lt x n) (λ l. l) (λ l. let b = weight-false (ltb x n) (grind (arith, nat_tests)) in absurd (omega arith))
 
 get_or-within : (xs : List ℕ) (k d e : ℕ) → k < length xs → get_or xs k d ≡ get_or xs k e

@@ -19,7 +19,7 @@ use Rattle.shb_fan.proofs.Starts.{runs_more}
 lt-true : (a b : ℕ) → a < b → ltb a b ≡ true
 lt-true a b h = grind (arith, nat_tests)
 
-lt-false : (a b : ℕ) → b ≤ a → ltb a b ≡ false
+pub lt-false : (a b : ℕ) → b ≤ a → ltb a b ≡ false
 lt-false a b h = grind (arith, nat_tests)
 
 -- the numbers of a list that are below m

@@ -64,9 +64,9 @@ pub record Told (plan : Plan) (v : PassView) (ticket stop : ℕ) : Type 0 where
 told : (plan : Plan) (t z : ℕ) (views : List PassView) → Holds plan t z views → (id : ℕ) (v : PassView) → get_elem? views id ≡ some v → v.parts ≡ plan.passes → Told plan v t z
 told plan t z views r id v at whole =
     let all : total parts_of views ≡ v.parts = r.parts ∙ sym whole in
-    let h = total-whole halted_of views id v at all (λ i w e empty. ((r.sound i w e).nothing empty).1) in
-    let s = total-whole spent_of views id v at all (λ i w e empty. let o = (r.sound i w e).once in omega arith) in record {
-      each = λ x. sym (total-whole (times_of x) views id v at all (λ i w e empty. ap (times x) ((r.sound i w e).nothing empty).0)) ∙ r.each x;
+    let h = total-whole parts_of halted_of views id v at all (λ i w e empty. ((r.sound i w e).nothing empty).1) in
+    let s = total-whole parts_of spent_of views id v at all (λ i w e empty. let o = (r.sound i w e).once in omega arith) in record {
+      each = λ x. sym (total-whole parts_of (times_of x) views id v at all (λ i w e empty. ap (times x) ((r.sound i w e).nothing empty).0)) ∙ r.each x;
       running = (let f = r.running in omega arith);
       halted = (let f = r.halted in omega arith);
       ended = (let f = r.ended in omega arith);

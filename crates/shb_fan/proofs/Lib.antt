@@ -14,3 +14,4 @@ pub mod Starts
 pub mod Drawn
 pub mod MachineRuns
 pub mod RunValues
+pub mod Accounts

@@ -1,5 +1,5 @@
 -- The seats of a ring, as it opens and as it ends.
-use Rattle.std.proofs.Common.{◌≡◌, ℕ, ◌+◌, ◌-◌, ◌^◌, ◌<◌, ◌≤◌, List, [], ◌∷◌, ◌++◌, length, length-append, All, Option, Some, sum_by, sym, refl, ap, ◌∙◌, subst, arith}
+use Rattle.std.proofs.Common.{◌≡◌, ℕ, ◌+◌, ◌-◌, ◌^◌, ◌≤◌, List, [], ◌∷◌, ◌++◌, length, length-append, All, Option, Some, sum_by, sym, ap, ◌∙◌, subst, arith}
 use Rattle.std.proofs.lemmas.List.Elements.{All-push, All-pop, All-same}
 use Rattle.std.proofs.lemmas.List.Sums.{sum_by_push}
 use Rattle.atomic_table.specs.Table.{Me}
@@ -7,12 +7,10 @@ use Rattle.atomic_table.specs.Seated.{TableId}
 use Rattle.atomic_table.specs.declared.shared.Seat as table_seat
 use Rattle.shb_fan.specs.declared.ring_table.SeatView.{SeatView}
 use Rattle.shb_fan.specs.declared.shares.Seat.{Seat}
-use Rattle.shb_fan.specs.Numbers.{times}
-use Rattle.shb_fan.specs.Slots.{seat_view, left_over, one_part, joined}
+use Rattle.shb_fan.specs.Slots.{seat_view, left_over, one_part}
 use Rattle.shb_fan.specs.declared.shares.Ring.{Ring}
-use Rattle.shb_fan.specs.Seated.{Sits, IsSeatOf, claimed_of, lifted_of}
+use Rattle.shb_fan.specs.Seated.{Sits, IsSeatOf, claimed_of, placed_of, lifted_of}
 use Rattle.shb_fan.specs.Values.{values_of}
-use Rattle.shb_fan.proofs.Counts.{times-append}
 
 abbrev TableSeat : Type 0 → Type 0 → Type 0
 TableSeat T M = table_seat.Seat (Option T) (SeatView M)
@@ -22,59 +20,57 @@ Seated T M = Me (Option T) (SeatView M)
 
 module _ {T M : Type 0} where
   abbrev IsFresh : TableId → List M → Seat T M → Type 0
-  IsFresh table wanted seat = Sits table wanted seat × (claimed_of seat ≡ []) × (lifted_of seat ≡ [])
+  IsFresh table wanted seat = Sits table wanted seat × (claimed_of seat ≡ []) × (placed_of seat ≡ []) × (lifted_of seat ≡ [])
 
-  pub sits_fresh : (table : TableId) (wanted : List M) (place : TableSeat T M) (parts : ℕ) → 0 < parts → place.table_id ≡ table → place.me ≡ (seat_view parts wanted [] [] [], []) → IsFresh table wanted (record { place = place })
-  sits_fresh table wanted place parts some_part at is = let nothing : place.me.0.claimed ≡ [] = ap (λ (m : Seated T M). m.0.claimed) is in (
+  pub sits_fresh : (table : TableId) (wanted : List M) (place : TableSeat T M) → place.table_id ≡ table → place.me ≡ (seat_view 1 wanted [] [] [] [], []) → IsFresh table wanted (record { place = place })
+  sits_fresh table wanted place at is = let nothing : place.me.0.claimed ≡ [] = ap (λ (m : Seated T M). m.0.claimed) is in (
     record {
       same_table = at;
       same_values = ap (λ (m : Seated T M). m.0.wanted) is;
-      present = (let e : place.me.0.parts ≡ parts = ap (λ (m : Seated T M). m.0.parts) is in omega arith);
+      one = ap (λ (m : Seated T M). m.0.parts) is;
       lifts_none = ap (λ (m : Seated T M). m.0.lifting) is;
       free = λ _. ap (λ (m : Seated T M). m.1) is;
       holding = λ k e. let l = ap length (sym nothing ∙ e) in absurd (omega arith);
     },
     nothing,
+    ap (λ (m : Seated T M). m.0.placed) is,
     ap (λ (m : Seated T M). m.0.lifted) is,
   )
 
-  pub one_seat_more : (table : TableId) (wanted : List M) (seats longer : List (Seat T M)) (place : TableSeat T M) (parts : ℕ) → longer ≡ seats ++ record { place = place } ∷ []
-      → All (IsFresh table wanted) seats → 0 < parts → place.table_id ≡ table → place.me ≡ (seat_view parts wanted [] [] [], []) → All (IsFresh table wanted) longer
-  one_seat_more table wanted seats longer place parts is all some_part at fresh =
-      let seat : Seat T M = record { place = place } in All-same (IsFresh table wanted) longer (seats ++ seat ∷ []) is (All-push (IsFresh table wanted) seats seat all (sits_fresh table wanted place parts some_part at fresh))
+  pub one_seat_more : (table : TableId) (wanted : List M) (seats longer : List (Seat T M)) (place : TableSeat T M) → longer ≡ seats ++ record { place = place } ∷ []
+      → All (IsFresh table wanted) seats → place.table_id ≡ table → place.me ≡ (seat_view 1 wanted [] [] [] [], []) → All (IsFresh table wanted) longer
+  one_seat_more table wanted seats longer place is all at fresh =
+      let seat : Seat T M = record { place = place } in All-same (IsFresh table wanted) longer (seats ++ seat ∷ []) is (All-push (IsFresh table wanted) seats seat all (sits_fresh table wanted place at fresh))
 
   pub one_longer : (seats longer : List (Seat T M)) (seat : Seat T M) (n : ℕ) → longer ≡ seats ++ seat ∷ [] → length seats + 1 ≡ n → length longer ≡ n
   one_longer seats longer seat n is was = let l = ap length is ∙ length-append seats (seat ∷ []) in omega arith
 
-  pub cut_again : (me next : Seated T M) (wanted : List M) (a b : ℕ) → a - 1 ≡ b → me ≡ (seat_view a wanted [] [] [], []) → next ≡ (left_over me.0, me.1) → next ≡ (seat_view b wanted [] [] [], [])
-  cut_again me next wanted a b down was is = is ∙ (ap (λ (m : Seated T M). (left_over m.0, m.1)) was ∙ ap (λ (n : ℕ). (seat_view n wanted [] [] [], [])) down)
+  pub cut_again : (me next : Seated T M) (wanted : List M) (a b : ℕ) → a - 1 ≡ b → me ≡ (seat_view a wanted [] [] [] [], []) → next ≡ (left_over me.0, me.1) → next ≡ (seat_view b wanted [] [] [] [], [])
+  cut_again me next wanted a b down was is = is ∙ (ap (λ (m : Seated T M). (left_over m.0, m.1)) was ∙ ap (λ (n : ℕ). (seat_view n wanted [] [] [] [], [])) down)
 
-  pub cut_off : (me new : Seated T M) (wanted : List M) (a : ℕ) → me ≡ (seat_view a wanted [] [] [], []) → new ≡ (one_part me.0, []) → new ≡ (seat_view 1 wanted [] [] [], [])
+  pub cut_off : (me new : Seated T M) (wanted : List M) (a : ℕ) → me ≡ (seat_view a wanted [] [] [] [], []) → new ≡ (one_part me.0, []) → new ≡ (seat_view 1 wanted [] [] [] [], [])
   cut_off me new wanted a was is = is ∙ ap (λ (m : Seated T M). (one_part m.0, [])) was
 
-  abbrev Lifts : ℕ → Seat T M → ℕ
-  Lifts k s = times k (lifted_of s)
+  pub last_left : (me : Seated T M) (wanted : List M) (a b : ℕ) → a ≡ b → me ≡ (seat_view a wanted [] [] [] [], []) → me ≡ (seat_view b wanted [] [] [] [], [])
+  last_left me wanted a b same is = is ∙ ap (λ (n : ℕ). (seat_view n wanted [] [] [] [], [])) same
 
-  -- the pieces that two seats lifted, one after the other
-  pub both_lifted : (k : ℕ) (me next : Seated T M) (seats rest : List (Seat T M)) (seat : Seat T M) (all : ℕ) → seats ≡ rest ++ seat ∷ [] → next ≡ (joined me.0 seat.place.me.0, me.1)
-      → times k me.0.lifted + sum_by (Lifts k) seats ≡ all → times k next.0.lifted + sum_by (Lifts k) rest ≡ all
-  both_lifted k me next seats rest seat all cut is was =
-      let a : sum_by (Lifts k) seats ≡ sum_by (Lifts k) rest + Lifts k seat = ap (sum_by (Lifts k)) cut ∙ sum_by_push (Lifts k) rest seat in
-      let b : times k next.0.lifted ≡ times k me.0.lifted + Lifts k seat = ap (λ (m : Seated T M). times k m.0.lifted) is ∙ times-append k me.0.lifted seat.place.me.0.lifted in omega arith
+  -- what two seats count, one after the other
+  pub both_counted : (f : Seat T M → ℕ) (n m : ℕ) (seats rest : List (Seat T M)) (seat : Seat T M) (all : ℕ) → seats ≡ rest ++ seat ∷ [] → m ≡ n + f seat → n + sum_by f seats ≡ all → m + sum_by f rest ≡ all
+  both_counted f n m seats rest seat all cut is was = let a : sum_by f seats ≡ sum_by f rest + f seat = ap (sum_by f) cut ∙ sum_by_push f rest seat in omega (arith, a, is, was)
 
-  pub first_lifted : (k : ℕ) (first : Seat T M) (seats rest : List (Seat T M)) → seats ≡ rest ++ first ∷ [] → times k first.place.me.0.lifted + sum_by (Lifts k) rest ≡ sum_by (Lifts k) seats
-  first_lifted k first seats rest cut = let a : sum_by (Lifts k) seats ≡ sum_by (Lifts k) rest + Lifts k first = ap (sum_by (Lifts k)) cut ∙ sum_by_push (Lifts k) rest first in omega arith
+  pub first_counted : (f : Seat T M → ℕ) (first : Seat T M) (seats rest : List (Seat T M)) → seats ≡ rest ++ first ∷ [] → f first + sum_by f rest ≡ sum_by f seats
+  first_counted f first seats rest cut = let a : sum_by f seats ≡ sum_by f rest + f first = ap (sum_by f) cut ∙ sum_by_push f rest first in omega (arith, a)
 
-  pub sum_nothing : (f : Seat T M → ℕ) (xs : List (Seat T M)) → length xs ≡ 0 → sum_by f xs ≡ 0
-  sum_nothing f [] e = refl
-  sum_nothing f (x ∷ xs) e = absurd (omega arith)
+  pub at_end : (f : Seat T M → ℕ) (seats all : List (Seat T M)) (n : ℕ) → length seats ≡ 0 → n + sum_by f seats ≡ sum_by f all → sum_by f all ≡ n
+  at_end f [] all n none_left is = omega (arith, is)
+  at_end f (x ∷ xs) all n none_left is = absurd (omega (arith, none_left))
 
 module _ {T M J : Type 0} (value : J → ℕ → M) (count : J → ℕ) where
   -- all seats of a table are new ones of the ring whose key is the job
   pub new_seats : (table : TableId) (key job : J) (seats : List (Seat T M)) → key ≡ job → count job ≤ 2 ^ 60 → All (IsFresh table (values_of (value job) (count job))) seats
-      → All (λ s. ((count key ≤ 2 ^ 60) × Sits table (values_of (value key) (count key)) s) × (claimed_of s ≡ []) × (lifted_of s ≡ [])) seats
-  new_seats table key job seats is few all = subst (λ (j : J). All (λ s. ((count j ≤ 2 ^ 60) × Sits table (values_of (value j) (count j)) s) × (claimed_of s ≡ []) × (lifted_of s ≡ [])) seats) (sym is)
-      (λ k d inside. let s = all k d inside in ((few, s.0), s.1, s.2))
+      → All (λ s. ((count key ≤ 2 ^ 60) × Sits table (values_of (value key) (count key)) s) × (claimed_of s ≡ []) × (placed_of s ≡ []) × (lifted_of s ≡ [])) seats
+  new_seats table key job seats is few all = subst (λ (j : J). All (λ s. ((count j ≤ 2 ^ 60) × Sits table (values_of (value j) (count j)) s) × (claimed_of s ≡ []) × (placed_of s ≡ []) × (lifted_of s ≡ [])) seats) (sym is)
+      (λ k d inside. let s = all k d inside in ((few, s.0), s.1, s.2, s.3))
 
   pub seats_back : (ring : Ring T M J) (seats rest : List (Seat T M)) (seat : Seat T M) → seats ≡ rest ++ seat ∷ [] → All (λ s. IsSeatOf value count ring s × (claimed_of s ≡ [])) seats
       → All (λ s. IsSeatOf value count ring s × (claimed_of s ≡ [])) rest × (IsSeatOf value count ring seat × (claimed_of seat ≡ []))

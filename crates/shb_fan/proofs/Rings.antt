@@ -1,21 +1,21 @@
 -- Each step of a seat keeps the rule of the ring's table.
-use Rattle.std.proofs.Common.{◌≡◌, ◌≢◌, ℕ, ◌+◌, ◌*◌, ◌/◌, ◌%◌, ◌<◌, ◌≤◌, Bool, eqb, List, [], ◌∷◌, ◌++◌, length, get_or, set, sym, refl, ap, ◌∙◌, subst, ⊎_elim, arith, replicate, Some, None, slice_get, length-set, get_or-set_same, get_or-set_other}
+use Rattle.std.proofs.Common.{◌≡◌, ◌≢◌, ℕ, ◌+◌, ◌-◌, ◌*◌, ◌/◌, ◌%◌, ◌<◌, ◌≤◌, Bool, eqb, List, [], ◌∷◌, ◌++◌, length, get_or, set, sym, refl, ap, ◌∙◌, subst, ⊎_elim, arith, replicate, Some, None, slice_get, length-set, get_or-set_same, get_or-set_other}
 use Rattle.std.proofs.lemmas.List.{length-map, length-replicate}
 use Rattle.std.proofs.lemmas.Grind.{get_or-set_at}
 use Rattle.std.specs.Prelude.{Option}
 use mathlib.Core.Logic.{dite}
 use mathlib.Core.Option.{none, some, some-ne-none}
 use mathlib.Core.Option as maybe
-use native.Mathlib.Decide.{ℕ_discrete}
+use native.Mathlib.Decide.{ℕ_discrete, dec_lt}
 use prog.Atomic.{either}
 use lib.ListN.{get_elem?}
 use Rattle.atomic_table.specs.Table.{State, Me, Act, step, keeps, takes, gives, stepped, carried_after, Valid, Allows, Splits, Joins, Final, Seen, opening}
 use Rattle.atomic_table.proofs.Lists.{at_set, at_snoc, some_there, set_here, set_else, exchanged}
 use Rattle.shb_fan.specs.declared.ring_table.SeatView.{SeatView}
 use Rattle.shb_fan.specs.Numbers.{weight, times, total}
-use Rattle.shb_fan.specs.Slots.{is_claimed, is_lifting, is_lifted, seat_view, parts_of, claimed_by, lifting_by, lifted_by, Counts, SlotKept, Kept, claiming, placing, raising, freeing, left_over, one_part, joined, spent_seat_view, claimed, placed, raised, freed}
-use Rattle.shb_fan.proofs.Counts.{weight-most, total-set, total-snoc, total-at, times-append, times-snoc}
-use Rattle.shb_fan.proofs.Words.{equal_one, unequal_none, equal_from, reached_one, unreached_none, claim_apart, lift_apart, lifted_apart}
+use Rattle.shb_fan.specs.Slots.{is_claimed, is_placed, is_lifting, is_lifted, seat_view, parts_of, claimed_by, placed_by, lifting_by, lifted_by, Counts, HasNothing, SlotKept, Kept, claiming, placing, raising, freeing, left_over, one_part, joined, spent_seat_view, claimed, placed, raised, freed}
+use Rattle.shb_fan.proofs.Counts.{weight-most, total-set, total-snoc, total-at, total-whole, times-append, times-snoc}
+use Rattle.shb_fan.proofs.Words.{equal_one, unequal_none, equal_from, reached_one, unreached_none, claim_apart, lift_apart, lifted_apart, placed_apart}
 
 times_one : (k : ℕ) → times k (k ∷ []) ≡ 1
 times_one k = let e = equal_one k k refl in omega arith
@@ -72,17 +72,22 @@ module _ {M : Type 0} where
       found = get_or s.words (k % 64) 0
 
       -- the seat's view changes by a step on the word of piece k and its slot
-      moved : (new : ℕ) (w : SeatView M) (homes' : Homes) → length homes' ≡ 64 → ((j : ℕ) → j ≢ k % 64 → get_elem? homes' j ≡ get_elem? s.homes j) → Fits homes' (k % 64) new → w.parts ≡ v.parts → w.wanted ≡ v.wanted
-          → Counts claimed_by is_claimed (set s.words (k % 64) new) (set s.views id w) → Counts lifting_by is_lifting (set s.words (k % 64) new) (set s.views id w) → Counts lifted_by is_lifted (set s.words (k % 64) new) (set s.views id w)
+      moved : (new : ℕ) (w : SeatView M) (homes' : Homes) → length homes' ≡ 64 → ((j : ℕ) → j ≢ k % 64 → get_elem? homes' j ≡ get_elem? s.homes j) → Fits homes' (k % 64) new → w.parts ≡ v.parts → w.wanted ≡ v.wanted → HasNothing w
+          → Counts claimed_by is_claimed (set s.words (k % 64) new) (set s.views id w) → Counts placed_by is_placed (set s.words (k % 64) new) (set s.views id w) → Counts lifting_by is_lifting (set s.words (k % 64) new) (set s.views id w) → Counts lifted_by is_lifted (set s.words (k % 64) new) (set s.views id w)
           → Kept meaning wanted (record { words = set s.words (k % 64) new; homes = homes'; views = set s.views id w })
-      moved new w homes' deep others mine parts values claims lifts lifted = record {
+      moved new w homes' deep others mine parts values empty claims places_ lifts lifted = record {
         wide = length-set s.words (k % 64) new ∙ r.wide;
         deep = deep;
         slots = reslot s.words s.homes homes' (k % 64) new (omega arith) r.wide r.slots others mine;
         parts = (let t = total-set parts_of s.views id v w at in let p = r.parts in omega arith);
         claims = claims;
+        each_placed = places_;
         lifts = lifts;
         each_lifted = lifted;
+        nothing = λ i u e. ⊎_elim
+            (λ (t : (i ≡ id) × (w ≡ u)). subst HasNothing t.1 empty)
+            (λ (t : (i ≢ id) × (get_elem? s.views i ≡ some u)). r.nothing i u t.1)
+            (at_set s.views id i w u e);
         same = λ i u e some_part. ⊎_elim
             (λ (t : (i ≡ id) × (w ≡ u)). let one : u.parts ≡ w.parts = ap (λ (b : SeatView M). b.parts) (sym t.1) in ap (λ (b : SeatView M). b.wanted) (sym t.1) ∙ (values ∙ r.same id v at (omega arith)))
             (λ (t : (i ≢ id) × (get_elem? s.views i ≡ some u)). r.same i u t.1 some_part)
@@ -91,8 +96,9 @@ module _ {M : Type 0} where
 
       -- nothing changes
       stays : Kept meaning wanted (record { words = set s.words (k % 64) found; homes = s.homes; views = set s.views id v })
-      stays = let w = r.wide in moved found v s.homes r.deep (λ j ne. refl) (r.slots (k % 64) (omega arith)) refl refl
+      stays = let w = r.wide in moved found v s.homes r.deep (λ j ne. refl) (r.slots (k % 64) (omega arith)) refl refl (r.nothing id v at)
           (recount claimed_by is_claimed s.words s.views id v v k found at r.wide r.claims refl (λ x ne. refl) (λ x ne e. refl))
+          (recount placed_by is_placed s.words s.views id v v k found at r.wide r.each_placed refl (λ x ne. refl) (λ x ne e. refl))
           (recount lifting_by is_lifting s.words s.views id v v k found at r.wide r.lifts refl (λ x ne. refl) (λ x ne e. refl))
           (recount lifted_by is_lifted s.words s.views id v v k found at r.wide r.each_lifted refl (λ x ne. refl) (λ x ne e. refl))
 
@@ -102,11 +108,15 @@ module _ {M : Type 0} where
       gets_claimed : found ≡ 4 * k → v.claimed ≡ [] → Kept meaning wanted (record { words = set s.words (k % 64) (4 * k + 1); homes = set s.homes (k % 64) none; views = set s.views id (claiming v k) })
       gets_claimed is free = let none_here : times k v.claimed ≡ 0 = ap (times k) free in let one = times_one k in
           moved (4 * k + 1) (claiming v k) (set s.homes (k % 64) none) (length-set s.homes (k % 64) none ∙ r.deep) (others_set none)
-          (record { here = ap (λ (n : ℕ). n % 64) (let q : (4 * k + 1) / 4 ≡ k = omega arith in q); empty = λ z. absurd (omega arith); full = λ z. absurd (omega arith) }) refl refl
+          (record { here = ap (λ (n : ℕ). n % 64) (let q : (4 * k + 1) / 4 ≡ k = omega arith in q); empty = λ z. absurd (omega arith); full = λ z. absurd (omega arith) }) refl refl (r.nothing id v at)
           (recount claimed_by is_claimed s.words s.views id v (claiming v k) k (4 * k + 1) at r.wide r.claims
           (let a = unequal_none found (4 * k + 1) (omega arith) in let b = equal_one (4 * k + 1) (4 * k + 1) refl in omega arith)
           (λ x ne. let t = times_other x k ne in let e : times x v.claimed ≡ 0 = ap (times x) free in omega arith)
           (λ x ne same. claim_apart x k found (4 * k + 1) ne (omega arith) (λ _. omega arith)))
+          (recount placed_by is_placed s.words s.views id v (claiming v k) k (4 * k + 1) at r.wide r.each_placed
+          (let a = unreached_none (4 * k + 2) found (omega arith) in let b = unreached_none (4 * k + 2) (4 * k + 1) (omega arith) in omega arith)
+          (λ x ne. refl)
+          (λ x ne same. placed_apart x k found (4 * k + 1) ne same (omega arith) (omega arith) (omega arith) (omega arith)))
           (recount lifting_by is_lifting s.words s.views id v (claiming v k) k (4 * k + 1) at r.wide r.lifts
           (let a = unequal_none found (4 * k + 3) (omega arith) in let b = unequal_none (4 * k + 1) (4 * k + 3) (omega arith) in omega arith)
           (λ x ne. refl)
@@ -121,19 +131,23 @@ module _ {M : Type 0} where
       finds_claimed mine = let here : times k v.claimed ≡ 1 = ap (times k) mine ∙ times_one k in let c = r.claims k in let least = total-at (λ u. times k (claimed_by u)) s.views id v at in
           equal_from found (4 * k + 1) (omega arith)
 
-      gets_placed : v.claimed ≡ k ∷ [] → (x : T) → slice_get wanted k ≡ Some (meaning x)
+      gets_placed : 0 < v.parts → v.claimed ≡ k ∷ [] → (x : T) → slice_get wanted k ≡ Some (meaning x)
           → Kept meaning wanted (record { words = set s.words (k % 64) (4 * k + 2); homes = set s.homes (k % 64) (some (Some x)); views = set s.views id (placing v) })
-      gets_placed mine x right = let is : found ≡ 4 * k + 1 = finds_claimed mine in let piece : (4 * k + 2) / 4 ≡ k = omega arith in let d = r.deep in
+      gets_placed some_part mine x right = let is : found ≡ 4 * k + 1 = finds_claimed mine in let piece : (4 * k + 2) / 4 ≡ k = omega arith in let d = r.deep in
           moved (4 * k + 2) (placing v) (set s.homes (k % 64) (some (Some x))) (length-set s.homes (k % 64) (some (Some x)) ∙ r.deep) (others_set (some (Some x)))
           (record {
             here = ap (λ (n : ℕ). n % 64) piece;
             empty = λ z. absurd (omega arith);
             full = λ z. (x, set_here s.homes (k % 64) (some (Some x)) (omega arith), ap (λ (n : ℕ). slice_get wanted n) piece ∙ right);
-          }) refl refl
+          }) refl refl (λ e. absurd (omega (arith, e, some_part)))
           (recount claimed_by is_claimed s.words s.views id v (placing v) k (4 * k + 2) at r.wide r.claims
           (let here : times k v.claimed ≡ 1 = ap (times k) mine ∙ times_one k in let a = equal_one found (4 * k + 1) is in let b = unequal_none (4 * k + 2) (4 * k + 1) (omega arith) in omega arith)
           (λ x ne. let t : times x v.claimed ≡ 0 = ap (times x) mine ∙ times_other x k ne in omega arith)
           (λ x ne same. claim_apart x k found (4 * k + 2) ne (omega arith) (λ _. omega arith)))
+          (recount placed_by is_placed s.words s.views id v (placing v) k (4 * k + 2) at r.wide r.each_placed
+          (let more = times-append k v.placed v.claimed in let one : times k v.claimed ≡ 1 = ap (times k) mine ∙ times_one k in let a = unreached_none (4 * k + 2) found (omega arith) in let b = reached_one (4 * k + 2) (4 * k + 2) (omega arith) in omega arith)
+          (λ x ne. let more = times-append x v.placed v.claimed in let t : times x v.claimed ≡ 0 = ap (times x) mine ∙ times_other x k ne in omega arith)
+          (λ x ne same. placed_apart x k found (4 * k + 2) ne same (omega arith) (omega arith) (omega arith) (omega arith)))
           (recount lifting_by is_lifting s.words s.views id v (placing v) k (4 * k + 2) at r.wide r.lifts
           (let a = unequal_none found (4 * k + 3) (omega arith) in let b = unequal_none (4 * k + 2) (4 * k + 3) (omega arith) in omega arith)
           (λ x ne. refl)
@@ -143,14 +157,18 @@ module _ {M : Type 0} where
           (λ x ne. refl)
           (λ x ne same. lifted_apart x k found (4 * k + 2) ne same (omega arith) (omega arith) (omega arith) (omega arith)))
 
-      gets_raised : found ≡ 4 * k + 2 → v.lifting ≡ [] → Kept meaning wanted (record { words = set s.words (k % 64) (4 * k + 3); homes = set s.homes (k % 64) none; views = set s.views id (raising v k) })
-      gets_raised is free = let none_here : times k v.lifting ≡ 0 = ap (times k) free in let one = times_one k in
+      gets_raised : 0 < v.parts → found ≡ 4 * k + 2 → v.lifting ≡ [] → Kept meaning wanted (record { words = set s.words (k % 64) (4 * k + 3); homes = set s.homes (k % 64) none; views = set s.views id (raising v k) })
+      gets_raised some_part is free = let none_here : times k v.lifting ≡ 0 = ap (times k) free in let one = times_one k in
           moved (4 * k + 3) (raising v k) (set s.homes (k % 64) none) (length-set s.homes (k % 64) none ∙ r.deep) (others_set none)
-          (record { here = ap (λ (n : ℕ). n % 64) (let q : (4 * k + 3) / 4 ≡ k = omega arith in q); empty = λ z. absurd (omega arith); full = λ z. absurd (omega arith) }) refl refl
+          (record { here = ap (λ (n : ℕ). n % 64) (let q : (4 * k + 3) / 4 ≡ k = omega arith in q); empty = λ z. absurd (omega arith); full = λ z. absurd (omega arith) }) refl refl (λ e. absurd (omega (arith, e, some_part)))
           (recount claimed_by is_claimed s.words s.views id v (raising v k) k (4 * k + 3) at r.wide r.claims
           (let a = unequal_none found (4 * k + 1) (omega arith) in let b = unequal_none (4 * k + 3) (4 * k + 1) (omega arith) in omega arith)
           (λ x ne. refl)
           (λ x ne same. claim_apart x k found (4 * k + 3) ne (omega arith) (λ _. omega arith)))
+          (recount placed_by is_placed s.words s.views id v (raising v k) k (4 * k + 3) at r.wide r.each_placed
+          (let a = reached_one (4 * k + 2) found (omega arith) in let b = reached_one (4 * k + 2) (4 * k + 3) (omega arith) in omega arith)
+          (λ x ne. refl)
+          (λ x ne same. placed_apart x k found (4 * k + 3) ne same (omega arith) (omega arith) (omega arith) (omega arith)))
           (recount lifting_by is_lifting s.words s.views id v (raising v k) k (4 * k + 3) at r.wide r.lifts
           (let a = unequal_none found (4 * k + 3) (omega arith) in let b = equal_one (4 * k + 3) (4 * k + 3) refl in omega arith)
           (λ x ne. let t = times_other x k ne in let e : times x v.lifting ≡ 0 = ap (times x) free in omega arith)
@@ -175,11 +193,15 @@ module _ {M : Type 0} where
             here = ap (λ (n : ℕ). n % 64) piece ∙ (let turn : (k + 64) % 64 ≡ k % 64 = omega arith in turn);
             empty = λ z. (x, set_here s.homes (k % 64) (some x) (omega arith));
             full = λ z. absurd (omega arith);
-          }) refl refl
+          }) refl refl (r.nothing id v at)
           (recount claimed_by is_claimed s.words s.views id v (freeing v) k (4 * (k + 64)) at r.wide r.claims
           (let a = unequal_none found (4 * k + 1) (omega arith) in let b = unequal_none (4 * (k + 64)) (4 * k + 1) (omega arith) in omega arith)
           (λ x ne. refl)
           (λ x ne same. claim_apart x k found (4 * (k + 64)) ne (omega arith) (λ h. absurd (h (omega arith)))))
+          (recount placed_by is_placed s.words s.views id v (freeing v) k (4 * (k + 64)) at r.wide r.each_placed
+          (let a = reached_one (4 * k + 2) found (omega arith) in let b = reached_one (4 * k + 2) (4 * (k + 64)) (omega arith) in omega arith)
+          (λ x ne. refl)
+          (λ x ne same. placed_apart x k found (4 * (k + 64)) ne same (omega arith) (omega arith) (omega arith) (omega arith)))
           (recount lifting_by is_lifting s.words s.views id v (freeing v) k (4 * (k + 64)) at r.wide r.lifts
           (let here : times k v.lifting ≡ 1 = ap (times k) mine ∙ times_one k in let a = equal_one found (4 * k + 3) is in let b = unequal_none (4 * (k + 64)) (4 * k + 3) (omega arith) in omega arith)
           (λ x ne. let t : times x v.lifting ≡ 0 = ap (times x) mine ∙ times_other x k ne in omega arith)
@@ -208,13 +230,13 @@ module _ {M : Type 0} where
         ))
         (λ ne. (me.0, keeps, tt, stays s r id me.0 at k, ((λ is. absurd (ne is)), λ _. refl)))
 
-    pub places : (slots id : ℕ) (me : Seated) (k : ℕ) (x : T) (others : List (ℕ × Option T)) → me.0.claimed ≡ k ∷ [] → me.1 ≡ (k % 64, Some x) ∷ others → slice_get wanted k ≡ Some (meaning x)
+    pub places : (slots id : ℕ) (me : Seated) (k : ℕ) (x : T) (others : List (ℕ × Option T)) → 0 < me.0.parts → me.0.claimed ≡ k ∷ [] → me.1 ≡ (k % 64, Some x) ∷ others → slice_get wanted k ≡ Some (meaning x)
         → Allows Holds slots id me (k % 64) (λ _. 4 * k + 2) (λ _. placed (step slots (k % 64) (4 * k + 2) 0 none) me (4 * k + 2))
-    places slots id me k x others mine carried right s r _ at _ = (
+    places slots id me k x others some_part mine carried right s r _ at _ = (
       placing me.0,
       gives,
       tt,
-      subst (λ (c : List (ℕ × Option T)). Holds (stepped s (k % 64) (4 * k + 2) id c (placing me.0) gives)) (sym carried) (gets_placed s r id me.0 at k mine x right),
+      subst (λ (c : List (ℕ × Option T)). Holds (stepped s (k % 64) (4 * k + 2) id c (placing me.0) gives)) (sym carried) (gets_placed s r id me.0 at k some_part mine x right),
       refl,
     )
 
@@ -225,7 +247,7 @@ module _ {M : Type 0} where
           raising me.0 k,
           takes (k % 64) (Some home.0),
           home.1,
-          subst (λ (m : ℕ). Holds (stepped s (k % 64) m id me.1 (raising me.0 k) (takes (k % 64) (Some home.0)))) (let up : 4 * k + 3 ≡ 4 * k + 2 + 1 = omega arith in up) (gets_raised s r id me.0 at k is free),
+          subst (λ (m : ℕ). Holds (stepped s (k % 64) m id me.1 (raising me.0 k) (takes (k % 64) (Some home.0)))) (let up : 4 * k + 3 ≡ 4 * k + 2 + 1 = omega arith in up) (gets_raised s r id me.0 at k some_part is free),
           (
             (λ _. (
               home.0,
@@ -257,8 +279,16 @@ module _ {M : Type 0} where
           slots = r.slots;
           parts = (let b = both parts_of in let p = r.parts in omega arith);
           claims = λ k. let b = both (λ x. times k (claimed_by x)) in let c = r.claims k in omega arith;
+          each_placed = λ k. let b = both (λ x. times k (placed_by x)) in let c = r.each_placed k in omega arith;
           lifts = λ k. let b = both (λ x. times k (lifting_by x)) in let c = r.lifts k in omega arith;
           each_lifted = λ k. let b = both (λ x. times k (lifted_by x)) in let c = r.each_lifted k in omega arith;
+          nothing = λ i x e. ⊎_elim
+              (λ (t : get_elem? cut i ≡ some x). ⊎_elim
+              (λ (h : (i ≡ id) × (w ≡ x)). subst HasNothing h.1 (λ none_left. absurd (let p : v.parts - 1 ≡ 0 = none_left in omega (arith, p, more))))
+              (λ (h : (i ≢ id) × (get_elem? s.views i ≡ some x)). r.nothing i x h.1)
+              (at_set s.views id i w x t))
+              (λ (t : u ≡ x). subst HasNothing t (λ none_left. (refl, refl)))
+              (at_snoc cut u x i e);
           same = λ i x e some_part. ⊎_elim
               (λ (t : get_elem? cut i ≡ some x). ⊎_elim
               (λ (h : (i ≡ id) × (w ≡ x)). ap (λ (b : SeatView M). b.wanted) (sym h.1) ∙ r.same id v at (omega arith))
@@ -277,8 +307,16 @@ module _ {M : Type 0} where
           slots = r.slots;
           parts = (let b = both parts_of in let p = r.parts in omega arith);
           claims = λ k. let b = both (λ x. times k (claimed_by x)) in let t = times-append k v.claimed w.claimed in let c = r.claims k in omega arith;
+          each_placed = λ k. let b = both (λ x. times k (placed_by x)) in let t = times-append k v.placed w.placed in let c = r.each_placed k in omega arith;
           lifts = λ k. let b = both (λ x. times k (lifting_by x)) in let t = times-append k v.lifting w.lifting in let c = r.lifts k in omega arith;
           each_lifted = λ k. let b = both (λ x. times k (lifted_by x)) in let t = times-append k v.lifted w.lifted in let c = r.each_lifted k in omega arith;
+          nothing = λ i x e. ⊎_elim
+              (λ (t : (i ≡ other) × (spent_seat_view ≡ x)). subst HasNothing t.1 (λ _. (refl, refl)))
+              (λ (t : (i ≢ other) × (get_elem? made i ≡ some x)). ⊎_elim
+              (λ (h : (i ≡ id) × (u ≡ x)). subst HasNothing h.1 (λ none_left. absurd (let p : v.parts + w.parts ≡ 0 = none_left in omega (arith, p, some_part))))
+              (λ (h : (i ≢ id) × (get_elem? s.views i ≡ some x)). r.nothing i x h.1)
+              (at_set s.views id i u x t.1))
+              (at_set made other i spent_seat_view x e);
           same = λ i x e some_of. ⊎_elim
               (λ (t : (i ≡ other) × (spent_seat_view ≡ x)). let none_of : x.parts ≡ 0 = ap (λ (b : SeatView M). b.parts) (sym t.1) in absurd (omega arith))
               (λ (t : (i ≢ other) × (get_elem? made i ≡ some x)). ⊎_elim
@@ -289,7 +327,7 @@ module _ {M : Type 0} where
         }
 
     -- the table as it opens
-    pub opens : (words : List ℕ) → length words ≡ 64 → ((i : ℕ) → i < 64 → get_or words i 0 ≡ 4 * i) → Holds (opening words (replicate 64 None) (seat_view 65 wanted [] [] []))
+    pub opens : (words : List ℕ) → length words ≡ 64 → ((i : ℕ) → i < 64 → get_or words i 0 ≡ 4 * i) → Holds (opening words (replicate 64 None) (seat_view 65 wanted [] [] [] []))
     opens words wide begins = let empty : List (Option T) = replicate 64 None in record {
       wide = wide;
       deep = length-map empty some ∙ length-replicate {A = Option T} 64 None;
@@ -300,11 +338,47 @@ module _ {M : Type 0} where
       };
       parts = omega arith;
       claims = λ k. let b = begins (k % 64) (omega arith) in let z = unequal_none (get_or words (k % 64) 0) (4 * k + 1) (omega arith) in omega arith;
+      each_placed = λ k. let b = begins (k % 64) (omega arith) in let z = unreached_none (4 * k + 2) (get_or words (k % 64) 0) (omega arith) in omega arith;
       lifts = λ k. let b = begins (k % 64) (omega arith) in let z = unequal_none (get_or words (k % 64) 0) (4 * k + 3) (omega arith) in omega arith;
       each_lifted = λ k. let b = begins (k % 64) (omega arith) in let z = unreached_none (4 * k + 3) (get_or words (k % 64) 0) (omega arith) in omega arith;
-      same = λ i v e some_part. ⊎_elim (λ (t : get_elem? [] i ≡ some v). absurd (some-ne-none v (sym t))) (λ (t : seat_view 65 wanted [] [] [] ≡ v). ap (λ (b : SeatView M). b.wanted) (sym t)) (at_snoc [] (seat_view 65 wanted [] [] []) v i e);
+      nothing = λ i v e. ⊎_elim (λ (t : get_elem? [] i ≡ some v). absurd (some-ne-none v (sym t))) (λ (t : seat_view 65 wanted [] [] [] [] ≡ v). subst HasNothing t (λ _. (refl, refl))) (at_snoc [] (seat_view 65 wanted [] [] [] []) v i e);
+      same = λ i v e some_part. ⊎_elim (λ (t : get_elem? [] i ≡ some v). absurd (some-ne-none v (sym t))) (λ (t : seat_view 65 wanted [] [] [] [] ≡ v). ap (λ (b : SeatView M). b.wanted) (sym t)) (at_snoc [] (seat_view 65 wanted [] [] [] []) v i e);
     }
 
-    -- no piece stands twice among those that a seat has lifted
-    pub lifted_once : (id : ℕ) (v : SeatView M) (ws : List ℕ) (xs : List (Option T)) → Final (Seen Holds id v) ws xs → (k : ℕ) → times k v.lifted ≤ 1
-    lifted_once id v ws xs f k = let s = f.0 in let c = f.1.0.each_lifted k in let least = total-at (λ u. times k (lifted_by u)) s.views id v f.1.1 in let most = weight-most (is_lifted (get_or s.words (k % 64) 0) k) in omega arith
+    -- of a seat that stands for all, once the table has come to its end
+    module _ (id : ℕ) (v : SeatView M) (ws : List ℕ) (xs : List (Option T)) (f : Final (Seen Holds id v) ws xs) (whole : v.parts ≡ 65) where
+      abbrev last : ℕ → ℕ
+      last k = get_or f.0.words (k % 64) 0
+
+      all_of : (g : SeatView M → ℕ) → ((u : SeatView M) → (u.placed ≡ []) × (u.lifted ≡ []) → g u ≡ 0) → total g f.0.views ≡ g v
+      all_of g none_of = let s = f.0 in let kept = f.1.0 in
+          total-whole parts_of g s.views id v f.1.1 (kept.parts ∙ sym whole) (λ i w e empty. none_of w (kept.nothing i w e empty))
+
+      placed_is : (k : ℕ) → times k v.placed ≡ weight (is_placed (last k) k)
+      placed_is k = sym (all_of (λ u. times k (placed_by u)) (λ u empty. ap (times k) empty.0)) ∙ f.1.0.each_placed k
+
+      lifted_is : (k : ℕ) → times k v.lifted ≡ weight (is_lifted (last k) k)
+      lifted_is k = sym (all_of (λ u. times k (lifted_by u)) (λ u empty. ap (times k) empty.1)) ∙ f.1.0.each_lifted k
+
+      -- no piece was placed twice
+      pub placed_once : (k : ℕ) → times k v.placed ≤ 1
+      placed_once k = let is = placed_is k in let most = weight-most (is_placed (last k) k) in omega (arith, is, most)
+
+      -- what was lifted was placed
+      pub lifted_placed : (k : ℕ) → times k v.lifted ≤ times k v.placed
+      lifted_placed k = let a = placed_is k in let b = lifted_is k in dite (dec_lt (last k) (4 * k + 3))
+          (λ l. let z = unreached_none (4 * k + 3) (last k) l in omega (arith, a, b, z))
+          (λ l. let y = reached_one (4 * k + 2) (last k) (omega (arith, l)) in let most = weight-most (is_lifted (last k) k) in omega (arith, a, b, y, most))
+
+      -- the piece 64 before one that was placed was lifted
+      pub placed_after : (k : ℕ) → times (k + 64) v.placed ≤ times k v.lifted
+      placed_after k =
+          let turn : (k + 64) % 64 ≡ k % 64 = omega arith in
+          let same : last (k + 64) ≡ last k = ap (λ (i : ℕ). get_or f.0.words i 0) turn in
+          let a = placed_is (k + 64) ∙ ap (λ (n : ℕ). weight (is_placed n (k + 64))) same in let b = lifted_is k in dite (dec_lt (last k) (4 * (k + 64) + 2))
+          (λ l. let z = unreached_none (4 * (k + 64) + 2) (last k) l in omega (arith, a, z))
+          (λ l. let y = reached_one (4 * k + 3) (last k) (omega (arith, l)) in let most = weight-most (is_placed (last k) (k + 64)) in omega (arith, a, b, y, most))
+
+      -- no piece was lifted twice
+      pub lifted_once : (k : ℕ) → times k v.lifted ≤ 1
+      lifted_once k = let is = lifted_is k in let most = weight-most (is_lifted (last k) k) in omega (arith, is, most)

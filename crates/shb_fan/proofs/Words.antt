@@ -4,7 +4,7 @@ use Rattle.std.proofs.lemmas.Bool.Decides.{nat_tests}
 use mathlib.Core.Logic.{dite}
 use native.Mathlib.Decide.{ℕ_discrete, dec_lt}
 use Rattle.shb_fan.specs.Numbers.{weight}
-use Rattle.shb_fan.specs.Slots.{is_claimed, is_lifting, is_lifted}
+use Rattle.shb_fan.specs.Slots.{is_claimed, is_placed, is_lifting, is_lifted}
 use Rattle.shb_fan.proofs.Counts.{weight-true, weight-false}
 
 pub equal_one : (a b : ℕ) → a ≡ b → weight (eqb a b) ≡ 1
@@ -41,3 +41,8 @@ pub lifted_apart : (x k old new : ℕ) → x ≢ k → x % 64 ≡ k % 64 → 4 *
 lifted_apart x k old new ne same a b c d = dite (dec_lt x k)
     (λ l. let t = turn_before x k l same in reached_one (4 * x + 3) new (omega arith) ∙ sym (reached_one (4 * x + 3) old (omega arith)))
     (λ l. let t = turn_before k x (omega arith) (sym same) in unreached_none (4 * x + 3) new (omega arith) ∙ sym (unreached_none (4 * x + 3) old (omega arith)))
+
+pub placed_apart : (x k old new : ℕ) → x ≢ k → x % 64 ≡ k % 64 → 4 * k ≤ old → old ≤ 4 * k + 256 → 4 * k ≤ new → new ≤ 4 * k + 256 → weight (is_placed new x) ≡ weight (is_placed old x)
+placed_apart x k old new ne same a b c d = dite (dec_lt x k)
+    (λ l. let t = turn_before x k l same in reached_one (4 * x + 2) new (omega arith) ∙ sym (reached_one (4 * x + 2) old (omega arith)))
+    (λ l. let t = turn_before k x (omega arith) (sym same) in unreached_none (4 * x + 2) new (omega arith) ∙ sym (unreached_none (4 * x + 2) old (omega arith)))

@@ -15,6 +15,9 @@ Told T M = Step (Option T) → Me (Option T) (SeatView M) → ℕ → Me (Option
 abbrev pub is_claimed : ℕ → ℕ → Bool
 is_claimed word k = eqb word (4 * k + 1)
 
+abbrev pub is_placed : ℕ → ℕ → Bool
+is_placed word k = leb (4 * k + 2) word
+
 abbrev pub is_lifting : ℕ → ℕ → Bool
 is_lifting word k = eqb word (4 * k + 3)
 
@@ -22,14 +25,17 @@ abbrev pub is_lifted : ℕ → ℕ → Bool
 is_lifted word k = leb (4 * k + 3) word
 
 module _ {M : Type 0} where
-  abbrev pub seat_view : ℕ → List M → List ℕ → List ℕ → List ℕ → SeatView M
-  seat_view parts wanted claimed lifting lifted = record { parts = parts; wanted = wanted; claimed = claimed; lifting = lifting; lifted = lifted }
+  abbrev pub seat_view : ℕ → List M → List ℕ → List ℕ → List ℕ → List ℕ → SeatView M
+  seat_view parts wanted claimed placed lifting lifted = record { parts = parts; wanted = wanted; claimed = claimed; placed = placed; lifting = lifting; lifted = lifted }
 
   abbrev pub parts_of : SeatView M → ℕ
   parts_of v = v.parts
 
   abbrev pub claimed_by : SeatView M → List ℕ
   claimed_by v = v.claimed
+
+  abbrev pub placed_by : SeatView M → List ℕ
+  placed_by v = v.placed
 
   abbrev pub lifting_by : SeatView M → List ℕ
   lifting_by v = v.lifting
@@ -40,6 +46,10 @@ module _ {M : Type 0} where
   -- a piece stands once in the lists of all seats together where its slot's word is so, else nowhere
   abbrev pub Counts : (SeatView M → List ℕ) → (ℕ → ℕ → Bool) → List ℕ → List (SeatView M) → Type 0
   Counts f is words views = (k : ℕ) → total (λ v. times k (f v)) views ≡ weight (is (slice_index words (k % 64)) k)
+
+  -- with no part it has placed and lifted nothing
+  abbrev pub HasNothing : SeatView M → Type 0
+  HasNothing v = v.parts ≡ 0 → (v.placed ≡ []) × (v.lifted ≡ [])
 
   module _ {T : Type 0} (meaning : T → M) where
     -- the slot i, of which an empty one and a placed value are at home
@@ -55,33 +65,35 @@ module _ {M : Type 0} where
       pub slots : (i : ℕ) → i < 64 → SlotKept wanted s.homes i (slice_index s.words i)
       pub parts : total parts_of s.views ≡ 65
       pub claims : Counts claimed_by is_claimed s.words s.views
+      pub each_placed : Counts placed_by is_placed s.words s.views
       pub lifts : Counts lifting_by is_lifting s.words s.views
       pub each_lifted : Counts lifted_by is_lifted s.words s.views
+      pub nothing : (id : ℕ) (v : SeatView M) → get_elem? s.views id ≡ some v → HasNothing v
       pub same : (id : ℕ) (v : SeatView M) → get_elem? s.views id ≡ some v → 0 < v.parts → v.wanted ≡ wanted
 
   abbrev pub claiming : SeatView M → ℕ → SeatView M
-  claiming v k = seat_view v.parts v.wanted (k ∷ []) v.lifting v.lifted
+  claiming v k = seat_view v.parts v.wanted (k ∷ []) v.placed v.lifting v.lifted
 
   abbrev pub placing : SeatView M → SeatView M
-  placing v = seat_view v.parts v.wanted [] v.lifting v.lifted
+  placing v = seat_view v.parts v.wanted [] (v.placed ++ v.claimed) v.lifting v.lifted
 
   abbrev pub raising : SeatView M → ℕ → SeatView M
-  raising v k = seat_view v.parts v.wanted v.claimed (k ∷ []) (v.lifted ++ k ∷ [])
+  raising v k = seat_view v.parts v.wanted v.claimed v.placed (k ∷ []) (v.lifted ++ k ∷ [])
 
   abbrev pub freeing : SeatView M → SeatView M
-  freeing v = seat_view v.parts v.wanted v.claimed [] v.lifted
+  freeing v = seat_view v.parts v.wanted v.claimed v.placed [] v.lifted
 
   abbrev pub left_over : SeatView M → SeatView M
-  left_over v = seat_view (v.parts - 1) v.wanted v.claimed v.lifting v.lifted
+  left_over v = seat_view (v.parts - 1) v.wanted v.claimed v.placed v.lifting v.lifted
 
   abbrev pub one_part : SeatView M → SeatView M
-  one_part v = seat_view 1 v.wanted [] [] []
+  one_part v = seat_view 1 v.wanted [] [] [] []
 
   abbrev pub joined : SeatView M → SeatView M → SeatView M
-  joined v w = seat_view (v.parts + w.parts) v.wanted (v.claimed ++ w.claimed) (v.lifting ++ w.lifting) (v.lifted ++ w.lifted)
+  joined v w = seat_view (v.parts + w.parts) v.wanted (v.claimed ++ w.claimed) (v.placed ++ w.placed) (v.lifting ++ w.lifting) (v.lifted ++ w.lifted)
 
   abbrev pub spent_seat_view : SeatView M
-  spent_seat_view = seat_view 0 [] [] [] []
+  spent_seat_view = seat_view 0 [] [] [] [] []
 
   module _ {T : Type 0} where
     -- where the word was found as the caller said, the piece and its slot are the seat's; else nothing changes

@@ -1,19 +1,62 @@
 -- What a taker was given.
-use Rattle.std.specs.Prelude.{◌≡◌, ℕ, ◌<◌, ◌≤◌, List, [], map, Result, Ok, Err, IfSome}
+use Rattle.std.specs.Prelude.{◌≡◌, ℕ, ◌<◌, ◌≤◌, Bool, false, IsTrue, All, Any, sum_by, List, [], map, Result, Ok, Err, IfSome}
 use Rattle.shb_fan.specs.declared.shares.Ring.{Ring}
-use Rattle.shb_fan.specs.declared.streaming.Worker.{Worker}
+use Rattle.shb_fan.specs.declared.shares.Seat.{Seat}
+use Rattle.shb_fan.specs.declared.crew.Worker.{Worker}
 use Rattle.shb_fan.specs.declared.streaming.Caller.{Caller}
 use Rattle.shb_fan.specs.declared.streaming.Shared.{Shared}
 use Rattle.shb_fan.specs.declared.taker.StreamError.{StreamError}
 use Rattle.shb_fan.specs.declared.taker.StreamError.TheVariants.{Memory, Taker}
 use Rattle.shb_fan.specs.Values.{values_of}
-use Rattle.shb_fan.specs.Passes.{Source}
-use Rattle.shb_fan.specs.Seated.{IsSeatOf, job_of, claimed_of}
+use Rattle.shb_fan.specs.Passes.{Source, PassState, fresh, times_in}
+use Rattle.shb_fan.specs.Numbers.{times}
+use Rattle.shb_fan.specs.Seated.{IsSeatOf, IsNewSeat, job_of, claimed_of, placed_of, lifted_of}
+
+-- the number was drawn, and its piece isn't placed
+abbrev pub IsOwed : List ℕ → List ℕ → ℕ → Type 0
+IsOwed drawn placed k = (0 < times k drawn) × (times k placed ≡ 0)
+
+-- only pieces that were drawn are placed, and where the draw was stopped some piece that was drawn isn't placed
+pub record Accounts (drawn placed : List ℕ) (halted : Bool) : Type 0 where
+  pub within : (k : ℕ) → times k placed ≤ times k drawn
+  pub owed : IsTrue halted → (k : ℕ) × IsOwed drawn placed k
+
+module _ {T M : Type 0} where
+  -- of what a worker's pass drew and its seat placed
+  abbrev pub HasAccounts : Worker T M → Type 0
+  HasAccounts worker = Accounts worker.pass.drawn (placed_of worker.seat) worker.pass.halted
+
+  abbrev pub Owes : Worker T M → ℕ → Type 0
+  Owes worker k = IsOwed worker.pass.drawn (placed_of worker.seat) k
+
+  -- the seat has lifted each of the first pieces
+  abbrev pub HasLifted : Worker T M → ℕ → Type 0
+  HasLifted worker count = (k : ℕ) → k < count → 0 < times k (lifted_of worker.seat)
+
+module _ {T M : Type 0} where
+  -- no piece was placed more often than it was drawn, and where a pass stopped the draw some piece was placed less often
+  pub record Balanced (passes : List PassState) (seats : List (Seat T M)) : Type 0 where
+    pub within : (k : ℕ) → sum_by (λ s. times k (placed_of s)) seats ≤ sum_by (times_in k) passes
+    pub owed : Any (λ p. IsTrue p.halted) passes → (k : ℕ) × (sum_by (λ s. times k (placed_of s)) seats < sum_by (times_in k) passes)
 
 module _ {T M J : Type 0} (value : J → ℕ → M) (count : J → ℕ) where
   -- a worker of these tickets and this ring that has claimed nothing
   abbrev pub IsIdle : Source → Ring T M J → Worker T M → Type 0
   IsIdle tickets ring worker = (worker.pass.source ≡ tickets) × IsSeatOf value count ring worker.seat × (claimed_of worker.seat ≡ [])
+
+  -- and whose accounts are in order
+  abbrev pub HasWorked : Source → Ring T M J → Worker T M → Type 0
+  HasWorked tickets ring worker = IsIdle tickets ring worker × HasAccounts worker
+
+  -- a worker that has drawn, placed and stopped nothing
+  abbrev pub IsNew : Source → Ring T M J → Worker T M → Type 0
+  IsNew tickets ring worker = (worker.pass ≡ fresh tickets) × IsNewSeat value count ring worker.seat
+
+  -- passes and seats that have come back from workers, or were never given out
+  pub record AreBack (tickets : Source) (ring : Ring T M J) (passes : List PassState) (seats : List (Seat T M)) : Type 0 where
+    pub our_passes : All (λ p. p.source ≡ tickets) passes
+    pub our_seats : All (λ s. IsSeatOf value count ring s × (claimed_of s ≡ [])) seats
+    pub balanced : Balanced passes seats
 
 module _ {T M J G : Type 0} (value : J → ℕ → M) (count : J → ℕ) where
   -- the tickets and the ring are those of the job's pieces
@@ -22,12 +65,21 @@ module _ {T M J G : Type 0} (value : J → ℕ → M) (count : J → ℕ) where
     pub tickets : shared.tickets.now.limit ≡ count shared.job.now
     pub pieces : shared.pieces ≡ count shared.job.now
 
-  abbrev pub CanWork : Shared T M J G → Worker T M → Type 0
-  CanWork shared worker = IsShared shared × IsIdle value count shared.tickets.now shared.ring.now worker
+  -- the worker is one of these, and has claimed nothing
+  abbrev pub IsReady : Shared T M J G → Worker T M → Type 0
+  IsReady shared worker = IsShared shared × IsIdle value count shared.tickets.now shared.ring.now worker
 
-  -- the caller is idle, and what it keeps is a piece
+  -- and its accounts are in order
+  abbrev pub CanWork : Shared T M J G → Worker T M → Type 0
+  CanWork shared worker = IsReady shared worker × HasAccounts worker
+
+  -- the worker may run and place piece k, which it drew
+  abbrev pub CanMake : Shared T M J G → Worker T M → ℕ → Type 0
+  CanMake shared worker k = CanWork shared worker × (worker.pass.halted ≡ false) × Owes worker k
+
+  -- the caller may work, and what it keeps is a piece that it drew and hasn't placed
   abbrev pub CanTake : Shared T M J G → Caller T M → Type 0
-  CanTake shared caller = CanWork shared caller.own × IfSome caller.kept (λ m. m < count shared.job.now)
+  CanTake shared caller = CanWork shared caller.own × (caller.own.pass.halted ≡ false) × IfSome caller.kept (Owes caller.own)
 
 module _ {T M : Type 0} (meaning : T → M) (value : ℕ → M) where
   -- the results of the pieces below k, in order
@@ -46,7 +98,7 @@ module _ {T M : Type 0} (meaning : T → M) (value : ℕ → M) where
   abbrev pub HasRefused : {K E : Type 0} → (K → List T → T → E → K → Type 0) → K → ℕ → E → K → Type 0
   HasRefused refuses start k e end = (given : List T) × (out : T) × AreFirst k given × (meaning out ≡ value k) × refuses start given out e end
 
-  abbrev pub Ended : {K E : Type 0} → (K → List T → K → Type 0) → (K → List T → T → E → K → Type 0) → ℕ → K → Result (Unit {0}) (StreamError E) → K → Type 0
+  abbrev pub Ended : {K E A : Type 0} → (K → List T → K → Type 0) → (K → List T → T → E → K → Type 0) → ℕ → K → Result A (StreamError E) → K → Type 0
   Ended takes refuses count start (Ok _) end = HasTaken takes start count end
   Ended takes refuses count start (Err Memory) end = (k : ℕ) × (k ≤ count) × HasTaken takes start k end
   Ended takes refuses count start (Err (Taker e)) end = (k : ℕ) × (k < count) × HasRefused refuses start k e end

@@ -1,12 +1,12 @@
 -- The draws, one after the other, that lists of drawn numbers tell of.
-use Rattle.std.specs.Prelude.{◌≡◌, ℕ, ◌<◌, Bool, true, false, List, [], ◌∷◌, ◌++◌, Some, length, map, replicate, slice_get, slice_index_or, sum_by, Contains, IsTrue}
+use Rattle.std.specs.Prelude.{◌≡◌, ℕ, ◌+◌, ◌<◌, Bool, true, false, cond, List, [], ◌∷◌, ◌++◌, Some, length, map, replicate, slice_get, slice_index_or, sum_by, Contains, IsTrue, IsFalse}
 use Rattle.std.specs.List.Sorted.{IsStrictlyIncreasing}
 use Rattle.shb_fan.specs.declared.step.PieceState.TheVariants.{Empty}
 use Rattle.shb_fan.specs.declared.step.Step.{Step}
 use Rattle.shb_fan.specs.declared.step.Step.TheVariants.{Draw, Stop}
 use Rattle.shb_fan.specs.Machine.{State, Runs, start}
 use Rattle.shb_fan.specs.Numbers.{times, once_below}
-use Rattle.shb_fan.specs.Passes.{PassState}
+use Rattle.shb_fan.specs.Passes.{PassState, spent_in}
 
 -- each list rises, and together they are the numbers below `drawn`, each once
 pub record AreDrawn (lists : List (List ℕ)) (drawn : ℕ) : Type 0 where
@@ -36,10 +36,20 @@ abbrev pub AreStops : List PassState → Bool → List Step → Type 0
 AreStops passes true steps = (a : ℕ) × (p : PassState) × (slice_get passes a ≡ Some p) × IsTrue p.halted × (steps ≡ Stop a ∷ [])
 AreStops passes false steps = steps ≡ []
 
--- the machine with one actor for each pass comes to the passes' lists and to `stopped` by these steps: for each m below `drawn`, rising, a draw by the actor whose list has m; then, where the draw was stopped, a stop by a halted actor
+-- one draw more for each spent pass, in the order of the passes, the first of which is actor a
+abbrev pub spent_draws : ℕ → List PassState → List Step
+spent_draws a [] = []
+spent_draws a (p ∷ ps) = cond p.spent (Draw a ∷ spent_draws (a + 1) ps) (spent_draws (a + 1) ps)
+
+-- the actors drew the passes' lists, those of spent passes were told that there is no more, and nothing else happened
+abbrev pub spent_state : List PassState → ℕ → ℕ → State
+spent_state passes next pieces = record { next = next; actors = map (λ p. record { drawn = p.drawn; spent = p.spent }) passes; pieces = replicate pieces Empty; taken = 0; stopped = false }
+
+-- the machine with one actor for each pass comes to the passes' lists and to `stopped` by these steps: for each m below `drawn`, rising, a draw by the actor whose list has m; then, where the draw was stopped, a stop by a halted actor; and where it wasn't, one draw more for each spent pass leads it to the passes as they are
 pub record IsMachineRun (limit : ℕ) (passes : List PassState) (drawn : ℕ) (stopped : Bool) : Type 0 where
   pub draws : List Step
   pub stops : List Step
   pub are_draws : AreDraws (lists_of passes) drawn draws
   pub are_stops : AreStops passes stopped stops
   pub ends : Runs (start (length passes) limit) (draws ++ stops) (drawn_state (lists_of passes) drawn limit stopped)
+  pub spends : IsFalse stopped → Runs (start (length passes) limit) (draws ++ spent_draws 0 passes) (spent_state passes (drawn + sum_by spent_in passes) limit)

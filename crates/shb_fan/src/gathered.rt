@@ -81,7 +81,7 @@ fn gather_pieces<
     let mut keeper = Keeper {
         values: Vec::with_capacity(alloc, job.pieces() as usize)?,
     };
-    let Ok(()) = stream(rt, alloc, job, gate, workers, &mut keeper) else {
+    let Ok(_) = stream(rt, alloc, job, gate, workers, &mut keeper) else {
         return Err(NoMemory);
     };
     let Keeper { values } = keeper;
@@ -104,7 +104,7 @@ fn gather_runs<
     let mut keeper = RunKeeper {
         values: Vec::with_capacity(alloc, pieces as usize)?,
     };
-    let Ok(()) = stream(rt, alloc, &runs, &run_gate, workers, &mut keeper) else {
+    let Ok(_) = stream(rt, alloc, &runs, &run_gate, workers, &mut keeper) else {
         return Err(NoMemory);
     };
     let RunKeeper { values } = keeper;

@@ -13,7 +13,8 @@
 //! `ticket_steps` and `ring_steps` the kinds of step. [`machine`] is the same core without threads:
 //! a state, the steps, and what holds after every list of allowed steps. `Tickets::close` says that
 //! what the passes drew is a run of that machine; no record of what the threads did is kept for it.
-//! The ring has no such clause.
+//! `Ring::close` says of the pieces only what was placed and lifted. `stream` closes both before it
+//! answers (`crew`).
 //!
 //! How `stream` works: there is a pass and a seat for each worker and one for the caller. A worker
 //! draws, runs, claims and places until there is no more, memory runs out or a stop is seen; the
@@ -24,6 +25,7 @@
 //! microseconds; it wakes by time alone.
 #![tactic(auto)]
 
+mod crew;
 mod gate;
 mod gathered;
 mod job;

@@ -1,8 +1,9 @@
 //! Results handed over through 64 slots.
 ghost use Rattle.std.specs.Prelude.{◌≡◌, ℕ, ◌+◌, ◌*◌, ◌∷◌, ◌++◌, [], ◌<◌, ◌≤◌, All, IsTrue, IsFalse, IfSome, IfNone, IfOk, length, slice_index, sum_by};
+ghost use Rattle.std.specs.Vec.{vec_capacity};
 ghost use Rattle.std.specs.Slots.{IsFull};
 ghost use Rattle.shb_fan.specs.Numbers.{times};
-ghost use Rattle.shb_fan.specs.Seated.{IsSeatOf, IsNewSeat, job_of, claimed_of, lifted_of};
+ghost use Rattle.shb_fan.specs.Seated.{IsSeatOf, IsNewSeat, job_of, slots_of, claimed_of, placed_of, lifted_of};
 
 use crate::job::Job;
 use crate::ring_steps::{Claim, CutSeat, Free, Lift, MergeSeats, Place};
@@ -15,6 +16,9 @@ use std::thread::yield_now;
 use std::time::Duration;
 
 const SLOTS: u64 = 64;
+
+/// How many seats there are: one for each worker that there may be, and one for the caller.
+const SEATS: u32 = 65;
 
 /// How often a thread that waits looks again before it sleeps.
 const LOOKS: u32 = 20;
@@ -46,20 +50,17 @@ fn drop_all<S: Drop>(mut closed: Closed<S, Global>)
 }
 
 impl<T: Drop, M, J: Job<Out = T, Meaning = M>> Ring<T, M, J> {
-    /// A ring for the results of the job's pieces, and its 1 to 65 seats. `NoMemory` where memory was refused.
-    pub fn new(
-        alloc: Global,
-        job: &J,
-        passes: u32,
-    ) -> Result<(Ring<T, M, J>, Vec<Seat<T, M>>), NoMemory>
-        requires { (1 ≤ passes) × (passes ≤ 65) }
-        ensures { IfOk result (λ r. (job_of r.0 ≡ job.now) × (length r.1.items ≡ passes) × All (IsNewSeat J.value J.count r.0) r.1.items) }
+    /// A ring of 64 slots for the results of the job's pieces, and its 65 seats, in a list that has room
+    /// for them again. `NoMemory` where memory was refused.
+    pub fn new(alloc: Global, job: &J) -> Result<(Ring<T, M, J>, Vec<Seat<T, M>>), NoMemory>
+        ensures ring { IfOk result (λ r. (job_of r.0 ≡ job.now) × (slots_of r.0 ≡ 64)) }
+        ensures seats { IfOk result (λ r. (length r.1.items ≡ 65) × All (IsNewSeat J.value J.count r.0) r.1.items × (65 ≤ vec_capacity r.1)) }
     {
         job.pieces();
         let words = empty_words(alloc)?;
         let (table, mut first) = Table::vacant(alloc, words.as_slice(), SLOTS as usize, job)?;
-        let mut seats = Vec::with_capacity(alloc, passes as usize)?;
-        for _ in 1..passes {
+        let mut seats = Vec::with_capacity(alloc, SEATS as usize)?;
+        for _ in 1..SEATS {
             let place = table.shared.split_seat::<CutSeat>(&mut first);
             seats.push(Seat { place })?;
         }
@@ -67,14 +68,20 @@ impl<T: Drop, M, J: Job<Out = T, Meaning = M>> Ring<T, M, J> {
         Ok((Ring { table }, seats))
     }
 
-    /// Ends the ring, once its seats have come back. What is still placed is dropped.
+    /// Ends the ring, once all seats have come back. What is still placed is dropped. No piece was placed or
+    /// lifted twice, only pieces that were placed were lifted, and a piece was placed only where the one 64
+    /// before it was lifted.
     pub fn close(self, mut seats: Vec<Seat<T, M>>)
-        requires { All (λ s. IsSeatOf J.value J.count self s × (claimed_of s ≡ [])) seats.items }
-        ensures { (k : ℕ) → sum_by (λ s. times k (lifted_of s)) seats.items ≤ 1 }
+        requires all { length seats.items ≡ 65 }
+        requires ours { All (λ s. IsSeatOf J.value J.count self s × (claimed_of s ≡ [])) seats.items }
+        ensures placed_once { (k : ℕ) → sum_by (λ s. times k (placed_of s)) seats.items ≤ 1 }
+        ensures lifted_once { (k : ℕ) → sum_by (λ s. times k (lifted_of s)) seats.items ≤ 1 }
+        ensures placed_before { (k : ℕ) → sum_by (λ s. times k (lifted_of s)) seats.items ≤ sum_by (λ s. times k (placed_of s)) seats.items }
+        ensures slots { (k : ℕ) → sum_by (λ s. times (k + 64) (placed_of s)) seats.items ≤ sum_by (λ s. times k (lifted_of s)) seats.items }
     {
         let Ring { table } = self;
         let Some(first) = seats.pop() else {
-            return;
+            unreachable!()
         };
         let Seat { place: mut whole } = first;
         while let Some(seat) = seats.pop() {
@@ -92,6 +99,7 @@ impl<T: Drop, M, J: Job<Out = T, Meaning = M>> Ring<T, M, J> {
         ensures seat { IsSeatOf J.value J.count self.now seat.new }
         ensures won { IsTrue result → claimed_of seat.new ≡ k ∷ [] }
         ensures lost { IsFalse result → claimed_of seat.new ≡ [] }
+        ensures placed { placed_of seat.new ≡ placed_of seat.old }
         ensures lifted { lifted_of seat.new ≡ lifted_of seat.old }
     {
         let empty = 4 * k;
@@ -126,7 +134,8 @@ impl<T: Drop, M, J: Job<Out = T, Meaning = M>> Ring<T, M, J> {
         requires claimed { claimed_of seat.old ≡ k ∷ [] }
         requires value { J.meaning value ≡ J.value (job_of self.now) k }
         ensures seat { IsSeatOf J.value J.count self.now seat.new }
-        ensures placed { claimed_of seat.new ≡ [] }
+        ensures claimed { claimed_of seat.new ≡ [] }
+        ensures placed { placed_of seat.new ≡ placed_of seat.old ++ k ∷ [] }
         ensures lifted { lifted_of seat.new ≡ lifted_of seat.old }
     {
         let slot = (k % SLOTS) as usize;
@@ -141,6 +150,7 @@ impl<T: Drop, M, J: Job<Out = T, Meaning = M>> Ring<T, M, J> {
         requires piece { k < J.count (job_of self.now) }
         ensures seat { IsSeatOf J.value J.count self.now seat.new }
         ensures claimed { claimed_of seat.new ≡ claimed_of seat.old }
+        ensures placed { placed_of seat.new ≡ placed_of seat.old }
         ensures some { IfSome result (λ out. (J.meaning out ≡ J.value (job_of self.now) k) × (times k (lifted_of seat.old) ≡ 0) × (lifted_of seat.new ≡ lifted_of seat.old ++ k ∷ [])) }
         ensures none { IfNone result (lifted_of seat.new ≡ lifted_of seat.old) }
     {

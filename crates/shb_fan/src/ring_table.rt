@@ -12,6 +12,8 @@ pub struct SeatView<M> {
     pub wanted: LinkedList<M>,
     /// The pieces that it claimed and has not placed.
     pub claimed: LinkedList<u64>,
+    /// The pieces that it placed.
+    pub placed: LinkedList<u64>,
     /// The pieces that it lifted and has not freed.
     pub lifting: LinkedList<u64>,
     /// The pieces that it lifted.
@@ -30,5 +32,5 @@ impl<T: Drop, M, J: Job<Out = T, Meaning = M>> TableRule<Option<T>, SeatView<M>,
 
     ghost holds = { λ job. Kept J.meaning (values_of (J.value job) (J.count job)) };
 
-    ghost first = { λ job. seat_view 65 (values_of (J.value job) (J.count job)) [] [] [] };
+    ghost first = { λ job. seat_view 65 (values_of (J.value job) (J.count job)) [] [] [] [] };
 }

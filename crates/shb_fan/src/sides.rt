@@ -1,5 +1,5 @@
 //! The work of all workers, at once with what the caller does.
-ghost use Rattle.std.specs.Prelude.{All, ◌<◌, length};
+ghost use Rattle.std.specs.Prelude.{All, ◌≡◌, ◌<◌, length};
 ghost use Rattle.std.specs.Thread.{IsSync, IsSend};
 
 use std::sync::Wait;
@@ -10,7 +10,8 @@ pub(crate) trait WorkerSide<W> {
     ghost ready: { Self → W → Type 0 };
 
     fn work<R: Wait>(&self, rt: &R, worker: &mut W)
-        requires { ready self.now worker.old };
+        requires { ready self.now worker.old }
+        ensures { ready self.now worker.new };
 }
 
 /// What the caller does with a taker `K` in the meantime, with what it has of its own, `O`.
@@ -21,14 +22,18 @@ pub(crate) trait CallerSide<O, K> {
 
     ghost gives: { Self → K → Self.Answer → K → Type 0 };
 
+    ghost leaves: { Self → Self.Answer → O → Type 0 };
+
     fn take<R: Wait>(&self, rt: &R, own: &mut O, taker: &mut K) -> Self::Answer
         requires { can_take self.now own.old taker.old }
-        ensures { gives self.now taker.old result taker.new };
+        ensures answer { gives self.now taker.old result taker.new }
+        ensures own { leaves self.now result own.new };
 }
 
 /// The workers of one thread, one after the other.
 fn work_each<R: Wait, W, C: WorkerSide<W>>(rt: &R, side: &C, workers: &mut [W])
     requires { All (C.ready side.now) workers.old }
+    ensures { (length workers.new ≡ length workers.old) × All (C.ready side.now) workers.new }
 {
     for worker in workers.iter_mut() {
         side.work(rt, worker);
@@ -43,6 +48,7 @@ fn work_all<R: Threads + Wait + Sync, W: Send, C: WorkerSide<W> + Sync>(
     workers: &mut [W],
 )
     requires { All (C.ready side.now) workers.old }
+    ensures { (length workers.new ≡ length workers.old) × All (C.ready side.now) workers.new }
 {
     if workers.len() < 2 {
         work_each(rt, side, workers);
@@ -61,12 +67,16 @@ fn both_halves<R: Threads + Wait + Sync, W: Send, C: WorkerSide<W> + Sync>(
 )
     requires front { (0 < length front.old) × All (C.ready side.now) front.old }
     requires back { (0 < length back.old) × All (C.ready side.now) back.old }
+    ensures front { (length front.new ≡ length front.old) × All (C.ready side.now) front.new }
+    ensures back { (length back.new ≡ length back.old) × All (C.ready side.now) back.new }
 {
     let mut left = ||
         requires { IsSync R.row × IsSync C.row × IsSend W.row × All (C.ready side.now) front.now }
+        ensures { (length front.exit.now ≡ length front.entry.now) × All (C.ready side.entry.now) front.exit.now }
     { work_all(rt, side, front) };
     let mut right = ||
         requires { IsSync R.row × IsSync C.row × IsSend W.row × All (C.ready side.now) back.now }
+        ensures { (length back.exit.now ≡ length back.entry.now) × All (C.ready side.entry.now) back.exit.now }
     { work_all(rt, side, back) };
     join_mut(rt, &mut left, &mut right);
 }
@@ -83,14 +93,17 @@ pub(crate) fn run_both_sides<
 >(rt: &R, side: &C, workers: &mut [W], caller: &L, own: &mut O, taker: &mut K) -> L::Answer
     requires ready { All (C.ready side.now) workers.old }
     requires own { L.can_take caller.now own.old taker.old }
-    ensures { L.gives caller.now taker.old result taker.new }
+    ensures workers { (length workers.new ≡ length workers.old) × All (C.ready side.now) workers.new }
+    ensures answer { L.gives caller.now taker.old result taker.new }
+    ensures own { L.leaves caller.now result own.new }
 {
     let mut work = ||
         requires { IsSync R.row × IsSync C.row × IsSend W.row × All (C.ready side.now) workers.now }
+        ensures { (length workers.exit.now ≡ length workers.entry.now) × All (C.ready side.entry.now) workers.exit.now }
     { work_all(rt, side, workers) };
     let mut take = ||
         requires { L.can_take caller.now own.now taker.now }
-        ensures { L.gives caller.entry.now taker.entry.now result taker.exit.now }
+        ensures { L.gives caller.entry.now taker.entry.now result taker.exit.now × L.leaves caller.entry.now result own.exit.now }
     { caller.take(rt, own, taker) };
     let ((), answer) = join_mut(rt, &mut work, &mut take);
     answer

@@ -1,28 +1,20 @@
 //! Results in the order of their pieces, while others are computed.
-ghost use Rattle.std.specs.Prelude.{◌≡◌, ◌∷◌, ◌<◌, [], None, All, IfOk, IfSome, IsTrue, IsFalse, length};
-ghost use Rattle.shb_fan.specs.Seated.{IsSeatOf, IsNewSeat, job_of, claimed_of};
-ghost use Rattle.shb_fan.specs.Streamed.{IsShared, IsIdle, CanWork, CanTake, MayTake, HasTaken, Ended};
+ghost use Rattle.std.specs.Prelude.{◌≡◌, ◌∷◌, ◌++◌, ◌+◌, ◌<◌, [], None, false, All, IfOk, IfSome, IsTrue, IsFalse, length};
+ghost use Rattle.shb_fan.specs.Seated.{IsSeatOf, job_of, claimed_of, placed_of, lifted_of};
+ghost use Rattle.shb_fan.specs.Streamed.{IsIdle, IsReady, HasWorked, HasAccounts, HasLifted, CanWork, CanMake, CanTake, MayTake, Ended};
 
+use crate::crew::{Worker, close_both, make_workers, take_back};
 use crate::gate::Gate;
 use crate::job::Job;
-use crate::pass::Pass;
-use crate::shares::{Ring, Seat};
+use crate::shares::Ring;
 use crate::sides::{CallerSide, WorkerSide, run_both_sides};
 use crate::taker::{StreamError, Taker};
-use crate::tickets::Tickets;
+use crate::tickets::{Closed, Tickets};
 use crate::workers::Workers;
-use shb_io::NoMemory;
 use std::alloc::Global;
 use std::sync::Wait;
 use std::sync::atomic::{AtomicBool, Ordering};
 use std::thread::Threads;
-
-/// One thread's pass and seat.
-#[derive(Drop)]
-pub(crate) struct Worker<T, M> {
-    pub(crate) pass: Pass,
-    pub(crate) seat: Seat<T, M>,
-}
 
 /// The caller's own pass and seat, and a piece that it drew and has not run.
 #[derive(Drop)]
@@ -50,10 +42,12 @@ fn wait_to_claim<R: Wait, T: Drop, M, J: Job<Out = T, Meaning = M>, G: Gate>(
     worker: &mut Worker<T, M>,
     k: u64,
 ) -> bool
-    requires ready { CanWork J.value J.count shared.now worker.old }
+    requires ready { IsReady J.value J.count shared.now worker.old }
     requires piece { k < J.count shared.now.job.now }
-    ensures pass { worker.new.pass.source ≡ shared.now.tickets.now }
+    ensures pass { worker.new.pass ≡ worker.old.pass }
     ensures seat { IsSeatOf J.value J.count shared.now.ring.now worker.new.seat }
+    ensures placed { placed_of worker.new.seat ≡ placed_of worker.old.seat }
+    ensures lifted { lifted_of worker.new.seat ≡ lifted_of worker.old.seat }
     ensures won { IsTrue result → claimed_of worker.new.seat ≡ k ∷ [] }
     ensures stopped { IsFalse result → claimed_of worker.new.seat ≡ [] }
 {
@@ -78,9 +72,11 @@ fn make<R: Wait, T: Drop, M, J: Job<Out = T, Meaning = M>, G: Gate>(
     worker: &mut Worker<T, M>,
     k: u64,
 ) -> bool
-    requires ready { CanWork J.value J.count shared.now worker.old }
+    requires ready { CanMake J.value J.count shared.now worker.old k }
     requires piece { k < J.count shared.now.job.now }
-    ensures { CanWork J.value J.count shared.now worker.new }
+    ensures ready { CanWork J.value J.count shared.now worker.new }
+    ensures running { IsTrue result → worker.new.pass.halted ≡ false }
+    ensures lifted { lifted_of worker.new.seat ≡ lifted_of worker.old.seat }
 {
     shared.gate.enter(rt, k);
     let Ok(out) = shared.job.run(shared.alloc, k) else {
@@ -114,6 +110,46 @@ fn work<R: Wait, T: Drop, M, J: Job<Out = T, Meaning = M>, G: Gate>(
     unreachable!()
 }
 
+/// Draws a piece for the caller to keep, if there is one.
+fn draw_one<T: Drop, M, J: Job<Out = T, Meaning = M>, G>(
+    shared: &Shared<'_, T, M, J, G>,
+    caller: &mut Caller<T, M>,
+)
+    requires { CanTake J.value J.count shared.now caller.old }
+    ensures ready { CanTake J.value J.count shared.now caller.new }
+    ensures seat { caller.new.own.seat ≡ caller.old.own.seat }
+{
+    match shared.tickets.draw(&mut caller.own.pass) {
+        Some(k) => {
+            caller.kept = Some(k);
+        }
+        None => {
+            caller.kept = None;
+        }
+    }
+}
+
+/// Runs piece k and places it where the caller keeps it, unless memory runs out or a stop is seen. Says
+/// whether all is well.
+fn make_kept<R: Wait, T: Drop, M, J: Job<Out = T, Meaning = M>, G: Gate>(
+    rt: &R,
+    shared: &Shared<'_, T, M, J, G>,
+    caller: &mut Caller<T, M>,
+    k: u64,
+) -> bool
+    requires ready { CanTake J.value J.count shared.now caller.old }
+    requires piece { k < J.count shared.now.job.now }
+    ensures ready { CanWork J.value J.count shared.now caller.new.own }
+    ensures running { IsTrue result → CanTake J.value J.count shared.now caller.new }
+    ensures lifted { lifted_of caller.new.own.seat ≡ lifted_of caller.old.own.seat }
+{
+    if caller.kept != Some(k) {
+        return true;
+    }
+    caller.kept = None;
+    make(rt, shared, &mut caller.own, k)
+}
+
 /// The value of piece k, unless memory runs out or a stop is seen first.
 ///
 /// While no worker has begun, the caller draws a piece itself. It runs it when its turn comes, and draws
@@ -126,16 +162,14 @@ fn wait_to_lift<R: Wait, T: Drop, M, J: Job<Out = T, Meaning = M>, G: Gate>(
 ) -> Option<T>
     requires ready { CanTake J.value J.count shared.now caller.old }
     requires piece { k < J.count shared.now.job.now }
-    ensures ready { CanTake J.value J.count shared.now caller.new }
-    ensures value { IfSome result (λ out. J.meaning out ≡ J.value shared.now.job.now k) }
+    ensures ready { CanWork J.value J.count shared.now caller.new.own }
+    ensures value { IfSome result (λ out. (J.meaning out ≡ J.value shared.now.job.now k) × CanTake J.value J.count shared.now caller.new
+        × (lifted_of caller.new.own.seat ≡ lifted_of caller.old.own.seat ++ k ∷ [])) }
 {
     let mut turns = 0u32;
     for _ in rt.forever() {
-        if caller.kept == Some(k) {
-            caller.kept = None;
-            if !make(rt, shared, &mut caller.own, k) {
-                return None;
-            }
+        if !make_kept(rt, shared, caller, k) {
+            return None;
         }
         let lifted = shared.ring.lift(&mut caller.own.seat, k);
         if lifted.is_some() {
@@ -145,7 +179,7 @@ fn wait_to_lift<R: Wait, T: Drop, M, J: Job<Out = T, Meaning = M>, G: Gate>(
             return None;
         }
         if caller.kept.is_none() && !shared.begun.load(Ordering::SeqCst) {
-            caller.kept = shared.tickets.draw(&mut caller.own.pass);
+            draw_one(shared, caller);
         } else {
             shared.ring.pause(rt, k, 4 * k + 2, turns);
             turns = turns.saturating_add(1);
@@ -163,7 +197,9 @@ fn take_all<R: Wait, T: Drop, M, J: Job<Out = T, Meaning = M>, G: Gate, E, K: Ta
 ) -> Result<(), StreamError<E>>
     requires ready { CanTake J.value J.count shared.now caller.old }
     requires may_take { MayTake J.meaning (J.value shared.now.job.now) K.may_take (J.count shared.now.job.now) taker.old }
-    ensures { Ended J.meaning (J.value shared.now.job.now) K.takes K.refuses (J.count shared.now.job.now) taker.old result taker.new }
+    ensures ended { Ended J.meaning (J.value shared.now.job.now) K.takes K.refuses (J.count shared.now.job.now) taker.old result taker.new }
+    ensures idle { IsIdle J.value J.count shared.now.tickets.now shared.now.ring.now caller.new.own }
+    ensures all { IfOk result (λ _. HasAccounts caller.new.own × HasLifted caller.new.own (J.count shared.now.job.now)) }
 {
     for k in 0..shared.pieces {
         let Some(out) = wait_to_lift(rt, shared, caller, k) else {
@@ -196,11 +232,14 @@ impl<'a, T: Drop, M, J: Job<Out = T, Meaning = M>, G: Gate, E, K: Taker<T, Error
     Caller<T, M>,
     K,
 > for Shared<'a, T, M, J, G> {
-    ghost use Rattle.shb_fan.specs.Streamed.{CanTake, MayTake, Ended};
+    ghost use Rattle.std.specs.Prelude.{IfOk};
+    ghost use Rattle.shb_fan.specs.Streamed.{CanTake, MayTake, Ended, IsIdle, HasAccounts, HasLifted};
 
     type Answer = Result<(), StreamError<E>>;
 
     ghost can_take = { λ shared caller taker. CanTake J.value J.count shared caller × MayTake J.meaning (J.value shared.job.now) K.may_take (J.count shared.job.now) taker };
+
+    ghost leaves = { λ shared answer caller. IsIdle J.value J.count shared.tickets.now shared.ring.now caller.own × IfOk answer (λ _. HasAccounts caller.own × HasLifted caller.own (J.count shared.job.now)) };
 
     ghost gives = { λ shared start answer end. Ended J.meaning (J.value shared.job.now) K.takes K.refuses (J.count shared.job.now) start answer end };
 
@@ -212,29 +251,6 @@ impl<'a, T: Drop, M, J: Job<Out = T, Meaning = M>, G: Gate, E, K: Taker<T, Error
     ) -> Result<(), StreamError<E>> {
         take_all(rt, self, own, taker)
     }
-}
-
-/// A worker for each pass and seat.
-fn make_workers<T: Drop, M, J: Job<Out = T, Meaning = M>>(
-    alloc: Global,
-    _tickets: &Tickets,
-    _ring: &Ring<T, M, J>,
-    passes: Vec<Pass>,
-    mut seats: Vec<Seat<T, M>>,
-) -> Result<Vec<Worker<T, M>>, NoMemory>
-    requires passes { All (λ p. p.source ≡ _tickets.now) passes.items }
-    requires seats { All (IsNewSeat J.value J.count _ring.now) seats.items }
-    requires count { length passes.items ≡ length seats.items }
-    ensures { IfOk result (λ v. (length v.items ≡ length passes.items) × All (IsIdle J.value J.count _tickets.now _ring.now) v.items) }
-{
-    let mut workers = Vec::with_capacity(alloc, passes.len())?;
-    for pass in passes {
-        let Some(seat) = seats.pop() else {
-            unreachable!()
-        };
-        workers.push(Worker { pass, seat })?;
-    }
-    Ok(workers)
 }
 
 /// The workers work, and the caller takes.
@@ -259,10 +275,13 @@ fn work_and_take<
 ) -> Result<(), StreamError<E>>
     requires tickets { tickets.now.limit ≡ J.count job.now }
     requires ring { job_of ring.now ≡ job.now }
-    requires workers { All (IsIdle J.value J.count tickets.now ring.now) workers.old }
-    requires caller { IsIdle J.value J.count tickets.now ring.now caller.old.own × (caller.old.kept ≡ None) }
+    requires workers { All (HasWorked J.value J.count tickets.now ring.now) workers.old }
+    requires caller { HasWorked J.value J.count tickets.now ring.now caller.old.own × (caller.old.own.pass.halted ≡ false) × (caller.old.kept ≡ None) }
     requires may_take { MayTake J.meaning (J.value job.now) K.may_take (J.count job.now) taker.old }
-    ensures { Ended J.meaning (J.value job.now) K.takes K.refuses (J.count job.now) taker.old result taker.new }
+    ensures ended { Ended J.meaning (J.value job.now) K.takes K.refuses (J.count job.now) taker.old result taker.new }
+    ensures workers { (length workers.new ≡ length workers.old) × All (HasWorked J.value J.count tickets.now ring.now) workers.new }
+    ensures idle { IsIdle J.value J.count tickets.now ring.now caller.new.own }
+    ensures all { IfOk result (λ _. HasAccounts caller.new.own × HasLifted caller.new.own (J.count job.now)) }
 {
     let begun = AtomicBool::new(false);
     let shared = Shared {
@@ -287,6 +306,9 @@ fn work_and_take<
 /// where it has none the caller runs the pieces itself. `Memory` where memory was refused, here or to a
 /// piece; `Taker` where the taker refused a value. After an error the taker was given the values of the
 /// first pieces, no call follows one that it refused, and values that it wasn't given are dropped.
+///
+/// All passes and seats have come back when it answers, and the tickets and the ring are closed. What the
+/// draw came to is the answer: every piece was drawn once, and nobody stopped.
 pub fn stream<
     R: Threads + Wait + Sync,
     T: Drop + Send,
@@ -302,25 +324,26 @@ pub fn stream<
     gate: &G,
     workers: Workers,
     taker: &mut K,
-) -> Result<(), StreamError<E>>
+) -> Result<Closed, StreamError<E>>
     requires { MayTake J.meaning (J.value job.now) K.may_take (J.count job.now) taker.old }
-    ensures { Ended J.meaning (J.value job.now) K.takes K.refuses (J.count job.now) taker.old result taker.new }
+    ensures ended { Ended J.meaning (J.value job.now) K.takes K.refuses (J.count job.now) taker.old result taker.new }
+    ensures drawn { IfOk result (λ closed. (closed.drawn ≡ J.count job.now) × (closed.stopped ≡ false)) }
 {
     let threads = workers.get() + 1;
-    let Ok((tickets, passes)) = Tickets::new(alloc, job.pieces(), threads) else {
+    let Ok((tickets, mut passes)) = Tickets::new(alloc, job.pieces(), threads) else {
         return Err(StreamError::Memory);
     };
-    let Ok((ring, seats)) = Ring::new(alloc, job, threads) else {
+    let Ok((ring, mut seats)) = Ring::new(alloc, job) else {
         return Err(StreamError::Memory);
     };
-    let Ok(mut workers) = make_workers(alloc, &tickets, &ring, passes, seats) else {
+    let Ok(mut workers) = make_workers(alloc, &tickets, &ring, &mut passes, &mut seats) else {
         return Err(StreamError::Memory);
     };
     let Some(own) = workers.pop() else {
         unreachable!()
     };
     let mut caller = Caller { own, kept: None };
-    work_and_take(
+    let answer = work_and_take(
         rt,
         alloc,
         job,
@@ -330,5 +353,10 @@ pub fn stream<
         workers.as_mut_slice(),
         &mut caller,
         taker,
-    )
+    );
+    let Caller { own, .. } = caller;
+    take_back(&tickets, &ring, workers, &mut passes, &mut seats);
+    let closed = close_both(tickets, ring, passes, seats, own);
+    answer?;
+    Ok(closed)
 }

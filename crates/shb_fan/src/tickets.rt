@@ -1,5 +1,6 @@
 //! Numbers in order, each drawn once.
 ghost use Rattle.std.specs.Prelude.{◌≡◌, ℕ, ◌+◌, ◌∷◌, ◌++◌, [], ◌<◌, ◌≤◌, ◌^◌, true, false, IsTrue, All, IfSome, IfNone, IfOk, None, replicate, length, sum_by, Any, ◌↔◌, IsFalse};
+ghost use Rattle.std.specs.Vec.{vec_capacity};
 ghost use Rattle.std.specs.List.Sorted.{IsStrictlyIncreasing};
 ghost use Rattle.shb_fan.specs.Numbers.{times, once_below};
 ghost use Rattle.shb_fan.specs.Passes.{fresh};
@@ -47,12 +48,13 @@ pub struct Closed {
 }
 
 impl Tickets {
-    /// Tickets for the numbers below `limit`, at most 2 to the 60th, and the 1 to 65 passes that draw them.
+    /// Tickets for the numbers below `limit`, at most 2 to the 60th, and the 1 to 65 passes that draw them,
+    /// in a list that has room for them again.
     /// `NoMemory` where memory was refused.
     pub fn new(alloc: Global, limit: u64, passes: u32) -> Result<(Tickets, Vec<Pass>), NoMemory>
         requires limit { limit ≤ 2 ^ 60 }
         requires passes { (1 ≤ passes) × (passes ≤ 65) }
-        ensures { IfOk result (λ r. (r.0.limit ≡ limit) × (r.0.passes ≡ passes) × (r.1.items ≡ replicate passes (fresh r.0))) }
+        ensures { IfOk result (λ r. (r.0.limit ≡ limit) × (r.0.passes ≡ passes) × (r.1.items ≡ replicate passes (fresh r.0)) × (passes ≤ vec_capacity r.1)) }
     {
         let plan = Plan {
             limit,
@@ -77,7 +79,7 @@ impl Tickets {
         requires { pass.old.source ≡ self.now }
         ensures source { pass.new.source ≡ self.now }
         ensures halted { pass.new.halted ≡ pass.old.halted }
-        ensures some { IfSome result (λ k. (k < self.now.limit) × All (λ x. x < k) pass.old.drawn × (pass.new.drawn ≡ pass.old.drawn ++ k ∷ []) × (pass.new.spent ≡ false)) }
+        ensures some { IfSome result (λ k. (k < self.now.limit) × All (λ x. x < k) pass.old.drawn × (pass.new.drawn ≡ pass.old.drawn ++ k ∷ []) × (pass.new.spent ≡ false) × (pass.new.halted ≡ false)) }
         ensures none { IfNone result ((pass.new.drawn ≡ pass.old.drawn) × (pass.new.spent ≡ true)) }
         ensures spent_stays { IsTrue pass.old.spent → (result ≡ None) × (pass.new ≡ pass.old) }
         ensures halted_gets_none { IsTrue pass.old.halted → result ≡ None }

@@ -87,7 +87,7 @@ fn write_made<R: Threads + Wait + Sync, K: Sink, O: Order + Sync, G: Gate + Sync
         written: 0,
     };
     match stream(rt, alloc, &job, gate, workers, &mut writer) {
-        Ok(()) => Ok(()),
+        Ok(_) => Ok(()),
         Err(StreamError::Taker(_)) => Err(WriteError::Sink),
         Err(StreamError::Memory) => Err(WriteError::Memory),
     }

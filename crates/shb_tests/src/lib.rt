@@ -32,6 +32,8 @@ mod fan_machine;
 #[cfg(test)]
 mod fixtures;
 #[cfg(test)]
+mod gates;
+#[cfg(test)]
 mod io;
 #[cfg(test)]
 mod lines;

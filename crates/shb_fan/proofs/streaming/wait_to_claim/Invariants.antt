@@ -1,9 +1,14 @@
-use Rattle.shb_fan.specs.Streamed.{CanWork}
+use Rattle.std.proofs.Common.{◌≡◌}
+use Rattle.shb_fan.specs.Seated.{placed_of, lifted_of}
+use Rattle.shb_fan.specs.Streamed.{IsReady}
 use Rattle.shb_fan.proofs.streaming.wait_to_claim.Given as goal
 
 abbrev pub invariant-loop : goal.invariant-loop
 invariant-loop g l = record {
   can : (goal.iterator-loop g).can_next l.iterator';
   ends : (goal.iterator-loop g).is_finite l.iterator';
-  ready : CanWork g.J.Job.value g.J.Job.count l.shared l.worker;
+  ready : IsReady g.J.Job.value g.J.Job.count l.shared l.worker;
+  pass : l.worker.pass ≡ l.fn.worker.pass;
+  placed : placed_of l.worker.seat ≡ placed_of l.fn.worker.seat;
+  lifted : lifted_of l.worker.seat ≡ lifted_of l.fn.worker.seat;
 }

@@ -1,3 +1,5 @@
+use Rattle.std.proofs.Common.{◌≡◌}
+use Rattle.shb_fan.specs.Seated.{lifted_of}
 use Rattle.shb_fan.specs.Streamed.{CanTake}
 use Rattle.shb_fan.proofs.streaming.wait_to_lift.Given as goal
 
@@ -6,4 +8,5 @@ invariant-loop g l = record {
   can : (goal.iterator-loop g).can_next l.iterator';
   ends : (goal.iterator-loop g).is_finite l.iterator';
   ready : CanTake g.J.Job.value g.J.Job.count l.shared l.caller;
+  lifted : lifted_of l.caller.own.seat ≡ lifted_of l.fn.caller.own.seat;
 }

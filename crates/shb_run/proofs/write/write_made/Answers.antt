@@ -17,7 +17,7 @@ invariant_of-writer g c =
 pub returns-in-Ok-clause-blocks : goal.returns-in-Ok-clause-blocks
 returns-in-Ok-clause-blocks g c =
     let trace = c.args.ordered.now.trace.now in
-    let ended = c.in-Ok.ensures in
+    let ended = c.in-Ok.ensures.ended in
     let same = ended.2.same_sink in
     left_behind (λ s. WritesBlocks true trace.trace.now (map ends c.args.races.now) (g.K.Sink.taken c.args.sink.now) (g.K.Sink.taken s) (Ok tt)) _ c.stream.new.taker.sink.now
     (all_came trace.trace.now trace.events.now c.args.races.now trace.of_trace c.with_checkpoints-job.result (c.with_checkpoints-job.ensures ∙ c.new.ensures) ended.0 _ _ tt (sym (map-id ended.0) ∙ ended.1) ended.2.appended)
@@ -26,7 +26,7 @@ returns-in-Ok-clause-blocks g c =
 pub returns-in-Err-Memory-clause-blocks : goal.returns-in-Err-Memory-clause-blocks
 returns-in-Err-Memory-clause-blocks g c =
     let trace = c.args.ordered.now.trace.now in
-    let ended = rw c.in-Err-Memory.field-0-is at c.in-Err-Memory.ensures in
+    let ended = rw c.in-Err-Memory.field-0-is at c.in-Err-Memory.ensures.ended in
     let same = ended.2.2.same_sink in
     left_behind (λ s. WritesBlocks {T = Unit {0}} true trace.trace.now (map ends c.args.races.now) (g.K.Sink.taken c.args.sink.now) (g.K.Sink.taken s) (Err errors.Memory)) _ c.stream.new.taker.sink.now
     (some_came trace.trace.now trace.events.now c.args.races.now trace.of_trace c.with_checkpoints-job.result (c.with_checkpoints-job.ensures ∙ c.new.ensures) ended.0 ended.2.0 _ (g.K.Sink.taken c.stream.new.taker.sink.now) errors.Memory ended.1 (sym (map-id ended.2.0) ∙ ended.2.1) (subst IsDisciplined trace.of_trace trace.meets) ended.2.2.appended)
@@ -35,7 +35,7 @@ returns-in-Err-Memory-clause-blocks g c =
 pub returns-in-Err-Taker-clause-blocks : goal.returns-in-Err-Taker-clause-blocks
 returns-in-Err-Taker-clause-blocks g c =
     let trace = c.args.ordered.now.trace.now in
-    let ended = rw c.in-Err-Taker.field-0-is at c.in-Err-Taker.ensures in
+    let ended = rw c.in-Err-Taker.field-0-is at c.in-Err-Taker.ensures.ended in
     let same = ended.2.4.same_sink in
     left_behind (λ s. WritesBlocks {T = Unit {0}} true trace.trace.now (map ends c.args.races.now) (g.K.Sink.taken c.args.sink.now) (g.K.Sink.taken s) (Err errors.Sink)) _ c.stream.new.taker.sink.now
     (less_came trace.trace.now trace.events.now c.args.races.now trace.of_trace c.with_checkpoints-job.result (c.with_checkpoints-job.ensures ∙ c.new.ensures) ended.0 ended.2.0 ended.2.1 _ (g.K.Sink.taken c.stream.new.taker.sink.now) errors.Sink ended.1 (sym (map-id ended.2.0) ∙ ended.2.2) ended.2.3 (subst IsDisciplined trace.of_trace trace.meets) ended.2.4.failed.front)
@@ -44,7 +44,7 @@ returns-in-Err-Taker-clause-blocks g c =
 pub returns-in-Err-Taker-clause-counted : goal.returns-in-Err-Taker-clause-counted
 returns-in-Err-Taker-clause-counted g c =
     let trace = c.args.ordered.now.trace.now in
-    let ended = rw c.in-Err-Taker.field-0-is at c.in-Err-Taker.ensures in
+    let ended = rw c.in-Err-Taker.field-0-is at c.in-Err-Taker.ensures.ended in
     let same = ended.2.4.same_sink in
     left_behind (λ s. g.K.Sink.failure_count s ≡ g.K.Sink.failure_count c.args.sink.now + 1) _ c.stream.new.taker.sink.now ended.2.4.failed.counted (search rules)
 

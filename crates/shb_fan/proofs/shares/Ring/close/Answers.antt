@@ -1,17 +1,20 @@
-use Rattle.std.proofs.Common.{rules, arith, ap, ◌∙◌, ◌≡◌, length}
+use Rattle.std.proofs.Common.{rules, arith, ap, ◌∙◌, ◌≡◌, ◌+◌, ◌∷◌, [], length, length-append, sum_by}
 use Rattle.shb_fan.specs.Numbers.{times}
-use Rattle.shb_fan.specs.Seated.{lifted_of}
-use Rattle.shb_fan.proofs.Rings.{merges, lifted_once}
-use Rattle.shb_fan.proofs.Opens.{seats_back, both_lifted, first_lifted, sum_nothing}
+use Rattle.shb_fan.specs.Seated.{placed_of, lifted_of}
+use Rattle.shb_fan.proofs.Counts.{times-append}
+use Rattle.shb_fan.proofs.Rings.{merges, placed_once, lifted_once, lifted_placed, placed_after}
+use Rattle.shb_fan.proofs.Opens.{seats_back, both_counted, first_counted, at_end}
 use Rattle.shb_fan.proofs.shares.Ring.close.Goals as goal
 
 pub loop-seat-init : goal.loop-seat-init
-loop-seat-init g c = let cut = seats_back g.J.Job.value g.J.Job.count c.args.self _ _ _ c.in-Some.ensures.items c.requires in let first = cut.1 in record {
+loop-seat-init g c = let longer = c.in-Some.ensures.items in let cut = seats_back g.J.Job.value g.J.Job.count c.args.self _ _ _ longer c.requires.ours in let first = cut.1 in record {
   table = first.0.1.same_table;
-  present = first.0.1.present;
+  parts = (let one = first.0.1.one in let all = c.requires.all in let l = ap length longer ∙ length-append c.pop.new.self.items (c.in-Some.first ∷ []) in omega (arith, one, all, l));
+  present = (let one = first.0.1.one in omega (arith, one));
   slots = first.0.1.free first.1;
   ours = cut.0;
-  lifted = λ k. first_lifted k _ _ _ c.in-Some.ensures.items;
+  placed = λ k. first_counted (λ s. times k (placed_of s)) _ _ _ longer;
+  lifted = λ k. first_counted (λ s. times k (lifted_of s)) _ _ _ longer;
 }
 
 pub join_seat-requires : goal.join_seat-requires
@@ -24,17 +27,47 @@ join_seat-requires g c = let seat = (seats_back g.J.Job.value g.J.Job.count c.ar
 )
 
 pub loop-seat-preserved : goal.loop-seat-preserved
-loop-seat-preserved g c = let i = c.loop-seat.invariant in let j = c.join_seat.ensures in record {
-  table = j.0 ∙ i.table;
-  present = (let e = ap (λ m. m.0.parts) j.2 in let p = i.present in omega arith);
-  slots = ap (λ m. m.1) j.2 ∙ i.slots;
-  ours = (seats_back g.J.Job.value g.J.Job.count c.args.self _ _ _ c.in-Some-pop.ensures.items i.ours).0;
-  lifted = λ k. both_lifted k _ _ _ _ _ _ c.in-Some-pop.ensures.items j.2 (i.lifted k);
-}
+loop-seat-preserved g c = let i = c.loop-seat.invariant in let j = c.join_seat.ensures in let longer = c.in-Some-pop.ensures.items in
+    let back = seats_back g.J.Job.value g.J.Job.count c.args.self _ _ _ longer i.ours in record {
+      table = j.0 ∙ i.table;
+      parts = (let e = ap (λ m. m.0.parts) j.2 in let one = back.1.0.1.one in let was = i.parts in let l = ap length longer ∙ length-append c.pop-in-loop-seat.new.self.items (c.in-Some-pop.seat ∷ []) in omega (arith, e, one, was, l));
+      present = (let e = ap (λ m. m.0.parts) j.2 in let p = i.present in omega (arith, e, p));
+      slots = ap (λ m. m.1) j.2 ∙ i.slots;
+      ours = back.0;
+      placed = λ k. both_counted (λ s. times k (placed_of s)) _ _ _ _ _ _ longer (ap (λ m. times k m.0.placed) j.2 ∙ times-append k _ _) (i.placed k);
+      lifted = λ k. both_counted (λ s. times k (lifted_of s)) _ _ _ _ _ _ longer (ap (λ m. times k m.0.lifted) j.2 ∙ times-append k _ _) (i.lifted k);
+    }
 
-pub returns : goal.returns
-returns g c = λ k.
+pub returns-clause-placed_once : goal.returns-clause-placed_once
+returns-clause-placed_once g c = λ k.
+    let i = c.loop-seat.invariant in
     let none_left : length c.loop-seat.seats.items ≡ 0 = search rules in
-    let all = c.loop-seat.invariant.lifted k in
-    let rest = sum_nothing (λ s. times k (lifted_of s)) _ none_left in
-    let once = lifted_once _ _ _ _ _ _ c.close_with.ensures.values.2 k in omega arith
+    let whole : c.loop-seat.whole.me.0.parts ≡ 65 = (let p = i.parts in omega (arith, p, none_left)) in
+    let placed : sum_by (λ s. times k (placed_of s)) c.args.seats.items ≡ times k c.loop-seat.whole.me.0.placed = at_end (λ s. times k (placed_of s)) c.loop-seat.seats.items c.args.seats.items _ none_left (i.placed k) in
+    let told = placed_once _ _ _ _ _ _ c.close_with.ensures.values.2 whole k in omega (arith, told, placed)
+
+pub returns-clause-lifted_once : goal.returns-clause-lifted_once
+returns-clause-lifted_once g c = λ k.
+    let i = c.loop-seat.invariant in
+    let none_left : length c.loop-seat.seats.items ≡ 0 = search rules in
+    let whole : c.loop-seat.whole.me.0.parts ≡ 65 = (let p = i.parts in omega (arith, p, none_left)) in
+    let lifted : sum_by (λ s. times k (lifted_of s)) c.args.seats.items ≡ times k c.loop-seat.whole.me.0.lifted = at_end (λ s. times k (lifted_of s)) c.loop-seat.seats.items c.args.seats.items _ none_left (i.lifted k) in
+    let told = lifted_once _ _ _ _ _ _ c.close_with.ensures.values.2 whole k in omega (arith, told, lifted)
+
+pub returns-clause-placed_before : goal.returns-clause-placed_before
+returns-clause-placed_before g c = λ k.
+    let i = c.loop-seat.invariant in
+    let none_left : length c.loop-seat.seats.items ≡ 0 = search rules in
+    let whole : c.loop-seat.whole.me.0.parts ≡ 65 = (let p = i.parts in omega (arith, p, none_left)) in
+    let placed : sum_by (λ s. times k (placed_of s)) c.args.seats.items ≡ times k c.loop-seat.whole.me.0.placed = at_end (λ s. times k (placed_of s)) c.loop-seat.seats.items c.args.seats.items _ none_left (i.placed k) in
+    let lifted : sum_by (λ s. times k (lifted_of s)) c.args.seats.items ≡ times k c.loop-seat.whole.me.0.lifted = at_end (λ s. times k (lifted_of s)) c.loop-seat.seats.items c.args.seats.items _ none_left (i.lifted k) in
+    let told = lifted_placed _ _ _ _ _ _ c.close_with.ensures.values.2 whole k in omega (arith, told, placed, lifted)
+
+pub returns-clause-slots : goal.returns-clause-slots
+returns-clause-slots g c = λ k.
+    let i = c.loop-seat.invariant in
+    let none_left : length c.loop-seat.seats.items ≡ 0 = search rules in
+    let whole : c.loop-seat.whole.me.0.parts ≡ 65 = (let p = i.parts in omega (arith, p, none_left)) in
+    let placed : sum_by (λ s. times (k + 64) (placed_of s)) c.args.seats.items ≡ times (k + 64) c.loop-seat.whole.me.0.placed = at_end (λ s. times (k + 64) (placed_of s)) c.loop-seat.seats.items c.args.seats.items _ none_left (i.placed (k + 64)) in
+    let lifted : sum_by (λ s. times k (lifted_of s)) c.args.seats.items ≡ times k c.loop-seat.whole.me.0.lifted = at_end (λ s. times k (lifted_of s)) c.loop-seat.seats.items c.args.seats.items _ none_left (i.lifted k) in
+    let told = placed_after _ _ _ _ _ _ c.close_with.ensures.values.2 whole k in omega (arith, told, placed, lifted)

@@ -5,7 +5,7 @@ use Rattle.shb_fan.proofs.Values.{headed, first_value, found_value}
 use Rattle.shb_fan.proofs.shares.Ring.lift.Goals as goal
 
 pub compare_exchange-requires : goal.compare_exchange-requires
-compare_exchange-requires g c = let seat = c.requires.seat.1 in (seat.same_table, search rules, raises _ _ _ _ _ c.args.k seat.present seat.lifts_none)
+compare_exchange-requires g c = let seat = c.requires.seat.1 in (seat.same_table, search rules, raises _ _ _ _ _ c.args.k (let one = seat.one in omega (arith, one)) seat.lifts_none)
 
 pub exchange-out-requires : goal.exchange-out-requires
 exchange-out-requires g c = let won = c.compare_exchange.ensures.2.0 c.if-compare_exchange-full.false in

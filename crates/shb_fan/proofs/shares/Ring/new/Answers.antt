@@ -1,6 +1,6 @@
 use Rattle.std.proofs.Common.{rules, arith, ap, ◌∙◌}
 use Rattle.shb_fan.proofs.Rings.{opens, cuts}
-use Rattle.shb_fan.proofs.Opens.{new_seats, one_seat_more, one_longer, cut_again, cut_off}
+use Rattle.shb_fan.proofs.Opens.{new_seats, one_seat_more, one_longer, cut_again, cut_off, last_left}
 use Rattle.shb_fan.proofs.shares.Ring.new.Goals as goal
 
 pub vacant-requires : goal.vacant-requires
@@ -17,14 +17,15 @@ pub loop-preserved : goal.loop-preserved
 loop-preserved g c = let left = c.loop.invariant.left in let cut = c.split_seat-place.ensures in record {
   table = cut.0 ∙ c.loop.invariant.table;
   left = cut_again _ _ _ _ _ (omega arith) left cut.2;
+  room = search rules;
   count = (let l = one_longer _ _ _ _ c.in_ok-push.ensures.items c.loop.invariant.count in omega arith);
-  sit = one_seat_more _ _ _ _ _ 1 c.in_ok-push.ensures.items c.loop.invariant.sit (omega arith) (cut.3 ∙ c.loop.invariant.table) (cut_off _ _ _ _ left cut.4);
+  sit = one_seat_more _ _ _ _ _ c.in_ok-push.ensures.items c.loop.invariant.sit (cut.3 ∙ c.loop.invariant.table) (cut_off _ _ _ _ left cut.4);
 }
 
-pub returns : goal.returns
-returns g c = let key = c.in_ok-table.ensures.5 in (
-  key,
+pub returns-clause-seats : goal.returns-clause-seats
+returns-clause-seats g c = let key = c.in_ok-table.ensures.5 in (
   (let l = one_longer _ _ _ _ c.in_ok-push-2.ensures.items c.loop.invariant.count in omega arith),
   new_seats g.J.Job.value g.J.Job.count _ _ _ _ key (let most = c.pieces.ensures.most in let e = c.pieces.ensures.exact in omega arith)
-      (one_seat_more _ _ _ _ _ _ c.in_ok-push-2.ensures.items c.loop.invariant.sit (omega arith) c.loop.invariant.table c.loop.invariant.left),
+      (one_seat_more _ _ _ _ _ c.in_ok-push-2.ensures.items c.loop.invariant.sit c.loop.invariant.table (last_left _ _ _ _ (omega arith) c.loop.invariant.left)),
+  search rules,
 )

@@ -75,4 +75,4 @@ pub returns-clause-machine : goal.returns-clause-machine
 returns-clause-machine c =
     let is = c.min.ensures in
     let same = ap (λ (z : Source). z.limit) c.self.view_is in
-    machine_run c.args.passes.items _ _ (returns-clause-each_once c) (returns-clause-rising c) (omega (arith, is, same)) _ (returns-clause-stopped c).0
+    machine_run c.args.passes.items _ _ (returns-clause-each_once c) (returns-clause-rising c) (omega (arith, is, same)) _ (returns-clause-stopped c).0 (λ unset some_spent. returns-clause-ended c unset some_spent)

@@ -18,6 +18,7 @@ loop-preserved c =
     let left = c.loop.invariant.left in let cut = c.split_seat-seat.ensures in record {
       table = cut.0 ∙ c.loop.invariant.table;
       left = cut_again _ _ _ _ _ (omega arith) left cut.2;
+      room = search rules;
       made = one_more _ _ (c.loop.counter - 1) _ _ _ (omega arith) c.in_ok-push.ensures.items c.loop.invariant.made
           (seat_fresh c.split_seat-seat.result _ _ 1 (cut.3 ∙ c.loop.invariant.table) (cut_off _ _ _ _ left cut.4));
     }
@@ -28,4 +29,5 @@ returns c =
       search rules,
       search rules,
       one_more _ _ (c.loop.counter - 1) _ _ _ (omega arith) c.in_ok-push-2.ensures.items c.loop.invariant.made (seat_fresh c.loop.first _ _ _ c.loop.invariant.table c.loop.invariant.left),
+      search rules,
     )
