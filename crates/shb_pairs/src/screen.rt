@@ -116,7 +116,12 @@ fn opened() -> Latest
 }
 
 /// Whether a read, and all reads that its numbers lead to, are SHB-below the predecessor of an event.
-fn are_past<O: Order>(ordered: &Ordered<'_, O>, reads: &[KeptRead], newest: KeptRead, e: u32) -> bool
+fn are_past<O: Order>(
+    ordered: &Ordered<'_, O>,
+    reads: &[KeptRead],
+    newest: KeptRead,
+    e: u32,
+) -> bool
     requires in_range { e < length ordered.now.trace.now.events.now }
     ensures { IsTrue result → (mark : Mark) → IsOf reads.now mark newest → IsPast ordered.now.trace.now.events.now mark e }
 {

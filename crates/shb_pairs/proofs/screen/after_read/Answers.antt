@@ -22,6 +22,6 @@ returns-clause-screened g c x access reading past h =
     let reads = c.args.reads.now.items in
     let last = c.args.latest.read in
     screened_kept c.args.ordered.now.trace.now.events.now c.args.ordered.now.trace.now.meets c.args.reads.now.items c.args.e x c.args.latest (record { write = c.args.latest.write; read = record { mark = c.mark_of-mark.result; before = c.len-before.result } }) access reading past h refl c.push.new.self.items
-      (λ mark read is. subst (λ (more : List KeptRead). IsOf more mark read) (sym c.in_ok-push.ensures.items) (of_more reads (last ∷ []) mark read is))
-      (subst (λ (more : List KeptRead). slice_get more c.len-before.result ≡ Some last) (sym c.in_ok-push.ensures.items) (get_last reads last c.len-before.result (c.len-before.ensures ∙ c.args.reads.now.ok.0)))
-      c.mark_of-mark.ensures
+    (λ mark read is. subst (λ (more : List KeptRead). IsOf more mark read) (sym c.in_ok-push.ensures.items) (of_more reads (last ∷ []) mark read is))
+    (subst (λ (more : List KeptRead). slice_get more c.len-before.result ≡ Some last) (sym c.in_ok-push.ensures.items) (get_last reads last c.len-before.result (c.len-before.ensures ∙ c.args.reads.now.ok.0)))
+    c.mark_of-mark.ensures
