@@ -1,11 +1,13 @@
 //! The variables that may have a race, by one pass over a trace.
 
-ghost use Rattle.std.specs.Prelude.{◌≡◌, ◌≢◌, ◌==◌, ℕ, ◌+◌, ◌<◌, Some, IfOk, IsTrue, length, map};
+ghost use Rattle.std.specs.Prelude.{◌≡◌, ◌≢◌, ◌==◌, ℕ, ◌+◌, ◌<◌, Some, IfOk, IsTrue, OnOk, length, map};
 ghost use Rattle.shb_lines.specs.declared.event.Op.TheVariants.{Write};
 ghost use Rattle.shb_lines.specs.events.Events.{op_at};
 ghost use Rattle.shb_lines.specs.events.Race.{variable_at};
 ghost use Rattle.shb_pairs.specs.Listed.{AreOpen};
-ghost use Rattle.shb_pairs.specs.Screen.{AreScreened, IsMarkOf, IsPast, IsScreened, no_place};
+ghost use Rattle.shb_pairs.specs.Screen.{AreScreened, IsMarkOf, IsOf, IsPast, IsScreened, no_place};
+ghost use Rattle.shb_pairs.specs.declared.screen.Mark.{Mark};
+ghost use Rattle.shb_pairs.specs.declared.screen.KeptRead.{KeptRead};
 
 use crate::race::is_write;
 use shb_clocks::{Order, Ordered};
@@ -18,6 +20,12 @@ use std::alloc::{AllocError, Global};
 /// The place of an event that isn't known any more, above that of each event.
 const NO_PLACE: u32 = u32::MAX;
 
+/// The number of no read, above that of each.
+const NO_READ: u32 = u32::MAX;
+
+/// At most so many reads are kept: 12 MiB.
+const MOST_READS: usize = 1 << 20;
+
 /// An event by its place in its thread, from 1, and the thread; or nothing, or an event that isn't
 /// known any more.
 #[derive(Clone, Copy)]
@@ -26,13 +34,21 @@ struct Mark {
     thread: u32,
 }
 
-/// What is kept of a variable: its last write, and the newest read since. Where the write is
-/// unordered, the variable is open; where the read is, not all reads since the write are ordered
-/// before one of them.
+/// A read of a variable, and the number of a read before it, since the same write, that isn't ordered
+/// before it; or `NO_READ`.
+#[derive(Clone, Copy)]
+struct KeptRead {
+    mark: Mark,
+    before: u32,
+}
+
+/// What is kept of a variable: its last write, and the newest read since, from which the numbers lead
+/// to the other reads that no later read is ordered behind. Where the write is unordered, the variable
+/// is open; where the read is, not all reads since the write were kept.
 #[derive(Clone, Copy)]
 struct Latest {
     write: Mark,
-    read: Mark,
+    read: KeptRead,
 }
 
 /// The mark of nothing, behind which each event is.
@@ -52,6 +68,14 @@ fn unordered() -> Mark
     Mark {
         place: NO_PLACE,
         thread: 0,
+    }
+}
+
+/// No read.
+fn no_read() -> KeptRead {
+    KeptRead {
+        mark: nothing(),
+        before: NO_READ,
     }
 }
 
@@ -87,37 +111,77 @@ fn opened() -> Latest
 {
     Latest {
         write: unordered(),
-        read: nothing(),
+        read: no_read(),
     }
+}
+
+/// Whether a read, and all reads that its numbers lead to, are SHB-below the predecessor of an event.
+fn are_past<O: Order>(
+    ordered: &Ordered<'_, O>,
+    reads: &[KeptRead],
+    newest: KeptRead,
+    e: u32,
+) -> bool
+    requires in_range { e < length ordered.now.trace.now.events.now }
+    ensures { IsTrue result → (mark : Mark) → IsOf reads.now mark newest → IsPast ordered.now.trace.now.events.now mark e }
+{
+    let mut read = newest;
+    for _ in 0..reads.len() + 1 {
+        if !is_past(ordered, read.mark, e) {
+            return false;
+        }
+        let Some(before) = reads.get(read.before as usize) else {
+            return true;
+        };
+        read = *before;
+    }
+    false
 }
 
 /// What is kept of a variable behind a read of it that is ordered behind its last write.
-fn after_read<O: Order>(ordered: &Ordered<'_, O>, latest: Latest, e: u32) -> Latest
+fn after_read<O: Order>(
+    ordered: &Ordered<'_, O>,
+    reads: &mut Vec<KeptRead>,
+    latest: Latest,
+    e: u32,
+) -> Result<Latest, NoMemory>
     requires in_range { e < length ordered.now.trace.now.events.now }
-    ensures { (x : ℕ) → variable_at ordered.now.trace.now.events.now e ≡ Some x → op_at ordered.now.trace.now.events.now e ≢ Some (Write x) → IsPast ordered.now.trace.now.events.now latest.write e → IsScreened ordered.now.trace.now.events.now e x latest → IsScreened ordered.now.trace.now.events.now (e + 1) x result }
+    ensures kept { (mark : Mark) (read : KeptRead) → IsOf reads.old.items mark read → OnOk result (IsOf reads.new.items mark read) }
+    ensures screened { (x : ℕ) → variable_at ordered.now.trace.now.events.now e ≡ Some x → op_at ordered.now.trace.now.events.now e ≢ Some (Write x) → IsPast ordered.now.trace.now.events.now latest.write e → IsScreened ordered.now.trace.now.events.now reads.old.items e x latest → IfOk result (λ next. IsScreened ordered.now.trace.now.events.now reads.new.items (e + 1) x next) }
 {
-    let Latest {
-        write,
-        read: newest,
-    } = latest;
-    if is_past(ordered, newest, e) {
-        let read = mark_of(ordered, e);
-        Latest { write, read }
-    } else {
-        let read = unordered();
-        Latest { write, read }
+    let Latest { write, read } = latest;
+    let mark = mark_of(ordered, e);
+    if is_past(ordered, read.mark, e) {
+        let before = read.before;
+        let read = KeptRead { mark, before };
+        return Ok(Latest { write, read });
     }
+    if reads.len() >= MOST_READS {
+        let mark = unordered();
+        let before = NO_READ;
+        let read = KeptRead { mark, before };
+        return Ok(Latest { write, read });
+    }
+    let before = reads.len() as u32;
+    reads.push(read)?;
+    let read = KeptRead { mark, before };
+    Ok(Latest { write, read })
 }
 
 /// What is kept of a variable behind a write of it that is ordered behind its last write.
-fn after_write<O: Order>(ordered: &Ordered<'_, O>, latest: Latest, e: u32) -> Latest
+fn after_write<O: Order>(
+    ordered: &Ordered<'_, O>,
+    reads: &[KeptRead],
+    latest: Latest,
+    e: u32,
+) -> Latest
     requires in_range { e < length ordered.now.trace.now.events.now }
-    ensures { (x : ℕ) → variable_at ordered.now.trace.now.events.now e ≡ Some x → IsPast ordered.now.trace.now.events.now latest.write e → IsScreened ordered.now.trace.now.events.now e x latest → IsScreened ordered.now.trace.now.events.now (e + 1) x result }
+    ensures { (x : ℕ) → variable_at ordered.now.trace.now.events.now e ≡ Some x → IsPast ordered.now.trace.now.events.now latest.write e → IsScreened ordered.now.trace.now.events.now reads.now e x latest → IsScreened ordered.now.trace.now.events.now reads.now (e + 1) x result }
 {
-    if is_past(ordered, latest.read, e) {
+    if are_past(ordered, reads, latest.read, e) {
         Latest {
             write: mark_of(ordered, e),
-            read: nothing(),
+            read: no_read(),
         }
     } else {
         opened()
@@ -125,29 +189,41 @@ fn after_write<O: Order>(ordered: &Ordered<'_, O>, latest: Latest, e: u32) -> La
 }
 
 /// What is kept of a variable behind an access of it.
-fn after_access<O: Order>(ordered: &Ordered<'_, O>, latest: Latest, e: u32) -> Latest
+fn after_access<O: Order>(
+    ordered: &Ordered<'_, O>,
+    reads: &mut Vec<KeptRead>,
+    latest: Latest,
+    e: u32,
+) -> Result<Latest, NoMemory>
     requires in_range { e < length ordered.now.trace.now.events.now }
-    ensures { (x : ℕ) → variable_at ordered.now.trace.now.events.now e ≡ Some x → IsScreened ordered.now.trace.now.events.now e x latest → IsScreened ordered.now.trace.now.events.now (e + 1) x result }
+    ensures kept { (mark : Mark) (read : KeptRead) → IsOf reads.old.items mark read → OnOk result (IsOf reads.new.items mark read) }
+    ensures screened { (x : ℕ) → variable_at ordered.now.trace.now.events.now e ≡ Some x → IsScreened ordered.now.trace.now.events.now reads.old.items e x latest → IfOk result (λ next. IsScreened ordered.now.trace.now.events.now reads.new.items (e + 1) x next) }
 {
     if !is_past(ordered, latest.write, e) {
-        opened()
+        Ok(opened())
     } else if is_write(ordered.trace.events[e as usize].op) {
-        after_write(ordered, latest, e)
+        Ok(after_write(ordered, reads.as_slice(), latest, e))
     } else {
-        after_read(ordered, latest, e)
+        after_read(ordered, reads, latest, e)
     }
 }
 
 /// Takes the event at e into what is kept of its variable, if it is an access.
-fn screen<O: Order>(ordered: &Ordered<'_, O>, table: &mut Vec<Latest>, e: u32)
+fn screen<O: Order>(
+    ordered: &Ordered<'_, O>,
+    reads: &mut Vec<KeptRead>,
+    table: &mut Vec<Latest>,
+    e: u32,
+) -> Result<(), NoMemory>
     requires in_range { e < length ordered.now.trace.now.events.now }
-    requires screened { AreScreened ordered.now.trace.now.events.now e ordered.now.trace.now.sizes.variables table.old.items }
-    ensures { AreScreened ordered.now.trace.now.events.now (e + 1) ordered.now.trace.now.sizes.variables table.new.items }
+    requires screened { AreScreened ordered.now.trace.now.events.now reads.old.items e ordered.now.trace.now.sizes.variables table.old.items }
+    ensures { OnOk result (AreScreened ordered.now.trace.now.events.now reads.new.items (e + 1) ordered.now.trace.now.sizes.variables table.new.items) }
 {
     if let Some(x) = variable(ordered.trace.events[e as usize].op) {
         let latest = table[x as usize];
-        table[x as usize] = after_access(ordered, latest, e);
+        table[x as usize] = after_access(ordered, reads, latest, e)?;
     }
+    Ok(())
 }
 
 /// Which variables are open, by what is kept of each.
@@ -162,12 +238,14 @@ fn flags_of(alloc: Global, table: &[Latest]) -> Result<Vec<bool>, AllocError>
 }
 
 /// Which variables may have a race, a flag for each: where it is false, no pair of accesses of the
-/// variable is a race. One pass over the trace in its order, with at most two look-ups of the order
-/// for each access, and 16 bytes a variable.
+/// variable is a race. One pass over the trace in its order, with two look-ups of the order for each
+/// access and one more for each read that isn't ordered behind the read before it; 20 bytes a variable
+/// and 12 such a read.
 ///
 /// A variable is settled where, of each access, the last write before it is SHB-below its
-/// predecessor and, where the access writes, so is the newest of the reads since that write, each of
-/// which has the one before it SHB-below its own predecessor. A flag may be true though no pair races.
+/// predecessor and, where the access writes, so are the reads since that write. A flag may be true
+/// though no pair races: where there are more than 1,048,576 reads that aren't ordered behind the one
+/// before.
 ///
 /// # Errors
 ///
@@ -189,11 +267,12 @@ pub fn open_variables<O: Order>(
     };
     let none = Latest {
         write: nothing(),
-        read: nothing(),
+        read: no_read(),
     };
+    let mut reads = Vec::new(alloc);
     let mut table = vec![in alloc; none; trace.sizes.variables as usize]?;
     for e in 0..trace.events.len() as u32 {
-        screen(&ordered, &mut table, e);
+        screen(&ordered, &mut reads, &mut table, e)?;
     }
     Ok(flags_of(alloc, table.as_slice())?)
 }

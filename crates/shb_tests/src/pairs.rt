@@ -142,7 +142,7 @@ fn small_traces(rt: HostRuntime) -> Result<(), Fail> {
 }
 
 /// Texts and which of their variables are open.
-const OPEN: [(&[u8], &[bool]); 8] = [
+const OPEN: [(&[u8], &[bool]); 11] = [
     (b"T1|w(y)\nT2|r(y)\n", &[true]),
     (b"T1|w(x)\nT1|w(y)\nT2|w(y)\nT1|r(x)\n", &[false, true]),
     (
@@ -156,10 +156,23 @@ const OPEN: [(&[u8], &[bool]); 8] = [
         b"T1|w(x)\nT1|fork(T2)\nT2|r(x)\nT1|join(T2)\nT1|w(x)\n",
         &[false],
     ),
-    // No pair races, but the two reads aren't ordered.
+    // The two reads aren't ordered.
     (
         b"T1|w(x)\nT1|fork(T2)\nT2|r(x)\nT1|r(x)\nT1|join(T2)\nT1|w(x)\n",
+        &[false],
+    ),
+    // The write is after the newest read alone.
+    (
+        b"T1|w(x)\nT1|fork(T2)\nT2|r(x)\nT1|r(x)\nT1|w(x)\n",
         &[true],
+    ),
+    (
+        b"T1|w(x)\nT1|fork(T2)\nT2|r(x)\nT2|r(x)\nT1|join(T2)\nT1|w(x)\n",
+        &[false],
+    ),
+    (
+        b"T1|acq(l)\nT1|w(x)\nT1|r(x)\nT1|rel(l)\nT2|acq(l)\nT2|r(x)\nT2|rel(l)\nT1|acq(l)\nT1|w(x)\nT1|rel(l)\n",
+        &[false],
     ),
 ];
 

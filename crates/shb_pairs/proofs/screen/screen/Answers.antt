@@ -4,13 +4,17 @@ use Rattle.shb_pairs.proofs.Counting.{access_item, variable_item}
 use Rattle.shb_pairs.proofs.Screening.{apart, table_access, table_other, variable_sized}
 use Rattle.shb_pairs.proofs.screen.screen.Goals as goal
 
-pub returns-in-Some : goal.returns-in-Some
-returns-in-Some g c =
-    let access = access_item c.args.ordered.now.trace.now.events.now c.args.e c.in-Some.x _ c.requires.in_range c.in-Some.ensures in
-    let low = variable_sized c.args.ordered.now.trace.now.events.now c.args.ordered.now.trace.now.sizes c.args.e c.in-Some.x c.args.ordered.now.trace.now.within access in
-    table_access c.args.ordered.now.trace.now.events.now c.args.e c.args.ordered.now.trace.now.sizes.variables c.in-Some.x _ c.args.table.now.items low.1 access (c.after_access.ensures c.in-Some.x access (subst (IsScreened c.args.ordered.now.trace.now.events.now c.args.e c.in-Some.x) (sym c.index-latest.ensures) (c.requires.screened.each c.in-Some.x _ low.1))) c.requires.screened
+pub returns-in_ok-table : goal.returns-in_ok-table
+returns-in_ok-table g c =
+    let trace = c.args.ordered.now.trace.now in
+    let events = trace.events.now in
+    let x = c.in-Some.x in
+    let reads = c.args.reads.now.items in
+    let access = access_item events c.args.e x _ c.requires.in_range c.in-Some.ensures in
+    let low = variable_sized events trace.sizes c.args.e x trace.within access in
+    table_access events reads c.after_access.new.reads.items c.args.e trace.sizes.variables x _ c.args.table.now.items c.in_ok-table.ensures.kept low.1 access (c.in_ok-table.ensures.screened x access (subst (IsScreened events reads c.args.e x) (sym c.index-latest.ensures) (c.requires.screened.each x _ low.1))) c.requires.screened
 
 pub returns-in_default : goal.returns-in_default
-returns-in_default g c = table_other c.args.ordered.now.trace.now.events.now c.args.e c.args.ordered.now.trace.now.sizes.variables c.args.table.now.items
+returns-in_default g c = table_other c.args.ordered.now.trace.now.events.now c.args.reads.now.items c.args.e c.args.ordered.now.trace.now.sizes.variables c.args.table.now.items
     (λ x access. apart x (sym access ∙ (variable_item c.args.ordered.now.trace.now.events.now c.args.e _ c.requires.in_range ∙ (sym c.variable.ensures ∙ c.in_default.is))))
     c.requires.screened
