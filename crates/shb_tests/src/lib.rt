@@ -14,4 +14,6 @@
 #[cfg(test)]
 mod asserting;
 #[cfg(test)]
+mod leading;
+#[cfg(test)]
 mod links;
