@@ -36,6 +36,8 @@ mod gates;
 #[cfg(test)]
 mod io;
 #[cfg(test)]
+mod leading;
+#[cfg(test)]
 mod lines;
 #[cfg(test)]
 mod links;

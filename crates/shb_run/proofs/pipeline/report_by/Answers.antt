@@ -3,7 +3,7 @@ use Rattle.shb_lines.specs.declared.event.Pair.{Pair}
 use Rattle.shb_pairs.specs.Races.{ends}
 use Rattle.shb_run.specs.Written.{ListedBy}
 use Rattle.shb_run.proofs.Endings.{cut_known, memory_known, reports_of}
-use Rattle.shb_run.proofs.Reports.{known_written, races_listed}
+use Rattle.shb_run.proofs.Reports.{races_listed}
 use Rattle.shb_run.proofs.pipeline.report_by.Goals as goal
 
 pub write_report-requires-clause-races : goal.write_report-requires-clause-races

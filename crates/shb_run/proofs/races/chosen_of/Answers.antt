@@ -1,5 +1,5 @@
 -- The races that lead are those of the race list that do.
-use Rattle.std.proofs.Common.{List, ap, map, subst, sym}
+use Rattle.std.proofs.Common.{List, map, subst, sym}
 use Rattle.shb_lines.specs.declared.event.Pair.{Pair}
 use Rattle.shb_lines.specs.events.Race.{IsRaceList}
 use Rattle.shb_pairs.specs.Races.{ends}
