@@ -108,7 +108,12 @@ fn each_passes_its_gate_and_runs_once(rt: HostRuntime) -> Result<(), Fail> {
             let job = make_job(pieces, runs.as_slice(), None);
             let workers = Workers::new(workers).expect(&rt, "1 to 64 workers");
             let values = gather(&rt, rt.alloc(), &job, &gate, workers)?;
-            same(&rt, &(values.len() as u64), &u64::from(pieces), "the values");
+            same(
+                &rt,
+                &(values.len() as u64),
+                &u64::from(pieces),
+                "the values",
+            );
             holds(&rt, all_one(runs.as_slice()), "each piece runs once");
             same(
                 &rt,
