@@ -3,7 +3,7 @@ ghost use Rattle.std.specs.Prelude.{◌≡◌, ℕ, ◌∷◌, ◌<◌, ◌≤�
 ghost use Rattle.shb_fan.specs.Passes.{fresh};
 ghost use Rattle.shb_fan.specs.Seated.{IsNewSeat, job_of};
 
-use crate::asserting::{holds, same};
+use crate::asserting::{holds, is_false, is_true, same};
 use shb_fan::*;
 use shb_io::NoMemory;
 use std::alloc::Global;
@@ -162,14 +162,14 @@ fn passes_one_slot_on(rt: HostRuntime) -> Result<(), Fail> {
     let Some(mut seat) = seats.pop() else {
         unreachable!()
     };
-    holds(&rt, ring.claim(&mut seat, 0), "a claim");
+    is_true(&rt, ring.claim(&mut seat, 0), "a claim");
     same(&rt, &ring.lift(&mut seat, 0), &None, "a lift");
     ring.place(&mut seat, 0, 0);
-    holds(&rt, !ring.claim(&mut seat, 64), "a claim");
-    holds(&rt, !ring.claim(&mut seat, 0), "a claim");
+    is_false(&rt, ring.claim(&mut seat, 64), "a claim");
+    is_false(&rt, ring.claim(&mut seat, 0), "a claim");
     same(&rt, &ring.lift(&mut seat, 0), &Some(0), "a lift");
     same(&rt, &ring.lift(&mut seat, 0), &None, "a lift");
-    holds(&rt, ring.claim(&mut seat, 64), "a claim");
+    is_true(&rt, ring.claim(&mut seat, 64), "a claim");
     ring.place(&mut seat, 64, 64);
     same(&rt, &ring.lift(&mut seat, 64), &Some(64), "a lift");
     Ok(())

@@ -28,15 +28,17 @@ const THREE_RACES: &str = "T1|w(x)\nT2|w(x)\nT3|r(x)\n";
 const THREE_RACES_REPORT: &str =
     "shb-report 2\nevents 3 threads 3 locks 0 variables 1\nraces 3\nplaces 1\nplace 1: 3\nat \nand \nrace 1: 1 2\nfirst T1|w(x)\nsecond T2|w(x)\nschedule 0:\nrace 2: 1 3\nfirst T1|w(x)\nsecond T3|r(x)\nschedule 0:\nrace 3: 2 3\nfirst T2|w(x)\nsecond T3|r(x)\nschedule 0:\nend\n";
 
-/// Holds piece 0 until piece 1 has entered.
+/// Holds piece 0 until piece 1 has entered, and counts the pieces that enter.
 #[derive(Drop)]
 struct FirstHeld {
+    entered: AtomicU64,
     second: AtomicBool,
     missed: AtomicBool,
 }
 
 impl Gate for FirstHeld {
     fn enter<R: Wait>(&self, _rt: &R, k: u64) {
+        self.entered.fetch_add(1, Ordering::SeqCst);
         if k == 1 {
             self.second.store(true, Ordering::SeqCst);
         }
@@ -55,6 +57,7 @@ impl Gate for FirstHeld {
 
 fn first_held() -> FirstHeld {
     FirstHeld {
+        entered: AtomicU64::new(0),
         second: AtomicBool::new(false),
         missed: AtomicBool::new(false),
     }
@@ -82,6 +85,10 @@ fn two_at_once(rt: HostRuntime) -> Result<(), Fail> {
         TWO_PIECES_REPORT.as_bytes(),
         "the report",
     );
+    for gate in [&pair_gate, &witness_gate] {
+        let entered = gate.entered.load(Ordering::SeqCst);
+        same(&rt, &entered, &2, "pieces that enter");
+    }
     holds(&rt, !pair_gate.missed.load(Ordering::SeqCst), "two search");
     holds(
         &rt,
@@ -116,15 +123,17 @@ impl Sink for Watched<'_> {
     }
 }
 
-/// Holds piece 64 until the sink has taken 98 bytes.
+/// Holds piece 64 until the sink has taken 98 bytes, and counts the pieces that enter.
 #[derive(Drop)]
 struct LastHeld<'a> {
+    entered: AtomicU64,
     taken: &'a AtomicU64,
     missed: AtomicBool,
 }
 
 impl Gate for LastHeld<'_> {
     fn enter<R: Wait>(&self, _rt: &R, k: u64) {
+        self.entered.fetch_add(1, Ordering::SeqCst);
         if k != 64 {
             return;
         }
@@ -146,6 +155,7 @@ fn written_early(rt: HostRuntime) -> Result<(), Fail> {
     }
     let taken = AtomicU64::new(0);
     let gate = LastHeld {
+        entered: AtomicU64::new(0),
         taken: &taken,
         missed: AtomicBool::new(false),
     };
@@ -164,6 +174,8 @@ fn written_early(rt: HostRuntime) -> Result<(), Fail> {
         &gate,
     );
     holds(&rt, answer.is_ok(), "the report is written");
+    let entered = gate.entered.load(Ordering::SeqCst);
+    same(&rt, &entered, &2080, "pieces that enter");
     holds(
         &rt,
         !gate.missed.load(Ordering::SeqCst),
