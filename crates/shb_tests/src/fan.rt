@@ -302,7 +302,11 @@ fn expect_stream<R: Threads + Wait + Sync + AllocGlobal + Abort>(
     let answer = stream(rt, rt.alloc(), &job, &FreeGate, workers, &mut taker);
     let wanted = refused.map_or(all_of(u64::from(pieces)), |k| Err(StreamError::Taker(k)));
     same(rt, &answer, &wanted, "the answer of a stream");
-    let kept = if refused.is_some() { given - 1 } else { given };
+    let kept = if refused.is_some() {
+        given.saturating_sub(1)
+    } else {
+        given
+    };
     holds(rt, is_count(taker.pieces.as_slice(), given), "pieces given");
     holds(rt, is_count(taker.values.as_slice(), kept), "values kept");
 }
