@@ -3,6 +3,30 @@ use crate::help::{ABOUT_CHECKS, ABOUT_PLACES, ABOUT_THE_PROGRAM, ABOUT_TRACES};
 use clap::{Arg, ArgAction, Command, value_parser};
 use std::alloc::{AllocError, Global};
 
+/// `--workers N`
+fn workers_argument<'a>(alloc: Global) -> Arg<'a> {
+    Arg::new(alloc, "workers")
+        .long("workers")
+        .value_name("N")
+        .help("How many workers share the work, 1 to 64 [default: 4]")
+        .value_parser(value_parser!(u32).range(1..=64))
+}
+
+/// `--list`
+fn list_argument<'a>(alloc: Global) -> Arg<'a> {
+    Arg::new(alloc, "list")
+        .long("list")
+        .help("Leave the schedules out: for the first look at a trace")
+        .action(ArgAction::SetTrue)
+}
+
+/// `TRACE`, where it may be left out.
+fn trace_argument<'a>(alloc: Global) -> Arg<'a> {
+    Arg::new(alloc, "trace").value_name("TRACE").help(
+        "The file of the trace; standard input where it is left out",
+    )
+}
+
 /// `NAME [--workers N] [--list] [TRACE]`: a command that writes a report.
 fn report_command<'a>(
     alloc: Global,
@@ -10,24 +34,12 @@ fn report_command<'a>(
     about: &'a str,
     details: &'a str,
 ) -> Result<Command<'a>, AllocError> {
-    let workers = Arg::new(alloc, "workers")
-        .long("workers")
-        .value_name("N")
-        .help("How many workers share the work, 1 to 64 [default: 4]")
-        .value_parser(value_parser!(u32).range(1..=64));
-    let list = Arg::new(alloc, "list")
-        .long("list")
-        .help("Leave the schedules out: for the first look at a trace")
-        .action(ArgAction::SetTrue);
-    let trace = Arg::new(alloc, "trace").value_name("TRACE").help(
-        "The file of the trace; standard input where it is left out",
-    );
     Command::new(alloc, name)
         .about(about)
         .after_help(details)
-        .arg(workers)?
-        .arg(list)?
-        .arg(trace)
+        .arg(workers_argument(alloc))?
+        .arg(list_argument(alloc))?
+        .arg(trace_argument(alloc))
 }
 
 /// `check TRACE`

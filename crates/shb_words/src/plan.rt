@@ -118,15 +118,15 @@ fn refused(alloc: Global, reason: &str) -> Result<Plan, WordsFault> {
 
 /// What stands for an error of the command line: help that was asked for is no error.
 fn plan_of_error(alloc: Global, error: Error) -> Result<Plan, WordsFault> {
-    match error.kind() {
-        ErrorKind::OutOfMemory => Err(WordsFault::Memory),
-        ErrorKind::DisplayHelp => Ok(Plan::Help {
-            text: error.to_string(alloc)?,
-        }),
-        _ => Err(WordsFault::Refused {
-            text: error.to_string(alloc)?,
-        }),
+    let kind = error.kind();
+    if matches!(kind, ErrorKind::OutOfMemory) {
+        return Err(WordsFault::Memory);
     }
+    let text = error.to_string(alloc)?;
+    if matches!(kind, ErrorKind::DisplayHelp) {
+        return Ok(Plan::Help { text });
+    }
+    Err(WordsFault::Refused { text })
 }
 
 /// The plan that the words of a command line ask for, the program's own name left out:
