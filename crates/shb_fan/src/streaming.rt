@@ -44,7 +44,7 @@ fn wait_to_claim<R: Wait, T: Drop, M, J: Job<Out = T, Meaning = M>, G: Gate>(
 ) -> bool
     requires ready { IsReady J.value J.count shared.now worker.old }
     requires piece { k < J.count shared.now.job.now }
-    ensures pass { worker.new.pass ≡ worker.old.pass }
+    ensures pass { (worker.new.pass.source ≡ worker.old.pass.source) × (worker.new.pass.drawn ≡ worker.old.pass.drawn) × (worker.new.pass.halted ≡ worker.old.pass.halted) }
     ensures seat { IsSeatOf J.value J.count shared.now.ring.now worker.new.seat }
     ensures placed { placed_of worker.new.seat ≡ placed_of worker.old.seat }
     ensures lifted { lifted_of worker.new.seat ≡ lifted_of worker.old.seat }
