@@ -50,31 +50,19 @@ accounts_placed drawn placed more k halted new accounts here is running = record
   owed = λ h. absurd (untrue new running h);
 }
 
--- the draw is stopped while a piece that was drawn isn't placed
-pub accounts_stopped : (drawn placed : List ℕ) (k : ℕ) (halted new : Bool) → Accounts drawn placed halted → IsOwed drawn placed k → Accounts drawn placed new
-accounts_stopped drawn placed k halted new accounts here = record { within = accounts.within; owed = λ _. (k, here) }
-
 -- ---- the same of a worker, before and after a step
 
 module _ {T M : Type 0} (old new : Worker T M) (accounts : HasAccounts old) where
-  pub kept : new.pass ≡ old.pass → placed_of new.seat ≡ placed_of old.seat → HasAccounts new
-  kept pass placed = subst (λ (w : PassState × List ℕ). Accounts w.0.drawn w.1 w.0.halted) (sym (λ i. (pass i, placed i))) accounts
-
   pub drawn_at : (k : ℕ) → placed_of new.seat ≡ placed_of old.seat → new.pass.drawn ≡ old.pass.drawn ++ k ∷ [] → new.pass.halted ≡ false → All (λ x. x < k) old.pass.drawn → HasAccounts new × Owes new k
   drawn_at k placed drawn running above =
       subst (λ (l : List ℕ). Accounts new.pass.drawn l new.pass.halted × IsOwed new.pass.drawn l k) (sym placed)
       (accounts_drawn old.pass.drawn (placed_of old.seat) new.pass.drawn k old.pass.halted new.pass.halted accounts drawn running above)
 
   module _ (k : ℕ) (owes : Owes old k) where
-    pub placed_at : old.pass.halted ≡ false → new.pass ≡ old.pass → placed_of new.seat ≡ placed_of old.seat ++ k ∷ [] → HasAccounts new
-    placed_at running pass placed =
-        subst (λ (p : PassState). Accounts p.drawn (placed_of new.seat) p.halted) (sym pass)
-        (accounts_placed old.pass.drawn (placed_of old.seat) (placed_of new.seat) k old.pass.halted old.pass.halted accounts owes placed running)
-
-    pub stopped_at : new.pass ≡ record old.pass { halted = true } → placed_of new.seat ≡ placed_of old.seat → HasAccounts new
-    stopped_at pass placed =
-        subst (λ (w : PassState × List ℕ). Accounts w.0.drawn w.1 w.0.halted) (sym (λ i. (pass i, placed i)))
-        (accounts_stopped old.pass.drawn (placed_of old.seat) k old.pass.halted true accounts owes)
+    pub placed_at : old.pass.halted ≡ false → new.pass.drawn ≡ old.pass.drawn → new.pass.halted ≡ old.pass.halted → placed_of new.seat ≡ placed_of old.seat ++ k ∷ [] → HasAccounts new
+    placed_at running drawn halted placed =
+        subst (λ (l : List ℕ). Accounts l (placed_of new.seat) new.pass.halted) (sym drawn)
+        (accounts_placed old.pass.drawn (placed_of old.seat) (placed_of new.seat) k old.pass.halted new.pass.halted accounts owes placed (halted ∙ running))
 
 -- one piece more was lifted
 pub lifted_more : {T M : Type 0} (old new : Worker T M) (k : ℕ) → HasLifted old k → lifted_of new.seat ≡ lifted_of old.seat ++ k ∷ [] → HasLifted new (k + 1)

@@ -13,8 +13,8 @@ use Rattle.atomic_table.specs.declared.shared.Seat.{Seat}
 use Rattle.shb_fan.specs.declared.ticket_table.Plan.{Plan}
 use Rattle.shb_fan.specs.declared.ticket_table.PassView.{PassView}
 use Rattle.shb_fan.specs.Numbers.{weight, times, once_below, total}
-use Rattle.shb_fan.specs.Drawing.{parts_of, spent_of, halted_of, times_of, Holds, Kept}
-use Rattle.shb_fan.specs.Passes.{Source, PassState, is_positive, state_of, times_in, halted_in, spent_in, IsPass}
+use Rattle.shb_fan.specs.Drawing.{parts_of, spent_of, halted_of, seen_of, times_of, Holds, Kept}
+use Rattle.shb_fan.specs.Passes.{Source, PassState, is_positive, state_of, times_in, halted_in, seen_in, spent_in, IsPass}
 use Rattle.shb_fan.proofs.Counts.{total-whole}
 
 pub counted : (f : PassState → ℕ) (rest ys : List PassState) (p : PassState) (n m k : ℕ) → rest ≡ ys ++ p ∷ [] → n + sum_by f rest ≡ m → f p ≡ k → (n + k) + sum_by f ys ≡ m
@@ -33,7 +33,10 @@ module _ (seat : Seat (Unit {0}) PassView) (spent : Bool) (p : PassState) (is : 
   times-shown x = ap (times_in x) (sym shown)
 
   pub halted-shown : halted_in p ≡ seat.me.0.halted
-  halted-shown = ap halted_in (sym shown) ∙ weight-positive seat.me.0.halted is.marked
+  halted-shown = ap halted_in (sym shown) ∙ weight-positive seat.me.0.halted is.marked.0
+
+  pub seen-shown : seen_in p ≡ seat.me.0.seen
+  seen-shown = ap seen_in (sym shown) ∙ weight-positive seat.me.0.seen is.marked.1
 
   pub spent-shown : spent_in p ≡ seat.me.0.spent
   spent-shown = ap spent_in (sym shown) ∙ sym is.flag
@@ -59,16 +62,19 @@ pub record Told (plan : Plan) (v : PassView) (ticket stop : ℕ) : Type 0 where
   pub each : (x : ℕ) → times x v.drawn ≡ once_below x (min plan.limit ticket)
   pub running : v.halted ≡ 0 → stop ≡ 0
   pub halted : 0 < v.halted → stop ≡ 1
+  pub seen : stop ≡ 0 → v.seen ≡ 0
   pub ended : 0 < v.spent → stop ≡ 0 → plan.limit ≤ ticket
 
 told : (plan : Plan) (t z : ℕ) (views : List PassView) → Holds plan t z views → (id : ℕ) (v : PassView) → get_elem? views id ≡ some v → v.parts ≡ plan.passes → Told plan v t z
 told plan t z views r id v at whole =
     let all : total parts_of views ≡ v.parts = r.parts ∙ sym whole in
     let h = total-whole parts_of halted_of views id v at all (λ i w e empty. ((r.sound i w e).nothing empty).1) in
+    let n = total-whole parts_of seen_of views id v at all (λ i w e empty. ((r.sound i w e).nothing empty).2) in
     let s = total-whole parts_of spent_of views id v at all (λ i w e empty. let o = (r.sound i w e).once in omega arith) in record {
       each = λ x. sym (total-whole parts_of (times_of x) views id v at all (λ i w e empty. ap (times x) ((r.sound i w e).nothing empty).0)) ∙ r.each x;
       running = (let f = r.running in omega arith);
       halted = (let f = r.halted in omega arith);
+      seen = (let f = r.seen in omega arith);
       ended = (let f = r.ended in omega arith);
     }
 
@@ -108,6 +114,9 @@ unset_set z e set = grind (arith, nat_tests)
 unset_is : (z : ℕ) → not (eqb z 0) ≡ false → z ≡ 0
 unset_is z h = grind (arith, nat_tests)
 
+is_set : (z : ℕ) → (z ≡ 0 → ⊥) → not (eqb z 0) ≡ true
+is_set z h = grind (arith, nat_tests, h)
+
 -- the words against all passes: of a seat whose view stands for all of them
 module _ (plan : Plan) (v : PassView) (t z : ℕ) (passes : List PassState) (r : Told plan v t z) where
   pub each_once : (x : ℕ) → times x v.drawn ≡ sum_by (times_in x) passes → sum_by (times_in x) passes ≡ once_below x (min t plan.limit)
@@ -120,6 +129,9 @@ module _ (plan : Plan) (v : PassView) (t z : ℕ) (passes : List PassState) (r :
 
   pub stop_set : v.halted ≡ sum_by halted_in passes → Any (λ p. IsTrue p.halted) passes → not (eqb z 0) ≡ true
   stop_set e a = let more = any_to (λ (p : PassState). p.halted) passes a in let one = r.halted (omega arith) in ap (λ (n : ℕ). not (eqb n 0)) one
+
+  pub seen_set : v.seen ≡ sum_by seen_in passes → Any (λ p. IsTrue p.seen) passes → not (eqb z 0) ≡ true
+  seen_set e a = let more = any_to (λ (p : PassState). p.seen) passes a in is_set z (λ unset. let none_seen = r.seen unset in omega arith)
 
   pub all_drawn : v.spent ≡ sum_by spent_in passes → not (eqb z 0) ≡ false → Any (λ p. IsTrue p.spent) passes → min t plan.limit ≡ plan.limit
   all_drawn e unset a = let more = any_to (λ (p : PassState). p.spent) passes a in let over = r.ended (omega arith) (unset_is z unset) in omega arith

@@ -8,7 +8,7 @@ use Rattle.atomic_table.specs.Table.{State, Me, step, keeps, stepped, opening, A
 use Rattle.shb_fan.specs.declared.ticket_table.Plan.{Plan}
 use Rattle.shb_fan.specs.declared.ticket_table.PassView.{PassView}
 use Rattle.shb_fan.specs.Numbers.{once_below, total}
-use Rattle.shb_fan.specs.Drawing.{pass_view, parts_of, spent_of, halted_of, times_of, Sound, Holds, Kept, gained, used_up, drew, saw, looked, stopped, left_over, one_part, joined, spent_pass_view}
+use Rattle.shb_fan.specs.Drawing.{pass_view, parts_of, spent_of, halted_of, seen_of, times_of, Sound, Holds, Kept, gained, used_up, warned, drew, saw, looked, stopped, left_over, one_part, joined, spent_pass_view}
 use Rattle.atomic_table.proofs.Lists.{set_again, set_else}
 use Rattle.shb_fan.proofs.Counts.{total-set, total-snoc, total-at, total-le, sound-set, sound-snoc, times-append, times-snoc, once_below-more, once_below-min, once_below-nothing, all-below}
 
@@ -51,6 +51,7 @@ module _ (plan : Plan) where
       low = (let s = total-set spent_of views id v w at in let l = r.low in omega arith);
       running = (let s = total-set halted_of views id v w at in let h = r.running in omega arith);
       halted = (let s = total-set halted_of views id v w at in let h = r.halted in omega arith);
+      seen = (let s = total-set seen_of views id v w at in let h = r.seen in omega arith);
       ended = (let s = total-set spent_of views id v w at in let h = r.ended in omega arith);
       sound = sound-set views id w (record { once = (r.sound id v at).once; nothing = λ empty. absurd (omega arith) }) r.sound;
     }
@@ -64,28 +65,43 @@ module _ (plan : Plan) where
       low = (let s = total-set spent_of views id v w at in let l = r.low in omega arith);
       running = (let s = total-set halted_of views id v w at in let h = r.running in omega arith);
       halted = (let s = total-set halted_of views id v w at in let h = r.halted in omega arith);
+      seen = (let s = total-set seen_of views id v w at in let h = r.seen in omega arith);
       ended = λ _. over;
       sound = sound-set views id w (record { once = omega arith; nothing = λ empty. absurd (omega arith) }) r.sound;
     }
 
-    halts : 0 < v.parts → Holds plan t 1 (set views id (pass_view v.parts v.plan v.drawn v.spent 1))
-    halts one = let w : PassView = pass_view v.parts v.plan v.drawn v.spent 1 in let up = total-set halted_of views id v w at in record {
+    halts : 0 < v.parts → Holds plan t 1 (set views id (pass_view v.parts v.plan v.drawn v.spent 1 v.seen))
+    halts one = let w : PassView = pass_view v.parts v.plan v.drawn v.spent 1 v.seen in let up = total-set halted_of views id v w at in record {
       small = r.small;
       parts = (let s = total-set parts_of views id v w at in let p = r.parts in omega arith);
       each = λ x. let s = total-set (times_of x) views id v w at in let e = r.each x in omega arith;
       low = (let s = total-set spent_of views id v w at in let l = r.low in omega arith);
       running = λ empty. let least = total-at halted_of views id v at in absurd (omega arith);
       halted = λ _. refl;
+      seen = λ e. absurd (omega arith);
       ended = λ _ e. absurd (omega arith);
+      sound = sound-set views id w (record { once = (r.sound id v at).once; nothing = λ empty. absurd (omega arith) }) r.sound;
+    }
+
+    warns : 0 < v.parts → ¬ (z ≡ 0) → Holds plan t z (set views id (warned v))
+    warns one set_now = let w : PassView = warned v in record {
+      small = r.small;
+      parts = (let s = total-set parts_of views id v w at in let p = r.parts in omega arith);
+      each = λ x. let s = total-set (times_of x) views id v w at in let e = r.each x in omega arith;
+      low = (let s = total-set spent_of views id v w at in let l = r.low in omega arith);
+      running = (let s = total-set halted_of views id v w at in let h = r.running in omega arith);
+      halted = (let s = total-set halted_of views id v w at in let h = r.halted in omega arith);
+      seen = λ e. absurd (set_now e);
+      ended = λ _ e. absurd (set_now e);
       sound = sound-set views id w (record { once = (r.sound id v at).once; nothing = λ empty. absurd (omega arith) }) r.sound;
     }
 
     stays : Holds plan t z (set views id v)
     stays = subst (Holds plan t z) (sym (set_again views id v at)) r
 
-  -- two views with no part have drawn and stopped nothing
-  nothing_joined : (v w : PassView) → Sound v → Sound w → v.parts + w.parts ≡ 0 → (v.drawn ++ w.drawn ≡ []) × (v.halted + w.halted ≡ 0)
-  nothing_joined v w a b e = let p = a.nothing (omega arith) in let q = b.nothing (omega arith) in ((λ i. p.0 i ++ q.0 i), (let m = p.1 in let n = q.1 in omega arith))
+  -- two views with no part have drawn and stopped nothing and seen no stop
+  nothing_joined : (v w : PassView) → Sound v → Sound w → v.parts + w.parts ≡ 0 → (v.drawn ++ w.drawn ≡ []) × (v.halted + w.halted ≡ 0) × (v.seen + w.seen ≡ 0)
+  nothing_joined v w a b e = let p = a.nothing (omega arith) in let q = b.nothing (omega arith) in ((λ i. p.0 i ++ q.0 i), (let m = p.1 in let n = q.1 in omega arith), (let m = p.2 in let n = q.2 in omega arith))
 
   pub draws : (slots id : ℕ) (me : M) → 0 < me.0.parts → me.0.spent ≡ 0 → me.0.plan.limit ≡ plan.limit
       → Allows (Kept plan) slots id me 0 (λ n. (n + 1) % 2 ^ 64) (drew (step slots 0 1 0 none) me)
@@ -122,13 +138,18 @@ module _ (plan : Plan) where
         ((λ e. absurd (more e)), λ _. refl),
       ))
 
-  pub looks : (slots id : ℕ) (me : M) → Allows (Kept plan) slots id me 1 (λ n. n) (looked (step slots 1 0 0 none) me)
-  looks slots id me s r _ at _ = let v : PassView = me.0 in let t : ℕ = get_or s.words 0 0 in let z : ℕ = get_or s.words 1 0 in
-      (v, keeps, tt, on_stop s r.0 z id me v (stays t z s.views r.1 id v at), (seen_halted t z s.views r.1 id v at, refl))
+  -- what a view that has seen a stop knows of the stop word
+  seen_before : (t z : ℕ) (views : List PassView) → Holds plan t z views → (id : ℕ) (v : PassView) → get_elem? views id ≡ some v → z ≡ 0 → v.seen ≡ 0
+  seen_before t z views r id v at unset = let least = total-at seen_of views id v at in let h = r.seen unset in omega arith
+
+  pub looks : (slots id : ℕ) (me : M) → 0 < me.0.parts → Allows (Kept plan) slots id me 1 (λ n. n) (looked (step slots 1 0 0 none) me)
+  looks slots id me one s r _ at _ = let v : PassView = me.0 in let t : ℕ = get_or s.words 0 0 in let z : ℕ = get_or s.words 1 0 in let h = r.1 in dite (ℕ_discrete z 0)
+      (λ unset. (v, keeps, tt, on_stop s r.0 z id me v (stays t z s.views h id v at), ((λ _. (seen_halted t z s.views h id v at unset, seen_before t z s.views h id v at unset, refl)), λ more. absurd (omega arith))))
+      (λ more. (warned v, keeps, tt, on_stop s r.0 z id me (warned v) (warns t z s.views h id v at one more), ((λ e. absurd (more e)), λ _. refl)))
 
   pub stops : (slots id : ℕ) (me : M) → 0 < me.0.parts → Allows (Kept plan) slots id me 1 (λ _. 1) (λ _. stopped (step slots 1 1 0 none) me 1)
   stops slots id me one s r _ at _ = let v : PassView = me.0 in let t : ℕ = get_or s.words 0 0 in let z : ℕ = get_or s.words 1 0 in
-      (pass_view v.parts v.plan v.drawn v.spent 1, keeps, tt, on_stop s r.0 1 id me (pass_view v.parts v.plan v.drawn v.spent 1) (halts t z s.views r.1 id v at one), refl)
+      (pass_view v.parts v.plan v.drawn v.spent 1 v.seen, keeps, tt, on_stop s r.0 1 id me (pass_view v.parts v.plan v.drawn v.spent 1 v.seen) (halts t z s.views r.1 id v at one), refl)
 
   cut_views : (t z : ℕ) (views : List PassView) → Holds plan t z views → (id : ℕ) (v : PassView) → get_elem? views id ≡ some v → 1 < v.parts → v.spent ≡ 0
       → Holds plan t z (set views id (left_over v) ++ one_part v ∷ [])
@@ -139,6 +160,7 @@ module _ (plan : Plan) where
     low = (let a = total-set spent_of views id v w at in let b = total-snoc spent_of cut u in let l = r.low in omega arith);
     running = (let a = total-set halted_of views id v w at in let b = total-snoc halted_of cut u in let h = r.running in omega arith);
     halted = (let a = total-set halted_of views id v w at in let b = total-snoc halted_of cut u in let h = r.halted in omega arith);
+    seen = (let a = total-set seen_of views id v w at in let b = total-snoc seen_of cut u in let h = r.seen in omega arith);
     ended = (let a = total-set spent_of views id v w at in let b = total-snoc spent_of cut u in let h = r.ended in omega arith);
     sound = sound-snoc cut u (record { once = omega arith; nothing = λ empty. absurd (omega arith) })
         (sound-set views id w (record { once = omega arith; nothing = λ empty. absurd (omega arith) }) r.sound);
@@ -155,8 +177,9 @@ module _ (plan : Plan) where
         low = (let a = total-set spent_of views id v u at in let b = total-set spent_of made other w spent_pass_view there in let l = r.low in omega arith);
         running = (let a = total-set halted_of views id v u at in let b = total-set halted_of made other w spent_pass_view there in let h = r.running in omega arith);
         halted = (let a = total-set halted_of views id v u at in let b = total-set halted_of made other w spent_pass_view there in let h = r.halted in omega arith);
+        seen = (let a = total-set seen_of views id v u at in let b = total-set seen_of made other w spent_pass_view there in let h = r.seen in omega arith);
         ended = (let a = total-set spent_of views id v u at in let b = total-set spent_of made other w spent_pass_view there in let h = r.ended in omega arith);
-        sound = sound-set made other spent_pass_view (record { once = omega arith; nothing = λ _. (refl, refl) }) (sound-set views id u both r.sound);
+        sound = sound-set made other spent_pass_view (record { once = omega arith; nothing = λ _. (refl, refl, refl) }) (sound-set views id u both r.sound);
       }
 
   pub cuts : (id : ℕ) (v : PassView) → 1 < v.parts → v.spent ≡ 0 → Splits (Kept plan) id v (left_over v) (one_part v)
@@ -166,7 +189,7 @@ module _ (plan : Plan) where
   merges id v other w s r at apart there = (r.0, merge_views (get_or s.words 0 0) (get_or s.words 1 0) s.views r.1 id v at other w apart there)
 
   -- the table as it opens
-  pub opens : plan.limit ≤ 2 ^ 60 → plan.passes ≤ 65 → 0 < plan.passes → Kept plan (opening (0 ∷ 0 ∷ []) [] (pass_view plan.passes plan [] 0 0))
+  pub opens : plan.limit ≤ 2 ^ 60 → plan.passes ≤ 65 → 0 < plan.passes → Kept plan (opening (0 ∷ 0 ∷ []) [] (pass_view plan.passes plan [] 0 0 0))
   opens low few some_pass = (
     refl,
     record {
@@ -176,7 +199,8 @@ module _ (plan : Plan) where
       low = omega arith;
       running = λ _. refl;
       halted = λ h. absurd (omega arith);
+      seen = λ _. refl;
       ended = λ h. absurd (omega arith);
-      sound = sound-snoc [] (pass_view plan.passes plan [] 0 0) (record { once = omega arith; nothing = λ empty. absurd (omega arith) }) (λ i v e. absurd (some-ne-none v (sym e)));
+      sound = sound-snoc [] (pass_view plan.passes plan [] 0 0 0) (record { once = omega arith; nothing = λ empty. absurd (omega arith) }) (λ i v e. absurd (some-ne-none v (sym e)));
     },
   )

@@ -9,14 +9,14 @@ use Rattle.shb_fan.specs.Drawing.{pass_view, left_over, one_part}
 use Rattle.atomic_table.specs.Table.{Me}
 use Rattle.shb_fan.specs.Passes.{PassState, is_positive, fresh, source_of, state_of}
 
-pub seat_fresh : (seat : Seat (Unit {0}) PassView) (z : TableId) (plan : Plan) (parts : ℕ) → seat.table_id ≡ z → seat.me ≡ (pass_view parts plan [] 0 0, []) → state_of seat false ≡ fresh (source_of z plan)
-seat_fresh seat z plan parts a b = λ i. record { source = source_of (a i) (b i).0.plan; drawn = (b i).0.drawn; spent = false; halted = is_positive (b i).0.halted }
+pub seat_fresh : (seat : Seat (Unit {0}) PassView) (z : TableId) (plan : Plan) (parts : ℕ) → seat.table_id ≡ z → seat.me ≡ (pass_view parts plan [] 0 0 0, []) → state_of seat false ≡ fresh (source_of z plan)
+seat_fresh seat z plan parts a b = λ i. record { source = source_of (a i) (b i).0.plan; drawn = (b i).0.drawn; spent = false; halted = is_positive (b i).0.halted; seen = is_positive (b i).0.seen }
 
 pub one_more : (xs ys : List PassState) (n m : ℕ) (p q : PassState) → n + 1 ≡ m → ys ≡ xs ++ q ∷ [] → xs ≡ replicate n p → q ≡ p → ys ≡ replicate m p
 one_more xs ys n m p q up longer same is = longer ∙ (ap₂ (λ (l : List PassState) (r : PassState). l ++ r ∷ []) same is ∙ (replicate-append-replicate n 1 p ∙ ap (λ (k : ℕ). replicate k p) up))
 
-pub cut_again : (me next : Me (Unit {0}) PassView) (plan : Plan) (a b : ℕ) → a - 1 ≡ b → me ≡ (pass_view a plan [] 0 0, []) → next ≡ (left_over me.0, me.1) → next ≡ (pass_view b plan [] 0 0, [])
-cut_again me next plan a b down was is = is ∙ (ap (λ (m : Me (Unit {0}) PassView). (left_over m.0, m.1)) was ∙ ap (λ (n : ℕ). (pass_view n plan [] 0 0, [])) down)
+pub cut_again : (me next : Me (Unit {0}) PassView) (plan : Plan) (a b : ℕ) → a - 1 ≡ b → me ≡ (pass_view a plan [] 0 0 0, []) → next ≡ (left_over me.0, me.1) → next ≡ (pass_view b plan [] 0 0 0, [])
+cut_again me next plan a b down was is = is ∙ (ap (λ (m : Me (Unit {0}) PassView). (left_over m.0, m.1)) was ∙ ap (λ (n : ℕ). (pass_view n plan [] 0 0 0, [])) down)
 
-pub cut_off : (me new : Me (Unit {0}) PassView) (plan : Plan) (a : ℕ) → me ≡ (pass_view a plan [] 0 0, []) → new ≡ (one_part me.0, []) → new ≡ (pass_view 1 plan [] 0 0, [])
+pub cut_off : (me new : Me (Unit {0}) PassView) (plan : Plan) (a : ℕ) → me ≡ (pass_view a plan [] 0 0 0, []) → new ≡ (one_part me.0, []) → new ≡ (pass_view 1 plan [] 0 0 0, [])
 cut_off me new plan a was is = is ∙ ap (λ (m : Me (Unit {0}) PassView). (one_part m.0, [])) was

@@ -7,8 +7,8 @@ use Rattle.shb_fan.specs.declared.ticket_table.Plan.{Plan}
 use Rattle.shb_fan.specs.declared.ticket_table.PassView.{PassView}
 use Rattle.shb_fan.specs.Numbers.{times, once_below, total}
 
-abbrev pub pass_view : ℕ → Plan → List ℕ → ℕ → ℕ → PassView
-pass_view parts plan drawn spent halted = record { parts = parts; plan = plan; drawn = drawn; spent = spent; halted = halted }
+abbrev pub pass_view : ℕ → Plan → List ℕ → ℕ → ℕ → ℕ → PassView
+pass_view parts plan drawn spent halted seen = record { parts = parts; plan = plan; drawn = drawn; spent = spent; halted = halted; seen = seen }
 
 abbrev pub parts_of : PassView → ℕ
 parts_of v = v.parts
@@ -19,13 +19,16 @@ spent_of v = v.spent
 abbrev pub halted_of : PassView → ℕ
 halted_of v = v.halted
 
+abbrev pub seen_of : PassView → ℕ
+seen_of v = v.seen
+
 abbrev pub times_of : ℕ → PassView → ℕ
 times_of x v = times x v.drawn
 
--- a view is spent no more often than it has parts, and with no part it has drawn nothing and stopped nothing
+-- a view is spent no more often than it has parts, and with no part it has drawn nothing, stopped nothing and seen no stop
 pub record Sound (v : PassView) : Type 0 where
   pub once : v.spent ≤ v.parts
-  pub nothing : v.parts ≡ 0 → (v.drawn ≡ []) × (v.halted ≡ 0)
+  pub nothing : v.parts ≡ 0 → (v.drawn ≡ []) × (v.halted ≡ 0) × (v.seen ≡ 0)
 
 -- what holds between any two steps, of the ticket, the stop word and all views
 pub record Holds (plan : Plan) (ticket stop : ℕ) (views : List PassView) : Type 0 where
@@ -37,6 +40,8 @@ pub record Holds (plan : Plan) (ticket stop : ℕ) (views : List PassView) : Typ
   -- the stop word is 1 where some view is halted, else 0
   pub running : total halted_of views ≡ 0 → stop ≡ 0
   pub halted : 0 < total halted_of views → stop ≡ 1
+  -- and where some view has seen a stop it isn't 0
+  pub seen : stop ≡ 0 → total seen_of views ≡ 0
   -- where a view is spent, the stop word isn't 0 or the ticket is at the limit or above
   pub ended : 0 < total spent_of views → stop ≡ 0 → plan.limit ≤ ticket
   pub sound : (id : ℕ) (v : PassView) → get_elem? views id ≡ some v → Sound v
@@ -48,10 +53,13 @@ abbrev M : Type 0
 M = Me (Unit {0}) PassView
 
 abbrev pub gained : PassView → ℕ → PassView
-gained v k = pass_view v.parts v.plan (v.drawn ++ k ∷ []) v.spent v.halted
+gained v k = pass_view v.parts v.plan (v.drawn ++ k ∷ []) v.spent v.halted v.seen
 
 abbrev pub used_up : PassView → PassView
-used_up v = pass_view v.parts v.plan v.drawn (v.spent + 1) v.halted
+used_up v = pass_view v.parts v.plan v.drawn (v.spent + 1) v.halted v.seen
+
+abbrev pub warned : PassView → PassView
+warned v = pass_view v.parts v.plan v.drawn v.spent v.halted 1
 
 -- the number found is the pass's, where it is below the limit, and above all that it drew; else the pass is spent
 abbrev pub drew : Step (Unit {0}) → M → ℕ → M → Type 0
@@ -61,20 +69,21 @@ drew st m r m' = (r < m.0.plan.limit → All (λ x. x < r) m.0.drawn × (m' ≡ 
 abbrev pub saw : Step (Unit {0}) → M → ℕ → M → Type 0
 saw st m r m' = (r ≡ 0 → (m.0.halted ≡ 0) × (m' ≡ m)) × (0 < r → m' ≡ (used_up m.0, m.1))
 
+-- where the word isn't 0 the pass has seen a stop, and it isn't 0 where the pass is halted or has seen one before
 abbrev pub looked : Step (Unit {0}) → M → ℕ → M → Type 0
-looked st m r m' = (r ≡ 0 → m.0.halted ≡ 0) × (m' ≡ m)
+looked st m r m' = (r ≡ 0 → (m.0.halted ≡ 0) × (m.0.seen ≡ 0) × (m' ≡ m)) × (0 < r → m' ≡ (warned m.0, m.1))
 
 abbrev pub stopped : Step (Unit {0}) → M → ℕ → M → Type 0
-stopped st m r m' = m' ≡ (pass_view m.0.parts m.0.plan m.0.drawn m.0.spent 1, m.1)
+stopped st m r m' = m' ≡ (pass_view m.0.parts m.0.plan m.0.drawn m.0.spent 1 m.0.seen, m.1)
 
 abbrev pub left_over : PassView → PassView
-left_over v = pass_view (v.parts - 1) v.plan v.drawn v.spent v.halted
+left_over v = pass_view (v.parts - 1) v.plan v.drawn v.spent v.halted v.seen
 
 abbrev pub one_part : PassView → PassView
-one_part v = pass_view 1 v.plan [] 0 0
+one_part v = pass_view 1 v.plan [] 0 0 0
 
 abbrev pub joined : PassView → PassView → PassView
-joined v w = pass_view (v.parts + w.parts) v.plan (v.drawn ++ w.drawn) (v.spent + w.spent) (v.halted + w.halted)
+joined v w = pass_view (v.parts + w.parts) v.plan (v.drawn ++ w.drawn) (v.spent + w.spent) (v.halted + w.halted) (v.seen + w.seen)
 
 abbrev pub spent_pass_view : PassView
-spent_pass_view = pass_view 0 (record { limit = 0; passes = 0 }) [] 0 0
+spent_pass_view = pass_view 0 (record { limit = 0; passes = 0 }) [] 0 0 0

@@ -15,37 +15,38 @@ pub record Source : Type 0 where
   pub limit : ℕ
   pub passes : ℕ
 
--- the tickets that made the pass, the numbers that it drew in order, whether it was told that there is no more, and whether it has stopped the draw
+-- the tickets that made the pass, the numbers that it drew in order, whether it was told that there is no more, whether it has stopped the draw, and whether it has looked for a stop and seen one
 pub record PassState : Type 0 where
   pub source : Source
   pub drawn : List ℕ
   pub spent : Bool
   pub halted : Bool
+  pub seen : Bool
 
 abbrev pub source_coded : Coded Source
 source_coded = coded_via (coded× table_id_coded (coded× coded_ℕ coded_ℕ)) (λ (z : Source). (z.table, (z.limit, z.passes))) (λ x y e i. record { table = (e i).0; limit = (e i).1.0; passes = (e i).1.1 })
 
 abbrev pub pass_coded : Coded PassState
-pass_coded = coded_via (coded× source_coded (coded× (coded_list coded_ℕ) (coded× coded_bool coded_bool))) (λ (z : PassState). (z.source, (z.drawn, (z.spent, z.halted)))) (λ x y e i. record { source = (e i).0; drawn = (e i).1.0; spent = (e i).1.1.0; halted = (e i).1.1.1 })
+pass_coded = coded_via (coded× source_coded (coded× (coded_list coded_ℕ) (coded× coded_bool (coded× coded_bool coded_bool)))) (λ (z : PassState). (z.source, (z.drawn, (z.spent, (z.halted, z.seen))))) (λ x y e i. record { source = (e i).0; drawn = (e i).1.0; spent = (e i).1.1.0; halted = (e i).1.1.1.0; seen = (e i).1.1.1.1 })
 
 abbrev pub is_positive : ℕ → Bool
 is_positive zero = false
 is_positive (suc _) = true
 
 abbrev pub fresh : Source → PassState
-fresh z = record { source = z; drawn = []; spent = false; halted = false }
+fresh z = record { source = z; drawn = []; spent = false; halted = false; seen = false }
 
 abbrev pub source_of : TableId → Plan → Source
 source_of z plan = record { table = z; limit = plan.limit; passes = plan.passes }
 
 abbrev pub state_of : Seat (Unit {0}) PassView → Bool → PassState
-state_of seat spent = record { source = source_of seat.table_id seat.me.0.plan; drawn = seat.me.0.drawn; spent = spent; halted = is_positive seat.me.0.halted }
+state_of seat spent = record { source = source_of seat.table_id seat.me.0.plan; drawn = seat.me.0.drawn; spent = spent; halted = is_positive seat.me.0.halted; seen = is_positive seat.me.0.seen }
 
 -- a pass has one part, holds no slot, its numbers rise, and its flag says whether it is spent
 pub record IsPass (seat : Seat (Unit {0}) PassView) (spent : Bool) : Type 0 where
   pub one : seat.me.0.parts ≡ 1
   pub flag : seat.me.0.spent ≡ weight spent
-  pub marked : seat.me.0.halted ≤ 1
+  pub marked : (seat.me.0.halted ≤ 1) × (seat.me.0.seen ≤ 1)
   pub slots : seat.me.1 ≡ []
   pub rising : IsStrictlyIncreasing seat.me.0.drawn
 
@@ -54,6 +55,9 @@ times_in x p = times x p.drawn
 
 abbrev pub halted_in : PassState → ℕ
 halted_in p = weight p.halted
+
+abbrev pub seen_in : PassState → ℕ
+seen_in p = weight p.seen
 
 abbrev pub spent_in : PassState → ℕ
 spent_in p = weight p.spent

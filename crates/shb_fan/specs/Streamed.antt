@@ -61,13 +61,13 @@ module _ {T M J : Type 0} (value : J → ℕ → M) (count : J → ℕ) where
 module _ {T M J G : Type 0} (value : J → ℕ → M) (count : J → ℕ) where
   -- the tickets and the ring are those of the job's pieces
   pub record IsShared (shared : Shared T M J G) : Type 0 where
-    pub ring : job_of shared.ring.now ≡ shared.job.now
-    pub tickets : shared.tickets.now.limit ≡ count shared.job.now
-    pub pieces : shared.pieces ≡ count shared.job.now
+    pub ring : job_of shared.desk.now.ring ≡ shared.task.job.now
+    pub tickets : shared.desk.now.tickets.limit ≡ count shared.task.job.now
+    pub pieces : shared.pieces ≡ count shared.task.job.now
 
   -- the worker is one of these, and has claimed nothing
   abbrev pub IsReady : Shared T M J G → Worker T M → Type 0
-  IsReady shared worker = IsShared shared × IsIdle value count shared.tickets.now shared.ring.now worker
+  IsReady shared worker = IsShared shared × IsIdle value count shared.desk.now.tickets shared.desk.now.ring worker
 
   -- and its accounts are in order
   abbrev pub CanWork : Shared T M J G → Worker T M → Type 0

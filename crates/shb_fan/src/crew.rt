@@ -19,20 +19,26 @@ pub(crate) struct Worker<T, M> {
     pub(crate) seat: Seat<T, M>,
 }
 
+/// What the threads draw from, and what they hand results over by.
+#[derive(Drop)]
+pub(crate) struct Desk<T: Drop, M, J: Job<Out = T, Meaning = M>> {
+    pub(crate) tickets: Tickets,
+    pub(crate) ring: Ring<T, M, J>,
+}
+
 /// A worker for each pass. The seats that are left over stay.
 pub(crate) fn make_workers<T: Drop, M, J: Job<Out = T, Meaning = M>>(
     alloc: Global,
-    _tickets: &Tickets,
-    _ring: &Ring<T, M, J>,
+    _desk: &Desk<T, M, J>,
     passes: &mut Vec<Pass>,
     seats: &mut Vec<Seat<T, M>>,
 ) -> Result<Vec<Worker<T, M>>, NoMemory>
-    requires passes { All (λ p. p ≡ fresh _tickets.now) passes.old.items }
-    requires seats { All (IsNewSeat J.value J.count _ring.now) seats.old.items }
+    requires passes { All (λ p. p ≡ fresh _desk.now.tickets) passes.old.items }
+    requires seats { All (IsNewSeat J.value J.count _desk.now.ring) seats.old.items }
     requires count { length passes.old.items ≤ length seats.old.items }
-    ensures workers { IfOk result (λ v. (length v.items ≡ length passes.old.items) × All (IsNew J.value J.count _tickets.now _ring.now) v.items) }
+    ensures workers { IfOk result (λ v. (length v.items ≡ length passes.old.items) × All (IsNew J.value J.count _desk.now.tickets _desk.now.ring) v.items) }
     ensures passes { IfOk result (λ _. (passes.new.items ≡ []) × (vec_capacity passes.new ≡ vec_capacity passes.old)) }
-    ensures seats { IfOk result (λ _. All (IsNewSeat J.value J.count _ring.now) seats.new.items × (length seats.new.items + length passes.old.items ≡ length seats.old.items)
+    ensures seats { IfOk result (λ _. All (IsNewSeat J.value J.count _desk.now.ring) seats.new.items × (length seats.new.items + length passes.old.items ≡ length seats.old.items)
         × (vec_capacity seats.new ≡ vec_capacity seats.old)) }
 {
     let mut workers = Vec::with_capacity(alloc, passes.len())?;
@@ -47,16 +53,15 @@ pub(crate) fn make_workers<T: Drop, M, J: Job<Out = T, Meaning = M>>(
 
 /// Takes the workers' passes and seats back, to those that were left over.
 pub(crate) fn take_back<T: Drop, M, J: Job<Out = T, Meaning = M>>(
-    _tickets: &Tickets,
-    _ring: &Ring<T, M, J>,
+    _desk: &Desk<T, M, J>,
     mut workers: Vec<Worker<T, M>>,
     passes: &mut Vec<Pass>,
     seats: &mut Vec<Seat<T, M>>,
 )
-    requires workers { All (HasWorked J.value J.count _tickets.now _ring.now) workers.items }
+    requires workers { All (HasWorked J.value J.count _desk.now.tickets _desk.now.ring) workers.items }
     requires passes { (passes.old.items ≡ []) × (length workers.items < vec_capacity passes.old) }
-    requires seats { All (IsNewSeat J.value J.count _ring.now) seats.old.items × (length seats.old.items + length workers.items < vec_capacity seats.old) }
-    ensures back { AreBack J.value J.count _tickets.now _ring.now passes.new.items seats.new.items }
+    requires seats { All (IsNewSeat J.value J.count _desk.now.ring) seats.old.items × (length seats.old.items + length workers.items < vec_capacity seats.old) }
+    ensures back { AreBack J.value J.count _desk.now.tickets _desk.now.ring passes.new.items seats.new.items }
     ensures passes { (length passes.new.items ≡ length workers.items) × (length passes.new.items < vec_capacity passes.new) }
     ensures seats { (length seats.new.items ≡ length seats.old.items + length workers.items) × (length seats.new.items < vec_capacity seats.new) }
 {
@@ -70,19 +75,19 @@ pub(crate) fn take_back<T: Drop, M, J: Job<Out = T, Meaning = M>>(
 /// Ends the draw and the ring, once the caller's pass and seat have come back too, and says how far the
 /// draw came: where the caller lifted every piece, to the limit, and nobody stopped it.
 pub(crate) fn close_both<T: Drop, M, J: Job<Out = T, Meaning = M>>(
-    tickets: Tickets,
-    ring: Ring<T, M, J>,
+    desk: Desk<T, M, J>,
     mut passes: Vec<Pass>,
     mut seats: Vec<Seat<T, M>>,
     own: Worker<T, M>,
 ) -> Closed
-    requires back { AreBack J.value J.count tickets ring passes.items seats.items }
-    requires passes { (length passes.items + 1 ≡ tickets.passes) × (length passes.items < vec_capacity passes) }
+    requires back { AreBack J.value J.count desk.tickets desk.ring passes.items seats.items }
+    requires passes { (length passes.items + 1 ≡ desk.tickets.passes) × (length passes.items < vec_capacity passes) }
     requires seats { (length seats.items + 1 ≡ 65) × (length seats.items < vec_capacity seats) }
-    requires own { IsIdle J.value J.count tickets ring own }
-    ensures { HasAccounts own → HasLifted own tickets.limit → (result.drawn ≡ tickets.limit) × (result.stopped ≡ false) }
+    requires own { IsIdle J.value J.count desk.tickets desk.ring own }
+    ensures { HasAccounts own → HasLifted own desk.tickets.limit → (result.drawn ≡ desk.tickets.limit) × (result.stopped ≡ false) }
 {
     let Worker { pass, seat } = own;
+    let Desk { tickets, ring } = desk;
     passes.push(pass).unwrap();
     seats.push(seat).unwrap();
     ring.close(seats);

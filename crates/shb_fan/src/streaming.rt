@@ -3,7 +3,7 @@ ghost use Rattle.std.specs.Prelude.{◌≡◌, ◌∷◌, ◌++◌, ◌+◌, ◌
 ghost use Rattle.shb_fan.specs.Seated.{IsSeatOf, job_of, claimed_of, placed_of, lifted_of};
 ghost use Rattle.shb_fan.specs.Streamed.{IsIdle, IsReady, HasWorked, HasAccounts, HasLifted, CanWork, CanMake, CanTake, MayTake, Ended};
 
-use crate::crew::{Worker, close_both, make_workers, take_back};
+use crate::crew::{Desk, Worker, close_both, make_workers, take_back};
 use crate::gate::Gate;
 use crate::job::Job;
 use crate::shares::Ring;
@@ -23,15 +23,20 @@ pub(crate) struct Caller<T, M> {
     pub(crate) kept: Option<u64>,
 }
 
+/// What is run: the pieces of a job, each once its gate lets it pass.
+#[derive(Drop)]
+pub(crate) struct Task<'a, J, G> {
+    pub(crate) job: &'a J,
+    pub(crate) gate: &'a G,
+    pub(crate) alloc: Global,
+}
+
 /// What all workers and the caller share. `begun` says that some worker has begun; it is a hint alone.
 #[derive(Drop)]
 pub(crate) struct Shared<'a, T: Drop, M, J: Job<Out = T, Meaning = M>, G> {
-    pub(crate) job: &'a J,
-    pub(crate) gate: &'a G,
-    pub(crate) tickets: &'a Tickets,
-    pub(crate) ring: &'a Ring<T, M, J>,
+    pub(crate) task: Task<'a, J, G>,
+    pub(crate) desk: &'a Desk<T, M, J>,
     pub(crate) begun: &'a AtomicBool,
-    pub(crate) alloc: Global,
     pub(crate) pieces: u64,
 }
 
@@ -43,9 +48,9 @@ fn wait_to_claim<R: Wait, T: Drop, M, J: Job<Out = T, Meaning = M>, G: Gate>(
     k: u64,
 ) -> bool
     requires ready { IsReady J.value J.count shared.now worker.old }
-    requires piece { k < J.count shared.now.job.now }
-    ensures pass { worker.new.pass ≡ worker.old.pass }
-    ensures seat { IsSeatOf J.value J.count shared.now.ring.now worker.new.seat }
+    requires piece { k < J.count shared.now.task.job.now }
+    ensures pass { (worker.new.pass.source ≡ worker.old.pass.source) × (worker.new.pass.drawn ≡ worker.old.pass.drawn) × (worker.new.pass.halted ≡ worker.old.pass.halted) }
+    ensures seat { IsSeatOf J.value J.count shared.now.desk.now.ring worker.new.seat }
     ensures placed { placed_of worker.new.seat ≡ placed_of worker.old.seat }
     ensures lifted { lifted_of worker.new.seat ≡ lifted_of worker.old.seat }
     ensures won { IsTrue result → claimed_of worker.new.seat ≡ k ∷ [] }
@@ -53,13 +58,13 @@ fn wait_to_claim<R: Wait, T: Drop, M, J: Job<Out = T, Meaning = M>, G: Gate>(
 {
     let mut turns = 0u32;
     for _ in rt.forever() {
-        if shared.ring.claim(&mut worker.seat, k) {
+        if shared.desk.ring.claim(&mut worker.seat, k) {
             return true;
         }
-        if shared.tickets.stopped(&mut worker.pass) {
+        if shared.desk.tickets.stopped(&mut worker.pass) {
             return false;
         }
-        shared.ring.pause(rt, k, 4 * k, turns);
+        shared.desk.ring.pause(rt, k, 4 * k, turns);
         turns = turns.saturating_add(1);
     }
     unreachable!()
@@ -73,20 +78,20 @@ fn make<R: Wait, T: Drop, M, J: Job<Out = T, Meaning = M>, G: Gate>(
     k: u64,
 ) -> bool
     requires ready { CanMake J.value J.count shared.now worker.old k }
-    requires piece { k < J.count shared.now.job.now }
+    requires piece { k < J.count shared.now.task.job.now }
     ensures ready { CanWork J.value J.count shared.now worker.new }
     ensures running { IsTrue result → worker.new.pass.halted ≡ false }
     ensures lifted { lifted_of worker.new.seat ≡ lifted_of worker.old.seat }
 {
-    shared.gate.enter(rt, k);
-    let Ok(out) = shared.job.run(shared.alloc, k) else {
-        shared.tickets.stop(&mut worker.pass);
+    shared.task.gate.enter(rt, k);
+    let Ok(out) = shared.task.job.run(shared.task.alloc, k) else {
+        shared.desk.tickets.stop(&mut worker.pass);
         return false;
     };
     if !wait_to_claim(rt, shared, worker, k) {
         return false;
     }
-    shared.ring.place(&mut worker.seat, k, out);
+    shared.desk.ring.place(&mut worker.seat, k, out);
     true
 }
 
@@ -100,7 +105,7 @@ fn work<R: Wait, T: Drop, M, J: Job<Out = T, Meaning = M>, G: Gate>(
     ensures { CanWork J.value J.count shared.now worker.new }
 {
     for _ in rt.forever() {
-        let Some(k) = shared.tickets.draw(&mut worker.pass) else {
+        let Some(k) = shared.desk.tickets.draw(&mut worker.pass) else {
             return;
         };
         if !make(rt, shared, worker, k) {
@@ -119,7 +124,7 @@ fn draw_one<T: Drop, M, J: Job<Out = T, Meaning = M>, G>(
     ensures ready { CanTake J.value J.count shared.now caller.new }
     ensures seat { caller.new.own.seat ≡ caller.old.own.seat }
 {
-    match shared.tickets.draw(&mut caller.own.pass) {
+    match shared.desk.tickets.draw(&mut caller.own.pass) {
         Some(k) => {
             caller.kept = Some(k);
         }
@@ -138,7 +143,7 @@ fn make_kept<R: Wait, T: Drop, M, J: Job<Out = T, Meaning = M>, G: Gate>(
     k: u64,
 ) -> bool
     requires ready { CanTake J.value J.count shared.now caller.old }
-    requires piece { k < J.count shared.now.job.now }
+    requires piece { k < J.count shared.now.task.job.now }
     ensures ready { CanWork J.value J.count shared.now caller.new.own }
     ensures running { IsTrue result → CanTake J.value J.count shared.now caller.new }
     ensures lifted { lifted_of caller.new.own.seat ≡ lifted_of caller.old.own.seat }
@@ -161,9 +166,9 @@ fn wait_to_lift<R: Wait, T: Drop, M, J: Job<Out = T, Meaning = M>, G: Gate>(
     k: u64,
 ) -> Option<T>
     requires ready { CanTake J.value J.count shared.now caller.old }
-    requires piece { k < J.count shared.now.job.now }
+    requires piece { k < J.count shared.now.task.job.now }
     ensures ready { CanWork J.value J.count shared.now caller.new.own }
-    ensures value { IfSome result (λ out. (J.meaning out ≡ J.value shared.now.job.now k) × CanTake J.value J.count shared.now caller.new
+    ensures value { IfSome result (λ out. (J.meaning out ≡ J.value shared.now.task.job.now k) × CanTake J.value J.count shared.now caller.new
         × (lifted_of caller.new.own.seat ≡ lifted_of caller.old.own.seat ++ k ∷ [])) }
 {
     let mut turns = 0u32;
@@ -171,17 +176,17 @@ fn wait_to_lift<R: Wait, T: Drop, M, J: Job<Out = T, Meaning = M>, G: Gate>(
         if !make_kept(rt, shared, caller, k) {
             return None;
         }
-        let lifted = shared.ring.lift(&mut caller.own.seat, k);
+        let lifted = shared.desk.ring.lift(&mut caller.own.seat, k);
         if lifted.is_some() {
             return lifted;
         }
-        if shared.tickets.stopped(&mut caller.own.pass) {
+        if shared.desk.tickets.stopped(&mut caller.own.pass) {
             return None;
         }
         if caller.kept.is_none() && !shared.begun.load(Ordering::SeqCst) {
             draw_one(shared, caller);
         } else {
-            shared.ring.pause(rt, k, 4 * k + 2, turns);
+            shared.desk.ring.pause(rt, k, 4 * k + 2, turns);
             turns = turns.saturating_add(1);
         }
     }
@@ -196,10 +201,10 @@ fn take_all<R: Wait, T: Drop, M, J: Job<Out = T, Meaning = M>, G: Gate, E, K: Ta
     taker: &mut K,
 ) -> Result<(), StreamError<E>>
     requires ready { CanTake J.value J.count shared.now caller.old }
-    requires may_take { MayTake J.meaning (J.value shared.now.job.now) K.may_take (J.count shared.now.job.now) taker.old }
-    ensures ended { Ended J.meaning (J.value shared.now.job.now) K.takes K.refuses (J.count shared.now.job.now) taker.old result taker.new }
-    ensures idle { IsIdle J.value J.count shared.now.tickets.now shared.now.ring.now caller.new.own }
-    ensures all { IfOk result (λ _. HasAccounts caller.new.own × HasLifted caller.new.own (J.count shared.now.job.now)) }
+    requires may_take { MayTake J.meaning (J.value shared.now.task.job.now) K.may_take (J.count shared.now.task.job.now) taker.old }
+    ensures ended { Ended J.meaning (J.value shared.now.task.job.now) K.takes K.refuses (J.count shared.now.task.job.now) taker.old result taker.new }
+    ensures idle { IsIdle J.value J.count shared.now.desk.now.tickets shared.now.desk.now.ring caller.new.own }
+    ensures all { IfOk result (λ _. HasAccounts caller.new.own × HasLifted caller.new.own (J.count shared.now.task.job.now)) }
 {
     for k in 0..shared.pieces {
         let Some(out) = wait_to_lift(rt, shared, caller, k) else {
@@ -208,7 +213,7 @@ fn take_all<R: Wait, T: Drop, M, J: Job<Out = T, Meaning = M>, G: Gate, E, K: Ta
         match taker.take(k, out) {
             Ok(()) => {}
             Err(e) => {
-                shared.tickets.stop(&mut caller.own.pass);
+                shared.desk.tickets.stop(&mut caller.own.pass);
                 return Err(StreamError::Taker(e));
             }
         }
@@ -237,11 +242,11 @@ impl<'a, T: Drop, M, J: Job<Out = T, Meaning = M>, G: Gate, E, K: Taker<T, Error
 
     type Answer = Result<(), StreamError<E>>;
 
-    ghost can_take = { λ shared caller taker. CanTake J.value J.count shared caller × MayTake J.meaning (J.value shared.job.now) K.may_take (J.count shared.job.now) taker };
+    ghost can_take = { λ shared caller taker. CanTake J.value J.count shared caller × MayTake J.meaning (J.value shared.task.job.now) K.may_take (J.count shared.task.job.now) taker };
 
-    ghost leaves = { λ shared answer caller. IsIdle J.value J.count shared.tickets.now shared.ring.now caller.own × IfOk answer (λ _. HasAccounts caller.own × HasLifted caller.own (J.count shared.job.now)) };
+    ghost leaves = { λ shared answer caller. IsIdle J.value J.count shared.desk.now.tickets shared.desk.now.ring caller.own × IfOk answer (λ _. HasAccounts caller.own × HasLifted caller.own (J.count shared.task.job.now)) };
 
-    ghost gives = { λ shared start answer end. Ended J.meaning (J.value shared.job.now) K.takes K.refuses (J.count shared.job.now) start answer end };
+    ghost gives = { λ shared start answer end. Ended J.meaning (J.value shared.task.job.now) K.takes K.refuses (J.count shared.task.job.now) start answer end };
 
     fn take<R: Wait>(
         &self,
@@ -264,34 +269,29 @@ fn work_and_take<
     K: Taker<T, Error = E>,
 >(
     rt: &R,
-    alloc: Global,
-    job: &J,
-    gate: &G,
-    tickets: &Tickets,
-    ring: &Ring<T, M, J>,
+    task: Task<'_, J, G>,
+    desk: &Desk<T, M, J>,
     workers: &mut [Worker<T, M>],
     caller: &mut Caller<T, M>,
     taker: &mut K,
 ) -> Result<(), StreamError<E>>
-    requires tickets { tickets.now.limit ≡ J.count job.now }
-    requires ring { job_of ring.now ≡ job.now }
-    requires workers { All (HasWorked J.value J.count tickets.now ring.now) workers.old }
-    requires caller { HasWorked J.value J.count tickets.now ring.now caller.old.own × (caller.old.own.pass.halted ≡ false) × (caller.old.kept ≡ None) }
-    requires may_take { MayTake J.meaning (J.value job.now) K.may_take (J.count job.now) taker.old }
-    ensures ended { Ended J.meaning (J.value job.now) K.takes K.refuses (J.count job.now) taker.old result taker.new }
-    ensures workers { (length workers.new ≡ length workers.old) × All (HasWorked J.value J.count tickets.now ring.now) workers.new }
-    ensures idle { IsIdle J.value J.count tickets.now ring.now caller.new.own }
-    ensures all { IfOk result (λ _. HasAccounts caller.new.own × HasLifted caller.new.own (J.count job.now)) }
+    requires tickets { desk.now.tickets.limit ≡ J.count task.job.now }
+    requires ring { job_of desk.now.ring ≡ task.job.now }
+    requires workers { All (HasWorked J.value J.count desk.now.tickets desk.now.ring) workers.old }
+    requires caller { HasWorked J.value J.count desk.now.tickets desk.now.ring caller.old.own × (caller.old.own.pass.halted ≡ false) × (caller.old.kept ≡ None) }
+    requires may_take { MayTake J.meaning (J.value task.job.now) K.may_take (J.count task.job.now) taker.old }
+    ensures ended { Ended J.meaning (J.value task.entry.job.now) K.takes K.refuses (J.count task.entry.job.now) taker.old result taker.new }
+    ensures workers { (length workers.new ≡ length workers.old) × All (HasWorked J.value J.count desk.now.tickets desk.now.ring) workers.new }
+    ensures idle { IsIdle J.value J.count desk.now.tickets desk.now.ring caller.new.own }
+    ensures all { IfOk result (λ _. HasAccounts caller.new.own × HasLifted caller.new.own (J.count task.entry.job.now)) }
 {
     let begun = AtomicBool::new(false);
+    let pieces = task.job.pieces();
     let shared = Shared {
-        job,
-        gate,
-        tickets,
-        ring,
+        task,
+        desk,
         begun: &begun,
-        alloc,
-        pieces: job.pieces(),
+        pieces,
     };
     run_both_sides(rt, &shared, workers, &shared, caller, taker)
 }
@@ -336,27 +336,19 @@ pub fn stream<
     let Ok((ring, mut seats)) = Ring::new(alloc, job) else {
         return Err(StreamError::Memory);
     };
-    let Ok(mut workers) = make_workers(alloc, &tickets, &ring, &mut passes, &mut seats) else {
+    let desk = Desk { tickets, ring };
+    let Ok(mut workers) = make_workers(alloc, &desk, &mut passes, &mut seats) else {
         return Err(StreamError::Memory);
     };
     let Some(own) = workers.pop() else {
         unreachable!()
     };
     let mut caller = Caller { own, kept: None };
-    let answer = work_and_take(
-        rt,
-        alloc,
-        job,
-        gate,
-        &tickets,
-        &ring,
-        workers.as_mut_slice(),
-        &mut caller,
-        taker,
-    );
+    let task = Task { job, gate, alloc };
+    let answer = work_and_take(rt, task, &desk, workers.as_mut_slice(), &mut caller, taker);
     let Caller { own, .. } = caller;
-    take_back(&tickets, &ring, workers, &mut passes, &mut seats);
-    let closed = close_both(tickets, ring, passes, seats, own);
+    take_back(&desk, workers, &mut passes, &mut seats);
+    let closed = close_both(desk, passes, seats, own);
     answer?;
     Ok(closed)
 }

@@ -79,6 +79,7 @@ impl Tickets {
         requires { pass.old.source ≡ self.now }
         ensures source { pass.new.source ≡ self.now }
         ensures halted { pass.new.halted ≡ pass.old.halted }
+        ensures seen { pass.new.seen ≡ pass.old.seen }
         ensures some { IfSome result (λ k. (k < self.now.limit) × All (λ x. x < k) pass.old.drawn × (pass.new.drawn ≡ pass.old.drawn ++ k ∷ []) × (pass.new.spent ≡ false) × (pass.new.halted ≡ false)) }
         ensures none { IfNone result ((pass.new.drawn ≡ pass.old.drawn) × (pass.new.spent ≡ true)) }
         ensures spent_stays { IsTrue pass.old.spent → (result ≡ None) × (pass.new ≡ pass.old) }
@@ -109,10 +110,12 @@ impl Tickets {
         self.table.shared.store::<Stop>(&mut pass.seat, STOP, 1);
     }
 
-    /// Whether a stop is seen, as it always is by a pass that stopped the draw itself. It changes nothing.
+    /// Whether a stop is seen: always by a pass that stopped the draw itself or has seen a stop before, and
+    /// never while no pass has stopped the draw, as `close` says (`seen`). The pass keeps whether it has seen one.
     pub fn stopped(&self, pass: &mut Pass) -> bool
         requires { pass.old.source ≡ self.now }
-        ensures same { pass.new ≡ pass.old }
+        ensures seen { pass.new ≡ record pass.old { seen = result } }
+        ensures again { IsTrue pass.old.seen → IsTrue result }
         ensures halted { IsTrue pass.old.halted → IsTrue result }
     {
         self.table.shared.load::<Look>(&mut pass.seat, STOP) != 0
@@ -126,6 +129,7 @@ impl Tickets {
         ensures rising { All (λ p. IsStrictlyIncreasing p.drawn) passes.items }
         ensures few { result.drawn ≤ self.limit }
         ensures stopped { IsTrue result.stopped ↔ Any (λ p. IsTrue p.halted) passes.items }
+        ensures seen { Any (λ p. IsTrue p.seen) passes.items → IsTrue result.stopped }
         ensures machine { IsMachineRun self.limit passes.items result.drawn result.stopped }
         ensures ended { IsFalse result.stopped → Any (λ p. IsTrue p.spent) passes.items → result.drawn ≡ self.limit }
     {

@@ -7,11 +7,11 @@ use Rattle.shb_fan.proofs.crew.make_workers.Given as goal
 
 abbrev pub invariant-loop-pass : goal.invariant-loop-pass
 invariant-loop-pass g l = record {
-  passes : All (λ p. p ≡ fresh l._tickets) l.passes.items;
-  seats : All (IsNewSeat g.J.Job.value g.J.Job.count l._ring) l.seats.items;
+  passes : All (λ p. p ≡ fresh l._desk.tickets) l.passes.items;
+  seats : All (IsNewSeat g.J.Job.value g.J.Job.count l._desk.ring) l.seats.items;
   left : length l.passes.items + length l.workers.items ≡ length l.fn.passes.items;
   used : length l.seats.items + length l.workers.items ≡ length l.fn.seats.items;
-  made : All (IsNew g.J.Job.value g.J.Job.count l._tickets l._ring) l.workers.items;
+  made : All (IsNew g.J.Job.value g.J.Job.count l._desk.tickets l._desk.ring) l.workers.items;
   pass_room : vec_capacity l.passes ≡ vec_capacity l.fn.passes;
   seat_room : vec_capacity l.seats ≡ vec_capacity l.fn.seats;
 }

@@ -17,7 +17,7 @@ loop-worker-init g c =
 pub loop-worker-preserved : goal.loop-worker-preserved
 loop-worker-preserved g c =
     let i = c.loop-worker.invariant in
-    let tickets = c.args._tickets.now in let ring = c.args._ring.now in
+    let tickets = c.args._desk.now.tickets in let ring = c.args._desk.now.ring in
     let cut = worked_last g.J.Job.value g.J.Job.count tickets ring _ _ _ c.in-Some.ensures.items i.left in
     let longer : c.push.new.self.items ≡ c.loop-worker.passes.items ++ c.in-Some.worker.pass ∷ [] = search rules in
     let wider : c.push-in-Some.new.self.items ≡ c.loop-worker.seats.items ++ c.in-Some.worker.seat ∷ [] = search rules in

@@ -1,5 +1,4 @@
 use Rattle.std.proofs.Common.{◌∷◌, ◌++◌, [], ℕ, List, ap, ◌∙◌}
-use Rattle.shb_fan.specs.Passes.{PassState}
 use Rattle.shb_fan.specs.declared.crew.Worker.{Worker}
 use Rattle.shb_fan.proofs.Accounts.{placed_at}
 use Rattle.shb_fan.proofs.streaming.make.Goals as goal
@@ -10,6 +9,6 @@ returns-clause-ready g c =
     let claim = c.wait_to_claim.ensures in
     let place = c.place.ensures in
     let new : Worker g.row.T.Denot g.row.M.Denot = record { pass = c.wait_to_claim.new.worker.pass; seat = c.place.new.seat } in (
-      (can.0.0.0, (ap (λ (p : PassState). p.source) claim.pass ∙ can.0.0.1.0, place.seat, place.claimed)),
-      placed_at c.args.worker.now new can.0.1 c.args.k can.2 can.1 claim.pass (place.placed ∙ ap (λ (l : List ℕ). l ++ c.args.k ∷ []) claim.placed),
+      (can.0.0.0, (claim.pass.0 ∙ can.0.0.1.0, place.seat, place.claimed)),
+      placed_at c.args.worker.now new can.0.1 c.args.k can.2 can.1 claim.pass.1 claim.pass.2 (place.placed ∙ ap (λ (l : List ℕ). l ++ c.args.k ∷ []) claim.placed),
     )

@@ -8,7 +8,9 @@ invariant-loop g l = record {
   can : (goal.iterator-loop g).can_next l.iterator';
   ends : (goal.iterator-loop g).is_finite l.iterator';
   ready : IsReady g.J.Job.value g.J.Job.count l.shared l.worker;
-  pass : l.worker.pass ≡ l.fn.worker.pass;
+  source : l.worker.pass.source ≡ l.fn.worker.pass.source;
+  drawn : l.worker.pass.drawn ≡ l.fn.worker.pass.drawn;
+  halted : l.worker.pass.halted ≡ l.fn.worker.pass.halted;
   placed : placed_of l.worker.seat ≡ placed_of l.fn.worker.seat;
   lifted : lifted_of l.worker.seat ≡ lifted_of l.fn.worker.seat;
 }

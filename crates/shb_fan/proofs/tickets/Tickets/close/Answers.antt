@@ -3,10 +3,10 @@ use Rattle.atomic_table.specs.Table.{Me}
 use Rattle.shb_fan.specs.declared.ticket_table.PassView.{PassView}
 use Rattle.shb_fan.specs.declared.ticket_table.Plan.{Plan}
 use Rattle.shb_fan.specs.Numbers.{times, once_below}
-use Rattle.shb_fan.specs.Passes.{Source, PassState, times_in, halted_in, spent_in}
+use Rattle.shb_fan.specs.Passes.{Source, PassState, times_in, halted_in, seen_in, spent_in}
 use Rattle.shb_fan.proofs.Counts.{times-append}
 use Rattle.shb_fan.proofs.Keeps.{merges}
-use Rattle.shb_fan.proofs.Ends.{counted, first_counted, times-shown, halted-shown, spent-shown, rising-shown, all_rising, none_rising, Told, closes, ours_before, sum_nothing, each_once, stop_seen, stop_set, all_drawn}
+use Rattle.shb_fan.proofs.Ends.{counted, first_counted, times-shown, halted-shown, seen-shown, spent-shown, rising-shown, all_rising, none_rising, Told, closes, ours_before, sum_nothing, each_once, stop_seen, stop_set, seen_set, all_drawn}
 use Rattle.shb_fan.proofs.MachineRuns.{machine_run}
 use Rattle.shb_fan.proofs.tickets.Tickets.close.Goals as goal
 
@@ -19,6 +19,7 @@ loop-pass-init c = let longer = c.in-Some.ensures.items in let is = c.first.inva
   rising = all_rising _ _ _ _ longer (rising-shown _ _ _ is shown) (λ h. h);
   drawn = λ x. first_counted (times_in x) _ _ _ _ longer (times-shown _ _ _ is shown x);
   halted = first_counted halted_in _ _ _ _ longer (halted-shown _ _ _ is shown);
+  seen = first_counted seen_in _ _ _ _ longer (seen-shown _ _ _ is shown);
   spent = first_counted spent_in _ _ _ _ longer (spent-shown _ _ _ is shown);
 }
 
@@ -43,6 +44,7 @@ loop-pass-preserved c =
       drawn = λ x. let e = ap (λ (m : Me (Unit {0}) PassView). times x m.0.drawn) j ∙ times-append x c.loop-pass.seat.me.0.drawn c.pass.inside.seat.me.0.drawn in
           ap (λ (n : ℕ). n + sum_by (times_in x) c.pop-in-loop-pass.new.self.items) e ∙ counted (times_in x) _ _ _ _ _ _ longer (i.drawn x) (times-shown _ _ _ is shown x);
       halted = ap (λ (m : Me (Unit {0}) PassView). m.0.halted + sum_by halted_in c.pop-in-loop-pass.new.self.items) j ∙ counted halted_in _ _ _ _ _ _ longer i.halted (halted-shown _ _ _ is shown);
+      seen = ap (λ (m : Me (Unit {0}) PassView). m.0.seen + sum_by seen_in c.pop-in-loop-pass.new.self.items) j ∙ counted seen_in _ _ _ _ _ _ longer i.seen (seen-shown _ _ _ is shown);
       spent = ap (λ (m : Me (Unit {0}) PassView). m.0.spent + sum_by spent_in c.pop-in-loop-pass.new.self.items) j ∙ counted spent_in _ _ _ _ _ _ longer i.spent (spent-shown _ _ _ is shown);
     }
 
@@ -67,6 +69,9 @@ returns-clause-each_once c = λ x. each_once _ _ _ _ c.args.passes.items (told c
 
 pub returns-clause-stopped : goal.returns-clause-stopped
 returns-clause-stopped c = let e = all_in c halted_in _ c.loop-pass.invariant.halted in (stop_seen _ _ _ _ c.args.passes.items (told c) e, stop_set _ _ _ _ c.args.passes.items (told c) e)
+
+pub returns-clause-seen : goal.returns-clause-seen
+returns-clause-seen c = seen_set _ _ _ _ c.args.passes.items (told c) (all_in c seen_in _ c.loop-pass.invariant.seen)
 
 pub returns-clause-ended : goal.returns-clause-ended
 returns-clause-ended c = λ unset some_spent. c.min.ensures ∙ (all_drawn _ _ _ _ c.args.passes.items (told c) (all_in c spent_in _ c.loop-pass.invariant.spent) unset some_spent ∙ ap (λ (z : Source). z.limit) c.self.view_is)
