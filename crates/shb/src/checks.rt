@@ -1,6 +1,6 @@
 //! `shb check`: a report on standard input is judged against its trace.
 ghost use Rattle.std.specs.Prelude.{◌≡◌};
-ghost use Rattle.shb_run.specs.Words.{check_status_of};
+ghost use Rattle.shb_check.specs.Words.{check_status_of};
 
 use crate::complaints::{FAILED, complain, complain_of};
 use crate::output::flushed;

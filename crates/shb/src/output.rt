@@ -1,6 +1,6 @@
 //! Standard output behind a run or a check.
 ghost use Rattle.std.specs.Prelude.{◌≡◌, Ok, Err, IfOk, IfErr, ◌⊎◌};
-ghost use Rattle.shb_run.specs.declared.errors.RunError.TheVariants.{Sink};
+ghost use Rattle.shb_check.specs.declared.errors.RunError.TheVariants.{Sink};
 
 use shb_io::ToWrite;
 use shb_run::RunError;

@@ -1,5 +1,4 @@
 pub mod OneReport
-pub mod OneVerdict
 pub mod OwnReport
 pub mod Streamed
 pub mod Blocks

@@ -1,18 +1,10 @@
 -- A text has one report.
-use Rattle.std.proofs.Common.{◌≡◌, ℕ, Bool, List, sym, subst, ◌∙◌}
+use Rattle.std.proofs.Common.{◌≡◌, ℕ, Bool, List, subst}
 use Rattle.shb_lines.specs.text.Text.{lines_of}
-use Rattle.shb_lines.specs.text.TraceData.{IsTraceOf, TraceData, tables_in}
-use Rattle.shb_discipline.proofs.Numbering.{one_trace}
+use Rattle.shb_lines.specs.text.TraceData.{TraceData}
 use Rattle.shb_report.specs.Report.{AllRaces, IsPlacesReportOf, IsReportOf, IsReportOn, IsReportOnText, LeadingRaces}
+use Rattle.shb_check.proofs.OneTrace.{one_whole_trace}
 use Rattle.shb_report.proofs.Blocks.{HasOneList, IsReportOn-unique, one_leading_list, one_race_list}
-
--- some lines have one trace, with its names and its lines
-pub one_whole_trace : (lines : List (List ℕ)) (a b : TraceData) → IsTraceOf lines a → IsTraceOf lines b → a ≡ b
-one_whole_trace lines a b of_a of_b =
-    let events : a.events ≡ b.events = one_trace lines a b of_a of_b in
-    let texts : a.lines ≡ b.lines = of_a.lines_are ∙ sym of_b.lines_are in
-    let tables : tables_in a ≡ tables_in b = of_a.tables_are ∙ sym of_b.tables_are in
-    λ i. record { events = events i; lines = texts i; threads = (tables i).threads; locks = (tables i).locks; variables = (tables i).variables }
 
 one_report_on : (Lists : TraceData → List (ℕ × ℕ) → Type 0) (with_schedules : Bool) (text bytes others : List ℕ) → ((trace : TraceData) → HasOneList Lists trace)
     → IsReportOnText Lists with_schedules text bytes → IsReportOnText Lists with_schedules text others → bytes ≡ others

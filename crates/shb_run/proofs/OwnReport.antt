@@ -23,10 +23,11 @@ use Rattle.shb_report.proofs.Injective.{report_same}
 use Rattle.shb_report.proofs.VerdictLaws.{one_verdict}
 use Rattle.shb_report.proofs.WrittenGood.{all_are_races, written_good}
 use Rattle.shb_run.specs.declared.settings.Summary.{Summary}
-use Rattle.shb_run.specs.Checks.{IsJudged, IsVerdictFor, IsVerdictOf, most_bytes}
-use Rattle.shb_run.specs.Runs.{AreWords, IsPlacesReported, IsReported, limits}
+use Rattle.shb_check.specs.Checks.{IsJudged, IsVerdictFor, IsVerdictOf, most_bytes}
+use Rattle.shb_check.specs.Judged.{limits}
+use Rattle.shb_run.specs.Runs.{AreWords, IsPlacesReported, IsReported}
 use Rattle.shb_run.specs.Written.{summary_of}
-use Rattle.shb_run.proofs.OneReport.{one_whole_trace}
+use Rattle.shb_check.proofs.OneTrace.{one_whole_trace}
 
 -- the lines of the trace of a text that has no fault
 showable_of : (text : List ℕ) (trace : TraceData) → HasNoFault limits text → IsTraceOf (lines_of text) trace → AreShown (counts_of trace) → IsShowable trace

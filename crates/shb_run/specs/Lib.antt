@@ -3,4 +3,3 @@ pub mod Words
 pub mod Written
 pub mod Runs
 pub mod Errors
-pub mod Checks

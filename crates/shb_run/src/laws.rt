@@ -1,15 +1,18 @@
 //! The laws of what runs write, over the definitions alone. Each function does nothing: its contract
 //! is the law.
-ghost use Rattle.std.specs.Prelude.{◌≡◌, ◌≤◌, ◌↔◌, ℕ, Bool, List, Option, length, true};
-ghost use Rattle.shb_lines.specs.text.TraceData.{IsTraceOf, TraceData};
+ghost use Rattle.std.specs.Prelude.{◌≡◌, ◌≤◌, ℕ, Bool, List, Option, length, true};
 ghost use Rattle.shb_report.specs.Report.{IsPlacesReportOf, IsReportOf};
 ghost use Rattle.shb_report.specs.Value.{IsReportValue, ReportValue, report_text};
 ghost use Rattle.shb_report.specs.Verdicts.{IsVerdict};
 ghost use Rattle.shb_report.specs.declared.verdict.Verdict.{Verdict};
 ghost use Rattle.shb_report.specs.declared.verdict.Verdict.TheVariants.{Good};
-ghost use Rattle.shb_run.specs.Checks.{IsGoodFor, IsVerdictOf, most_bytes};
+ghost use Rattle.shb_check.specs.Checks.{IsVerdictOf, most_bytes};
 ghost use Rattle.shb_run.specs.Runs.{IsPlacesReported, IsReported};
 ghost use Rattle.shb_run.specs.declared.settings.Summary.{Summary};
+
+pub use shb_check::laws::{
+    good_texts_are_called_good, trace_of_lines_is_unique, verdict_of_texts_is_one,
+};
 
 /// A text has at most one report in each form: its lines have one trace, and a trace has one report.
 pub fn report_of_text_is_unique()
@@ -21,11 +24,6 @@ pub fn report_of_text_is_unique()
 pub fn places_report_of_text_is_unique()
     ensures { (with_schedules : Bool) (text bytes others : List ℕ)
         → IsPlacesReportOf with_schedules text bytes → IsPlacesReportOf with_schedules text others → bytes ≡ others }
-{}
-
-/// Some lines have at most one trace, with its names, their numbers and its lines.
-pub fn trace_of_lines_is_unique()
-    ensures { (lines : List (List ℕ)) (trace other : TraceData) → IsTraceOf lines trace → IsTraceOf lines other → trace ≡ other }
 {}
 
 /// A check of what a run wrote with schedules says that it is good. `value`: the bytes are the text of a
@@ -45,16 +43,4 @@ pub fn own_places_report_is_good()
         → (value : ReportValue) × IsReportValue value × (reported.bytes ≡ report_text value) × IsVerdict reported.report.trace value (Good summary.races) }
     ensures checked { (text : List ℕ) (summary : Summary) (old new : Option (List ℕ)) (reported : IsPlacesReported true text summary old new)
         → (verdict : Verdict) → length reported.bytes ≤ most_bytes → IsVerdictOf text reported.bytes verdict → verdict ≡ Good summary.races }
-{}
-
-/// The texts of a trace and of a report have at most one verdict.
-pub fn verdict_of_texts_is_one()
-    ensures { (text report : List ℕ) (verdict other : Verdict) → IsVerdictOf text report verdict → IsVerdictOf text report other → verdict ≡ other }
-{}
-
-/// The verdict of two texts is `Good`, with so many races, exactly where the second is a report that is
-/// good for the trace of the first and has so many races.
-pub fn good_texts_are_called_good()
-    ensures { (text report : List ℕ) (verdict : Verdict) (races : ℕ) → IsVerdictOf text report verdict
-        → (verdict ≡ Good races) ↔ IsGoodFor text report races }
 {}

@@ -1,12 +1,12 @@
-//! From the text of a trace to the report of its races, and from a trace and a report to a verdict.
+//! From the text of a trace to the report of its races.
 //!
-//! [`run`] is four stages over any source and sink: read (`parse`), judge (`judge`), find the races
-//! (`races`, by workers), write (`write`): head, places, blocks, tail. With schedules the blocks go
-//! out as workers make the schedules, through a taker that writes (`BlockWriter`); the sink is
+//! [`run`] is four stages over any source and sink: read (`parse`), judge (`judge` of `shb_check`), find
+//! the races (`races`, by workers), write (`write`): head, places, blocks, tail. With schedules the
+//! blocks go out as workers make the schedules, through a taker that writes (`BlockWriter`); the sink is
 //! written by the caller's thread alone and needn't be able to move. [`run_gated`] is the same with
 //! gates for tests. Both have the main theorem as their contract. [`run_places`] is the same body, and
-//! lists of each place the first race. [`check`] reads and judges the
-//! trace, then the report, and writes one line.
+//! lists of each place the first race. [`check`], from a trace and a report to a verdict, is that of
+//! `shb_check`, and so are the errors.
 #![tactic(auto)]
 
 mod block_writer;
@@ -16,15 +16,14 @@ mod pipeline;
 mod places;
 mod races;
 mod settings;
-mod verdicts;
 mod words;
 mod write;
 
-pub use errors::RunError;
 pub use pipeline::{run, run_gated};
 pub use places::run_places;
 pub use settings::{Settings, Summary};
+pub use shb_check::{
+    RaceFault, RunError, Verdict, check, exit_status, fault_line, status_of_check,
+};
 pub use shb_fan::{FreeGate, Gate, Workers};
-pub use shb_report::{RaceFault, Verdict};
-pub use verdicts::check;
-pub use words::{exit_status, fault_line, status_of_check, status_of_run};
+pub use words::status_of_run;

@@ -1,40 +1,28 @@
 //! The whole run: read, judge, find the races, write.
-ghost use Rattle.std.specs.Prelude.{◌≡◌, ◌⊎◌, ◌+◌, ◌-◌, ◌^◌, ◌<◌, ◌≤◌, ℕ, List, Some, IfErr, IfOk, IfSome, drop};
+ghost use Rattle.std.specs.Prelude.{◌≡◌, ◌⊎◌, ◌+◌, ◌-◌, ◌^◌, ◌<◌, ◌≤◌, ℕ, List, Some, IfOk, IfSome, drop};
 ghost use Rattle.shb_discipline.specs.FirstFault.{HasFirstFault};
 ghost use Rattle.shb_lines.specs.declared.event.Fault.{Fault};
 ghost use Rattle.shb_lines.specs.text.Taking.{ReadsText, TakesAtMost};
-ghost use Rattle.shb_run.specs.Runs.{AreWords, CountsSink, CountsSource, Grows, HasTrace, IsAccepted, IsRefusalOf, IsReported, IsReportedBy, OnJudged, OnMemory, OnNoTrace, OnSink, OnTrace, limits};
+ghost use Rattle.shb_check.specs.Judged.{limits};
+ghost use Rattle.shb_check.specs.Outcomes.{CountsSink, CountsSource, Grows, OnJudged, OnMemory, OnNoTrace, OnSink, OnTrace};
+ghost use Rattle.shb_run.specs.Runs.{AreWords, HasTrace, IsReported, IsReportedBy};
 ghost use Rattle.shb_run.specs.Written.{CutsBlocks, CutsBlocksOn, CutsReport, CutsReportOn, IsSinkCounted, ListedBy, OnFailedSink, OnNoMemory, ReportsTrace, summary_of};
 
-use crate::errors::{RunError, WriteError};
+use crate::errors::WriteError;
 use crate::races::{chosen_of, races_of};
 use crate::settings::{Choice, Settings, Summary, Task};
 use crate::write::write_report;
+use shb_check::{RunError, judge};
 use shb_clocks::{Order, Ordered, by_event};
-use shb_discipline::{Disciplined, check};
+use shb_discipline::Disciplined;
 use shb_fan::{FreeGate, Gate};
 use shb_io::{Sink, Source};
-use shb_lines::{Limits, Parsed, Trace, parse};
+use shb_lines::{Limits, Trace, parse};
 use shb_links::{Links, links_of};
 use std::alloc::Global;
 use std::random::RandomSource;
 use std::sync::Wait;
 use std::thread::Threads;
-
-/// The trace of a text that has no fault, or the first fault of the text.
-pub(crate) fn judge<'a>(alloc: Global, parsed: &'a Parsed) -> Result<Disciplined<'a>, RunError>
-    ensures accepted { IfOk result (λ trace. IsAccepted parsed.now.trace parsed.now.stop trace.trace.now) }
-    ensures refused { IfErr result (IsRefusalOf parsed.now.trace parsed.now.stop) }
-{
-    let trace = check(alloc, &parsed.trace)?;
-    match parsed.stop {
-        Some(stop) => Err(RunError::Trace {
-            line: stop.line,
-            fault: stop.fault,
-        }),
-        None => Ok(trace),
-    }
-}
 
 /// What a run says of a trace that has so many races.
 fn summary_of(trace: &Trace, races: u64) -> Summary

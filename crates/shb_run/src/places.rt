@@ -4,12 +4,14 @@ ghost use Rattle.shb_discipline.specs.FirstFault.{HasFirstFault};
 ghost use Rattle.shb_lines.specs.declared.event.Fault.{Fault};
 ghost use Rattle.shb_lines.specs.text.Taking.{ReadsText, TakesAtMost};
 ghost use Rattle.shb_report.specs.Report.{LeadingRaces};
-ghost use Rattle.shb_run.specs.Runs.{CountsSink, CountsSource, Grows, HasTrace, IsPlacesReported, OnJudged, OnMemory, OnNoTrace, OnSink, OnTrace, limits};
+ghost use Rattle.shb_check.specs.Judged.{limits};
+ghost use Rattle.shb_check.specs.Outcomes.{CountsSink, CountsSource, Grows, OnJudged, OnMemory, OnNoTrace, OnSink, OnTrace};
+ghost use Rattle.shb_run.specs.Runs.{HasTrace, IsPlacesReported};
 ghost use Rattle.shb_run.specs.Written.{CutsBlocksOn, CutsReportOn};
 
-use crate::errors::RunError;
 use crate::pipeline::run_task;
 use crate::settings::{Choice, Settings, Summary, Task};
+use shb_check::RunError;
 use shb_fan::FreeGate;
 use shb_io::{Sink, Source};
 use std::alloc::Global;

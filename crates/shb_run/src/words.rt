@@ -1,22 +1,9 @@
-//! What a program says of an error, and the status that it ends with.
-ghost use Rattle.std.specs.Prelude.{◌≡◌, IfOk, string_bytes};
-ghost use Rattle.shb_run.specs.Words.{check_status_of, exit_status_of, fault_line_of, run_status_of};
+//! The status that a program ends with that ran over a trace.
+ghost use Rattle.std.specs.Prelude.{◌≡◌};
+ghost use Rattle.shb_run.specs.Words.{run_status_of};
 
-use crate::errors::RunError;
 use crate::settings::Summary;
-use shb_io::NoMemory;
-use shb_report::Verdict;
-use std::alloc::Global;
-
-/// The status with which a program ends: 2 for a refused trace, 4 for a device or the memory.
-pub fn exit_status(error: &RunError) -> u8
-    ensures { result ≡ exit_status_of error.now }
-{
-    match error {
-        RunError::Trace { .. } => 2,
-        RunError::Source | RunError::Sink | RunError::Memory => 4,
-    }
-}
+use shb_check::{RunError, exit_status};
 
 /// The status with which a program ends that ran over a trace: 0 where the report was written, and
 /// else that of the error.
@@ -27,33 +14,4 @@ pub fn status_of_run(answer: &Result<Summary, RunError>) -> u8
         Ok(_) => 0,
         Err(error) => exit_status(error),
     }
-}
-
-/// The status with which a program ends that checked a report: 0 for a good one, 5 for a rejected
-/// one, and else that of the error.
-pub fn status_of_check(answer: &Result<Verdict, RunError>) -> u8
-    ensures { result ≡ check_status_of answer.now }
-{
-    match answer {
-        Ok(Verdict::Good { .. }) => 0,
-        Ok(_) => 5,
-        Err(error) => exit_status(error),
-    }
-}
-
-/// The line that a program prints for an error, without its end: `line N: WORDS` for a refused
-/// trace.
-pub fn fault_line(alloc: Global, error: &RunError) -> Result<String, NoMemory>
-    ensures { IfOk result (λ line. string_bytes line ≡ fault_line_of error.now) }
-{
-    let line = match error {
-        RunError::Trace { line, fault } => {
-            let words = fault.words();
-            format!(in alloc; "line {line}: {words}")?
-        }
-        RunError::Source => String::from_str(alloc, "cannot read")?,
-        RunError::Sink => String::from_str(alloc, "cannot write")?,
-        RunError::Memory => String::from_str(alloc, "out of memory")?,
-    };
-    Ok(line)
 }

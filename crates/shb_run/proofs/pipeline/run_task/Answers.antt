@@ -2,9 +2,10 @@ use Rattle.shb_lines.specs.text.Taking.{ReadsText}
 use Rattle.shb_lines.specs.text.TraceData.{IsReadingOf}
 use Rattle.shb_lines.proofs.text.TakingLemmas.{reads_left, reads_then, reads_told}
 use Rattle.shb_run.specs.declared.settings.Summary.{Summary}
-use Rattle.shb_run.specs.Runs.{limits}
+use Rattle.shb_check.specs.Judged.{limits}
 use Rattle.shb_run.specs.Written.{ListedBy}
-use Rattle.shb_run.proofs.Endings.{Grows-same, grown_of_cut, has_trace, judged, memory_of, none_found, not_judged, or_then, refusal_first, reported_of, sink_of}
+use Rattle.shb_check.proofs.Endings.{Grows-same, judged, none_found, not_judged, refusal_first}
+use Rattle.shb_run.proofs.Endings.{grown_of_cut, has_trace, memory_of, or_then, reported_of, sink_of}
 use Rattle.shb_run.proofs.pipeline.run_task.Goals as goal
 
 pub returns-clause-reported : goal.returns-clause-reported

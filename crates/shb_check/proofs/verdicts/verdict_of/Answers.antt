@@ -1,5 +1,5 @@
-use Rattle.shb_run.proofs.Endings.{verdict_on_text}
-use Rattle.shb_run.proofs.verdicts.verdict_of.Goals as goal
+use Rattle.shb_check.proofs.Endings.{verdict_on_text}
+use Rattle.shb_check.proofs.verdicts.verdict_of.Goals as goal
 
 pub returns-clause-verdict : goal.returns-clause-verdict
 returns-clause-verdict g c =

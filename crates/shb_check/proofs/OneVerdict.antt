@@ -11,8 +11,8 @@ use Rattle.shb_report.specs.Verdicts.{IsVerdict}
 use Rattle.shb_report.proofs.Bad.{bad_line_unique}
 use Rattle.shb_report.proofs.Injective.{report_same}
 use Rattle.shb_report.proofs.VerdictLaws.{one_verdict}
-use Rattle.shb_run.specs.Checks.{IsGoodFor, IsJudged, IsVerdictFor, IsVerdictOf, most_bytes}
-use Rattle.shb_run.proofs.OneReport.{one_whole_trace}
+use Rattle.shb_check.specs.Checks.{IsGoodFor, IsJudged, IsVerdictFor, IsVerdictOf, most_bytes}
+use Rattle.shb_check.proofs.OneTrace.{one_whole_trace}
 
 -- a text has a bad line, or it is a report that is judged
 pub bad_or_judged : (trace : TraceData) (text : List ℕ) (v : Verdict) → IsVerdictFor trace text v → ((n : ℕ) × (v ≡ BadLine n) × IsBadLine most_bytes text n) ⊎ IsJudged trace text v

@@ -10,9 +10,9 @@ use Rattle.shb_report.specs.declared.verdict.Verdict.TheVariants.{BadLine}
 use Rattle.shb_report.specs.Reading.{IsBadLine, IsReportText}
 use Rattle.shb_report.specs.Value.{ReportValue}
 use Rattle.shb_report.specs.Verdicts.{IsGoodReport, IsVerdict, verdict_bytes}
-use Rattle.shb_run.specs.declared.errors.RunError.{RunError}
-use Rattle.shb_run.specs.declared.errors.RunError.TheVariants.{Source}
-use Rattle.shb_run.specs.Runs.{limits}
+use Rattle.shb_check.specs.declared.errors.RunError.{RunError}
+use Rattle.shb_check.specs.declared.errors.RunError.TheVariants.{Source}
+use Rattle.shb_check.specs.Judged.{limits}
 
 -- how many bytes a report may have
 abbrev pub most_bytes : ℕ

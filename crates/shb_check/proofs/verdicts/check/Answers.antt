@@ -1,9 +1,9 @@
 use Rattle.shb_lines.specs.text.Taking.{ReadsText}
 use Rattle.shb_lines.specs.text.TraceData.{IsReadingOf}
 use Rattle.shb_lines.proofs.text.TakingLemmas.{reads_left, reads_then, reads_told}
-use Rattle.shb_run.specs.Runs.{limits}
-use Rattle.shb_run.proofs.Endings.{Takes-none, checked_of, judged, none_found, not_judged, refusal_first}
-use Rattle.shb_run.proofs.verdicts.check.Goals as goal
+use Rattle.shb_check.specs.Judged.{limits}
+use Rattle.shb_check.proofs.Endings.{Takes-none, checked_of, judged, none_found, not_judged, refusal_first}
+use Rattle.shb_check.proofs.verdicts.check.Goals as goal
 
 pub returns-clause-verdict : goal.returns-clause-verdict
 returns-clause-verdict g c =

@@ -5,11 +5,12 @@ ghost use Rattle.shb_discipline.specs.FirstFault.{HasFirstFault};
 ghost use Rattle.shb_lines.specs.text.Taking.{IsSourceCounted, ReadsText, TakesAtMost};
 ghost use Rattle.shb_lines.specs.declared.event.Fault.{Fault};
 ghost use Rattle.shb_report.specs.Verdicts.{verdict_bytes};
-ghost use Rattle.shb_run.specs.Checks.{CountsSources, IsChecked, IsLineCutShort, IsVerdictFor};
-ghost use Rattle.shb_run.specs.Runs.{CountsSink, Grows, OnJudged, OnMemory, OnNoTrace, OnSink, OnTrace, OnWriting, limits};
+ghost use Rattle.shb_check.specs.Checks.{CountsSources, IsChecked, IsLineCutShort, IsVerdictFor};
+ghost use Rattle.shb_check.specs.Judged.{limits};
+ghost use Rattle.shb_check.specs.Outcomes.{CountsSink, Grows, OnJudged, OnMemory, OnNoTrace, OnSink, OnTrace, OnWriting};
 
 use crate::errors::RunError;
-use crate::pipeline::judge;
+use crate::judging::judge;
 use shb_discipline::Disciplined;
 use shb_io::{Sink, Source};
 use shb_lines::{Limits, ReadError, parse};

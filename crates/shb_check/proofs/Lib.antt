@@ -1,0 +1,3 @@
+pub mod OneTrace
+pub mod OneVerdict
+pub mod Endings

@@ -1,0 +1,5 @@
+pub mod Errors
+pub mod Judged
+pub mod Outcomes
+pub mod Checks
+pub mod Words

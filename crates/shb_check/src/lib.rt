@@ -1,0 +1,18 @@
+//! From the texts of a trace and of a report to the verdict, and what a run and a check have in common.
+//!
+//! [`judge`] says of a text that was read what it is: a disciplined trace, or refused for its first
+//! fault. [`check`] reads and judges the trace, then the report, and writes one line. [`RunError`] is
+//! why there is no answer, for a run too; [`exit_status`] and [`fault_line`] word it.
+#![tactic(auto)]
+
+mod errors;
+mod judging;
+pub mod laws;
+mod verdicts;
+mod words;
+
+pub use errors::RunError;
+pub use judging::judge;
+pub use shb_report::{RaceFault, Verdict};
+pub use verdicts::check;
+pub use words::{exit_status, fault_line, status_of_check};

@@ -1,5 +1,0 @@
-use Rattle.shb_run.proofs.OneVerdict.{good_of}
-use Rattle.shb_run.proofs.laws.good_texts_are_called_good.Goals as goal
-
-pub returns : goal.returns
-returns c = good_of

@@ -1,5 +1,0 @@
-use Rattle.shb_run.proofs.OneReport.{one_whole_trace}
-use Rattle.shb_run.proofs.laws.trace_of_lines_is_unique.Goals as goal
-
-pub returns : goal.returns
-returns c = one_whole_trace

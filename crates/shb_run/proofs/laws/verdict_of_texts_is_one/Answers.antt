@@ -1,5 +1,0 @@
-use Rattle.shb_run.proofs.OneVerdict.{one_verdict_of}
-use Rattle.shb_run.proofs.laws.verdict_of_texts_is_one.Goals as goal
-
-pub returns : goal.returns
-returns c = one_verdict_of
