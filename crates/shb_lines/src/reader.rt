@@ -45,13 +45,24 @@ fn line_end(text: &[u8], start: usize) -> usize
 }
 
 /// What was read of a text so far.
-#[derive(Drop)]
 pub struct Reader<'t> {
     events: Vec<Event>,
     starts: Vec<u32>,
     threads: Names<'t>,
     locks: Names<'t>,
     variables: Names<'t>,
+}
+
+impl<'t> Drop for Reader<'t> {
+    fn drop(self) {
+        let Reader {
+            events: _,
+            starts: _,
+            threads: _,
+            locks: _,
+            variables: _,
+        } = self;
+    }
 }
 
 impl<'t> Reader<'t> {
@@ -62,11 +73,11 @@ impl<'t> Reader<'t> {
         ensures begun { (text : List ℕ) → IfOk result (λ reader. HasRead text reader []) }
     {
         Ok(Reader {
-            events: Vec::new(alloc),
-            starts: Vec::new(alloc),
             threads: Names::new(rt, alloc)?,
             locks: Names::new(rt, alloc)?,
             variables: Names::new(rt, alloc)?,
+            events: Vec::new(alloc),
+            starts: Vec::new(alloc),
         })
     }
 
@@ -249,12 +260,22 @@ impl<'t> Reader<'t> {
         ensures locks { IfOk result (λ places. places.locks.items ≡ spans_in self.entry.locks.table.entries) }
         ensures variables { IfOk result (λ places. places.variables.items ≡ spans_in self.entry.variables.table.entries) }
     {
+        let threads = self.threads.spans(alloc)?;
+        let locks = self.locks.spans(alloc)?;
+        let variables = self.variables.spans(alloc)?;
+        let Reader {
+            events,
+            starts,
+            threads: _,
+            locks: _,
+            variables: _,
+        } = self;
         Ok(Places {
-            threads: self.threads.spans(alloc)?,
-            locks: self.locks.spans(alloc)?,
-            variables: self.variables.spans(alloc)?,
-            events: self.events,
-            starts: self.starts,
+            events,
+            starts,
+            threads,
+            locks,
+            variables,
         })
     }
 }

@@ -13,6 +13,7 @@ mod latest;
 mod link;
 mod linked;
 mod links;
+mod pass;
 
 pub use linked::Linked;
 pub use links::{Links, links_of};

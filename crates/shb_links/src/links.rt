@@ -1,25 +1,22 @@
 //! The links of a trace: places in threads, predecessors, last writes and forks.
 
-ghost use Rattle.std.specs.Prelude.{◌≡◌, ℕ, ◌<◌, ◌≤◌, ◌+◌, List, Option, Some, None, IfOk, length};
+ghost use Rattle.std.specs.Prelude.{◌≡◌, ℕ, ◌<◌, List, Some, IfOk, length};
 ghost use Rattle.shb_lines.specs.declared.event.Event.{Event};
 ghost use Rattle.shb_lines.specs.events.Discipline.{place_in_thread};
 ghost use Rattle.shb_lines.specs.events.Order.{IsPred, LastWrite};
 ghost use Rattle.shb_lines.specs.events.Events.{thread_at};
-ghost use Rattle.shb_lines.specs.events.Sizes.{IsWithin};
-ghost use Rattle.shb_links.specs.Latest.{IsLatestTable, Latest, OfThread, WritesVariable, ForksThread};
-ghost use Rattle.shb_links.specs.Links.{Exactly, IsLocal, HasLocals, HasLinks};
+ghost use Rattle.shb_links.specs.Latest.{Latest, OfThread, ForksThread};
+ghost use Rattle.shb_links.specs.Links.{Exactly, IsLocal, HasLinks};
 
-use crate::latest::empty_table;
 use crate::link::Link;
+use crate::pass::{Entries, LatestEvents};
 use shb_discipline::Disciplined;
 use shb_io::NoMemory;
-use shb_lines::{Event, Op, Sizes};
 use std::alloc::Global;
 use std::marker::Model;
 
 /// The links of a trace. Contracts see it as the list of the trace's events, since that list fixes
 /// every link.
-#[derive(Drop)]
 pub struct Links<'a> {
     trace: &'a Disciplined<'a>,
     locals: Vec<u32>,
@@ -27,6 +24,20 @@ pub struct Links<'a> {
     last_writes: Vec<Link>,
     forks: Vec<Option<u32>>,
     last: Vec<Option<u32>>,
+}
+
+// By hand: a derived one stands in each function that drops links, with a step for each vector.
+impl<'a> Drop for Links<'a> {
+    fn drop(self) {
+        let Links {
+            trace: _,
+            locals: _,
+            preds: _,
+            last_writes: _,
+            forks: _,
+            last: _,
+        } = self;
+    }
 }
 
 impl<'a> Model for Links<'a> {
@@ -94,99 +105,23 @@ impl<'a> Links<'a> {
     }
 }
 
-/// The place of an event in its thread, from the places before it and the last event of each
-/// thread.
-fn next_local(trace: &Disciplined<'_>, locals: &[u32], last: &[Option<u32>], e: u32) -> u32
-    requires in_range { e < length trace.now.events.now }
-    requires locals { HasLocals trace.now.events.now e locals.now }
-    requires last { IsLatestTable (OfThread trace.now.events.now) e trace.now.sizes.threads last.now }
-    ensures { (t : ℕ) → thread_at trace.now.events.now e ≡ Some t
-        → result ≡ place_in_thread trace.now.events.now t e }
-{
-    match last[trace.events[e as usize].thread as usize] {
-        Some(p) => locals[p as usize] + 1,
-        None => 1,
-    }
-}
-
-/// The predecessor of an event, from the last event and the fork of each thread.
-fn pred_of(trace: &Disciplined<'_>, last: &[Option<u32>], forks: &[Option<u32>], e: u32) -> Link
-    requires in_range { e < length trace.now.events.now }
-    requires last { IsLatestTable (OfThread trace.now.events.now) e trace.now.sizes.threads
-        last.now }
-    requires forks { IsLatestTable (ForksThread trace.now.events.now) e trace.now.sizes.threads
-        forks.now }
-    ensures { Exactly (λ p. IsPred trace.now.events.now p e) result }
-{
-    let thread = trace.events[e as usize].thread as usize;
-    Link::new(last[thread].or(forks[thread]))
-}
-
-/// The write that an event reads from, from the last write of each variable.
-fn last_write_of(trace: &Disciplined<'_>, writes: &[Option<u32>], e: u32) -> Link
-    requires in_range { e < length trace.now.events.now }
-    requires writes { IsLatestTable (WritesVariable trace.now.events.now) e trace.now.sizes.variables writes.now }
-    ensures { Exactly (λ w. LastWrite trace.now.events.now w e) result }
-{
-    match trace.events[e as usize].op {
-        Op::Read(variable) => Link::new(writes[variable as usize]),
-        _ => Link::new(None),
-    }
-}
-
-/// Notes event `e` as the last of its thread, in a table of the last event of each thread before
-/// `e`.
-fn note_thread(events: &[Event], sizes: Sizes, last: &mut Vec<Option<u32>>, e: u32)
-    requires in_range { e < length events.now }
-    requires within { IsWithin events.now sizes }
-    requires last { IsLatestTable (OfThread events.now) e sizes.threads last.old.items }
-    ensures { IsLatestTable (OfThread events.now) (e + 1) sizes.threads last.new.items }
-{
-    last[events[e as usize].thread as usize] = Some(e);
-}
-
-/// Notes the event, where it is a write, as the last of its variable.
-fn note_write(trace: &Disciplined<'_>, writes: &mut Vec<Option<u32>>, e: u32)
-    requires in_range { e < length trace.now.events.now }
-    requires writes { IsLatestTable (WritesVariable trace.now.events.now) e trace.now.sizes.variables writes.old.items }
-    ensures { IsLatestTable (WritesVariable trace.now.events.now) (e + 1) trace.now.sizes.variables writes.new.items }
-{
-    if let Op::Write(variable) = trace.events[e as usize].op {
-        writes[variable as usize] = Some(e);
-    }
-}
-
-/// Notes the event, where it is a fork, as that of its thread.
-fn note_fork(trace: &Disciplined<'_>, forks: &mut Vec<Option<u32>>, e: u32)
-    requires in_range { e < length trace.now.events.now }
-    requires forks { IsLatestTable (ForksThread trace.now.events.now) e trace.now.sizes.threads forks.old.items }
-    ensures { IsLatestTable (ForksThread trace.now.events.now) (e + 1) trace.now.sizes.threads forks.new.items }
-{
-    if let Op::Fork(thread) = trace.events[e as usize].op {
-        forks[thread as usize] = Some(e);
-    }
-}
-
 /// The links of a trace, by one forward pass, in twelve bytes an event. `NoMemory` where memory was
 /// refused.
 pub fn links_of<'a>(alloc: Global, trace: &'a Disciplined<'a>) -> Result<Links<'a>, NoMemory>
     ensures { IfOk result (λ links. links ≡ trace.now.events.now) }
 {
-    let (events, sizes) = (trace.events, trace.sizes);
-    let mut last = empty_table(alloc, sizes.threads)?;
-    let mut writes = empty_table(alloc, sizes.variables)?;
-    let mut forks = empty_table(alloc, sizes.threads)?;
-    let mut locals = Vec::with_capacity(alloc, events.len())?;
-    let mut preds = Vec::with_capacity(alloc, events.len())?;
-    let mut last_writes = Vec::with_capacity(alloc, events.len())?;
-    for e in 0..events.len() as u32 {
-        locals.push(next_local(trace, locals.as_slice(), last.as_slice(), e))?;
-        preds.push(pred_of(trace, last.as_slice(), forks.as_slice(), e))?;
-        last_writes.push(last_write_of(trace, writes.as_slice(), e))?;
-        note_thread(events, sizes, &mut last, e);
-        note_write(trace, &mut writes, e);
-        note_fork(trace, &mut forks, e);
+    let mut latest = LatestEvents::new(alloc, trace)?;
+    let mut entries = Entries::new(alloc, trace)?;
+    for e in 0..trace.events.len() as u32 {
+        entries.push(trace, &latest, e)?;
+        latest.note(trace, e);
     }
+    let LatestEvents { last, forks, .. } = latest;
+    let Entries {
+        locals,
+        preds,
+        last_writes,
+    } = entries;
     Ok(Links {
         trace,
         locals,

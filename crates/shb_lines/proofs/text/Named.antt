@@ -9,10 +9,14 @@ use Rattle.shb_lines.specs.text.Spans.{bytes_at}
 use Rattle.shb_lines.specs.text.Places.{names_at}
 use Rattle.shb_lines.proofs.text.Numbers.{one_number}
 
+-- the name of number k is what its span holds
+pub name_at : (text : List ℕ) (spans : List Span) (names : List (List ℕ)) (k : ℕ) (span : Span) (bytes name : List ℕ) → names_at text spans ≡ names → k < length names → span ≡ get_or spans k span
+    → bytes ≡ text → name ≡ bytes_at bytes span → slice_get names k ≡ Some name
+name_at text spans names k span bytes name names_are below at bytes_are name_is =
+    let inside : k < length spans = omega (arith, ap length names_are, length-map spans (bytes_at text)) in
+    ap (λ ns. slice_get ns k) (sym names_are) ∙ slice_get-map (bytes_at text) spans k ∙ ap (option_map (bytes_at text)) (slice_get_read spans (length spans) k span refl inside at) ∙ ap Some (ap (λ b. bytes_at b span) (sym bytes_are) ∙ sym name_is)
+
 pub alone : (text : List ℕ) (spans : List Span) (names : List (List ℕ)) (k : ℕ) (span : Span) (bytes name : List ℕ) → names_at text spans ≡ names → k < length names → span ≡ get_or spans k span
     → bytes ≡ text → name ≡ bytes_at bytes span → IsDistinct bytes_eq (names_at text spans) → (other : ℕ) → slice_get names other ≡ Some name → other ≡ k
 alone text spans names k span bytes name names_are below at bytes_are name_is differ other at_other =
-    let inside : k < length spans = omega (arith, ap length names_are, length-map spans (bytes_at text)) in
-    let at_k : slice_get (names_at text spans) k ≡ Some name =
-    slice_get-map (bytes_at text) spans k ∙ ap (option_map (bytes_at text)) (slice_get_read spans (length spans) k span refl inside at) ∙ ap Some (ap (λ b. bytes_at b span) (sym bytes_are) ∙ sym name_is) in
-    one_number (names_at text spans) name other k differ (subst (λ ns. slice_get ns other ≡ Some name) (sym names_are) at_other) at_k
+    one_number names name other k (subst (IsDistinct bytes_eq) names_are differ) at_other (name_at text spans names k span bytes name names_are below at bytes_are name_is)

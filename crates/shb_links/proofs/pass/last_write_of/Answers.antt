@@ -3,7 +3,7 @@ use Rattle.shb_lines.specs.events.Order.{LastWrite}
 use Rattle.shb_lines.proofs.events.Items.{no_read}
 use Rattle.shb_links.specs.Links.{Exactly}
 use Rattle.shb_links.proofs.Steps.{write_found}
-use Rattle.shb_links.proofs.links.last_write_of.Goals as goal
+use Rattle.shb_links.proofs.pass.last_write_of.Goals as goal
 
 pub returns-in-Read : goal.returns-in-Read
 returns-in-Read c =

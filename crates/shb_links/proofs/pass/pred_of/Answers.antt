@@ -2,7 +2,7 @@ use Rattle.std.proofs.Common.{ℕ, Option, subst, sym, ◌∙◌}
 use Rattle.shb_lines.specs.events.Order.{IsPred}
 use Rattle.shb_links.specs.Links.{Exactly}
 use Rattle.shb_links.proofs.Steps.{pred_found}
-use Rattle.shb_links.proofs.links.pred_of.Goals as goal
+use Rattle.shb_links.proofs.pass.pred_of.Goals as goal
 
 pub returns : goal.returns
 returns c =

@@ -1,6 +1,6 @@
 use Rattle.std.proofs.Common.{arith}
 use Rattle.shb_links.proofs.Steps.{place_next, place_start, place_small}
-use Rattle.shb_links.proofs.links.next_local.Goals as goal
+use Rattle.shb_links.proofs.pass.next_local.Goals as goal
 
 pub overflow_add-result : goal.overflow_add-result
 overflow_add-result c =
