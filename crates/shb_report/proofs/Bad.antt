@@ -4,8 +4,7 @@ use Rattle.std.proofs.Math.Seq.{take-append-add}
 use Rattle.std.proofs.lemmas.List.{take_all, take-append-le}
 use Rattle.std.proofs.lemmas.Bool.{cases_lt}
 use Rattle.std.specs.Io.KnownBytes.{Consumes, IsAtEnd}
-use Rattle.shb_report.specs.declared.parts.Parts.{Parts}
-use Rattle.shb_report.specs.Parts.{IsScanned, report_at}
+use Rattle.shb_report.specs.Parts.{IsTextOf}
 use Rattle.shb_report.specs.Value.{IsReportValue, ReportValue, lines_text, report_lines, report_text}
 use Rattle.shb_report.specs.Reading.{BeginsReport, IsBadLine}
 use Rattle.shb_report.specs.Forms.{Form, Version, End, Takes, IsBadFrom}
@@ -89,9 +88,9 @@ bad_short limit text n short b = bad_line limit text n (subst (λ s. IsBadFrom a
 pub bad_long : (limit : ℕ) (text seen : List ℕ) (n : ℕ) → seen ≡ take limit text → IsBadFrom all_forms 0 seen n → IsBadLine limit text n
 bad_long limit text seen n same b = bad_line limit text n (subst (λ s. IsBadFrom all_forms 0 s n) same b)
 
-pub bad_end : (limit : ℕ) (text seen : List ℕ) (parts : Parts) (lines : ℕ) → limit < length text → seen ≡ take limit text → IsScanned seen parts lines → IsBadLine limit text (lines + 1)
-bad_end limit text seen parts lines long same h =
-    subst (λ n. IsBadLine limit text (n + 1)) (sym h.lines_are) (bad_behind_limit limit text (report_at seen parts) h.in_grammar (sym same ∙ h.text_is) long)
+pub bad_end : (limit : ℕ) (text seen : List ℕ) (report : ReportValue) (lines : ℕ) → limit < length text → seen ≡ take limit text → IsTextOf seen report lines → IsBadLine limit text (lines + 1)
+bad_end limit text seen report lines long same h =
+    subst (λ n. IsBadLine limit text (n + 1)) (sym h.lines_are) (bad_behind_limit limit text report h.in_grammar (sym same ∙ h.text_is) long)
 
 -- what was taken of a source has the first bad line of all that it tells
 

@@ -9,7 +9,7 @@ use Rattle.shb_report.specs.declared.parts.PlaceEntry.{PlaceEntry}
 use Rattle.shb_report.specs.declared.parts.RaceEntry.{RaceEntry}
 use Rattle.shb_report.specs.Forms.{Form, block_forms, place_forms}
 use Rattle.shb_report.specs.Lines.{IfStop, bytes_from}
-use Rattle.shb_report.specs.Parts.{IsPlaceIn, IsRaceIn, ReadsBlock, ReadsBlocks, ReadsPlace, ReadsPlaces, block_at, block_before, blocks_at, place_at, place_before, places_at}
+use Rattle.shb_report.specs.Parts.{IsPlaceIn, IsRaceIn, ReadsBlock, ReadsBlocks, ReadsPlace, ReadsPlaces, TakesBlocks, block_at, block_before, blocks_at, place_at, place_before, places_at}
 use Rattle.shb_report.specs.Value.{Block, IsBlock, IsPlace, Place, block_lines, lines_text, place_lines}
 
 pub stop_weaker : (stop : Stop) (P Q : ℕ → Type 0) → ((n : ℕ) → P n → Q n) → IfStop stop P → IfStop stop Q
@@ -92,6 +92,18 @@ grown text numbers more (entry ∷ entries) h =
 grown_in : (text numbers more : List ℕ) (entry : RaceEntry) → IsRaceIn text numbers entry → IsRaceIn text (numbers ++ more) entry
 grown_in text numbers more entry h = record { first = h.first; second = h.second; schedule = omega (arith, h.schedule, length-append numbers more) }
 
+pub taken_more : (text : List ℕ) (old mid new : Position) (k : ℕ) (blocks : List Block) (block : Block) → TakesBlocks text old mid k blocks → IsBlock block
+    → bytes_from text mid ≡ lines_text (block_lines (k + 1) (block ∷ [])) ++ bytes_from text new → new.lines ≡ mid.lines + 4 → TakesBlocks text old new (k + 1) (blocks ++ block ∷ [])
+taken_more text old mid new k blocks block h in_grammar bytes lines =
+    let count : 1 + length blocks ≡ k + 1 = omega (arith, h.count_is) in
+    let all : block_lines 1 blocks ++ block_lines (k + 1) (block ∷ []) ≡ block_lines 1 (blocks ++ block ∷ []) =
+    ap (λ n. block_lines 1 blocks ++ block_lines n (block ∷ [])) (sym count) ∙ sym (block_lines-append 1 blocks (block ∷ [])) in record {
+      count_is = omega (arith, length-append blocks (block ∷ []), h.count_is);
+      in_grammar = each-push IsBlock blocks block h.in_grammar in_grammar;
+      bytes = joined (block_lines 1 blocks) (block_lines (k + 1) (block ∷ [])) _ _ _ h.bytes bytes ∙ ap (λ l. lines_text l ++ bytes_from text new) all;
+      lines = omega (arith, h.lines, lines);
+    }
+
 pub blocks_more : (text : List ℕ) (old mid new : Position) (k : ℕ) (numbers all_numbers : List ℕ) (entries : List RaceEntry) (entry : RaceEntry) (all : List RaceEntry) → all ≡ entries ++ entry ∷ []
     → ReadsBlocks text old mid k numbers entries → ReadsBlock text mid new (k + 1) numbers all_numbers entry → ReadsBlocks text old new (k + 1) all_numbers all
 blocks_more text old mid new k numbers all_numbers entries entry all is h g =
@@ -100,14 +112,8 @@ blocks_more text old mid new k numbers all_numbers entries entry all is h g =
     let unchanged : blocks_at text all_numbers entries ≡ blocks = ap (λ (n : List ℕ). blocks_at text n entries) g.numbers ∙ grown text numbers block.schedule entries h.entries_in in
     let same : blocks ++ block ∷ [] ≡ blocks_at text all_numbers all =
     sym (ap (blocks_at text all_numbers) is ∙ map-append (block_at text all_numbers) entries (entry ∷ []) ∙ ap (λ b. b ++ block_at text all_numbers entry ∷ []) unchanged ∙ ap (λ b. blocks ++ b ∷ []) g.entry_is) in
-    let count : 1 + length blocks ≡ k + 1 = omega (arith, length-map entries (block_at text numbers), h.count_is) in
-    let lines : block_lines 1 blocks ++ block_lines (k + 1) (block ∷ []) ≡ block_lines 1 (blocks_at text all_numbers all) =
-    ap (λ n. block_lines 1 blocks ++ block_lines n (block ∷ [])) (sym count) ∙ sym (block_lines-append 1 blocks (block ∷ [])) ∙ ap (block_lines 1) same in
     let still_in : AllByRecursion (IsRaceIn text all_numbers) entries =
     subst (λ n. AllByRecursion (IsRaceIn text n) entries) (sym g.numbers) (each-weaker (IsRaceIn text numbers) (IsRaceIn text (numbers ++ block.schedule)) entries (λ e i. grown_in text numbers block.schedule e i) h.entries_in) in record {
-      count_is = omega (arith, ap (λ (l : List RaceEntry). length l) is, length-append entries (entry ∷ []), h.count_is);
-      in_grammar = subst (AllByRecursion IsBlock) same (each-push IsBlock blocks block h.in_grammar g.in_grammar);
-      bytes = joined (block_lines 1 blocks) (block_lines (k + 1) (block ∷ [])) _ _ _ h.bytes g.bytes ∙ ap (λ l. lines_text l ++ bytes_from text new) lines;
+      taken = subst (TakesBlocks text old new (k + 1)) same (taken_more text old mid new k blocks block h.taken g.in_grammar g.bytes g.lines);
       entries_in = subst (AllByRecursion (IsRaceIn text all_numbers)) (sym is) (each-push (IsRaceIn text all_numbers) entries entry still_in g.entry_in);
-      lines = omega (arith, h.lines, g.lines);
     }

@@ -26,3 +26,5 @@ mod GoodBlocks
 mod GoodRaces
 pub mod VerdictLaws
 mod ShownPlaces
+mod JudgedBlocks
+mod TextVerdicts

@@ -5,9 +5,10 @@ use Rattle.std.specs.List.{AllByRecursion}
 use Rattle.shb_report.specs.declared.lines.Position.{Position}
 use Rattle.shb_report.specs.declared.parts.PlaceEntry.{PlaceEntry}
 use Rattle.shb_report.specs.declared.parts.Parts.{Parts}
+use Rattle.shb_report.specs.declared.writer.Counts.{Counts}
 use Rattle.shb_report.specs.Forms.{Form, Version, CountsForm, Races, RacesBeforePlaces, Places, block_forms}
 use Rattle.shb_report.specs.Lines.{IsBadAt, Lacks, Passes, TakesLine, bytes_from}
-use Rattle.shb_report.specs.Parts.{IsPlaceIn, IsScanned, ReadsBlocks, ReadsPlaces, ReadsSection, blocks_at, places_at, places_form, races_form, report_at, section_at, version_text}
+use Rattle.shb_report.specs.Parts.{IsPlaceIn, IsScanned, IsTextOf, ReadsBlocks, ReadsPlaces, ReadsSection, TakesBlocks, blocks_at, places_at, places_form, races_form, section_at, version_text}
 use Rattle.shb_report.specs.Value.{AreShown, Block, IsShown, Place, block_lines, counts_line, lines_text, place_lines, places_line, places_section, races_line, version_line}
 use Rattle.shb_report.proofs.Machine.{bad_after}
 use Rattle.shb_report.proofs.Passing.{bad_at, passes_by, passes_races, passes_races_before}
@@ -74,26 +75,34 @@ version_is : (text : List ℕ) (with_places : Bool) (entries : List PlaceEntry) 
 version_is text true entries = refl
 version_is text false entries = refl
 
+pub whole_text : (text : List ℕ) (a b c : Position) (with_places : Bool) (counts : Counts) (entries : List PlaceEntry) (blocks : List Block) (races lines : ℕ)
+    → AreShown counts → IsShown races
+    → text ≡ lines_text (version_text with_places ∷ (counts_line counts ∷ (races_line races ∷ []))) ++ bytes_from text a → a.lines ≡ 3
+    → ReadsSection text a b with_places entries → TakesBlocks text b c races blocks
+    → bytes_from text c ≡ lines_text (codes "end" ∷ []) → lines ≡ c.lines + 1
+    → IsTextOf text (record { counts = counts; places = section_at text with_places entries; blocks = blocks }) lines
+whole_text text a b c with_places counts entries blocks races lines shown_counts shown head third section taken tail last =
+    let section_lines = places_section (section_at text with_places entries) in
+    let end : List (List ℕ) = codes "end" ∷ [] in
+    let counted : length blocks ≡ races = taken.count_is in
+    let from_c : bytes_from text c ≡ lines_text end ++ [] = tail ∙ sym (append-nil (lines_text end)) in
+    let from_b = joined (block_lines 1 blocks) end _ _ _ taken.bytes from_c in
+    let from_a = joined section_lines (block_lines 1 blocks ++ end) _ _ _ section.bytes from_b in
+    let whole = joined (version_text with_places ∷ (counts_line counts ∷ (races_line races ∷ []))) (section_lines ++ (block_lines 1 blocks ++ end)) _ _ _ head from_a in
+    let first = version_is text with_places entries in record {
+      in_grammar = record { counts = shown_counts; places = section.in_grammar; blocks = taken.in_grammar; few = subst IsShown (sym counted) shown };
+      text_is = whole ∙ append-nil _
+          ∙ ap (λ v. lines_text (v ∷ (counts_line counts ∷ (races_line races ∷ (section_lines ++ (block_lines 1 blocks ++ end)))))) first
+          ∙ ap (λ n. lines_text (version_line (section_at text with_places entries) ∷ (counts_line counts ∷ (races_line n ∷ (section_lines ++ (block_lines 1 blocks ++ end)))))) (sym counted);
+      lines_are = omega (arith, last, taken.lines, section.lines, third, counted, length-block_lines 1 blocks, length-append section_lines (block_lines 1 blocks ++ end), length-append (block_lines 1 blocks) end);
+    }
+
 pub scanned : (text : List ℕ) (a b c : Position) (parts : Parts) (races lines : ℕ)
     → length text ≤ 1073741824 → AreShown parts.counts → IsShown races
     → text ≡ lines_text (version_text parts.with_places ∷ (counts_line parts.counts ∷ (races_line races ∷ []))) ++ bytes_from text a → a.lines ≡ 3
     → ReadsSection text a b parts.with_places parts.places.items → ReadsBlocks text b c races parts.numbers.items parts.races.items
     → bytes_from text c ≡ lines_text (codes "end" ∷ []) → lines ≡ c.lines + 1 → IsScanned text parts lines
-scanned text a b c parts races lines short counts shown head third section blocks tail last =
-    let section_lines = places_section (section_at text parts.with_places parts.places.items) in
-    let all = blocks_at text parts.numbers.items parts.races.items in
-    let end : List (List ℕ) = codes "end" ∷ [] in
-    let counted : length all ≡ races = length-map parts.races.items _ ∙ blocks.count_is in
-    let from_c : bytes_from text c ≡ lines_text end ++ [] = tail ∙ sym (append-nil (lines_text end)) in
-    let from_b = joined (block_lines 1 all) end _ _ _ blocks.bytes from_c in
-    let from_a = joined section_lines (block_lines 1 all ++ end) _ _ _ section.bytes from_b in
-    let whole = joined (version_text parts.with_places ∷ (counts_line parts.counts ∷ (races_line races ∷ []))) (section_lines ++ (block_lines 1 all ++ end)) _ _ _ head from_a in
-    let first = version_is text parts.with_places parts.places.items in
-    let report = report_at text parts in record {
-      parts_in = record { short = short; places = section.entries_in; races = blocks.entries_in };
-      in_grammar = record { counts = counts; places = section.in_grammar; blocks = blocks.in_grammar; few = subst IsShown (sym counted) shown };
-      text_is = whole ∙ append-nil _
-          ∙ ap (λ v. lines_text (v ∷ (counts_line parts.counts ∷ (races_line races ∷ (section_lines ++ (block_lines 1 all ++ end)))))) first
-          ∙ ap (λ n. lines_text (version_line report.places ∷ (counts_line parts.counts ∷ (races_line n ∷ (section_lines ++ (block_lines 1 all ++ end)))))) (sym counted);
-      lines_are = omega (arith, last, blocks.lines, section.lines, third, counted, length-block_lines 1 all, length-append section_lines (block_lines 1 all ++ end), length-append (block_lines 1 all) end);
-    }
+scanned text a b c parts races lines short counts shown head third section blocks tail last = record {
+  parts_in = record { short = short; places = section.entries_in; races = blocks.entries_in };
+  whole = whole_text text a b c parts.with_places parts.counts parts.places.items (blocks_at text parts.numbers.items parts.races.items) races lines counts shown head third section blocks.taken tail last;
+}

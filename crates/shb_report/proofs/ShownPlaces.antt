@@ -1,39 +1,41 @@
--- One place more is as the report shows it; the pairs of good blocks.
-use Rattle.std.proofs.Common.{◌≡◌, ℕ, ◌+◌, ◌<◌, List, [], ◌∷◌, ◌++◌, length, map, take, get_or, Option, None, Some, IfSome, refl, sym, ap, subst, ◌∙◌, arith}
+-- One place more is as the report shows it; the pair of a good block.
+use Rattle.std.proofs.Common.{◌≡◌, ℕ, ◌+◌, ◌<◌, List, [], ◌∷◌, ◌++◌, length, map, take, get_or, Some, option_map, sym, ap, subst, ◌∙◌, arith}
 use Rattle.std.specs.Prelude.{slice_get}
 use Rattle.std.proofs.lemmas.List.{map_push, take_more, take-map}
-use Rattle.std.proofs.lemmas.Option.{slice_get-get_or}
+use Rattle.std.proofs.lemmas.Option.{slice_get-get_or, slice_get-map}
 use Rattle.shb_lines.specs.declared.event.Pair.{Pair}
 use Rattle.shb_lines.specs.text.TraceData.{TraceData}
+use Rattle.shb_report.specs.declared.parts.PlaceEntry.{PlaceEntry}
 use Rattle.shb_report.specs.declared.places.PlaceCount.{PlaceCount}
+use Rattle.shb_report.specs.Parts.{place_at, places_at}
 use Rattle.shb_report.specs.Places.{IsPairOf, shown_place, shown_places}
 use Rattle.shb_report.specs.Value.{Block, Place}
 use Rattle.shb_report.specs.Verdicts.{IsGoodBlock, pair_in}
-use Rattle.shb_report.proofs.GoodBlocks.{take_push}
 
-module _ (trace : TraceData) (counts : List PlaceCount) (q : ℕ) (d : PlaceCount) (within : q < length counts) where
-  shown_next : take (q + 1) (shown_places trace counts) ≡ take q (shown_places trace counts) ++ shown_place trace (get_or counts q d) ∷ []
-  shown_next =
-      take-map (shown_place trace) (q + 1) counts ∙ ap (map (shown_place trace)) (take_more counts q d within) ∙ map_push (shown_place trace) (take q counts) (get_or counts q d)
-      ∙ ap (λ front. front ++ shown_place trace (get_or counts q d) ∷ []) (sym (take-map (shown_place trace) q counts))
+-- a list of values of a list
+module _ {A B : Type 0} (f : A → B) (xs : List A) (q : ℕ) (d : A) (within : q < length xs) where
+  next_mapped : take (q + 1) (map f xs) ≡ take q (map f xs) ++ f (get_or xs q d) ∷ []
+  next_mapped =
+      take-map f (q + 1) xs ∙ ap (map f) (take_more xs q d within) ∙ map_push f (take q xs) (get_or xs q d) ∙ ap (λ front. front ++ f (get_or xs q d) ∷ []) (sym (take-map f q xs))
 
-  pub place_more : (shown : List Place) (place : Place) → slice_get shown q ≡ Some place → place ≡ shown_place trace (get_or counts q d)
-      → take q shown ≡ take q (shown_places trace counts) → take (q + 1) shown ≡ take (q + 1) (shown_places trace counts)
-  place_more shown place at is before =
-      take_push shown q place at ∙ ap (λ front. front ++ place ∷ []) before ∙ ap (λ p. take q (shown_places trace counts) ++ p ∷ []) is ∙ sym shown_next
+  at_mapped : slice_get (map f xs) q ≡ Some (f (get_or xs q d))
+  at_mapped = slice_get-map f xs q ∙ ap (option_map f) (slice_get-get_or xs q d within)
 
-pub at_index : (shown : List Place) (q : ℕ) (P : Place → Type 0) → q < length shown → IfSome (slice_get shown q) P → (place : Place) × (slice_get shown q ≡ Some place) × P place
-at_index shown q P low h = go (slice_get shown q) refl h
-  where
-    go : (o : Option Place) → slice_get shown q ≡ o → IfSome o P → (place : Place) × (slice_get shown q ≡ Some place) × P place
-    go (Some place) at p = (place, at, p)
-    go None at p = absurd (let some = slice_get-get_or shown q (record { count = 0; first = []; second = [] }) low in let f : ⊥ = cc in f)
+one_of_some : {A : Type 0} (a b : A) → Some a ≡ Some b → a ≡ b
+one_of_some a b same = cc
 
--- the pairs of one block more
-pub pairs_more : (blocks : List Block) (k : ℕ) (block : Block) (pairs : List Pair) (pair : Pair) → slice_get blocks k ≡ Some block → pair ≡ pair_in block
-    → pairs ≡ map pair_in (take k blocks) → pairs ++ pair ∷ [] ≡ map pair_in (take (k + 1) blocks)
-pairs_more blocks k block pairs pair at is before =
-    ap (λ front. front ++ pair ∷ []) before ∙ ap (λ p. map pair_in (take k blocks) ++ p ∷ []) is ∙ sym (map_push pair_in (take k blocks) block) ∙ ap (map pair_in) (sym (take_push blocks k block at))
+module _ (trace : TraceData) (text : List ℕ) (entries : List PlaceEntry) (counts : List PlaceCount) (listed : List Place) (listed_is : listed ≡ places_at text entries)
+    (q : ℕ) (e : PlaceEntry) (d : PlaceCount) (low : q < length entries) (within : q < length counts) where
+  -- one place more is as it is shown
+  pub place_more : place_at text (get_or entries q e) ≡ shown_place trace (get_or counts q d) → take q listed ≡ take q (shown_places trace counts) → take (q + 1) listed ≡ take (q + 1) (shown_places trace counts)
+  place_more same before =
+      ap (take (q + 1)) listed_is ∙ next_mapped (place_at text) entries q e low ∙ ap (λ front. front ++ place_at text (get_or entries q e) ∷ []) (ap (take q) (sym listed_is) ∙ before)
+      ∙ ap (λ p. take q (shown_places trace counts) ++ p ∷ []) same ∙ sym (next_mapped (shown_place trace) counts q d within)
+
+  -- where all are, each is
+  pub each_place : listed ≡ shown_places trace counts → place_at text (get_or entries q e) ≡ shown_place trace (get_or counts q d)
+  each_place same =
+      one_of_some _ _ (sym (at_mapped (place_at text) entries q e low) ∙ ap (λ (l : List Place). slice_get l q) (sym listed_is ∙ same) ∙ at_mapped (shown_place trace) counts q d within)
 
 pub good_pair : (trace : TraceData) (block : Block) (pair : Pair) → pair ≡ pair_in block → IsGoodBlock trace block → IsPairOf trace pair
 good_pair trace block pair is good =

@@ -16,7 +16,7 @@ use Rattle.shb_report.specs.Verdicts.{HasRaceFault, IsFirstBadBlock, IsGoodRepor
 use Rattle.shb_report.proofs.GoodBlocks.{each_at, good_has_none}
 
 module _ (trace : TraceData) (disciplined : IsDisciplined trace.events) (report : ReportValue) where
-  bad_block : (race : ℕ) (why : RaceFault) → IsFirstBadBlock trace report race why → IsGoodReport trace report → ⊥
+  bad_block : (race : ℕ) (why : RaceFault) → IsFirstBadBlock trace report.blocks race why → IsGoodReport trace report → ⊥
   bad_block race why h good = good_has_none trace disciplined h.block (each_at _ report.blocks h.before h.block h.there good.blocks) why h.fault.has
 
   pub good_exactly : (v : Verdict) → IsVerdict trace report v → (v ≡ Good (length report.blocks)) ↔ IsGoodReport trace report
@@ -75,11 +75,11 @@ in_front (y ∷ xs) (suc n) (suc k) x low at = in_front xs n k x (omega (arith, 
 
 module _ (trace : TraceData) (disciplined : IsDisciplined trace.events) (report : ReportValue) where
   -- no first bad block stands before another
-  not_before : (race other : ℕ) (why whyOther : RaceFault) (h : IsFirstBadBlock trace report race why) (g : IsFirstBadBlock trace report other whyOther) → h.before < g.before → ⊥
+  not_before : (race other : ℕ) (why whyOther : RaceFault) (h : IsFirstBadBlock trace report.blocks race why) (g : IsFirstBadBlock trace report.blocks other whyOther) → h.before < g.before → ⊥
   not_before race other why whyOther h g low =
       good_has_none trace disciplined h.block (each_at _ (take g.before report.blocks) h.before h.block (in_front report.blocks g.before h.before h.block low h.there) g.good) why h.fault.has
 
-  one_bad_block : (race other : ℕ) (why whyOther : RaceFault) → IsFirstBadBlock trace report race why → IsFirstBadBlock trace report other whyOther → BadRace race why ≡ BadRace other whyOther
+  one_bad_block : (race other : ℕ) (why whyOther : RaceFault) → IsFirstBadBlock trace report.blocks race why → IsFirstBadBlock trace report.blocks other whyOther → BadRace race why ≡ BadRace other whyOther
   one_bad_block race other why whyOther h g =
       let below = not_before race other why whyOther h g in
       let above = not_before other race whyOther why g h in

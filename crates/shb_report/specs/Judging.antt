@@ -1,14 +1,21 @@
 -- What the parts of a judgement find.
-use Rattle.std.specs.Prelude.{◌≡◌, ◌-◌, ◌<◌, ◌≤◌, length, Option, Some, None}
+use Rattle.std.specs.Prelude.{◌≡◌, ◌-◌, ◌<◌, ◌≤◌, ℕ, All, IfSome, List, length, map, Option, Some, None}
 use Rattle.std.specs.List.{AllByRecursion}
 use Rattle.shb_lines.specs.events.Race.{Conflict}
 use Rattle.shb_lines.specs.text.TraceData.{TraceData}
-use Rattle.shb_report.specs.declared.checking.BadBlock.{BadBlock}
+use Rattle.shb_lines.specs.declared.event.Pair.{Pair}
+use Rattle.shb_report.specs.declared.judged.BadBlock.{BadBlock}
+use Rattle.shb_report.specs.declared.judged.JudgedBlocks.{JudgedBlocks}
+use Rattle.shb_report.specs.declared.lines.Position.{Position}
 use Rattle.shb_report.specs.declared.listed.Listed.{Listed}
 use Rattle.shb_report.specs.declared.verdict.RaceFault.{RaceFault}
+use Rattle.shb_report.specs.declared.verdict.Verdict.{Verdict}
+use Rattle.shb_report.specs.declared.writer.Counts.{Counts}
+use Rattle.shb_report.specs.Parts.{IsTextOf, TakesBlocks}
+use Rattle.shb_report.specs.Places.{IsPairOf, counts_in, places_of_pairs, shown_places}
 use Rattle.shb_report.specs.Report.{line_at}
-use Rattle.shb_report.specs.Value.{Block, ReportValue}
-use Rattle.shb_report.specs.Verdicts.{IsFirstBadBlock, IsGoodBlock, IsLowestFault}
+use Rattle.shb_report.specs.Value.{Block, Place, ReportValue}
+use Rattle.shb_report.specs.Verdicts.{IsFirstBadBlock, IsGoodBlock, IsLowestFault, IsVerdict, pair_in}
 
 -- the block that stands so in a text
 abbrev pub block_in : Listed → Block
@@ -39,7 +46,33 @@ abbrev pub IsBlockFault : TraceData → Block → Option RaceFault → Type 0
 IsBlockFault trace block None = IsGoodBlock trace block
 IsBlockFault trace block (Some why) = IsLowestFault trace block why
 
--- the first bad block, or none
-abbrev pub IsFirstBad : TraceData → ReportValue → Option BadBlock → Type 0
-IsFirstBad trace report None = AllByRecursion (IsGoodBlock trace) report.blocks
-IsFirstBad trace report (Some bad) = IsFirstBadBlock trace report bad.race bad.why
+-- all blocks are good, and these are their pairs; or this is the first that is bad
+abbrev pub AreFound : TraceData → List Block → List Pair → Option BadBlock → Type 0
+AreFound trace blocks pairs None = AllByRecursion (IsGoodBlock trace) blocks × (pairs ≡ map pair_in blocks)
+AreFound trace blocks pairs (Some bad) = IsFirstBadBlock trace blocks bad.race bad.why
+
+-- what is known of these blocks once they were judged
+pub record AreJudged (trace : TraceData) (blocks : List Block) (judged : JudgedBlocks) : Type 0 where
+  pub pairs_in : All (IsPairOf trace) judged.pairs.items
+  pub found : AreFound trace blocks judged.pairs.items judged.bad
+
+-- the places, where there are any, are those of the pairs
+abbrev pub HasPlacesOf : TraceData → Option (List Place) → List Pair → Type 0
+HasPlacesOf trace listed pairs = IfSome listed (λ places. places ≡ shown_places trace (counts_in (places_of_pairs trace pairs)))
+
+-- this is the verdict on each report with these counts, these places and blocks that were judged so
+abbrev pub IsVerdictOnJudged : TraceData → Counts → Option (List Place) → JudgedBlocks → Verdict → Type 0
+IsVerdictOnJudged trace counts places judged verdict =
+    (report : ReportValue) → report.counts ≡ counts → report.places ≡ places → AreJudged trace report.blocks judged → IsVerdict trace report verdict
+
+-- these blocks stand between the positions, so many, and were judged so
+pub record JudgesBlocks (trace : TraceData) (text : List ℕ) (old new : Position) (count : ℕ) (judged : JudgedBlocks) : Type 0 where
+  pub blocks : List Block
+  pub taken : TakesBlocks text old new count blocks
+  pub are_judged : AreJudged trace blocks judged
+
+-- the text is that of a report, and this is its verdict
+pub record IsJudgedText (trace : TraceData) (text : List ℕ) (lines : ℕ) (verdict : Verdict) : Type 0 where
+  pub report : ReportValue
+  pub text_is : IsTextOf text report lines
+  pub verdict_is : IsVerdict trace report verdict

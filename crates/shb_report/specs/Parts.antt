@@ -68,13 +68,17 @@ blocks_at text numbers entries = map (block_at text numbers) entries
 abbrev pub places_at : List ℕ → List PlaceEntry → List Place
 places_at text entries = map (place_at text) entries
 
--- so many blocks were read, of which the first has number 1
-pub record ReadsBlocks (text : List ℕ) (old new : Position) (count : ℕ) (numbers : List ℕ) (entries : List RaceEntry) : Type 0 where
-  pub count_is : length entries ≡ count
-  pub in_grammar : AllByRecursion IsBlock (blocks_at text numbers entries)
-  pub bytes : bytes_from text old ≡ lines_text (block_lines 1 (blocks_at text numbers entries)) ++ bytes_from text new
-  pub entries_in : AllByRecursion (IsRaceIn text numbers) entries
+-- these blocks stand between the positions, so many, of which the first has number 1
+pub record TakesBlocks (text : List ℕ) (old new : Position) (count : ℕ) (blocks : List Block) : Type 0 where
+  pub count_is : length blocks ≡ count
+  pub in_grammar : AllByRecursion IsBlock blocks
+  pub bytes : bytes_from text old ≡ lines_text (block_lines 1 blocks) ++ bytes_from text new
   pub lines : new.lines ≡ old.lines + 4 * count
+
+-- so many blocks were read, of which the first has number 1, and these entries say where they stand
+pub record ReadsBlocks (text : List ℕ) (old new : Position) (count : ℕ) (numbers : List ℕ) (entries : List RaceEntry) : Type 0 where
+  pub taken : TakesBlocks text old new count (blocks_at text numbers entries)
+  pub entries_in : AllByRecursion (IsRaceIn text numbers) entries
 
 -- so many places were read
 pub record ReadsPlaces (text : List ℕ) (old new : Position) (count : ℕ) (entries : List PlaceEntry) : Type 0 where
@@ -101,12 +105,16 @@ pub record ArePartsIn (text : List ℕ) (parts : Parts) : Type 0 where
   pub places : AllByRecursion (IsPlaceIn text) parts.places.items
   pub races : AllByRecursion (IsRaceIn text parts.numbers.items) parts.races.items
 
+-- the text is that of a report, which has so many lines
+pub record IsTextOf (text : List ℕ) (report : ReportValue) (lines : ℕ) : Type 0 where
+  pub in_grammar : IsReportValue report
+  pub text_is : text ≡ report_text report
+  pub lines_are : lines ≡ length (report_lines report)
+
 -- the text is that of the report that its parts are
 pub record IsScanned (text : List ℕ) (parts : Parts) (lines : ℕ) : Type 0 where
   pub parts_in : ArePartsIn text parts
-  pub in_grammar : IsReportValue (report_at text parts)
-  pub text_is : text ≡ report_text (report_at text parts)
-  pub lines_are : lines ≡ length (report_lines (report_at text parts))
+  pub whole : IsTextOf text (report_at text parts) lines
 
 abbrev pub version_text : Bool → List ℕ
 version_text with_places = if with_places then codes "shb-report 2" else codes "shb-report 1"

@@ -77,19 +77,19 @@ pub record IsLowestFault (trace : TraceData) (block : Block) (why : RaceFault) :
   pub lowest : (other : RaceFault) → HasRaceFault trace block other → fault_number why ≤ fault_number other
 
 -- the first block that isn't good has this number, which counts from 1, and this is its lowest fault
-pub record IsFirstBadBlock (trace : TraceData) (report : ReportValue) (race : ℕ) (why : RaceFault) : Type 0 where
+pub record IsFirstBadBlock (trace : TraceData) (blocks : List Block) (race : ℕ) (why : RaceFault) : Type 0 where
   pub before : ℕ
   pub race_is : race ≡ before + 1
-  pub good : AllByRecursion (IsGoodBlock trace) (take before report.blocks)
+  pub good : AllByRecursion (IsGoodBlock trace) (take before blocks)
   pub block : Block
-  pub there : slice_get report.blocks before ≡ Some block
+  pub there : slice_get blocks before ≡ Some block
   pub fault : IsLowestFault trace block why
 
 -- the first verdict that applies: counts, then blocks, then places
 abbrev pub IsVerdict : TraceData → ReportValue → Verdict → Type 0
 IsVerdict trace report (Good races) = IsGoodReport trace report × (races ≡ length report.blocks)
 IsVerdict trace report BadCounts = report.counts ≢ counts_of trace
-IsVerdict trace report (BadRace race why) = (report.counts ≡ counts_of trace) × IsFirstBadBlock trace report race why
+IsVerdict trace report (BadRace race why) = (report.counts ≡ counts_of trace) × IsFirstBadBlock trace report.blocks race why
 IsVerdict trace report BadPlaces = (report.counts ≡ counts_of trace) × AllByRecursion (IsGoodBlock trace) report.blocks × (¬ HasItsPlaces trace report)
 IsVerdict trace report (BadLine line) = ⊥
 

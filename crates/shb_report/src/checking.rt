@@ -1,39 +1,26 @@
 //! Judges a report against a trace.
-ghost use Rattle.std.specs.Prelude.{◌≡◌, ◌+◌, ◌-◌, ◌<◌, ◌≤◌, ◌↔◌, ◌^◌, ℕ, List, All, IfOk, IfSome, IsTrue, OnOk, Some, length, map, slice_get};
-ghost use Rattle.std.specs.List.{AllByRecursion};
-ghost use Rattle.shb_report.specs.Judging.{IsBlockFault, IsFirstBad, IsPairFault, block_in};
+ghost use Rattle.std.specs.Prelude.{◌≡◌, ◌↔◌, ℕ, All, IfOk, IsTrue, length};
+ghost use Rattle.shb_report.specs.Judging.{AreJudged, HasPlacesOf, IsVerdictOnJudged};
+ghost use Rattle.shb_report.specs.Parts.{IsPlaceIn, place_at};
 ghost use Rattle.shb_report.specs.Places.{IsPairOf, IsPlaceOf, shown_place, shown_places};
 ghost use Rattle.shb_report.specs.Report.{counts_of};
-ghost use Rattle.shb_report.specs.Value.{listed_places};
 ghost use Rattle.shb_report.specs.declared.verdict.Verdict.TheVariants.{Good};
-ghost use Rattle.shb_report.specs.Verdicts.{HasItsPlaces, IsGoodBlock, IsGoodReport, IsVerdict, pair_in, position_of};
+ghost use Rattle.shb_report.specs.Verdicts.{IsGoodReport, IsVerdict};
 
-use crate::listed::Listed;
+use crate::judged::{JudgedBlocks, judge_block};
+use crate::listed::{Section, bytes_in, same_bytes};
+use crate::parts::PlaceEntry;
 use crate::places::{PlaceCount, places_of};
 use crate::report::Report;
-use crate::verdict::{RaceFault, Verdict};
+use crate::verdict::Verdict;
 use crate::writer::Counts;
 use shb_discipline::Disciplined;
 use shb_io::NoMemory;
-use shb_lines::{Pair, Trace, conflicts};
+use shb_lines::{Pair, Trace};
 use shb_links::Links;
 use shb_replay::Judge;
 use std::alloc::Global;
 use std::random::RandomSource;
-
-/// The first bad block: its number, counted from 1, and its lowest fault.
-#[derive(Clone, Copy)]
-struct BadBlock {
-    race: u64,
-    why: RaceFault,
-}
-
-/// Whether two texts are the same.
-fn same_bytes(a: &[u8], b: &[u8]) -> bool
-    ensures { IsTrue result ↔ a.now ≡ b.now }
-{
-    a == b
-}
 
 /// Whether the counts are those of the trace.
 fn has_counts(trace: &Trace, counts: Counts) -> bool
@@ -45,161 +32,109 @@ fn has_counts(trace: &Trace, counts: Counts) -> bool
         && counts.variables == u64::from(trace.variables())
 }
 
-/// The position that a number of a schedule stands for.
-fn position_of(count: u32, number: u64) -> u32
-    ensures { result ≡ position_of count number }
-{
-    if number == 0 || number > u64::from(count) {
-        return count;
-    }
-    (number - 1) as u32
-}
-
-/// Puts the positions that the numbers of a schedule stand for in place of those of another.
-fn set_positions(positions: &mut Vec<u32>, count: u32, numbers: &[u64]) -> Result<(), NoMemory>
-    ensures { OnOk result (positions.new.items ≡ map (position_of count) numbers.now) }
-{
-    positions.clear();
-    for number in numbers {
-        positions.push(position_of(count, *number))?;
-    }
-    Ok(())
-}
-
-/// The two events of a block, whose numbers must not be 0 or above the number of events.
-fn pair_in(listed: Listed<'_>) -> Pair
-    requires first { listed.first < 2 ^ 32 }
-    requires second { listed.second < 2 ^ 32 }
-    requires first_counts { 1 ≤ listed.first }
-    requires second_counts { 1 ≤ listed.second }
-    ensures { result ≡ pair_in (block_in listed.entry) }
-{
-    Pair {
-        first: (listed.first - 1) as u32,
-        second: (listed.second - 1) as u32,
-    }
-}
-
-/// The lowest fault of a block, but for that of its schedule.
-fn pair_fault(trace: &Trace, listed: Listed<'_>) -> Option<RaceFault>
-    ensures { IsPairFault trace.now (block_in listed.entry) result }
-{
-    let count = u64::from(trace.len());
-    if listed.first == 0 || listed.first > count || listed.second == 0 || listed.second > count {
-        return Some(RaceFault::Absent);
-    }
-    let pair = pair_in(listed);
-    if listed.first >= listed.second || !conflicts(trace, pair.first, pair.second) {
-        return Some(RaceFault::NoConflict);
-    }
-    if !same_bytes(listed.first_line, trace.line_text(pair.first)) {
-        return Some(RaceFault::FirstLine);
-    }
-    if !same_bytes(listed.second_line, trace.line_text(pair.second)) {
-        return Some(RaceFault::SecondLine);
-    }
-    None
-}
-
-/// The lowest fault of a block. The room for positions is used again for each block.
-fn block_fault(
-    judge: &mut Judge<'_>,
-    trace: &Trace,
-    listed: Listed<'_>,
-    positions: &mut Vec<u32>,
-) -> Result<Option<RaceFault>, NoMemory>
-    requires { judge.old ≡ trace.now.events }
-    ensures kept { judge.new ≡ judge.old }
-    ensures fault { IfOk result (IsBlockFault trace.now (block_in listed.entry)) }
-{
-    if let Some(why) = pair_fault(trace, listed) {
-        return Ok(Some(why));
-    }
-    set_positions(positions, trace.len(), listed.schedule)?;
-    match judge.replay(positions.as_slice(), pair_in(listed)) {
-        Some(broken) => Ok(Some(RaceFault::Schedule(broken))),
-        None => Ok(None),
-    }
-}
-
-/// The first bad block of a report.
-fn first_bad(
-    alloc: Global,
-    trace: &Disciplined<'_>,
-    links: &Links<'_>,
-    report: &Report,
-) -> Result<Option<BadBlock>, NoMemory>
-    requires linked { links.now ≡ trace.now.events.now }
-    ensures { IfOk result (IsFirstBad trace.now.trace.now report.now) }
-{
-    let mut judge = Judge::new(alloc, &*trace, &*links)?;
-    let mut positions = Vec::new(alloc);
-    for k in 0..report.len() {
-        let listed = report.listed(k);
-        if let Some(why) = block_fault(&mut judge, trace.trace, listed, &mut positions)? {
-            return Ok(Some(BadBlock { race: k + 1, why }));
-        }
-    }
-    Ok(None)
-}
-
-/// The pairs of a report whose blocks are all good.
-fn pairs_in(alloc: Global, trace: &Disciplined<'_>, report: &Report) -> Result<Vec<Pair>, NoMemory>
-    requires { AllByRecursion (IsGoodBlock trace.now.trace.now) report.now.blocks }
-    ensures pairs { IfOk result (λ pairs. pairs.items ≡ map pair_in report.now.blocks) }
-    ensures in_range { IfOk result (λ pairs. All (IsPairOf trace.now.trace.now) pairs.items) }
-{
-    let mut pairs = Vec::new(alloc);
-    for k in 0..report.len() {
-        pairs.push(pair_in(report.listed(k)))?;
-    }
-    Ok(pairs)
-}
-
-/// Whether the place of this number is as the report shows it.
-fn shows_place(trace: &Trace, report: &Report, q: u64, counted: PlaceCount) -> bool
-    requires place { q < length (listed_places report.now.places) }
+/// Whether a place is as the report shows it.
+fn shows_place(trace: &Trace, text: &[u8], entry: PlaceEntry, counted: PlaceCount) -> bool
+    requires place { IsPlaceIn text.now entry }
     requires in_range { IsPlaceOf trace.now counted }
-    ensures { IfSome (slice_get (listed_places report.now.places) q) (λ place.
-        IsTrue result ↔ place ≡ shown_place trace.now counted) }
+    ensures { IsTrue result ↔ place_at text.now entry ≡ shown_place trace.now counted }
 {
-    report.place_count(q) == counted.count
-        && same_bytes(report.place_first(q), trace.location(counted.pair.first))
-        && same_bytes(report.place_second(q), trace.location(counted.pair.second))
+    entry.count == counted.count
+        && same_bytes(
+            bytes_in(text, entry.first),
+            trace.location(counted.pair.first),
+        )
+        && same_bytes(
+            bytes_in(text, entry.second),
+            trace.location(counted.pair.second),
+        )
 }
 
 /// Whether the places of a report are these.
-fn shows_places(trace: &Trace, report: &Report, counts: &[PlaceCount]) -> bool
+fn shows_places(trace: &Trace, section: &Section<'_>, counts: &[PlaceCount]) -> bool
     requires { All (IsPlaceOf trace.now) counts.now }
-    ensures { IsTrue result ↔ listed_places report.now.places ≡ shown_places trace.now counts.now }
+    ensures { IsTrue result ↔ section.now ≡ shown_places trace.now counts.now }
 {
-    if report.places() != counts.len() as u64 {
+    if section.entries.len() != counts.len() {
         return false;
     }
     for q in 0..counts.len() {
-        if !shows_place(trace, report, q as u64, counts[q]) {
+        if !shows_place(trace, section.text, section.entries[q], counts[q]) {
             return false;
         }
     }
     true
 }
 
-/// Whether a report whose blocks are all good has the places of its pairs, if it has places.
-fn has_its_places<R: RandomSource>(
+/// Whether the places of a report, if it has places, are those of its pairs.
+fn has_places_of<R: RandomSource>(
     rt: &R,
     alloc: Global,
-    trace: &Disciplined<'_>,
-    report: &Report,
+    trace: &Trace,
+    section: Option<Section<'_>>,
+    pairs: &[Pair],
 ) -> Result<bool, NoMemory>
-    requires { AllByRecursion (IsGoodBlock trace.now.trace.now) report.now.blocks }
-    ensures { IfOk result (λ has. IsTrue has ↔ HasItsPlaces trace.now.trace.now report.now) }
+    requires { All (IsPairOf trace.now) pairs.now }
+    ensures { IfOk result (λ has. IsTrue has ↔ HasPlacesOf trace.now section.entry pairs.now) }
 {
-    if report.version() == 1 {
+    let Some(section) = section else {
         return Ok(true);
+    };
+    let places = places_of(rt, alloc, trace, pairs)?;
+    Ok(shows_places(trace, &section, places.as_slice()))
+}
+
+/// The verdict on a report with these counts and places, whose blocks were judged.
+pub(crate) fn verdict_on<R: RandomSource>(
+    rt: &R,
+    alloc: Global,
+    trace: &Trace,
+    counts: Counts,
+    section: Option<Section<'_>>,
+    judged: &JudgedBlocks,
+) -> Result<Verdict, NoMemory>
+    requires { All (IsPairOf trace.now) judged.now.pairs.items }
+    ensures { IfOk result (IsVerdictOnJudged trace.now counts section.entry judged.now) }
+{
+    if !has_counts(trace, counts) {
+        return Ok(Verdict::BadCounts);
     }
-    let pairs = pairs_in(alloc, trace, report)?;
-    let places = places_of(rt, alloc, trace.trace, &pairs)?;
-    Ok(shows_places(trace.trace, report, places.as_slice()))
+    if let Some(bad) = judged.bad {
+        return Ok(Verdict::BadRace {
+            race: bad.race,
+            why: bad.why,
+        });
+    }
+    if !has_places_of(rt, alloc, trace, section, judged.pairs.as_slice())? {
+        return Ok(Verdict::BadPlaces);
+    }
+    Ok(Verdict::Good {
+        races: judged.pairs.len() as u64,
+    })
+}
+
+/// Judges the blocks of a report.
+fn judge_listed(
+    alloc: Global,
+    trace: &Disciplined<'_>,
+    links: &Links<'_>,
+    report: &Report,
+) -> Result<JudgedBlocks, NoMemory>
+    requires linked { links.now ≡ trace.now.events.now }
+    ensures { IfOk result (AreJudged trace.now.trace.now report.now.blocks) }
+{
+    let mut judge = Judge::new(alloc, &*trace, &*links)?;
+    let mut positions = Vec::new(alloc);
+    let mut judged = JudgedBlocks::new(alloc);
+    for k in 0..report.len() {
+        judge_block(
+            &mut judged,
+            &mut judge,
+            trace,
+            report.listed(k),
+            &mut positions,
+        )?;
+    }
+    Ok(judged)
 }
 
 /// Judges a report against a trace: its counts, then its blocks in order, then its places. Which races
@@ -224,19 +159,14 @@ pub fn check_report<R: RandomSource>(
     ensures good { IfOk result (λ verdict. verdict ≡ Good (length report.now.blocks)
         ↔ IsGoodReport trace.now.trace.now report.now) }
 {
-    if !has_counts(trace.trace, report.counts()) {
-        return Ok(Verdict::BadCounts);
-    }
-    if let Some(bad) = first_bad(alloc, trace, links, report)? {
-        return Ok(Verdict::BadRace {
-            race: bad.race,
-            why: bad.why,
-        });
-    }
-    if !has_its_places(rt, alloc, trace, report)? {
-        return Ok(Verdict::BadPlaces);
-    }
-    Ok(Verdict::Good {
-        races: report.len(),
-    })
+    let judged = judge_listed(alloc, trace, links, report)?;
+    let verdict = verdict_on(
+        rt,
+        alloc,
+        trace.trace,
+        report.counts(),
+        report.section(),
+        &judged,
+    )?;
+    Ok(verdict)
 }

@@ -10,7 +10,7 @@ use crate::reader::{read_named, read_place_line, read_race_line, read_schedule};
 use std::alloc::Global;
 
 /// Reads the block of this number, and adds the numbers of its schedule.
-fn read_block(
+pub(crate) fn read_block(
     text: &[u8],
     at: &mut Position,
     number: u64,

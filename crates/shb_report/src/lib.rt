@@ -20,6 +20,8 @@ mod entries;
 mod grammar;
 mod held;
 mod held_runs;
+mod judged;
+mod judging;
 pub mod laws;
 mod leading;
 mod lines;
@@ -38,6 +40,7 @@ mod verdict_writer;
 pub mod writer;
 
 pub use checking::check_report;
+pub use judging::judge_report;
 pub use leading::leading_of;
 pub use number_texts::NumberTexts;
 pub use place_writer::place_lines;

@@ -8,8 +8,8 @@ ghost use Rattle.shb_report.specs.Reading.{IfBadLine, IsBadLine, IsReportText, I
 ghost use Rattle.shb_report.specs.Value.{listed_places, version_of};
 
 use crate::lines::Stop;
-use crate::listed::Listed;
-use crate::parts::{Parts, Span};
+use crate::listed::{Listed, Section, bytes_in, listed_at, numbers_in, section_of};
+use crate::parts::Parts;
 use crate::scanning::scan;
 use crate::writer::Counts;
 use shb_io::Source;
@@ -44,15 +44,6 @@ impl Model for Report {
     ghost view = { λ r. report_at r.text.items r.parts };
 
     ghost invariant = { λ r. ArePartsIn r.text.items r.parts };
-}
-
-/// The bytes of a text in a span.
-fn bytes_in(text: &[u8], span: Span) -> &[u8]
-    requires { span.start + span.len ≤ length text.now }
-    ensures { result.now ≡ bytes_at text.now span }
-{
-    let (_, rest) = text.split_at(span.start as usize);
-    &rest[..span.len as usize]
 }
 
 impl Report {
@@ -141,13 +132,11 @@ impl Report {
         requires { k < length self.now.blocks }
         ensures { slice_get self.now.blocks k ≡ Some (block_in result) }
     {
-        Listed {
-            first: self.first(k),
-            second: self.second(k),
-            first_line: self.first_line(k),
-            second_line: self.second_line(k),
-            schedule: self.schedule(k),
-        }
+        listed_at(
+            self.text.as_slice(),
+            self.parts.numbers.as_slice(),
+            self.parts.races[k as usize],
+        )
     }
 
     /// How many places there are: none in version 1.
@@ -159,6 +148,17 @@ impl Report {
         } else {
             0
         }
+    }
+
+    /// The places, in version 2.
+    pub(crate) fn section(&self) -> Option<Section<'_>>
+        ensures { result ≡ self.now.places }
+    {
+        section_of(
+            self.text.as_slice(),
+            self.parts.with_places,
+            self.parts.places.as_slice(),
+        )
     }
 
     /// How many races a place has, as it is written.
@@ -184,15 +184,6 @@ impl Report {
     {
         bytes_in(self.text.as_slice(), self.parts.places[q as usize].second)
     }
-}
-
-/// Some of the numbers.
-fn numbers_in(numbers: &[u64], start: usize, len: usize) -> &[u64]
-    requires { start + len ≤ length numbers.now }
-    ensures { result.now ≡ take len (drop start numbers.now) }
-{
-    let (_, rest) = numbers.split_at(start);
-    &rest[..len]
 }
 
 /// Why a text that is longer than the limit is no report.

@@ -14,14 +14,14 @@ use std::alloc::Global;
 
 /// What the first three lines of a report say.
 #[derive(Clone, Copy)]
-struct Head {
-    with_places: bool,
-    counts: Counts,
-    races: u64,
+pub(crate) struct Head {
+    pub with_places: bool,
+    pub counts: Counts,
+    pub races: u64,
 }
 
 /// Reads the first three lines.
-fn read_head(text: &[u8], at: &mut Position) -> Result<Head, Stop>
+pub(crate) fn read_head(text: &[u8], at: &mut Position) -> Result<Head, Stop>
     requires short { length text.now ≤ 1073741824 }
     requires at { IsAt text.now at.old }
     ensures at { OnOk result (IsAt text.now at.new) }
@@ -46,7 +46,7 @@ fn read_head(text: &[u8], at: &mut Position) -> Result<Head, Stop>
 }
 
 /// Reads the lines of the places, where the report has them.
-fn read_places(
+pub(crate) fn read_places(
     alloc: Global,
     text: &[u8],
     at: &mut Position,
@@ -72,7 +72,7 @@ fn read_places(
 }
 
 /// Reads the last line, behind which nothing may stand.
-fn read_tail(text: &[u8], at: &mut Position) -> Result<(), Stop>
+pub(crate) fn read_tail(text: &[u8], at: &mut Position) -> Result<(), Stop>
     requires short { length text.now ≤ 1073741824 }
     requires at { IsAt text.now at.old }
     ensures bytes { OnOk result (bytes_from text.now at.old ≡ lines_text (codes "end" ∷ [])) }

@@ -1,12 +1,14 @@
-use Rattle.std.proofs.Common.{subst, sym, ◌∙◌}
-use Rattle.shb_report.specs.declared.verdict.Verdict.TheVariants.{BadRace}
-use Rattle.shb_report.specs.Judging.{IsFirstBad}
+-- The verdict is that of the report, and says whether it is good.
+use Rattle.std.proofs.Common.{sym}
 use Rattle.shb_report.proofs.VerdictLaws.{good_exactly_of}
 use Rattle.shb_report.proofs.checking.check_report.Goals as goal
 
-pub returns-in-Some-clause-good : goal.returns-in-Some-clause-good
-returns-in-Some-clause-good g c =
+pub returns-clause-verdict : goal.returns-clause-verdict
+returns-clause-verdict g c = c.in_ok-verdict.ensures c.args.report.now (sym c.counts.ensures) (sym c.section.ensures) c.in_ok-judged.ensures
+
+pub returns-clause-good : goal.returns-clause-good
+returns-clause-good g c =
     let trace = c.args.trace.now in
     let report = c.args.report.now in
-    good_exactly_of trace.trace.now trace.events.now trace.of_trace trace.meets report (BadRace c.in-Some.bad.race c.in-Some.bad.why)
-    (sym c.counts.ensures ∙ c.has_counts.ensures.0 cc, subst (IsFirstBad trace.trace.now report) c.in-Some.is c.in_ok-bad.ensures)
+    good_exactly_of trace.trace.now trace.events.now trace.of_trace trace.meets report c.in_ok-verdict.verdict
+    (c.in_ok-verdict.ensures report (sym c.counts.ensures) (sym c.section.ensures) c.in_ok-judged.ensures)

@@ -1,6 +1,5 @@
 use Rattle.std.proofs.Common.{◌++◌, ◌∙◌, ap, length, codes, subst}
 use Rattle.shb_io.specs.Devices.{AppendsPrefix, HoldsBack}
-use Rattle.shb_report.specs.Numbers.{run_numbers}
 use Rattle.shb_report.specs.Report.{event_numbers, schedule_start}
 use Rattle.shb_report.proofs.HeldLemmas.{PutsPrefix-front, PutsPrefix-after, Puts-then, Puts-err}
 use Rattle.shb_report.proofs.RunTexts.{run_numbers-are}

@@ -2,7 +2,7 @@ use Rattle.std.proofs.Common.{ℕ, List, ap, map, refl, ◌∙◌}
 use Rattle.shb_report.specs.Judging.{block_in}
 use Rattle.shb_report.specs.Verdicts.{position_of}
 use Rattle.shb_report.proofs.GoodBlocks.{good_by}
-use Rattle.shb_report.proofs.checking.block_fault.Goals as goal
+use Rattle.shb_report.proofs.judged.block_fault.Goals as goal
 
 pub returns-in-None-clause-fault : goal.returns-in-None-clause-fault
 returns-in-None-clause-fault c =
