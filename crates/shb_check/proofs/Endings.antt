@@ -21,11 +21,8 @@ use Rattle.shb_check.specs.declared.errors.RunError.TheVariants.{Trace, Source, 
 use Rattle.shb_lines.specs.declared.read.ReadError.{ReadError}
 use Rattle.shb_lines.specs.declared.read.ReadError.TheVariants as reading
 use Rattle.shb_report.specs.declared.verdict.Verdict.{Verdict}
-use Rattle.shb_report.specs.declared.verdict.Verdict.TheVariants.{Good, BadLine, BadCounts, BadRace, BadPlaces}
-use Rattle.shb_report.specs.Reading.{IsReportText}
-use Rattle.shb_report.specs.Value.{ReportValue}
-use Rattle.shb_report.specs.Verdicts.{IsVerdict}
-use Rattle.shb_check.specs.Checks.{IsChecked, IsVerdictFor, most_bytes}
+use Rattle.shb_report.specs.Checks.{IsVerdictFor}
+use Rattle.shb_check.specs.Checks.{IsChecked}
 use Rattle.shb_check.specs.Errors.{error_of_checking, error_of_reading}
 use Rattle.shb_check.specs.Judged.{IsAccepted, IsRefusalOf, limits}
 use Rattle.shb_check.specs.Outcomes.{Grows, OnJudged, OnTrace}
@@ -121,15 +118,3 @@ checked_of text report read stop events trace verdict disciplined same accepted 
     verdict_is = is;
   };
 }
-
--- the verdict on a report that was read is that on its text
-pub verdict_on_text : (trace : TraceData) (n : ℕ) (known left : Option (List ℕ)) (report : ReportValue) (verdict : Verdict)
-    → ReadsText n known left (λ text. IsReportText most_bytes text report) → IsVerdict trace report verdict → ReadsText n known left (λ text. IsVerdictFor trace text verdict)
-verdict_on_text trace n known left report verdict read is = reads_then n known left _ (λ text. IsVerdictFor trace text verdict) read (λ text one. on_text text one verdict is)
-  where
-    on_text : (text : List ℕ) → IsReportText most_bytes text report → (verdict : Verdict) → IsVerdict trace report verdict → IsVerdictFor trace text verdict
-    on_text text one (Good races) is = record { report = report; report_is = one; verdict_is = is }
-    on_text text one (BadLine line) is = absurd is
-    on_text text one BadCounts is = record { report = report; report_is = one; verdict_is = is }
-    on_text text one (BadRace race why) is = record { report = report; report_is = one; verdict_is = is }
-    on_text text one BadPlaces is = record { report = report; report_is = one; verdict_is = is }

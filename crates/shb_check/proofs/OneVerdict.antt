@@ -11,7 +11,8 @@ use Rattle.shb_report.specs.Verdicts.{IsVerdict}
 use Rattle.shb_report.proofs.Bad.{bad_line_unique}
 use Rattle.shb_report.proofs.Injective.{report_same}
 use Rattle.shb_report.proofs.VerdictLaws.{one_verdict}
-use Rattle.shb_check.specs.Checks.{IsGoodFor, IsJudged, IsVerdictFor, IsVerdictOf, most_bytes}
+use Rattle.shb_report.specs.Checks.{IsJudged, IsVerdictFor, most_bytes}
+use Rattle.shb_check.specs.Checks.{IsGoodFor, IsVerdictOf}
 use Rattle.shb_check.proofs.OneTrace.{one_whole_trace}
 
 -- a text has a bad line, or it is a report that is judged

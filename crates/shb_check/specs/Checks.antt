@@ -6,28 +6,13 @@ use Rattle.shb_lines.specs.text.Text.{lines_of}
 use Rattle.shb_lines.specs.text.TraceData.{IsTraceOf, TraceData}
 use Rattle.shb_discipline.specs.FirstFault.{HasNoFault}
 use Rattle.shb_report.specs.declared.verdict.Verdict.{Verdict}
-use Rattle.shb_report.specs.declared.verdict.Verdict.TheVariants.{BadLine}
-use Rattle.shb_report.specs.Reading.{IsBadLine, IsReportText}
+use Rattle.shb_report.specs.Checks.{IsVerdictFor, most_bytes}
+use Rattle.shb_report.specs.Reading.{IsReportText}
 use Rattle.shb_report.specs.Value.{ReportValue}
-use Rattle.shb_report.specs.Verdicts.{IsGoodReport, IsVerdict, verdict_bytes}
+use Rattle.shb_report.specs.Verdicts.{IsGoodReport, verdict_bytes}
 use Rattle.shb_check.specs.declared.errors.RunError.{RunError}
 use Rattle.shb_check.specs.declared.errors.RunError.TheVariants.{Source}
 use Rattle.shb_check.specs.Judged.{limits}
-
--- how many bytes a report may have
-abbrev pub most_bytes : ℕ
-most_bytes = 1073741824
-
--- the text is a report, and this is its verdict against the trace
-pub record IsJudged (trace : TraceData) (text : List ℕ) (verdict : Verdict) : Type 0 where
-  pub report : ReportValue
-  pub report_is : IsReportText most_bytes text report
-  pub verdict_is : IsVerdict trace report verdict
-
--- the verdict on a text against a trace: its bad line where it is no report
-abbrev pub IsVerdictFor : TraceData → List ℕ → Verdict → Type 0
-IsVerdictFor trace text (BadLine line) = IsBadLine most_bytes text line
-IsVerdictFor trace text verdict = IsJudged trace text verdict
 
 -- the verdict on the text of a report against the trace of all lines of a text, which is disciplined
 pub record IsVerdictOf (text report : List ℕ) (verdict : Verdict) : Type 0 where

@@ -1,62 +1,31 @@
 //! The check of a report: read the trace, judge it, read the report, judge it, write the verdict.
-ghost use Rattle.std.specs.Prelude.{◌≡◌, ◌+◌, ◌-◌, ◌^◌, ◌<◌, ◌≤◌, ℕ, List, Some, IfOk, IfSome, drop};
+ghost use Rattle.std.specs.Prelude.{◌≡◌, ◌+◌, ◌-◌, ◌^◌, ◌<◌, ◌≤◌, ℕ, Some, IfOk, IfSome, drop};
 ghost use Rattle.std.specs.Io.KnownBytes.{Appends};
 ghost use Rattle.shb_discipline.specs.FirstFault.{HasFirstFault};
-ghost use Rattle.shb_lines.specs.text.Taking.{IsSourceCounted, ReadsText, TakesAtMost};
+ghost use Rattle.shb_lines.specs.text.Taking.{ReadsText, TakesAtMost};
 ghost use Rattle.shb_lines.specs.declared.event.Fault.{Fault};
 ghost use Rattle.shb_report.specs.Verdicts.{verdict_bytes};
-ghost use Rattle.shb_check.specs.Checks.{CountsSources, IsChecked, IsLineCutShort, IsVerdictFor};
+ghost use Rattle.shb_check.specs.Checks.{CountsSources, IsChecked, IsLineCutShort};
 ghost use Rattle.shb_check.specs.Judged.{limits};
 ghost use Rattle.shb_check.specs.Outcomes.{CountsSink, Grows, OnJudged, OnMemory, OnNoTrace, OnSink, OnTrace, OnWriting};
 
 use crate::errors::RunError;
 use crate::judging::judge;
-use shb_discipline::Disciplined;
 use shb_io::{Sink, Source};
-use shb_lines::{Limits, ReadError, parse};
-use shb_links::links_of;
-use shb_report::{ReportError, Verdict, check_report, read_report, verdict_line};
+use shb_lines::{Limits, parse};
+use shb_report::{Verdict, judge_report, verdict_line};
 use std::alloc::Global;
 use std::random::RandomSource;
 
-/// Reads a report, and judges it against a trace.
-fn verdict_of<S: Source, R: RandomSource>(
-    rt: &R,
-    alloc: Global,
-    trace: &Disciplined<'_>,
-    source: &mut S,
-) -> Result<Verdict, ReadError>
-    requires countable { S.failure_count source.old < 2 ^ 64 - 1 }
-    ensures verdict { IfOk result (λ verdict. ReadsText 1073741825 (S.remaining source.old) (S.remaining source.new) (λ text.
-        IsVerdictFor trace.now.trace.now text verdict)) }
-    ensures taken { TakesAtMost 1073741825 (S.remaining source.old) (S.remaining source.new) }
-    ensures given { S.given_count source.new ≤ S.given_count source.old + 1073741825 }
-    ensures counted { IsSourceCounted (S.failure_count source.old) (S.failure_count source.new) result }
-{
-    let report = match read_report(alloc, source) {
-        Ok(report) => report,
-        Err(ReportError::BadLine(line)) => return Ok(Verdict::BadLine { line }),
-        Err(ReportError::Source) => return Err(ReadError::Source),
-        Err(ReportError::Memory) => return Err(ReadError::Memory),
-    };
-    let Ok(links) = links_of(alloc, &*trace) else {
-        return Err(ReadError::Memory);
-    };
-    let Ok(verdict) = check_report(rt, alloc, trace, &links, &report) else {
-        return Err(ReadError::Memory);
-    };
-    Ok(verdict)
-}
-
 /// Checks a report against a trace, and writes the one line of the verdict.
 ///
-/// The trace is read whole and judged first. Then the report is read whole and judged. Only then is
-/// anything written: `ok R`, `bad line N`, `bad counts`, `bad race K` or `bad places`. That races are
+/// The trace is read whole and judged first. Then the text of the report is read whole, and each of its
+/// blocks is judged as soon as its lines are. Only then is anything written: `ok R`, `bad line N`, `bad counts`, `bad race K` or `bad places`. That races are
 /// left out of the report isn't found.
 ///
 /// The time is linear in the two texts, whatever the number of blocks: the tables that schedules are
-/// judged by are made once. Both texts are kept; what a report takes is told at `read_report_within` of
-/// `shb_report`.
+/// judged by are made once. Both texts are kept; what a report takes beside its text is told at
+/// `judge_report` of `shb_report`.
 ///
 /// # Errors
 ///
@@ -132,7 +101,7 @@ pub fn check<S: Source, Q: Source, K: Sink, R: RandomSource>(
 {
     let parsed = parse(rt, alloc, trace_source, &Limits::standard())?;
     let trace = judge(alloc, &parsed)?;
-    let verdict = verdict_of(rt, alloc, &trace, report_source)?;
+    let verdict = judge_report(rt, alloc, &trace, report_source)?;
     let Ok(()) = verdict_line(sink, verdict) else {
         return Err(RunError::Sink);
     };

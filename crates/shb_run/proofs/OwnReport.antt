@@ -23,7 +23,8 @@ use Rattle.shb_report.proofs.Injective.{report_same}
 use Rattle.shb_report.proofs.VerdictLaws.{one_verdict}
 use Rattle.shb_report.proofs.WrittenGood.{all_are_races, written_good}
 use Rattle.shb_run.specs.declared.settings.Summary.{Summary}
-use Rattle.shb_check.specs.Checks.{IsJudged, IsVerdictFor, IsVerdictOf, most_bytes}
+use Rattle.shb_report.specs.Checks.{IsJudged, IsVerdictFor, most_bytes}
+use Rattle.shb_check.specs.Checks.{IsVerdictOf}
 use Rattle.shb_check.specs.Judged.{limits}
 use Rattle.shb_run.specs.Runs.{AreWords, IsPlacesReported, IsReported}
 use Rattle.shb_run.specs.Written.{summary_of}

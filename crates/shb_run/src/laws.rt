@@ -6,7 +6,8 @@ ghost use Rattle.shb_report.specs.Value.{IsReportValue, ReportValue, report_text
 ghost use Rattle.shb_report.specs.Verdicts.{IsVerdict};
 ghost use Rattle.shb_report.specs.declared.verdict.Verdict.{Verdict};
 ghost use Rattle.shb_report.specs.declared.verdict.Verdict.TheVariants.{Good};
-ghost use Rattle.shb_check.specs.Checks.{IsVerdictOf, most_bytes};
+ghost use Rattle.shb_report.specs.Checks.{most_bytes};
+ghost use Rattle.shb_check.specs.Checks.{IsVerdictOf};
 ghost use Rattle.shb_run.specs.Runs.{IsPlacesReported, IsReported};
 ghost use Rattle.shb_run.specs.declared.settings.Summary.{Summary};
 
