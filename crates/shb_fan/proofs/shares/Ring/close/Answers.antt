@@ -1,9 +1,10 @@
-use Rattle.std.proofs.Common.{rules, arith, ap, ◌∙◌, ◌≡◌, ◌+◌, ◌∷◌, [], length, length-append, sum_by}
+use Rattle.std.proofs.Common.{rules, arith, ap, ◌∙◌, ◌≡◌, ℕ, ◌+◌, ◌∷◌, [], length, length-append, sum_by}
 use Rattle.shb_fan.specs.Numbers.{times}
 use Rattle.shb_fan.specs.Seated.{placed_of, lifted_of}
 use Rattle.shb_fan.proofs.Counts.{times-append}
 use Rattle.shb_fan.proofs.Rings.{merges, placed_once, lifted_once, lifted_placed, placed_after}
 use Rattle.shb_fan.proofs.Opens.{seats_back, both_counted, first_counted, at_end}
+use Rattle.shb_fan.proofs.shares.Ring.close.Given.{Over}
 use Rattle.shb_fan.proofs.shares.Ring.close.Goals as goal
 
 pub loop-seat-init : goal.loop-seat-init
@@ -38,36 +39,37 @@ loop-seat-preserved g c = let i = c.loop-seat.invariant in let j = c.join_seat.e
       lifted = λ k. both_counted (λ s. times k (lifted_of s)) _ _ _ _ _ _ longer (ap (λ m. times k m.0.lifted) j.2 ∙ times-append k _ _) (i.lifted k);
     }
 
+-- the loop has left no seat, so that `whole` stands for all
+none_left : (g : Over) (c : goal.After-drop-seats g) → length c.loop-seat.seats.items ≡ 0
+none_left g c = search rules
+
+every_part : (g : Over) (c : goal.After-drop-seats g) → c.loop-seat.whole.me.0.parts ≡ 65
+every_part g c = let p = c.loop-seat.invariant.parts in let none = none_left g c in omega (arith, p, none)
+
+placed_whole : (g : Over) (c : goal.After-drop-seats g) (k : ℕ) → sum_by (λ s. times k (placed_of s)) c.args.seats.items ≡ times k c.loop-seat.whole.me.0.placed
+placed_whole g c k = at_end (λ s. times k (placed_of s)) c.loop-seat.seats.items c.args.seats.items _ (none_left g c) (c.loop-seat.invariant.placed k)
+
+lifted_whole : (g : Over) (c : goal.After-drop-seats g) (k : ℕ) → sum_by (λ s. times k (lifted_of s)) c.args.seats.items ≡ times k c.loop-seat.whole.me.0.lifted
+lifted_whole g c k = at_end (λ s. times k (lifted_of s)) c.loop-seat.seats.items c.args.seats.items _ (none_left g c) (c.loop-seat.invariant.lifted k)
+
 pub returns-clause-placed_once : goal.returns-clause-placed_once
 returns-clause-placed_once g c = λ k.
-    let i = c.loop-seat.invariant in
-    let none_left : length c.loop-seat.seats.items ≡ 0 = search rules in
-    let whole : c.loop-seat.whole.me.0.parts ≡ 65 = (let p = i.parts in omega (arith, p, none_left)) in
-    let placed : sum_by (λ s. times k (placed_of s)) c.args.seats.items ≡ times k c.loop-seat.whole.me.0.placed = at_end (λ s. times k (placed_of s)) c.loop-seat.seats.items c.args.seats.items _ none_left (i.placed k) in
-    let told = placed_once _ _ _ _ _ _ c.close_with.ensures.values.2 whole k in omega (arith, told, placed)
+    let placed = placed_whole g c k in
+    let told = placed_once _ _ _ _ _ _ c.close_with.ensures.values.2 (every_part g c) k in omega (arith, told, placed)
 
 pub returns-clause-lifted_once : goal.returns-clause-lifted_once
 returns-clause-lifted_once g c = λ k.
-    let i = c.loop-seat.invariant in
-    let none_left : length c.loop-seat.seats.items ≡ 0 = search rules in
-    let whole : c.loop-seat.whole.me.0.parts ≡ 65 = (let p = i.parts in omega (arith, p, none_left)) in
-    let lifted : sum_by (λ s. times k (lifted_of s)) c.args.seats.items ≡ times k c.loop-seat.whole.me.0.lifted = at_end (λ s. times k (lifted_of s)) c.loop-seat.seats.items c.args.seats.items _ none_left (i.lifted k) in
-    let told = lifted_once _ _ _ _ _ _ c.close_with.ensures.values.2 whole k in omega (arith, told, lifted)
+    let lifted = lifted_whole g c k in
+    let told = lifted_once _ _ _ _ _ _ c.close_with.ensures.values.2 (every_part g c) k in omega (arith, told, lifted)
 
 pub returns-clause-placed_before : goal.returns-clause-placed_before
 returns-clause-placed_before g c = λ k.
-    let i = c.loop-seat.invariant in
-    let none_left : length c.loop-seat.seats.items ≡ 0 = search rules in
-    let whole : c.loop-seat.whole.me.0.parts ≡ 65 = (let p = i.parts in omega (arith, p, none_left)) in
-    let placed : sum_by (λ s. times k (placed_of s)) c.args.seats.items ≡ times k c.loop-seat.whole.me.0.placed = at_end (λ s. times k (placed_of s)) c.loop-seat.seats.items c.args.seats.items _ none_left (i.placed k) in
-    let lifted : sum_by (λ s. times k (lifted_of s)) c.args.seats.items ≡ times k c.loop-seat.whole.me.0.lifted = at_end (λ s. times k (lifted_of s)) c.loop-seat.seats.items c.args.seats.items _ none_left (i.lifted k) in
-    let told = lifted_placed _ _ _ _ _ _ c.close_with.ensures.values.2 whole k in omega (arith, told, placed, lifted)
+    let placed = placed_whole g c k in
+    let lifted = lifted_whole g c k in
+    let told = lifted_placed _ _ _ _ _ _ c.close_with.ensures.values.2 (every_part g c) k in omega (arith, told, placed, lifted)
 
 pub returns-clause-slots : goal.returns-clause-slots
 returns-clause-slots g c = λ k.
-    let i = c.loop-seat.invariant in
-    let none_left : length c.loop-seat.seats.items ≡ 0 = search rules in
-    let whole : c.loop-seat.whole.me.0.parts ≡ 65 = (let p = i.parts in omega (arith, p, none_left)) in
-    let placed : sum_by (λ s. times (k + 64) (placed_of s)) c.args.seats.items ≡ times (k + 64) c.loop-seat.whole.me.0.placed = at_end (λ s. times (k + 64) (placed_of s)) c.loop-seat.seats.items c.args.seats.items _ none_left (i.placed (k + 64)) in
-    let lifted : sum_by (λ s. times k (lifted_of s)) c.args.seats.items ≡ times k c.loop-seat.whole.me.0.lifted = at_end (λ s. times k (lifted_of s)) c.loop-seat.seats.items c.args.seats.items _ none_left (i.lifted k) in
-    let told = placed_after _ _ _ _ _ _ c.close_with.ensures.values.2 whole k in omega (arith, told, placed, lifted)
+    let placed = placed_whole g c (k + 64) in
+    let lifted = lifted_whole g c k in
+    let told = placed_after _ _ _ _ _ _ c.close_with.ensures.values.2 (every_part g c) k in omega (arith, told, placed, lifted)
