@@ -1,16 +1,19 @@
 -- One block or place more.
-use Rattle.std.proofs.Common.{◌≡◌, ℕ, suc, ◌+◌, ◌-◌, ◌<◌, ◌≤◌, List, [], ◌∷◌, ◌++◌, length, take, drop, refl, sym, ap, subst, ◌∙◌, arith, append_assoc, length-append, length-drop}
-use Rattle.std.proofs.lemmas.List.{drop-append-le, length-map, map-append, take-append-le}
+use Rattle.std.proofs.Common.{◌≡◌, ℕ, suc, ◌+◌, ◌-◌, ◌<◌, ◌≤◌, List, [], ◌∷◌, ◌++◌, length, map, codes, take, drop, refl, sym, ap, subst, ◌∙◌, arith, append_assoc, length-append, length-drop}
+use Rattle.std.proofs.lemmas.List.{drop-append-le, length-map, map-append, map-id, take-append-le, take_all}
+use Rattle.std.proofs.Math.Seq.{drop-append_seam}
 use Rattle.std.specs.List.{AllByRecursion}
 use Rattle.shb_report.specs.declared.lines.Position.{Position}
 use Rattle.shb_report.specs.declared.lines.Stop.{Stop}
 use Rattle.shb_report.specs.declared.lines.Stop.TheVariants.{BadLine, Memory}
 use Rattle.shb_report.specs.declared.parts.PlaceEntry.{PlaceEntry}
 use Rattle.shb_report.specs.declared.parts.RaceEntry.{RaceEntry}
+use Rattle.shb_report.specs.declared.parts.Span.{Span}
 use Rattle.shb_report.specs.Forms.{Form, block_forms, place_forms}
-use Rattle.shb_report.specs.Lines.{IfStop, bytes_from}
-use Rattle.shb_report.specs.Parts.{IsPlaceIn, IsRaceIn, ReadsBlock, ReadsBlocks, ReadsPlace, ReadsPlaces, TakesBlocks, block_at, block_before, blocks_at, place_at, place_before, places_at}
-use Rattle.shb_report.specs.Value.{Block, IsBlock, IsPlace, Place, block_lines, lines_text, place_lines}
+use Rattle.shb_report.specs.Lines.{IfStop, TakesLine, bytes_from}
+use Rattle.shb_report.specs.Parts.{IsPlaceIn, IsRaceIn, IsSpanIn, ReadsBlock, ReadsBlocks, ReadsPlace, ReadsPlaces, TakesBlocks, block_at, block_before, block_from, blocks_at, bytes_at, place_at, place_before, places_at}
+use Rattle.shb_report.specs.Scan.{AddsShown}
+use Rattle.shb_report.specs.Value.{Block, IsBlock, IsPlace, IsRest, IsShown, Place, block_lines, lines_text, numbers_line, place_lines, race_numbers_line}
 
 pub stop_weaker : (stop : Stop) (P Q : ℕ → Type 0) → ((n : ℕ) → P n → Q n) → IfStop stop P → IfStop stop Q
 stop_weaker (BadLine n) P Q weaker h = weaker n h
@@ -104,16 +107,58 @@ taken_more text old mid new k blocks block h in_grammar bytes lines =
       lines = omega (arith, h.lines, lines);
     }
 
+-- an entry of numbers that are kept as they are written
+entry_in : (text : List ℕ) (mid new : Position) (k : ℕ) (numbers all_numbers : List ℕ) (entry : RaceEntry) → ReadsBlock (λ n. n) text mid new k numbers all_numbers entry → IsRaceIn text all_numbers entry
+entry_in text mid new k numbers all_numbers entry g = record { first = g.first_in; second = g.second_in; schedule = g.part_in }
+
 pub blocks_more : (text : List ℕ) (old mid new : Position) (k : ℕ) (numbers all_numbers : List ℕ) (entries : List RaceEntry) (entry : RaceEntry) (all : List RaceEntry) → all ≡ entries ++ entry ∷ []
-    → ReadsBlocks text old mid k numbers entries → ReadsBlock text mid new (k + 1) numbers all_numbers entry → ReadsBlocks text old new (k + 1) all_numbers all
+    → ReadsBlocks text old mid k numbers entries → ReadsBlock (λ n. n) text mid new (k + 1) numbers all_numbers entry → ReadsBlocks text old new (k + 1) all_numbers all
 blocks_more text old mid new k numbers all_numbers entries entry all is h g =
     let blocks = blocks_at text numbers entries in
     let block = g.block in
-    let unchanged : blocks_at text all_numbers entries ≡ blocks = ap (λ (n : List ℕ). blocks_at text n entries) g.numbers ∙ grown text numbers block.schedule entries h.entries_in in
+    let added : all_numbers ≡ numbers ++ block.schedule = g.numbers ∙ ap (λ l. numbers ++ l) (map-id block.schedule) in
+    let unchanged : blocks_at text all_numbers entries ≡ blocks = ap (λ (n : List ℕ). blocks_at text n entries) added ∙ grown text numbers block.schedule entries h.entries_in in
+    let block_is : block_at text all_numbers entry ≡ block = ap (block_from text entry) (g.part_is ∙ map-id block.schedule) ∙ g.entry_is in
     let same : blocks ++ block ∷ [] ≡ blocks_at text all_numbers all =
-    sym (ap (blocks_at text all_numbers) is ∙ map-append (block_at text all_numbers) entries (entry ∷ []) ∙ ap (λ b. b ++ block_at text all_numbers entry ∷ []) unchanged ∙ ap (λ b. blocks ++ b ∷ []) g.entry_is) in
+    sym (ap (blocks_at text all_numbers) is ∙ map-append (block_at text all_numbers) entries (entry ∷ []) ∙ ap (λ b. b ++ block_at text all_numbers entry ∷ []) unchanged ∙ ap (λ b. blocks ++ b ∷ []) block_is) in
     let still_in : AllByRecursion (IsRaceIn text all_numbers) entries =
-    subst (λ n. AllByRecursion (IsRaceIn text n) entries) (sym g.numbers) (each-weaker (IsRaceIn text numbers) (IsRaceIn text (numbers ++ block.schedule)) entries (λ e i. grown_in text numbers block.schedule e i) h.entries_in) in record {
+    subst (λ n. AllByRecursion (IsRaceIn text n) entries) (sym added) (each-weaker (IsRaceIn text numbers) (IsRaceIn text (numbers ++ block.schedule)) entries (λ e i. grown_in text numbers block.schedule e i) h.entries_in) in record {
       taken = subst (TakesBlocks text old new (k + 1)) same (taken_more text old mid new k blocks block h.taken g.in_grammar g.bytes g.lines);
-      entries_in = subst (AllByRecursion (IsRaceIn text all_numbers)) (sym is) (each-push (IsRaceIn text all_numbers) entries entry still_in g.entry_in);
+      entries_in = subst (AllByRecursion (IsRaceIn text all_numbers)) (sym is) (each-push (IsRaceIn text all_numbers) entries entry still_in (entry_in text mid new (k + 1) numbers all_numbers entry g));
+    }
+
+-- the four lines of a block, and what was kept of its numbers
+one_line : (text : List ℕ) (old new : Position) (line : List ℕ) → TakesLine text old new line → bytes_from text old ≡ lines_text (line ∷ []) ++ bytes_from text new
+one_line text old new line taken = taken.begins.bytes_are ∙ sym (append_assoc line (10 ∷ []) (bytes_from text new))
+
+pub block_grows : {T : Type 0} (kept : ℕ → T) (old new : List T) (ns : List ℕ) → AddsShown kept old new ns → length old ≤ length new
+block_grows kept old new ns added = omega (arith, ap length added.grown, length-append old (map kept ns))
+
+pub block_read : {T : Type 0} (kept : ℕ → T) (text : List ℕ) (a b c d e : Position) (number first second : ℕ) (first_line second_line : Span) (old new : List T) (ns : List ℕ) (start len : ℕ)
+    → TakesLine text a b (race_numbers_line number first second) → IsShown first → IsShown second
+    → TakesLine text b c (codes "first " ++ bytes_at text first_line) → IsRest 1 (bytes_at text first_line) → IsSpanIn text first_line
+    → TakesLine text c d (codes "second " ++ bytes_at text second_line) → IsRest 1 (bytes_at text second_line) → IsSpanIn text second_line
+    → AddsShown kept old new ns → IsShown (length ns) → TakesLine text d e (numbers_line ns)
+    → start ≡ length old → start + len ≡ length new
+    → ReadsBlock kept text a e number old new (record { first = first; second = second; first_line = first_line; second_line = second_line; schedule_start = start; schedule_len = len })
+block_read kept text a b c d e number first second first_line second_line old new ns start len race shown_first shown_second named rest_first in_first named_second rest_second in_second added few listed start_is len_is =
+    let block : Block = record { first = first; second = second; first_line = bytes_at text first_line; second_line = bytes_at text second_line; schedule = ns } in
+    let line_1 = race_numbers_line number first second in
+    let line_2 = codes "first " ++ bytes_at text first_line in
+    let line_3 = codes "second " ++ bytes_at text second_line in
+    let line_4 = numbers_line ns in
+    let grown = length-append old (map kept ns) in
+    let lengths = ap length added.grown in
+    let all : length (map kept ns) ≤ len = omega (arith, grown, lengths, start_is, len_is) in record {
+      block = block;
+      in_grammar = record { first = shown_first; second = shown_second; first_line = rest_first; second_line = rest_second; numbers = added.shown; few = few };
+      bytes = joined (line_1 ∷ []) (line_2 ∷ (line_3 ∷ (line_4 ∷ []))) _ _ _ (one_line text a b line_1 race)
+          (joined (line_2 ∷ []) (line_3 ∷ (line_4 ∷ [])) _ _ _ (one_line text b c line_2 named) (joined (line_3 ∷ []) (line_4 ∷ []) _ _ _ (one_line text c d line_3 named_second) (one_line text d e line_4 listed)));
+      numbers = added.grown;
+      first_in = in_first;
+      second_in = in_second;
+      part_in = omega (arith, len_is);
+      entry_is = refl;
+      part_is = ap (λ s. take len (drop s new)) start_is ∙ ap (λ l. take len (drop (length old) l)) added.grown ∙ ap (take len) (drop-append_seam old (map kept ns)) ∙ take_all len (map kept ns) all;
+      lines = omega (arith, race.counted, named.counted, named_second.counted, listed.counted);
     }

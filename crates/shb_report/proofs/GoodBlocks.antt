@@ -14,12 +14,13 @@ use Rattle.shb_lines.specs.text.TraceData.{TraceData}
 use Rattle.shb_lines.proofs.events.Places.{contains_at}
 use Rattle.shb_replay.proofs.Lowest.{answer_none}
 use Rattle.shb_replay.specs.declared.broken.Broken.{Broken}
+use Rattle.shb_replay.specs.Reasons.{IsBroken}
 use Rattle.shb_report.specs.declared.verdict.RaceFault.{RaceFault}
 use Rattle.shb_report.specs.declared.verdict.RaceFault.TheVariants.{Absent, NoConflict, FirstLine, SecondLine, Schedule}
-use Rattle.shb_report.specs.Judging.{HasGoodPair, IsBlockFault}
+use Rattle.shb_report.specs.Judging.{HasGoodPair}
 use Rattle.shb_report.specs.Report.{line_at}
 use Rattle.shb_report.specs.Value.{Block}
-use Rattle.shb_report.specs.Verdicts.{HasRaceFault, IsGoodBlock, pair_in, position_of, positions_of}
+use Rattle.shb_report.specs.Verdicts.{HasRaceFault, IsGoodBlock, IsLowestFault, IsNoEvent, fault_number, pair_in, position_of, positions_of}
 use Rattle.shb_report.proofs.EntryLemmas.{each-push}
 
 -- lists
@@ -94,8 +95,49 @@ good_by trace block events s pair events_are s_is pair_is good schedule =
 pub good_more : (trace : TraceData) (blocks : List Block) (k : ℕ) (block : Block) → slice_get blocks k ≡ Some block → AllByRecursion (IsGoodBlock trace) (take k blocks) → IsGoodBlock trace block → AllByRecursion (IsGoodBlock trace) (take (k + 1) blocks)
 good_more trace blocks k block at before good = subst (AllByRecursion (IsGoodBlock trace)) (sym (take_push blocks k block at)) (each-push (IsGoodBlock trace) (take k blocks) block before good)
 
-pub no_fault : (trace : TraceData) (block : Block) (o : Option RaceFault) → o ≡ None → IsBlockFault trace block o → IsGoodBlock trace block
-no_fault trace block o is h = subst (IsBlockFault trace block) is h
+-- a block whose pair is good has no lower fault than that of its schedule
+pub broken_lowest : (trace : TraceData) (block : Block) (events : List Event) (s : List ℕ) (pair : Pair) (broken : Broken) → events ≡ trace.events → s ≡ positions_of trace block.schedule → pair ≡ pair_in block
+    → HasGoodPair trace block → IsBroken events s pair.first pair.second broken.at broken.why → IsLowestFault trace block (Schedule broken)
+broken_lowest trace block events s pair broken events_are s_is pair_is good is =
+    let of_trace = subst (λ (ev : List Event). IsBroken ev s pair.first pair.second broken.at broken.why) events_are is in
+    let of_list = subst (λ (l : List ℕ). IsBroken trace.events l pair.first pair.second broken.at broken.why) s_is of_trace in
+    record {
+      has = subst (λ (p : Pair). IsBroken trace.events (positions_of trace block.schedule) p.first p.second broken.at broken.why) pair_is of_list;
+      lowest = by;
+    }
+  where
+    none : (number : ℕ) → 1 ≤ number → number ≤ length trace.events → IsNoEvent trace number → ⊥
+    none number low high (inl zeroth) = omega (arith, low, zeroth)
+    none number low high (inr above) = omega (arith, high, above)
+
+    by : (other : RaceFault) → HasRaceFault trace block other → 5 ≤ fault_number other
+    by Absent (inl first) = let a = good.first_counts in let b = good.earlier in let d = good.in_range in absurd (none block.first a (omega (arith, b, d)) first)
+    by Absent (inr second) = let a = good.first_counts in let b = good.earlier in let d = good.in_range in absurd (none block.second (omega (arith, a, b)) d second)
+    by NoConflict not = absurd (not (good.earlier, good.conflict))
+    by FirstLine differ = absurd (differ good.first_line)
+    by SecondLine differ = absurd (differ good.second_line)
+    by (Schedule other) h = omega arith
+
+-- the numbers of its two events have 32 bits, and count from 1
+pub pair_bounds : (trace : TraceData) (events : List Event) (block : Block) → events ≡ trace.events → length events ≤ 4194304 → HasGoodPair trace block
+    → (block.first < 4294967296) × (block.second < 4294967296) × (1 ≤ block.first) × (1 ≤ block.second)
+pair_bounds trace events block same few good =
+    let count : length events ≡ length trace.events = ap (λ (l : List Event). length l) same in
+    let counts = good.first_counts in
+    let before = good.earlier in
+    let within = good.in_range in
+    (omega (arith, few, count, before, within), omega (arith, few, count, within), counts, omega (arith, counts, before))
+
+-- its two events are events of the trace
+pub pair_within : (trace : TraceData) (events : List Event) (block : Block) (pair : Pair) → events ≡ trace.events → pair ≡ pair_in block → HasGoodPair trace block → (pair.first < length events) × (pair.second < length events)
+pair_within trace events block pair same pair_is good =
+    let count : length events ≡ length trace.events = ap (λ (l : List Event). length l) same in
+    let first : pair.first ≡ block.first - 1 = ap (λ (p : Pair). p.first) pair_is in
+    let second : pair.second ≡ block.second - 1 = ap (λ (p : Pair). p.second) pair_is in
+    let counts = good.first_counts in
+    let before = good.earlier in
+    let within = good.in_range in
+    (omega (arith, count, first, counts, before, within), omega (arith, count, second, counts, before, within))
 
 module _ (trace : TraceData) (disciplined : IsDisciplined trace.events) (block : Block) (good : IsGoodBlock trace block) where
   first_back : block.first - 1 ≡ good.first

@@ -1,8 +1,8 @@
 -- The numbers of a schedule, read one after another.
-use Rattle.std.proofs.Common.{◌≡◌, ◌≢◌, ℕ, suc, ◌+◌, ◌==◌, Bool, true, false, MatchBool, length-append, ◌<◌, ◌^◌, List, [], ◌∷◌, ◌++◌, length, codes, refl, sym, ap, ◌∙◌, arith, append_assoc, append-nil}
+use Rattle.std.proofs.Common.{◌≡◌, ◌≢◌, ℕ, suc, ◌+◌, ◌==◌, Bool, true, false, MatchBool, length-append, ◌<◌, ◌^◌, List, [], ◌∷◌, ◌++◌, length, codes, map, refl, sym, ap, ◌∙◌, arith, append_assoc, append-nil}
 use Rattle.std.specs.Fmt.{decimal}
 use Rattle.std.proofs.lemmas.Bool.Decides.{nat_tests}
-use Rattle.std.proofs.lemmas.List.{append_cancel_left}
+use Rattle.std.proofs.lemmas.List.{append_cancel_left, length-map, map_push}
 use Rattle.std.specs.List.{AllByRecursion}
 use Rattle.shb_report.specs.Scan.{AddsShown, EndsNumber, IsLabelled}
 use Rattle.shb_report.specs.Value.{IsShown, listed, numbers_line}
@@ -22,14 +22,14 @@ shown-append [] ms h g = g
 shown-append (n ∷ ns) ms h g = (h.0, shown-append ns ms h.1 g)
 
 -- the numbers read so far of a text, before a rest
-pub record HasListed (text old new rest : List ℕ) : Type 0 where
+pub record HasListed {T : Type 0} (kept : ℕ → T) (text : List ℕ) (old new : List T) (rest : List ℕ) : Type 0 where
   pub ns : List ℕ
-  pub added : AddsShown old new ns
+  pub added : AddsShown kept old new ns
   pub text_is : text ≡ listed ns ++ rest
   pub back : (all : List ℕ) → AllByRecursion IsShown all → text ≡ listed all → (more : List ℕ) × AllByRecursion IsShown more × (rest ≡ listed more) × (length all ≡ length ns + length more)
 
-pub none_listed : (text old : List ℕ) → HasListed text old old text
-none_listed text old = record {
+pub none_listed : {T : Type 0} (kept : ℕ → T) (text : List ℕ) (old : List T) → HasListed kept text old old text
+none_listed kept text old = record {
   ns = [];
   added = record { grown = sym (append-nil old); shown = tt };
   text_is = refl;
@@ -44,18 +44,18 @@ behind_first rest n behind (m ∷ ms) small h all e =
     (ms, all.1, sym (peel (codes " ") rest n m behind (listed ms) small all.0 h (ends-listed ms) e).1, refl)
 
 -- where a text with bytes left is some numbers, a number is next
-pub first_listed : (text old new rest : List ℕ) → HasListed text old new rest → 0 < length rest → ((n : ℕ) (behind : List ℕ) → n < 2 ^ 64 → IsLabelled (codes " ") rest n behind → ⊥) → (all : List ℕ) → AllByRecursion IsShown all → text ≢ listed all
-first_listed text old new rest h some lacks all shown e = let more = h.back all shown e in by more.0 more.1 more.2
+pub first_listed : {T : Type 0} (kept : ℕ → T) (text : List ℕ) (old new : List T) (rest : List ℕ) → HasListed kept text old new rest → 0 < length rest → ((n : ℕ) (behind : List ℕ) → n < 2 ^ 64 → IsLabelled (codes " ") rest n behind → ⊥) → (all : List ℕ) → AllByRecursion IsShown all → text ≢ listed all
+first_listed kept text old new rest h some lacks all shown e = let more = h.back all shown e in by more.0 more.1 more.2
   where
     by : (more : List ℕ) → AllByRecursion IsShown more → rest ≡ listed more → ⊥
     by [] g is = omega (arith, ap (λ (l : List ℕ). length l) is)
     by (m ∷ ms) g is = lacks m (listed ms) g.0 (record { text_is = is; ends = ends-listed ms })
 
-pub one_more_listed : (text old new rest : List ℕ) (n : ℕ) (behind new_items : List ℕ) → HasListed text old new rest → IsShown n → IsLabelled (codes " ") rest n behind → new_items ≡ new ++ n ∷ []
-    → HasListed text old new_items behind
-one_more_listed text old new rest n behind new_items h small labelled is = record {
+pub one_more_listed : {T : Type 0} (kept : ℕ → T) (text : List ℕ) (old new : List T) (rest : List ℕ) (n : ℕ) (behind : List ℕ) (new_items : List T) → HasListed kept text old new rest → IsShown n → IsLabelled (codes " ") rest n behind
+    → new_items ≡ new ++ kept n ∷ [] → HasListed kept text old new_items behind
+one_more_listed kept text old new rest n behind new_items h small labelled is = record {
   ns = h.ns ++ n ∷ [];
-  added = record { grown = is ∙ ap (λ l. l ++ n ∷ []) h.added.grown ∙ append_assoc old h.ns (n ∷ []); shown = shown-append h.ns (n ∷ []) h.added.shown (small, tt) };
+  added = record { grown = is ∙ ap (λ l. l ++ kept n ∷ []) h.added.grown ∙ append_assoc old (map kept h.ns) (kept n ∷ []) ∙ ap (λ l. old ++ l) (sym (map_push kept h.ns n)); shown = shown-append h.ns (n ∷ []) h.added.shown (small, tt) };
   text_is = h.text_is ∙ ap (λ r. listed h.ns ++ r) (labelled.text_is ∙ ap (λ d. codes " " ++ (d ++ behind)) (sym (append-nil (decimal n))))
       ∙ sym (append_assoc (listed h.ns) (listed (n ∷ [])) behind) ∙ ap (λ l. l ++ behind) (sym (listed-append h.ns (n ∷ [])));
   back = λ all shown e.
@@ -96,19 +96,19 @@ module _ (line : List ℕ) (count : ℕ) (behind : List ℕ) (small : IsShown co
     counts_differ : (n : ℕ) → (n == count) ≡ false → n ≡ count → ⊥
     counts_differ n f e = grind (arith, nat_tests)
 
-    schedule_if : (old new : List ℕ) (m : ℕ) → m + length old ≡ length new → (good : Bool) → (m == count) ≡ good → (ns : List ℕ) × AddsShown old new ns × (text ≡ listed ns)
-        → MatchBool good ((ns : List ℕ) × AddsShown old new ns × IsShown (length ns) × (line ≡ numbers_line ns)) ((ns : List ℕ) → AllByRecursion IsShown ns → IsShown (length ns) → line ≢ numbers_line ns)
-    schedule_if old new m lengths true is found =
+    schedule_if : {T : Type 0} (kept : ℕ → T) (old new : List T) (m : ℕ) → m + length old ≡ length new → (good : Bool) → (m == count) ≡ good → (ns : List ℕ) × AddsShown kept old new ns × (text ≡ listed ns)
+        → MatchBool good ((ns : List ℕ) × AddsShown kept old new ns × IsShown (length ns) × (line ≡ numbers_line ns)) ((ns : List ℕ) → AllByRecursion IsShown ns → IsShown (length ns) → line ≢ numbers_line ns)
+    schedule_if kept old new m lengths true is found =
         let ns = found.0 in
-        let grown : length new ≡ length old + length ns = ap (λ (l : List ℕ). length l) found.1.grown ∙ length-append old ns in
+        let grown : length new ≡ length old + length ns = ap length found.1.grown ∙ length-append old (map kept ns) ∙ ap (λ n. length old + n) (length-map ns kept) in
         let counted : m ≡ count = counts_agree m is in
         let count_ns : count ≡ length ns = omega arith in
         (ns, found.1, omega (arith, count_ns), labelled.text_is ∙ ap (λ b. codes "schedule " ++ (decimal count ++ b)) (colon ∙ ap (λ t. codes ":" ++ t) found.2) ∙ ap (λ n. codes "schedule " ++ (decimal n ++ (codes ":" ++ listed ns))) count_ns)
-    schedule_if old new m lengths false is found = λ ns shown few e.
+    schedule_if kept old new m lengths false is found = λ ns shown few e.
         let same : found.0 ≡ ns = listed_same found.0 ns found.1.shown shown (sym found.2 ∙ text_is ns few e) in
-        let grown : length new ≡ length old + length found.0 = ap (λ (l : List ℕ). length l) found.1.grown ∙ length-append old found.0 in
+        let grown : length new ≡ length old + length found.0 = ap length found.1.grown ∙ length-append old (map kept found.0) ∙ ap (λ n. length old + n) (length-map found.0 kept) in
         counts_differ m is (omega (arith, grown, ap (λ (l : List ℕ). length l) same, (count_is ns few e).0))
 
-    pub schedule_by : (old new : List ℕ) (m : ℕ) → m + length old ≡ length new → (ns : List ℕ) × AddsShown old new ns × (text ≡ listed ns)
-        → MatchBool (m == count) ((ns : List ℕ) × AddsShown old new ns × IsShown (length ns) × (line ≡ numbers_line ns)) ((ns : List ℕ) → AllByRecursion IsShown ns → IsShown (length ns) → line ≢ numbers_line ns)
-    schedule_by old new m lengths found = schedule_if old new m lengths (m == count) refl found
+    pub schedule_by : {T : Type 0} (kept : ℕ → T) (old new : List T) (m : ℕ) → m + length old ≡ length new → (ns : List ℕ) × AddsShown kept old new ns × (text ≡ listed ns)
+        → MatchBool (m == count) ((ns : List ℕ) × AddsShown kept old new ns × IsShown (length ns) × (line ≡ numbers_line ns)) ((ns : List ℕ) → AllByRecursion IsShown ns → IsShown (length ns) → line ≢ numbers_line ns)
+    schedule_by kept old new m lengths found = schedule_if kept old new m lengths (m == count) refl found

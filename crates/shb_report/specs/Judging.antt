@@ -7,6 +7,7 @@ use Rattle.shb_lines.specs.declared.event.Pair.{Pair}
 use Rattle.shb_report.specs.declared.judged.BadBlock.{BadBlock}
 use Rattle.shb_report.specs.declared.judged.JudgedBlocks.{JudgedBlocks}
 use Rattle.shb_report.specs.declared.lines.Position.{Position}
+use Rattle.shb_report.specs.declared.listed.BlockLines.{BlockLines}
 use Rattle.shb_report.specs.declared.listed.Listed.{Listed}
 use Rattle.shb_report.specs.declared.verdict.RaceFault.{RaceFault}
 use Rattle.shb_report.specs.declared.verdict.Verdict.{Verdict}
@@ -17,15 +18,19 @@ use Rattle.shb_report.specs.Report.{line_at}
 use Rattle.shb_report.specs.Value.{Block, Place, ReportValue}
 use Rattle.shb_report.specs.Verdicts.{IsFirstBadBlock, IsGoodBlock, IsLowestFault, IsVerdict, pair_in}
 
+-- the block of these lines, with this schedule
+abbrev pub block_with : BlockLines → List ℕ → Block
+block_with lines schedule = record {
+  first = lines.first;
+  second = lines.second;
+  first_line = lines.first_line.now;
+  second_line = lines.second_line.now;
+  schedule = schedule;
+}
+
 -- the block that stands so in a text
 abbrev pub block_in : Listed → Block
-block_in listed = record {
-  first = listed.first;
-  second = listed.second;
-  first_line = listed.first_line.now;
-  second_line = listed.second_line.now;
-  schedule = listed.schedule.now;
-}
+block_in listed = block_with listed.lines listed.schedule.now
 
 -- a block that is good but perhaps for its schedule
 pub record HasGoodPair (trace : TraceData) (block : Block) : Type 0 where
@@ -40,11 +45,6 @@ pub record HasGoodPair (trace : TraceData) (block : Block) : Type 0 where
 abbrev pub IsPairFault : TraceData → Block → Option RaceFault → Type 0
 IsPairFault trace block None = HasGoodPair trace block
 IsPairFault trace block (Some why) = IsLowestFault trace block why
-
--- the lowest fault, or none
-abbrev pub IsBlockFault : TraceData → Block → Option RaceFault → Type 0
-IsBlockFault trace block None = IsGoodBlock trace block
-IsBlockFault trace block (Some why) = IsLowestFault trace block why
 
 -- all blocks are good, and these are their pairs; or this is the first that is bad
 abbrev pub AreFound : TraceData → List Block → List Pair → Option BadBlock → Type 0

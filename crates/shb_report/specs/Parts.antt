@@ -20,14 +20,22 @@ IsSpanIn text span = span.start + span.len ≤ length text
 abbrev pub place_at : List ℕ → PlaceEntry → Place
 place_at text entry = record { count = entry.count; first = bytes_at text entry.first; second = bytes_at text entry.second }
 
-abbrev pub block_at : List ℕ → List ℕ → RaceEntry → Block
-block_at text numbers entry = record {
+-- the block of an entry, with this schedule
+abbrev pub block_from : List ℕ → RaceEntry → List ℕ → Block
+block_from text entry schedule = record {
   first = entry.first;
   second = entry.second;
   first_line = bytes_at text entry.first_line;
   second_line = bytes_at text entry.second_line;
-  schedule = take entry.schedule_len (drop entry.schedule_start numbers);
+  schedule = schedule;
 }
+
+-- the part of a list that belongs to the entry
+abbrev pub part_of : {T : Type 0} → List T → RaceEntry → List T
+part_of numbers entry = take entry.schedule_len (drop entry.schedule_start numbers)
+
+abbrev pub block_at : List ℕ → List ℕ → RaceEntry → Block
+block_at text numbers entry = block_from text entry (part_of numbers entry)
 
 pub record IsPlaceIn (text : List ℕ) (entry : PlaceEntry) : Type 0 where
   pub first : IsSpanIn text entry.first
@@ -45,14 +53,17 @@ block_before number forms = Race number ∷ (Named First ∷ (Named Second ∷ (
 abbrev pub place_before : ℕ → List Form → List Form
 place_before number forms = PlaceForm number ∷ (Named At ∷ (Named And ∷ forms))
 
--- a block was read: its lines stand between the positions, its numbers were added, and this entry says where it stands
-pub record ReadsBlock (text : List ℕ) (old new : Position) (number : ℕ) (old_numbers new_numbers : List ℕ) (entry : RaceEntry) : Type 0 where
+-- a block was read: its lines stand between the positions, what is kept of its numbers was added, and this entry says where it stands
+pub record ReadsBlock {T : Type 0} (kept : ℕ → T) (text : List ℕ) (old new : Position) (number : ℕ) (old_numbers new_numbers : List T) (entry : RaceEntry) : Type 0 where
   pub block : Block
   pub in_grammar : IsBlock block
   pub bytes : bytes_from text old ≡ lines_text (block_lines number (block ∷ [])) ++ bytes_from text new
-  pub numbers : new_numbers ≡ old_numbers ++ block.schedule
-  pub entry_in : IsRaceIn text new_numbers entry
-  pub entry_is : block_at text new_numbers entry ≡ block
+  pub numbers : new_numbers ≡ old_numbers ++ map kept block.schedule
+  pub first_in : IsSpanIn text entry.first_line
+  pub second_in : IsSpanIn text entry.second_line
+  pub part_in : entry.schedule_start + entry.schedule_len ≤ length new_numbers
+  pub entry_is : block_from text entry block.schedule ≡ block
+  pub part_is : part_of new_numbers entry ≡ map kept block.schedule
   pub lines : new.lines ≡ old.lines + 4
 
 -- a place was read

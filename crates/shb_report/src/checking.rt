@@ -7,7 +7,7 @@ ghost use Rattle.shb_report.specs.Report.{counts_of};
 ghost use Rattle.shb_report.specs.declared.verdict.Verdict.TheVariants.{Good};
 ghost use Rattle.shb_report.specs.Verdicts.{IsGoodReport, IsVerdict};
 
-use crate::judged::{JudgedBlocks, judge_block};
+use crate::judged::{JudgedBlocks, judge_block, set_positions};
 use crate::listed::{Section, bytes_in, same_bytes};
 use crate::parts::PlaceEntry;
 use crate::places::{PlaceCount, places_of};
@@ -126,12 +126,14 @@ fn judge_listed(
     let mut positions = Vec::new(alloc);
     let mut judged = JudgedBlocks::new(alloc);
     for k in 0..report.len() {
+        let listed = report.listed(k);
+        set_positions(&mut positions, trace.trace.len(), listed.schedule)?;
         judge_block(
             &mut judged,
             &mut judge,
             trace,
-            report.listed(k),
-            &mut positions,
+            listed.lines,
+            positions.as_slice(),
         )?;
     }
     Ok(judged)

@@ -4,22 +4,24 @@ ghost use Rattle.shb_report.specs.Forms.{Form, block_forms, place_forms};
 ghost use Rattle.shb_report.specs.Lines.{IfBad, IsAt, IsBadAt, Passes, bytes_from};
 ghost use Rattle.shb_report.specs.Parts.{IsPlaceIn, IsRaceIn, ReadsBlock, ReadsBlocks, ReadsPlace, ReadsPlaces, block_at, block_before, place_at, place_before};
 
+use crate::keeping::{AsWritten, Keeping};
 use crate::lines::{Position, Stop};
 use crate::parts::{PlaceEntry, RaceEntry};
 use crate::reader::{read_named, read_place_line, read_race_line, read_schedule};
 use std::alloc::Global;
 
-/// Reads the block of this number, and adds the numbers of its schedule.
-pub(crate) fn read_block(
+/// Reads the block of this number, and adds what is kept of the numbers of its schedule.
+pub(crate) fn read_block<K: Keeping>(
     text: &[u8],
     at: &mut Position,
     number: u64,
-    numbers: &mut Vec<u64>,
+    keeping: &K,
+    numbers: &mut Vec<K::Kept>,
 ) -> Result<RaceEntry, Stop>
     requires short { length text.now ≤ 1073741824 }
     requires at { IsAt text.now at.old }
     ensures at { OnOk result (IsAt text.now at.new) }
-    ensures read { IfOk result (λ entry. ReadsBlock text.now at.old at.new number numbers.old.items numbers.new.items entry) }
+    ensures read { IfOk result (λ entry. ReadsBlock (K.kept keeping.now) text.now at.old at.new number numbers.old.items numbers.new.items entry) }
     ensures passes { OnOk result ((forms : List Form) → Passes text.now at.old at.new (block_before number forms) forms) }
     ensures bad { (forms : List Form) → IfBad result (IsBadAt text.now at.old (block_before number forms)) }
 {
@@ -33,7 +35,7 @@ pub(crate) fn read_block(
         return Err(Stop::BadLine(at.lines + 1));
     };
     let schedule_start = numbers.len();
-    if !read_schedule(text, at, numbers)? {
+    if !read_schedule(text, at, keeping, numbers)? {
         return Err(Stop::BadLine(at.lines + 1));
     }
     Ok(RaceEntry {
@@ -97,7 +99,7 @@ pub(crate) fn read_blocks(
     let mut number = 0;
     while number < count {
         number += 1;
-        let entry = match read_block(text, at, number, &mut numbers) {
+        let entry = match read_block(text, at, number, &AsWritten, &mut numbers) {
             Ok(entry) => entry,
             Err(stop) => return Err(stop),
         };

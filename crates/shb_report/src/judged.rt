@@ -1,10 +1,11 @@
 //! Judges the blocks of a report one after another.
-ghost use Rattle.std.specs.Prelude.{◌≡◌, ◌+◌, ◌-◌, ◌<◌, ◌≤◌, ◌↔◌, ◌^◌, ◌++◌, ◌∷◌, [], ℕ, List, None, IfOk, IsTrue, OnOk, map};
-ghost use Rattle.shb_report.specs.Judging.{AreJudged, IsBlockFault, IsPairFault, block_in};
+ghost use Rattle.std.specs.Prelude.{◌≡◌, ◌+◌, ◌-◌, ◌<◌, ◌≤◌, ◌↔◌, ◌^◌, ◌++◌, ◌∷◌, [], ℕ, List, None, IfErr, IfOk, IsTrue, OnOk, map};
+ghost use Rattle.shb_report.specs.Judging.{AreJudged, IsPairFault, block_with};
 ghost use Rattle.shb_report.specs.Value.{Block};
-ghost use Rattle.shb_report.specs.Verdicts.{pair_in, position_of};
+ghost use Rattle.shb_report.specs.Verdicts.{IsGoodBlock, IsLowestFault, pair_in, position_of, positions_of};
 
-use crate::listed::{Listed, same_bytes};
+use crate::keeping::position_of;
+use crate::listed::{BlockLines, same_bytes};
 use crate::verdict::RaceFault;
 use shb_discipline::Disciplined;
 use shb_io::NoMemory;
@@ -27,18 +28,12 @@ pub(crate) struct JudgedBlocks {
     pub bad: Option<BadBlock>,
 }
 
-/// The position that a number of a schedule stands for.
-fn position_of(count: u32, number: u64) -> u32
-    ensures { result ≡ position_of count number }
-{
-    if number == 0 || number > u64::from(count) {
-        return count;
-    }
-    (number - 1) as u32
-}
-
 /// Puts the positions that the numbers of a schedule stand for in place of those of another.
-fn set_positions(positions: &mut Vec<u32>, count: u32, numbers: &[u64]) -> Result<(), NoMemory>
+pub(crate) fn set_positions(
+    positions: &mut Vec<u32>,
+    count: u32,
+    numbers: &[u64],
+) -> Result<(), NoMemory>
     ensures { OnOk result (positions.new.items ≡ map (position_of count) numbers.now) }
 {
     positions.clear();
@@ -49,12 +44,12 @@ fn set_positions(positions: &mut Vec<u32>, count: u32, numbers: &[u64]) -> Resul
 }
 
 /// The two events of a block, whose numbers must not be 0 or above the number of events.
-fn pair_in(listed: Listed<'_>) -> Pair
+fn pair_in(listed: BlockLines<'_>) -> Pair
     requires first { listed.first < 2 ^ 32 }
     requires second { listed.second < 2 ^ 32 }
     requires first_counts { 1 ≤ listed.first }
     requires second_counts { 1 ≤ listed.second }
-    ensures { result ≡ pair_in (block_in listed.entry) }
+    ensures { result ≡ pair_in (block_with listed.entry []) }
 {
     Pair {
         first: (listed.first - 1) as u32,
@@ -63,8 +58,8 @@ fn pair_in(listed: Listed<'_>) -> Pair
 }
 
 /// The lowest fault of a block, but for that of its schedule.
-fn pair_fault(trace: &Trace, listed: Listed<'_>) -> Option<RaceFault>
-    ensures { IsPairFault trace.now (block_in listed.entry) result }
+fn pair_fault(trace: &Trace, listed: BlockLines<'_>) -> Option<RaceFault>
+    ensures { (numbers : List ℕ) → IsPairFault trace.now (block_with listed.entry numbers) result }
 {
     let count = u64::from(trace.len());
     if listed.first == 0 || listed.first > count || listed.second == 0 || listed.second > count {
@@ -83,24 +78,29 @@ fn pair_fault(trace: &Trace, listed: Listed<'_>) -> Option<RaceFault>
     None
 }
 
-/// The lowest fault of a block. The room for positions is used again for each block.
-fn block_fault(
+/// The two events of a good block with these positions, or with the numbers that stand for them; else
+/// its lowest fault.
+fn judge_lines(
     judge: &mut Judge<'_>,
-    trace: &Trace,
-    listed: Listed<'_>,
-    positions: &mut Vec<u32>,
-) -> Result<Option<RaceFault>, NoMemory>
-    requires { judge.old ≡ trace.now.events }
+    trace: &Disciplined<'_>,
+    listed: BlockLines<'_>,
+    positions: &[u32],
+) -> Result<Pair, RaceFault>
+    requires { judge.old ≡ trace.now.trace.now.events }
     ensures kept { judge.new ≡ judge.old }
-    ensures fault { IfOk result (IsBlockFault trace.now (block_in listed.entry)) }
+    ensures pair { IfOk result (λ pair. pair ≡ pair_in (block_with listed.entry [])) }
+    ensures good { (numbers : List ℕ) → positions.now ≡ positions_of trace.now.trace.now numbers
+        → OnOk result (IsGoodBlock trace.now.trace.now (block_with listed.entry numbers)) }
+    ensures fault { (numbers : List ℕ) → positions.now ≡ positions_of trace.now.trace.now numbers
+        → IfErr result (IsLowestFault trace.now.trace.now (block_with listed.entry numbers)) }
 {
-    if let Some(why) = pair_fault(trace, listed) {
-        return Ok(Some(why));
+    if let Some(why) = pair_fault(trace.trace, listed) {
+        return Err(why);
     }
-    set_positions(positions, trace.len(), listed.schedule)?;
-    match judge.replay(positions.as_slice(), pair_in(listed)) {
-        Some(broken) => Ok(Some(RaceFault::Schedule(broken))),
-        None => Ok(None),
+    let pair = pair_in(listed);
+    match judge.replay(positions, pair) {
+        Some(broken) => Err(RaceFault::Schedule(broken)),
+        None => Ok(pair),
     }
 }
 
@@ -117,29 +117,30 @@ impl JudgedBlocks {
     }
 }
 
-/// Judges the next block, unless one before it is bad. The room for positions is used again for each
-/// block.
+/// Judges the next block, unless one before it is bad. The positions are those that the numbers of
+/// its schedule stand for.
 pub(crate) fn judge_block(
     judged: &mut JudgedBlocks,
     judge: &mut Judge<'_>,
     trace: &Disciplined<'_>,
-    listed: Listed<'_>,
-    positions: &mut Vec<u32>,
+    listed: BlockLines<'_>,
+    positions: &[u32],
 ) -> Result<(), NoMemory>
     requires { judge.old ≡ trace.now.trace.now.events }
     ensures kept { judge.new ≡ judge.old }
-    ensures judged { (blocks : List Block) → AreJudged trace.now.trace.now blocks judged.old
-        → OnOk result (AreJudged trace.now.trace.now (blocks ++ block_in listed.entry ∷ []) judged.new) }
+    ensures judged { (blocks : List Block) (numbers : List ℕ) → positions.now ≡ positions_of trace.now.trace.now numbers
+        → AreJudged trace.now.trace.now blocks judged.old
+        → OnOk result (AreJudged trace.now.trace.now (blocks ++ block_with listed.entry numbers ∷ []) judged.new) }
 {
     if judged.bad.is_some() {
         return Ok(());
     }
-    match block_fault(judge, trace.trace, listed, positions)? {
-        Some(why) => {
+    match judge_lines(judge, trace, listed, positions) {
+        Ok(pair) => judged.pairs.push(pair)?,
+        Err(why) => {
             let race = judged.pairs.len() as u64 + 1;
             judged.bad = Some(BadBlock { race, why });
         }
-        None => judged.pairs.push(pair_in(listed))?,
     }
     Ok(())
 }

@@ -10,8 +10,9 @@ ghost use Rattle.shb_report.specs.Reading.{IsBadLine};
 use crate::checking::verdict_on;
 use crate::entries::read_block;
 use crate::judged::{JudgedBlocks, judge_block};
+use crate::keeping::AsPositions;
 use crate::lines::{Position, Stop};
-use crate::listed::{listed_at, section_of};
+use crate::listed::{lines_at, section_of};
 use crate::scanning::{read_head, read_places, read_tail};
 use crate::verdict::Verdict;
 use shb_discipline::Disciplined;
@@ -25,7 +26,7 @@ use std::random::RandomSource;
 /// The most bytes that a report may have.
 const MOST_BYTES: u64 = 1_073_741_824;
 
-/// Reads so many blocks, and judges each once it is read. The room for the numbers of a schedule is
+/// Reads so many blocks, and judges each once it is read. The room for the positions of a schedule is
 /// used again for each block.
 fn judge_blocks(
     judge: &mut Judge<'_>,
@@ -43,19 +44,21 @@ fn judge_blocks(
     ensures passes { OnOk result ((forms : List Form) → Passes text.now at.old at.new (block_forms 1 count ++ forms) forms) }
     ensures bad { (forms : List Form) → IfBad result (IsBadAt text.now at.old (block_forms 1 count ++ forms)) }
 {
-    let mut numbers = Vec::new(alloc);
+    let keeping = AsPositions {
+        count: trace.trace.len(),
+    };
     let mut positions = Vec::new(alloc);
     let mut judged = JudgedBlocks::new(alloc);
     let mut number = 0;
     while number < count {
         number += 1;
-        numbers.clear();
-        let entry = match read_block(text, at, number, &mut numbers) {
+        positions.clear();
+        let entry = match read_block(text, at, number, &keeping, &mut positions) {
             Ok(entry) => entry,
             Err(stop) => return Err(stop),
         };
-        let listed = listed_at(text, numbers.as_slice(), entry);
-        let Ok(()) = judge_block(&mut judged, judge, trace, listed, &mut positions) else {
+        let lines = lines_at(text, entry);
+        let Ok(()) = judge_block(&mut judged, judge, trace, lines, positions.as_slice()) else {
             return Err(Stop::Memory);
         };
     }
@@ -157,8 +160,11 @@ fn verdict_of<R: RandomSource>(
 /// each block is judged when it is read. The first bad block is remembered, and the text is read to its
 /// end all the same, since a bad line anywhere comes before a bad block.
 ///
-/// The text is kept, and of each race and each place an entry; the numbers of a schedule are kept until
-/// the next block is read, in 12 bytes each. The time is linear in the trace and in the report.
+/// The text is kept, and of each race its pair and of each place where it stands. Of a schedule the
+/// positions that its numbers stand for are kept until the next block is read, in 4 bytes each. So a
+/// report of many blocks takes little more than its size; one made of a single block of numbers of one
+/// digit takes three times its size, and more while its list grows. The time is linear in the trace
+/// and in the report.
 ///
 /// # Errors
 ///

@@ -11,7 +11,8 @@
 //! reads the source whole and then line by line, by a list of the forms of the lines that are still
 //! expected (`specs/Forms.antt`); what was read is kept as places in the text, and numbers as they
 //! are. So the first bad line is the first at which no report goes on. [`check_report`] judges a
-//! report against a trace: counts, blocks with one judge, places.
+//! report against a trace: counts, blocks with one judge, places. [`judge_report`] reads and judges
+//! a report a block at a time, and keeps the numbers of one schedule.
 #![tactic(auto)]
 
 mod buffer;
@@ -22,6 +23,7 @@ mod held;
 mod held_runs;
 mod judged;
 mod judging;
+mod keeping;
 pub mod laws;
 mod leading;
 mod lines;

@@ -1,19 +1,25 @@
 //! Blocks and places of a report, over its text.
-ghost use Rattle.std.specs.Prelude.{◌≡◌, ◌+◌, ◌≤◌, ◌↔◌, IsTrue, drop, length, take};
+ghost use Rattle.std.specs.Prelude.{◌≡◌, ◌+◌, ◌≤◌, ◌↔◌, ℕ, List, IsTrue, drop, length, take};
 ghost use Rattle.std.specs.List.{AllByRecursion};
-ghost use Rattle.shb_report.specs.Judging.{block_in};
-ghost use Rattle.shb_report.specs.Parts.{IsPlaceIn, IsRaceIn, block_at, bytes_at, section_at};
+ghost use Rattle.shb_report.specs.Judging.{block_in, block_with};
+ghost use Rattle.shb_report.specs.Parts.{IsPlaceIn, IsRaceIn, IsSpanIn, block_at, block_from, bytes_at, section_at};
 
 use crate::parts::{PlaceEntry, RaceEntry, Span};
 use std::marker::Model;
 
-/// The block of a race: the numbers of its two events, their lines, and the numbers of its schedule.
+/// The block of a race but for its schedule: the numbers of its two events, and their lines.
 #[derive(Clone, Copy)]
-pub(crate) struct Listed<'r> {
+pub(crate) struct BlockLines<'r> {
     pub first: u64,
     pub second: u64,
     pub first_line: &'r [u8],
     pub second_line: &'r [u8],
+}
+
+/// The block of a race, with the numbers of its schedule.
+#[derive(Clone, Copy)]
+pub(crate) struct Listed<'r> {
+    pub lines: BlockLines<'r>,
     pub schedule: &'r [u64],
 }
 
@@ -62,16 +68,27 @@ pub(crate) fn numbers_in(numbers: &[u64], start: usize, len: usize) -> &[u64]
     &rest[..len]
 }
 
+/// The block of an entry, but for its schedule.
+pub(crate) fn lines_at(text: &[u8], entry: RaceEntry) -> BlockLines<'_>
+    requires first { IsSpanIn text.now entry.first_line }
+    requires second { IsSpanIn text.now entry.second_line }
+    ensures { (schedule : List ℕ) → block_with result schedule ≡ block_from text.now entry schedule }
+{
+    BlockLines {
+        first: entry.first,
+        second: entry.second,
+        first_line: bytes_in(text, entry.first_line),
+        second_line: bytes_in(text, entry.second_line),
+    }
+}
+
 /// The block of an entry.
 pub(crate) fn listed_at<'r>(text: &'r [u8], numbers: &'r [u64], entry: RaceEntry) -> Listed<'r>
     requires { IsRaceIn text.now numbers.now entry }
     ensures { block_in result ≡ block_at text.now numbers.now entry }
 {
     Listed {
-        first: entry.first,
-        second: entry.second,
-        first_line: bytes_in(text, entry.first_line),
-        second_line: bytes_in(text, entry.second_line),
+        lines: lines_at(text, entry),
         schedule: numbers_in(numbers, entry.schedule_start, entry.schedule_len),
     }
 }

@@ -8,6 +8,7 @@ ghost use Rattle.shb_report.specs.Parts.{IsPlaceIn, IsRaceIn, IsSpanIn, block_at
 ghost use Rattle.shb_report.specs.Lines.{BeginsWithLine, IfBad, IsAt, IsBadAt, Lacks, Passes, TakesLine, bytes_from};
 
 use crate::grammar::{counts_in, is_end, named_in, number_in, place_in, race_in, version_in};
+use crate::keeping::Keeping;
 use crate::lines::{Position, Stop, line_at};
 use crate::parts::{PlaceEntry, RaceEntry, Span};
 use crate::schedule::add_schedule;
@@ -144,22 +145,23 @@ pub(crate) fn read_named(text: &[u8], at: &mut Position, label: &[u8], least: us
     Some(span)
 }
 
-/// Reads the line of a schedule, adds its numbers, and says whether there is such a line.
-pub(crate) fn read_schedule(
+/// Reads the line of a schedule, adds what is kept of its numbers, and says whether there is such a line.
+pub(crate) fn read_schedule<K: Keeping>(
     text: &[u8],
     at: &mut Position,
-    numbers: &mut Vec<u64>,
+    keeping: &K,
+    numbers: &mut Vec<K::Kept>,
 ) -> Result<bool, NoMemory>
     requires short { length text.now ≤ 1073741824 }
     requires at { IsAt text.now at.old }
     ensures { IfOk result (λ found. MatchBool found
-        ((ns : List ℕ) × AddsShown numbers.old.items numbers.new.items ns × IsShown (length ns) × TakesLine text.now at.old at.new (numbers_line ns))
+        ((ns : List ℕ) × AddsShown (K.kept keeping.now) numbers.old.items numbers.new.items ns × IsShown (length ns) × TakesLine text.now at.old at.new (numbers_line ns))
         ((at.new ≡ at.old) × Lacks Schedule (bytes_from text.now at.old))) }
 {
     let Some(line) = line_at(text, *at) else {
         return Ok(false);
     };
-    if !add_schedule(line, numbers)? {
+    if !add_schedule(line, keeping, numbers)? {
         return Ok(false);
     }
     *at = at.behind(line);

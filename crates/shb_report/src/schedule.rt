@@ -4,14 +4,19 @@ ghost use Rattle.std.specs.List.{AllByRecursion};
 ghost use Rattle.shb_report.specs.Scan.{AddsShown};
 ghost use Rattle.shb_report.specs.Value.{IsShown, listed, numbers_line};
 
+use crate::keeping::Keeping;
 use crate::scan::{behind_label, labelled};
 use shb_io::NoMemory;
 
-/// Adds the numbers of a text, each of which stands behind a space, and says whether the text has
+/// Adds what is kept of the numbers of a text, each of which stands behind a space, and says whether the text has
 /// nothing else.
-fn add_numbers(text: &[u8], numbers: &mut Vec<u64>) -> Result<bool, NoMemory>
+fn add_numbers<K: Keeping>(
+    text: &[u8],
+    keeping: &K,
+    numbers: &mut Vec<K::Kept>,
+) -> Result<bool, NoMemory>
     ensures { IfOk result (λ good. MatchBool good
-        ((ns : List ℕ) × AddsShown numbers.old.items numbers.new.items ns × (text.now ≡ listed ns))
+        ((ns : List ℕ) × AddsShown (K.kept keeping.now) numbers.old.items numbers.new.items ns × (text.now ≡ listed ns))
         ((ns : List ℕ) → AllByRecursion IsShown ns → text.now ≢ listed ns)) }
 {
     let mut rest = text;
@@ -19,16 +24,20 @@ fn add_numbers(text: &[u8], numbers: &mut Vec<u64>) -> Result<bool, NoMemory>
         let Some((number, behind)) = labelled(rest, b" ") else {
             return Ok(false);
         };
-        numbers.push(number)?;
+        numbers.push(keeping.keep(number))?;
         rest = behind;
     }
     Ok(true)
 }
 
-/// Adds the numbers of a schedule's line, and says whether the line is one.
-pub(crate) fn add_schedule(line: &[u8], numbers: &mut Vec<u64>) -> Result<bool, NoMemory>
+/// Adds what is kept of the numbers of a schedule's line, and says whether the line is one.
+pub(crate) fn add_schedule<K: Keeping>(
+    line: &[u8],
+    keeping: &K,
+    numbers: &mut Vec<K::Kept>,
+) -> Result<bool, NoMemory>
     ensures { IfOk result (λ good. MatchBool good
-        ((ns : List ℕ) × AddsShown numbers.old.items numbers.new.items ns × IsShown (length ns) × (line.now ≡ numbers_line ns))
+        ((ns : List ℕ) × AddsShown (K.kept keeping.now) numbers.old.items numbers.new.items ns × IsShown (length ns) × (line.now ≡ numbers_line ns))
         ((ns : List ℕ) → AllByRecursion IsShown ns → IsShown (length ns) → line.now ≢ numbers_line ns)) }
 {
     let Some((count, behind_count)) = labelled(line, b"schedule ") else {
@@ -38,7 +47,7 @@ pub(crate) fn add_schedule(line: &[u8], numbers: &mut Vec<u64>) -> Result<bool, 
         return Ok(false);
     };
     let before = numbers.len();
-    if !add_numbers(text, numbers)? {
+    if !add_numbers(text, keeping, numbers)? {
         return Ok(false);
     }
     Ok((numbers.len() - before) as u64 == count)
