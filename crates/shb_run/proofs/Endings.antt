@@ -14,18 +14,16 @@ use Rattle.shb_lines.proofs.events.Unschedulable.{race_of_schedule}
 use Rattle.shb_discipline.proofs.FirstFault.{accepted}
 use Rattle.shb_report.specs.Report.{AllRaces, IsReportOn, IsReportOnText, LeadingRaces}
 use Rattle.shb_report.proofs.LeadingReports.{leading_are_races, race_led_once}
-use Rattle.shb_pairs.specs.Races.{ends}
-use Rattle.shb_check.specs.declared.errors.RunError.{RunError}
-use Rattle.shb_run.specs.declared.errors.WriteError.{WriteError}
-use Rattle.shb_run.specs.declared.errors.WriteError.TheVariants as writing
+use Rattle.shb_write.specs.declared.errors.WriteError.{WriteError}
+use Rattle.shb_write.specs.declared.errors.WriteError.TheVariants as writing
 use Rattle.shb_run.specs.declared.settings.Choice.{Choice}
 use Rattle.shb_run.specs.declared.settings.Choice.TheVariants.{All, Leading}
 use Rattle.shb_run.specs.declared.settings.Summary.{Summary}
-use Rattle.shb_run.specs.Errors.{error_of_writing}
 use Rattle.shb_check.specs.Judged.{IsAccepted, limits}
-use Rattle.shb_check.specs.Outcomes.{Grows, OnMemory, OnSink}
+use Rattle.shb_check.specs.Outcomes.{Grows}
 use Rattle.shb_run.specs.Runs.{AreWords, HasTrace, IsReportedBy, ListsPlaces, ListsSchedulable}
-use Rattle.shb_run.specs.Written.{CutsBlocksOn, CutsReportOn, ListedBy, OnFailedSink, OnNoMemory, ReportsTrace, These, WritesReport, summary_of}
+use Rattle.shb_write.specs.Written.{CutsBlocksOn, CutsReportOn, OnFailedSink, OnNoMemory, These, WritesReport, ends}
+use Rattle.shb_run.specs.Written.{ListedBy, ReportsTrace, summary_of}
 use Rattle.shb_check.proofs.Endings.{Grows-same}
 use Rattle.shb_run.proofs.Reports.{known_blocks, known_cut, known_written}
 
@@ -126,27 +124,8 @@ module _ (choice : Choice) (ws : Bool) (trace : TraceData) (races : List (ℕ ×
       by writing.Sink cut = tt
       by writing.Memory cut = or_then cut (known_blocks (ListedBy choice) ws trace races lists old new)
 
--- from the writing of a report to the run
-pub sink_of : {T : Type 0} (U : Type 0) (error : WriteError) (r : Result T RunError) (P Q : Type 0) → IsErrAnd r (λ e. e ≡ error_of_writing error) → OnFailedSink {T = U} (Err error) P → (P → Q) → OnSink r Q
-sink_of U error (Ok x) P Q is cut then = absurd is
-sink_of {T} U error (Err e) P Q is cut then = subst (λ (e : RunError). OnSink {T = T} (Err e) Q) (sym is) (told error cut)
-  where
-    told : (error : WriteError) → OnFailedSink {T = U} (Err error) P → OnSink {T = T} (Err (error_of_writing error)) Q
-    told writing.Sink p = then p
-    told writing.Memory p = tt
-
-pub memory_of : {T : Type 0} (U : Type 0) (error : WriteError) (r : Result T RunError) (P Q : Type 0) → IsErrAnd r (λ e. e ≡ error_of_writing error) → OnNoMemory {T = U} (Err error) P → (P → Q) → OnMemory r Q
-memory_of U error (Ok x) P Q is cut then = absurd is
-memory_of {T} U error (Err e) P Q is cut then = subst (λ (e : RunError). OnMemory {T = T} (Err e) Q) (sym is) (told error cut)
-  where
-    told : (error : WriteError) → OnNoMemory {T = U} (Err error) P → OnMemory {T = T} (Err (error_of_writing error)) Q
-    told writing.Sink p = tt
-    told writing.Memory p = then p
-
--- known bytes that grew by the front of a report
-pub grown_of_cut : {K : Type 0} (U : Type 0) (taken : K → Option (List ℕ)) (Lists : TraceData → List (ℕ × ℕ) → Type 0) (ws : Bool) (trace : TraceData) (before after : K) (error : WriteError)
-    → OnFailedSink {T = U} (Err error) (CutsReportOn Lists ws trace (taken before) (taken after)) → OnNoMemory {T = U} (Err error) ((after ≡ before) ⊎ CutsBlocksOn Lists ws trace (taken before) (taken after))
-    → Grows (taken before) (taken after)
-grown_of_cut U taken Lists ws trace before after writing.Sink cut refused = (_, cut.written)
-grown_of_cut U taken Lists ws trace before after writing.Memory cut (inl same) = subst (λ s. Grows (taken before) (taken s)) (sym same) (Grows-same (taken before))
-grown_of_cut U taken Lists ws trace before after writing.Memory cut (inr refused) = (_, refused.cut.written)
+-- known bytes that grew by the front of a report, or by nothing
+pub grown_of_refused : {K : Type 0} (taken : K → Option (List ℕ)) (Lists : TraceData → List (ℕ × ℕ) → Type 0) (ws : Bool) (trace : TraceData) (before after : K)
+    → (after ≡ before) ⊎ CutsBlocksOn Lists ws trace (taken before) (taken after) → Grows (taken before) (taken after)
+grown_of_refused taken Lists ws trace before after (inl same) = subst (λ s. Grows (taken before) (taken s)) (sym same) (Grows-same (taken before))
+grown_of_refused taken Lists ws trace before after (inr refused) = (_, refused.cut.written)

@@ -8,7 +8,8 @@ use Rattle.shb_lines.specs.events.Race.{IsRaceList}
 use Rattle.shb_lines.specs.events.Sizes.{IsNumberedByAccess}
 use Rattle.shb_pairs.specs.Listed.{AreOpen, Listed}
 use Rattle.shb_pairs.specs.Pieces.{pieces_in}
-use Rattle.shb_pairs.specs.Races.{ends, joined, races_at}
+use Rattle.shb_pairs.specs.Races.{joined, races_at}
+use Rattle.shb_write.specs.Written.{ends}
 use Rattle.shb_pairs.proofs.Joined.{values_are_race_list}
 
 -- the first of the lists goes to the races

@@ -1,8 +1,5 @@
 pub mod OneReport
 pub mod OwnReport
-pub mod Streamed
-pub mod Blocks
-pub mod Ranges
 pub mod Reports
 pub mod Joining
 pub mod Endings

@@ -1,23 +1,18 @@
 //! From the text of a trace to the report of its races.
 //!
 //! [`run`] is four stages over any source and sink: read (`parse`), judge (`judge` of `shb_check`), find
-//! the races (`races`, by workers), write (`write`): head, places, blocks, tail. With schedules the
-//! blocks go out as workers make the schedules, through a taker that writes (`BlockWriter`); the sink is
-//! written by the caller's thread alone and needn't be able to move. [`run_gated`] is the same with
+//! the races (`races`, by workers), write (`write_report` of `shb_write`). [`run_gated`] is the same with
 //! gates for tests. Both have the main theorem as their contract. [`run_places`] is the same body, and
 //! lists of each place the first race. [`check`], from a trace and a report to a verdict, is that of
 //! `shb_check`, and so are the errors.
 #![tactic(auto)]
 
-mod block_writer;
-mod errors;
 pub mod laws;
 mod pipeline;
 mod places;
 mod races;
 mod settings;
 mod words;
-mod write;
 
 pub use pipeline::{run, run_gated};
 pub use places::run_places;

@@ -6,12 +6,11 @@ ghost use Rattle.shb_lines.specs.text.Taking.{ReadsText, TakesAtMost};
 ghost use Rattle.shb_check.specs.Judged.{limits};
 ghost use Rattle.shb_check.specs.Outcomes.{CountsSink, CountsSource, Grows, OnJudged, OnMemory, OnNoTrace, OnSink, OnTrace};
 ghost use Rattle.shb_run.specs.Runs.{AreWords, HasTrace, IsReported, IsReportedBy};
-ghost use Rattle.shb_run.specs.Written.{CutsBlocks, CutsBlocksOn, CutsReport, CutsReportOn, IsSinkCounted, ListedBy, OnFailedSink, OnNoMemory, ReportsTrace, summary_of};
+ghost use Rattle.shb_write.specs.Written.{CutsBlocksOn, CutsReportOn, IsSinkCounted, OnFailedSink, OnNoMemory};
+ghost use Rattle.shb_run.specs.Written.{CutsBlocks, CutsReport, ListedBy, ReportsTrace, summary_of};
 
-use crate::errors::WriteError;
 use crate::races::{chosen_of, races_of};
-use crate::settings::{Choice, Settings, Summary, Task};
-use crate::write::write_report;
+use crate::settings::{Choice, Gates, Settings, Summary, Task};
 use shb_check::{RunError, judge};
 use shb_clocks::{Order, Ordered, by_event};
 use shb_discipline::Disciplined;
@@ -19,6 +18,7 @@ use shb_fan::{FreeGate, Gate};
 use shb_io::{Sink, Source};
 use shb_lines::{Limits, Trace, parse};
 use shb_links::{Links, links_of};
+use shb_write::{BlockPlan, WriteError, write_report};
 use std::alloc::Global;
 use std::random::RandomSource;
 use std::sync::Wait;
@@ -38,7 +38,24 @@ fn summary_of(trace: &Trace, races: u64) -> Summary
     }
 }
 
-/// Finds the races of a trace by an order of it, and writes the report of those that are asked for.
+/// A trace with its links and an order of it.
+fn ordered_of<'a, O: Order>(
+    order: &'a O,
+    trace: &'a Disciplined<'a>,
+    links: &'a Links<'a>,
+) -> Ordered<'a, O>
+    requires of_trace { O.trace order.now ≡ trace.now.events.now }
+    requires linked { links.now ≡ trace.now.events.now }
+    ensures { result.trace.now ≡ trace.now }
+{
+    Ordered {
+        order,
+        trace,
+        links,
+    }
+}
+
+/// Finds the races of an ordered trace, and writes the report of those that are asked for.
 fn report_by<
     R: Threads + Wait + Sync + RandomSource,
     K: Sink,
@@ -49,40 +66,28 @@ fn report_by<
     rt: &R,
     alloc: Global,
     sink: &mut K,
-    trace: &Disciplined<'_>,
-    links: &Links<'_>,
-    order: &O,
+    ordered: &Ordered<'_, O>,
     task: Task,
-    pair_gate: &P,
-    witness_gate: &W,
+    gates: &Gates<'_, '_, P, W>,
 ) -> Result<Summary, WriteError>
     requires countable { K.failure_count sink.old < 2 ^ 64 - 1 }
-    requires linked { links.now ≡ trace.now.events.now }
-    requires of_trace { O.trace order.now ≡ trace.now.events.now }
-    ensures report { IfOk result (λ summary. ReportsTrace (ListedBy task.choice) task.settings.schedules trace.now.trace.now summary
+    ensures report { IfOk result (λ summary. ReportsTrace (ListedBy task.choice) task.settings.schedules ordered.now.trace.now.trace.now summary
         (K.taken sink.old) (K.taken sink.new)) }
     ensures words { IfOk result AreWords }
-    ensures cut { OnFailedSink result (CutsReportOn (ListedBy task.choice) task.settings.schedules trace.now.trace.now (K.taken sink.old) (K.taken sink.new)) }
-    ensures memory { OnNoMemory result ((sink.new ≡ sink.old) ⊎ CutsBlocksOn (ListedBy task.choice) task.settings.schedules trace.now.trace.now (K.taken sink.old) (K.taken sink.new)) }
+    ensures cut { OnFailedSink result (CutsReportOn (ListedBy task.choice) task.settings.schedules ordered.now.trace.now.trace.now (K.taken sink.old) (K.taken sink.new)) }
+    ensures memory { OnNoMemory result ((sink.new ≡ sink.old) ⊎ CutsBlocksOn (ListedBy task.choice) task.settings.schedules ordered.now.trace.now.trace.now (K.taken sink.old) (K.taken sink.new)) }
     ensures counted { IsSinkCounted (K.failure_count sink.old) (K.failure_count sink.new) result }
 {
-    let ordered = Ordered {
-        order: &*order,
-        trace: &*trace,
-        links: &*links,
+    let Settings { workers, schedules } = task.settings;
+    let races = races_of(rt, alloc, ordered, gates.pair, workers)?;
+    let chosen = chosen_of(rt, alloc, ordered.trace, races, task.choice)?;
+    let plan = BlockPlan {
+        schedules,
+        workers,
+        gate: gates.witness,
     };
-    let races = races_of(rt, alloc, &ordered, pair_gate, task.settings.workers)?;
-    let chosen = chosen_of(rt, alloc, trace, races, task.choice)?;
-    write_report(
-        rt,
-        alloc,
-        sink,
-        &ordered,
-        &chosen,
-        witness_gate,
-        task.settings,
-    )?;
-    Ok(summary_of(trace.trace, chosen.len() as u64))
+    write_report(rt, alloc, sink, ordered, &chosen, &plan)?;
+    Ok(summary_of(ordered.trace.trace, chosen.len() as u64))
 }
 
 /// Finds the races of a trace, and writes the report of those that are asked for.
@@ -92,8 +97,7 @@ fn report<R: Threads + Wait + Sync + RandomSource, K: Sink, P: Gate + Sync, W: G
     sink: &mut K,
     trace: &Disciplined<'_>,
     task: Task,
-    pair_gate: &P,
-    witness_gate: &W,
+    gates: &Gates<'_, '_, P, W>,
 ) -> Result<Summary, WriteError>
     requires countable { K.failure_count sink.old < 2 ^ 64 - 1 }
     ensures report { IfOk result (λ summary. ReportsTrace (ListedBy task.choice) task.settings.schedules trace.now.trace.now summary
@@ -105,17 +109,8 @@ fn report<R: Threads + Wait + Sync + RandomSource, K: Sink, P: Gate + Sync, W: G
 {
     let links = links_of(alloc, &*trace)?;
     let order = by_event(alloc, &*trace, &links)?;
-    report_by(
-        rt,
-        alloc,
-        sink,
-        trace,
-        &links,
-        &order,
-        task,
-        pair_gate,
-        witness_gate,
-    )
+    let ordered = ordered_of(&order, &*trace, &links);
+    report_by(rt, alloc, sink, &ordered, task, gates)
 }
 
 /// Reads a trace, finds its races, and writes its report.
@@ -255,7 +250,11 @@ pub fn run_gated<
         settings,
         choice: Choice::All,
     };
-    run_task(rt, alloc, source, sink, task, pair_gate, witness_gate)
+    let gates = Gates {
+        pair: &*pair_gate,
+        witness: &*witness_gate,
+    };
+    run_task(rt, alloc, source, sink, task, &gates)
 }
 
 /// Reads a trace, finds its races, and writes the report of those that are asked for: the body of [`run`],
@@ -272,8 +271,7 @@ pub(crate) fn run_task<
     source: &mut S,
     sink: &mut K,
     task: Task,
-    pair_gate: &P,
-    witness_gate: &W,
+    gates: &Gates<'_, '_, P, W>,
 ) -> Result<Summary, RunError>
     requires source_countable { S.failure_count source.old < 2 ^ 64 - 1 }
     requires sink_countable { K.failure_count sink.old < 2 ^ 64 - 1 }
@@ -319,5 +317,9 @@ pub(crate) fn run_task<
 {
     let parsed = parse(rt, alloc, source, &Limits::standard())?;
     let trace = judge(alloc, &parsed)?;
-    Ok(report(rt, alloc, sink, &trace, task, pair_gate, witness_gate)?)
+    match report(rt, alloc, sink, &trace, task, gates) {
+        Ok(summary) => Ok(summary),
+        Err(WriteError::Sink) => Err(RunError::Sink),
+        Err(WriteError::Memory) => Err(RunError::Memory),
+    }
 }

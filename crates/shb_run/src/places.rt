@@ -7,10 +7,10 @@ ghost use Rattle.shb_report.specs.Report.{LeadingRaces};
 ghost use Rattle.shb_check.specs.Judged.{limits};
 ghost use Rattle.shb_check.specs.Outcomes.{CountsSink, CountsSource, Grows, OnJudged, OnMemory, OnNoTrace, OnSink, OnTrace};
 ghost use Rattle.shb_run.specs.Runs.{HasTrace, IsPlacesReported};
-ghost use Rattle.shb_run.specs.Written.{CutsBlocksOn, CutsReportOn};
+ghost use Rattle.shb_write.specs.Written.{CutsBlocksOn, CutsReportOn};
 
 use crate::pipeline::run_task;
-use crate::settings::{Choice, Settings, Summary, Task};
+use crate::settings::{Choice, Gates, Settings, Summary, Task};
 use shb_check::RunError;
 use shb_fan::FreeGate;
 use shb_io::{Sink, Source};
@@ -87,5 +87,9 @@ pub fn run_places<S: Source, K: Sink, R: Threads + Wait + Sync + RandomSource>(
         settings,
         choice: Choice::Leading,
     };
-    run_task(rt, alloc, source, sink, task, &FreeGate, &FreeGate)
+    let gates = Gates {
+        pair: &FreeGate,
+        witness: &FreeGate,
+    };
+    run_task(rt, alloc, source, sink, task, &gates)
 }

@@ -26,6 +26,15 @@ pub(crate) struct Task {
     pub(crate) choice: Choice,
 }
 
+/// What workers pass before they begin a piece of work.
+#[derive(Drop)]
+pub(crate) struct Gates<'p, 'w, P, W> {
+    /// Before the races of a piece are looked for.
+    pub(crate) pair: &'p P,
+    /// Before the schedule of a race is made.
+    pub(crate) witness: &'w W,
+}
+
 /// What a run found in the trace.
 #[derive(Clone, Copy, Debug, PartialEq, Eq)]
 pub struct Summary {

@@ -1,53 +1,60 @@
 use Rattle.shb_lines.specs.text.Taking.{ReadsText}
 use Rattle.shb_lines.specs.text.TraceData.{IsReadingOf}
 use Rattle.shb_lines.proofs.text.TakingLemmas.{reads_left, reads_then, reads_told}
-use Rattle.shb_run.specs.declared.settings.Summary.{Summary}
 use Rattle.shb_check.specs.Judged.{limits}
-use Rattle.shb_run.specs.Written.{ListedBy}
 use Rattle.shb_check.proofs.Endings.{Grows-same, judged, none_found, not_judged, refusal_first}
-use Rattle.shb_run.proofs.Endings.{grown_of_cut, has_trace, memory_of, or_then, reported_of, sink_of}
+use Rattle.shb_run.specs.Written.{ListedBy}
+use Rattle.shb_run.proofs.Endings.{grown_of_refused, has_trace, or_then, reported_of}
 use Rattle.shb_run.proofs.pipeline.run_task.Goals as goal
 
-pub returns-clause-reported : goal.returns-clause-reported
-returns-clause-reported g c =
+pub returns-in-Ok-clause-reported : goal.returns-in-Ok-clause-reported
+returns-in-Ok-clause-reported g c =
     let parsed = c.in_ok-parsed.parsed in
     let known = g.S.Source.remaining c.args.source.now in
     let left = g.S.Source.remaining c.parse.new.source in
     let reading : ReadsText 1073741825 known left (λ text. IsReadingOf limits text parsed.trace parsed.stop) = rw c.standard.ensures at c.in_ok-parsed.ensures.reading in
     let trace = c.in_ok-trace.trace in
     reads_told 1073741825 known left _ (reads_then 1073741825 known left _ _ reading (λ text. reported_of c.args.task.choice c.args.task.settings.schedules text parsed.trace parsed.stop trace.events.now trace.trace.now _
-    (g.K.Sink.taken c.args.sink.now) (g.K.Sink.taken c.report.new.sink) trace.meets trace.of_trace c.in_ok-trace.ensures.accepted c.in_ok-report.ensures.report c.in_ok-report.ensures.words))
+    (g.K.Sink.taken c.args.sink.now) (g.K.Sink.taken c.report.new.sink) trace.meets trace.of_trace c.in_ok-trace.ensures.accepted c.in-Ok.ensures.report c.in-Ok.ensures.words))
 
-pub returns-clause-read : goal.returns-clause-read
-returns-clause-read g c =
+pub returns-in-Ok-clause-read : goal.returns-in-Ok-clause-read
+returns-in-Ok-clause-read g c =
     let parsed = c.in_ok-parsed.parsed in
     let known = g.S.Source.remaining c.args.source.now in
     let left = g.S.Source.remaining c.parse.new.source in
     let reading : ReadsText 1073741825 known left (λ text. IsReadingOf limits text parsed.trace parsed.stop) = rw c.standard.ensures at c.in_ok-parsed.ensures.reading in
     let trace = c.in_ok-trace.trace in
     reads_then 1073741825 known left _ _ reading (λ text. reported_of c.args.task.choice c.args.task.settings.schedules text parsed.trace parsed.stop trace.events.now trace.trace.now _
-    (g.K.Sink.taken c.args.sink.now) (g.K.Sink.taken c.report.new.sink) trace.meets trace.of_trace c.in_ok-trace.ensures.accepted c.in_ok-report.ensures.report c.in_ok-report.ensures.words)
+    (g.K.Sink.taken c.args.sink.now) (g.K.Sink.taken c.report.new.sink) trace.meets trace.of_trace c.in_ok-trace.ensures.accepted c.in-Ok.ensures.report c.in-Ok.ensures.words)
 
-pub returns-in_err-report-clause-cut : goal.returns-in_err-report-clause-cut
-returns-in_err-report-clause-cut g c =
+pub returns-in-Err-Sink-clause-cut : goal.returns-in-Err-Sink-clause-cut
+returns-in-Err-Sink-clause-cut g c =
     let parsed = c.in_ok-parsed.parsed in
     let known = g.S.Source.remaining c.args.source.now in
     let left = g.S.Source.remaining c.parse.new.source in
     let reading : ReadsText 1073741825 known left (λ text. IsReadingOf limits text parsed.trace parsed.stop) = rw c.standard.ensures at c.in_ok-parsed.ensures.reading in
-    sink_of Summary _ c.from_residual-in_err-report.result _ _ c.from_residual-in_err-report.ensures.1 c.in_err-report.ensures.cut
-    (λ cut. reads_then 1073741825 known left _ _ reading (λ text. has_trace text parsed.trace parsed.stop c.in_ok-trace.trace.trace.now _ c.in_ok-trace.ensures.accepted cut))
+    let cut = rw c.in-Err-Sink.field-0-is at c.in-Err-Sink.ensures.cut in
+    reads_then 1073741825 known left _ _ reading (λ text. has_trace text parsed.trace parsed.stop c.in_ok-trace.trace.trace.now _ c.in_ok-trace.ensures.accepted cut)
 
-pub returns-in_err-report-clause-memory : goal.returns-in_err-report-clause-memory
-returns-in_err-report-clause-memory g c =
+pub returns-clause-memory : goal.returns-clause-memory
+returns-clause-memory g c =
     let parsed = c.in_ok-parsed.parsed in
     let known = g.S.Source.remaining c.args.source.now in
     let left = g.S.Source.remaining c.parse.new.source in
     let reading : ReadsText 1073741825 known left (λ text. IsReadingOf limits text parsed.trace parsed.stop) = rw c.standard.ensures at c.in_ok-parsed.ensures.reading in
-    memory_of Summary _ c.from_residual-in_err-report.result _ _ c.from_residual-in_err-report.ensures.1 c.in_err-report.ensures.memory
-    (λ refused. or_then refused (λ cut. reads_then 1073741825 known left _ _ reading (λ text. has_trace text parsed.trace parsed.stop c.in_ok-trace.trace.trace.now _ c.in_ok-trace.ensures.accepted cut)))
+    let refused = rw c.in-Err-Memory.field-0-is at c.in-Err-Memory.ensures.memory in
+    or_then refused (λ cut. reads_then 1073741825 known left _ _ reading (λ text. has_trace text parsed.trace parsed.stop c.in_ok-trace.trace.trace.now _ c.in_ok-trace.ensures.accepted cut))
 
-pub returns-in_err-report-clause-silent : goal.returns-in_err-report-clause-silent
-returns-in_err-report-clause-silent g c =
+pub returns-in-Ok-clause-silent : goal.returns-in-Ok-clause-silent
+returns-in-Ok-clause-silent g c =
+    let parsed = c.in_ok-parsed.parsed in
+    let known = g.S.Source.remaining c.args.source.now in
+    let left = g.S.Source.remaining c.parse.new.source in
+    let reading : ReadsText 1073741825 known left (λ text. IsReadingOf limits text parsed.trace parsed.stop) = rw c.standard.ensures at c.in_ok-parsed.ensures.reading in
+    none_found parsed.trace parsed.stop c.in_ok-trace.trace.trace.now known _ c.in_ok-trace.ensures.accepted (reads_told 1073741825 known left _ reading)
+
+pub returns-in-Err-Sink-clause-silent : goal.returns-in-Err-Sink-clause-silent
+returns-in-Err-Sink-clause-silent g c =
     let parsed = c.in_ok-parsed.parsed in
     let known = g.S.Source.remaining c.args.source.now in
     let left = g.S.Source.remaining c.parse.new.source in
@@ -66,32 +73,32 @@ pub returns-in_err-parsed-clause-taken : goal.returns-in_err-parsed-clause-taken
 returns-in_err-parsed-clause-taken g c =
     rw c.standard.ensures at c.in_err-parsed.ensures.taken
 
-pub returns-in_err-parsed-clause-given : goal.returns-in_err-parsed-clause-given
-returns-in_err-parsed-clause-given g c =
-    rw c.standard.ensures at c.in_err-parsed.ensures.given
-
 pub returns-in_err-trace-clause-taken : goal.returns-in_err-trace-clause-taken
 returns-in_err-trace-clause-taken g c =
     rw c.standard.ensures at c.in_ok-parsed.ensures.taken
+
+pub returns-in-Ok-clause-taken : goal.returns-in-Ok-clause-taken
+returns-in-Ok-clause-taken g c =
+    rw c.standard.ensures at c.in_ok-parsed.ensures.taken
+
+pub returns-in-Err-Sink-clause-taken : goal.returns-in-Err-Sink-clause-taken
+returns-in-Err-Sink-clause-taken g c =
+    rw c.standard.ensures at c.in_ok-parsed.ensures.taken
+
+pub returns-in_err-parsed-clause-given : goal.returns-in_err-parsed-clause-given
+returns-in_err-parsed-clause-given g c =
+    rw c.standard.ensures at c.in_err-parsed.ensures.given
 
 pub returns-in_err-trace-clause-given : goal.returns-in_err-trace-clause-given
 returns-in_err-trace-clause-given g c =
     rw c.standard.ensures at c.in_ok-parsed.ensures.given
 
-pub returns-in_err-report-clause-taken : goal.returns-in_err-report-clause-taken
-returns-in_err-report-clause-taken g c =
-    rw c.standard.ensures at c.in_ok-parsed.ensures.taken
-
-pub returns-in_err-report-clause-given : goal.returns-in_err-report-clause-given
-returns-in_err-report-clause-given g c =
+pub returns-in-Ok-clause-given : goal.returns-in-Ok-clause-given
+returns-in-Ok-clause-given g c =
     rw c.standard.ensures at c.in_ok-parsed.ensures.given
 
-pub returns-clause-taken : goal.returns-clause-taken
-returns-clause-taken g c =
-    rw c.standard.ensures at c.in_ok-parsed.ensures.taken
-
-pub returns-clause-given : goal.returns-clause-given
-returns-clause-given g c =
+pub returns-in-Err-Sink-clause-given : goal.returns-in-Err-Sink-clause-given
+returns-in-Err-Sink-clause-given g c =
     rw c.standard.ensures at c.in_ok-parsed.ensures.given
 
 pub returns-in_err-parsed-clause-left : goal.returns-in_err-parsed-clause-left
@@ -106,25 +113,21 @@ returns-in_err-trace-clause-left g c =
     let reading : ReadsText 1073741825 known left (λ text. IsReadingOf limits text parsed.trace parsed.stop) = rw c.standard.ensures at c.in_ok-parsed.ensures.reading in
     judged _ _ (reads_left 1073741825 known left _ reading)
 
-pub returns-in_err-report-clause-left : goal.returns-in_err-report-clause-left
-returns-in_err-report-clause-left g c =
-    let parsed = c.in_ok-parsed.parsed in
-    let known = g.S.Source.remaining c.args.source.now in
-    let left = g.S.Source.remaining c.parse.new.source in
-    let reading : ReadsText 1073741825 known left (λ text. IsReadingOf limits text parsed.trace parsed.stop) = rw c.standard.ensures at c.in_ok-parsed.ensures.reading in
-    judged _ _ (reads_left 1073741825 known left _ reading)
-
-pub returns-clause-left : goal.returns-clause-left
-returns-clause-left g c =
+pub returns-in-Ok-clause-left : goal.returns-in-Ok-clause-left
+returns-in-Ok-clause-left g c =
     let parsed = c.in_ok-parsed.parsed in
     let known = g.S.Source.remaining c.args.source.now in
     let left = g.S.Source.remaining c.parse.new.source in
     let reading : ReadsText 1073741825 known left (λ text. IsReadingOf limits text parsed.trace parsed.stop) = rw c.standard.ensures at c.in_ok-parsed.ensures.reading in
     reads_left 1073741825 known left _ reading
 
-pub returns-in_err-report-clause-grown : goal.returns-in_err-report-clause-grown
-returns-in_err-report-clause-grown g c =
-    grown_of_cut Summary g.K.Sink.taken (ListedBy c.args.task.choice) c.args.task.settings.schedules c.in_ok-trace.trace.trace.now c.args.sink.now c.report.new.sink _ c.in_err-report.ensures.cut c.in_err-report.ensures.memory
+pub returns-in-Err-Sink-clause-left : goal.returns-in-Err-Sink-clause-left
+returns-in-Err-Sink-clause-left g c =
+    let parsed = c.in_ok-parsed.parsed in
+    let known = g.S.Source.remaining c.args.source.now in
+    let left = g.S.Source.remaining c.parse.new.source in
+    let reading : ReadsText 1073741825 known left (λ text. IsReadingOf limits text parsed.trace parsed.stop) = rw c.standard.ensures at c.in_ok-parsed.ensures.reading in
+    reads_left 1073741825 known left _ reading
 
 pub returns-in_err-parsed-clause-grown : goal.returns-in_err-parsed-clause-grown
 returns-in_err-parsed-clause-grown g c =
@@ -134,9 +137,19 @@ pub returns-in_err-trace-clause-grown : goal.returns-in_err-trace-clause-grown
 returns-in_err-trace-clause-grown g c =
     Grows-same _
 
+pub returns-in-Ok-clause-grown : goal.returns-in-Ok-clause-grown
+returns-in-Ok-clause-grown g c =
+    (_, c.in-Ok.ensures.report.written)
+
+pub returns-in-Err-Sink-clause-grown : goal.returns-in-Err-Sink-clause-grown
+returns-in-Err-Sink-clause-grown g c =
+    let cut = rw c.in-Err-Sink.field-0-is at c.in-Err-Sink.ensures.cut in
+    (_, cut.written)
+
 pub returns-clause-grown : goal.returns-clause-grown
 returns-clause-grown g c =
-    (_, c.in_ok-report.ensures.report.written)
+    let refused = rw c.in-Err-Memory.field-0-is at c.in-Err-Memory.ensures.memory in
+    grown_of_refused g.K.Sink.taken (ListedBy c.args.task.choice) c.args.task.settings.schedules c.in_ok-trace.trace.trace.now c.args.sink.now c.report.new.sink refused
 
 pub returns-in_err-trace-clause-refused : goal.returns-in_err-trace-clause-refused
 returns-in_err-trace-clause-refused g c =

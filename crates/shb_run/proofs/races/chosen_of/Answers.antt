@@ -2,10 +2,11 @@
 use Rattle.std.proofs.Common.{List, map, subst, sym}
 use Rattle.shb_lines.specs.declared.event.Pair.{Pair}
 use Rattle.shb_lines.specs.events.Race.{IsRaceList}
-use Rattle.shb_pairs.specs.Races.{ends}
+use Rattle.shb_write.specs.Written.{ends}
 use Rattle.shb_run.specs.declared.settings.Choice.TheVariants as choices
 use Rattle.shb_run.specs.Written.{ListedBy}
-use Rattle.shb_run.proofs.Reports.{leading_chosen, pairs_in_range, races_listed}
+use Rattle.shb_write.proofs.Reports.{pairs_in_range}
+use Rattle.shb_run.proofs.Reports.{leading_chosen, races_listed}
 use Rattle.shb_run.proofs.races.chosen_of.Goals as goal
 
 pub returns-in-All : goal.returns-in-All

@@ -1,5 +1,6 @@
 use Rattle.std.proofs.Common.{◌≡◌, ◌++◌, map}
-use Rattle.shb_pairs.specs.Races.{ends, joined}
+use Rattle.shb_pairs.specs.Races.{joined}
+use Rattle.shb_write.specs.Written.{ends}
 use Rattle.shb_run.proofs.races.join.Given as goal
 
 abbrev pub invariant-loop-list : goal.invariant-loop-list

@@ -1,0 +1,4 @@
+pub mod Blocks
+pub mod Ranges
+pub mod Reports
+pub mod Streamed

@@ -1,0 +1,10 @@
+use Rattle.std.proofs.Common.{true, map, subst}
+use Rattle.shb_lines.specs.events.Discipline.{IsDisciplined}
+use Rattle.shb_write.specs.Written.{ends}
+use Rattle.shb_write.proofs.Blocks.{WritesBlocks-none}
+use Rattle.shb_write.proofs.write.write_schedules.Goals as goal
+
+pub returns-in_err-prepared-clause-blocks : goal.returns-in_err-prepared-clause-blocks
+returns-in_err-prepared-clause-blocks g c =
+    let trace = c.args.found.now.ordered.now.trace.now in
+    WritesBlocks-none true trace.trace.now (map ends c.args.found.now.races.now) _ _ c.from_residual.result (subst IsDisciplined trace.of_trace trace.meets) c.from_residual.ensures.1

@@ -1,0 +1,61 @@
+-- What the writing of a report leaves in a sink.
+use Rattle.std.specs.Prelude.{◌≡◌, ℕ, ◌+◌, ◌<◌, ◌≤◌, Bool, List, length, take, Option, Result, Ok, Err, MatchResult, ⊤}
+use Rattle.std.specs.Io.KnownBytes.{Appends}
+use Rattle.shb_lines.specs.declared.event.Pair.{Pair}
+use Rattle.shb_lines.specs.text.TraceData.{TraceData}
+use Rattle.shb_report.specs.Report.{AreBlocks, IsReportOn, front_bytes}
+use Rattle.shb_write.specs.declared.errors.WriteError.{WriteError}
+use Rattle.shb_write.specs.declared.errors.WriteError.TheVariants.{Sink, Memory}
+
+-- the two positions of a pair
+abbrev pub ends : Pair → ℕ × ℕ
+ends pair = (pair.first, pair.second)
+
+-- the sink failed once where that is the answer, and else not at all
+abbrev pub IsSinkCounted : {T : Type 0} → ℕ → ℕ → Result T WriteError → Type 0
+IsSinkCounted old new (Ok x) = new ≡ old
+IsSinkCounted old new (Err Sink) = new ≡ old + 1
+IsSinkCounted old new (Err Memory) = new ≡ old
+
+-- for a writing in which the sink failed
+abbrev pub OnFailedSink : {T : Type 0} → Result T WriteError → Type 0 → Type 0
+OnFailedSink (Err Sink) P = P
+OnFailedSink _ P = ⊤
+
+-- for a writing to which memory was refused
+abbrev pub OnNoMemory : {T : Type 0} → Result T WriteError → Type 0 → Type 0
+OnNoMemory (Err Memory) P = P
+OnNoMemory _ P = ⊤
+
+-- known bytes grow by the first bytes of bs, perhaps by all of them
+abbrev pub AppendsFront : Option (List ℕ) → Option (List ℕ) → List ℕ → Type 0
+AppendsFront old new bs = (n : ℕ) × Appends old new (take n bs)
+
+-- the blocks of some races were written or, on an error, the front of them, perhaps all
+pub record WritesBlocks {T : Type 0} (with_schedules : Bool) (trace : TraceData) (races : List (ℕ × ℕ)) (old new : Option (List ℕ)) (r : Result T WriteError) : Type 0 where
+  pub bytes : List ℕ
+  pub blocks : AreBlocks with_schedules trace races bytes
+  pub written : MatchResult r (λ _. Appends old new bytes) (λ _. AppendsFront old new bytes)
+
+-- these races and no others are listed
+abbrev pub These : List (ℕ × ℕ) → TraceData → List (ℕ × ℕ) → Type 0
+These races trace listed = listed ≡ races
+
+-- the report of a trace on such races was written
+pub record WritesReport (Lists : TraceData → List (ℕ × ℕ) → Type 0) (with_schedules : Bool) (trace : TraceData) (old new : Option (List ℕ)) : Type 0 where
+  pub bytes : List ℕ
+  pub report : IsReportOn Lists with_schedules trace bytes
+  pub written : Appends old new bytes
+
+-- of the report of a trace on such races so many bytes were written, from its front on, and not all
+pub record CutsReportOn (Lists : TraceData → List (ℕ × ℕ) → Type 0) (with_schedules : Bool) (trace : TraceData) (old new : Option (List ℕ)) : Type 0 where
+  pub bytes : List ℕ
+  pub report : IsReportOn Lists with_schedules trace bytes
+  pub count : ℕ
+  pub some_missing : count < length bytes
+  pub written : Appends old new (take count bytes)
+
+-- and all lines before its first block are among them
+pub record CutsBlocksOn (Lists : TraceData → List (ℕ × ℕ) → Type 0) (with_schedules : Bool) (trace : TraceData) (old new : Option (List ℕ)) : Type 0 where
+  pub cut : CutsReportOn Lists with_schedules trace old new
+  pub front : length (front_bytes trace cut.report.races) ≤ cut.count

@@ -1,0 +1,43 @@
+//! What is made of a trace before the schedules of its races.
+ghost use Rattle.std.specs.Prelude.{All, IfOk};
+ghost use Rattle.shb_witness.specs.Checkpoints.{IsReached};
+
+use crate::found::Found;
+use shb_clocks::Order;
+use shb_io::NoMemory;
+use shb_report::NumberTexts;
+use shb_witness::{Checkpoint, checkpoints_of};
+use std::alloc::Global;
+
+/// What the schedules of a trace are made and written from.
+#[derive(Drop)]
+pub(crate) struct Prepared {
+    /// The texts of numbers that runs of schedules are copied from.
+    pub(crate) numbers: NumberTexts,
+    /// The checkpoints of the trace.
+    pub(crate) points: Vec<Checkpoint>,
+}
+
+/// The texts of numbers for the schedules of these races. Of one schedule the numbers are as quickly
+/// written one by one.
+fn numbers_for<O: Order>(
+    alloc: Global,
+    found: &Found<'_, '_, '_, O>,
+) -> Result<NumberTexts, NoMemory> {
+    if found.races.len() < 2 {
+        return NumberTexts::of_first(alloc, 0);
+    }
+    NumberTexts::of_first(alloc, found.ordered.trace.events.len() as u32)
+}
+
+/// What the schedules of these races are made and written from.
+pub(crate) fn prepared_for<O: Order>(
+    alloc: Global,
+    found: &Found<'_, '_, '_, O>,
+) -> Result<Prepared, NoMemory>
+    ensures { IfOk result (λ prepared. All (IsReached found.now.ordered.now.trace.now.events.now) prepared.points.items) }
+{
+    let numbers = numbers_for(alloc, found)?;
+    let points = checkpoints_of(alloc, found.ordered.trace, found.ordered.links)?;
+    Ok(Prepared { numbers, points })
+}

@@ -1,0 +1,193 @@
+//! The report of a trace that lists races which are known.
+ghost use Rattle.std.specs.Prelude.{◌≡◌, ◌⊎◌, ◌-◌, ◌^◌, ◌<◌, All, IfOk, false, map, true};
+ghost use Rattle.shb_io.specs.Devices.{IsCounted, Writes};
+ghost use Rattle.shb_report.specs.Places.{IsPlaceOf, counts_in, places_of_pairs};
+ghost use Rattle.shb_report.specs.Report.{counts_of, front_bytes};
+ghost use Rattle.shb_witness.specs.Checkpoints.{IsReached};
+ghost use Rattle.shb_witness.specs.Schedules.{AreRaces};
+ghost use Rattle.shb_write.specs.Written.{CutsBlocksOn, CutsReportOn, IsSinkCounted, OnFailedSink, OnNoMemory, These, WritesBlocks, WritesReport, ends};
+
+use crate::block_writer::BlockWriter;
+use crate::errors::WriteError;
+use crate::found::Found;
+use crate::plan::BlockPlan;
+use crate::prepared::{Prepared, prepared_for};
+use shb_clocks::{Order, Ordered};
+use shb_fan::{Gate, StreamError, stream};
+use shb_io::{Failed, Sink};
+use shb_lines::{Pair, Trace};
+use shb_report::{Counts, Places, block, head, place_lines, places_of, tail};
+use shb_witness::WitnessJob;
+use std::alloc::Global;
+use std::random::RandomSource;
+use std::sync::Wait;
+use std::thread::Threads;
+
+/// Writes the blocks of some races, numbered from 1, without schedules.
+fn write_pairs<K: Sink, O: Order>(
+    sink: &mut K,
+    found: &Found<'_, '_, '_, O>,
+) -> Result<(), WriteError>
+    requires countable { K.failure_count sink.old < 2 ^ 64 - 1 }
+    requires races { AreRaces found.now.ordered.now.trace.now.events.now found.now.races.now }
+    ensures blocks { WritesBlocks false found.now.ordered.now.trace.now.trace.now (map ends found.now.races.now)
+        (K.taken sink.old) (K.taken sink.new) result }
+    ensures counted { IsSinkCounted (K.failure_count sink.old) (K.failure_count sink.new) result }
+{
+    let mut number: u64 = 0;
+    for pair in found.races {
+        number += 1;
+        block(sink, found.ordered.trace.trace, number, *pair, None)?;
+    }
+    Ok(())
+}
+
+/// Writes the blocks of some races, numbered from 1, each as soon as workers have made its schedule.
+fn write_made<R: Threads + Wait + Sync, K: Sink, O: Order + Sync, G: Gate + Sync>(
+    rt: &R,
+    alloc: Global,
+    sink: &mut K,
+    found: &Found<'_, '_, '_, O>,
+    prepared: &Prepared,
+    plan: &BlockPlan<'_, G>,
+) -> Result<(), WriteError>
+    requires countable { K.failure_count sink.old < 2 ^ 64 - 1 }
+    requires races { AreRaces found.now.ordered.now.trace.now.events.now found.now.races.now }
+    requires points { All (IsReached found.now.ordered.now.trace.now.events.now) prepared.now.points.items }
+    ensures blocks { WritesBlocks true found.now.ordered.now.trace.now.trace.now (map ends found.now.races.now)
+        (K.taken sink.old) (K.taken sink.new) result }
+    ensures counted { IsSinkCounted (K.failure_count sink.old) (K.failure_count sink.new) result }
+{
+    let ordered = found.ordered;
+    let job = WitnessJob::new(
+        ordered.order,
+        ordered.trace,
+        ordered.links,
+        found.races,
+    ).with_checkpoints(&prepared.points);
+    let mut writer = BlockWriter {
+        sink: &mut *sink,
+        trace: ordered.trace.trace,
+        races: found.races,
+        numbers: &prepared.numbers,
+        written: 0,
+    };
+    match stream(rt, alloc, &job, plan.gate, plan.workers, &mut writer) {
+        Ok(_) => Ok(()),
+        Err(StreamError::Taker(_)) => Err(WriteError::Sink),
+        Err(StreamError::Memory) => Err(WriteError::Memory),
+    }
+}
+
+/// Writes the blocks of some races, numbered from 1, with schedules.
+fn write_schedules<R: Threads + Wait + Sync, K: Sink, O: Order + Sync, G: Gate + Sync>(
+    rt: &R,
+    alloc: Global,
+    sink: &mut K,
+    found: &Found<'_, '_, '_, O>,
+    plan: &BlockPlan<'_, G>,
+) -> Result<(), WriteError>
+    requires countable { K.failure_count sink.old < 2 ^ 64 - 1 }
+    requires races { AreRaces found.now.ordered.now.trace.now.events.now found.now.races.now }
+    ensures blocks { WritesBlocks true found.now.ordered.now.trace.now.trace.now (map ends found.now.races.now)
+        (K.taken sink.old) (K.taken sink.new) result }
+    ensures counted { IsSinkCounted (K.failure_count sink.old) (K.failure_count sink.new) result }
+{
+    let prepared = prepared_for(alloc, found)?;
+    write_made(rt, alloc, sink, found, &prepared, plan)
+}
+
+/// Writes the blocks of some races, numbered from 1, with schedules or without.
+fn write_blocks<R: Threads + Wait + Sync, K: Sink, O: Order + Sync, G: Gate + Sync>(
+    rt: &R,
+    alloc: Global,
+    sink: &mut K,
+    found: &Found<'_, '_, '_, O>,
+    plan: &BlockPlan<'_, G>,
+) -> Result<(), WriteError>
+    requires countable { K.failure_count sink.old < 2 ^ 64 - 1 }
+    requires races { AreRaces found.now.ordered.now.trace.now.events.now found.now.races.now }
+    ensures blocks { WritesBlocks plan.now.schedules found.now.ordered.now.trace.now.trace.now (map ends found.now.races.now)
+        (K.taken sink.old) (K.taken sink.new) result }
+    ensures counted { IsSinkCounted (K.failure_count sink.old) (K.failure_count sink.new) result }
+{
+    if plan.schedules {
+        return write_schedules(rt, alloc, sink, found, plan);
+    }
+    write_pairs(sink, found)
+}
+
+/// How many events and names a trace has.
+fn counts_of(trace: &Trace) -> Counts
+    ensures { result ≡ counts_of trace.now }
+{
+    Counts {
+        events: u64::from(trace.len()),
+        threads: u64::from(trace.threads()),
+        locks: u64::from(trace.locks()),
+        variables: u64::from(trace.variables()),
+    }
+}
+
+/// Writes the lines of a report before its first block: the head, and the places of the races.
+fn write_front<K: Sink>(
+    sink: &mut K,
+    trace: &Trace,
+    races: &[Pair],
+    places: &Places,
+) -> Result<(), Failed>
+    requires countable { K.failure_count sink.old < 2 ^ 64 - 1 }
+    requires places { places.now ≡ counts_in (places_of_pairs trace.now races.now) }
+    requires in_range { All (IsPlaceOf trace.now) places.now }
+    ensures written { Writes (K.taken sink.old) (K.taken sink.new) result (front_bytes trace.now (map ends races.now)) }
+    ensures counted { IsCounted (K.failure_count sink.old) (K.failure_count sink.new) result }
+{
+    let counts = counts_of(trace);
+    head(sink, &counts, races.len() as u64)?;
+    place_lines(sink, trace, places)
+}
+
+/// Writes the report of a trace that lists these races.
+///
+/// The places are made before anything is written: so where memory is refused either nothing was
+/// written, or at least all lines before the first block.
+///
+/// # Errors
+///
+/// - [`WriteError::Sink`]: the sink failed. It took less than the report, the front of it.
+/// - [`WriteError::Memory`]: memory was refused. The sink took nothing; or less than the report, all lines
+///   before the first block among it.
+pub fn write_report<
+    R: Threads + Wait + Sync + RandomSource,
+    K: Sink,
+    O: Order + Sync,
+    G: Gate + Sync,
+>(
+    rt: &R,
+    alloc: Global,
+    sink: &mut K,
+    ordered: &Ordered<'_, O>,
+    races: &[Pair],
+    plan: &BlockPlan<'_, G>,
+) -> Result<(), WriteError>
+    requires countable { K.failure_count sink.old < 2 ^ 64 - 1 }
+    requires races { AreRaces ordered.now.trace.now.events.now races.now }
+    ensures report { IfOk result (λ _. WritesReport (These (map ends races.now)) plan.now.schedules ordered.now.trace.now.trace.now
+        (K.taken sink.old) (K.taken sink.new)) }
+    ensures cut { OnFailedSink result (CutsReportOn (These (map ends races.now)) plan.now.schedules ordered.now.trace.now.trace.now
+        (K.taken sink.old) (K.taken sink.new)) }
+    ensures memory { OnNoMemory result ((sink.new ≡ sink.old) ⊎ CutsBlocksOn (These (map ends races.now)) plan.now.schedules
+        ordered.now.trace.now.trace.now (K.taken sink.old) (K.taken sink.new)) }
+    ensures counted { IsSinkCounted (K.failure_count sink.old) (K.failure_count sink.new) result }
+{
+    let trace = ordered.trace.trace;
+    let places = places_of(rt, alloc, trace, races)?;
+    write_front(sink, trace, races, &places)?;
+    let found = Found {
+        ordered: &*ordered,
+        races: &*races,
+    };
+    write_blocks(rt, alloc, sink, &found, plan)?;
+    tail(sink)?;
+    Ok(())
+}
