@@ -20,8 +20,8 @@ use std::random::RandomSource;
 /// Checks a report against a trace, and writes the one line of the verdict.
 ///
 /// The trace is read whole and judged first. Then the text of the report is read whole, and each of its
-/// blocks is judged as soon as its lines are. Only then is anything written: `ok R`, `bad line N`, `bad counts`, `bad race K` or `bad places`. That races are
-/// left out of the report isn't found.
+/// blocks is judged once its lines are found. Only then is anything written: `ok R`, `bad line N`,
+/// `bad counts`, `bad race K` or `bad places`. That races are left out of the report isn't found.
 ///
 /// The time is linear in the two texts, whatever the number of blocks: the tables that schedules are
 /// judged by are made once. Both texts are kept; what a report takes beside its text is told at
