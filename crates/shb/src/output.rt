@@ -1,4 +1,4 @@
-//! Standard output behind a run or a check.
+//! Standard output after a run or a check.
 ghost use Rattle.std.specs.Prelude.{◌≡◌, Ok, Err, IfOk, IfErr, ◌⊎◌};
 ghost use Rattle.shb_check.specs.declared.errors.RunError.TheVariants.{Sink};
 

@@ -39,7 +39,7 @@ OnWriting (Ok x) P = P
 OnWriting (Err Sink) P = P
 OnWriting _ P = ⊤
 
--- known bytes have others behind them, or none
+-- known bytes have others after them, or none
 abbrev pub Grows : Option (List ℕ) → Option (List ℕ) → Type 0
 Grows old new = (bytes : List ℕ) × Appends old new bytes
 

@@ -137,7 +137,7 @@ module _ (trace : List Event) (disciplined : IsDisciplined trace) where
         by_holder : HasHolder (take k trace) l → acquires (only e.thread) l (take k trace) ≡ releases (only e.thread) l (take k trace)
         by_holder held = by_thread held (cases_Bool (d.thread == held.holder))
 
-    -- by another thread it comes behind an acquire of that thread
+    -- by another thread it comes after an acquire of that thread
     taken_between : d.thread ≢ e.thread → (a : ℕ) × IsPassing (is_acquire (only e.thread) l) trace k r a
     taken_between ne = some_counted (is_acquire (only e.thread) l) trace k r (let some = may r e at_r releases_r in let same = free ne in let mono = count_mono (is_release (only e.thread) l) trace k r (omega (arith, lt)) in omega (arith, some, same, mono))
 
@@ -176,7 +176,7 @@ module _ (trace : List Event) (disciplined : IsDisciplined trace) where
       up c releases lt (inr (inl low)) = release_chain l c r releases latest.holds low
       up c releases lt (inr (inr high)) = absurd (latest.last c high lt releases)
 
-  -- what a thread knows in front of its own event, and behind it
+  -- what a thread knows in front of its own event, and after it
   pub known_pred : (e t : ℕ) → thread_at trace e ≡ Some t → (k : ℕ) → IsKnown trace t e k ↔ BelowPred trace k e
   known_pred e t of_e k = ((λ h. down h h.of_or_forks), (λ below. up below.0 below.2 below.1))
     where
@@ -254,7 +254,7 @@ module _ (trace : List Event) (disciplined : IsDisciplined trace) where
   pub source_join_nothing : (rows : List (List ℕ)) (e v : ℕ) (stamp : Stamp) → op_at trace e ≡ Some (Join v) → ((k : ℕ) → k < length trace → thread_at trace k ≢ Some v) → stamp.place ≡ 0 → IsSource trace rows e stamp
   source_join_nothing rows e v stamp joins none zero = from_none (λ k learns. join_learns_nothing trace disciplined e v k joins (λ m lt of_m. none m (thread_in_range trace m v of_m) of_m) learns) zero
 
-  -- the row behind an event of thread u
+  -- the row after an event of thread u
   module _ (rows : List (List ℕ)) (e u before : ℕ) (of_e : thread_at trace e ≡ Some u) (row : IsRowFor trace rows u (λ k. BelowPred trace k e) before) where
     from_others : (P : ℕ → Type 0) (t k : ℕ) → thread_at trace k ≡ Some t → t ≢ u → (StrictlyBelow trace e k → P k) → ShbBelow trace k e → P k
     from_others P t k of_k ne go path = elim (below_cases trace disciplined k e path) [

@@ -63,7 +63,7 @@ pub data IsSource (trace : List Event) (rows : List (List ℕ)) (e : ℕ) (stamp
   from_event : (r : ℕ) → r < e → IsStampOf trace rows r stamp → ((k : ℕ) → ShbBelow trace k r ↔ Learns trace e k) → IsSource trace rows e stamp
   from_none : ((k : ℕ) → ¬ Learns trace e k) → stamp.place ≡ 0 → IsSource trace rows e stamp
 
--- rows with at most one more behind them
+-- rows with at most one more after them
 pub record HasGrown (old new : RowsData) : Type 0 where
   pub width : new.width ≡ old.width
   pub more : AreMore old.rows new.rows

@@ -8,7 +8,7 @@ use shb_io::NoMemory;
 use std::alloc::Global;
 use std::marker::Model;
 
-/// Clocks of one width, one behind the other, seen as the width and the list of clocks.
+/// Clocks of one width, one after the other, seen as the width and the list of clocks.
 #[derive(Drop)]
 pub struct Rows {
     width: u32,

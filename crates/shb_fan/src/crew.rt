@@ -1,4 +1,4 @@
-//! The passes and seats that a stream's threads have, made before it and taken back behind it.
+//! The passes and seats that a stream's threads have, made before it and taken back after it.
 ghost use Rattle.std.specs.Prelude.{◌≡◌, ◌+◌, ◌<◌, ◌≤◌, [], false, All, IfOk, length};
 ghost use Rattle.std.specs.Vec.{vec_capacity};
 ghost use Rattle.shb_fan.specs.Passes.{fresh};

@@ -317,7 +317,7 @@ pub fn what_holds()
 
 /// Lists that rise and together are the numbers below `drawn`, each once, are those of the machine
 /// after as many draws, of which each is by the actor whose list has its number; and there are such
-/// draws. A stop behind them stops it and changes no list.
+/// draws. A stop after them stops it and changes no list.
 pub fn rising_lists_are_drawn()
     ensures exist { (lists : List (List ℕ)) (drawn : ℕ) → AreDrawn lists drawn
         → (steps : List Step) × AreDraws lists drawn steps }

@@ -87,7 +87,7 @@ Writes-err Q (Err _) a b xs is p = p
 pub HoldsBack-start : (a : Option (List ℕ)) (all : List ℕ) → HoldsBack a a all all
 HoldsBack-start a all = record { sent = []; appended = Appends-nil a; joined = refl }
 
--- more is to be written behind what is held back
+-- more is to be written after what is held back
 pub HoldsBack-push : (a b : Option (List ℕ)) (rest all more : List ℕ) → HoldsBack a b rest all → HoldsBack a b (rest ++ more) (all ++ more)
 HoldsBack-push a b rest all more p = record {
   sent = p.sent;
@@ -128,7 +128,7 @@ pub HoldsBack-stop : (a b c : Option (List ℕ)) (part rest all : List ℕ) → 
 HoldsBack-stop a b c part rest all p q =
     subst (AppendsPrefix a c) p.joined (AppendsPrefix-after a b c p.sent (part ++ rest) p.appended (AppendsPrefix-front b c part rest q))
 
--- of what was held back only the first bytes are written, where `more` was still to come behind it
+-- of what was held back only the first bytes are written, where `more` was still to come after it
 pub HoldsBack-fail : (a b c : Option (List ℕ)) (rest all more : List ℕ) → HoldsBack a b rest all → AppendsPrefix b c rest → AppendsPrefix a c (all ++ more)
 HoldsBack-fail a b c rest all more p q =
     AppendsPrefix-front a c all more (subst (AppendsPrefix a c) p.joined (AppendsPrefix-after a b c p.sent rest p.appended q))

@@ -23,7 +23,7 @@ use shb_io::NoMemory;
 use std::alloc::Global;
 use std::random::RandomSource;
 
-/// Whether the byte behind the limit of the text stands in a line that ends at `end`, where no line
+/// Whether the byte after the limit of the text stands in a line that ends at `end`, where no line
 /// before it has it.
 fn passes_limit(text: &[u8], limits: &Limits, end: usize) -> bool
     ensures { IsTrue result ↔ ((limits.now.text ≤ end) × (limits.now.text < length text.now)) }

@@ -18,7 +18,7 @@ fn new_piece(alloc: Global) -> Result<Vec<u8>, NoMemory>
     Ok(vec![in alloc; 0; PIECE]?)
 }
 
-/// Reads once, at most `room` bytes, puts them behind the text, and says how many there were.
+/// Reads once, at most `room` bytes, puts them after the text, and says how many there were.
 fn read_onto<S: Source>(
     source: &mut S,
     text: &mut Vec<u8>,

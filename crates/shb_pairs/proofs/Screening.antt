@@ -118,7 +118,7 @@ race_accesses trace x i j access race = subst (λ (y : ℕ). variable_at trace i
 all_below : (trace : List Event) (reads : List KeptRead) (n x : ℕ) (latest : Latest) → IsPast trace latest.write n → ((mark : Mark) → IsOf reads mark latest.read → IsPast trace mark n) → IsScreened trace reads n x latest → (k : ℕ) → k < n → variable_at trace k ≡ Some x → BelowPred trace k n
 all_below trace reads n x latest past also h k lt access = (let c = h.accesses k lt access in c.2 n (omega arith) past (also c.0 c.1))
 
--- a write that is ordered behind the last write and the reads since
+-- a write that is ordered after the last write and the reads since
 pub screened_write : (trace : List Event) → IsDisciplined trace → (reads : List KeptRead) (n x : ℕ) (latest next : Latest) → variable_at trace n ≡ Some x → IsPast trace latest.write n → ((mark : Mark) → IsOf reads mark latest.read → IsPast trace mark n) → IsMarkOf trace next.write n → IsScreened trace reads n x latest → IsScreened trace reads (n + 1) x next
 screened_write trace disciplined reads n x latest next access past also own h = record {
   writes = λ k e lt le writes later. below k e lt le (write_accesses trace k x writes) later;
@@ -135,7 +135,7 @@ screened_write trace disciplined reads n x latest next access past also own h = 
       | inr ne ↦ chain_below trace disciplined k n e (all_below trace reads n x latest past also h k (omega arith) of_k) (mark_below trace next.write n e own (omega arith) later)
     ]
 
--- a read that is ordered behind the last write: it races with no access
+-- a read that is ordered after the last write: it races with no access
 module _ (trace : List Event) (disciplined : IsDisciplined trace) (reads : List KeptRead) (n x : ℕ) (latest next : Latest) (access : variable_at trace n ≡ Some x) (reading : op_at trace n ≢ Some (Write x)) (past : IsPast trace latest.write n) (h : IsScreened trace reads n x latest) (same_write : next.write ≡ latest.write) where
   read_writes : (k e : ℕ) → k < n + 1 → n + 1 ≤ e → op_at trace k ≡ Some (Write x) → IsPast trace next.write e → BelowPred trace k e
   read_writes k e lt le writes later = elim (cases_eq k n) [
@@ -163,7 +163,7 @@ module _ (trace : List Event) (disciplined : IsDisciplined trace) (reads : List 
   covers_more : (k : ℕ) (mark : Mark) → Covers trace n latest.write mark k → Covers trace (n + 1) next.write mark k
   covers_more k mark covers e le later read = covers e (omega arith) (subst (λ (m : Mark). IsPast trace m e) same_write later) read
 
-  -- it is behind the newest read, whose place it takes
+  -- it is after the newest read, whose place it takes
   pub screened_read : IsPast trace latest.read.mark n → IsMarkOf trace next.read.mark n → next.read.before ≡ latest.read.before → IsScreened trace reads (n + 1) x next
   screened_read also own same_before = record {
     writes = read_writes;

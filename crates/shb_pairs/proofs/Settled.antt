@@ -1,4 +1,4 @@
--- A write without a race orders all accesses before it: what it orders races with accesses behind it alone.
+-- A write without a race orders all accesses before it: what it orders races with accesses after it alone.
 use Rattle.std.proofs.Common.{◌≡◌, ◌≢◌, ℕ, ◌+◌, ◌<◌, ◌≤◌, inl, inr, true, false, List, [], ◌++◌, Option, Some, length, get_or, take, drop, refl, arith, subst, ap, sym, ◌∙◌}
 use Rattle.std.specs.Prelude.{filter, map, All, IfSome}
 use Rattle.std.proofs.lemmas.Bool.{cases_eq, cases_lt}
@@ -65,7 +65,7 @@ settled_free trace disciplined x w j i writes accesses_w accesses_j free below l
       })
     ]
 
--- the races with the access at a place, by the accesses behind the settled write
+-- the races with the access at a place, by the accesses after the settled write
 module _ (trace : List Event) (disciplined : IsDisciplined trace) (x q s : ℕ) (inside : q < length (accesses_in trace x)) (settled : IsSettled trace x (accesses_in trace x) q s) (below : BelowPred trace (get_or (accesses_in trace x) s 0) (get_or (accesses_in trace x) q 0)) where
   access : (k : ℕ) → k < length (accesses_in trace x) → variable_at trace (get_or (accesses_in trace x) k 0) ≡ Some x
   access k lt = (access_front trace x k lt).0
@@ -98,7 +98,7 @@ module _ (trace : List Event) (disciplined : IsDisciplined trace) (x q s : ℕ) 
       let is : get_or (drop (s + 1) (take q (accesses_in trace x))) k d ≡ get_or (accesses_in trace x) ((s + 1) + k) 0 = get_or-drop (s + 1) (take q (accesses_in trace x)) k d ∙ (get_or-take q (accesses_in trace x) ((s + 1) + k) d (omega (arith, lt, long, rest)) ∙ get_or_default (accesses_in trace x) ((s + 1) + k) d 0 (omega (arith, lt, long, rest))) in
       rw is (rises ((s + 1) + k) q 0 (omega (arith, lt, long, rest)) inside)
 
-  -- a read has no race with the reads behind the settled write
+  -- a read has no race with the reads after the settled write
   pub settled_read : op_at trace (get_or (accesses_in trace x) q 0) ≢ Some (Write x) → races_with trace (get_or (accesses_in trace x) q 0) ≡ []
   settled_read reading = settled_races ∙ ap (λ (ns : List ℕ). map (λ i. (i, get_or (accesses_in trace x) q 0)) ns) (filter_none (λ i. is_race trace i (get_or (accesses_in trace x) q 0)) (drop (s + 1) (take q (accesses_in trace x))) (λ k d lt.
       let long = size in

@@ -10,7 +10,7 @@ use Rattle.shb_pairs.specs.declared.screen.Latest.{Latest}
 use Rattle.shb_pairs.specs.declared.screen.Mark.{Mark}
 use Rattle.shb_pairs.specs.declared.screen.KeptRead.{KeptRead}
 
--- the place of no event: an access is not known to be ordered behind what such a mark stands for
+-- the place of no event: an access is not known to be ordered after what such a mark stands for
 abbrev pub no_place : ℕ
 no_place = 4294967295
 
@@ -29,11 +29,11 @@ pub data IsOf (reads : List KeptRead) (mark : Mark) : KeptRead → Type 0 where
   newest : {read : KeptRead} → read.mark ≡ mark → IsOf reads mark read
   older : {read : KeptRead} (before : KeptRead) → slice_get reads read.before ≡ Some before → IsOf reads mark before → IsOf reads mark read
 
--- each event from n on at which the write and the mark are past is behind the event at k
+-- each event from n on at which the write and the mark are past is after the event at k
 abbrev pub Covers : List Event → ℕ → Mark → Mark → ℕ → Type 0
 Covers trace n write mark k = (e : ℕ) → n ≤ e → IsPast trace write e → IsPast trace mark e → BelowPred trace k e
 
--- an event at which the write is past is behind all writes of x before n; each access of x before n is covered by a read that is kept; unless the write is unordered, x has no race before n
+-- an event at which the write is past is after all writes of x before n; each access of x before n is covered by a read that is kept; unless the write is unordered, x has no race before n
 pub record IsScreened (trace : List Event) (reads : List KeptRead) (n x : ℕ) (latest : Latest) : Type 0 where
   pub writes : (k e : ℕ) → k < n → n ≤ e → op_at trace k ≡ Some (Write x) → IsPast trace latest.write e → BelowPred trace k e
   pub accesses : (k : ℕ) → k < n → variable_at trace k ≡ Some x → (mark : Mark) × IsOf reads mark latest.read × Covers trace n latest.write mark k

@@ -43,7 +43,7 @@ struct KeptRead {
 }
 
 /// What is kept of a variable: its last write, and the newest read since, from which the numbers lead
-/// to the other reads that no later read is ordered behind. Where the write is unordered, the variable
+/// to the other reads that no later read is ordered after. Where the write is unordered, the variable
 /// is open; where the read is, not all reads since the write were kept.
 #[derive(Clone, Copy)]
 struct Latest {
@@ -51,7 +51,7 @@ struct Latest {
     read: KeptRead,
 }
 
-/// The mark of nothing, behind which each event is.
+/// The mark of nothing, after which each event is.
 fn nothing() -> Mark
     ensures { result.place ≡ 0 }
 {
@@ -61,7 +61,7 @@ fn nothing() -> Mark
     }
 }
 
-/// The mark behind which no event is.
+/// The mark after which no event is.
 fn unordered() -> Mark
     ensures { result.place ≡ no_place }
 {
@@ -138,7 +138,7 @@ fn are_past<O: Order>(
     false
 }
 
-/// What is kept of a variable behind a read of it that is ordered behind its last write.
+/// What is kept of a variable after a read of it that is ordered after its last write.
 fn after_read<O: Order>(
     ordered: &Ordered<'_, O>,
     reads: &mut Vec<KeptRead>,
@@ -168,7 +168,7 @@ fn after_read<O: Order>(
     Ok(Latest { write, read })
 }
 
-/// What is kept of a variable behind a write of it that is ordered behind its last write.
+/// What is kept of a variable after a write of it that is ordered after its last write.
 fn after_write<O: Order>(
     ordered: &Ordered<'_, O>,
     reads: &[KeptRead],
@@ -188,7 +188,7 @@ fn after_write<O: Order>(
     }
 }
 
-/// What is kept of a variable behind an access of it.
+/// What is kept of a variable after an access of it.
 fn after_access<O: Order>(
     ordered: &Ordered<'_, O>,
     reads: &mut Vec<KeptRead>,
@@ -239,12 +239,12 @@ fn flags_of(alloc: Global, table: &[Latest]) -> Result<Vec<bool>, AllocError>
 
 /// Which variables may have a race, a flag for each: where it is false, no pair of accesses of the
 /// variable is a race. One pass over the trace in its order, with two look-ups of the order for each
-/// access and one more for each read that isn't ordered behind the read before it; 20 bytes a variable
+/// access and one more for each read that isn't ordered after the read before it; 20 bytes a variable
 /// and 12 such a read.
 ///
 /// A variable is settled where, of each access, the last write before it is SHB-below its
 /// predecessor and, where the access writes, so are the reads since that write. A flag may be true
-/// though no pair races: where there are more than 1,048,576 reads that aren't ordered behind the one
+/// though no pair races: where there are more than 1,048,576 reads that aren't ordered after the one
 /// before.
 ///
 /// # Errors

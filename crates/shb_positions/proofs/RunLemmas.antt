@@ -58,13 +58,13 @@ longer_apart (run ∷ next ∷ []) (suc (suc n)) old new long is from apart = ab
 longer_apart (run ∷ next ∷ more ∷ runs) (suc zero) old new long is from apart = absurd (omega (arith, long))
 longer_apart (run ∷ next ∷ more ∷ runs) (suc (suc n)) old new long is from apart = (apart.0, longer_apart (next ∷ more ∷ runs) (suc n) old new (omega (arith, long)) is from apart.1)
 
--- a run more, behind a gap
+-- a run more, after a gap
 pub more_apart : (runs : List Run) (new : Run) → AreApart runs → LeavesGap runs new.first → AreApart (runs ++ new ∷ [])
 more_apart [] new apart gap = tt
 more_apart (run ∷ []) new apart gap = (gap, tt)
 more_apart (run ∷ next ∷ runs) new apart gap = (apart.0, more_apart (next ∷ runs) new apart.1 gap)
 
--- the gap behind the last run
+-- the gap after the last run
 pub last_leaves_gap : (runs : List Run) (n position : ℕ) (last : Run) → length runs ≡ n + 1 → last ≡ get_or runs n last → last.first + last.len ≢ position → LeavesGap runs position
 last_leaves_gap [] n position last long is gap = tt
 last_leaves_gap (run ∷ []) zero position last long is gap = λ ends. gap (ap (λ (r : Run). r.first + r.len) is ∙ ends)

@@ -21,7 +21,7 @@ takes_less (form ∷ forms) bytes (suc k) (suc n) left rest h few =
     let later = takes_less (h.1 ++ forms) h.2 k n left rest h.4 (omega arith) in
     (later.0, later.1, (h.0, h.1, h.2, h.3, later.2))
 
--- where one line more is taken, it is taken behind the others
+-- where one line more is taken, it is taken after the others
 takes_past : (forms : List Form) (bytes : List ℕ) (n : ℕ) (left l : List Form) (rest r : List ℕ) → Takes forms bytes n left rest → Takes forms bytes (suc n) l r → Takes left rest (suc zero) l r
 takes_past forms bytes zero left l rest r h g = subst (λ f. Takes f rest (suc zero) l r) h.0 (subst (λ b. Takes forms b (suc zero) l r) h.1 g)
 takes_past [] bytes (suc n) left l rest r h g = absurd h
@@ -70,7 +70,7 @@ module _ (limit : ℕ) (text : List ℕ) where
     bad = λ h. let t = taken_lines n h in b.bad t.0 t.1 (subst (λ m. Takes all_forms (take limit text) m t.0 t.1) (let same : n ≡ suc b.good = omega (arith, b.number) in same) t.2);
   }
 
-  -- a whole report within the limit, behind which a byte stands
+  -- a whole report within the limit, after which a byte stands
   pub bad_behind_limit : (report : ReportValue) → IsReportValue report → take limit text ≡ report_text report → limit < length text → IsBadLine limit text (length (report_lines report) + 1)
   bad_behind_limit report in_grammar seen long =
       let count = length (report_lines report) in

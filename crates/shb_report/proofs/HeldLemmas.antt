@@ -1,4 +1,4 @@
--- Text put behind what is held back, one piece after another.
+-- Text put after what is held back, one piece after another.
 use Rattle.std.proofs.Common.{◌≡◌, ◌+◌, ◌<◌, List, [], ◌∷◌, ◌++◌, ℕ, length, get_or, take, drop, Option, Result, Ok, Err, flat_map, IsErrAnd, OnOk, OnErr, sym, ap, ◌∙◌, subst, append_assoc, append-nil, take-append-drop}
 use Rattle.std.proofs.lemmas.List.{take_more}
 use Rattle.std.proofs.lemmas.List.Concat.{flat_map-append}
@@ -45,7 +45,7 @@ module _ {X : Type 0} (f : X → List ℕ) (xs : List X) (k : ℕ) (d : X) (with
   texts-next =
       ap (λ l. flat_map f (take k xs) ++ l) (sym (append-nil (f (get_or xs k d)))) ∙ sym (flat_map-append f (take k xs) (get_or xs k d ∷ [])) ∙ ap (flat_map f) (sym (take_more xs k d within))
 
-  -- the texts of the first members, of the next one, and of those behind it
+  -- the texts of the first members, of the next one, and of those after it
   pub texts-split : flat_map f (take k xs) ++ (f (get_or xs k d) ++ flat_map f (drop (k + 1) xs)) ≡ flat_map f xs
   texts-split =
       sym (append_assoc (flat_map f (take k xs)) (f (get_or xs k d)) (flat_map f (drop (k + 1) xs)))

@@ -92,7 +92,7 @@ zeros-shown = record { events = omega arith; threads = omega arith; locks = omeg
 abbrev Ends : List Form → Type 0
 Ends forms = (lines : List (List ℕ)) × AreLines forms lines
 
--- one line more in front, behind which nothing else is expected
+-- one line more in front, after which nothing else is expected
 ends_more : (form : Form) (forms : List Form) (line : List ℕ) (added : List Form) → HasNoLineFeed line → HasForm form line added → Ends (added ++ forms) → Ends (form ∷ forms)
 ends_more form forms line added free has later = (line ∷ later.0, (free, (added, has, later.1)))
 

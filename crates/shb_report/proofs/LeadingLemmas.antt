@@ -41,7 +41,7 @@ new_place first second pair = record { first = first; second = second; counted =
 same_place : (place : PlaceOf) (first second : List ℕ) → Decides (bytes_eq first place.first && bytes_eq second place.second) ((first ≡ place.first) × (second ≡ place.second))
 same_place place first second = Decides-and _ _ (bytes_eq-Decides first place.first) (bytes_eq-Decides second place.second)
 
--- a pair of known locations changes no first pair, and one of new ones is the first of a place behind the others
+-- a pair of known locations changes no first pair, and one of new ones is the first of a place after the others
 module _ (first second : List ℕ) (pair : Pair) where
   seen_or_new : (places : List PlaceOf)
       → (Covers places first second × (firsts (with_pair places first second pair) ≡ firsts places))

@@ -36,7 +36,7 @@ none_listed kept text old = record {
   back = λ all h e. (all, h, e, omega arith);
 }
 
--- what stands behind the first of some numbers
+-- what stands after the first of some numbers
 behind_first : (rest : List ℕ) (n : ℕ) (behind more : List ℕ) → IsShown n → IsLabelled (codes " ") rest n behind → AllByRecursion IsShown more → rest ≡ listed more
     → (others : List ℕ) × AllByRecursion IsShown others × (behind ≡ listed others) × (length more ≡ suc (length others))
 behind_first rest n behind [] small h all e = let lengths : length (codes " " ++ (decimal n ++ behind)) ≡ 0 = ap (λ (l : List ℕ). length l) (sym h.text_is ∙ e) in absurd (omega arith)

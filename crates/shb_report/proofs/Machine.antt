@@ -28,7 +28,7 @@ same_taken form bytes l k a b r s h g =
     let same = same_line l k r s h.one_line g.one_line (sym h.bytes_are ∙ g.bytes_are) in
     (same_added form l a b h.has_form (subst (λ x. HasForm form x b) (sym same.0) g.has_form), same.1)
 
--- what is taken behind a line that was taken
+-- what is taken after a line that was taken
 pub behind : (form : Form) (forms : List Form) (bytes line : List ℕ) (added : List Form) (more : List ℕ) (n : ℕ) (left : List Form) (rest : List ℕ) → TakesForm form bytes line added more
     → Takes (form ∷ forms) bytes (suc n) left rest → Takes (added ++ forms) more n left rest
 behind form forms bytes line added more n left rest h g =
@@ -69,7 +69,7 @@ bad_here form forms before bytes none_is = record {
     unfinished zero t = let e : (form ∷ forms) ≡ [] = t.0 in cc
     unfinished (suc k) t = none_is t.0 t.1 t.2 t.3
 
--- bytes stand behind the last line
+-- bytes stand after the last line
 pub bad_after : (before : ℕ) (bytes : List ℕ) → 0 < length bytes → IsBadFrom [] before bytes (before + 1)
 bad_after before bytes some = record {
   good = 0;

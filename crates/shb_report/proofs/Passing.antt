@@ -1,4 +1,4 @@
--- The first bad line stays the same behind a line that was taken.
+-- The first bad line stays the same after a line that was taken.
 use Rattle.std.proofs.Common.{◌≡◌, ◌+◌, ℕ, List, [], ◌∷◌, ◌++◌, length, codes, refl, sym, subst}
 use Rattle.std.specs.List.{AllByRecursion}
 use Rattle.shb_report.specs.declared.lines.Position.{Position}

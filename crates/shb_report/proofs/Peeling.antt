@@ -7,7 +7,7 @@ use Rattle.shb_report.specs.Scan.{EndsNumber, IsLabelled}
 use Rattle.shb_report.specs.Value.{AreShown, IsShown, counts_line, place_line, race_numbers_line}
 use Rattle.shb_report.proofs.Fronts.{same_labelled}
 
--- what stands behind a number that was read
+-- what stands after a number that was read
 pub peel : (label text : List ℕ) (n m : ℕ) (rest tail : List ℕ) → IsShown n → IsShown m → IsLabelled label text n rest → EndsNumber tail → text ≡ label ++ (decimal m ++ tail) → (m ≡ n) × (tail ≡ rest)
 peel label text n m rest tail p q h ends e = same_labelled label text m n tail rest q p (record { text_is = e; ends = ends }) h
 

@@ -9,7 +9,7 @@ use Rattle.shb_report.specs.Places.{place_bytes, places_bytes, section_bytes, sh
 use Rattle.shb_report.specs.Value.{Place, lines_text, place_line, place_lines, places_line}
 use Rattle.shb_report.proofs.EntryLemmas.{lines_text-append, place_lines-append}
 
--- a line behind its label
+-- a line after its label
 one_labelled : (label text rest : List ℕ) → labelled_line label text ++ rest ≡ (label ++ text) ++ (10 ∷ rest)
 one_labelled label text rest = append_assoc label (text ++ codes "\n") rest ∙ ap (λ t. label ++ t) (append_assoc text (codes "\n") rest) ∙ sym (append_assoc label text (10 ∷ rest))
 

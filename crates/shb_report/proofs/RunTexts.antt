@@ -20,7 +20,7 @@ pub numbers-next : (a k j : ℕ) → a + k ≡ j → event_numbers (range_with_l
 numbers-next a k j from =
     ap (λ l. event_numbers (range_with_len a k) ++ l) (sym (append-nil (event_number j))) ∙ sym (numbers_split a k 1 j (k + 1) from refl)
 
--- the numbers of the first events, of the next one, and of those behind it
+-- the numbers of the first events, of the next one, and of those after it
 pub numbers-split : (a k j n : ℕ) → a + k ≡ j → k < n → event_numbers (range_with_len a k) ++ (event_number j ++ event_numbers (range_with_len (j + 1) (n - (k + 1)))) ≡ event_numbers (range_with_len a n)
 numbers-split a k j n from within =
     sym (append_assoc (event_numbers (range_with_len a k)) (event_number j) (event_numbers (range_with_len (j + 1) (n - (k + 1)))))

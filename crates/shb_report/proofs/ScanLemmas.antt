@@ -64,7 +64,7 @@ pub with_section : (text : List ℕ) (old : Position) (with_places : Bool) (form
 with_section text old true forms n e b = b
 with_section text old false forms n e b = absurd (cc)
 
--- bytes behind the last line
+-- bytes after the last line
 
 pub bad_tail : (text : List ℕ) (at : Position) → at.start < length text → IsBadAt text at [] (at.lines + 1)
 bad_tail text at more = bad_after at.lines (bytes_from text at) (omega (arith, length-drop at.start text))

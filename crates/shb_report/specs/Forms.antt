@@ -17,7 +17,7 @@ label_bytes Second = codes "second "
 label_bytes At = codes "at "
 label_bytes And = codes "and "
 
--- how many bytes stand behind a label at least
+-- how many bytes stand after a label at least
 abbrev pub least_behind : Label → ℕ
 least_behind First = 1
 least_behind Second = 1
@@ -46,7 +46,7 @@ abbrev pub block_forms : ℕ → ℕ → List Form
 block_forms number zero = []
 block_forms number (suc count) = Race number ∷ (Named First ∷ (Named Second ∷ (Schedule ∷ block_forms (number + 1) count)))
 
--- the line has the form, and these forms are then expected before those that were expected behind it
+-- the line has the form, and these forms are then expected before those that were expected after it
 abbrev pub HasForm : Form → List ℕ → List Form → Type 0
 HasForm Version line added =
     ((line ≡ codes "shb-report 1") × (added ≡ CountsForm ∷ (Races ∷ []))) ⊎ ((line ≡ codes "shb-report 2") × (added ≡ CountsForm ∷ (RacesBeforePlaces ∷ [])))
@@ -66,14 +66,14 @@ pub record TakesForm (form : Form) (bytes line : List ℕ) (added : List Form) (
   pub has_form : HasForm form line added
   pub bytes_are : bytes ≡ line ++ (10 ∷ rest)
 
--- the bytes begin with n lines of the forms, behind which these forms are expected and these bytes left
+-- the bytes begin with n lines of the forms, after which these forms are expected and these bytes left
 abbrev pub Takes : List Form → List ℕ → ℕ → List Form → List ℕ → Type 0
 Takes forms bytes zero left rest = (forms ≡ left) × (bytes ≡ rest)
 Takes [] bytes (suc n) left rest = ⊥
 Takes (form ∷ forms) bytes (suc n) left rest =
     (line : List ℕ) × (added : List Form) × (more : List ℕ) × TakesForm form bytes line added more × Takes (added ++ forms) more n left rest
 
--- behind `before` lines, where these forms are expected, n is the number of the first line that is bad
+-- after `before` lines, where these forms are expected, n is the number of the first line that is bad
 pub record IsBadFrom (forms : List Form) (before : ℕ) (bytes : List ℕ) (n : ℕ) : Type 0 where
   pub good : ℕ
   pub number : n ≡ before + suc good

@@ -1,4 +1,4 @@
--- What a call does that puts text behind what is held back in a buffer.
+-- What a call does that puts text after what is held back in a buffer.
 use Rattle.std.specs.Prelude.{ℕ, List, ◌++◌, Option, Result, MatchResult}
 use Rattle.shb_io.specs.Devices.{AppendsPrefix, HoldsBack}
 

@@ -6,7 +6,7 @@ use Rattle.shb_report.specs.declared.lines.Stop.TheVariants.{BadLine, Memory}
 use Rattle.shb_report.specs.Forms.{Form, IsBadFrom, TakesForm}
 use Rattle.shb_report.specs.Value.{HasNoLineFeed}
 
--- the position stands in the text, behind that many lines
+-- the position stands in the text, after that many lines
 pub record IsAt (text : List ℕ) (at : Position) : Type 0 where
   pub within : at.start ≤ length text
   pub counted : at.lines ≤ at.start

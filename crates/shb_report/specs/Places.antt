@@ -56,7 +56,7 @@ shown_place trace counted = record { count = counted.count; first = location_at 
 abbrev pub shown_places : TraceData → List PlaceCount → List Place
 shown_places trace counts = map (shown_place trace) counts
 
--- the lines of the place of this number, and those of all places behind their count
+-- the lines of the place of this number, and those of all places after their count
 abbrev pub place_bytes : TraceData → ℕ → PlaceCount → List ℕ
 place_bytes trace number counted = lines_text (place_lines number (shown_place trace counted ∷ []))
 

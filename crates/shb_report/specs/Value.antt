@@ -55,7 +55,7 @@ place_line number count = codes "place " ++ (decimal number ++ (codes ": " ++ de
 abbrev pub race_numbers_line : ℕ → ℕ → ℕ → List ℕ
 race_numbers_line number first second = codes "race " ++ (decimal number ++ (codes ": " ++ (decimal first ++ (codes " " ++ decimal second))))
 
--- each number behind a space
+-- each number after a space
 abbrev pub listed : List ℕ → List ℕ
 listed [] = []
 listed (n ∷ ns) = codes " " ++ (decimal n ++ listed ns)
@@ -99,7 +99,7 @@ IsShown n = n < 2 ^ 64
 abbrev pub HasNoLineFeed : List ℕ → Type 0
 HasNoLineFeed bytes = list_all (λ b. not (b == 10)) bytes ≡ true
 
--- what may stand behind a label: at least so many bytes, at most 4,096, none a line feed
+-- what may stand after a label: at least so many bytes, at most 4,096, none a line feed
 pub record IsRest (least : ℕ) (bytes : List ℕ) : Type 0 where
   pub enough : least ≤ length bytes
   pub most : length bytes ≤ 4096

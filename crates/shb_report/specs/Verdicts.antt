@@ -47,7 +47,7 @@ pub record IsGoodReport (trace : TraceData) (report : ReportValue) : Type 0 wher
 abbrev pub IsNoEvent : TraceData → ℕ → Type 0
 IsNoEvent trace number = (number ≡ 0) ⊎ (length trace.events < number)
 
--- the position that a number in a schedule stands for; a number of no event stands for the position behind the last event
+-- the position that a number in a schedule stands for; a number of no event stands for the position after the last event
 abbrev pub position_of : ℕ → ℕ → ℕ
 position_of count zero = count
 position_of count (suc n) = min n count

@@ -72,7 +72,7 @@ pub(crate) fn counts_in(line: &[u8]) -> Option<Counts>
     }
 }
 
-/// What stands behind a label and this number.
+/// What stands after a label and this number.
 fn behind_number<'t>(text: &'t [u8], label: &[u8], number: u64) -> Option<&'t [u8]>
     ensures { MatchOption result
         ((rest : List ℕ) → IsLabelled label.now text.now number rest → ⊥)
@@ -114,7 +114,7 @@ pub(crate) fn race_in(line: &[u8], number: u64) -> Option<(u64, u64)>
     }
 }
 
-/// The bytes behind a label, of which there are at least so many, and not more than a line may have.
+/// The bytes after a label, of which there are at least so many, and not more than a line may have.
 pub(crate) fn named_in<'t>(line: &'t [u8], label: &[u8], least: usize) -> Option<&'t [u8]>
     requires { HasNoLineFeed line.now }
     ensures { MatchOption result

@@ -9,7 +9,7 @@ ghost use Rattle.shb_report.specs.declared.buffer.TheConstants.{ROOM};
 use crate::buffer::{DIGITS, ROOM, TextBuffer};
 use shb_io::{Failed, Sink, write_all};
 
-/// Sends what is held back where `more` bytes have no room behind it.
+/// Sends what is held back where `more` bytes have no room after it.
 pub(crate) fn make_room<S: Sink>(
     sink: &mut S,
     held: &mut TextBuffer,
@@ -29,7 +29,7 @@ pub(crate) fn make_room<S: Sink>(
     Ok(())
 }
 
-/// Puts some bytes behind what is held back.
+/// Puts some bytes after what is held back.
 pub(crate) fn put_bytes<S: Sink>(
     sink: &mut S,
     held: &mut TextBuffer,
@@ -49,7 +49,7 @@ pub(crate) fn put_bytes<S: Sink>(
     Ok(())
 }
 
-/// Puts a label, a text and a line feed behind what is held back.
+/// Puts a label, a text and a line feed after what is held back.
 pub(crate) fn put_line<S: Sink>(
     sink: &mut S,
     held: &mut TextBuffer,
@@ -66,7 +66,7 @@ pub(crate) fn put_line<S: Sink>(
     put_bytes(sink, held, b"\n")
 }
 
-/// Puts how many events a schedule has behind what is held back.
+/// Puts how many events a schedule has after what is held back.
 pub(crate) fn put_schedule_start<S: Sink>(
     sink: &mut S,
     held: &mut TextBuffer,
@@ -82,7 +82,7 @@ pub(crate) fn put_schedule_start<S: Sink>(
     Ok(())
 }
 
-/// Puts the number of an event, counted from 1, behind what is held back.
+/// Puts the number of an event, counted from 1, after what is held back.
 pub(crate) fn put_event<S: Sink>(
     sink: &mut S,
     held: &mut TextBuffer,
@@ -98,7 +98,7 @@ pub(crate) fn put_event<S: Sink>(
     Ok(())
 }
 
-/// Puts the numbers of some events behind what is held back.
+/// Puts the numbers of some events after what is held back.
 fn put_events<S: Sink>(sink: &mut S, held: &mut TextBuffer, events: &[u32]) -> Result<(), Failed>
     requires countable { S.failure_count sink.old < 2 ^ 64 - 1 }
     ensures put { Puts (S.taken sink.old) (S.taken sink.new) result held.old held.new (event_numbers events.now) }
@@ -110,7 +110,7 @@ fn put_events<S: Sink>(sink: &mut S, held: &mut TextBuffer, events: &[u32]) -> R
     Ok(())
 }
 
-/// Puts the line of a schedule behind what is held back.
+/// Puts the line of a schedule after what is held back.
 fn put_schedule_line<S: Sink>(
     sink: &mut S,
     held: &mut TextBuffer,
@@ -125,7 +125,7 @@ fn put_schedule_line<S: Sink>(
     put_bytes(sink, held, b"\n")
 }
 
-/// Puts the line of a schedule behind what is held back, if there is one.
+/// Puts the line of a schedule after what is held back, if there is one.
 pub(crate) fn put_schedule<S: Sink>(
     sink: &mut S,
     held: &mut TextBuffer,

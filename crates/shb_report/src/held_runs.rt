@@ -1,4 +1,4 @@
-//! Schedules that are kept as runs, put behind what is held back in a buffer.
+//! Schedules that are kept as runs, put after what is held back in a buffer.
 ghost use Rattle.std.specs.Prelude.{◌≡◌, ◌+◌, ◌-◌, ◌^◌, ◌<◌, ◌≤◌, ◌++◌, All, length, OnErr, OnOk};
 ghost use Rattle.shb_io.specs.Devices.{AppendsPrefix, HoldsBack, IsCounted};
 ghost use Rattle.shb_positions.specs.Runs.{EndsInRange, run_positions};
@@ -12,7 +12,7 @@ use crate::number_texts::NumberTexts;
 use shb_io::{Failed, Sink};
 use shb_positions::{Positions, Run};
 
-/// Puts the numbers of the events of a run behind what is held back, one by one.
+/// Puts the numbers of the events of a run after what is held back, one by one.
 fn put_run_numbers<S: Sink>(sink: &mut S, held: &mut TextBuffer, run: Run) -> Result<(), Failed>
     requires countable { S.failure_count sink.old < 2 ^ 64 - 1 }
     requires ends { EndsInRange run }
@@ -25,7 +25,7 @@ fn put_run_numbers<S: Sink>(sink: &mut S, held: &mut TextBuffer, run: Run) -> Re
     Ok(())
 }
 
-/// Puts the numbers of the events of a run behind what is held back: as one text where `numbers`
+/// Puts the numbers of the events of a run after what is held back: as one text where `numbers`
 /// has it.
 fn put_run<S: Sink>(
     sink: &mut S,
@@ -44,7 +44,7 @@ fn put_run<S: Sink>(
     }
 }
 
-/// Puts the numbers of the events of some runs behind what is held back.
+/// Puts the numbers of the events of some runs after what is held back.
 fn put_runs<S: Sink>(
     sink: &mut S,
     held: &mut TextBuffer,
@@ -62,7 +62,7 @@ fn put_runs<S: Sink>(
     Ok(())
 }
 
-/// Puts the line of a schedule that is kept as runs behind what is held back.
+/// Puts the line of a schedule that is kept as runs after what is held back.
 pub(crate) fn put_runs_line<S: Sink>(
     sink: &mut S,
     held: &mut TextBuffer,

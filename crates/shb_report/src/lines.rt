@@ -54,7 +54,7 @@ pub(crate) fn line_at(text: &[u8], at: Position) -> Option<&[u8]>
 }
 
 impl Position {
-    /// The position behind a line.
+    /// The position after a line.
     pub(crate) fn behind(self, line: &[u8]) -> Position
         requires start { self.start + length line.now + 1 ≤ 1073741825 }
         requires lines { self.lines ≤ self.start }

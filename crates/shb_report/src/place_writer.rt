@@ -12,7 +12,7 @@ use crate::places::{PlaceCount, Places};
 use shb_io::{Failed, Sink, write_all};
 use shb_lines::Trace;
 
-/// Puts the first line of a place behind what is held back.
+/// Puts the first line of a place after what is held back.
 fn put_place_line<S: Sink>(
     sink: &mut S,
     held: &mut TextBuffer,
@@ -30,7 +30,7 @@ fn put_place_line<S: Sink>(
     Ok(())
 }
 
-/// Puts the lines of a place behind what is held back.
+/// Puts the lines of a place after what is held back.
 fn put_place<S: Sink>(
     sink: &mut S,
     held: &mut TextBuffer,
@@ -48,7 +48,7 @@ fn put_place<S: Sink>(
     put_line(sink, held, b"and ", trace.location(place.pair.second))
 }
 
-/// Puts the lines of some places, of which the first has number 1, behind what is held back.
+/// Puts the lines of some places, of which the first has number 1, after what is held back.
 fn put_places<S: Sink>(
     sink: &mut S,
     held: &mut TextBuffer,

@@ -226,7 +226,7 @@ fn report_of(alloc: Global, text: Vec<u8>, limit: u64) -> Result<Report, Stop>
 ///
 /// `BadLine(n)` where the text is no report that is within the limit: its first n lines are the first n
 /// lines of no report, and n is the least such number. A line that is missing, the last bytes of a text
-/// that have no line feed, bytes behind the last line, and the line to which the byte behind the limit
+/// that have no line feed, bytes after the last line, and the line to which the byte after the limit
 /// belongs are bad lines. `Source` where the source failed in this call, and only there. `Memory` where a
 /// growth was refused. What was read of the source stays read: where a report or a bad line is answered,
 /// all of it, or the limit and one byte.

@@ -19,7 +19,7 @@ fn digits_in(text: &[u8]) -> usize
     text.len()
 }
 
-/// The digits at the front of a text, and what stands behind them.
+/// The digits at the front of a text, and what stands after them.
 fn split_digits(text: &[u8]) -> (&[u8], &[u8])
     ensures whole { text.now ≡ result.0.now ++ result.1.now }
     ensures digits { list_all is_ascii_digit result.0.now ≡ true }
@@ -57,7 +57,7 @@ fn value_of(digits: &[u8]) -> Option<u64>
     Some(value)
 }
 
-/// The number at the front of a text, and what stands behind it.
+/// The number at the front of a text, and what stands after it.
 fn number(text: &[u8]) -> Option<(u64, &[u8])>
     ensures { MatchOption result
         ((n : ℕ) (rest : List ℕ) → n < 2 ^ 64 → IsLabelled [] text.now n rest → ⊥)
@@ -73,14 +73,14 @@ fn number(text: &[u8]) -> Option<(u64, &[u8])>
     }
 }
 
-/// What stands behind a label at the front of a text.
+/// What stands after a label at the front of a text.
 pub(crate) fn behind_label<'t>(text: &'t [u8], label: &[u8]) -> Option<&'t [u8]>
     ensures { MatchOption result ((rest : List ℕ) → text.now ≢ label.now ++ rest) (λ r. text.now ≡ label.now ++ r.now) }
 {
     text.strip_prefix(label)
 }
 
-/// The number behind a label at the front of a text, and what stands behind that number.
+/// The number after a label at the front of a text, and what stands after that number.
 pub(crate) fn labelled<'t>(text: &'t [u8], label: &[u8]) -> Option<(u64, &'t [u8])>
     ensures { MatchOption result
         ((n : ℕ) (rest : List ℕ) → n < 2 ^ 64 → IsLabelled label.now text.now n rest → ⊥)

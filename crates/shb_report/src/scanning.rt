@@ -71,7 +71,7 @@ pub(crate) fn read_places(
     }
 }
 
-/// Reads the last line, behind which nothing may stand.
+/// Reads the last line, after which nothing may stand.
 pub(crate) fn read_tail(text: &[u8], at: &mut Position) -> Result<(), Stop>
     requires short { length text.now ≤ 1073741824 }
     requires at { IsAt text.now at.old }

@@ -8,7 +8,7 @@ use crate::keeping::Keeping;
 use crate::scan::{behind_label, labelled};
 use shb_io::NoMemory;
 
-/// Adds what is kept of the numbers of a text, each of which stands behind a space, and says whether the text has
+/// Adds what is kept of the numbers of a text, each of which stands after a space, and says whether the text has
 /// nothing else.
 fn add_numbers<K: Keeping>(
     text: &[u8],

@@ -67,7 +67,7 @@ fn push_race_line(text: &mut TextBuffer, number: u64, pair: Pair)
     text.push_byte(b'\n');
 }
 
-/// Puts the lines of the events of a race behind what is held back.
+/// Puts the lines of the events of a race after what is held back.
 fn put_event_lines<S: Sink>(
     sink: &mut S,
     held: &mut TextBuffer,

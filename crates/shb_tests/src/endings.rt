@@ -1,4 +1,4 @@
-//! What is answered where a source fails behind the first fault or a writer takes nothing, and that
+//! What is answered where a source fails after the first fault or a writer takes nothing, and that
 //! errors show themselves in the words of `fault_line`.
 use crate::asserting::{holds, same, same_bytes};
 use shb_io::{Failed, Page, Sink, Text, ToWrite};

@@ -200,7 +200,7 @@ fn written_early(rt: HostRuntime) -> Result<(), Fail> {
     Ok(())
 }
 
-/// Runs with a sink that fails behind so many bytes.
+/// Runs with a sink that fails after so many bytes.
 fn expect_cut<R: Threads + Wait + Sync + RandomSource + AllocGlobal + Abort>(
     rt: &R,
     settings: Settings,

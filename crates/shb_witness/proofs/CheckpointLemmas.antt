@@ -48,7 +48,7 @@ reach_more trace linked n place old new d same within is_place noted kept before
         let le : place_in_thread trace t n ≤ get_or new t 0 = subst (λ (p : ℕ). p ≤ get_or new t 0) (placed t of_n) low in
         subst (λ (j : ℕ). place_in_thread trace t j ≤ get_or new t 0) (sym here) le
 
--- what is behind the places has none
+-- what is after the places has none
 pub covered : (places cuts : List ℕ) → ((t : ℕ) → t < length places → get_or places t 0 ≤ get_or cuts t 0) → (t : ℕ) → get_or places t 0 ≤ get_or cuts t 0
 covered places cuts all t = elim (cases_lt t (length places)) [
   | inl lt ↦ all t lt

@@ -65,7 +65,7 @@ fn default_workers() -> Workers
     }
 }
 
-/// The number of workers that the words behind `races` or `places` name, or 4.
+/// The number of workers that the words after `races` or `places` name, or 4.
 fn workers_in(matches: &ArgMatches<'_>) -> Workers {
     matches
         .get_one::<u32>("workers")
@@ -81,7 +81,7 @@ fn trace_in(alloc: Global, matches: &ArgMatches<'_>) -> Result<Option<String>, W
     }
 }
 
-/// The plan of the words behind `races`.
+/// The plan of the words after `races`.
 fn races_plan(alloc: Global, matches: &ArgMatches<'_>) -> Result<Plan, WordsFault> {
     Ok(Plan::Races {
         workers: workers_in(matches),
@@ -90,7 +90,7 @@ fn races_plan(alloc: Global, matches: &ArgMatches<'_>) -> Result<Plan, WordsFaul
     })
 }
 
-/// The plan of the words behind `places`.
+/// The plan of the words after `places`.
 fn places_plan(alloc: Global, matches: &ArgMatches<'_>) -> Result<Plan, WordsFault> {
     Ok(Plan::Places {
         workers: workers_in(matches),
@@ -99,7 +99,7 @@ fn places_plan(alloc: Global, matches: &ArgMatches<'_>) -> Result<Plan, WordsFau
     })
 }
 
-/// The plan of the words behind `check`.
+/// The plan of the words after `check`.
 fn check_plan(alloc: Global, matches: &ArgMatches<'_>) -> Result<Plan, WordsFault> {
     match matches.get_str("trace") {
         Some(path) => Ok(Plan::Check {

@@ -129,7 +129,7 @@ front_written : {U : Type 0} (Q : WriteError → Type 0) (r : Result U WriteErro
 front_written Q (Ok x) old new bs failed front = absurd failed
 front_written Q (Err e) old new bs failed front = front
 
--- what was written of the blocks lacks what comes behind them
+-- what was written of the blocks lacks what comes after them
 pub AppendsFront-then : (old new : Option (List ℕ)) (xs ys : List ℕ) → 0 < length ys → AppendsFront old new xs → AppendsPrefix old new (xs ++ ys)
 AppendsFront-then old new xs ys some front = cases (cases_lt front.0 (length xs))
   where

@@ -57,7 +57,7 @@ module _ (ws : Bool) (trace : TraceData) (races : List Pair) (blocks : List ℕ)
   pub report_cut : (old new : Option (List ℕ)) → AppendsPrefix old new (bytes_with trace races blocks) → CutsReportOn (These (map ends races)) ws trace old new
   report_cut old new front = record { bytes = bytes_with trace races blocks; report = report_of; count = front.0; some_missing = front.1; written = front.2 }
 
-  -- the lines before the blocks were written, and the front of what comes behind
+  -- the lines before the blocks were written, and the front of what comes after
   pub blocks_cut : (old now new : Option (List ℕ)) → Appends old now (front_bytes trace (map ends races)) → AppendsPrefix now new (blocks ++ tail_bytes) → CutsBlocksOn (These (map ends races)) ws trace old new
   blocks_cut old now new before front =
       let lines = front_bytes trace (map ends races) in

@@ -191,7 +191,7 @@ module _ (trace : TraceData) (events : List Event) (races : List Pair) (same : e
     all_came given old new x first written =
         streamed_all old new x (subst (λ l. Appends old new (scheduled_blocks trace 0 races l)) (came (length asked.races) given first ∙ ap (values_of (schedule_at events races)) as_long) written)
 
-    -- memory ran out behind the first k
+    -- memory ran out after the first k
     pub some_came : {T : Type 0} (k : ℕ) (given : List (List ℕ)) (old new : Option (List ℕ)) (e : WriteError) → k ≤ length asked.races → given ≡ values_of (schedule_at asked.trace asked.races) k
         → IsDisciplined trace.events → Appends old new (scheduled_blocks trace 0 races given) → WritesBlocks {T = T} true trace (map ends races) old new (Err e)
     some_came k given old new e le first disciplined written =
@@ -220,6 +220,6 @@ module _ (trace : TraceData) (events : List Event) (races : List Pair) (same : e
         streamed_less k old new e (omega (arith, lt, as_long)) disciplined
         (subst (λ l. AppendsPrefix old new (scheduled_blocks trace 0 races l)) (ap (λ l. l ++ s ∷ []) (came k given first) ∙ ap (λ v. values_of (schedule_at events races) k ++ v ∷ []) (next ∙ ap (λ (a : Asked). schedule_at a.trace a.races k) is)) cut)
 
--- what holds of what was found there holds of what was left behind
+-- what holds of what was found there holds of what was left after
 pub left_behind : {K : Type 0} (P : K → Type 0) (left found : K) → P found → left ≡ found → P left
 left_behind P left found holds same = subst P (sym same) holds

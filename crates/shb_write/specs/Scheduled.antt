@@ -15,7 +15,7 @@ abbrev pub shown_from : ℕ → List Pair → List (List ℕ) → List ShownRace
 shown_from n races [] = []
 shown_from n races (schedule ∷ schedules) = record { pair = ends (slice_index_or races n (record { first = 0; second = 0 })); schedule = Some schedule } ∷ shown_from (n + 1) races schedules
 
--- the number of the race behind those
+-- the number of the race after those
 abbrev pub behind : ℕ → List (List ℕ) → ℕ
 behind n [] = n
 behind n (schedule ∷ schedules) = behind (n + 1) schedules

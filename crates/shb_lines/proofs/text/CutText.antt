@@ -1,4 +1,4 @@
--- A text that is cut one byte behind its limit has the first fault of the whole text.
+-- A text that is cut one byte after its limit has the first fault of the whole text.
 use Rattle.std.proofs.Common.{◌≡◌, ◌⊎◌, inl, inr, ◌+◌, ◌==◌, ◌<◌, ◌≤◌, ℕ, Bool, true, false, cond, nat_lt, zero, suc, List, [], ◌∷◌, ◌++◌, length, take, slice_index_or, sum_by, IfSome, Option, None, Some, refl, sym, ap, subst, ◌∙◌, arith, append-nil, length-append}
 use Rattle.std.specs.Io.KnownBytes.{Consumes, IsAtEnd}
 use Rattle.std.specs.List.{onto_first}
@@ -167,7 +167,7 @@ module _ (limits : Limits) (text whole : List ℕ) (over : limits.text < length 
         subst Holds (take_same (lines_of text) (lines_of whole) shared.k i le shared.same) h.3,
       )
 
--- what is read of a text up to one byte behind the limit is what is read of the whole text
+-- what is read of a text up to one byte after the limit is what is read of the whole text
 pub reading_of_cut : (limits : Limits) (text more : List ℕ) (Holds : List (List ℕ) → Type 0) (stop : Option LineFault) → (length text ≤ limits.text → more ≡ []) → IsReading limits text Holds stop → IsReading limits (text ++ more) Holds stop
 reading_of_cut limits text more Holds stop ended h = by (lt_or_ge limits.text (length text))
   where

@@ -108,7 +108,7 @@ last_of bytes some =
     let one : drop n bytes ≡ get_or bytes n 0 ∷ [] = drop_more bytes n 0 (omega arith) ∙ ap (λ ls. get_or bytes n 0 ∷ ls) (ap (λ k. drop k bytes) (omega arith) ∙ drop_all bytes) in
     sym (take-append-drop n bytes) ∙ ap (λ ls. take n bytes ++ ls) one
 
--- what stands behind a word: `(`, bytes, `)`
+-- what stands after a word: `(`, bytes, `)`
 closed : List ℕ → List ℕ
 closed inner = 40 ∷ (inner ++ 41 ∷ [])
 

@@ -74,7 +74,7 @@ one_number (first ∷ names) name (suc a) zero h at_a at_b =
     absurd (let fails = not_among first name names a h.0 at_a in let passes = (bytes_eq-Decides first name).1 same in cc)
 one_number (first ∷ names) name (suc a) (suc b) h at_a at_b = ap (λ n. suc n) (one_number names name a b h.1 at_a at_b)
 
--- where a table grows, the new name is behind the others
+-- where a table grows, the new name is after the others
 place-new : (names : List (List ℕ)) (name : List ℕ) → length names < length (with_name names name) → position_or_len (bytes_eq name) names ≡ length names
 place-new [] name h = refl
 place-new (known ∷ names) name h = by (bytes_eq name known) h (place-new names name)
@@ -124,7 +124,7 @@ module _ (tables : Tables) (distinct : IsDistinct bytes_eq tables.variables) whe
   with_first names rest name x is at_x =
       one_number tables.variables name x (position_or_len (bytes_eq name) names) distinct at_x (subst (λ t. slice_get t (position_or_len (bytes_eq name) names) ≡ Some name) (sym is) (slice_get-with_names rest (with_name names name) name _ (with_name-at names name)))
 
-  -- one event in front, whose variable is put behind the names before
+  -- one event in front, whose variable is put after the names before
   earlier_step : (names : List (List ℕ)) (rest : List (List ℕ)) (e : Event) (events : List Event) (kind : Kind) (name : List ℕ) → OfVariable tables.variables e.op kind name
       → tables.variables ≡ with_names (with_names names (variables_among kind name)) rest → (x y : ℕ) → y < x
       → ((k : ℕ) → variable_at events k ≡ Some x → HasEarlier (length (with_names names (variables_among kind name))) events k y)

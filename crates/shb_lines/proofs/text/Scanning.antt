@@ -30,7 +30,7 @@ next_of-drop (l ∷ lines) (suc i) line rest e =
       rest_is = ap (λ n. drop n (l ∷ lines)) (add-one (suc i)) ∙ ap (λ n. drop n lines) (sym (add-one i)) ∙ h.rest_is;
     }
 
--- the lines from a place of the text on, or none behind its end
+-- the lines from a place of the text on, or none after its end
 abbrev pub StartsAt : List ℕ → ℕ → List (List ℕ) → Type 0
 StartsAt text start lines = ((start ≤ length text) × (lines ≡ lines_of (drop start text))) ⊎ ((start ≡ length text + 1) × (lines ≡ []))
 
@@ -46,7 +46,7 @@ lt_or_eq m n le = by (nat_lt m n) refl
     by true e = inl (grind (arith, nat_tests))
     by false e = inr (grind (arith, nat_tests))
 
--- the line that begins at a place, and those behind it
+-- the line that begins at a place, and those after it
 first_line : (text : List ℕ) (start end : ℕ) → start ≤ length text → end ≤ length text → end ≡ start + position_or_len (λ b. b == 10) (drop start text)
     → (rest : List (List ℕ)) × (lines_of (drop start text) ≡ part text start end ∷ rest) × StartsAt text (end + 1) rest × (length (part text start end) ≡ end - start)
 first_line text start end within end_within end_is = by (lt_or_eq _ _ (omega (arith, length-drop start text)))

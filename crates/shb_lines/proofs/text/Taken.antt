@@ -10,7 +10,7 @@ use Rattle.shb_lines.specs.text.Text.{lines_of}
 use Rattle.shb_lines.proofs.text.FirstFault.{lowest_at}
 use Rattle.shb_lines.proofs.text.Scanning.{IsStart, start_next}
 
--- line i stands from start to end, and the next one begins behind it
+-- line i stands from start to end, and the next one begins after it
 pub record IsTaken (limits : Limits) (text : List ℕ) (i start end : ℕ) : Type 0 where
   pub order : start ≤ end
   pub within : i < length (lines_of text)

@@ -27,7 +27,7 @@ number_of faults.ForkTwice = 15
 number_of faults.ForkJoined = 16
 number_of faults.JoinSelf = 17
 
--- the line has the fault, behind these events; `past` says that the text's limit is passed in it. The discipline's faults are none of a line's bytes
+-- the line has the fault, after these events; `past` says that the text's limit is passed in it. The discipline's faults are none of a line's bytes
 abbrev pub HasLineFault : Limits → Type 0 → List NamedEvent → List ℕ → Fault → Type 0
 HasLineFault limits past before line faults.TextTooLong = past
 HasLineFault limits past before line faults.LineTooLong = limits.line < length line
@@ -57,7 +57,7 @@ module _ (limits : Limits) (text : List ℕ) where
   abbrev pub PassesLimit : ℕ → Type 0
   PassesLimit i = (start_of i ≤ limits.text) × (limits.text < start_of i + length (line_at i) + 1) × (limits.text < length text)
 
-  -- the line has the fault, behind the events of the lines before it
+  -- the line has the fault, after the events of the lines before it
   abbrev pub HasFault : ℕ → Fault → Type 0
   HasFault i fault = HasLineFault limits (PassesLimit i) (map (λ e. e.event) (trace_of (take i (lines_of text)))) (line_at i) fault
 

@@ -19,7 +19,7 @@ pub record HasRead (text : List ℕ) (reader : Reader) (lines : List (List ℕ))
 abbrev pub part : List ℕ → ℕ → ℕ → List ℕ
 part text start end = take (end - start) (drop start text)
 
--- the lines read behind a line: with it, where it has no fault
+-- the lines read after a line: with it, where it has no fault
 abbrev pub lines_read : List (List ℕ) → Option Fault → List ℕ → List (List ℕ)
 lines_read lines None line = lines ++ line ∷ []
 lines_read lines (Some fault) line = lines

@@ -54,6 +54,6 @@ pub record IsWellFormed (trace : TraceData) : Type 0 where
   pub locks_differ : IsDistinct bytes_eq trace.locks
   pub variables_differ : IsDistinct bytes_eq trace.variables
 
--- what stands behind the second bar of a line, or nothing
+-- what stands after the second bar of a line, or nothing
 abbrev pub location_of : List ℕ → List ℕ
 location_of line = after_first is_bar (after_first is_bar line)

@@ -1,4 +1,4 @@
--- A number that is all of a text has nothing behind it.
+-- A number that is all of a text has nothing after it.
 use Rattle.std.proofs.Common.{arith, sym, ap, length, ◌∙◌, append-nil, [], ◌++◌, ℕ, List}
 use Rattle.std.specs.Fmt.{decimal}
 use Rattle.shb_report.proofs.Peeling.{is_none, is_some, last_is, peel_last}

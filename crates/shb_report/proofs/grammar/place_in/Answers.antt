@@ -1,4 +1,4 @@
--- The number of races stands behind the number of the place.
+-- The number of races stands after the number of the place.
 use Rattle.std.proofs.Common.{arith}
 use Rattle.shb_report.proofs.Peeling.{place_by}
 use Rattle.shb_report.proofs.grammar.place_in.Goals as goal

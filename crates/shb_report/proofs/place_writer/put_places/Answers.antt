@@ -1,4 +1,4 @@
--- Each place is put behind those before it.
+-- Each place is put after those before it.
 use Rattle.std.proofs.Common.{rules, ◌+◌, ◌++◌, List, ℕ, drop, get_or, subst, take}
 use Rattle.shb_io.specs.Devices.{AppendsPrefix, HoldsBack}
 use Rattle.shb_report.specs.declared.places.PlaceCount.{PlaceCount}

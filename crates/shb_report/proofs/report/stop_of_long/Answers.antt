@@ -1,4 +1,4 @@
--- The line behind the limit is bad, or one before it.
+-- The line after the limit is bad, or one before it.
 use Rattle.shb_report.proofs.Bad.{bad_end, bad_long}
 use Rattle.shb_report.proofs.EntryLemmas.{stop_weaker}
 use Rattle.shb_report.proofs.report.stop_of_long.Goals as goal

@@ -1,4 +1,4 @@
--- The number stands behind the label.
+-- The number stands after the label.
 use Rattle.shb_report.proofs.Digits.{labelled_by}
 use Rattle.shb_report.proofs.scan.labelled.Goals as goal
 

@@ -1,4 +1,4 @@
--- The places stand behind their count.
+-- The places stand after their count.
 use Rattle.shb_report.specs.Forms.{Places}
 use Rattle.shb_report.proofs.EntryLemmas.{stop_weaker}
 use Rattle.shb_report.proofs.Passing.{bad_at, passes_places}

@@ -1,4 +1,4 @@
--- The last line is missing, or bytes stand behind it.
+-- The last line is missing, or bytes stand after it.
 use Rattle.shb_report.specs.Forms.{End}
 use Rattle.shb_report.proofs.Passing.{bad_at, passes_end}
 use Rattle.shb_report.proofs.ScanLemmas.{bad_tail}
