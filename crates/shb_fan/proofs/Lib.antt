@@ -15,3 +15,5 @@ pub mod Drawn
 pub mod MachineRuns
 pub mod RunValues
 pub mod Accounts
+pub mod SeatSteps
+pub mod FanSteps

@@ -89,7 +89,8 @@ impl Tickets {
             return None;
         }
         let shared = &self.table.shared;
-        if shared.load::<See>(&mut pass.seat, STOP) != 0 {
+        let stop = shared.load::<See>(&mut pass.seat, STOP);
+        if stop != 0 {
             pass.spent = true;
             return None;
         }

@@ -1,4 +1,4 @@
-use Rattle.std.proofs.Common.{◌∷◌, ◌++◌, [], ℕ, List, ap, ◌∙◌}
+use Rattle.std.proofs.Common.{◌∷◌, ◌++◌, [], ℕ, List, ap, sym, ◌∙◌}
 use Rattle.shb_fan.specs.declared.crew.Worker.{Worker}
 use Rattle.shb_fan.proofs.Accounts.{placed_at}
 use Rattle.shb_fan.proofs.streaming.make.Goals as goal
@@ -12,3 +12,6 @@ returns-clause-ready g c =
       (can.0.0.0, (claim.pass.0 ∙ can.0.0.1.0, place.seat, place.claimed)),
       placed_at c.args.worker.now new can.0.1 c.args.k can.2 can.1 claim.pass.1 claim.pass.2 (place.placed ∙ ap (λ (l : List ℕ). l ++ c.args.k ∷ []) claim.placed),
     )
+
+pub place-requires-clause-value : goal.place-requires-clause-value
+place-requires-clause-value g c = c.in-Ok.ensures ∙ ap (λ (j : g.row.J.Denot). g.J.Job.value j c.args.k) (sym c.requires.ready.0.0.0.ring)

@@ -1,4 +1,4 @@
-use Rattle.std.proofs.Common.{◌*◌, arith}
+use Rattle.std.proofs.Common.{◌*◌, arith, rules}
 use Rattle.shb_fan.proofs.RunValues.{grown}
 use Rattle.shb_fan.proofs.runs.RunsJob.run.Goals as goal
 
@@ -7,3 +7,6 @@ loop-piece-preserved g c = let i = c.loop-piece.invariant in let low = i.from in
   from = omega arith;
   made = grown g.J.Job.meaning (g.J.Job.value c.args.self.now.job.now) (c.args.k * 16) c.loop-piece.piece c.loop-piece.run.items c.push.new.self.items c.in_ok-run-2.field-0 low i.made c.in_ok-push.ensures.items c.in_ok-run-2.ensures;
 }
+
+pub returns : goal.returns
+returns g c = search rules

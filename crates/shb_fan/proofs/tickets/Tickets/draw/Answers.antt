@@ -7,8 +7,8 @@ use Rattle.shb_fan.specs.Passes.{Source, PassState}
 use Rattle.shb_fan.proofs.Keeps.{sees, draws}
 use Rattle.shb_fan.proofs.tickets.Tickets.draw.Goals as goal
 
-pub load-requires : goal.load-requires
-load-requires c = (
+pub load-stop-requires : goal.load-stop-requires
+load-stop-requires c = (
   search rules,
   search rules,
   sees _ _ _ _ (let p = c.pass.invariant.one in omega arith) (c.pass.invariant.flag ∙ ap weight c.if-pass.false),
@@ -16,7 +16,7 @@ load-requires c = (
 
 pub fetch_add-number-requires : goal.fetch_add-number-requires
 fetch_add-number-requires c =
-    let same = (c.load.ensures.2.0 c.if-load-ne0.false).1 in let one = c.pass.invariant.one in (
+    let same = (c.load-stop.ensures.2.0 c.if-stop-ne0.false).1 in let one = c.pass.invariant.one in (
       search rules,
       search rules,
       draws _ _ _ _ (let e = ap (λ (m : Me (Unit {0}) PassView). m.0.parts) same in omega arith)
@@ -26,3 +26,9 @@ fetch_add-number-requires c =
           ∙ (ap (λ (z : Source). z.limit) c.requires
           ∙ (sym (ap (λ (z : Source). z.limit) c.self.view_is) ∙ sym (ap (λ (q : Plan). q.limit) c.self.invariant.2))))),
     )
+
+pub returns-then-number-self-clause-some : goal.returns-then-number-self-clause-some
+returns-then-number-self-clause-some c = search rules
+
+pub invariant_of-pass : goal.invariant_of-pass
+invariant_of-pass c = search rules

@@ -1,0 +1,5 @@
+use Rattle.std.proofs.Common.{refl}
+use Rattle.shb_fan.proofs.workers.Workers.get.Goals as goal
+
+pub returns-clause-same : goal.returns-clause-same
+returns-clause-same c = refl
