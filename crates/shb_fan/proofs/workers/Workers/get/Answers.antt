@@ -1,3 +1,4 @@
+-- An edit that makes this false is refused at once.
 use Rattle.std.proofs.Common.{refl}
 use Rattle.shb_fan.proofs.workers.Workers.get.Goals as goal
 

@@ -1,3 +1,4 @@
+-- An edit that makes this false is refused at once.
 use Rattle.std.proofs.Common.{arith, refl}
 use Rattle.shb_fan.proofs.workers.Workers.new.Goals as goal
 
