@@ -54,23 +54,36 @@ fn check_command<'a>(alloc: Global) -> Result<Command<'a>, AllocError> {
         .arg(trace)
 }
 
-/// The whole command line, whose first word is the program's own name.
-pub fn command<'a>(alloc: Global) -> Result<Command<'a>, AllocError> {
+/// The command line without its commands. Its first word is the program's own name.
+fn program<'a>(alloc: Global) -> Command<'a> {
     Command::new(alloc, "shb")
         .about("Finds the races of a trace of a run, and gives each a schedule that shows it")
         .after_help(ABOUT_THE_PROGRAM)
         .subcommand_required(true)
-        .subcommand(report_command(
-            alloc,
-            "races",
-            "Writes the report of a trace to standard output",
-            ABOUT_TRACES,
-        )?)?
-        .subcommand(report_command(
-            alloc,
-            "places",
-            "Writes the report of one race of each place of a trace",
-            ABOUT_PLACES,
-        )?)?
-        .subcommand(check_command(alloc)?)
+}
+
+/// This command line with `races`.
+fn with_races<'a>(alloc: Global, line: Command<'a>) -> Result<Command<'a>, AllocError> {
+    line.subcommand(report_command(
+        alloc,
+        "races",
+        "Writes the report of a trace to standard output",
+        ABOUT_TRACES,
+    )?)
+}
+
+/// This command line with `places`.
+fn with_places<'a>(alloc: Global, line: Command<'a>) -> Result<Command<'a>, AllocError> {
+    line.subcommand(report_command(
+        alloc,
+        "places",
+        "Writes the report of one race of each place of a trace",
+        ABOUT_PLACES,
+    )?)
+}
+
+/// The whole command line.
+pub fn command<'a>(alloc: Global) -> Result<Command<'a>, AllocError> {
+    let reports = with_places(alloc, with_races(alloc, program(alloc))?)?;
+    reports.subcommand(check_command(alloc)?)
 }

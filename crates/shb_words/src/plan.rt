@@ -117,7 +117,7 @@ fn refused(alloc: Global, reason: &str) -> Result<Plan, WordsFault> {
 }
 
 /// What stands for an error of the command line: help that was asked for is no error.
-fn plan_of_error(alloc: Global, error: Error) -> Result<Plan, WordsFault> {
+fn plan_of_error(alloc: Global, error: &Error) -> Result<Plan, WordsFault> {
     let kind = error.kind();
     if matches!(kind, ErrorKind::OutOfMemory) {
         return Err(WordsFault::Memory);
@@ -127,6 +127,16 @@ fn plan_of_error(alloc: Global, error: Error) -> Result<Plan, WordsFault> {
         return Ok(Plan::Help { text });
     }
     Err(WordsFault::Refused { text })
+}
+
+/// The plan of a command line that was read.
+fn plan_in(alloc: Global, matches: &ArgMatches<'_>) -> Result<Plan, WordsFault> {
+    match matches.subcommand() {
+        Some(("races", inner)) => races_plan(alloc, inner),
+        Some(("places", inner)) => places_plan(alloc, inner),
+        Some(("check", inner)) => check_plan(alloc, inner),
+        _ => refused(alloc, "error: no command was given\n"),
+    }
 }
 
 /// The plan that the words of a command line ask for, the program's own name left out:
@@ -153,14 +163,8 @@ pub fn plan_of(alloc: Global, words: &[String]) -> Result<Plan, WordsFault>
     for word in words {
         line.push(word.as_str())?;
     }
-    let matches = match command(alloc)?.try_get_matches_from(line.as_slice()) {
-        Ok(matches) => matches,
-        Err(error) => return plan_of_error(alloc, error),
-    };
-    match matches.subcommand() {
-        Some(("races", inner)) => races_plan(alloc, inner),
-        Some(("places", inner)) => places_plan(alloc, inner),
-        Some(("check", inner)) => check_plan(alloc, inner),
-        _ => refused(alloc, "error: no command was given\n"),
+    match command(alloc)?.try_get_matches_from(line.as_slice()) {
+        Ok(matches) => plan_in(alloc, &matches),
+        Err(error) => plan_of_error(alloc, &error),
     }
 }
