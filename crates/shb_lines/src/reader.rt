@@ -7,7 +7,7 @@ ghost use Rattle.shb_lines.specs.text.Faults.{HasLineFault, IsLowest};
 ghost use Rattle.shb_lines.specs.text.Limits.{AreStandard};
 ghost use Rattle.shb_lines.specs.text.Spans.{StandsAt, spans_in};
 ghost use Rattle.shb_lines.specs.text.Parsed.{HasRead, lines_read, part};
-ghost use Rattle.shb_lines.specs.text.Numbers.{IsOperation, events_of};
+ghost use Rattle.shb_lines.specs.text.Numbers.{IsOperation, events_of, op_for};
 ghost use Rattle.shb_lines.specs.text.Reader.{AddsEvent, AllStand, HasNames, HasRoom, tables_of, with_names, with_operand};
 ghost use Rattle.shb_lines.specs.text.Reading.{named};
 ghost use Rattle.shb_lines.specs.text.Text.{threads_among};
@@ -41,6 +41,22 @@ fn line_end(text: &[u8], start: usize) -> usize
     match memchr(b'\n', rest) {
         Some(len) => start + len,
         None => text.len(),
+    }
+}
+
+/// The operation of this kind with this number, which a mark lacks.
+fn op_with(kind: Kind, number: u32) -> Op
+    ensures { result ≡ op_for kind number }
+{
+    match kind {
+        Kind::Read => Op::Read(number),
+        Kind::Write => Op::Write(number),
+        Kind::Acquire => Op::Acquire(number),
+        Kind::Release => Op::Release(number),
+        Kind::Fork => Op::Fork(number),
+        Kind::Join => Op::Join(number),
+        Kind::BeginMark => Op::BeginMark,
+        Kind::EndMark => Op::EndMark,
     }
 }
 
@@ -122,6 +138,27 @@ impl<'t> Reader<'t> {
         known + self.new_threads(found.kind, found.thread, found.operand) > most
     }
 
+    /// The number of an operand, and 0 for a mark, which has none.
+    fn operand_number(&mut self, kind: Kind, name: &'t [u8], span: Span) -> Result<u32, NoMemory>
+        requires room { HasNames self.old (2 ^ 24) }
+        ensures room { (n : ℕ) → HasNames self.old n → HasNames self.new (n + 1) }
+        ensures events { self.new.events ≡ self.old.events }
+        ensures starts { self.new.starts ≡ self.old.starts }
+        ensures tables { OnOk result
+            (tables_of self.new ≡ with_operand (tables_of self.old) kind name.now) }
+        ensures operation { IfOk result
+            (λ number. IsOperation (tables_of self.new) (op_for kind number) kind name.now) }
+        ensures stand { (text : List ℕ) → AllStand text self.old → StandsAt text name.now span
+            → OnOk result (AllStand text self.new) }
+    {
+        match kind {
+            Kind::Read | Kind::Write => self.variables.number_of(name, span),
+            Kind::Acquire | Kind::Release => self.locks.number_of(name, span),
+            Kind::Fork | Kind::Join => self.threads.number_of(name, span),
+            Kind::BeginMark | Kind::EndMark => Ok(0),
+        }
+    }
+
     /// The operation of an event, with the number of its name.
     fn operation(&mut self, kind: Kind, name: &'t [u8], span: Span) -> Result<Op, NoMemory>
         requires room { HasNames self.old (2 ^ 24) }
@@ -134,16 +171,8 @@ impl<'t> Reader<'t> {
         ensures stand { (text : List ℕ) → AllStand text self.old → StandsAt text name.now span
             → OnOk result (AllStand text self.new) }
     {
-        match kind {
-            Kind::Read => Ok(Op::Read(self.variables.number_of(name, span)?)),
-            Kind::Write => Ok(Op::Write(self.variables.number_of(name, span)?)),
-            Kind::Acquire => Ok(Op::Acquire(self.locks.number_of(name, span)?)),
-            Kind::Release => Ok(Op::Release(self.locks.number_of(name, span)?)),
-            Kind::Fork => Ok(Op::Fork(self.threads.number_of(name, span)?)),
-            Kind::Join => Ok(Op::Join(self.threads.number_of(name, span)?)),
-            Kind::BeginMark => Ok(Op::BeginMark),
-            Kind::EndMark => Ok(Op::EndMark),
-        }
+        let number = self.operand_number(kind, name, span)?;
+        Ok(op_with(kind, number))
     }
 
     /// Adds the event of a line that begins at `start`.

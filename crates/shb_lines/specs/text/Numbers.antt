@@ -36,6 +36,17 @@ IsOperation tables (ops.Join number) kind name = (kind ≡ kinds.Join) × IsNumb
 IsOperation tables ops.BeginMark kind name = kind ≡ kinds.BeginMark
 IsOperation tables ops.EndMark kind name = kind ≡ kinds.EndMark
 
+-- the operation of this kind with this number, which a mark lacks
+abbrev pub op_for : Kind → ℕ → Op
+op_for kinds.Read number = ops.Read number
+op_for kinds.Write number = ops.Write number
+op_for kinds.Acquire number = ops.Acquire number
+op_for kinds.Release number = ops.Release number
+op_for kinds.Fork number = ops.Fork number
+op_for kinds.Join number = ops.Join number
+op_for kinds.BeginMark number = ops.BeginMark
+op_for kinds.EndMark number = ops.EndMark
+
 -- the numbers of an event are those of its names
 pub record IsNumbered (tables : Tables) (event : Event) (named : NamedEvent) : Type 0 where
   pub thread : IsNumber tables.threads event.thread named.thread
