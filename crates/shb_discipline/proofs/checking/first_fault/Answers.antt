@@ -10,6 +10,13 @@ use Rattle.shb_discipline.proofs.checking.first_fault.Goals as goal
 abbrev no_event : Event
 no_event = record { thread = 0; op = Read 0; line = 0 }
 
+pub loop-e-init : goal.loop-e-init
+loop-e-init c = record {
+  covers = c.in_ok-state.ensures.covers c.args.events.now c.requires.within;
+  state = c.in_ok-state.ensures.state;
+  disciplined = λ k e before at. absurd (omega (arith, before));
+}
+
 pub returns-in-Some : goal.returns-in-Some
 returns-in-Some c = record {
   position = c.loop-e.e;
