@@ -1,11 +1,8 @@
 //! `shb check`: a report on standard input is judged against its trace.
-ghost use Rattle.std.specs.Prelude.{◌≡◌};
-ghost use Rattle.shb_check.specs.Words.{check_status_of};
-
-use crate::complaints::{FAILED, complain, complain_of};
+use crate::complaints::{FAILED, complain};
 use crate::output::flushed;
 use shb_io::{FromRead, ToWrite};
-use shb_run::{RunError, Verdict, check, status_of_check};
+use shb_run::{check, end_of_check};
 use std::fs::File;
 use std::io::{Read, writer};
 use std::random::RandomSource;
@@ -13,16 +10,6 @@ use std::rt::Files;
 
 /// How many bytes of a report are read: one more than it may have.
 const MOST_READ: u64 = 1_073_741_825;
-
-/// Says on standard error why there is no verdict, where that is so, and gives the program's status.
-fn status_of_verdict<R: Eprint + AllocGlobal>(rt: &R, answer: &Result<Verdict, RunError>) -> u8
-    ensures { result ≡ check_status_of answer.now }
-{
-    if let Err(error) = answer {
-        complain_of(rt, error);
-    }
-    status_of_check(answer)
-}
 
 /// Judges the report on standard input against the trace of a file, writes the verdict to standard
 /// output, and gives the program's status. Of a report that is longer than a check reads, standard error
@@ -45,5 +32,5 @@ pub(crate) fn check_report<R: Print + Eprint + Input + AllocGlobal + Files + Ran
     if answer.is_ok() && given.limit() == 0 {
         let _ = rt.eprintln("the report is longer than 1073741824 bytes");
     }
-    status_of_verdict(rt, &answer)
+    end_of_check(rt, &answer)
 }

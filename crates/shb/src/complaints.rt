@@ -1,8 +1,6 @@
 //! What the program says on standard error, and the statuses that no run and no check gives.
 ghost use Rattle.std.specs.Prelude.{◌≡◌};
 
-use shb_run::{RunError, fault_line};
-
 /// The status where the words are refused.
 pub(crate) const WORDS_REFUSED: u8 = 3;
 
@@ -16,12 +14,4 @@ pub(crate) fn complain<R: Eprint>(rt: &R, reason: &str, status: u8) -> u8
 {
     let _ = rt.eprintln(reason);
     status
-}
-
-/// Says on standard error why a trace gave no report or no verdict. Where there is no memory for the
-/// text, nothing is said, and the status alone tells it.
-pub(crate) fn complain_of<R: Eprint + AllocGlobal>(rt: &R, error: &RunError) {
-    if let Ok(line) = fault_line(rt.alloc(), error) {
-        let _ = rt.eprintln(line.as_str());
-    }
 }

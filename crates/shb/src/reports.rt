@@ -1,11 +1,10 @@
 //! `shb races` and `shb places`: the report of a trace goes to standard output.
 ghost use Rattle.std.specs.Prelude.{◌≡◌};
-ghost use Rattle.shb_run.specs.Words.{run_status_of};
 
-use crate::complaints::{FAILED, complain, complain_of};
+use crate::complaints::{FAILED, complain};
 use crate::output::flushed;
 use shb_io::{FromRead, Source, ToWrite};
-use shb_run::{RunError, Settings, Summary, run, run_places, status_of_run};
+use shb_run::{Settings, end_of_run, run, run_places};
 use std::fs::File;
 use std::io::{BufWriter, writer};
 use std::random::RandomSource;
@@ -23,16 +22,6 @@ pub(crate) enum Listing {
     Races,
     /// One of each place.
     Places,
-}
-
-/// Says on standard error why no report was written, where that is so, and gives the program's status.
-fn status_of_report<R: Eprint + AllocGlobal>(rt: &R, answer: &Result<Summary, RunError>) -> u8
-    ensures { result ≡ run_status_of answer.now }
-{
-    if let Err(error) = answer {
-        complain_of(rt, error);
-    }
-    status_of_run(answer)
 }
 
 /// Writes the report of a source to standard output, and gives the program's status.
@@ -53,7 +42,7 @@ fn write_report<R: Print + Eprint + AllocGlobal + RandomSource + Threads + Wait 
         Listing::Places => run_places(rt, rt.alloc(), source, &mut sink, settings),
     };
     let answer = flushed(answer, sink);
-    status_of_report(rt, &answer)
+    end_of_run(rt, &answer)
 }
 
 /// Writes the report of a file, or of standard input where none is named, to standard output, and gives

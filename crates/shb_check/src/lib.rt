@@ -15,4 +15,4 @@ pub use errors::RunError;
 pub use judging::judge;
 pub use shb_report::{RaceFault, Verdict};
 pub use verdicts::check;
-pub use words::{exit_status, fault_line, status_of_check};
+pub use words::{end_of_check, exit_status, fault_line, status_of_check, tell_error};
