@@ -1,5 +1,5 @@
 -- From what the parts of a check answer to what the check says of the texts.
-use Rattle.std.proofs.Common.{◌≡◌, ℕ, List, [], None, Some, Option, Result, Ok, Err, IfSome, IfErr, IsErrAnd, refl, sym, subst, arith}
+use Rattle.std.proofs.Common.{◌≡◌, ◌+◌, ◌≤◌, ℕ, List, [], None, Some, Option, Result, Ok, Err, IfSome, IfErr, IsErrAnd, refl, sym, subst, arith}
 use Rattle.std.proofs.lemmas.Option.{IfSome_then}
 use Rattle.std.specs.Io.KnownBytes.{Consumes}
 use Rattle.shb_io.proofs.Growth.{Appends-nil}
@@ -22,10 +22,10 @@ use Rattle.shb_lines.specs.declared.read.ReadError.{ReadError}
 use Rattle.shb_lines.specs.declared.read.ReadError.TheVariants as reading
 use Rattle.shb_report.specs.declared.verdict.Verdict.{Verdict}
 use Rattle.shb_report.specs.Checks.{IsVerdictFor}
-use Rattle.shb_check.specs.Checks.{IsChecked}
+use Rattle.shb_check.specs.Checks.{CountsSources, IsChecked}
 use Rattle.shb_check.specs.Errors.{error_of_checking, error_of_reading}
 use Rattle.shb_check.specs.Judged.{IsAccepted, IsRefusalOf, limits}
-use Rattle.shb_check.specs.Outcomes.{Grows, OnJudged, OnTrace}
+use Rattle.shb_check.specs.Outcomes.{Grows, OnJudged, OnNoTrace, OnTrace}
 
 -- a text with no fault has no first one
 pub no_first_fault : (text : List ℕ) (line : ℕ) (fault : Fault) → HasNoFault limits text → HasFirstFault limits text line fault → ⊥
@@ -118,3 +118,39 @@ checked_of text report read stop events trace verdict disciplined same accepted 
     verdict_is = is;
   };
 }
+
+-- what holds anyway, of each trace or error of which something is to be said
+pub of_any_trace : {T : Type 0} (r : Result T RunError) (P : Type 0) → P → OnTrace r (λ _ _. P)
+of_any_trace (Ok x) P p = tt
+of_any_trace (Err (Trace line fault)) P p = p
+of_any_trace (Err Source) P p = tt
+of_any_trace (Err Sink) P p = tt
+of_any_trace (Err Memory) P p = tt
+
+pub of_no_trace : {T : Type 0} (r : Result T RunError) (P : Type 0) → P → OnNoTrace r P
+of_no_trace (Ok x) P p = tt
+of_no_trace (Err (Trace line fault)) P p = p
+of_no_trace (Err Source) P p = p
+of_no_trace (Err Sink) P p = tt
+of_no_trace (Err Memory) P p = tt
+
+pub of_any_fault : (known : Option (List ℕ)) (P : Type 0) → P → IfSome known (λ text. (line : ℕ) (fault : Fault) → HasFirstFault limits text line fault → P)
+of_any_fault None P p = tt
+of_any_fault (Some text) P p = λ line fault first. p
+
+-- a source that gave no byte
+pub given_none : (a n : ℕ) → a ≤ a + n
+given_none a n = omega arith
+
+-- a trace that was judged, whose report was not read: no source failed
+pub counted_judged : {T : Type 0} (read : TraceData) (stop : Option LineFault) (error : RunError) (r : Result T RunError) (old new old_report new_report : ℕ)
+    → IsErrAnd r (λ e. e ≡ error) → IsRefusalOf read stop error → new ≡ old → new_report ≡ old_report → CountsSources old new old_report new_report r
+counted_judged read stop error (Ok x) old new old_report new_report is refusal same same_report = absurd is
+counted_judged {T} read stop error (Err e) old new old_report new_report is refusal same same_report =
+    subst (λ (x : RunError). CountsSources {T = T} old new old_report new_report (Err x)) (sym is) (told error refusal)
+  where
+    told : (error : RunError) → IsRefusalOf read stop error → CountsSources {T = T} old new old_report new_report (Err error)
+    told (Trace line fault) refusal = (same, same_report)
+    told Source refusal = absurd refusal
+    told Sink refusal = (same, same_report)
+    told Memory refusal = (same, same_report)

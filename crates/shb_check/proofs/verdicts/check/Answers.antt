@@ -1,8 +1,9 @@
+use Rattle.std.proofs.Common.{refl}
 use Rattle.shb_lines.specs.text.Taking.{ReadsText}
 use Rattle.shb_lines.specs.text.TraceData.{IsReadingOf}
 use Rattle.shb_lines.proofs.text.TakingLemmas.{reads_left, reads_then, reads_told}
 use Rattle.shb_check.specs.Judged.{limits}
-use Rattle.shb_check.proofs.Endings.{Takes-none, checked_of, judged, none_found, not_judged, refusal_first}
+use Rattle.shb_check.proofs.Endings.{Takes-none, checked_of, counted_judged, given_none, judged, none_found, not_judged, of_any_fault, of_any_trace, of_no_trace, refusal_first}
 use Rattle.shb_check.proofs.verdicts.check.Goals as goal
 
 pub returns-clause-verdict : goal.returns-clause-verdict
@@ -172,3 +173,55 @@ returns-in_default-clause-report_left g c =
 pub returns-clause-report_left : goal.returns-clause-report_left
 returns-clause-report_left g c =
     reads_left 1073741825 (g.Q.Source.remaining c.args.report_source.now) (g.Q.Source.remaining c.judge_report.new.source) _ c.in_ok-verdict.ensures.verdict
+
+pub returns-in_err-parsed-clause-unwritten : goal.returns-in_err-parsed-clause-unwritten
+returns-in_err-parsed-clause-unwritten g c =
+    of_no_trace c.from_residual.result _ refl
+
+pub returns-in_err-parsed-clause-silent : goal.returns-in_err-parsed-clause-silent
+returns-in_err-parsed-clause-silent g c =
+    of_any_fault (g.S.Source.remaining c.args.trace_source.now) _ refl
+
+pub returns-in_err-parsed-clause-unread : goal.returns-in_err-parsed-clause-unread
+returns-in_err-parsed-clause-unread g c =
+    of_any_fault (g.S.Source.remaining c.args.trace_source.now) _ refl
+
+pub returns-in_err-parsed-clause-unread_after : goal.returns-in_err-parsed-clause-unread_after
+returns-in_err-parsed-clause-unread_after g c =
+    of_any_trace c.from_residual.result _ refl
+
+pub returns-in_err-parsed-clause-unread_failed : goal.returns-in_err-parsed-clause-unread_failed
+returns-in_err-parsed-clause-unread_failed g c =
+    λ _. refl
+
+pub returns-in_err-parsed-clause-report_given : goal.returns-in_err-parsed-clause-report_given
+returns-in_err-parsed-clause-report_given g c =
+    given_none _ _
+
+pub returns-in_err-trace-clause-unwritten : goal.returns-in_err-trace-clause-unwritten
+returns-in_err-trace-clause-unwritten g c =
+    of_no_trace c.from_residual-in_err-trace.result _ refl
+
+pub returns-in_err-trace-clause-silent : goal.returns-in_err-trace-clause-silent
+returns-in_err-trace-clause-silent g c =
+    of_any_fault (g.S.Source.remaining c.args.trace_source.now) _ refl
+
+pub returns-in_err-trace-clause-unread : goal.returns-in_err-trace-clause-unread
+returns-in_err-trace-clause-unread g c =
+    of_any_fault (g.S.Source.remaining c.args.trace_source.now) _ refl
+
+pub returns-in_err-trace-clause-unread_after : goal.returns-in_err-trace-clause-unread_after
+returns-in_err-trace-clause-unread_after g c =
+    of_any_trace c.from_residual-in_err-trace.result _ refl
+
+pub returns-in_err-trace-clause-unread_failed : goal.returns-in_err-trace-clause-unread_failed
+returns-in_err-trace-clause-unread_failed g c =
+    λ _. refl
+
+pub returns-in_err-trace-clause-report_given : goal.returns-in_err-trace-clause-report_given
+returns-in_err-trace-clause-report_given g c =
+    given_none _ _
+
+pub returns-in_err-trace-clause-sources : goal.returns-in_err-trace-clause-sources
+returns-in_err-trace-clause-sources g c =
+    counted_judged c.in_ok-parsed.parsed.trace c.in_ok-parsed.parsed.stop _ c.from_residual-in_err-trace.result _ _ _ _ c.from_residual-in_err-trace.ensures.1 c.in_err-trace.ensures.refused c.in_ok-parsed.ensures.counted refl
