@@ -1,5 +1,5 @@
 -- How far threads have come, one event at a time.
-use Rattle.std.proofs.Common.{◌≡◌, ℕ, zero, suc, [], ◌∷◌, ◌++◌, ◌+◌, ◌<◌, ◌≤◌, ◌⊎◌, inl, inr, List, Some, All, length, get_or, subst, sym, ap, arith, ◌∙◌, refl}
+use Rattle.std.proofs.Common.{◌≡◌, ℕ, zero, suc, [], ◌∷◌, ◌++◌, ◌+◌, ◌<◌, ◌≤◌, ◌⊎◌, inl, inr, List, Some, length, get_or, subst, sym, ap, arith, ◌∙◌, refl}
 use Rattle.std.specs.List.{range_with_len}
 use Rattle.std.proofs.lemmas.Bool.{cases_lt}
 use Rattle.shb_lines.specs.declared.event.Event.{Event}
@@ -11,8 +11,7 @@ use Rattle.shb_lines.proofs.events.Listed.{IsListed, listed_none, listed_more_ye
 use Rattle.std.proofs.lemmas.List.FromFn.{length-range_with_len}
 use Rattle.shb_positions.proofs.RunLemmas.{range_more}
 use Rattle.shb_witness.specs.Cuts.{BelowEither, HasCuts}
-use Rattle.shb_witness.specs.declared.checkpoints.Checkpoint.{Checkpoint}
-use Rattle.shb_witness.specs.Checkpoints.{IsReached, Reach}
+use Rattle.shb_witness.specs.Checkpoints.{Reach}
 
 -- all numbers below n
 all_listed : (P : ℕ → Type 0) (n : ℕ) → ((k : ℕ) → k < n → P k) → IsListed P n (range_with_len 0 n)

@@ -63,7 +63,8 @@ pub(crate) fn schedule_runs<O: Order>(
     let mut positions = Positions::first(alloc, front)?;
     for k in front..end {
         let thread = ordered.trace.events[k as usize].thread;
-        if ordered.links.local(k) <= cuts[thread as usize] {
+        let below = ordered.links.local(k) <= cuts[thread as usize];
+        if below {
             positions.push(k)?;
         }
     }

@@ -1,4 +1,4 @@
-use Rattle.std.proofs.Common.{ℕ, ◌-◌, ◌≤◌, List, All, length}
+use Rattle.std.proofs.Common.{◌-◌, ◌≤◌, List, All, length}
 use Rattle.shb_lines.specs.declared.event.Event.{Event}
 use Rattle.shb_witness.specs.Checkpoints.{IsReached, Reach}
 use Rattle.shb_witness.proofs.checkpoints.last_covered.Given as goal

@@ -1,4 +1,4 @@
-use Rattle.std.proofs.Common.{◌≡◌, ℕ, [], ◌∷◌, ◌++◌, ◌<◌, ◌≤◌, ◌+◌, length, List, subst, ap, ◌∙◌, arith}
+use Rattle.std.proofs.Common.{◌≡◌, ℕ, [], ◌∷◌, ◌++◌, ◌<◌, ◌≤◌, length, List, subst, ap, ◌∙◌, arith}
 use Rattle.std.proofs.lemmas.List.{length_push}
 use Rattle.std.proofs.lemmas.Option.{slice_get-get_or}
 use Rattle.shb_lines.specs.declared.event.Op.TheVariants.{Read}
@@ -9,7 +9,7 @@ use Rattle.shb_witness.proofs.CheckpointLemmas.{front_listed}
 use Rattle.shb_witness.proofs.CutLemmas.{cut_test}
 use Rattle.shb_witness.proofs.Printed.{race_ends, printed_before}
 use Rattle.shb_witness.proofs.schedules.schedule_runs.Goals as goal
-use Rattle.shb_witness.proofs.schedules.schedule_runs.Goals.{then-local-index+in_ok-push, else-local-index}
+use Rattle.shb_witness.proofs.schedules.schedule_runs.Goals.{then-below+in_ok-push, else-below}
 
 pub cuts_of-requires-clause-first : goal.cuts_of-requires-clause-first
 cuts_of-requires-clause-first g c = (race_ends _ _ _ c.requires.race).0
@@ -48,17 +48,17 @@ loop-k-preserved g c =
     let inside : c.loop-k.k < length trace = omega (arith, c.end_of-end.ensures.within) in
     let low = (c.args.ordered.now.trace.now.within c.loop-k.k _ (slice_get-get_or trace c.loop-k.k _ inside)).thread in
     let test = cut_test trace c.args.ordered.now.links.now pair.first pair.second c.args.ordered.now.trace.now.sizes.threads c.loop-k.k _ _ c.in_ok-cuts.cuts.items _ c.args.ordered.now.linked c.in_ok-cuts.ensures low inside c.local.ensures.place c.index.ensures in
-    elim c.if-local-index.branch [
-      | then-local-index+in_ok-push w ↦
-          (let e : c.if-local-index.positions ≡ c.loop-k.positions ++ c.loop-k.k ∷ [] = w.positions-is ∙ w.in_ok-push.ensures.pushed in
+    elim c.if-below.branch [
+      | then-below+in_ok-push w ↦
+          (let e : c.if-below.positions ≡ c.loop-k.positions ++ c.loop-k.k ∷ [] = w.positions-is ∙ w.in_ok-push.ensures.pushed in
           record {
-            found = rw e (listed_more_yes (BelowEither trace pair.first pair.second) c.loop-k.k c.loop-k.positions (test.0 w.if-local-index.true) c.loop-k.invariant.found);
+            found = rw e (listed_more_yes (BelowEither trace pair.first pair.second) c.loop-k.k c.loop-k.positions (test.0 w.if-below.true) c.loop-k.invariant.found);
             few = omega (arith, c.loop-k.invariant.few, ap length e, length_push c.loop-k.positions c.loop-k.k);
           })
-      | else-local-index w ↦
-          (let e : c.if-local-index.positions ≡ c.loop-k.positions = w.positions-is in
+      | else-below w ↦
+          (let e : c.if-below.positions ≡ c.loop-k.positions = w.positions-is in
           record {
-            found = rw e (listed_more_no (BelowEither trace pair.first pair.second) c.loop-k.k c.loop-k.positions (λ h. let le = test.1 h in let above = w.if-local-index.false in omega (arith, le, above)) c.loop-k.invariant.found);
+            found = rw e (listed_more_no (BelowEither trace pair.first pair.second) c.loop-k.k c.loop-k.positions (λ h. let le = test.1 h in let above = w.if-below.false in omega (arith, le, above)) c.loop-k.invariant.found);
             few = omega (arith, c.loop-k.invariant.few, ap length e);
           })
     ]

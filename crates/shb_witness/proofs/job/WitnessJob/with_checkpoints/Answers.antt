@@ -1,4 +1,4 @@
-use Rattle.std.proofs.Common.{◌≡◌, List, All, subst, sym, ap}
+use Rattle.std.proofs.Common.{List, All, subst, sym, ap}
 use Rattle.shb_lines.specs.declared.event.Event.{Event}
 use Rattle.shb_witness.specs.Checkpoints.{IsReached}
 use Rattle.shb_witness.specs.Schedules.{Asked}
