@@ -244,3 +244,14 @@ variable_sized trace sizes k x within access =
     let e = event_at_access trace k x access in
     let lt = slice_get_within trace k e.0 e.1 in
     (lt, sized sizes (get_or trace k e.0).op x (within k (get_or trace k e.0) (slice_get-get_or trace k e.0 lt)).operation (sym (variable_item trace k e.0 lt) ∙ access))
+
+-- the same reads under another name
+pub screened_same : (trace : List Event) (seen reads : List KeptRead) (e x : ℕ) (latest next : Latest) → seen ≡ reads → (IsScreened trace seen e x latest → IsScreened trace seen (e + 1) x next) → IsScreened trace reads e x latest → IsScreened trace reads (e + 1) x next
+screened_same trace seen reads e x latest next same after h = subst (λ (r : List KeptRead). IsScreened trace r (e + 1) x next) same (after (subst (λ (r : List KeptRead). IsScreened trace r e x latest) (sym same) h))
+
+-- a read that was pushed
+pub of_pushed : (old new : List KeptRead) (last : KeptRead) → new ≡ old ++ last ∷ [] → (mark : Mark) (read : KeptRead) → IsOf old mark read → IsOf new mark read
+of_pushed old new last pushed mark read is = subst (λ (reads : List KeptRead). IsOf reads mark read) (sym pushed) (of_more old (last ∷ []) mark read is)
+
+pub get_pushed : (old new : List KeptRead) (last : KeptRead) (n : ℕ) → new ≡ old ++ last ∷ [] → n ≡ length old → slice_get new n ≡ Some last
+get_pushed old new last n pushed is = subst (λ (reads : List KeptRead). slice_get reads n ≡ Some last) (sym pushed) (get_last old last n is)

@@ -40,8 +40,8 @@ pub(crate) fn is_race_by<O: Order>(ordered: &Ordered<'_, O>, first: u32, second:
     ensures below { ¬ IsTrue result → Conflict ordered.now.trace.now.events.now first second
         → BelowPred ordered.now.trace.now.events.now first second }
 {
-    events_conflict_at(ordered.trace.events, first, second)
-        && !is_below_pred(ordered, first, second)
+    let conflicting = events_conflict_at(ordered.trace.events, first, second);
+    conflicting && !is_below_pred(ordered, first, second)
 }
 
 /// Whether two events are a race: they conflict, and the earlier one is not SHB-below the

@@ -1,4 +1,4 @@
-use Rattle.std.proofs.Common.{◌∙◌, sym}
+use Rattle.std.proofs.Common.{◌∙◌, sym, refl}
 use Rattle.std.proofs.lemmas.Option.{IfSome_then}
 use Rattle.shb_pairs.proofs.Found.{write_at}
 use Rattle.shb_pairs.proofs.Settled.{not_write_at, seen_access, settled_next, settled_same}
@@ -22,3 +22,6 @@ pub returns-then-not-is_write-clause-fresh : goal.returns-then-not-is_write-clau
 returns-then-not-is_write-clause-fresh c free x writes =
     let access = seen_access c.args.trace.now.events.now c.requires.accesses.0 c.args.accesses.now c.args.place c.requires.accesses.1 c.requires.inside in
     absurd (not_write_at c.args.trace.now.events.now _ x _ access.1 (sym c.is_write.ensures ∙ c.if-not-is_write.true) writes)
+
+pub returns-then-free-clause-fresh : goal.returns-then-free-clause-fresh
+returns-then-free-clause-fresh c free x writes = refl

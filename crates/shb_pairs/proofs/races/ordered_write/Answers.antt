@@ -21,3 +21,18 @@ returns-in_default-clause-used g c s is below =
     let passing = c.is_ordered.ensures.1 here in
     let fails = c.if-is_ordered.false in
     absurd (let f : ⊥ = cc in f)
+
+pub returns-in-Some-clause-settled : goal.returns-in-Some-clause-settled
+returns-in-Some-clause-settled g c x settled = subst (λ (o : Option ℕ). IfSome o (λ s. IsSettled c.args.ordered.now.trace.now.events.now x c.args.accesses.now c.args.place s)) c.in-Some.is settled
+
+pub returns-in-Some-clause-used : goal.returns-in-Some-clause-used
+returns-in-Some-clause-used g c s is below = sym c.in-Some.is ∙ is
+
+pub returns-in-Some-clause-ordered : goal.returns-in-Some-clause-ordered
+returns-in-Some-clause-ordered g c = c.is_ordered.ensures.0 c.if-is_ordered.true
+
+pub returns-in_default-clause-ordered : goal.returns-in_default-clause-ordered
+returns-in_default-clause-ordered g c = tt
+
+pub returns-in_default-2-clause-ordered : goal.returns-in_default-2-clause-ordered
+returns-in_default-2-clause-ordered g c = tt

@@ -1,7 +1,5 @@
-use Rattle.std.proofs.Common.{◌≡◌, List, [], ◌∷◌, Some, slice_get, refl, subst, sym, ◌∙◌}
-use Rattle.shb_pairs.specs.declared.screen.KeptRead.{KeptRead}
-use Rattle.shb_pairs.specs.Screen.{IsOf}
-use Rattle.shb_pairs.proofs.Screening.{get_last, of_more, screened_kept, screened_read, screened_unordered}
+use Rattle.std.proofs.Common.{refl, ◌∙◌}
+use Rattle.shb_pairs.proofs.Screening.{get_pushed, of_pushed, screened_kept, screened_read, screened_unordered}
 use Rattle.shb_pairs.proofs.screen.after_read.Goals as goal
 
 pub returns-then-is_past-clause-screened : goal.returns-then-is_past-clause-screened
@@ -14,14 +12,11 @@ returns-then-len-ge-MOST_READS-clause-screened g c x access reading past h =
     screened_unordered c.args.ordered.now.trace.now.events.now c.args.ordered.now.trace.now.meets c.args.reads.now.items c.args.e x c.args.latest (record { write = c.args.latest.write; read = record { mark = c.unordered-mark.result; before = 4294967295 } }) access reading past h refl c.unordered-mark.ensures
 
 pub returns-clause-kept : goal.returns-clause-kept
-returns-clause-kept g c mark read is =
-    subst (λ (reads : List KeptRead). IsOf reads mark read) (sym c.in_ok-push.ensures.items) (of_more c.args.reads.now.items (c.args.latest.read ∷ []) mark read is)
+returns-clause-kept g c = of_pushed c.args.reads.now.items _ c.args.latest.read c.in_ok-push.ensures.items
 
 pub returns-clause-screened : goal.returns-clause-screened
 returns-clause-screened g c x access reading past h =
-    let reads = c.args.reads.now.items in
-    let last = c.args.latest.read in
     screened_kept c.args.ordered.now.trace.now.events.now c.args.ordered.now.trace.now.meets c.args.reads.now.items c.args.e x c.args.latest (record { write = c.args.latest.write; read = record { mark = c.mark_of-mark.result; before = c.len-before.result } }) access reading past h refl c.push.new.self.items
-    (λ mark read is. subst (λ (more : List KeptRead). IsOf more mark read) (sym c.in_ok-push.ensures.items) (of_more reads (last ∷ []) mark read is))
-    (subst (λ (more : List KeptRead). slice_get more c.len-before.result ≡ Some last) (sym c.in_ok-push.ensures.items) (get_last reads last c.len-before.result (c.len-before.ensures ∙ c.args.reads.now.ok.0)))
+    (of_pushed c.args.reads.now.items c.push.new.self.items c.args.latest.read c.in_ok-push.ensures.items)
+    (get_pushed c.args.reads.now.items c.push.new.self.items c.args.latest.read c.len-before.result c.in_ok-push.ensures.items (c.len-before.ensures ∙ c.args.reads.now.ok.0))
     c.mark_of-mark.ensures
