@@ -82,7 +82,8 @@ fn row_after(
         → KnowsStamp (slice_index_or rows.old.rows before []) t source → OnOk result (rows.new ≡ rows.old) }
 {
     let thread = linked.events[e as usize].thread;
-    if source.is_known(thread, rows.row(before)) {
+    let known = source.is_known(thread, rows.row(before));
+    if known {
         return Ok(before);
     }
     let row = push_joined(rows, clock, before, source)?;
@@ -111,7 +112,8 @@ fn pass_on(
 {
     current[stamp.thread as usize] = stamp.row;
     if let Op::Fork(child) = linked.events[e as usize].op {
-        current[child as usize] = push_stamp(rows, clock, stamp)?;
+        let row = push_stamp(rows, clock, stamp)?;
+        current[child as usize] = row;
     }
     Ok(())
 }

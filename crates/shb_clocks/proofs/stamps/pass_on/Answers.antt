@@ -29,14 +29,14 @@ index_mut-requires-in-Fork c =
     let size = length-set c.args.current.now.items c.args.stamp.thread c.args.stamp.row in
     omega (arith, low, many, size)
 
-pub returns-in_ok-current-clause-current : goal.returns-in_ok-current-clause-current
-returns-in_ok-current-clause-current c =
+pub returns-in_ok-row-clause-current : goal.returns-in_ok-row-clause-current
+returns-in_ok-row-clause-current c =
     let trace : List Event = c.args.linked.now.events.now in
     let forks = op_is trace c.args.e no_event _ c.requires.in_range c.in-Fork.is in
     let low = thread_low trace c.args.linked.now.sizes c.args.e c.args.stamp.thread c.args.linked.now.within c.requires.stamp.of_thread in
     let width = c.requires.width in
     let wide = c.push_stamp.ensures.wide in
-    current_forked trace c.args.linked.now.meets c.args.rows.now.rows c.args.e c.args.linked.now.sizes.threads c.args.current.now.items c.args.stamp c.requires.stamp low c.requires.current c.push_stamp.new.rows.rows c.in-Fork.child c.in_ok-current.field-0 forks (op_low trace c.args.linked.now.sizes c.args.e _ c.args.linked.now.within forks) c.in_ok-current.ensures.grown.more c.in_ok-current.ensures.row.0 c.in_ok-current.ensures.row.1 (omega (arith, low, width, wide))
+    current_forked trace c.args.linked.now.meets c.args.rows.now.rows c.args.e c.args.linked.now.sizes.threads c.args.current.now.items c.args.stamp c.requires.stamp low c.requires.current c.push_stamp.new.rows.rows c.in-Fork.child c.in_ok-row.row forks (op_low trace c.args.linked.now.sizes c.args.e _ c.args.linked.now.within forks) c.in_ok-row.ensures.grown.more c.in_ok-row.ensures.row.0 c.in_ok-row.ensures.row.1 (omega (arith, low, width, wide))
 
 pub returns-in_default : goal.returns-in_default
 returns-in_default c = record {
