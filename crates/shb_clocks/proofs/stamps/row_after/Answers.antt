@@ -10,6 +10,16 @@ use Rattle.shb_clocks.proofs.stamps.row_after.Goals as goal
 abbrev no_event : Event
 no_event = record { thread = 0; op = Read 0; line = 0 }
 
+-- first, so that an edit which makes a row too many is refused by this clause
+pub returns-clause-shared : goal.returns-clause-shared
+returns-clause-shared c t of_t known =
+    let trace : List Event = c.args.linked.now.events.now in
+    let u : ℕ = (get_or trace c.args.e no_event).thread in
+    let same : u ≡ t = thread_same trace c.args.e u t (thread_item trace c.args.e no_event c.requires.in_range) of_t in
+    let passing = c.is_known-known.ensures.1 (known_read c.args.source t u (get_or c.args.rows.now.rows c.args.before []) c.row.result.now (sym same) (sym c.row.ensures.row) known) in
+    let fails = c.if-known.false in
+    absurd (let f : ⊥ = cc in f)
+
 pub row-requires : goal.row-requires
 row-requires c = (c.requires.before _ (thread_item c.args.linked.now.events.now c.args.e no_event c.requires.in_range)).in_range
 
@@ -50,12 +60,3 @@ returns-clause-row c t of_t =
       in_range = c.in_ok-row.ensures.number;
       front = row_joined trace c.args.linked.now.meets c.args.rows.now.rows c.args.e t c.args.before of_t before c.args.source (get_or c.push_joined.new.rows.rows c.in_ok-row.row []) c.requires.source unknown (omega (arith, low, width, wide)) c.in_ok-row.ensures.joined;
     }
-
-pub returns-clause-shared : goal.returns-clause-shared
-returns-clause-shared c t of_t known =
-    let trace : List Event = c.args.linked.now.events.now in
-    let u : ℕ = (get_or trace c.args.e no_event).thread in
-    let same : u ≡ t = thread_same trace c.args.e u t (thread_item trace c.args.e no_event c.requires.in_range) of_t in
-    let passing = c.is_known-known.ensures.1 (known_read c.args.source t u (get_or c.args.rows.now.rows c.args.before []) c.row.result.now (sym same) (sym c.row.ensures.row) known) in
-    let fails = c.if-known.false in
-    absurd (let f : ⊥ = cc in f)
