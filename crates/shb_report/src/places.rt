@@ -54,6 +54,21 @@ fn add_pair<'t>(
     Ok(())
 }
 
+/// Counts some pairs in a table without places.
+fn add_pairs<'t>(table: &mut Table<'t>, trace: &'t Trace, pairs: &[Pair]) -> Result<(), NoMemory>
+    requires pairs { All (IsPairOf trace.now) pairs.now }
+    requires empty { table.old.entries ≡ [] }
+    ensures places { OnOk result (places_in table.new.entries ≡ places_of_pairs trace.now pairs.now) }
+    ensures in_range { OnOk result (AllByRecursion (λ place. IsPlaceOf trace.now place.counted) (places_in table.new.entries)) }
+{
+    for pair in pairs {
+        let first = trace.location(pair.first);
+        let second = trace.location(pair.second);
+        add_pair(table, first, second, *pair)?;
+    }
+    Ok(())
+}
+
 /// The places in a table.
 fn counts_of(alloc: Global, table: &Table) -> Result<Vec<PlaceCount>, NoMemory>
     ensures { IfOk result (λ counts. counts.items ≡ map (λ e. e.1) table.now.entries) }
@@ -102,11 +117,7 @@ pub fn places_of<R: RandomSource>(
         return Err(NoMemory);
     };
     let mut table = IndexMap::with_hasher(alloc, state);
-    for pair in pairs {
-        let first = trace.location(pair.first);
-        let second = trace.location(pair.second);
-        add_pair(&mut table, first, second, *pair)?;
-    }
+    add_pairs(&mut table, trace, pairs)?;
     Ok(Places {
         counts: counts_of(alloc, &table)?,
     })

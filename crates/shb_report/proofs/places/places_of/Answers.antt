@@ -1,41 +1,14 @@
--- Each pair is counted in its turn.
-use Rattle.std.proofs.Common.{◌≡◌, ◌+◌, ◌≤◌, ◌∙◌, ap, arith, get_or, subst, sym, List}
-use Rattle.std.specs.List.{AllByRecursion}
+-- The counts are those of the places in the table.
+use Rattle.std.proofs.Common.{◌∙◌, ap, subst, sym}
 use Rattle.std.specs.Prelude.{All}
-use Rattle.std.proofs.lemmas.List.{take_all}
-use Rattle.shb_lines.specs.declared.event.Pair.{Pair}
-use Rattle.shb_report.specs.Places.{IsPlaceOf, PlaceOf, counts_in, places_in, places_of_pairs, with_pair}
-use Rattle.shb_report.proofs.PlaceLemmas.{counts_are, located, counts_in_range, one_pair_more, with_pair_few, with_pair_in_range}
-use Rattle.shb_report.proofs.EntryLemmas.{each-weaker}
+use Rattle.shb_report.specs.Places.{IsPlaceOf, counts_in, places_in}
+use Rattle.shb_report.proofs.PlaceLemmas.{counts_are, counts_in_range}
 use Rattle.shb_report.proofs.places.places_of.Goals as goal
 
-pub loop-pair-preserved : goal.loop-pair-preserved
-loop-pair-preserved g c =
-    let loop = c.loop-pair in
-    let trace = c.args.trace.now in
-    let pairs : List Pair = c.args.pairs.now in
-    let k = loop.pair-index in
-    let d : Pair = record { first = 0; second = 0 } in
-    let first = c.location-first.result.now in
-    let second = c.location-second.result.now in
-    let before : List PlaceOf = places_in loop.table.entries in
-    let after : places_in c.add_pair.new.table.entries ≡ with_pair before first second (get_or pairs k d) = c.in_ok-add_pair.ensures in
-    record {
-      places = after ∙ ap (λ p. with_pair p first second (get_or pairs k d)) loop.invariant.places
-          ∙ one_pair_more trace pairs k d first second c.loop-pair-test.true (located _ _ c.location-first.ensures) (located _ _ c.location-second.ensures);
-      in_range = subst (AllByRecursion (λ (place : PlaceOf). IsPlaceOf trace place.counted)) (sym after)
-          (with_pair_in_range trace before first second (get_or pairs k d) (c.requires k d c.loop-pair-test.true) loop.invariant.in_range);
-      few = subst (AllByRecursion (λ (place : PlaceOf). place.counted.count ≤ k + 1)) (sym after)
-          (with_pair_few (k + 1) before first second (get_or pairs k d) (omega arith)
-          (each-weaker (λ (p : PlaceOf). p.counted.count ≤ k) (λ (p : PlaceOf). p.counted.count + 1 ≤ k + 1) before (λ p l. omega arith) loop.invariant.few));
-    }
-
 pub returns-clause-places : goal.returns-clause-places
-returns-clause-places g c =
-    let pairs : List Pair = c.args.pairs.now in
-    c.in_ok-counts_of.ensures ∙ counts_are c.loop-pair.table.entries ∙ ap counts_in (c.loop-pair.invariant.places ∙ ap (places_of_pairs c.args.trace.now) (take_all c.loop-pair.pair-index pairs (omega (arith, c.loop-pair-test.false))))
+returns-clause-places g c = c.in_ok-counts_of.ensures ∙ counts_are c.add_pairs.new.table.entries ∙ ap counts_in c.in_ok-add_pairs.ensures.places
 
 pub returns-clause-in_range : goal.returns-clause-in_range
 returns-clause-in_range g c =
-    let entries = c.loop-pair.table.entries in
-    subst (All (IsPlaceOf c.args.trace.now)) (sym (c.in_ok-counts_of.ensures ∙ counts_are entries)) (counts_in_range c.args.trace.now (places_in entries) c.loop-pair.invariant.in_range)
+    let entries = c.add_pairs.new.table.entries in
+    subst (All (IsPlaceOf c.args.trace.now)) (sym (c.in_ok-counts_of.ensures ∙ counts_are entries)) (counts_in_range c.args.trace.now (places_in entries) c.in_ok-add_pairs.ensures.in_range)
