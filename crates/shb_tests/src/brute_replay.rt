@@ -3,10 +3,10 @@
 ghost use Rattle.std.specs.Prelude.{◌≡◌, ◌<◌, ◌≤◌, length};
 
 use crate::asserting::same;
-use crate::fixtures::{pair, parsed};
-use shb_discipline::{Disciplined, check};
+use crate::fixtures::{Question, asked, pair};
+use shb_discipline::Disciplined;
 use shb_lines::{Event, Op};
-use shb_links::{Links, links_of};
+use shb_links::Links;
 use shb_replay::replay;
 use std::alloc::Global;
 use std::test::Fail;
@@ -258,20 +258,28 @@ fn list_of(alloc: Global, code: u32, length: u32, base: u32) -> Result<Vec<u32>,
 
 /// The first list of a trace on which `replay` and the definition differ, where there is one. Of each
 /// trace's lists one number is of no event.
-fn first_difference(rt: &HostRuntime, text: &[u8]) -> Result<Option<Vec<u32>>, Fail> {
-    let parsed = parsed(rt, text)?;
-    let trace = check(rt.alloc(), &parsed.trace)?;
-    let links = links_of(rt.alloc(), &trace)?;
-    let base = trace.events.len() as u32 + 1;
-    for length in 0..LONGEST + 1 {
-        for code in 0..base.saturating_pow(length) {
-            let list = list_of(rt.alloc(), code, length, base)?;
-            if !agrees(rt.alloc(), &trace, &links, list.as_slice())? {
-                return Ok(Some(list));
+struct FirstDifference;
+
+impl Question for FirstDifference {
+    type Answer = Option<Vec<u32>>;
+
+    fn ask(
+        &self,
+        alloc: Global,
+        trace: &Disciplined<'_>,
+        links: &Links<'_>,
+    ) -> Result<Option<Vec<u32>>, Fail> {
+        let base = trace.events.len() as u32 + 1;
+        for length in 0..LONGEST + 1 {
+            for code in 0..base.saturating_pow(length) {
+                let list = list_of(alloc, code, length, base)?;
+                if !agrees(alloc, trace, links, list.as_slice())? {
+                    return Ok(Some(list));
+                }
             }
         }
+        Ok(None)
     }
-    Ok(None)
 }
 
 #[test]
@@ -286,7 +294,7 @@ fn every_short_list(rt: HostRuntime) -> Result<(), Fail> {
     for text in texts {
         same(
             &rt,
-            &first_difference(&rt, text)?.is_none(),
+            &asked(&rt, text, &FirstDifference)?.is_none(),
             &true,
             "the answers agree",
         );

@@ -2,10 +2,11 @@
 //! the last one is found.
 
 use crate::asserting::same;
-use crate::fixtures::parsed;
-use shb_discipline::check;
-use shb_links::links_of;
+use crate::fixtures::{Question, asked};
+use shb_discipline::Disciplined;
+use shb_links::Links;
 use shb_witness::{checkpoints_of, front_of};
+use std::alloc::Global;
 use std::test::Fail;
 
 /// The text of 200 events of one thread.
@@ -17,17 +18,31 @@ fn one_thread(rt: &HostRuntime) -> Result<Vec<u8>, Fail> {
     Ok(text)
 }
 
+/// The fronts that a cut is made from, at seven cuts.
+struct Fronts;
+
+impl Question for Fronts {
+    type Answer = Vec<u32>;
+
+    fn ask(
+        &self,
+        alloc: Global,
+        trace: &Disciplined<'_>,
+        links: &Links<'_>,
+    ) -> Result<Vec<u32>, Fail> {
+        let points = checkpoints_of(alloc, trace, links)?;
+        let mut fronts = Vec::new(alloc);
+        for cut in [63, 64, 127, 128, 191, 192, 200] {
+            fronts.push(front_of(Some(points.as_slice()), &[cut]))?;
+        }
+        Ok(fronts)
+    }
+}
+
 #[test]
 fn last_checkpoint_within_the_cut(rt: HostRuntime) -> Result<(), Fail> {
     let text = one_thread(&rt)?;
-    let parsed = parsed(&rt, text.as_slice())?;
-    let trace = check(rt.alloc(), &parsed.trace)?;
-    let links = links_of(rt.alloc(), &trace)?;
-    let points = checkpoints_of(rt.alloc(), &trace, &links)?;
-    let mut fronts = Vec::new(rt.alloc());
-    for cut in [63, 64, 127, 128, 191, 192, 200] {
-        fronts.push(front_of(Some(points.as_slice()), &[cut]))?;
-    }
+    let fronts = asked(&rt, text.as_slice(), &Fronts)?;
     // Before each checkpoint stand 64 events more than before the one before it.
     let wanted = [0, 64, 64, 128, 128, 192, 192];
     same(&rt, &fronts.as_slice(), &wanted.as_slice(), "the fronts");

@@ -2,11 +2,11 @@
 ghost use Rattle.std.specs.Prelude.{◌≡◌};
 
 use crate::asserting::{same, same_in_row};
-use crate::fixtures::parsed;
-use shb_clocks::{Order, by_event, full, plain, versions};
-use shb_discipline::{Disciplined, check};
+use crate::fixtures::{Mixture, Question, asked, push_line, push_mixed_lines};
+use shb_clocks::{Order, PlainOrder, by_event, full, plain, versions};
+use shb_discipline::Disciplined;
 use shb_io::NoMemory;
-use shb_links::links_of;
+use shb_links::Links;
 use std::alloc::Global;
 use std::test::Fail;
 
@@ -23,43 +23,113 @@ fn answer<O: Order>(order: &O, trace: &Disciplined<'_>, e: u32, t: u32) -> u32
 
 /// What the plain order, the full clocks, the versions and the rows by event answer for an event and
 /// a thread.
-fn answers(rt: &HostRuntime, text: &[u8], e: u32, t: u32) -> Result<[u32; 4], Fail> {
-    let parsed = parsed(rt, text)?;
-    let trace = check(rt.alloc(), &parsed.trace)?;
-    let links = links_of(rt.alloc(), &trace)?;
-    let plain = plain(rt.alloc(), &trace, &links)?;
-    let full = full(rt.alloc(), &trace, &links)?;
-    let versions = versions(rt.alloc(), &trace, &links)?;
-    let rows = by_event(rt.alloc(), &trace, &links)?;
-    Ok([
-        answer(&plain, &trace, e, t),
-        answer(&full, &trace, e, t),
-        answer(&versions, &trace, e, t),
-        answer(&rows, &trace, e, t),
-    ])
+#[derive(Clone, Copy)]
+struct At {
+    e: u32,
+    t: u32,
 }
 
-/// An event and a thread for which the four forms don't answer alike.
-fn difference(rt: &HostRuntime, text: &[u8]) -> Result<Option<(u32, u32)>, Fail> {
-    let parsed = parsed(rt, text)?;
-    let trace = check(rt.alloc(), &parsed.trace)?;
-    let links = links_of(rt.alloc(), &trace)?;
-    let plain = plain(rt.alloc(), &trace, &links)?;
-    let full = full(rt.alloc(), &trace, &links)?;
-    let versions = versions(rt.alloc(), &trace, &links)?;
-    let rows = by_event(rt.alloc(), &trace, &links)?;
+impl At {
+    fn in_plain(
+        &self,
+        alloc: Global,
+        trace: &Disciplined<'_>,
+        links: &Links<'_>,
+    ) -> Result<u32, NoMemory>
+        requires { links.now ≡ trace.now.events.now }
+    {
+        Ok(answer(&plain(alloc, trace, links)?, trace, self.e, self.t))
+    }
+
+    fn in_full(
+        &self,
+        alloc: Global,
+        trace: &Disciplined<'_>,
+        links: &Links<'_>,
+    ) -> Result<u32, NoMemory>
+        requires { links.now ≡ trace.now.events.now }
+    {
+        Ok(answer(&full(alloc, trace, links)?, trace, self.e, self.t))
+    }
+
+    fn in_versions(
+        &self,
+        alloc: Global,
+        trace: &Disciplined<'_>,
+        links: &Links<'_>,
+    ) -> Result<u32, NoMemory>
+        requires { links.now ≡ trace.now.events.now }
+    {
+        Ok(answer(&versions(alloc, trace, links)?, trace, self.e, self.t))
+    }
+
+    fn in_rows(
+        &self,
+        alloc: Global,
+        trace: &Disciplined<'_>,
+        links: &Links<'_>,
+    ) -> Result<u32, NoMemory>
+        requires { links.now ≡ trace.now.events.now }
+    {
+        Ok(answer(&by_event(alloc, trace, links)?, trace, self.e, self.t))
+    }
+}
+
+impl Question for At {
+    type Answer = [u32; 4];
+
+    fn ask(
+        &self,
+        alloc: Global,
+        trace: &Disciplined<'_>,
+        links: &Links<'_>,
+    ) -> Result<[u32; 4], Fail> {
+        Ok([
+            self.in_plain(alloc, trace, links)?,
+            self.in_full(alloc, trace, links)?,
+            self.in_versions(alloc, trace, links)?,
+            self.in_rows(alloc, trace, links)?,
+        ])
+    }
+}
+
+/// An event and a thread for which an order doesn't answer as the plain one.
+fn differs<O: Order>(
+    plain: &PlainOrder<'_>,
+    order: &O,
+    trace: &Disciplined<'_>,
+) -> Option<(u32, u32)>
+    requires plain { plain.now ≡ trace.now.events.now }
+    requires order { O.trace order.now ≡ trace.now.events.now }
+{
     for e in 0..trace.events.len() as u32 {
         for t in 0..trace.sizes.threads {
-            let want = plain.below_pred(e, t);
-            if full.below_pred(e, t) != want
-                || versions.below_pred(e, t) != want
-                || rows.below_pred(e, t) != want
-            {
-                return Ok(Some((e, t)));
+            if answer(order, trace, e, t) != answer(plain, trace, e, t) {
+                return Some((e, t));
             }
         }
     }
-    Ok(None)
+    None
+}
+
+/// An event and a thread for which the four forms don't answer alike.
+struct Difference;
+
+impl Question for Difference {
+    type Answer = Option<(u32, u32)>;
+
+    fn ask(
+        &self,
+        alloc: Global,
+        trace: &Disciplined<'_>,
+        links: &Links<'_>,
+    ) -> Result<Option<(u32, u32)>, Fail> {
+        let plain = plain(alloc, trace, links)?;
+        let in_full = differs(&plain, &full(alloc, trace, links)?, trace);
+        let in_versions = differs(&plain, &versions(alloc, trace, links)?, trace);
+        let in_rows = differs(&plain, &by_event(alloc, trace, links)?, trace);
+        Ok(in_full.or(in_versions).or(in_rows))
+    }
 }
 
 const PASSED_ON: &[u8] = b"T1|acq(l)\nT1|w(x)\nT1|rel(l)\nT2|acq(l)\nT2|r(x)\nT2|rel(l)\nT3|w(x)\n";
@@ -123,7 +193,12 @@ const VALUES: [(&[u8], u32, u32, u32); 42] = [
 #[test]
 fn values(rt: HostRuntime) -> Result<(), Fail> {
     for (row, (text, e, t, wanted)) in VALUES.iter().enumerate() {
-        same_in_row(&rt, &answers(&rt, text, *e, *t)?, &[*wanted; 4], row);
+        same_in_row(
+            &rt,
+            &asked(&rt, text, &At { e: *e, t: *t })?,
+            &[*wanted; 4],
+            row,
+        );
     }
     Ok(())
 }
@@ -153,14 +228,31 @@ const LEARNED: [(&[u8], u32, &[u32]); 9] = [
     ),
 ];
 
+/// The places at which a thread learned of others.
+#[derive(Clone, Copy)]
+struct LearnedBy {
+    thread: u32,
+}
+
+impl Question for LearnedBy {
+    type Answer = Vec<u32>;
+
+    fn ask(
+        &self,
+        alloc: Global,
+        trace: &Disciplined<'_>,
+        links: &Links<'_>,
+    ) -> Result<Vec<u32>, Fail> {
+        let order = versions(alloc, trace, links)?;
+        Ok(Vec::from_slice(alloc, order.learned(self.thread))?)
+    }
+}
+
 #[test]
 fn learned_places(rt: HostRuntime) -> Result<(), Fail> {
-    for (row, (text, t, wanted)) in LEARNED.iter().enumerate() {
-        let parsed = parsed(&rt, text)?;
-        let trace = check(rt.alloc(), &parsed.trace)?;
-        let links = links_of(rt.alloc(), &trace)?;
-        let order = versions(rt.alloc(), &trace, &links)?;
-        same_in_row(&rt, &order.learned(*t), wanted, row);
+    for (row, (text, thread, wanted)) in LEARNED.iter().enumerate() {
+        let learned = asked(&rt, text, &LearnedBy { thread: *thread })?;
+        same_in_row(&rt, &learned.as_slice(), wanted, row);
     }
     Ok(())
 }
@@ -195,7 +287,7 @@ const SMALL_TRACES: [&[u8]; 24] = [
 #[test]
 fn small_traces(rt: HostRuntime) -> Result<(), Fail> {
     for (row, text) in SMALL_TRACES.iter().enumerate() {
-        same_in_row(&rt, &difference(&rt, text)?, &None, row);
+        same_in_row(&rt, &asked(&rt, text, &Difference)?, &None, row);
     }
     Ok(())
 }
@@ -205,31 +297,16 @@ fn small_traces(rt: HostRuntime) -> Result<(), Fail> {
 fn long_text(alloc: Global) -> Result<String, NoMemory> {
     let mut text = String::new(alloc);
     for t in 1..4u32 {
-        text.push_str(format!(in alloc; "T0|fork(T{t})\n")?.as_str())?;
+        push_line(alloc, &mut text, 0, "fork(T", t)?;
     }
-    let mut holders = [8u32; 3];
-    let mut number = 1u32;
-    for _line in 0..1990 {
-        number = number.wrapping_mul(1_103_515_245).wrapping_add(12_345);
-        let t = number / 65_536 % 8;
-        let x = number / 524_288 % 5;
-        let l = (number / 4_194_304 % 3) as usize;
-        let line = match number / 16_777_216 % 4 {
-            0 if holders[l] == t => {
-                holders[l] = 8;
-                format!(in alloc; "T{t}|rel(l{l})\n")?
-            }
-            0 if holders[l] == 8 => {
-                holders[l] = t;
-                format!(in alloc; "T{t}|acq(l{l})\n")?
-            }
-            1 => format!(in alloc; "T{t}|w(x{x})\n")?,
-            _ => format!(in alloc; "T{t}|r(x{x})\n")?,
-        };
-        text.push_str(line.as_str())?;
-    }
+    let mixture = Mixture {
+        threads: 8,
+        locks: 3,
+        variables: 5,
+    };
+    push_mixed_lines(alloc, &mut text, 1990, mixture, &mut [8; 3])?;
     for t in 1..8u32 {
-        text.push_str(format!(in alloc; "T0|join(T{t})\n")?.as_str())?;
+        push_line(alloc, &mut text, 0, "join(T", t)?;
     }
     Ok(text)
 }
@@ -237,7 +314,7 @@ fn long_text(alloc: Global) -> Result<String, NoMemory> {
 #[test]
 fn long_trace(rt: HostRuntime) -> Result<(), Fail> {
     let text = long_text(rt.alloc())?;
-    let found = difference(&rt, text.as_bytes())?;
+    let found = asked(&rt, text.as_bytes(), &Difference)?;
     same(&rt, &found, &None, "an answer that differs");
     Ok(())
 }
@@ -255,7 +332,7 @@ fn line_of_each(alloc: Global, threads: u32, operation: &str) -> Result<String, 
 fn many_threads(rt: HostRuntime) -> Result<(), Fail> {
     for (threads, operation) in [(65, "w(x)"), (1024, "r(a)")] {
         let text = line_of_each(rt.alloc(), threads, operation)?;
-        let found = difference(&rt, text.as_bytes())?;
+        let found = asked(&rt, text.as_bytes(), &Difference)?;
         same(&rt, &found, &None, "an answer that differs");
     }
     Ok(())

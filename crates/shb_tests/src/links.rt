@@ -1,22 +1,39 @@
 //! The links of a worked trace, and of a made one against the plain definitions.
-ghost use Rattle.std.specs.Prelude.{◌<◌, length};
+ghost use Rattle.std.specs.Prelude.{◌≡◌, ◌<◌, length};
 
-use crate::asserting::{has_length, same};
-use crate::fixtures::parsed;
-use shb_discipline::{Disciplined, check};
+use crate::asserting::same;
+use crate::fixtures::{Question, asked};
+use shb_discipline::Disciplined;
 use shb_lines::Op;
-use shb_links::links_of;
+use shb_links::Links;
+use std::alloc::Global;
 use std::test::Fail;
+
+/// The predecessors of events 2 and 3 and the fork of thread 1, none where there are fewer events.
+struct JoinLinks;
+
+impl Question for JoinLinks {
+    type Answer = Option<[Option<u32>; 3]>;
+
+    fn ask(
+        &self,
+        _alloc: Global,
+        trace: &Disciplined<'_>,
+        links: &Links<'_>,
+    ) -> Result<Option<[Option<u32>; 3]>, Fail> {
+        if trace.events.len() != 4 {
+            return Ok(None);
+        }
+        Ok(Some([links.pred(2), links.pred(3), links.forked_by(1)]))
+    }
+}
 
 #[test]
 fn a_join_before_the_first_event(rt: HostRuntime) -> Result<(), Fail> {
-    let parsed = parsed(&rt, b"T1|fork(T3)\nT2|join(T3)\nT1|w(x)\nT2|w(x)\n")?;
-    let trace = check(rt.alloc(), &parsed.trace)?;
-    let links = links_of(rt.alloc(), &trace)?;
-    has_length(&rt, trace.events.len(), 4);
-    same(&rt, &links.pred(2), &Some(0), "the predecessor of 2");
-    same(&rt, &links.pred(3), &Some(1), "the predecessor of 3");
-    same(&rt, &links.forked_by(1), &Some(0), "the fork of 1");
+    let text = b"T1|fork(T3)\nT2|join(T3)\nT1|w(x)\nT2|w(x)\n";
+    let found = asked(&rt, text, &JoinLinks)?;
+    let wanted = Some([Some(0), Some(1), Some(0)]);
+    same(&rt, &found, &wanted, "predecessors of 2 and 3, fork of 1");
     Ok(())
 }
 
@@ -120,42 +137,60 @@ fn plain_last_write(trace: &Disciplined<'_>, e: u32) -> Option<u32>
     latest
 }
 
+/// Whether the links of an event are those of the plain definitions.
+fn is_linked(trace: &Disciplined<'_>, links: &Links<'_>, e: u32) -> bool
+    requires linked { links.now ≡ trace.now.events.now }
+    requires event { e < length trace.now.events.now }
+{
+    links.local(e) as usize == plain_local(trace, e)
+        && links.pred(e) == plain_pred(trace, e)
+        && links.last_write(e) == plain_last_write(trace, e)
+}
+
+/// Whether the fork and the last event of a thread are those of the plain definitions.
+fn is_thread_linked(trace: &Disciplined<'_>, links: &Links<'_>, thread: u32) -> bool {
+    links.forked_by(thread) == plain_fork(trace, thread)
+        && links.last_of(thread) == plain_last(trace, thread)
+}
+
+/// How many events and threads have other links than by the plain definitions, and how many events
+/// there are.
+struct WrongLinks;
+
+impl Question for WrongLinks {
+    type Answer = (u32, u32, usize);
+
+    fn ask(
+        &self,
+        _alloc: Global,
+        trace: &Disciplined<'_>,
+        links: &Links<'_>,
+    ) -> Result<(u32, u32, usize), Fail> {
+        let mut events = 0u32;
+        for e in 0..trace.events.len() as u32 {
+            if !is_linked(trace, links, e) {
+                events = events.saturating_add(1);
+            }
+        }
+        let mut threads = 0u32;
+        for thread in 0..4 {
+            if !is_thread_linked(trace, links, thread) {
+                threads = threads.saturating_add(1);
+            }
+        }
+        Ok((events, threads, trace.events.len()))
+    }
+}
+
 #[test]
 fn a_made_trace(rt: HostRuntime) -> Result<(), Fail> {
     let text = made_text(&rt)?;
-    let parsed = parsed(&rt, text.as_slice())?;
-    let trace = check(rt.alloc(), &parsed.trace)?;
-    let links = links_of(rt.alloc(), &trace)?;
-    has_length(&rt, trace.events.len(), 200);
-    for e in 0..trace.events.len() as u32 {
-        let place = links.local(e) as usize;
-        same(
-            &rt,
-            &place,
-            &plain_local(&trace, e),
-            "the place of an event",
-        );
-        same(&rt, &links.pred(e), &plain_pred(&trace, e), "a predecessor");
-        same(
-            &rt,
-            &links.last_write(e),
-            &plain_last_write(&trace, e),
-            "a last write",
-        );
-    }
-    for thread in 0..4 {
-        same(
-            &rt,
-            &links.forked_by(thread),
-            &plain_fork(&trace, thread),
-            "a fork",
-        );
-        same(
-            &rt,
-            &links.last_of(thread),
-            &plain_last(&trace, thread),
-            "a last event",
-        );
-    }
+    let found = asked(&rt, text.as_slice(), &WrongLinks)?;
+    same(
+        &rt,
+        &found,
+        &(0, 0, 200),
+        "wrong events and threads, events",
+    );
     Ok(())
 }

@@ -2,13 +2,13 @@
 ghost use Rattle.std.specs.Prelude.{◌≡◌, ◌<◌, ◌≤◌, length};
 
 use crate::asserting::{holds, same, same_in_row};
-use crate::fixtures::{pair, parsed};
-use shb_clocks::{Order, full, versions};
-use shb_discipline::{Disciplined, check};
+use crate::fixtures::{Mixture, Question, asked, pair, push_mixed_lines};
+use shb_clocks::{FullClocks, Order, full, versions};
+use shb_discipline::Disciplined;
 use shb_fan::Job;
 use shb_io::NoMemory;
 use shb_lines::{Pair, variable};
-use shb_links::{Links, links_of};
+use shb_links::Links;
 use shb_pairs::{
     Accesses, PairJob, Piece, accesses_of, accesses_of_open, is_race, open_variables, pieces,
 };
@@ -17,21 +17,38 @@ use std::process::Abort;
 use std::test::Fail;
 
 /// The pieces of a trace, how many races each has, and all races.
-#[derive(Drop)]
 struct Found {
     pieces: Vec<Piece>,
     counts: Vec<usize>,
     races: Vec<Pair>,
 }
 
+// By hand: a derived one stands in each function that drops it, with a step for each vector.
+impl Drop for Found {
+    fn drop(self) {
+        let Found {
+            pieces: _,
+            counts: _,
+            races: _,
+        } = self;
+    }
+}
+
 /// Which variables of a trace are open.
-fn open_flags(rt: &HostRuntime, text: &[u8]) -> Result<Vec<bool>, Fail> {
-    let alloc = rt.alloc();
-    let parsed = parsed(rt, text)?;
-    let trace = check(alloc, &parsed.trace)?;
-    let links = links_of(alloc, &trace)?;
-    let order = versions(alloc, &trace, &links)?;
-    Ok(open_variables(alloc, &order, &trace, &links)?)
+struct OpenFlags;
+
+impl Question for OpenFlags {
+    type Answer = Vec<bool>;
+
+    fn ask(
+        &self,
+        alloc: Global,
+        trace: &Disciplined<'_>,
+        links: &Links<'_>,
+    ) -> Result<Vec<bool>, Fail> {
+        let order = versions(alloc, trace, links)?;
+        Ok(open_variables(alloc, &order, trace, links)?)
+    }
 }
 
 /// What the search finds among these accesses.
@@ -63,48 +80,85 @@ fn found_among<O: Order>(
 }
 
 /// What the search finds among all accesses.
-fn search(rt: &HostRuntime, text: &[u8]) -> Result<Found, Fail> {
-    let alloc = rt.alloc();
-    let parsed = parsed(rt, text)?;
-    let trace = check(alloc, &parsed.trace)?;
-    let links = links_of(alloc, &trace)?;
-    let order = versions(alloc, &trace, &links)?;
-    let accesses = accesses_of(alloc, &trace)?;
-    Ok(found_among(alloc, &order, &trace, &links, &accesses)?)
+struct Search;
+
+impl Question for Search {
+    type Answer = Found;
+
+    fn ask(
+        &self,
+        alloc: Global,
+        trace: &Disciplined<'_>,
+        links: &Links<'_>,
+    ) -> Result<Found, Fail> {
+        let order = versions(alloc, trace, links)?;
+        let accesses = accesses_of(alloc, trace)?;
+        Ok(found_among(alloc, &order, trace, links, &accesses)?)
+    }
 }
 
 /// What the search finds among the accesses of open variables.
-fn search_open(rt: &HostRuntime, text: &[u8]) -> Result<Found, Fail> {
-    let alloc = rt.alloc();
-    let parsed = parsed(rt, text)?;
-    let trace = check(alloc, &parsed.trace)?;
-    let links = links_of(alloc, &trace)?;
-    let order = versions(alloc, &trace, &links)?;
-    let flags = open_variables(alloc, &order, &trace, &links)?;
-    let accesses = accesses_of_open(alloc, &trace, flags.as_slice())?;
-    Ok(found_among(alloc, &order, &trace, &links, &accesses)?)
+struct SearchOpen;
+
+impl Question for SearchOpen {
+    type Answer = Found;
+
+    fn ask(
+        &self,
+        alloc: Global,
+        trace: &Disciplined<'_>,
+        links: &Links<'_>,
+    ) -> Result<Found, Fail> {
+        let order = versions(alloc, trace, links)?;
+        let flags = open_variables(alloc, &order, trace, links)?;
+        let accesses = accesses_of_open(alloc, trace, flags.as_slice())?;
+        Ok(found_among(alloc, &order, trace, links, &accesses)?)
+    }
+}
+
+/// The races of a later access of a variable, by a test of each earlier event.
+fn push_races(
+    races: &mut Vec<Pair>,
+    order: &FullClocks<'_>,
+    trace: &Disciplined<'_>,
+    links: &Links<'_>,
+    second: u32,
+) -> Result<(), NoMemory>
+    requires of_trace { order.now ≡ trace.now.events.now }
+    requires linked { links.now ≡ trace.now.events.now }
+    requires second { second < length trace.now.events.now }
+{
+    for first in 0..second {
+        if is_race(order, trace, links, first, second) {
+            races.push(pair(first, second))?;
+        }
+    }
+    Ok(())
 }
 
 /// All races by variable, later access and earlier access, by a test of each pair.
-fn plain_races(rt: &HostRuntime, text: &[u8]) -> Result<Vec<Pair>, Fail> {
-    let alloc = rt.alloc();
-    let parsed = parsed(rt, text)?;
-    let trace = check(alloc, &parsed.trace)?;
-    let links = links_of(alloc, &trace)?;
-    let order = full(alloc, &trace, &links)?;
-    let mut races = Vec::new(alloc);
-    for x in 0..trace.sizes.variables {
-        for second in 0..trace.events.len() as u32 {
-            if variable(trace.events[second as usize].op) == Some(x) {
-                for first in 0..second {
-                    if is_race(&order, &trace, &links, first, second) {
-                        races.push(pair(first, second))?;
-                    }
+struct PlainRaces;
+
+impl Question for PlainRaces {
+    type Answer = Vec<Pair>;
+
+    fn ask(
+        &self,
+        alloc: Global,
+        trace: &Disciplined<'_>,
+        links: &Links<'_>,
+    ) -> Result<Vec<Pair>, Fail> {
+        let order = full(alloc, trace, links)?;
+        let mut races = Vec::new(alloc);
+        for x in 0..trace.sizes.variables {
+            for second in 0..trace.events.len() as u32 {
+                if variable(trace.events[second as usize].op) == Some(x) {
+                    push_races(&mut races, &order, trace, links, second)?;
                 }
             }
         }
+        Ok(races)
     }
-    Ok(races)
 }
 
 fn ends(alloc: Global, races: &[Pair]) -> Result<Vec<(u32, u32)>, NoMemory> {
@@ -133,7 +187,7 @@ const RACES: [(&[u8], &[(u32, u32)]); 8] = [
 #[test]
 fn small_traces(rt: HostRuntime) -> Result<(), Fail> {
     for (row, (text, wanted)) in RACES.iter().enumerate() {
-        for found in [search(&rt, text)?, search_open(&rt, text)?] {
+        for found in [asked(&rt, text, &Search)?, asked(&rt, text, &SearchOpen)?] {
             let races = ends(rt.alloc(), found.races.as_slice())?;
             same_in_row(&rt, &races.as_slice(), wanted, row);
         }
@@ -179,7 +233,7 @@ const OPEN: [(&[u8], &[bool]); 11] = [
 #[test]
 fn open_variables_of_small_traces(rt: HostRuntime) -> Result<(), Fail> {
     for (row, (text, wanted)) in OPEN.iter().enumerate() {
-        same_in_row(&rt, &open_flags(&rt, text)?.as_slice(), wanted, row);
+        same_in_row(&rt, &asked(&rt, text, &OpenFlags)?.as_slice(), wanted, row);
     }
     Ok(())
 }
@@ -196,7 +250,7 @@ fn expect_pieces(rt: &impl Abort, found: &Found, pieces: &[Piece], counts: &[usi
 
 #[test]
 fn settled_variables_have_no_piece(rt: HostRuntime) -> Result<(), Fail> {
-    let found = search_open(&rt, b"T1|w(x)\nT1|w(y)\nT2|w(y)\nT1|r(x)\n")?;
+    let found = asked(&rt, b"T1|w(x)\nT1|w(y)\nT2|w(y)\nT1|r(x)\n", &SearchOpen)?;
     expect_pieces(&rt, &found, &[piece(1, 0, 2)], &[1]);
     Ok(())
 }
@@ -214,7 +268,7 @@ fn writes(alloc: Global, lines: u32, apart: bool) -> Result<String, NoMemory> {
 #[test]
 fn many_writers(rt: HostRuntime) -> Result<(), Fail> {
     let text = writes(rt.alloc(), 65, true)?;
-    let found = search(&rt, text.as_bytes())?;
+    let found = asked(&rt, text.as_bytes(), &Search)?;
     let pieces = [piece(0, 0, 64), piece(0, 64, 65)];
     expect_pieces(&rt, &found, &pieces, &[2_016, 64]);
     let first = found.races.first().copied();
@@ -227,7 +281,7 @@ fn many_writers(rt: HostRuntime) -> Result<(), Fail> {
 #[test]
 fn many_accesses(rt: HostRuntime) -> Result<(), Fail> {
     let text = writes(rt.alloc(), 130, false)?;
-    let found = search(&rt, text.as_bytes())?;
+    let found = asked(&rt, text.as_bytes(), &Search)?;
     let pieces = [piece(0, 0, 64), piece(0, 64, 128), piece(0, 128, 130)];
     expect_pieces(&rt, &found, &pieces, &[0, 0, 0]);
     Ok(())
@@ -236,38 +290,23 @@ fn many_accesses(rt: HostRuntime) -> Result<(), Fail> {
 /// A text of six threads, two locks and four variables, made from fixed numbers.
 fn mixed_text(alloc: Global) -> Result<String, NoMemory> {
     let mut text = String::new(alloc);
-    let mut holders = [6u32; 2];
-    let mut number = 1u32;
-    for _line in 0..1500 {
-        number = number.wrapping_mul(1_103_515_245).wrapping_add(12_345);
-        let t = number / 65_536 % 6;
-        let x = number / 524_288 % 4;
-        let l = (number / 4_194_304 % 2) as usize;
-        let line = match number / 16_777_216 % 4 {
-            0 if holders[l] == t => {
-                holders[l] = 6;
-                format!(in alloc; "T{t}|rel(l{l})\n")?
-            }
-            0 if holders[l] == 6 => {
-                holders[l] = t;
-                format!(in alloc; "T{t}|acq(l{l})\n")?
-            }
-            1 => format!(in alloc; "T{t}|w(x{x})\n")?,
-            _ => format!(in alloc; "T{t}|r(x{x})\n")?,
-        };
-        text.push_str(line.as_str())?;
-    }
+    let mixture = Mixture {
+        threads: 6,
+        locks: 2,
+        variables: 4,
+    };
+    push_mixed_lines(alloc, &mut text, 1500, mixture, &mut [6; 2])?;
     Ok(text)
 }
 
 #[test]
 fn search_and_scan(rt: HostRuntime) -> Result<(), Fail> {
     let text = mixed_text(rt.alloc())?;
-    let found = search(&rt, text.as_bytes())?;
-    let plain = plain_races(&rt, text.as_bytes())?;
+    let found = asked(&rt, text.as_bytes(), &Search)?;
+    let plain = asked(&rt, text.as_bytes(), &PlainRaces)?;
     holds(&rt, plain.len() > 1_000, "there are races");
     same(&rt, &found.races, &plain, "what is found");
-    let of_open = search_open(&rt, text.as_bytes())?;
+    let of_open = asked(&rt, text.as_bytes(), &SearchOpen)?;
     same(
         &rt,
         &of_open.races,

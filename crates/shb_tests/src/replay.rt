@@ -2,29 +2,38 @@
 
 ghost use Rattle.std.specs.Prelude.{◌<◌, length};
 
-use crate::asserting::{has_length, same};
-use crate::fixtures::{pair, parsed};
-use shb_discipline::check;
+use crate::asserting::same;
+use crate::fixtures::{Question, asked, pair};
+use shb_discipline::Disciplined;
 use shb_lines::Pair;
-use shb_links::links_of;
+use shb_links::Links;
 use shb_replay::{Broken, Judge, Why, replay};
+use std::alloc::Global;
 use std::test::Fail;
 
-/// The answer of `replay`, or None where the pair isn't of the trace.
-fn answer(
-    rt: &HostRuntime,
-    text: &[u8],
+/// A pair and a list, asked of `replay`.
+#[derive(Clone, Copy)]
+struct Replay<'a> {
     pair: Pair,
-    list: &[u32],
-) -> Result<Option<Option<Broken>>, Fail> {
-    let parsed = parsed(rt, text)?;
-    let trace = check(rt.alloc(), &parsed.trace)?;
-    let links = links_of(rt.alloc(), &trace)?;
-    let events = trace.events.len();
-    if pair.first as usize >= events || pair.second as usize >= events {
-        return Ok(None);
+    list: &'a [u32],
+}
+
+impl Question for Replay<'_> {
+    /// None where the pair isn't of the trace.
+    type Answer = Option<Option<Broken>>;
+
+    fn ask(
+        &self,
+        alloc: Global,
+        trace: &Disciplined<'_>,
+        links: &Links<'_>,
+    ) -> Result<Option<Option<Broken>>, Fail> {
+        let events = trace.events.len();
+        if self.pair.first as usize >= events || self.pair.second as usize >= events {
+            return Ok(None);
+        }
+        Ok(Some(replay(alloc, trace, links, self.list, self.pair)?))
     }
-    Ok(Some(replay(rt.alloc(), &trace, &links, list, pair)?))
 }
 
 fn broken(at: usize, why: Why) -> Option<Broken> {
@@ -49,7 +58,11 @@ type Row<'a> = (&'a [u8], u32, u32, &'a [u32], Option<Broken>);
 /// The first row whose answer is another one.
 fn first_wrong(rt: &HostRuntime, rows: &[Row<'_>]) -> Result<Option<usize>, Fail> {
     for (row, (text, first, second, list, wanted)) in rows.iter().enumerate() {
-        if answer(rt, text, pair(*first, *second), list)? != Some(*wanted) {
+        let question = Replay {
+            pair: pair(*first, *second),
+            list,
+        };
+        if asked(rt, text, &question)? != Some(*wanted) {
             return Ok(Some(row));
         }
     }
@@ -150,13 +163,28 @@ fn answers(judge: &mut Judge<'_>, pair: Pair) -> [Option<Broken>; 5]
     [whole, repeated, all, early, again]
 }
 
+/// The answers of one judge for the pair of events 4 and 6, none where there are fewer.
+struct OneJudge;
+
+impl Question for OneJudge {
+    type Answer = Option<[Option<Broken>; 5]>;
+
+    fn ask(
+        &self,
+        alloc: Global,
+        trace: &Disciplined<'_>,
+        links: &Links<'_>,
+    ) -> Result<Option<[Option<Broken>; 5]>, Fail> {
+        let mut judge = Judge::new(alloc, trace, links)?;
+        if trace.events.len() != 7 {
+            return Ok(None);
+        }
+        Ok(Some(answers(&mut judge, pair(4, 6))))
+    }
+}
+
 #[test]
 fn one_judge_of_many_lists(rt: HostRuntime) -> Result<(), Fail> {
-    let parsed = parsed(&rt, PASSED)?;
-    let trace = check(rt.alloc(), &parsed.trace)?;
-    let links = links_of(rt.alloc(), &trace)?;
-    let mut judge = Judge::new(rt.alloc(), &trace, &links)?;
-    has_length(&rt, trace.events.len(), 7);
     let wanted = [
         None,
         broken(2, Why::Repeated),
@@ -164,7 +192,7 @@ fn one_judge_of_many_lists(rt: HostRuntime) -> Result<(), Fail> {
         broken(1, Why::LockOrder),
         None,
     ];
-    let found = answers(&mut judge, pair(4, 6));
-    same(&rt, &found, &wanted, "the answers of one judge");
+    let found = asked(&rt, PASSED, &OneJudge)?;
+    same(&rt, &found, &Some(wanted), "the answers of one judge");
     Ok(())
 }

@@ -1,34 +1,42 @@
 //! The schedules of worked traces.
 use crate::asserting::same_in_row;
-use crate::fixtures::{pair, parsed};
+use crate::fixtures::{Question, asked, pair};
 use shb_clocks::full;
-use shb_discipline::check;
+use shb_discipline::Disciplined;
 use shb_fan::Job;
-use shb_links::links_of;
+use shb_links::Links;
 use shb_pairs::is_race;
 use shb_witness::WitnessJob;
+use std::alloc::Global;
 use std::test::Fail;
 
-/// The schedule of a race of the text, as a piece of work. None where the pair is no race.
-fn scheduled(
-    rt: &HostRuntime,
-    text: &[u8],
+/// The schedule of a race, as a piece of work. None where the pair is no race.
+#[derive(Clone, Copy)]
+struct Scheduled {
     first: u32,
     second: u32,
-) -> Result<Option<Vec<u32>>, Fail> {
-    let parsed = parsed(rt, text)?;
-    let trace = check(rt.alloc(), &parsed.trace)?;
-    let links = links_of(rt.alloc(), &trace)?;
-    let order = full(rt.alloc(), &trace, &links)?;
-    if first >= second || second as usize >= trace.events.len() {
-        return Ok(None);
+}
+
+impl Question for Scheduled {
+    type Answer = Option<Vec<u32>>;
+
+    fn ask(
+        &self,
+        alloc: Global,
+        trace: &Disciplined<'_>,
+        links: &Links<'_>,
+    ) -> Result<Option<Vec<u32>>, Fail> {
+        let order = full(alloc, trace, links)?;
+        if self.first >= self.second || self.second as usize >= trace.events.len() {
+            return Ok(None);
+        }
+        if !is_race(&order, trace, links, self.first, self.second) {
+            return Ok(None);
+        }
+        let pairs = [pair(self.first, self.second)];
+        let job = WitnessJob::new(&order, trace, links, &pairs);
+        Ok(Some(job.run(alloc, 0)?.to_vec(alloc)?))
     }
-    if !is_race(&order, &trace, &links, first, second) {
-        return Ok(None);
-    }
-    let pairs = [pair(first, second)];
-    let job = WitnessJob::new(&order, &trace, &links, &pairs);
-    Ok(Some(job.run(rt.alloc(), 0)?.to_vec(rt.alloc())?))
 }
 
 #[test]
@@ -53,7 +61,11 @@ fn worked_schedules(rt: HostRuntime) -> Result<(), Fail> {
         (read, 2, 3, &[0, 1]),
     ];
     for (row, (text, first, second, wanted)) in rows.iter().enumerate() {
-        let positions = scheduled(&rt, text, *first, *second)?;
+        let scheduled = Scheduled {
+            first: *first,
+            second: *second,
+        };
+        let positions = asked(&rt, text, &scheduled)?;
         let positions = positions.as_ref().map(|positions| positions.as_slice());
         same_in_row(&rt, &positions, &Some(*wanted), row);
     }
