@@ -4,6 +4,7 @@ ghost use Rattle.shb_fan.specs.Passes.{fresh};
 ghost use Rattle.shb_fan.specs.Seated.{IsNewSeat, job_of};
 
 use crate::asserting::{holds, is_false, is_true, same};
+use crate::fixtures::{all_one, zeros};
 use shb_fan::*;
 use shb_io::NoMemory;
 use std::alloc::Global;
@@ -204,15 +205,10 @@ fn draw_each<R: Threads + Sync>(rt: &R, tickets: &Tickets, passes: &mut [Pass], 
 
 #[test]
 fn four_threads_draw(rt: HostRuntime) -> Result<(), Fail> {
+    let seen = zeros(rt.alloc(), 1000)?;
     let (tickets, mut passes) = Tickets::new(rt.alloc(), 1000, 4)?;
-    let mut seen = Vec::new(rt.alloc());
-    for _ in 0..1000u32 {
-        seen.push(AtomicU64::new(0))?;
-    }
     draw_each(&rt, &tickets, passes.as_mut_slice(), seen.as_slice());
-    for times in &seen {
-        same(&rt, &times.load(Ordering::SeqCst), &1, "draws of a number");
-    }
+    holds(&rt, all_one(seen.as_slice()), "one draw of each number");
     expect_closed(&rt, tickets.close(passes), 1000, false);
     Ok(())
 }

@@ -2,11 +2,12 @@
 
 use crate::asserting::{same, same_in_row};
 use shb_fan::machine::*;
+use std::process::Abort;
 use std::test::Fail;
 
 /// The place of the first step that isn't allowed, or None where all are.
-fn refused(
-    rt: &HostRuntime,
+fn refused<R: AllocGlobal>(
+    rt: &R,
     actors: u32,
     pieces: u64,
     steps: &[Step],
@@ -20,6 +21,29 @@ fn refused(
     }
 }
 
+/// Takes steps one by one, and asserts that the first so many are allowed and no more.
+fn expect_steps<R: Abort + AllocGlobal>(
+    rt: &R,
+    steps: &[Step],
+    allowed: usize,
+) -> Result<(), Fail> {
+    let Replayed::Ended(mut fan) = replay(rt.alloc(), 2, 2, &[])? else {
+        panic!(rt; "no step is refused");
+    };
+    for (at, step) in steps.iter().enumerate() {
+        same_in_row(rt, &advance(&mut fan, *step)?, &(at < allowed), at);
+    }
+    Ok(())
+}
+
+/// How many pieces are taken, the next one, and whether it is stopped, after steps that are allowed.
+fn ended(rt: &HostRuntime, steps: &[Step]) -> Result<Option<(u64, u64, bool)>, Fail> {
+    match replay(rt.alloc(), 2, 2, steps)? {
+        Replayed::Ended(fan) => Ok(Some((fan.taken(), fan.next(), fan.stopped()))),
+        Replayed::Refused { at: _ } => Ok(None),
+    }
+}
+
 #[test]
 fn lifts_in_order(rt: HostRuntime) -> Result<(), Fail> {
     let early = [
@@ -30,12 +54,7 @@ fn lifts_in_order(rt: HostRuntime) -> Result<(), Fail> {
         Step::Lift(1),
     ];
     same(&rt, &refused(&rt, 2, 2, &early)?, &Some(4), "an early lift");
-    let Replayed::Ended(mut fan) = replay(rt.alloc(), 2, 2, &[])? else {
-        panic!(rt; "no step is refused");
-    };
-    for (at, step) in early.iter().enumerate() {
-        same_in_row(&rt, &advance(&mut fan, *step)?, &(at < 4), at);
-    }
+    expect_steps(&rt, &early, 4)?;
     let in_order = [
         Step::Draw(0),
         Step::Draw(1),
@@ -47,12 +66,8 @@ fn lifts_in_order(rt: HostRuntime) -> Result<(), Fail> {
         Step::Free(0),
         Step::Lift(1),
     ];
-    let Replayed::Ended(fan) = replay(rt.alloc(), 2, 2, &in_order)? else {
-        panic!(rt; "each step is allowed");
-    };
-    same(&rt, &fan.taken(), &2, "pieces taken");
-    same(&rt, &fan.next(), &2, "the next piece");
-    same(&rt, &fan.stopped(), &false, "whether it is stopped");
+    let wanted = Some((2, 2, false));
+    same(&rt, &ended(&rt, &in_order)?, &wanted, "what is taken");
     Ok(())
 }
 
@@ -93,38 +108,41 @@ fn no_such_actor_or_piece(rt: HostRuntime) -> Result<(), Fail> {
     Ok(())
 }
 
-#[test]
-fn a_slot_is_used_again(rt: HostRuntime) -> Result<(), Fail> {
+/// Asserts which step is refused of 65 draws and these.
+fn expect_refused<R: Abort + AllocGlobal>(
+    rt: &R,
+    rest: &[Step],
+    wanted: Option<usize>,
+) -> Result<(), Fail> {
     let mut steps = Vec::new(rt.alloc());
     for _ in 0..65 {
         steps.push(Step::Draw(0))?;
     }
-    steps.push(Step::Claim(0, 64))?;
-    same(
-        &rt,
-        &refused(&rt, 1, 65, steps.as_slice())?,
-        &Some(65),
-        "the refused step",
-    );
-    steps.pop();
-    steps.push(Step::Claim(0, 0))?;
-    steps.push(Step::Place(0, 0))?;
-    steps.push(Step::Lift(0))?;
-    steps.push(Step::Claim(0, 64))?;
-    same(
-        &rt,
-        &refused(&rt, 1, 65, steps.as_slice())?,
-        &Some(68),
-        "the refused step",
-    );
-    steps.pop();
-    steps.push(Step::Free(0))?;
-    steps.push(Step::Claim(0, 64))?;
-    same(
-        &rt,
-        &refused(&rt, 1, 65, steps.as_slice())?,
-        &None,
-        "the refused step",
-    );
+    for step in rest {
+        steps.push(*step)?;
+    }
+    let found = refused(rt, 1, 65, steps.as_slice())?;
+    same(rt, &found, &wanted, "the refused step");
+    Ok(())
+}
+
+#[test]
+fn a_slot_is_used_again(rt: HostRuntime) -> Result<(), Fail> {
+    expect_refused(&rt, &[Step::Claim(0, 64)], Some(65))?;
+    let full = [
+        Step::Claim(0, 0),
+        Step::Place(0, 0),
+        Step::Lift(0),
+        Step::Claim(0, 64),
+    ];
+    expect_refused(&rt, &full, Some(68))?;
+    let free = [
+        Step::Claim(0, 0),
+        Step::Place(0, 0),
+        Step::Lift(0),
+        Step::Free(0),
+        Step::Claim(0, 64),
+    ];
+    expect_refused(&rt, &free, None)?;
     Ok(())
 }

@@ -2,6 +2,7 @@
 ghost use Rattle.std.specs.Prelude.{◌≤◌, ◌^◌};
 
 use crate::asserting::{holds, same};
+use crate::fixtures::{all_one, zeros};
 use shb_fan::{Gate, Job, Workers, gather};
 use shb_io::NoMemory;
 use std::alloc::Global;
@@ -58,14 +59,6 @@ fn make_job<'a>(pieces: u32, runs: &'a [AtomicU64], refused: Option<u64>) -> Cou
     }
 }
 
-fn zeros(alloc: Global, count: u32) -> Result<Vec<AtomicU64>, NoMemory> {
-    let mut all = Vec::new(alloc);
-    for _ in 0..count {
-        all.push(AtomicU64::new(0))?;
-    }
-    Ok(all)
-}
-
 /// Counts who enters, and sees whether a piece ran before it did.
 #[derive(Drop)]
 struct Watching<'a> {
@@ -83,15 +76,6 @@ impl Gate for Watching<'_> {
             }
         }
     }
-}
-
-fn all_one(runs: &[AtomicU64]) -> bool {
-    for times in runs {
-        if times.load(Ordering::SeqCst) != 1 {
-            return false;
-        }
-    }
-    true
 }
 
 /// 20 pieces are drawn one by one, and 600 by one worker or two in runs of neighbours.

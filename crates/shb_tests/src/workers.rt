@@ -6,6 +6,7 @@ use crate::asserting::{holds, same, same_bytes};
 use crate::run::{Devices, ample, done, expect_run, failed, settings};
 use shb_io::{Failed, NoMemory, Page, Sink, Text};
 use shb_run::{FreeGate, Gate, Settings, run_gated};
+use std::alloc::Global;
 use std::process::Abort;
 use std::random::RandomSource;
 use std::sync::Wait;
@@ -63,38 +64,44 @@ fn first_held() -> FirstHeld {
     }
 }
 
+/// Runs over two pieces by two workers: whether it goes well, and what is written.
+fn ran_two_pieces<R: Threads + Wait + Sync + RandomSource + AllocGlobal + Abort>(
+    rt: &R,
+    pair_gate: &FirstHeld,
+    witness_gate: &FirstHeld,
+) -> Result<(bool, Page), NoMemory> {
+    let mut source = Text::new(TWO_PIECES.as_bytes(), 4096, None);
+    let mut sink = Page::new(rt.alloc(), 1000, 4096, None)?;
+    let settings = settings(rt, 2, true);
+    let answer = run_gated(
+        rt,
+        rt.alloc(),
+        &mut source,
+        &mut sink,
+        settings,
+        pair_gate,
+        witness_gate,
+    );
+    Ok((answer.is_ok(), sink))
+}
+
+/// Asserts that two pieces entered, the first while the second was there.
+fn expect_two(rt: &impl Abort, gate: &FirstHeld, what: &str) {
+    let entered = gate.entered.load(Ordering::SeqCst);
+    same(rt, &entered, &2, "pieces that enter");
+    holds(rt, !gate.missed.load(Ordering::SeqCst), what);
+}
+
 #[test]
 fn two_at_once(rt: HostRuntime) -> Result<(), Fail> {
     let pair_gate = first_held();
     let witness_gate = first_held();
-    let mut source = Text::new(TWO_PIECES.as_bytes(), 4096, None);
-    let mut sink = Page::new(rt.alloc(), 1000, 4096, None)?;
-    let answer = run_gated(
-        &rt,
-        rt.alloc(),
-        &mut source,
-        &mut sink,
-        settings(&rt, 2, true),
-        &pair_gate,
-        &witness_gate,
-    );
-    holds(&rt, answer.is_ok(), "the report is written");
-    same_bytes(
-        &rt,
-        sink.bytes(),
-        TWO_PIECES_REPORT.as_bytes(),
-        "the report",
-    );
-    for gate in [&pair_gate, &witness_gate] {
-        let entered = gate.entered.load(Ordering::SeqCst);
-        same(&rt, &entered, &2, "pieces that enter");
-    }
-    holds(&rt, !pair_gate.missed.load(Ordering::SeqCst), "two search");
-    holds(
-        &rt,
-        !witness_gate.missed.load(Ordering::SeqCst),
-        "two make schedules",
-    );
+    let (is_written, page) = ran_two_pieces(&rt, &pair_gate, &witness_gate)?;
+    holds(&rt, is_written, "the report is written");
+    let wanted = TWO_PIECES_REPORT.as_bytes();
+    same_bytes(&rt, page.bytes(), wanted, "the report");
+    expect_two(&rt, &pair_gate, "two search");
+    expect_two(&rt, &witness_gate, "two make schedules");
     Ok(())
 }
 
@@ -147,56 +154,67 @@ impl Gate for LastHeld<'_> {
     }
 }
 
+/// Lines that write one variable, each by a thread of its own.
+fn writers(alloc: Global, count: u32) -> Result<String, NoMemory> {
+    let mut text = String::new(alloc);
+    for thread in 1..=count {
+        text.push_str(format!(in alloc; "T{thread}|w(x)\n")?.as_str())?;
+    }
+    Ok(text)
+}
+
+/// Runs by two workers with a page that is watched: whether it goes well, and what is written.
+fn ran_watched<R: Threads + Wait + Sync + RandomSource + AllocGlobal + Abort>(
+    rt: &R,
+    trace: &str,
+    gate: &LastHeld<'_>,
+) -> Result<(bool, Page), NoMemory> {
+    let mut source = Text::new(trace.as_bytes(), 4096, None);
+    let mut sink = Watched {
+        page: Page::new(rt.alloc(), 300_000, 4096, None)?,
+        taken: gate.taken,
+    };
+    let settings = settings(rt, 2, true);
+    let answer = run_gated(
+        rt,
+        rt.alloc(),
+        &mut source,
+        &mut sink,
+        settings,
+        &FreeGate,
+        gate,
+    );
+    let Watched { page, taken: _ } = sink;
+    Ok((answer.is_ok(), page))
+}
+
+/// Asserts the first and last lines of the report of 65 writers.
+fn expect_ends(rt: &impl Abort, report: &[u8]) {
+    // The lines before the first block have 97 bytes.
+    let front =
+        "shb-report 2\nevents 65 threads 65 locks 0 variables 1\nraces 2080\nplaces 1\nplace 1: 2080\nat \nand \n";
+    same(rt, &front.len(), &97, "bytes before the first block");
+    holds(rt, report.starts_with(front.as_bytes()), "the front");
+    let last = "race 2080: 64 65\nfirst T64|w(x)\nsecond T65|w(x)\nschedule 0:\nend\n";
+    holds(rt, report.ends_with(last.as_bytes()), "the last block");
+}
+
 #[test]
 fn written_early(rt: HostRuntime) -> Result<(), Fail> {
-    let mut trace = String::new(rt.alloc());
-    for thread in 1..=65u32 {
-        trace.push_str(format!(in rt.alloc(); "T{thread}|w(x)\n")?.as_str())?;
-    }
+    let trace = writers(rt.alloc(), 65)?;
     let taken = AtomicU64::new(0);
     let gate = LastHeld {
         entered: AtomicU64::new(0),
         taken: &taken,
         missed: AtomicBool::new(false),
     };
-    let mut source = Text::new(trace.as_str().as_bytes(), 4096, None);
-    let mut sink = Watched {
-        page: Page::new(rt.alloc(), 300_000, 4096, None)?,
-        taken: &taken,
-    };
-    let answer = run_gated(
-        &rt,
-        rt.alloc(),
-        &mut source,
-        &mut sink,
-        settings(&rt, 2, true),
-        &FreeGate,
-        &gate,
-    );
-    holds(&rt, answer.is_ok(), "the report is written");
+    let (is_written, page) = ran_watched(&rt, trace.as_str(), &gate)?;
+    holds(&rt, is_written, "the report is written");
     let entered = gate.entered.load(Ordering::SeqCst);
     same(&rt, &entered, &2080, "pieces that enter");
-    holds(
-        &rt,
-        !gate.missed.load(Ordering::SeqCst),
-        "blocks are written early",
-    );
-
-    // The lines before the first block have 97 bytes.
-    let front =
-        "shb-report 2\nevents 65 threads 65 locks 0 variables 1\nraces 2080\nplaces 1\nplace 1: 2080\nat \nand \n";
-    same(&rt, &front.len(), &97, "bytes before the first block");
-    holds(
-        &rt,
-        sink.page.bytes().starts_with(front.as_bytes()),
-        "the front",
-    );
-    let last = "race 2080: 64 65\nfirst T64|w(x)\nsecond T65|w(x)\nschedule 0:\nend\n";
-    holds(
-        &rt,
-        sink.page.bytes().ends_with(last.as_bytes()),
-        "the last block",
-    );
+    let is_early = !gate.missed.load(Ordering::SeqCst);
+    holds(&rt, is_early, "blocks are written early");
+    expect_ends(&rt, page.bytes());
     Ok(())
 }
 
