@@ -28,7 +28,14 @@ fetch_add-number-requires c =
     )
 
 pub returns-then-number-self-clause-some : goal.returns-then-number-self-clause-some
-returns-then-number-self-clause-some c = search rules
+returns-then-number-self-clause-some c =
+    let limit = ap (λ (z : Source). z.limit) c.self.view_is in (
+      omega (arith, c.if-number-self.true, limit),
+      search rules,
+      search rules,
+      c.if-pass.false,
+      search rules,
+    )
 
 pub invariant_of-pass : goal.invariant_of-pass
 invariant_of-pass c = search rules
