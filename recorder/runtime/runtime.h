@@ -36,6 +36,7 @@ extern volatile int recording;
 void begin_turns(int slice, uint64_t seed);
 int end_turns(void);                   /* all threads run free from here on; gives whether they took turns before */
 thread *new_thread(void);
+int number_thread(thread *t);
 thread *thread_of(pthread_t handle);
 thread *enter(enum yields yields);
 void leave(thread *t);

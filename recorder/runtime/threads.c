@@ -67,7 +67,7 @@ __attribute__((constructor(101))) static void begin(void) {
     unsetenv("SHB_RECORD");            /* a program started by this one would write over it */
     __tsan_init();
     thread *t = new_thread();
-    if (!t || pthread_key_create(&at_exit, thread_exits) || pthread_atfork(0, 0, in_child)) return;
+    if (!t || !number_thread(t) || pthread_key_create(&at_exit, thread_exits) || pthread_atfork(0, 0, in_child)) return;
     begin_turns(setting("SHB_SLICE", 200), setting("SHB_SEED", 0));
     begin_thread(t, 0);
 }
@@ -85,10 +85,12 @@ static void *run(void *t_) {
     return result;
 }
 
-/* Records the fork and starts the thread, whose function and argument are in `start`. */
+/* Records the fork and starts the thread, whose function and argument are in `start`.  The thread may sleep in
+   new_thread, and then the turn may be taken over: so it is asked for behind that, before the child gets its number. */
 static int create(thread *t, thread start, pthread_t *handle, const pthread_attr_t *attributes, uint64_t caller) {
     thread *child = new_thread();
-    if (!child) {
+    if (!keep_turn(t)) take_turn(t);
+    if (!child || !number_thread(child)) {
         stop_recording("too many threads");
         return EAGAIN;
     }

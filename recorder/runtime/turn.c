@@ -227,12 +227,16 @@ int end_turns(void) {
     return was;
 }
 
-thread *new_thread(void) {             /* with the turn */
-    if (thread_count >= MAX_THREADS) return 0;
+thread *new_thread(void) {             /* it may sleep in the system */
     thread *t = mmap(0, sizeof *t, PROT_READ | PROT_WRITE, MAP_PRIVATE | MAP_ANONYMOUS, -1, 0);
-    if (t == MAP_FAILED) return 0;
+    return t == MAP_FAILED ? 0 : t;
+}
+
+int number_thread(thread *t) {         /* with the turn */
+    if (thread_count >= MAX_THREADS) return 0;
     t->number = thread_count;
-    return threads[thread_count++] = t;
+    threads[thread_count++] = t;
+    return 1;
 }
 
 thread *thread_of(pthread_t handle) {  /* asked before a join: a handle is used again after it */

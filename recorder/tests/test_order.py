@@ -78,6 +78,18 @@ class Order(recorder.Case):
     def test_more_threads_than_cores(self):
         self.check_order("-O2", before=(sys.executable, "-c", ON_ONE_CORE))
 
+    def test_each_thread_is_forked_once_and_before_it_starts(self):
+        """Threads that fork may sleep in the system and lose the turn: each child has a number of its own all the same."""
+        program, path = self.folder / "forks", self.folder / "forks.rec"
+        hasty = recorder.build_recorder(self.folder, "CFLAGS=-O2 -DHASTY")
+        recorder.build(recorder.PROGRAMS / "forks.c", "-O2", program, hasty)
+        for seed in range(8):
+            settings = recorder.settings(path, seed + 1, SLICES[seed % len(SLICES)])
+            recorder.must(recorder.call(program, env=settings))
+            trace = recorder.must(recorder.convert(path)).stdout
+            self.assertGreater(len(set(re.findall(rb"\|fork\((\S+)\)", trace))), 400)
+            self.assertEqual(recorder.places(trace), set())
+
     def test_turns_that_are_taken_over_in_haste(self):
         hasty = recorder.build_recorder(self.folder, "CFLAGS=-O2 -DHASTY")
         self.check_order("-O2", hasty)
