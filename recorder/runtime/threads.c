@@ -101,6 +101,7 @@ static int create(thread *t, thread start, pthread_t *handle, const pthread_attr
     put(t, OP_FORK, (void *)(uint64_t)child->number, 0, caller);
     pthread_t created;                 /* where the caller wants it only when it is known: others may read that */
     int error = REAL(pthread_create)(&created, attributes, run, child);
+    if (!keep_turn(t)) take_turn(t);   /* it may have slept again */
     if (error) others--;
     else *handle = child->handle = created;
     return error;
