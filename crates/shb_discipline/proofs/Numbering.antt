@@ -13,7 +13,7 @@ use Rattle.shb_lines.specs.declared.event.Op.{Op}
 use Rattle.shb_lines.specs.declared.event.Op.TheVariants as ops
 use Rattle.shb_lines.specs.text.Grammar.{NamedEvent}
 use Rattle.shb_lines.specs.text.Names.{table_of, with_name}
-use Rattle.shb_lines.specs.text.Numbers.{IsEventOf, IsNumbered, IsOperation, Tables, events_of, tables_of_events}
+use Rattle.shb_lines.specs.text.Numbers.{IsEventOf, IsNumbered, IsOperation, Tables, events_of, op_for, tables_of_events}
 use Rattle.shb_lines.specs.text.Reader.{with_names}
 use Rattle.shb_lines.specs.text.Text.{LocatedEvent, locks_among, threads_among, trace_of, variables_among}
 use Rattle.shb_lines.specs.text.TraceData.{IsTraceOf, TraceData, tables_in}
@@ -125,17 +125,7 @@ front_trace lines front rest trace split h = (other, record { tables_are = refl;
     tables : tables_in trace ≡ tables_of_events (map event_in (trace_of front ++ rest))
     tables = h.tables_are ∙ ap (λ t. tables_of_events (map event_in t)) split
 
--- the operation of a kind on a number, and the table that has the number's name
-abbrev op_for : Kind → ℕ → Op
-op_for kinds.Read n = ops.Read n
-op_for kinds.Write n = ops.Write n
-op_for kinds.Acquire n = ops.Acquire n
-op_for kinds.Release n = ops.Release n
-op_for kinds.Fork n = ops.Fork n
-op_for kinds.Join n = ops.Join n
-op_for kinds.BeginMark n = ops.BeginMark
-op_for kinds.EndMark n = ops.EndMark
-
+-- the table that has the name of a kind's number
 abbrev IsNumberFor : Tables → Kind → List ℕ → ℕ → Type 0
 IsNumberFor tables kinds.Read name n = slice_get tables.variables n ≡ Some name
 IsNumberFor tables kinds.Write name n = slice_get tables.variables n ≡ Some name

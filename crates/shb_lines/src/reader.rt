@@ -159,22 +159,6 @@ impl<'t> Reader<'t> {
         }
     }
 
-    /// The operation of an event, with the number of its name.
-    fn operation(&mut self, kind: Kind, name: &'t [u8], span: Span) -> Result<Op, NoMemory>
-        requires room { HasNames self.old (2 ^ 24) }
-        ensures room { (n : ℕ) → HasNames self.old n → HasNames self.new (n + 1) }
-        ensures events { self.new.events ≡ self.old.events }
-        ensures starts { self.new.starts ≡ self.old.starts }
-        ensures tables { OnOk result
-            (tables_of self.new ≡ with_operand (tables_of self.old) kind name.now) }
-        ensures operation { IfOk result (λ op. IsOperation (tables_of self.new) op kind name.now) }
-        ensures stand { (text : List ℕ) → AllStand text self.old → StandsAt text name.now span
-            → OnOk result (AllStand text self.new) }
-    {
-        let number = self.operand_number(kind, name, span)?;
-        Ok(op_with(kind, number))
-    }
-
     /// Adds the event of a line that begins at `start`.
     fn add_event(&mut self, found: &LineEvent<'t>, line: u32, start: u32) -> Result<(), NoMemory>
         requires room { HasNames self.old (2 ^ 23) }
@@ -197,7 +181,8 @@ impl<'t> Reader<'t> {
             len: found.operand.len() as u32,
         };
         let thread = self.threads.number_of(found.thread, thread_span)?;
-        let op = self.operation(found.kind, found.operand, operand_span)?;
+        let number = self.operand_number(found.kind, found.operand, operand_span)?;
+        let op = op_with(found.kind, number);
         self.events.push(Event { thread, op, line })?;
         self.starts.push(start)?;
         Ok(())

@@ -163,11 +163,12 @@ pub run_first : (trace : List Event) (xs : List ℕ) (pairs : List Pair) (from :
 run_first trace xs pairs from none = let e : from - from ≡ 0 = omega arith in rw (none, e) refl
 
 -- the run and the races of piece k
-pub piece_value : (a seen : Listed) (trace : List Event) (pieces : List Piece) (k : ℕ) → a ≡ seen → a.trace ≡ trace → pieces ≡ pieces_in a → k < length (pieces_in seen) → IsRun trace a.flags (piece_at pieces k) × (races_at seen k ≡ races_of seen.trace (piece_at pieces k))
+pub piece_value : (a seen : Listed) (trace : List Event) (pieces : List Piece) (k : ℕ) (piece : Piece) → a ≡ seen → a.trace ≡ trace → pieces ≡ pieces_in a → k < length (pieces_in seen) → piece ≡ piece_at pieces k
+    → IsRun trace a.flags piece × (races_at seen k ≡ races_of seen.trace piece)
 unfolding races_at
-piece_value a seen trace pieces k same of_trace is lt =
-    let own : piece_at pieces k ≡ piece_at (pieces_in seen) k = ap (λ (ps : List Piece). piece_at ps k) (is ∙ ap (λ (b : Listed). pieces_in b) same) in
-    (subst (λ (tr : List Event). IsRun tr a.flags (piece_at pieces k)) of_trace (subst (λ (b : Listed). IsRun b.trace b.flags (piece_at pieces k)) (sym same) (subst (IsRun seen.trace seen.flags) (sym own) (piece_within seen k _ lt))), ap (λ (q : Piece). races_of seen.trace q) (sym own))
+piece_value a seen trace pieces k piece same of_trace is lt found =
+    let own : piece ≡ piece_at (pieces_in seen) k = found ∙ ap (λ (ps : List Piece). piece_at ps k) (is ∙ ap (λ (b : Listed). pieces_in b) same) in
+    (subst (λ (tr : List Event). IsRun tr a.flags piece) of_trace (subst (λ (b : Listed). IsRun b.trace b.flags piece) (sym same) (subst (IsRun seen.trace seen.flags) (sym own) (piece_within seen k _ lt))), ap (λ (q : Piece). races_of seen.trace q) (sym own))
 
 pub run_small : (trace : List Event) (flags : List Bool) (p : Piece) → IsRun trace flags p → (p.from ≤ length trace) × (p.to ≤ length trace)
 run_small trace flags p run =

@@ -1,9 +1,9 @@
 //! The races of a trace as work in pieces.
 
-ghost use Rattle.std.specs.Prelude.{◌≡◌, length, map};
+ghost use Rattle.std.specs.Prelude.{◌≡◌, ◌<◌, length, map};
 ghost use Rattle.shb_pairs.specs.Listed.{Listed};
 ghost use Rattle.shb_pairs.specs.Pieces.{pieces_in};
-ghost use Rattle.shb_pairs.specs.Races.{ends, races_at};
+ghost use Rattle.shb_pairs.specs.Races.{ends, piece_at, races_at};
 
 use crate::accesses::Accesses;
 use crate::piece::Piece;
@@ -71,6 +71,14 @@ impl<'a, O: Order> PairJob<'a, O> {
     }
 }
 
+/// The piece with this number.
+fn piece_with(pieces: &[Piece], k: u64) -> Piece
+    requires { k < length pieces.now }
+    ensures { result ≡ piece_at pieces.now k }
+{
+    pieces[k as usize]
+}
+
 impl<'a, O: Order> Job for PairJob<'a, O> {
     type Out = Vec<Pair>;
 
@@ -87,8 +95,7 @@ impl<'a, O: Order> Job for PairJob<'a, O> {
     }
 
     fn run(&self, alloc: Global, k: u64) -> Result<Vec<Pair>, NoMemory> {
-        let pieces = self.pieces;
-        let piece = pieces[k as usize];
+        let piece = piece_with(self.pieces, k);
         let search = Search {
             ordered: &self.ordered,
             accesses: self.accesses,

@@ -19,7 +19,6 @@ pub use places::run_places;
 pub use settings::{Settings, Summary};
 pub use shb_check::{
     RaceFault, RunError, Verdict, check, end_of_check, exit_status, fault_line, status_of_check,
-    tell_error,
 };
 pub use shb_fan::{FreeGate, Gate, Workers};
 pub use words::{end_of_run, status_of_run};

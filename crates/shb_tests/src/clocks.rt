@@ -29,52 +29,6 @@ struct At {
     t: u32,
 }
 
-impl At {
-    fn in_plain(
-        &self,
-        alloc: Global,
-        trace: &Disciplined<'_>,
-        links: &Links<'_>,
-    ) -> Result<u32, NoMemory>
-        requires { links.now ≡ trace.now.events.now }
-    {
-        Ok(answer(&plain(alloc, trace, links)?, trace, self.e, self.t))
-    }
-
-    fn in_full(
-        &self,
-        alloc: Global,
-        trace: &Disciplined<'_>,
-        links: &Links<'_>,
-    ) -> Result<u32, NoMemory>
-        requires { links.now ≡ trace.now.events.now }
-    {
-        Ok(answer(&full(alloc, trace, links)?, trace, self.e, self.t))
-    }
-
-    fn in_versions(
-        &self,
-        alloc: Global,
-        trace: &Disciplined<'_>,
-        links: &Links<'_>,
-    ) -> Result<u32, NoMemory>
-        requires { links.now ≡ trace.now.events.now }
-    {
-        Ok(answer(&versions(alloc, trace, links)?, trace, self.e, self.t))
-    }
-
-    fn in_rows(
-        &self,
-        alloc: Global,
-        trace: &Disciplined<'_>,
-        links: &Links<'_>,
-    ) -> Result<u32, NoMemory>
-        requires { links.now ≡ trace.now.events.now }
-    {
-        Ok(answer(&by_event(alloc, trace, links)?, trace, self.e, self.t))
-    }
-}
-
 impl Question for At {
     type Answer = [u32; 4];
 
@@ -84,12 +38,11 @@ impl Question for At {
         trace: &Disciplined<'_>,
         links: &Links<'_>,
     ) -> Result<[u32; 4], Fail> {
-        Ok([
-            self.in_plain(alloc, trace, links)?,
-            self.in_full(alloc, trace, links)?,
-            self.in_versions(alloc, trace, links)?,
-            self.in_rows(alloc, trace, links)?,
-        ])
+        let in_plain = answer(&plain(alloc, trace, links)?, trace, self.e, self.t);
+        let in_full = answer(&full(alloc, trace, links)?, trace, self.e, self.t);
+        let in_versions = answer(&versions(alloc, trace, links)?, trace, self.e, self.t);
+        let in_rows = answer(&by_event(alloc, trace, links)?, trace, self.e, self.t);
+        Ok([in_plain, in_full, in_versions, in_rows])
     }
 }
 
