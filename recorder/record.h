@@ -7,8 +7,8 @@
 #define RECORD_MAGIC "shb-record 2\n"
 #define HEADER_BYTES 65536
 #define LOW_48_BITS 0xffffffffffffull
-#define FIRST_DESCRIPTOR (1ul << 47)   /* no program's address: descriptor D is at 16 D behind it, its data 8 further */
-#define SIZE_FOLLOWS 1023              /* such a size or a greater one stands in a record OP_SIZE behind this one */
+#define FIRST_DESCRIPTOR (1ul << 47)   /* no program's address: descriptor D is at 16 D above it, its data 8 further */
+#define SIZE_FOLLOWS 1023              /* such a size or a greater one stands in a record OP_SIZE after this one */
 
 struct record {
     uint64_t where;                    /* 48 bits: the address (of a fork or join: the other thread); 16: the thread */

@@ -41,7 +41,7 @@ CROSSED = (
     ),
 )
 
-# No second bar, and nothing behind it: both locations are empty. Behind it further bars may stand.
+# No second bar, and nothing after it: both locations are empty. After it further bars may stand.
 EMPTY = (
     b"T1|w(x)\nT2|w(x)|\nT3|r(x)|a|b\n",
     report(

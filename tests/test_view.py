@@ -191,7 +191,7 @@ class Text(program.Case):
         both = "l, acquired at b1 (event 4), between the accesses: this orders them, so they are no race"
         self.assertIn(f"  Locks held by both: {both}\n", self.shown(trace, report))
 
-    def test_nothing_behind_an_access_is_shown_before_it(self):
+    def test_nothing_after_an_access_is_shown_before_it(self):
         """The second thread's acquire waits for a release that comes after the first access."""
         trace = b"A|acq(l)\nA|w(x)\nA|rel(l)\nB|acq(l)\nB|w(x)\n"
         report = b"shb-report 1\nevents 5 threads 2 locks 1 variables 1\nraces 1\nrace 1: 2 5\nfirst A|w(x)\nsecond B|w(x)\nend\n"
@@ -456,7 +456,7 @@ class Reports(program.Case):
             (b"at 3", b"at 4", "the places that the report begins with aren't those of its races"),
             (b"end\n", b"end", "line 12 of the report is cut off: `end`; it should be `end`"),
             (b"end\n", b"", "line 12 of the report is missing; it should be `end`"),
-            (b"end\n", b"end\n\n", "line 13 of the report stands behind `end`"),
+            (b"end\n", b"end\n\n", "line 13 of the report stands after `end`"),
             (b"shb-report 2", b"shb-report 3", "line 1 of the report is `shb-report 3`; it should be `shb-report 2`"),
             (b"shb-report 2", b"\x1b[31m\xff", "line 1 of the report is `\\x1b[31m\\xff`; it should be `shb-report 2`"),
         ):

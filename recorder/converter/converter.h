@@ -45,13 +45,13 @@ typedef struct {
     u32 writes;                        /* events so far that wrote it */
     uint8_t many_users, many_readers, written;
 } piece;
-extern u64 range_steps;                /* in this pass: pages and pieces behind the first of each range */
+extern u64 range_steps;                /* in this pass: pages and pieces after the first of each range */
 void begin_memory_pass(void);
 void meet_block(u64 i);                /* each pass calls it for each record: the newest block holds its addresses */
 block *block_at(u64 address);          /* or null */
 u32 block_number(const block *b);      /* from 1; of null 0 */
 void cut(u64 address);
-u64 next_cut(u64 from, u64 end);       /* the first cut behind `from`, or the end */
+u64 next_cut(u64 from, u64 end);       /* the first cut after `from`, or the end */
 piece *piece_at(u64 address);          /* makes it */
 u32 piece_number(const piece *p);
 

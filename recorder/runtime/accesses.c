@@ -4,7 +4,7 @@
 /* ---- accesses ---- */
 static uint64_t read_at(const volatile void *p, uint64_t caller) { return caller ^ (uint64_t)p << 20; }
 
-/* gcc puts two hooks before one copy of a structure (of the write, then of the read): so a read's hook directly behind
+/* gcc puts two hooks before one copy of a structure (of the write, then of the read): so a read's hook directly after
    a write's never gives the turn up. */
 static void note_read(const void *p, uint64_t size, uint64_t caller) {
     thread *t = self;

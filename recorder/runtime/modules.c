@@ -1,4 +1,4 @@
-/* The modules of code in the program: which are instrumented, and the functions behind those that stand here. */
+/* The modules of code in the program: which are instrumented, and the functions that the wrappers here stand for. */
 #define _GNU_SOURCE
 #include <dlfcn.h>
 #include <limits.h>

@@ -43,7 +43,7 @@ static void grow(void) {
 
 /* ---- records ---- */
 /* Afterwards t has the turn and there is room for so many records, or it answers 0.  The thread may sleep in grow, and
-   then the turn may be taken over: so it is asked for behind that. */
+   then the turn may be taken over: so it is asked for after that. */
 int make_room(thread *t, int count) {
     for (;;) {
         if (!keep_turn(t)) take_turn(t);
@@ -139,7 +139,7 @@ int open_recording(const char *path, uint64_t most) {
 }
 
 /* With the turn nobody else writes, so the file can be cut.  Without it (the recording had ended before) a last record
-   may still be on its way: then the zeros behind the records stay. */
+   may still be on its way: then the zeros after the records stay. */
 void close_recording(void) {
     thread *t = enter(NEVER_YIELD);
     end_turns();

@@ -86,7 +86,7 @@ static void *run(void *t_) {
 }
 
 /* Records the fork and starts the thread, whose function and argument are in `start`.  The thread may sleep in
-   new_thread, and then the turn may be taken over: so it is asked for behind that, before the child gets its number. */
+   new_thread, and then the turn may be taken over: so it is asked for after that, before the child gets its number. */
 static int create(thread *t, thread start, pthread_t *handle, const pthread_attr_t *attributes, uint64_t caller) {
     thread *child = new_thread();
     if (!keep_turn(t)) take_turn(t);

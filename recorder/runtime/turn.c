@@ -128,7 +128,7 @@ static int accept(thread *t, uint64_t seen) {
 }
 
 /* ---- a waiter looks at the holder ---- */
-/* The processor time that a thread has spent outside the system, in ticks: 11 words behind its state. */
+/* The processor time that a thread has spent outside the system, in ticks: 11 words after its state. */
 static long user_ticks(const char *state) {
     const char *p = state;
     for (int i = 0; i < 11 && p; i++) p = strchr(p + 1, ' ');

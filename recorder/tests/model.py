@@ -38,7 +38,7 @@ BUGS = {PUT_DOES_NOT_ASK: "window", PUT_SKIPS: "record", NO_COUNT: "window", TAK
 class Thread(typing.NamedTuple):
     at: int = 0  # in its program
     step: str = "next"
-    after: str = ""  # the step behind take_turn or give_turn
+    after: str = ""  # the step after take_turn or give_turn
     word: bool = False  # is its view of the turn's word fresh?
     wakes: bool = False  # is its view of its wakes fresh?
     look: bool = False  # its sleep ended by the timeout: it looks at the holder
@@ -125,7 +125,7 @@ class Step:
         else:
             yield self.to("take")
 
-    # put: the record, then the access behind the hook
+    # put: the record, then the access after the hook
     def check(self):
         if not self.state.on:
             yield self.to("next", at=self.thread.at + 1)

@@ -79,7 +79,7 @@ def shown_events(trace, accesses):
 
 
 def stands_before(trace, event, accesses):
-    """Whether neither access, nor an event behind one in its thread, is this event."""
+    """Whether neither access, nor an event after one in its thread, is this event."""
     return all(event < access or trace.threads[event] != trace.threads[access] for access in accesses)
 
 

@@ -26,7 +26,7 @@ def columns(text):
 
 
 def padded(text, width):
-    """The text with blanks behind it up to this many columns."""
+    """The text with blanks after it up to this many columns."""
     return text + " " * (width - columns(text))
 
 

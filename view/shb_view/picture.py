@@ -103,7 +103,7 @@ class Drawing:
         return short(self.trace.event(self.events_of(thread)[0]).thread, TEXT)
 
     def event_texts(self, number):
-        """An event's operation, and its location, behind which its number stands."""
+        """An event's operation, and its location, after which its number stands."""
         event = self.trace.event(number)
         front = f"{self.place.accesses.index(number) + 1}  " if number in self.place.accesses else ""
         return front + short(event.operation, TEXT - len(front)), location_text(event.location, TEXT - len(f" · {number}"))
@@ -113,7 +113,7 @@ class Drawing:
 
 
 def picture(trace, place, anchor):
-    """The SVG of a place. The number of an event is a link to the anchor's text with the number behind it."""
+    """The SVG of a place. The number of an event is a link to the anchor's text with the number after it."""
     drawing = Drawing(trace, place)
     width, height = drawing.width(), drawing.height()
     first, second = place.accesses

@@ -23,7 +23,7 @@ LONGEST = 60  # columns of a line that a refusal shows
 
 
 class Race(typing.NamedTuple):
-    """A block of a report. `schedule` has a blank before and behind each number; without schedules it is None."""
+    """A block of a report. `schedule` has a blank before and after each number; without schedules it is None."""
 
     number: int
     first: int
@@ -114,7 +114,7 @@ class Report:
             progress(self.lines.bytes)
         self.lines.next(END, "end")
         if self.lines.line:
-            raise Refused(f"line {self.lines.number + 1} of the report stands behind `end`")
+            raise Refused(f"line {self.lines.number + 1} of the report stands after `end`")
 
     def read_race(self, number):
         first, second = self.lines.numbered(RACE, f"race {number}: I J", number)

@@ -4,14 +4,14 @@ use Rattle.std.proofs.lemmas.Option.{IfSome_then}
 use Rattle.std.specs.Io.KnownBytes.{Consumes}
 use Rattle.shb_io.proofs.Growth.{Appends-nil}
 use Rattle.shb_lines.specs.declared.event.Event.{Event}
-use Rattle.shb_lines.specs.declared.event.Fault.{Fault}
-use Rattle.shb_lines.specs.declared.event.LineFault.{LineFault}
+use Rattle.shb_lines.specs.declared.fault.Fault.{Fault}
+use Rattle.shb_lines.specs.declared.fault.LineFault.{LineFault}
 use Rattle.shb_lines.specs.events.Discipline.{IsDisciplined}
 use Rattle.shb_lines.specs.text.Taking.{ReadsText, TakesAtMost}
 use Rattle.shb_lines.specs.text.Text.{lines_of}
 use Rattle.shb_lines.specs.text.TraceData.{IsReadingOf, IsTraceOf, TraceData}
 use Rattle.shb_lines.proofs.text.TakingLemmas.{reads_then}
-use Rattle.shb_discipline.specs.FirstFault.{HasFirstFault, HasNoFault}
+use Rattle.shb_discipline.specs.FirstFault.{IsFirstFault, HasNoFault}
 use Rattle.shb_discipline.specs.declared.checking.CheckError.{CheckError}
 use Rattle.shb_discipline.specs.declared.checking.CheckError.TheVariants as checking
 use Rattle.shb_discipline.specs.Faults.{IsRefusal}
@@ -28,12 +28,12 @@ use Rattle.shb_check.specs.Judged.{IsAccepted, IsRefusalOf, limits}
 use Rattle.shb_check.specs.Outcomes.{Grows, OnJudged, OnNoTrace, OnTrace}
 
 -- a text with no fault has no first one
-pub no_first_fault : (text : List ℕ) (line : ℕ) (fault : Fault) → HasNoFault limits text → HasFirstFault limits text line fault → ⊥
+pub no_first_fault : (text : List ℕ) (line : ℕ) (fault : Fault) → HasNoFault limits text → IsFirstFault limits text line fault → ⊥
 no_first_fault text line fault none first = none first.before fault first.within first.lowest.0
 
 -- the lines were stopped, and no event before that breaks the discipline
 pub stopped_of : (read : TraceData) (stop : Option LineFault) (found : LineFault) (events : List Event) (trace : TraceData)
-    → IsDisciplined events → events ≡ trace.events → trace ≡ read → stop ≡ Some found → (text : List ℕ) → IsReadingOf limits text read stop → HasFirstFault limits text found.line found.fault
+    → IsDisciplined events → events ≡ trace.events → trace ≡ read → stop ≡ Some found → (text : List ℕ) → IsReadingOf limits text read stop → IsFirstFault limits text found.line found.fault
 stopped_of read stop found events trace disciplined same as_read is text reading =
     stopped limits text read found (subst (IsReadingOf limits text read) is reading) (subst (λ t. IsDisciplined t.events) as_read (subst IsDisciplined same disciplined))
 
@@ -61,20 +61,20 @@ refused_of read stop error (Err e) is refusal = subst (IsRefusalOf read stop) (s
 
 -- the fault of a refusal is the first of the text that was read
 pub refusal_first : {T : Type 0} (read : TraceData) (stop : Option LineFault) (n : ℕ) (known left : Option (List ℕ)) (error : RunError) (r : Result T RunError) → IsErrAnd r (λ e. e ≡ error)
-    → ReadsText n known left (λ text. IsReadingOf limits text read stop) → IsRefusalOf read stop error → OnTrace r (λ line fault. ReadsText n known left (λ text. HasFirstFault limits text line fault))
+    → ReadsText n known left (λ text. IsReadingOf limits text read stop) → IsRefusalOf read stop error → OnTrace r (λ line fault. ReadsText n known left (λ text. IsFirstFault limits text line fault))
 refusal_first read stop n known left error (Ok x) is reading refusal = absurd is
 refusal_first {T} read stop n known left error (Err e) is reading refusal =
-    subst (λ (x : RunError). OnTrace {T = T} (Err x) (λ line fault. ReadsText n known left (λ text. HasFirstFault limits text line fault))) (sym is) (told error refusal)
+    subst (λ (x : RunError). OnTrace {T = T} (Err x) (λ line fault. ReadsText n known left (λ text. IsFirstFault limits text line fault))) (sym is) (told error refusal)
   where
-    told : (error : RunError) → IsRefusalOf read stop error → OnTrace {T = T} (Err error) (λ line fault. ReadsText n known left (λ text. HasFirstFault limits text line fault))
-    told (Trace line fault) refusal = reads_then n known left (λ text. IsReadingOf limits text read stop) (λ text. HasFirstFault limits text line fault) reading refusal
+    told : (error : RunError) → IsRefusalOf read stop error → OnTrace {T = T} (Err error) (λ line fault. ReadsText n known left (λ text. IsFirstFault limits text line fault))
+    told (Trace line fault) refusal = reads_then n known left (λ text. IsReadingOf limits text read stop) (λ text. IsFirstFault limits text line fault) reading refusal
     told Source refusal = tt
     told Sink refusal = tt
     told Memory refusal = tt
 
 -- a text with no fault has none of which anything is to be said
 pub none_found : (read : TraceData) (stop : Option LineFault) (trace : TraceData) (known : Option (List ℕ)) (P : Type 0)
-    → IsAccepted read stop trace → IfSome known (λ text. IsReadingOf limits text read stop) → IfSome known (λ text. (line : ℕ) (fault : Fault) → HasFirstFault limits text line fault → P)
+    → IsAccepted read stop trace → IfSome known (λ text. IsReadingOf limits text read stop) → IfSome known (λ text. (line : ℕ) (fault : Fault) → IsFirstFault limits text line fault → P)
 none_found read stop trace known P accepted reading = IfSome_then known reading (λ text one line fault first. absurd (no_first_fault text line fault (accepted.faultless text one) first))
 
 -- what holds of each run that read its text
@@ -134,7 +134,7 @@ of_no_trace (Err Source) P p = p
 of_no_trace (Err Sink) P p = tt
 of_no_trace (Err Memory) P p = tt
 
-pub of_any_fault : (known : Option (List ℕ)) (P : Type 0) → P → IfSome known (λ text. (line : ℕ) (fault : Fault) → HasFirstFault limits text line fault → P)
+pub of_any_fault : (known : Option (List ℕ)) (P : Type 0) → P → IfSome known (λ text. (line : ℕ) (fault : Fault) → IsFirstFault limits text line fault → P)
 of_any_fault None P p = tt
 of_any_fault (Some text) P p = λ line fault first. p
 

@@ -1,10 +1,10 @@
 -- What a text that was read is: a trace with no fault, or refused for its first one.
 use Rattle.std.specs.Prelude.{◌≡◌, List, Option, ℕ, ⊤}
-use Rattle.shb_lines.specs.declared.event.Limits.{Limits}
-use Rattle.shb_lines.specs.declared.event.LineFault.{LineFault}
+use Rattle.shb_lines.specs.declared.limits.Limits.{Limits}
+use Rattle.shb_lines.specs.declared.fault.LineFault.{LineFault}
 use Rattle.shb_lines.specs.text.Text.{lines_of}
 use Rattle.shb_lines.specs.text.TraceData.{IsReadingOf, IsTraceOf, TraceData}
-use Rattle.shb_discipline.specs.FirstFault.{HasFirstFault, HasNoFault}
+use Rattle.shb_discipline.specs.FirstFault.{IsFirstFault, HasNoFault}
 use Rattle.shb_check.specs.declared.errors.RunError.{RunError}
 use Rattle.shb_check.specs.declared.errors.RunError.TheVariants.{Trace, Source, Sink, Memory}
 
@@ -20,7 +20,7 @@ pub record IsAccepted (read : TraceData) (stop : Option LineFault) (trace : Trac
 
 -- a text that was read so is refused for its first fault, or there was no memory to judge it
 abbrev pub IsRefusalOf : TraceData → Option LineFault → RunError → Type 0
-IsRefusalOf read stop (Trace line fault) = (text : List ℕ) → IsReadingOf limits text read stop → HasFirstFault limits text line fault
+IsRefusalOf read stop (Trace line fault) = (text : List ℕ) → IsReadingOf limits text read stop → IsFirstFault limits text line fault
 IsRefusalOf read stop Memory = ⊤
 IsRefusalOf read stop Source = ⊥
 IsRefusalOf read stop Sink = ⊥

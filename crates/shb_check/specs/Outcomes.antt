@@ -1,7 +1,7 @@
 -- What a run and a check say of their devices, by what they answer.
 use Rattle.std.specs.Prelude.{◌≡◌, ℕ, ◌+◌, List, Option, Result, Ok, Err, ⊤}
 use Rattle.std.specs.Io.KnownBytes.{Appends}
-use Rattle.shb_lines.specs.declared.event.Fault.{Fault}
+use Rattle.shb_lines.specs.declared.fault.Fault.{Fault}
 use Rattle.shb_check.specs.declared.errors.RunError.{RunError}
 use Rattle.shb_check.specs.declared.errors.RunError.TheVariants.{Trace, Source, Sink, Memory}
 

@@ -13,7 +13,8 @@ pub fn trace_of_lines_is_unique()
 
 /// The texts of a trace and of a report have at most one verdict.
 pub fn verdict_of_texts_is_one()
-    ensures { (text report : List ℕ) (verdict other : Verdict) → IsVerdictOf text report verdict → IsVerdictOf text report other → verdict ≡ other }
+    ensures { (text report : List ℕ) (verdict other : Verdict) → IsVerdictOf text report verdict
+        → IsVerdictOf text report other → verdict ≡ other }
 {}
 
 /// The verdict of two texts is `Good`, with so many races, exactly where the second is a report that is

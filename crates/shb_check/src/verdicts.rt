@@ -1,9 +1,9 @@
 //! The check of a report: read the trace, judge it, read the report, judge it, write the verdict.
 ghost use Rattle.std.specs.Prelude.{◌≡◌, ◌+◌, ◌-◌, ◌^◌, ◌<◌, ◌≤◌, ℕ, Some, IfOk, IfSome, drop};
 ghost use Rattle.std.specs.Io.KnownBytes.{Appends};
-ghost use Rattle.shb_discipline.specs.FirstFault.{HasFirstFault};
+ghost use Rattle.shb_discipline.specs.FirstFault.{IsFirstFault};
 ghost use Rattle.shb_lines.specs.text.Taking.{ReadsText, TakesAtMost};
-ghost use Rattle.shb_lines.specs.declared.event.Fault.{Fault};
+ghost use Rattle.shb_lines.specs.declared.fault.Fault.{Fault};
 ghost use Rattle.shb_report.specs.Verdicts.{verdict_bytes};
 ghost use Rattle.shb_check.specs.Checks.{CountsSources, IsChecked, IsLineCutShort};
 ghost use Rattle.shb_check.specs.Judged.{limits};
@@ -56,15 +56,16 @@ pub fn check<S: Source, Q: Source, K: Sink, R: RandomSource>(
     ensures line { IfOk result (λ verdict. Appends (K.taken sink.old) (K.taken sink.new) (verdict_bytes verdict)) }
 
     // A refused trace has this fault first.
-    ensures refused { OnTrace result (λ line fault. ReadsText 1073741825 (S.remaining trace_source.old) (S.remaining trace_source.new) (λ text.
-        HasFirstFault limits text line fault)) }
+    ensures refused { OnTrace result (λ line fault.
+        ReadsText 1073741825 (S.remaining trace_source.old) (S.remaining trace_source.new) (λ text.
+        IsFirstFault limits text line fault)) }
 
     // What is written where no verdict is. Nothing, where the trace was refused, where a source failed,
     // where memory was refused, and where the trace has a fault.
     ensures unwritten { OnNoTrace result (sink.new ≡ sink.old) }
     ensures memory { OnMemory result (sink.new ≡ sink.old) }
     ensures silent { IfSome (S.remaining trace_source.old) (λ text. (line : ℕ) (fault : Fault) →
-        HasFirstFault limits text line fault → sink.new ≡ sink.old) }
+        IsFirstFault limits text line fault → sink.new ≡ sink.old) }
 
     // Where the sink failed the trace has no fault, and less than the line of the verdict was written,
     // the front of it.
@@ -78,7 +79,7 @@ pub fn check<S: Source, Q: Source, K: Sink, R: RandomSource>(
     // Where the trace has a fault the report isn't read, whatever is answered; nor where the source of
     // the trace failed.
     ensures unread { IfSome (S.remaining trace_source.old) (λ text. (line : ℕ) (fault : Fault) →
-        HasFirstFault limits text line fault → report_source.new ≡ report_source.old) }
+        IsFirstFault limits text line fault → report_source.new ≡ report_source.old) }
     ensures unread_after { OnTrace result (λ _ _. report_source.new ≡ report_source.old) }
     ensures unread_failed { S.failure_count trace_source.new ≡ S.failure_count trace_source.old + 1 →
         report_source.new ≡ report_source.old }

@@ -107,8 +107,8 @@ module _ (trace : List Event) where
         let own = number_own n u of_n in
         let here : LearnsAt trace u (number_before trace u n + 1) = record { event = n; of_thread = of_n; learning = learning; place_is = own } in
         let next = listed_more_yes (LearnsAt trace u) (number_before trace u n + 1) kept.places here (listed n u rows kept old) in
-        let behind : kept.places ++ (number_before trace u n + 1) ∷ [] ≡ pushed.places = ap (λ (m : ℕ). kept.places ++ m ∷ []) (sym own) ∙ sym places in
-        subst (λ (m : ℕ). IsListed (LearnsAt trace u) (m + 1) pushed.places) (sym own) (subst (IsListed (LearnsAt trace u) (number_before trace u n + 1 + 1)) behind next)
+        let one_more : kept.places ++ (number_before trace u n + 1) ∷ [] ≡ pushed.places = ap (λ (m : ℕ). kept.places ++ m ∷ []) (sym own) ∙ sym places in
+        subst (λ (m : ℕ). IsListed (LearnsAt trace u) (m + 1) pushed.places) (sym own) (subst (IsListed (LearnsAt trace u) (number_before trace u n + 1 + 1)) one_more next)
 
     begun_more : (b : ℕ) → thread_at trace b ≡ Some u → (b < n) ⊎ (n ≤ b) → b < n + 1 → (0 < length kept.places) ⊎ (length kept.places ≤ 0) → get_or pushed.places 0 0 ≤ place_in_thread trace u b
     begun_more b of_b (inl lt) within (inl some) = let o = (old.begun b lt of_b).1 in let s = place_old 0 some in omega (arith, o, s)

@@ -5,7 +5,7 @@ use Rattle.shb_lines.specs.events.Order.{ShbBelow}
 use Rattle.shb_lines.specs.declared.event.Sizes.{Sizes}
 use Rattle.shb_clocks.specs.Fronts.{IsFront, BelowRelease}
 use Rattle.shb_clocks.specs.Rows.{row_at}
-use Rattle.shb_clocks.specs.declared.past.Past.{Past}
+use Rattle.shb_clocks.specs.declared.compared.past.Past.{Past}
 
 -- one clock for each event
 pub record HasClocks (trace : List Event) (n threads : ℕ) (clocks : List ℕ) : Type 0 where

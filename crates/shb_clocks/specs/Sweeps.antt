@@ -4,7 +4,7 @@ use Rattle.shb_lines.specs.declared.event.Event.{Event}
 use Rattle.shb_lines.specs.declared.event.Sizes.{Sizes}
 use Rattle.shb_clocks.specs.Learned.{AreKept}
 use Rattle.shb_clocks.specs.Past.{HasLockClocks}
-use Rattle.shb_clocks.specs.declared.learned_past.LearnedPast.{LearnedPast}
+use Rattle.shb_clocks.specs.declared.compared.learned_past.LearnedPast.{LearnedPast}
 
 -- what is kept after the first n events
 pub record IsLearnedPast (trace : List Event) (n : ℕ) (sizes : Sizes) (past : LearnedPast) : Type 0 where

@@ -5,7 +5,7 @@
 //! vector clock for each event; [`ClockVersions`], a clock only where a thread may learn of others
 //! (its first event, an acquire, a join, a read that has a last write), found by binary search;
 //! [`EventRows`], rows that events share, with the number of a row for each event, so that a
-//! look-up searches nothing. The run uses the last. [`Ordered`] is a trace with its links and an
+//! look-up searches nothing. The run uses the last; the others stand in `compared`. [`Ordered`] is a trace with its links and an
 //! order of it, which are of one trace by its type.
 //!
 //! A vector clock of a property of events has for each thread the number of its events, from the
@@ -21,25 +21,15 @@
 #![tactic(auto)]
 
 mod clock;
-mod clock_versions;
-mod edges;
+mod compared;
 mod event_rows;
-mod full_clocks;
-mod kept;
-mod kept_clocks;
-mod learned_past;
-mod marks;
 mod order;
 mod ordered;
-mod past;
-mod plain_order;
 mod rows;
 mod stamp;
 mod stamps;
 
-pub use clock_versions::{ClockVersions, versions};
+pub use compared::{ClockVersions, FullClocks, PlainOrder, full, plain, versions};
 pub use event_rows::{EventRows, by_event};
-pub use full_clocks::{FullClocks, full};
 pub use order::Order;
 pub use ordered::Ordered;
-pub use plain_order::{PlainOrder, plain};

@@ -137,7 +137,8 @@ fn note_write(linked: &Linked<'_>, e: u32, stamp: Stamp, variables: &mut Vec<Sta
     requires as_many { length variables.old.items ≡ linked.now.sizes.variables }
     ensures { (rows : List (List ℕ)) → IsStampOf linked.now.events.now rows e stamp
         → AreStamps linked.now.events.now rows (WritesVariable linked.now.events.now) e linked.now.sizes.variables variables.old.items
-        → AreStamps linked.now.events.now rows (WritesVariable linked.now.events.now) (e + 1) linked.now.sizes.variables variables.new.items }
+        → AreStamps linked.now.events.now rows (WritesVariable linked.now.events.now) (e + 1)
+        linked.now.sizes.variables variables.new.items }
 {
     if let Op::Write(variable) = linked.events[e as usize].op {
         variables[variable as usize] = stamp;

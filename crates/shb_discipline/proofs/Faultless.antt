@@ -3,8 +3,8 @@ use Rattle.std.proofs.Common.{◌≡◌, ℕ, ◌+◌, ◌<◌, ◌≤◌, ◌�
 use Rattle.std.proofs.lemmas.Bool.{cases_eq, cases_lt}
 use Rattle.std.proofs.lemmas.Option.{get_or_from_slice_get}
 use Rattle.shb_lines.specs.declared.event.Event.{Event}
-use Rattle.shb_lines.specs.declared.event.Fault.{Fault}
-use Rattle.shb_lines.specs.declared.event.Fault.TheVariants as faults
+use Rattle.shb_lines.specs.declared.fault.Fault.{Fault}
+use Rattle.shb_lines.specs.declared.fault.Fault.TheVariants as faults
 use Rattle.shb_lines.specs.declared.event.Op.{Op}
 use Rattle.shb_lines.specs.declared.event.Op.TheVariants.{Acquire, Release, Fork, Join}
 use Rattle.shb_lines.specs.events.Discipline.{acquires, only, other_than, releases, MayCome, MayDo, MayFork}

@@ -5,18 +5,18 @@ use Rattle.std.proofs.Math.Seq.{take-length}
 use Rattle.std.proofs.lemmas.Bool.{cases_lt, cases_order}
 use Rattle.std.proofs.lemmas.List.{length-take, take-take}
 use Rattle.shb_lines.specs.declared.event.Event.{Event}
-use Rattle.shb_lines.specs.declared.event.Fault.{Fault}
-use Rattle.shb_lines.specs.declared.event.Fault.TheVariants as faults
-use Rattle.shb_lines.specs.declared.event.Limits.{Limits}
-use Rattle.shb_lines.specs.declared.event.LineFault.{LineFault}
+use Rattle.shb_lines.specs.declared.fault.Fault.{Fault}
+use Rattle.shb_lines.specs.declared.fault.Fault.TheVariants as faults
+use Rattle.shb_lines.specs.declared.limits.Limits.{Limits}
+use Rattle.shb_lines.specs.declared.fault.LineFault.{LineFault}
 use Rattle.shb_lines.specs.events.Discipline.{IsDisciplined}
-use Rattle.shb_lines.specs.text.Faults.{HasLineFault, IsFaultless, IsFirstFault, PassesLimit, line_at, number_of}
+use Rattle.shb_lines.specs.text.Faults.{HasLineFault, HasNoLineFaultBefore, IsFirstLineFault, PassesLimit, line_at, number_of}
 use Rattle.shb_lines.specs.text.Grammar.{NamedEvent}
 use Rattle.shb_lines.specs.text.Numbers.{IsEventOf, events_of}
 use Rattle.shb_lines.specs.text.Text.{LocatedEvent, lines_of, trace_of}
 use Rattle.shb_lines.specs.text.TraceData.{IsReadingOf, IsTraceOf, TraceData, tables_in}
 use Rattle.shb_discipline.specs.Faults.{HasDisciplineFault, IsFirstDisciplineFault}
-use Rattle.shb_discipline.specs.FirstFault.{BreaksDiscipline, HasAnyFault, HasFirstFault, HasNoFault, IsFaultFree}
+use Rattle.shb_discipline.specs.FirstFault.{BreaksDiscipline, HasAnyFault, IsFirstFault, HasNoFault, HasNoFaultBefore}
 use Rattle.shb_discipline.proofs.Faultless.{may_come, no_fault}
 use Rattle.shb_discipline.proofs.Lines.{line_bounds, lines_rise, located_from, trace_of-split}
 use Rattle.shb_discipline.proofs.Numbering.{front_trace, one_trace}
@@ -162,16 +162,16 @@ module _ (text : List ℕ) (m : ℕ) (trace : TraceData) (h : IsTraceOf (take m 
       low : p < count_to j
       low = elim (cases_lt p (length (trace_of (take (j + 1) lines)))) [ inl lt ↦ lt | inr le ↦ absurd (beyond le) ]
 
-  module _ (limits : Limits) (faultless : IsFaultless limits text m) where
+  module _ (limits : Limits) (faultless : HasNoLineFaultBefore limits text m) where
     -- a disciplined trace is of lines with no fault
-    pub disciplined_lines : IsDisciplined trace.events → IsFaultFree limits text m
+    pub disciplined_lines : IsDisciplined trace.events → HasNoFaultBefore limits text m
     disciplined_lines disciplined k f lt (inl line_fault) = faultless k f lt line_fault
     disciplined_lines disciplined k f lt (inr b) =
         let found = broken k f lt b in
         no_fault (take found.0 trace.events) found.1 (disciplined found.0 found.1 found.2) f found.4
 
     -- the first fault of the discipline is that of the text
-    first_on_line : (line : ℕ) (f : Fault) (first : IsFirstDisciplineFault trace.events line f) (j : ℕ) → first.event.line ≡ j + 1 → HasFirstFault limits text line f
+    first_on_line : (line : ℕ) (f : Fault) (first : IsFirstDisciplineFault trace.events line f) (j : ℕ) → first.event.line ≡ j + 1 → IsFirstFault limits text line f
     first_on_line line f first j on_line = record {
       before = j;
       line_is = first.line_is ∙ on_line;
@@ -195,18 +195,18 @@ module _ (text : List ℕ) (m : ℕ) (trace : TraceData) (h : IsTraceOf (take m 
             let event : found.1 ≡ first.event = cc in
             first.lowest.1 other (subst (λ e. HasDisciplineFault (take first.position trace.events) e other) event (subst (λ p. HasDisciplineFault (take p trace.events) found.1 other) place found.4))
 
-        earlier : IsFaultFree limits text j
+        earlier : HasNoFaultBefore limits text j
         earlier k other lt (inl line_fault) = faultless k other (omega (arith, few)) line_fault
         earlier k other lt (inr b) =
             let found = broken k other (omega (arith, few)) b in
             let place = earlier_place found.0 first.position found.1 first.event found.2 first.at (let line = found.3 in omega (arith, line, on_line)) in
             no_fault (take found.0 trace.events) found.1 (first.earlier found.0 found.1 place found.2) other found.4
 
-    pub first_of_discipline : (line : ℕ) (f : Fault) → IsFirstDisciplineFault trace.events line f → HasFirstFault limits text line f
+    pub first_of_discipline : (line : ℕ) (f : Fault) → IsFirstDisciplineFault trace.events line f → IsFirstFault limits text line f
     first_of_discipline line f first = first_on_line line f first (first.event.line - 1) (let bounds = line_within first.position first.event first.at in omega (arith, bounds.0))
 
   -- the first fault of the lines, where the events before it are disciplined
-  pub first_of_lines : (limits : Limits) (line : ℕ) (f : Fault) → line ≡ m + 1 → IsFirstFault limits text m f → IsDisciplined trace.events → HasFirstFault limits text line f
+  pub first_of_lines : (limits : Limits) (line : ℕ) (f : Fault) → line ≡ m + 1 → IsFirstLineFault limits text m f → IsDisciplined trace.events → IsFirstFault limits text line f
   first_of_lines limits line f line_is first disciplined = record {
     before = m;
     line_is = line_is;
@@ -226,11 +226,11 @@ whole : (text : List ℕ) (trace : TraceData) → IsTraceOf (lines_of text) trac
 whole text trace h = subst (λ ls. IsTraceOf ls trace) (sym (take-length (lines_of text))) h
 
 -- what the reading of a text and the check of its events give
-pub undisciplined : (limits : Limits) (text : List ℕ) (trace : TraceData) (stop : Option LineFault) (line : ℕ) (f : Fault) → IsReadingOf limits text trace stop → IsFirstDisciplineFault trace.events line f → HasFirstFault limits text line f
+pub undisciplined : (limits : Limits) (text : List ℕ) (trace : TraceData) (stop : Option LineFault) (line : ℕ) (f : Fault) → IsReadingOf limits text trace stop → IsFirstDisciplineFault trace.events line f → IsFirstFault limits text line f
 undisciplined limits text trace None line f reading first = first_of_discipline text (length (lines_of text)) trace (whole text trace reading.1) limits reading.0 line f first
 undisciplined limits text trace (Some stop) line f reading first = first_of_discipline text reading.0 trace reading.3 limits reading.2.earlier line f first
 
-pub stopped : (limits : Limits) (text : List ℕ) (trace : TraceData) (stop : LineFault) → IsReadingOf limits text trace (Some stop) → IsDisciplined trace.events → HasFirstFault limits text stop.line stop.fault
+pub stopped : (limits : Limits) (text : List ℕ) (trace : TraceData) (stop : LineFault) → IsReadingOf limits text trace (Some stop) → IsDisciplined trace.events → IsFirstFault limits text stop.line stop.fault
 stopped limits text trace stop reading disciplined = first_of_lines text reading.0 trace reading.3 limits stop.line stop.fault reading.1 reading.2 disciplined
 
 pub accepted : (limits : Limits) (text : List ℕ) (trace : TraceData) → IsReadingOf limits text trace None → IsDisciplined trace.events → HasNoFault limits text × IsTraceOf (lines_of text) trace

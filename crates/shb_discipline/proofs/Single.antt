@@ -3,14 +3,15 @@ use Rattle.std.proofs.Common.{◌≡◌, ◌+◌, ◌<◌, inl, inr, ℕ, List, 
 use Rattle.std.specs.Prelude.{slice_get}
 use Rattle.std.proofs.lemmas.Bool.{cases_order}
 use Rattle.shb_lines.specs.declared.event.Event.{Event}
-use Rattle.shb_lines.specs.declared.event.Fault.{Fault}
-use Rattle.shb_lines.specs.declared.event.Fault.TheVariants as faults
-use Rattle.shb_lines.specs.declared.event.Limits.{Limits}
+use Rattle.shb_lines.specs.declared.fault.Fault.{Fault}
+use Rattle.shb_lines.specs.declared.fault.Fault.TheVariants as faults
+use Rattle.shb_lines.specs.declared.limits.Limits.{Limits}
 use Rattle.shb_lines.specs.events.Discipline.{IsDisciplined}
-use Rattle.shb_lines.specs.text.Faults.{IsLowest, number_of}
+use Rattle.shb_lines.specs.text.Faults.{number_of}
 use Rattle.shb_discipline.specs.Faults.{HasDisciplineFault, IsFirstDisciplineFault}
-use Rattle.shb_discipline.specs.FirstFault.{HasAnyFault, HasFirstFault}
+use Rattle.shb_discipline.specs.FirstFault.{HasAnyFault, IsFirstFault}
 use Rattle.shb_discipline.proofs.Faultless.{no_fault}
+use Rattle.shb_lines.specs.Lowest.{IsLowest}
 
 -- the faults by their numbers; 0 and 11 are no fault's
 abbrev by_number : List Fault
@@ -36,7 +37,7 @@ found faults.ForkTwice = refl
 found faults.ForkJoined = refl
 found faults.JoinSelf = refl
 
-one_lowest : (Has : Fault → Type 0) (f g : Fault) → IsLowest Has (Some f) → IsLowest Has (Some g) → f ≡ g
+one_lowest : (Has : Fault → Type 0) (f g : Fault) → IsLowest number_of Has (Some f) → IsLowest number_of Has (Some g) → f ≡ g
 one_lowest Has f g low_f low_g =
     let le = low_f.1 g low_g.0 in
     let ge = low_g.1 f low_f.0 in
@@ -60,12 +61,12 @@ module _ (trace : List Event) where
       here same =
           let both : Some a.event ≡ Some b.event = sym a.at ∙ (ap (slice_get trace) same ∙ b.at) in
           let event : a.event ≡ b.event = cc in
-          let moved : IsLowest (HasDisciplineFault (take b.position trace) b.event) (Some f) = subst (λ e. IsLowest (HasDisciplineFault (take b.position trace) e) (Some f)) event (subst (λ p. IsLowest (HasDisciplineFault (take p trace) a.event) (Some f)) same a.lowest) in
+          let moved : IsLowest number_of (HasDisciplineFault (take b.position trace) b.event) (Some f) = subst (λ e. IsLowest number_of (HasDisciplineFault (take b.position trace) e) (Some f)) event (subst (λ p. IsLowest number_of (HasDisciplineFault (take p trace) a.event) (Some f)) same a.lowest) in
           (a.line_is ∙ (ap (λ e. e.line) event ∙ sym b.line_is), one_lowest (HasDisciplineFault (take b.position trace) b.event) f g moved b.lowest)
 
 module _ (limits : Limits) (text : List ℕ) where
-  pub one_in_text : (line other : ℕ) (f g : Fault) → HasFirstFault limits text line f → HasFirstFault limits text other g → (line ≡ other) × (f ≡ g)
+  pub one_in_text : (line other : ℕ) (f g : Fault) → IsFirstFault limits text line f → IsFirstFault limits text other g → (line ≡ other) × (f ≡ g)
   one_in_text line other f g a b = elim (cases_order a.before b.before) [
-    | inl same ↦ (a.line_is ∙ (ap (λ n. n + 1) same ∙ sym b.line_is), one_lowest (HasAnyFault limits text b.before) f g (subst (λ i. IsLowest (HasAnyFault limits text i) (Some f)) same a.lowest) b.lowest)
+    | inl same ↦ (a.line_is ∙ (ap (λ n. n + 1) same ∙ sym b.line_is), one_lowest (HasAnyFault limits text b.before) f g (subst (λ i. IsLowest number_of (HasAnyFault limits text i) (Some f)) same a.lowest) b.lowest)
     | inr differ ↦ elim differ [ inl low ↦ absurd (b.earlier a.before f low a.lowest.0) | inr high ↦ absurd (a.earlier b.before g high b.lowest.0) ]
   ]

@@ -1,14 +1,15 @@
 -- The faults of the discipline: which of them an event has, and the first of a trace.
 use Rattle.std.specs.Prelude.{◌≡◌, ◌≢◌, ℕ, ◌<◌, ◌≤◌, List, Option, Some, None, slice_get, count_by, take}
 use Rattle.shb_lines.specs.declared.event.Event.{Event}
-use Rattle.shb_lines.specs.declared.event.LineFault.{LineFault}
+use Rattle.shb_lines.specs.declared.fault.LineFault.{LineFault}
 use Rattle.shb_lines.specs.declared.event.Op.TheVariants.{Acquire, Release, Fork, Join}
 use Rattle.shb_lines.specs.events.Discipline.{acquires, is_fork, is_join, is_of, only, other_than, releases, IsDisciplined, MayCome}
-use Rattle.shb_lines.specs.declared.event.Fault.{Fault}
-use Rattle.shb_lines.specs.declared.event.Fault.TheVariants as faults
-use Rattle.shb_lines.specs.text.Faults.{IsLowest}
+use Rattle.shb_lines.specs.declared.fault.Fault.{Fault}
+use Rattle.shb_lines.specs.declared.fault.Fault.TheVariants as faults
 use Rattle.shb_discipline.specs.declared.checking.CheckError.{CheckError}
 use Rattle.shb_discipline.specs.declared.checking.CheckError.TheVariants.{Undisciplined, Memory}
+use Rattle.shb_lines.specs.Lowest.{IsLowest}
+use Rattle.shb_lines.specs.text.Faults.{number_of}
 
 -- the event has the fault, after these events
 abbrev pub HasDisciplineFault : List Event → Event → Fault → Type 0
@@ -28,7 +29,7 @@ pub record IsFirstDisciplineFault (trace : List Event) (line : ℕ) (fault : Fau
   pub event : Event
   pub at : slice_get trace position ≡ Some event
   pub line_is : line ≡ event.line
-  pub lowest : IsLowest (HasDisciplineFault (take position trace) event) (Some fault)
+  pub lowest : IsLowest number_of (HasDisciplineFault (take position trace) event) (Some fault)
   pub earlier : (k : ℕ) (e : Event) → k < position → slice_get trace k ≡ Some e → MayCome (take k trace) e
 
 -- the first fault of a trace, if it has one

@@ -49,10 +49,8 @@ fn first_fault(alloc: Global, events: &[Event], sizes: Sizes) -> Result<Option<L
     Ok(None)
 }
 
-/// Checks that a trace meets the discipline of locks, forks and joins: a thread does nothing after
-/// it was joined; it acquires a lock only while no other thread holds it, and releases one only
-/// while it holds it itself; it forks another thread once, before that thread's first event and
-/// before any join of it; it doesn't join itself. The rules are this project's profile.
+/// Checks that a trace meets the discipline of locks, forks and joins, whose rules stand at
+/// [`Disciplined`].
 ///
 /// A trace that meets it comes back as a [`Disciplined`], which borrows it. The trace stays as it
 /// is in each case. One pass over the events; memory for the locks and threads alone.

@@ -16,7 +16,7 @@ use shb_lines::{Event, Sizes, Trace};
 /// acquired only while no other thread holds it (its holder may acquire it again) and released only
 /// by its holder; a thread is forked by another, once, before its first event and before any join of
 /// it; no thread joins itself. Locks that are held at the end, threads without a fork, and a second
-/// join of a thread are in order. The rules are this project's profile.
+/// join of a thread are in order. The rules are this project's own.
 #[derive(Clone, Copy)]
 pub struct Disciplined<'a> {
     /// The trace.

@@ -2,14 +2,14 @@
 //! contract is the law.
 ghost use Rattle.std.specs.Prelude.{◌≡◌, ◌↔◌, ℕ, List, Option, None, Some};
 ghost use Rattle.shb_lines.specs.declared.event.Event.{Event};
-ghost use Rattle.shb_lines.specs.declared.event.Fault.{Fault};
-ghost use Rattle.shb_lines.specs.declared.event.Limits.{Limits};
-ghost use Rattle.shb_lines.specs.declared.event.LineFault.{LineFault};
+ghost use Rattle.shb_lines.specs.declared.fault.Fault.{Fault};
+ghost use Rattle.shb_lines.specs.declared.limits.Limits.{Limits};
+ghost use Rattle.shb_lines.specs.declared.fault.LineFault.{LineFault};
 ghost use Rattle.shb_lines.specs.events.Discipline.{IsDisciplined, MayCome};
 ghost use Rattle.shb_lines.specs.text.Text.{lines_of};
 ghost use Rattle.shb_lines.specs.text.TraceData.{IsReadingOf, IsTraceOf, TraceData};
 ghost use Rattle.shb_discipline.specs.Faults.{HasDisciplineFault, IsFirstDisciplineFault};
-ghost use Rattle.shb_discipline.specs.FirstFault.{HasFirstFault, HasNoFault};
+ghost use Rattle.shb_discipline.specs.FirstFault.{IsFirstFault, HasNoFault};
 
 /// An event may come after others exactly where it has no fault of the discipline after them.
 pub fn event_without_fault_may_come()
@@ -24,10 +24,10 @@ pub fn event_without_fault_may_come()
 pub fn first_fault_of_a_text()
     ensures undisciplined { (limits : Limits) (text : List ℕ) (trace : TraceData) (stop : Option LineFault) (line : ℕ) (fault : Fault)
         → IsReadingOf limits text trace stop → IsFirstDisciplineFault trace.events line fault
-        → HasFirstFault limits text line fault }
+        → IsFirstFault limits text line fault }
     ensures stopped { (limits : Limits) (text : List ℕ) (trace : TraceData) (stop : LineFault)
         → IsReadingOf limits text trace (Some stop) → IsDisciplined trace.events
-        → HasFirstFault limits text stop.line stop.fault }
+        → IsFirstFault limits text stop.line stop.fault }
     ensures accepted { (limits : Limits) (text : List ℕ) (trace : TraceData)
         → IsReadingOf limits text trace None → IsDisciplined trace.events
         → HasNoFault limits text × IsTraceOf (lines_of text) trace }
@@ -42,7 +42,7 @@ pub fn first_fault_is_one()
     ensures of_disciplined { (trace : List Event) (line : ℕ) (fault : Fault)
         → IsDisciplined trace → IsFirstDisciplineFault trace line fault → ⊥ }
     ensures of_text { (limits : Limits) (text : List ℕ) (line other : ℕ) (fault further : Fault)
-        → HasFirstFault limits text line fault → HasFirstFault limits text other further
+        → IsFirstFault limits text line fault → IsFirstFault limits text other further
         → (line ≡ other) × (fault ≡ further) }
 {}
 

@@ -4,9 +4,10 @@ ghost use Rattle.shb_lines.specs.declared.event.Event.{Event};
 ghost use Rattle.shb_lines.specs.declared.event.Op.TheVariants.{Acquire, Release, Fork, Join};
 ghost use Rattle.shb_lines.specs.events.Discipline.{MayCome, acquires, is_fork, is_join, is_of, only, other_than, releases};
 ghost use Rattle.shb_lines.specs.events.Sizes.{IsWithin};
-ghost use Rattle.shb_lines.specs.text.Faults.{IsLowest};
 ghost use Rattle.shb_discipline.specs.Faults.{HasDisciplineFault};
 ghost use Rattle.shb_discipline.specs.State.{Covers, IsLockAfter, IsStateAfter, Tells};
+ghost use Rattle.shb_lines.specs.Lowest.{IsLowest};
+ghost use Rattle.shb_lines.specs.text.Faults.{number_of};
 
 use shb_io::NoMemory;
 use shb_lines::{Event, Fault, Op, Sizes};
@@ -71,7 +72,7 @@ impl LockState {
     fn acquire_fault(self, thread: u32, lock: u32) -> Option<Fault>
         ensures { (past : List Event) (e : Event) → e.thread ≡ thread → e.op ≡ Acquire lock
             → count_by (is_join thread) past ≡ 0 → IsLockAfter past lock self
-            → IsLowest (HasDisciplineFault past e) result }
+            → IsLowest number_of (HasDisciplineFault past e) result }
     {
         if self.is_available_to(thread) {
             None
@@ -84,7 +85,7 @@ impl LockState {
     fn release_fault(self, thread: u32, lock: u32) -> Option<Fault>
         ensures { (past : List Event) (e : Event) → e.thread ≡ thread → e.op ≡ Release lock
             → count_by (is_join thread) past ≡ 0 → IsLockAfter past lock self
-            → IsLowest (HasDisciplineFault past e) result }
+            → IsLowest number_of (HasDisciplineFault past e) result }
     {
         if self.is_held_by(thread) {
             None
@@ -97,7 +98,7 @@ impl LockState {
 /// The fault of a join by this thread, if it has one.
 fn join_fault(thread: u32, child: u32) -> Option<Fault>
     ensures { (past : List Event) (e : Event) → e.thread ≡ thread → e.op ≡ Join child
-        → count_by (is_join thread) past ≡ 0 → IsLowest (HasDisciplineFault past e) result }
+        → count_by (is_join thread) past ≡ 0 → IsLowest number_of (HasDisciplineFault past e) result }
 {
     if child == thread {
         Some(Fault::JoinSelf)
@@ -159,7 +160,7 @@ impl State {
         requires joined { child < vec_len self.now.joined }
         ensures { (past : List Event) (e : Event) → e.thread ≡ thread → e.op ≡ Fork child
             → count_by (is_join thread) past ≡ 0 → IsStateAfter past self.now
-            → IsLowest (HasDisciplineFault past e) result }
+            → IsLowest number_of (HasDisciplineFault past e) result }
     {
         if child == thread {
             Some(Fault::ForkSelf)
@@ -178,7 +179,7 @@ impl State {
     fn operation_fault(&self, event: Event) -> Option<Fault>
         requires covers { Covers self.now event }
         ensures { (past : List Event) → count_by (is_join event.thread) past ≡ 0
-            → IsStateAfter past self.now → IsLowest (HasDisciplineFault past event) result }
+            → IsStateAfter past self.now → IsLowest number_of (HasDisciplineFault past event) result }
     {
         let Event { thread, op, .. } = event;
         match op {
@@ -193,7 +194,7 @@ impl State {
     /// The fault of lowest number of an event, if it has one.
     pub(crate) fn fault(&self, event: Event) -> Option<Fault>
         requires covers { Covers self.now event }
-        ensures { (past : List Event) → IsStateAfter past self.now → IsLowest (HasDisciplineFault past event) result }
+        ensures { (past : List Event) → IsStateAfter past self.now → IsLowest number_of (HasDisciplineFault past event) result }
     {
         if self.is_joined(event.thread) {
             Some(Fault::AfterJoin)

@@ -36,9 +36,11 @@ pub(crate) fn make_workers<T: Drop, M, J: Job<Out = T, Meaning = M>>(
     requires passes { All (λ p. p ≡ fresh _desk.now.tickets) passes.old.items }
     requires seats { All (IsNewSeat J.value J.count _desk.now.ring) seats.old.items }
     requires count { length passes.old.items ≤ length seats.old.items }
-    ensures workers { IfOk result (λ v. (length v.items ≡ length passes.old.items) × All (IsNew J.value J.count _desk.now.tickets _desk.now.ring) v.items) }
+    ensures workers { IfOk result (λ v. (length v.items ≡ length passes.old.items)
+        × All (IsNew J.value J.count _desk.now.tickets _desk.now.ring) v.items) }
     ensures passes { IfOk result (λ _. (passes.new.items ≡ []) × (vec_capacity passes.new ≡ vec_capacity passes.old)) }
-    ensures seats { IfOk result (λ _. All (IsNewSeat J.value J.count _desk.now.ring) seats.new.items × (length seats.new.items + length passes.old.items ≡ length seats.old.items)
+    ensures seats { IfOk result (λ _. All (IsNewSeat J.value J.count _desk.now.ring) seats.new.items
+        × (length seats.new.items + length passes.old.items ≡ length seats.old.items)
         × (vec_capacity seats.new ≡ vec_capacity seats.old)) }
 {
     let mut workers = Vec::with_capacity(alloc, passes.len())?;
@@ -60,10 +62,12 @@ pub(crate) fn take_back<T: Drop, M, J: Job<Out = T, Meaning = M>>(
 )
     requires workers { All (HasWorked J.value J.count _desk.now.tickets _desk.now.ring) workers.items }
     requires passes { (passes.old.items ≡ []) × (length workers.items < vec_capacity passes.old) }
-    requires seats { All (IsNewSeat J.value J.count _desk.now.ring) seats.old.items × (length seats.old.items + length workers.items < vec_capacity seats.old) }
+    requires seats { All (IsNewSeat J.value J.count _desk.now.ring) seats.old.items
+        × (length seats.old.items + length workers.items < vec_capacity seats.old) }
     ensures back { AreBack J.value J.count _desk.now.tickets _desk.now.ring passes.new.items seats.new.items }
     ensures passes { (length passes.new.items ≡ length workers.items) × (length passes.new.items < vec_capacity passes.new) }
-    ensures seats { (length seats.new.items ≡ length seats.old.items + length workers.items) × (length seats.new.items < vec_capacity seats.new) }
+    ensures seats { (length seats.new.items ≡ length seats.old.items + length workers.items)
+        × (length seats.new.items < vec_capacity seats.new) }
 {
     while let Some(worker) = workers.pop() {
         let Worker { pass, seat } = worker;

@@ -54,7 +54,8 @@ impl<T: Drop, M, J: Job<Out = T, Meaning = M>> Ring<T, M, J> {
     /// for them again. `NoMemory` where memory was refused.
     pub fn new(alloc: Global, job: &J) -> Result<(Ring<T, M, J>, Vec<Seat<T, M>>), NoMemory>
         ensures ring { IfOk result (λ r. (job_of r.0 ≡ job.now) × (slots_of r.0 ≡ 64)) }
-        ensures seats { IfOk result (λ r. (length r.1.items ≡ 65) × All (IsNewSeat J.value J.count r.0) r.1.items × (65 ≤ vec_capacity r.1)) }
+        ensures seats { IfOk result (λ r. (length r.1.items ≡ 65) × All (IsNewSeat J.value J.count r.0) r.1.items
+            × (65 ≤ vec_capacity r.1)) }
     {
         job.pieces();
         let words = empty_words(alloc)?;
@@ -76,7 +77,8 @@ impl<T: Drop, M, J: Job<Out = T, Meaning = M>> Ring<T, M, J> {
         requires ours { All (λ s. IsSeatOf J.value J.count self s × (claimed_of s ≡ [])) seats.items }
         ensures placed_once { (k : ℕ) → sum_by (λ s. times k (placed_of s)) seats.items ≤ 1 }
         ensures lifted_once { (k : ℕ) → sum_by (λ s. times k (lifted_of s)) seats.items ≤ 1 }
-        ensures placed_before { (k : ℕ) → sum_by (λ s. times k (lifted_of s)) seats.items ≤ sum_by (λ s. times k (placed_of s)) seats.items }
+        ensures placed_before { (k : ℕ)
+            → sum_by (λ s. times k (lifted_of s)) seats.items ≤ sum_by (λ s. times k (placed_of s)) seats.items }
         ensures slots { (k : ℕ) → sum_by (λ s. times (k + 64) (placed_of s)) seats.items ≤ sum_by (λ s. times k (lifted_of s)) seats.items }
     {
         let Ring { table } = self;
@@ -151,7 +153,8 @@ impl<T: Drop, M, J: Job<Out = T, Meaning = M>> Ring<T, M, J> {
         ensures seat { IsSeatOf J.value J.count self.now seat.new }
         ensures claimed { claimed_of seat.new ≡ claimed_of seat.old }
         ensures placed { placed_of seat.new ≡ placed_of seat.old }
-        ensures some { IfSome result (λ out. (J.meaning out ≡ J.value (job_of self.now) k) × (times k (lifted_of seat.old) ≡ 0) × (lifted_of seat.new ≡ lifted_of seat.old ++ k ∷ [])) }
+        ensures some { IfSome result (λ out. (J.meaning out ≡ J.value (job_of self.now) k)
+            × (times k (lifted_of seat.old) ≡ 0) × (lifted_of seat.new ≡ lifted_of seat.old ++ k ∷ [])) }
         ensures none { IfNone result (lifted_of seat.new ≡ lifted_of seat.old) }
     {
         let slot = (k % SLOTS) as usize;

@@ -49,7 +49,8 @@ fn wait_to_claim<R: Wait, T: Drop, M, J: Job<Out = T, Meaning = M>, G: Gate>(
 ) -> bool
     requires ready { IsReady J.value J.count shared.now worker.old }
     requires piece { k < J.count shared.now.task.job.now }
-    ensures pass { (worker.new.pass.source ≡ worker.old.pass.source) × (worker.new.pass.drawn ≡ worker.old.pass.drawn) × (worker.new.pass.halted ≡ worker.old.pass.halted) }
+    ensures pass { (worker.new.pass.source ≡ worker.old.pass.source) × (worker.new.pass.drawn ≡ worker.old.pass.drawn)
+        × (worker.new.pass.halted ≡ worker.old.pass.halted) }
     ensures seat { IsSeatOf J.value J.count shared.now.desk.now.ring worker.new.seat }
     ensures placed { placed_of worker.new.seat ≡ placed_of worker.old.seat }
     ensures lifted { lifted_of worker.new.seat ≡ lifted_of worker.old.seat }
@@ -168,7 +169,8 @@ fn wait_to_lift<R: Wait, T: Drop, M, J: Job<Out = T, Meaning = M>, G: Gate>(
     requires ready { CanTake J.value J.count shared.now caller.old }
     requires piece { k < J.count shared.now.task.job.now }
     ensures ready { CanWork J.value J.count shared.now caller.new.own }
-    ensures value { IfSome result (λ out. (J.meaning out ≡ J.value shared.now.task.job.now k) × CanTake J.value J.count shared.now caller.new
+    ensures value { IfSome result (λ out. (J.meaning out ≡ J.value shared.now.task.job.now k)
+        × CanTake J.value J.count shared.now caller.new
         × (lifted_of caller.new.own.seat ≡ lifted_of caller.old.own.seat ++ k ∷ [])) }
 {
     let mut turns = 0u32;
@@ -202,7 +204,8 @@ fn take_all<R: Wait, T: Drop, M, J: Job<Out = T, Meaning = M>, G: Gate, E, K: Ta
 ) -> Result<(), StreamError<E>>
     requires ready { CanTake J.value J.count shared.now caller.old }
     requires may_take { MayTake J.meaning (J.value shared.now.task.job.now) K.may_take (J.count shared.now.task.job.now) taker.old }
-    ensures ended { Ended J.meaning (J.value shared.now.task.job.now) K.takes K.refuses (J.count shared.now.task.job.now) taker.old result taker.new }
+    ensures ended { Ended J.meaning (J.value shared.now.task.job.now) K.takes K.refuses (J.count shared.now.task.job.now)
+        taker.old result taker.new }
     ensures idle { IsIdle J.value J.count shared.now.desk.now.tickets shared.now.desk.now.ring caller.new.own }
     ensures all { IfOk result (λ _. HasAccounts caller.new.own × HasLifted caller.new.own (J.count shared.now.task.job.now)) }
 {
@@ -242,11 +245,15 @@ impl<'a, T: Drop, M, J: Job<Out = T, Meaning = M>, G: Gate, E, K: Taker<T, Error
 
     type Answer = Result<(), StreamError<E>>;
 
-    ghost can_take = { λ shared caller taker. CanTake J.value J.count shared caller × MayTake J.meaning (J.value shared.task.job.now) K.may_take (J.count shared.task.job.now) taker };
+    ghost can_take = { λ shared caller taker. CanTake J.value J.count shared caller
+        × MayTake J.meaning (J.value shared.task.job.now) K.may_take (J.count shared.task.job.now) taker };
 
-    ghost leaves = { λ shared answer caller. IsIdle J.value J.count shared.desk.now.tickets shared.desk.now.ring caller.own × IfOk answer (λ _. HasAccounts caller.own × HasLifted caller.own (J.count shared.task.job.now)) };
+    ghost leaves = { λ shared answer caller.
+        IsIdle J.value J.count shared.desk.now.tickets shared.desk.now.ring caller.own
+        × IfOk answer (λ _. HasAccounts caller.own × HasLifted caller.own (J.count shared.task.job.now)) };
 
-    ghost gives = { λ shared start answer end. Ended J.meaning (J.value shared.task.job.now) K.takes K.refuses (J.count shared.task.job.now) start answer end };
+    ghost gives = { λ shared start answer end.
+        Ended J.meaning (J.value shared.task.job.now) K.takes K.refuses (J.count shared.task.job.now) start answer end };
 
     fn take<R: Wait>(
         &self,
@@ -278,10 +285,12 @@ fn work_and_take<
     requires tickets { desk.now.tickets.limit ≡ J.count task.job.now }
     requires ring { job_of desk.now.ring ≡ task.job.now }
     requires workers { All (HasWorked J.value J.count desk.now.tickets desk.now.ring) workers.old }
-    requires caller { HasWorked J.value J.count desk.now.tickets desk.now.ring caller.old.own × (caller.old.own.pass.halted ≡ false) × (caller.old.kept ≡ None) }
+    requires caller { HasWorked J.value J.count desk.now.tickets desk.now.ring caller.old.own
+        × (caller.old.own.pass.halted ≡ false) × (caller.old.kept ≡ None) }
     requires may_take { MayTake J.meaning (J.value task.job.now) K.may_take (J.count task.job.now) taker.old }
     ensures ended { Ended J.meaning (J.value task.entry.job.now) K.takes K.refuses (J.count task.entry.job.now) taker.old result taker.new }
-    ensures workers { (length workers.new ≡ length workers.old) × All (HasWorked J.value J.count desk.now.tickets desk.now.ring) workers.new }
+    ensures workers { (length workers.new ≡ length workers.old)
+        × All (HasWorked J.value J.count desk.now.tickets desk.now.ring) workers.new }
     ensures idle { IsIdle J.value J.count desk.now.tickets desk.now.ring caller.new.own }
     ensures all { IfOk result (λ _. HasAccounts caller.new.own × HasLifted caller.new.own (J.count task.entry.job.now)) }
 {

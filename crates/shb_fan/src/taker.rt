@@ -18,8 +18,10 @@ pub trait Taker<T> {
     /// Takes the result of piece k, after those of all pieces below k. After an error no other call follows.
     fn take(&mut self, k: u64, out: T) -> Result<(), Self::Error>
         requires { (start : Self) × (given : List T) × (length given ≡ k) × takes start given self.old × may_take start given out }
-        ensures taken { (start : Self) (given : List T) → length given ≡ k → takes start given self.old → may_take start given out → IfOk result (λ _. takes start (given ++ out ∷ []) self.new) }
-        ensures refused { (start : Self) (given : List T) → length given ≡ k → takes start given self.old → may_take start given out → IfErr result (λ e. refuses start given out e self.new) };
+        ensures taken { (start : Self) (given : List T) → length given ≡ k → takes start given self.old
+            → may_take start given out → IfOk result (λ _. takes start (given ++ out ∷ []) self.new) }
+        ensures refused { (start : Self) (given : List T) → length given ≡ k → takes start given self.old
+            → may_take start given out → IfErr result (λ e. refuses start given out e self.new) };
 
     /// A taker that was given nothing is as it was.
     ghost nothing: { (s : Self) → takes s [] s };

@@ -35,7 +35,8 @@ impl Model for Tickets {
 
     ghost view = { λ t. source_of t.table.shared.table_id t.plan };
 
-    ghost invariant = { λ t. (t.table.shared.table_id.words ≡ 2) × (t.table.shared.table_id.slots ≡ 0) × (t.table.shared.key ≡ t.plan) × (0 < t.plan.passes) };
+    ghost invariant = { λ t. (t.table.shared.table_id.words ≡ 2) × (t.table.shared.table_id.slots ≡ 0)
+        × (t.table.shared.key ≡ t.plan) × (0 < t.plan.passes) };
 }
 
 /// What is known once every pass has come back.
@@ -54,7 +55,8 @@ impl Tickets {
     pub fn new(alloc: Global, limit: u64, passes: u32) -> Result<(Tickets, Vec<Pass>), NoMemory>
         requires limit { limit ≤ 2 ^ 60 }
         requires passes { (1 ≤ passes) × (passes ≤ 65) }
-        ensures { IfOk result (λ r. (r.0.limit ≡ limit) × (r.0.passes ≡ passes) × (r.1.items ≡ replicate passes (fresh r.0)) × (passes ≤ vec_capacity r.1)) }
+        ensures { IfOk result (λ r. (r.0.limit ≡ limit) × (r.0.passes ≡ passes)
+            × (r.1.items ≡ replicate passes (fresh r.0)) × (passes ≤ vec_capacity r.1)) }
     {
         let plan = Plan {
             limit,
@@ -80,7 +82,8 @@ impl Tickets {
         ensures source { pass.new.source ≡ self.now }
         ensures halted { pass.new.halted ≡ pass.old.halted }
         ensures seen { pass.new.seen ≡ pass.old.seen }
-        ensures some { IfSome result (λ k. (k < self.now.limit) × All (λ x. x < k) pass.old.drawn × (pass.new.drawn ≡ pass.old.drawn ++ k ∷ []) × (pass.new.spent ≡ false) × (pass.new.halted ≡ false)) }
+        ensures some { IfSome result (λ k. (k < self.now.limit) × All (λ x. x < k) pass.old.drawn
+            × (pass.new.drawn ≡ pass.old.drawn ++ k ∷ []) × (pass.new.spent ≡ false) × (pass.new.halted ≡ false)) }
         ensures none { IfNone result ((pass.new.drawn ≡ pass.old.drawn) × (pass.new.spent ≡ true)) }
         ensures spent_stays { IsTrue pass.old.spent → (result ≡ None) × (pass.new ≡ pass.old) }
         ensures halted_gets_none { IsTrue pass.old.halted → result ≡ None }

@@ -27,7 +27,8 @@ impl Model for Page {
 
     ghost Value = { PageState };
 
-    ghost view = { λ p. record { bytes = p.bytes.items; room = p.room; step = p.step; fail_at = p.fail_at; calls = p.calls; failures = p.failures } };
+    ghost view = { λ p.
+        record { bytes = p.bytes.items; room = p.room; step = p.step; fail_at = p.fail_at; calls = p.calls; failures = p.failures } };
 
     ghost invariant = { λ p. (0 < p.step) × (vec_len p.bytes ≤ p.room) × (p.room ≤ vec_capacity p.bytes) };
 }
@@ -49,7 +50,8 @@ impl Page {
         requires { 0 < step }
         ensures tells { IfOk result (λ page. ⟦<Page as Sink>⟧.taken page ≡ Some []) }
         ensures fresh { IfOk result (λ page. ⟦<Page as Sink>⟧.failure_count page ≡ 0) }
-        ensures starts { IfOk result (λ page. page ≡ record { bytes = []; room = room; step = step; fail_at = fail_at; calls = 0; failures = 0 }) }
+        ensures starts { IfOk result (λ page.
+            page ≡ record { bytes = []; room = room; step = step; fail_at = fail_at; calls = 0; failures = 0 }) }
     {
         Ok(Page {
             bytes: Vec::with_capacity(alloc, room)?,

@@ -22,7 +22,8 @@ pub struct Text<'a> {
 impl<'a> Model for Text<'a> {
     ghost Value = { TextState };
 
-    ghost view = { λ t. record { rest = t.rest.now; step = t.step; fail_at = t.fail_at; calls = t.calls; failures = t.failures; given = t.given } };
+    ghost view = { λ t.
+        record { rest = t.rest.now; step = t.step; fail_at = t.fail_at; calls = t.calls; failures = t.failures; given = t.given } };
 
     ghost invariant = { λ t. 0 < t.step };
 }

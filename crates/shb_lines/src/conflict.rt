@@ -2,7 +2,7 @@
 ghost use Rattle.std.specs.Prelude.{◌≡◌, ◌<◌, ◌↔◌, IsTrue, length};
 ghost use Rattle.shb_lines.specs.events.Events.{variable_of};
 ghost use Rattle.shb_lines.specs.events.Race.{Conflict};
-ghost use Rattle.shb_lines.specs.events.Tests.{is_conflict, is_write, same_variable};
+ghost use Rattle.shb_lines.specs.events.Tests.{is_conflict, same_variable};
 
 use crate::event::{Event, Op};
 use crate::trace::Trace;
@@ -15,16 +15,6 @@ pub fn variable(op: Op) -> Option<u32>
         Op::Read(x) => Some(x),
         Op::Write(x) => Some(x),
         _ => None,
-    }
-}
-
-/// Whether an operation is a write.
-fn writes(op: Op) -> bool
-    ensures { result ≡ is_write op }
-{
-    match op {
-        Op::Write(_) => true,
-        _ => false,
     }
 }
 
@@ -44,7 +34,7 @@ pub fn events_conflict(first: Event, second: Event) -> bool
     ensures { result ≡ is_conflict first second }
 {
     equal_variables(variable(first.op), variable(second.op))
-        && (writes(first.op) || writes(second.op))
+        && (first.op.is_write() || second.op.is_write())
         && !(first.thread == second.thread)
 }
 

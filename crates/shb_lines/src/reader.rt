@@ -3,7 +3,7 @@ ghost use Rattle.std.specs.Prelude.{◌≡◌, ◌+◌, ◌^◌, ◌<◌, ◌≤
 ghost use Rattle.std.specs.List.{list_any, position_or_len};
 ghost use Rattle.std.specs.Str.{bytes_eq};
 ghost use Rattle.indexmap.specs.IndexMap.{index_map_len};
-ghost use Rattle.shb_lines.specs.text.Faults.{HasLineFault, IsLowest};
+ghost use Rattle.shb_lines.specs.text.Faults.{HasLineFault, number_of};
 ghost use Rattle.shb_lines.specs.text.Limits.{AreStandard};
 ghost use Rattle.shb_lines.specs.text.Spans.{StandsAt, spans_in};
 ghost use Rattle.shb_lines.specs.text.Parsed.{HasRead, lines_read, part};
@@ -12,9 +12,12 @@ ghost use Rattle.shb_lines.specs.text.Reader.{AddsEvent, AllStand, HasNames, Has
 ghost use Rattle.shb_lines.specs.text.Reading.{named};
 ghost use Rattle.shb_lines.specs.text.Text.{threads_among};
 ghost use Rattle.shb_lines.specs.text.TraceData.{IsReading};
+ghost use Rattle.shb_lines.specs.Lowest.{IsLowest};
 
-use crate::event::{Event, Fault, Kind, Limits, LineFault, Op};
+use crate::event::{Event, Kind, Op};
+use crate::fault::{Fault, LineFault};
 use crate::grammar::{LineEvent, read_line};
+use crate::limits::Limits;
 use crate::line::without_carriage_return;
 use crate::names::{Names, Span};
 use crate::trace::Places;
@@ -205,9 +208,9 @@ impl<'t> Reader<'t> {
         requires room { HasRoom self.old }
         ensures room { OnOk result (HasRoom self.new) }
         ensures few { vec_len self.old.events ≤ limits.now.events → OnOk result (vec_len self.new.events ≤ limits.now.events) }
-        // Behind the events of some lines, the fault is the lowest that the line has.
+        // After the events of some lines, the fault is the lowest that the line has.
         ensures fault { (lines : List (List ℕ)) → HasRead text.now self.old lines
-            → IfOk result (IsLowest (HasLineFault limits.now
+            → IfOk result (IsLowest number_of (HasLineFault limits.now
             ((limits.now.text ≤ end) × (limits.now.text < length text.now))
             (events_of lines) (part text.now start end))) }
         // A line with no fault is read.

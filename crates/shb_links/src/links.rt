@@ -63,7 +63,7 @@ impl<'a> Links<'a> {
 
     /// The predecessor of event `e`: the event before `e` in its thread or, where `e` is the first
     /// of its thread, the fork of that thread. `None` exactly where `e` has neither. That a fork
-    /// precedes the first event of its thread is this project's profile.
+    /// precedes the first event of its thread is this project's own rule.
     pub fn pred(&self, e: u32) -> Option<u32>
         requires { e < length self.now }
         ensures { Exactly (λ p. IsPred self.now p e) result }

@@ -7,7 +7,7 @@ use Rattle.std.proofs.lemmas.Grind.{flat_map-append}
 use Rattle.std.proofs.lemmas.List.{append-nil, append_assoc, length_push, get_or_append_left, get_or_push, take_at, take-append-le, take_more, map_push, length-drop, get_or-drop}
 use Rattle.std.proofs.lemmas.List.Elements.{All-append, All-push, All-nil, filter-append, filter_more, Contains-get_or}
 use Rattle.shb_lines.specs.declared.event.Event.{Event}
-use Rattle.shb_lines.specs.events.Race.{variable_at, Race}
+use Rattle.shb_lines.specs.events.Race.{variable_at, Race, ends}
 use Rattle.shb_lines.specs.events.Reach.{numbers_where, is_race}
 use Rattle.shb_lines.proofs.events.Reach.{numbers_listed, reflect_race}
 use Rattle.shb_lines.specs.declared.event.Pair.{Pair}
@@ -15,7 +15,7 @@ use Rattle.shb_pairs.specs.declared.piece.Piece.{Piece}
 use Rattle.shb_pairs.specs.Accesses.{accesses_at, accesses_in, listed_accesses, variables_in}
 use Rattle.shb_pairs.specs.Listed.{Listed, is_open}
 use Rattle.shb_pairs.specs.Pieces.{run_at, runs_of, pieces_below, pieces_in}
-use Rattle.shb_pairs.specs.Races.{ends, piece_at, races_with, races_of, races_at}
+use Rattle.shb_pairs.specs.Races.{piece_at, races_with, races_of, races_at}
 use Rattle.shb_pairs.proofs.ByThread.{listed_closed, listed_open}
 use Rattle.shb_pairs.proofs.Counting.{numbers_few, access_from_test, test_from_access}
 

@@ -169,14 +169,14 @@ module _ (trace : List Event) (disciplined : IsDisciplined trace) (reads : List 
     writes = read_writes;
     accesses = λ k lt of_k. elim (cases_eq k n) [
       | inl same ↦ (next.read.mark, newest refl, own_covers k same own)
-      | inr ne ↦ (let c = h.accesses k (omega arith) of_k in behind k c.0 c.1 c.2)
+      | inr ne ↦ (let c = h.accesses k (omega arith) of_k in kept_covers k c.0 c.1 c.2)
     ];
     free = λ i j lt of_j placed race. read_free i j lt of_j race;
   }
     where
-      behind : (k : ℕ) (mark : Mark) → IsOf reads mark latest.read → Covers trace n latest.write mark k → (m : Mark) × IsOf reads m next.read × Covers trace (n + 1) next.write m k
-      behind k mark (newest is) covers = (next.read.mark, newest refl, λ e le later read. chain_below trace disciplined k n e (covers n (omega arith) past (subst (λ (m : Mark). IsPast trace m n) is also)) (mark_below trace next.read.mark n e own (omega arith) read))
-      behind k mark (older before at rest) covers = (mark, older before (subst (λ (b : ℕ). slice_get reads b ≡ Some before) (sym same_before) at) rest, covers_more k mark covers)
+      kept_covers : (k : ℕ) (mark : Mark) → IsOf reads mark latest.read → Covers trace n latest.write mark k → (m : Mark) × IsOf reads m next.read × Covers trace (n + 1) next.write m k
+      kept_covers k mark (newest is) covers = (next.read.mark, newest refl, λ e le later read. chain_below trace disciplined k n e (covers n (omega arith) past (subst (λ (m : Mark). IsPast trace m n) is also)) (mark_below trace next.read.mark n e own (omega arith) read))
+      kept_covers k mark (older before at rest) covers = (mark, older before (subst (λ (b : ℕ). slice_get reads b ≡ Some before) (sym same_before) at) rest, covers_more k mark covers)
 
   -- it isn't known to be, and the newest read before it is kept
   pub screened_kept : (more : List KeptRead) → ((mark : Mark) (read : KeptRead) → IsOf reads mark read → IsOf more mark read) → slice_get more next.read.before ≡ Some latest.read → IsMarkOf trace next.read.mark n → IsScreened trace more (n + 1) x next

@@ -9,10 +9,6 @@ use Rattle.shb_pairs.specs.Accesses.{accesses_in, listed_accesses}
 use Rattle.shb_pairs.specs.Listed.{Listed}
 use Rattle.shb_pairs.specs.Pieces.{pieces_in}
 
--- the two positions of a pair
-abbrev pub ends : Pair → ℕ × ℕ
-ends p = (p.first, p.second)
-
 -- the races whose later access is j, by the earlier access
 unfoldable pub races_with : List Event → ℕ → List (ℕ × ℕ)
 races_with trace j = map (λ i. (i, j)) (numbers_where (λ i. is_race trace i j) j)

@@ -3,7 +3,8 @@
 ghost use Rattle.std.specs.Prelude.{◌≡◌, ◌<◌, length, map};
 ghost use Rattle.shb_pairs.specs.Listed.{Listed};
 ghost use Rattle.shb_pairs.specs.Pieces.{pieces_in};
-ghost use Rattle.shb_pairs.specs.Races.{ends, piece_at, races_at};
+ghost use Rattle.shb_pairs.specs.Races.{piece_at, races_at};
+ghost use Rattle.shb_lines.specs.events.Race.{ends};
 
 use crate::accesses::Accesses;
 use crate::piece::Piece;

@@ -8,7 +8,7 @@ use crate::accesses::Accesses;
 use shb_io::NoMemory;
 use std::alloc::{AllocError, Global};
 
-/// How many accesses a run has at most. The number is this project's profile.
+/// How many accesses a run has at most. The number is this project's own.
 const RUN_LENGTH: u32 = 64;
 
 /// A run of the accesses of a variable, as [`Accesses::of`] lists them: at most 64 of them. It stands
@@ -36,7 +36,7 @@ fn cut(pieces: &mut Vec<Piece>, variable: u32, accesses: u32) -> Result<(), Allo
 }
 
 /// Cuts the accesses of each variable into runs of 64, the last one of what is left, by variable and
-/// then by place. The length 64 is this project's profile.
+/// then by place. The length 64 is this project's own.
 ///
 /// # Errors
 ///

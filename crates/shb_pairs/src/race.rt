@@ -4,22 +4,11 @@ ghost use Rattle.std.specs.Prelude.{◌≡◌, ◌<◌, ℕ, List, IsTrue, ◌�
 ghost use Rattle.shb_lines.specs.events.Order.{BelowPred};
 ghost use Rattle.shb_lines.specs.events.Race.{Conflict, Race};
 ghost use Rattle.shb_lines.specs.events.Schedule.{IsSchedule};
-ghost use Rattle.shb_lines.specs.events.Tests.{is_write as is_write_op};
 
 use shb_clocks::{Order, Ordered};
 use shb_discipline::Disciplined;
-use shb_lines::{Op, events_conflict_at};
+use shb_lines::events_conflict_at;
 use shb_links::Links;
-
-/// Whether an operation is a write.
-pub(crate) fn is_write(op: Op) -> bool
-    ensures { result ≡ is_write_op op }
-{
-    match op {
-        Op::Write(_) => true,
-        _ => false,
-    }
-}
 
 /// Whether an event is SHB-below the predecessor of a later one, or is it: whether its place in its
 /// thread is at most the number of events of that thread that the order answers.

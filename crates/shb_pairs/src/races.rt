@@ -4,13 +4,13 @@ ghost use Rattle.std.specs.Prelude.{◌≡◌, ◌++◌, ℕ, ◌+◌, ◌<◌, 
 ghost use Rattle.shb_lines.specs.declared.event.Op.TheVariants.{Write};
 ghost use Rattle.shb_lines.specs.events.Events.{op_at};
 ghost use Rattle.shb_lines.specs.events.Order.{BelowPred};
-ghost use Rattle.shb_lines.specs.events.Race.{Race, variable_at};
+ghost use Rattle.shb_lines.specs.events.Race.{Race, variable_at, ends};
 ghost use Rattle.shb_pairs.specs.Accesses.{accesses_in, variables_in};
 ghost use Rattle.shb_pairs.specs.Listed.{is_open};
-ghost use Rattle.shb_pairs.specs.Races.{ends, races_with};
+ghost use Rattle.shb_pairs.specs.Races.{races_with};
 ghost use Rattle.shb_pairs.specs.Search.{IsSettled, racing};
 
-use crate::race::{is_below_pred, is_race_by, is_write};
+use crate::race::{is_below_pred, is_race_by};
 use crate::rivals::rivals_of;
 use crate::search::Search;
 use shb_clocks::{Order, Ordered};
@@ -98,7 +98,7 @@ fn add_races_since<O: Order>(
         ++ races_with ordered.now.trace.now.events.now (slice_index_or accesses.now place 0)) }
 {
     let second = accesses[place];
-    if is_write(ordered.trace.events[second as usize].op) {
+    if ordered.trace.events[second as usize].op.is_write() {
         let (earlier, _) = accesses.split_at(place);
         let (_, since) = earlier.split_at(write + 1);
         add_races_among(races, ordered, since, second)?;
@@ -149,7 +149,7 @@ fn next_settled(
     ensures fresh { IsTrue free → (x : ℕ)
         → op_at trace.now.events.now (slice_index_or accesses.now place 0) ≡ Some (Write x) → result ≡ Some place }
 {
-    if !is_write(trace.events[accesses[place] as usize].op) {
+    if !trace.events[accesses[place] as usize].op.is_write() {
         settled
     } else if free {
         Some(place)

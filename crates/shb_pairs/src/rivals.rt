@@ -12,7 +12,6 @@ ghost use Rattle.shb_pairs.specs.Search.{AreRivals, IsOfOneThread, racing};
 ghost use Rattle.shb_pairs.specs.declared.buckets.Key.TheVariants.{Thread};
 
 use crate::buckets::part;
-use crate::race::is_write;
 use crate::search::Search;
 use shb_clocks::{Order, Ordered};
 use shb_lines::Event;
@@ -128,7 +127,7 @@ pub(crate) fn rivals_of<O: Order>(
     let writes = search.accesses.writes_by_thread(search.variable);
     add_rivals(&mut found, search.ordered, writes, second)?;
     // A read conflicts with no read.
-    if is_write(search.ordered.trace.events[second as usize].op) {
+    if search.ordered.trace.events[second as usize].op.is_write() {
         let reads = search.accesses.reads_by_thread(search.variable);
         add_rivals(&mut found, search.ordered, reads, second)?;
     }

@@ -9,7 +9,6 @@ ghost use Rattle.shb_pairs.specs.Screen.{AreScreened, IsMarkOf, IsOf, IsPast, Is
 ghost use Rattle.shb_pairs.specs.declared.screen.Mark.{Mark};
 ghost use Rattle.shb_pairs.specs.declared.screen.KeptRead.{KeptRead};
 
-use crate::race::is_write;
 use shb_clocks::{Order, Ordered};
 use shb_discipline::Disciplined;
 use shb_io::NoMemory;
@@ -147,7 +146,11 @@ fn after_read<O: Order>(
 ) -> Result<Latest, NoMemory>
     requires in_range { e < length ordered.now.trace.now.events.now }
     ensures kept { (mark : Mark) (read : KeptRead) → IsOf reads.old.items mark read → OnOk result (IsOf reads.new.items mark read) }
-    ensures screened { (x : ℕ) → variable_at ordered.now.trace.now.events.now e ≡ Some x → op_at ordered.now.trace.now.events.now e ≢ Some (Write x) → IsPast ordered.now.trace.now.events.now latest.write e → IsScreened ordered.now.trace.now.events.now reads.old.items e x latest → IfOk result (λ next. IsScreened ordered.now.trace.now.events.now reads.new.items (e + 1) x next) }
+    ensures screened { (x : ℕ) → variable_at ordered.now.trace.now.events.now e ≡ Some x
+        → op_at ordered.now.trace.now.events.now e ≢ Some (Write x)
+        → IsPast ordered.now.trace.now.events.now latest.write e
+        → IsScreened ordered.now.trace.now.events.now reads.old.items e x latest
+        → IfOk result (λ next. IsScreened ordered.now.trace.now.events.now reads.new.items (e + 1) x next) }
 {
     let Latest { write, read } = latest;
     let mark = mark_of(ordered, e);
@@ -176,7 +179,10 @@ fn after_write<O: Order>(
     e: u32,
 ) -> Latest
     requires in_range { e < length ordered.now.trace.now.events.now }
-    ensures { (x : ℕ) → variable_at ordered.now.trace.now.events.now e ≡ Some x → IsPast ordered.now.trace.now.events.now latest.write e → IsScreened ordered.now.trace.now.events.now reads.now e x latest → IsScreened ordered.now.trace.now.events.now reads.now (e + 1) x result }
+    ensures { (x : ℕ) → variable_at ordered.now.trace.now.events.now e ≡ Some x
+        → IsPast ordered.now.trace.now.events.now latest.write e
+        → IsScreened ordered.now.trace.now.events.now reads.now e x latest
+        → IsScreened ordered.now.trace.now.events.now reads.now (e + 1) x result }
 {
     if are_past(ordered, reads, latest.read, e) {
         Latest {
@@ -197,11 +203,13 @@ fn after_access<O: Order>(
 ) -> Result<Latest, NoMemory>
     requires in_range { e < length ordered.now.trace.now.events.now }
     ensures kept { (mark : Mark) (read : KeptRead) → IsOf reads.old.items mark read → OnOk result (IsOf reads.new.items mark read) }
-    ensures screened { (x : ℕ) → variable_at ordered.now.trace.now.events.now e ≡ Some x → IsScreened ordered.now.trace.now.events.now reads.old.items e x latest → IfOk result (λ next. IsScreened ordered.now.trace.now.events.now reads.new.items (e + 1) x next) }
+    ensures screened { (x : ℕ) → variable_at ordered.now.trace.now.events.now e ≡ Some x
+        → IsScreened ordered.now.trace.now.events.now reads.old.items e x latest
+        → IfOk result (λ next. IsScreened ordered.now.trace.now.events.now reads.new.items (e + 1) x next) }
 {
     if !is_past(ordered, latest.write, e) {
         Ok(opened())
-    } else if is_write(ordered.trace.events[e as usize].op) {
+    } else if ordered.trace.events[e as usize].op.is_write() {
         Ok(after_write(ordered, reads.as_slice(), latest, e))
     } else {
         after_read(ordered, reads, latest, e)
@@ -216,8 +224,10 @@ fn screen<O: Order>(
     e: u32,
 ) -> Result<(), NoMemory>
     requires in_range { e < length ordered.now.trace.now.events.now }
-    requires screened { AreScreened ordered.now.trace.now.events.now reads.old.items e ordered.now.trace.now.sizes.variables table.old.items }
-    ensures { OnOk result (AreScreened ordered.now.trace.now.events.now reads.new.items (e + 1) ordered.now.trace.now.sizes.variables table.new.items) }
+    requires screened { AreScreened ordered.now.trace.now.events.now reads.old.items e
+        ordered.now.trace.now.sizes.variables table.old.items }
+    ensures { OnOk result (AreScreened ordered.now.trace.now.events.now reads.new.items (e + 1)
+        ordered.now.trace.now.sizes.variables table.new.items) }
 {
     if let Some(x) = variable(ordered.trace.events[e as usize].op) {
         let latest = table[x as usize];

@@ -9,12 +9,13 @@ use Rattle.shb_lines.specs.events.Schedule.{IsNext, IsSchedule}
 use Rattle.shb_replay.specs.declared.broken.Broken.{Broken}
 use Rattle.shb_replay.specs.declared.broken.Why.{Why}
 use Rattle.shb_replay.specs.declared.broken.Why.TheVariants as whys
-use Rattle.shb_replay.specs.Reasons.{number_of, HasReason, IsBroken, IsFirstReason, IsLowest, IsUnbroken}
+use Rattle.shb_replay.specs.Reasons.{number_of, HasReason, IsBroken, IsFirstReason, IsUnbroken}
 use Rattle.shb_replay.specs.Walks.{IsAnswer, IsLowestIn}
 use Rattle.shb_replay.proofs.Law.{of_schedule, schedule_of}
+use Rattle.shb_lines.specs.Lowest.{IsLowest}
 
 module _ (Has : Why → Type 0) where
-  pub lowest_one : Has whys.NoSuchEvent → IsLowest Has (Some whys.NoSuchEvent)
+  pub lowest_one : Has whys.NoSuchEvent → IsLowest number_of Has (Some whys.NoSuchEvent)
   lowest_one h = (h, above)
     where
       above : (other : Why) → Has other → 1 ≤ number_of other
@@ -28,7 +29,7 @@ module _ (Has : Why → Type 0) where
       above whys.NotNext has = omega arith
 
   module _ (one : Has whys.NoSuchEvent → ⊥) where
-    pub lowest_two : Has whys.Repeated → IsLowest Has (Some whys.Repeated)
+    pub lowest_two : Has whys.Repeated → IsLowest number_of Has (Some whys.Repeated)
     lowest_two h = (h, above)
       where
         above : (other : Why) → Has other → 2 ≤ number_of other
@@ -42,7 +43,7 @@ module _ (Has : Why → Type 0) where
         above whys.NotNext has = omega arith
 
     module _ (two : Has whys.Repeated → ⊥) where
-      pub lowest_three : (why : Why) → IsLowestIn 3 4 Has (Some why) → IsLowest Has (Some why)
+      pub lowest_three : (why : Why) → IsLowestIn 3 4 Has (Some why) → IsLowest number_of Has (Some why)
       lowest_three why (has, from, low) = (has, above)
         where
           above : (other : Why) → Has other → number_of why ≤ number_of other
@@ -56,7 +57,7 @@ module _ (Has : Why → Type 0) where
           above whys.NotNext h = low whys.NotNext (omega arith) h
 
       module _ (none : IsLowestIn 3 4 Has None) where
-        lowest_none : IsLowestIn 5 8 Has None → IsLowest Has None
+        lowest_none : IsLowestIn 5 8 Has None → IsLowest number_of Has None
         lowest_none rest whys.NoSuchEvent h = one h
         lowest_none rest whys.Repeated h = two h
         lowest_none rest whys.ThreadOrder h = none whys.ThreadOrder (omega arith) (omega arith) h
@@ -66,7 +67,7 @@ module _ (Has : Why → Type 0) where
         lowest_none rest whys.LastWrite h = rest whys.LastWrite (omega arith) (omega arith) h
         lowest_none rest whys.NotNext h = rest whys.NotNext (omega arith) (omega arith) h
 
-        lowest_some : (why : Why) → IsLowestIn 5 8 Has (Some why) → IsLowest Has (Some why)
+        lowest_some : (why : Why) → IsLowestIn 5 8 Has (Some why) → IsLowest number_of Has (Some why)
         lowest_some why (has, from, low) = (has, above)
           where
             above : (other : Why) → Has other → number_of why ≤ number_of other
@@ -79,7 +80,7 @@ module _ (Has : Why → Type 0) where
             above whys.LastWrite h = low whys.LastWrite (omega arith) h
             above whys.NotNext h = low whys.NotNext (omega arith) h
 
-        pub lowest_five : (o : Option Why) → IsLowestIn 5 8 Has o → IsLowest Has o
+        pub lowest_five : (o : Option Why) → IsLowestIn 5 8 Has o → IsLowest number_of Has o
         lowest_five None rest = lowest_none rest
         lowest_five (Some why) rest = lowest_some why rest
 

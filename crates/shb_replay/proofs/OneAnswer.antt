@@ -5,8 +5,9 @@ use Rattle.std.proofs.lemmas.Option.{slice_get_within}
 use Rattle.shb_lines.specs.declared.event.Event.{Event}
 use Rattle.shb_replay.specs.declared.broken.Why.{Why}
 use Rattle.shb_replay.specs.declared.broken.Why.TheVariants as whys
-use Rattle.shb_replay.specs.Reasons.{number_of, HasReason, IsBroken, IsFirstReason, IsLowest, IsNotNext, IsUnbroken}
+use Rattle.shb_replay.specs.Reasons.{number_of, HasReason, IsBroken, IsFirstReason, IsNotNext, IsUnbroken}
 use Rattle.shb_replay.proofs.Standing.{one_value}
+use Rattle.shb_lines.specs.Lowest.{IsLowest}
 
 -- a reason is known by its number
 abbrev why_of : ℕ → Why
@@ -58,7 +59,7 @@ module _ (trace : List Event) (s : List ℕ) (i j : ℕ) where
   same_reason : (p : ℕ) (why other : Why) → IsFirstReason trace s p why → IsFirstReason trace s p other → why ≡ other
   same_reason p why other h g =
       let same = one_value s p h.event g.event h.there g.there in
-      let lowest : IsLowest (HasReason trace s p g.event) (Some why) = subst (λ (e : ℕ). IsLowest (HasReason trace s p e) (Some why)) same h.lowest in
+      let lowest : IsLowest number_of (HasReason trace s p g.event) (Some why) = subst (λ (e : ℕ). IsLowest number_of (HasReason trace s p e) (Some why)) same h.lowest in
       let low = lowest.1 other g.lowest.0 in
       let high = g.lowest.1 why lowest.0 in
       same_why why other (omega (arith, low, high))

@@ -7,6 +7,7 @@ use Rattle.shb_lines.specs.events.Order.{LastWrite}
 use Rattle.shb_lines.specs.events.Schedule.{IsNext}
 use Rattle.shb_replay.specs.declared.broken.Why.{Why}
 use Rattle.shb_replay.specs.declared.broken.Why.TheVariants as whys
+use Rattle.shb_lines.specs.Lowest.{IsLowest}
 
 -- the numbers of the reasons
 abbrev pub number_of : Why → ℕ
@@ -86,11 +87,6 @@ HasReason trace s p e whys.LockOrder = (r : ℕ) × AcquiresWithout trace s p e 
 HasReason trace s p e whys.LastWrite = (x : ℕ) × ReadsOther trace s p e x
 HasReason trace s p e whys.NotNext = ⊥
 
--- of the reasons that hold the one of lowest number, or None where none holds
-abbrev pub IsLowest : (Why → Type 0) → Option Why → Type 0
-IsLowest Has None = (why : Why) → ¬ Has why
-IsLowest Has (Some why) = Has why × ((other : Why) → Has other → number_of why ≤ number_of other)
-
 -- no event at a place before n has a reason
 abbrev pub IsUnbroken : List Event → List ℕ → ℕ → Type 0
 IsUnbroken trace s n = (p e : ℕ) (why : Why) → p < n → slice_get s p ≡ Some e → ¬ HasReason trace s p e why
@@ -99,7 +95,7 @@ IsUnbroken trace s n = (p e : ℕ) (why : Why) → p < n → slice_get s p ≡ S
 pub record IsFirstReason (trace : List Event) (s : List ℕ) (at : ℕ) (why : Why) : Type 0 where
   pub event : ℕ
   pub there : slice_get s at ≡ Some event
-  pub lowest : IsLowest (HasReason trace s at event) (Some why)
+  pub lowest : IsLowest number_of (HasReason trace s at event) (Some why)
   pub earlier : IsUnbroken trace s at
 
 -- no place has a reason, and i or j isn't next after the list

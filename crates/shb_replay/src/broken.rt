@@ -2,7 +2,7 @@
 
 /// Why a list of events is no schedule. At each place of the list the event there is judged by the
 /// events at places before it, here called earlier; of several reasons at one place the first in
-/// this enum is answered. The reasons and their order are this project's profile.
+/// this enum is answered. The reasons and their order are this project's own.
 #[derive(Clone, Copy, Debug, PartialEq, Eq)]
 pub enum Why {
     /// The number is no event of the trace.

@@ -2,8 +2,9 @@
 
 ghost use Rattle.std.specs.Prelude.{◌≡◌, ◌+◌, ◌<◌, ◌≤◌, ℕ, List, IfOk, IfSome, Some, length, slice_get, vec_len, false, replicate};
 ghost use Rattle.shb_lines.specs.events.Schedule.{IsNext};
-ghost use Rattle.shb_replay.specs.Reasons.{HasReason, IsLowest, IsUnbroken, StandsEarlier};
+ghost use Rattle.shb_replay.specs.Reasons.{HasReason, IsUnbroken, StandsEarlier, number_of};
 ghost use Rattle.shb_replay.specs.Walks.{AreFlags, AreRules, IsBlank, IsLeft, IsLowestIn, IsWalked, Tells, TellsLack};
+ghost use Rattle.shb_lines.specs.Lowest.{IsLowest};
 
 use crate::broken::Why;
 use crate::rules::{Rules, no_positions};
@@ -131,7 +132,7 @@ impl Walked {
         requires walked { IsWalked rules.now.linked.events.now rules.now.linked.sizes list.now at self.now }
         requires unbroken { IsUnbroken rules.now.linked.events.now list.now at }
         ensures { (e : ℕ) → slice_get list.now at ≡ Some e
-            → IsLowest (HasReason rules.now.linked.events.now list.now at e) result }
+            → IsLowest number_of (HasReason rules.now.linked.events.now list.now at e) result }
     {
         let e = list[at] as usize;
         if e >= rules.linked.events.len() {

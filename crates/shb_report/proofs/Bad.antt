@@ -8,7 +8,7 @@ use Rattle.shb_report.specs.Parts.{IsTextOf}
 use Rattle.shb_report.specs.Value.{IsReportValue, ReportValue, lines_text, report_lines, report_text}
 use Rattle.shb_report.specs.Reading.{BeginsReport, IsBadLine}
 use Rattle.shb_report.specs.Forms.{Form, Version, End, Takes, IsBadFrom}
-use Rattle.shb_report.proofs.Machine.{behind}
+use Rattle.shb_report.proofs.Machine.{after}
 use Rattle.shb_report.proofs.Language.{ending, takes_all, takes_front}
 use Rattle.shb_report.proofs.Values.{lines_of_value, value_of_lines}
 
@@ -26,7 +26,7 @@ takes_past : (forms : List Form) (bytes : List ℕ) (n : ℕ) (left l : List For
 takes_past forms bytes zero left l rest r h g = subst (λ f. Takes f rest (suc zero) l r) h.0 (subst (λ b. Takes forms b (suc zero) l r) h.1 g)
 takes_past [] bytes (suc n) left l rest r h g = absurd h
 takes_past (form ∷ forms) bytes (suc n) left l rest r h g =
-    takes_past (h.1 ++ forms) h.2 n left l rest r h.4 (behind form forms bytes h.0 h.1 h.2 (suc n) l r h.3 g)
+    takes_past (h.1 ++ forms) h.2 n left l rest r h.4 (after form forms bytes h.0 h.1 h.2 (suc n) l r h.3 g)
 
 abbrev all_forms : List Form
 all_forms = Version ∷ (End ∷ [])
@@ -71,8 +71,8 @@ module _ (limit : ℕ) (text : List ℕ) where
   }
 
   -- a whole report within the limit, after which a byte stands
-  pub bad_behind_limit : (report : ReportValue) → IsReportValue report → take limit text ≡ report_text report → limit < length text → IsBadLine limit text (length (report_lines report) + 1)
-  bad_behind_limit report in_grammar seen long =
+  pub bad_after_limit : (report : ReportValue) → IsReportValue report → take limit text ≡ report_text report → limit < length text → IsBadLine limit text (length (report_lines report) + 1)
+  bad_after_limit report in_grammar seen long =
       let count = length (report_lines report) in
       let all : Takes all_forms (take limit text) count [] [] = subst (λ s. Takes all_forms s count [] []) (sym seen) (takes_all all_forms (report_lines report) (lines_of_value report in_grammar)) in record {
         no_report = λ other h. omega (arith, h.short);
@@ -90,7 +90,7 @@ bad_long limit text seen n same b = bad_line limit text n (subst (λ s. IsBadFro
 
 pub bad_end : (limit : ℕ) (text seen : List ℕ) (report : ReportValue) (lines : ℕ) → limit < length text → seen ≡ take limit text → IsTextOf seen report lines → IsBadLine limit text (lines + 1)
 bad_end limit text seen report lines long same h =
-    subst (λ n. IsBadLine limit text (n + 1)) (sym h.lines_are) (bad_behind_limit limit text report h.in_grammar (sym same ∙ h.text_is) long)
+    subst (λ n. IsBadLine limit text (n + 1)) (sym h.lines_are) (bad_after_limit limit text report h.in_grammar (sym same ∙ h.text_is) long)
 
 -- what was taken of a source has the first bad line of all that it tells
 

@@ -60,9 +60,9 @@ decimal_plain n small = ((decimal_is_IsNumeral n small).0.0, by n small)
     by zero small h = ap (λ (l : List ℕ). length l) (decimal_digit 0 (omega arith))
     by (suc n) small h = absurd (omega (arith, h, first_decimal (suc n) (omega arith) small))
 
-module _ (text digits behind : List ℕ) (whole : text ≡ digits ++ behind) (all : list_all is_ascii_digit digits ≡ true) (ends : EndsNumber behind) where
-  front_is : (n : ℕ) (rest : List ℕ) → IsLabelled [] text n rest → (decimal n ≡ digits) × (rest ≡ behind)
-  front_is n rest h = same_front is_ascii_digit (decimal n) digits rest behind (decimal_digits n) all h.ends ends (sym h.text_is ∙ whole)
+module _ (text digits after : List ℕ) (whole : text ≡ digits ++ after) (all : list_all is_ascii_digit digits ≡ true) (ends : EndsNumber after) where
+  front_is : (n : ℕ) (rest : List ℕ) → IsLabelled [] text n rest → (decimal n ≡ digits) × (rest ≡ after)
+  front_is n rest h = same_front is_ascii_digit (decimal n) digits rest after (decimal_digits n) all h.ends ends (sym h.text_is ∙ whole)
 
   pub number_not_plain : (IsPlain digits → ⊥) → (n : ℕ) (rest : List ℕ) → n < 2 ^ 64 → IsLabelled [] text n rest → ⊥
   number_not_plain unlike n rest small h = unlike (subst IsPlain (front_is n rest h).0 (decimal_plain n small))
@@ -70,24 +70,24 @@ module _ (text digits behind : List ℕ) (whole : text ≡ digits ++ behind) (al
   pub number_too_large : 2 ^ 64 ≤ digits_value 10 digits → (n : ℕ) (rest : List ℕ) → n < 2 ^ 64 → IsLabelled [] text n rest → ⊥
   number_too_large large n rest small h = omega (arith, ap (digits_value 10) (front_is n rest h).0, (decimal_is_IsNumeral n small).1)
 
-  pub number_is : (n : ℕ) → IsPlain digits → n < 2 ^ 64 → n ≡ digits_value 10 digits → IsLabelled [] text n behind
+  pub number_is : (n : ℕ) → IsPlain digits → n < 2 ^ 64 → n ≡ digits_value 10 digits → IsLabelled [] text n after
   number_is n plain small is =
       let written = decimal-digits_value own digits all plain.0 plain.1 (omega (arith, is)) in record {
-        text_is = whole ∙ sym (ap (λ d. d ++ behind) (ap decimal is ∙ written));
+        text_is = whole ∙ sym (ap (λ d. d ++ after) (ap decimal is ∙ written));
         ends = ends;
       }
 
 -- a label in front of it
 
-pub labelled_is : (label text behind : List ℕ) (n : ℕ) (rest : List ℕ) → text ≡ label ++ behind → IsLabelled [] behind n rest → IsLabelled label text n rest
-labelled_is label text behind n rest whole h = record { text_is = whole ∙ ap (λ b. label ++ b) h.text_is; ends = h.ends }
+pub labelled_is : (label text after : List ℕ) (n : ℕ) (rest : List ℕ) → text ≡ label ++ after → IsLabelled [] after n rest → IsLabelled label text n rest
+labelled_is label text after n rest whole h = record { text_is = whole ∙ ap (λ b. label ++ b) h.text_is; ends = h.ends }
 
-pub unlabelled : (label text behind : List ℕ) → text ≡ label ++ behind → ((n : ℕ) (rest : List ℕ) → n < 2 ^ 64 → IsLabelled [] behind n rest → ⊥) → (n : ℕ) (rest : List ℕ) → n < 2 ^ 64 → IsLabelled label text n rest → ⊥
-unlabelled label text behind whole unlike n rest small h =
-    unlike n rest small (record { text_is = append_cancel_left label behind (decimal n ++ rest) (sym whole ∙ h.text_is); ends = h.ends })
+pub unlabelled : (label text after : List ℕ) → text ≡ label ++ after → ((n : ℕ) (rest : List ℕ) → n < 2 ^ 64 → IsLabelled [] after n rest → ⊥) → (n : ℕ) (rest : List ℕ) → n < 2 ^ 64 → IsLabelled label text n rest → ⊥
+unlabelled label text after whole unlike n rest small h =
+    unlike n rest small (record { text_is = append_cancel_left label after (decimal n ++ rest) (sym whole ∙ h.text_is); ends = h.ends })
 
-pub labelled_by : (label text behind : List ℕ) (found : Option (ℕ × Bor (List ℕ))) → text ≡ label ++ behind
-    → MatchOption found ((n : ℕ) (rest : List ℕ) → n < 2 ^ 64 → IsLabelled [] behind n rest → ⊥) (λ r. (r.0 < 2 ^ 64) × IsLabelled [] behind r.0 r.1.now)
+pub labelled_by : (label text after : List ℕ) (found : Option (ℕ × Bor (List ℕ))) → text ≡ label ++ after
+    → MatchOption found ((n : ℕ) (rest : List ℕ) → n < 2 ^ 64 → IsLabelled [] after n rest → ⊥) (λ r. (r.0 < 2 ^ 64) × IsLabelled [] after r.0 r.1.now)
     → MatchOption found ((n : ℕ) (rest : List ℕ) → n < 2 ^ 64 → IsLabelled label text n rest → ⊥) (λ r. (r.0 < 2 ^ 64) × IsLabelled label text r.0 r.1.now)
-labelled_by label text behind None whole h = unlabelled label text behind whole h
-labelled_by label text behind (Some r) whole h = (h.0, labelled_is label text behind r.0 r.1.now whole h.1)
+labelled_by label text after None whole h = unlabelled label text after whole h
+labelled_by label text after (Some r) whole h = (h.0, labelled_is label text after r.0 r.1.now whole h.1)

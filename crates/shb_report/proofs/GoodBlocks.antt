@@ -101,10 +101,7 @@ pub broken_lowest : (trace : TraceData) (block : Block) (events : List Event) (s
 broken_lowest trace block events s pair broken events_are s_is pair_is good is =
     let of_trace = subst (λ (ev : List Event). IsBroken ev s pair.first pair.second broken.at broken.why) events_are is in
     let of_list = subst (λ (l : List ℕ). IsBroken trace.events l pair.first pair.second broken.at broken.why) s_is of_trace in
-    record {
-      has = subst (λ (p : Pair). IsBroken trace.events (positions_of trace block.schedule) p.first p.second broken.at broken.why) pair_is of_list;
-      lowest = by;
-    }
+    (subst (λ (p : Pair). IsBroken trace.events (positions_of trace block.schedule) p.first p.second broken.at broken.why) pair_is of_list, by)
   where
     none : (number : ℕ) → 1 ≤ number → number ≤ length trace.events → IsNoEvent trace number → ⊥
     none number low high (inl zeroth) = omega (arith, low, zeroth)

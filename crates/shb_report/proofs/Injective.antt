@@ -65,8 +65,8 @@ race_line_same number i j k l p q r s e =
 
 numbers_line_same : (ns ms : List ℕ) → AllByRecursion IsShown ns → AllByRecursion IsShown ms → IsShown (length ns) → IsShown (length ms) → numbers_line ns ≡ numbers_line ms → ns ≡ ms
 numbers_line_same ns ms h g p q e =
-    let behind = same_number (length ns) (length ms) (codes ":" ++ listed ns) (codes ":" ++ listed ms) p q refl refl (append_cancel_left (codes "schedule ") _ _ e) in
-    listed_same ns ms h g (append_cancel_left (codes ":") _ _ behind.1)
+    let after = same_number (length ns) (length ms) (codes ":" ++ listed ns) (codes ":" ++ listed ms) p q refl refl (append_cancel_left (codes "schedule ") _ _ e) in
+    listed_same ns ms h g (append_cancel_left (codes ":") _ _ after.1)
 
 -- places and blocks
 

@@ -3,7 +3,7 @@ use Rattle.std.proofs.Common.{◌≡◌, inl, ℕ, zero, suc, ◌≤◌, List, [
 use Rattle.std.specs.Fmt.{decimal}
 use Rattle.shb_report.specs.declared.writer.Counts.{Counts}
 use Rattle.shb_report.specs.Value.{AreShown, HasNoLineFeed, IsRest, counts_line, lines_text, listed, numbers_line, place_line, places_line, race_numbers_line, races_line}
-use Rattle.shb_report.specs.Forms.{Form, Version, CountsForm, Races, RacesBeforePlaces, Places, PlaceForm, Race, Named, Schedule, End, Label, First, Second, At, And, label_bytes, least_behind, HasForm, TakesForm, Takes}
+use Rattle.shb_report.specs.Forms.{Form, Version, CountsForm, Races, RacesBeforePlaces, Places, PlaceForm, Race, Named, Schedule, End, Label, First, Second, At, And, label_bytes, least_after, HasForm, TakesForm, Takes}
 use Rattle.shb_report.proofs.Fronts.{one_line-append, one_line-decimal}
 
 -- all of these lines have these forms, one after another
@@ -76,7 +76,7 @@ one_line-numbers ns = numbered (codes "schedule ") (length ns) _ refl (one_line-
 
 -- whatever is expected, lines can follow that end it
 
-label_rest : (label : Label) → (bytes : List ℕ) × IsRest (least_behind label) bytes
+label_rest : (label : Label) → (bytes : List ℕ) × IsRest (least_after label) bytes
 label_rest First = (1 ∷ [], record { enough = omega arith; most = omega arith; one_line = refl })
 label_rest Second = (1 ∷ [], record { enough = omega arith; most = omega arith; one_line = refl })
 label_rest At = ([], record { enough = omega arith; most = omega arith; one_line = refl })

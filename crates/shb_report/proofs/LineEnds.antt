@@ -3,7 +3,7 @@ use Rattle.std.proofs.Common.{codes, inl, inr, ◌≡◌, ◌≢◌, ℕ, suc, �
 use Rattle.std.proofs.Math.Seq.{drop-cons, drop-append_seam, take-append_seam}
 use Rattle.std.proofs.lemmas.List.{drop-drop}
 use Rattle.memchr.specs.Find.{IsFirstByte, is_byte}
-use Rattle.shb_report.specs.Forms.{Form, Version, Named, Label, label_bytes, least_behind, HasForm, TakesForm}
+use Rattle.shb_report.specs.Forms.{Form, Version, Named, Label, label_bytes, least_after, HasForm, TakesForm}
 use Rattle.shb_report.specs.declared.lines.Position.{Position}
 use Rattle.shb_report.specs.declared.parts.Span.{Span}
 use Rattle.shb_report.specs.Parts.{IsSpanIn, bytes_at}
@@ -35,9 +35,9 @@ line_found bytes len h =
     let long : length (take len bytes) ≡ len = omega (arith, length-take len bytes) in
     let feed : get_or bytes len 0 ≡ 10 = is_feed (get_or bytes len 0) h.1 in
     let counts : suc len ≡ length (take len bytes) + 1 = omega (arith, long) in
-    let behind : drop (suc len) bytes ≡ drop (length (take len bytes) + 1) bytes = ap (λ n. drop n bytes) counts in record {
+    let after : drop (suc len) bytes ≡ drop (length (take len bytes) + 1) bytes = ap (λ n. drop n bytes) counts in record {
       one_line = all_other (take len bytes) (λ k below. λ e. h.0.before k (omega arith) (omega (arith, long)) (sym (ap (λ b. b == 10) (get_or-take len bytes k 0 (omega (arith, long)))) ∙ e));
-      bytes_are = sym (take-append-drop len bytes) ∙ ap (λ r. take len bytes ++ r) (drop-cons bytes len 0 within ∙ ap (λ b. b ∷ drop (suc len) bytes) feed ∙ ap (λ r. 10 ∷ r) behind);
+      bytes_are = sym (take-append-drop len bytes) ∙ ap (λ r. take len bytes ++ r) (drop-cons bytes len 0 within ∙ ap (λ b. b ∷ drop (suc len) bytes) feed ∙ ap (λ r. 10 ∷ r) after);
     }
 
 feed : (line rest : List ℕ) → HasNoLineFeed (line ++ (10 ∷ rest)) → ⊥
@@ -69,7 +69,7 @@ named_bytes text label bytes rest start e =
     ap (take (length bytes)) (sym (drop-drop (length label) start text) ∙ ap (drop (length label)) (e ∙ append_assoc label bytes (10 ∷ rest)) ∙ drop-append_seam label (bytes ++ (10 ∷ rest)))
     ∙ take-append_seam bytes (10 ∷ rest)
 
-pub lacks_named : (bytes line rest : List ℕ) → BeginsWithLine bytes line rest → (l : Label) (label : List ℕ) (least : ℕ) → label ≡ label_bytes l → least ≡ least_behind l → ((more : List ℕ) → IsRest least more → line ≢ label ++ more) → Lacks (Named l) bytes
+pub lacks_named : (bytes line rest : List ℕ) → BeginsWithLine bytes line rest → (l : Label) (label : List ℕ) (least : ℕ) → label ≡ label_bytes l → least ≡ least_after l → ((more : List ℕ) → IsRest least more → line ≢ label ++ more) → Lacks (Named l) bytes
 lacks_named bytes line rest b l label least same_label same_least unlike = lacks_by (Named l) bytes line rest b
     (λ added h. unlike h.0 (subst (λ n. IsRest n h.0) (sym same_least) h.1) (h.2 ∙ ap (λ x. x ++ h.0) (sym same_label)))
 

@@ -37,31 +37,31 @@ none_listed kept text old = record {
 }
 
 -- what stands after the first of some numbers
-behind_first : (rest : List ℕ) (n : ℕ) (behind more : List ℕ) → IsShown n → IsLabelled (codes " ") rest n behind → AllByRecursion IsShown more → rest ≡ listed more
-    → (others : List ℕ) × AllByRecursion IsShown others × (behind ≡ listed others) × (length more ≡ suc (length others))
-behind_first rest n behind [] small h all e = let lengths : length (codes " " ++ (decimal n ++ behind)) ≡ 0 = ap (λ (l : List ℕ). length l) (sym h.text_is ∙ e) in absurd (omega arith)
-behind_first rest n behind (m ∷ ms) small h all e =
-    (ms, all.1, sym (peel (codes " ") rest n m behind (listed ms) small all.0 h (ends-listed ms) e).1, refl)
+after_first : (rest : List ℕ) (n : ℕ) (after more : List ℕ) → IsShown n → IsLabelled (codes " ") rest n after → AllByRecursion IsShown more → rest ≡ listed more
+    → (others : List ℕ) × AllByRecursion IsShown others × (after ≡ listed others) × (length more ≡ suc (length others))
+after_first rest n after [] small h all e = let lengths : length (codes " " ++ (decimal n ++ after)) ≡ 0 = ap (λ (l : List ℕ). length l) (sym h.text_is ∙ e) in absurd (omega arith)
+after_first rest n after (m ∷ ms) small h all e =
+    (ms, all.1, sym (peel (codes " ") rest n m after (listed ms) small all.0 h (ends-listed ms) e).1, refl)
 
 -- where a text with bytes left is some numbers, a number is next
-pub first_listed : {T : Type 0} (kept : ℕ → T) (text : List ℕ) (old new : List T) (rest : List ℕ) → HasListed kept text old new rest → 0 < length rest → ((n : ℕ) (behind : List ℕ) → n < 2 ^ 64 → IsLabelled (codes " ") rest n behind → ⊥) → (all : List ℕ) → AllByRecursion IsShown all → text ≢ listed all
+pub first_listed : {T : Type 0} (kept : ℕ → T) (text : List ℕ) (old new : List T) (rest : List ℕ) → HasListed kept text old new rest → 0 < length rest → ((n : ℕ) (after : List ℕ) → n < 2 ^ 64 → IsLabelled (codes " ") rest n after → ⊥) → (all : List ℕ) → AllByRecursion IsShown all → text ≢ listed all
 first_listed kept text old new rest h some lacks all shown e = let more = h.back all shown e in by more.0 more.1 more.2
   where
     by : (more : List ℕ) → AllByRecursion IsShown more → rest ≡ listed more → ⊥
     by [] g is = omega (arith, ap (λ (l : List ℕ). length l) is)
     by (m ∷ ms) g is = lacks m (listed ms) g.0 (record { text_is = is; ends = ends-listed ms })
 
-pub one_more_listed : {T : Type 0} (kept : ℕ → T) (text : List ℕ) (old new : List T) (rest : List ℕ) (n : ℕ) (behind : List ℕ) (new_items : List T) → HasListed kept text old new rest → IsShown n → IsLabelled (codes " ") rest n behind
-    → new_items ≡ new ++ kept n ∷ [] → HasListed kept text old new_items behind
-one_more_listed kept text old new rest n behind new_items h small labelled is = record {
+pub one_more_listed : {T : Type 0} (kept : ℕ → T) (text : List ℕ) (old new : List T) (rest : List ℕ) (n : ℕ) (after : List ℕ) (new_items : List T) → HasListed kept text old new rest → IsShown n → IsLabelled (codes " ") rest n after
+    → new_items ≡ new ++ kept n ∷ [] → HasListed kept text old new_items after
+one_more_listed kept text old new rest n after new_items h small labelled is = record {
   ns = h.ns ++ n ∷ [];
   added = record { grown = is ∙ ap (λ l. l ++ kept n ∷ []) h.added.grown ∙ append_assoc old (map kept h.ns) (kept n ∷ []) ∙ ap (λ l. old ++ l) (sym (map_push kept h.ns n)); shown = shown-append h.ns (n ∷ []) h.added.shown (small, tt) };
-  text_is = h.text_is ∙ ap (λ r. listed h.ns ++ r) (labelled.text_is ∙ ap (λ d. codes " " ++ (d ++ behind)) (sym (append-nil (decimal n))))
-      ∙ sym (append_assoc (listed h.ns) (listed (n ∷ [])) behind) ∙ ap (λ l. l ++ behind) (sym (listed-append h.ns (n ∷ [])));
+  text_is = h.text_is ∙ ap (λ r. listed h.ns ++ r) (labelled.text_is ∙ ap (λ d. codes " " ++ (d ++ after)) (sym (append-nil (decimal n))))
+      ∙ sym (append_assoc (listed h.ns) (listed (n ∷ [])) after) ∙ ap (λ l. l ++ after) (sym (listed-append h.ns (n ∷ [])));
   back = λ all shown e.
       let before = h.back all shown e in
-      let after = behind_first rest n behind before.0 small labelled before.1 before.2 in
-      (after.0, after.1, after.2, omega (arith, length-append h.ns (n ∷ []), before.3, after.3));
+      let others = after_first rest n after before.0 small labelled before.1 before.2 in
+      (others.0, others.1, others.2, omega (arith, length-append h.ns (n ∷ []), before.3, others.3));
 }
 
 pub listed_same : (ns ms : List ℕ) → AllByRecursion IsShown ns → AllByRecursion IsShown ms → listed ns ≡ listed ms → ns ≡ ms
@@ -76,14 +76,14 @@ listed_same (n ∷ ns) (m ∷ ms) h g e =
 
 -- the parts of a schedule's line
 
-module _ (line : List ℕ) (count : ℕ) (behind : List ℕ) (small : IsShown count) (labelled : IsLabelled (codes "schedule ") line count behind) where
-  count_is : (ns : List ℕ) → IsShown (length ns) → line ≡ numbers_line ns → (length ns ≡ count) × (codes ":" ++ listed ns ≡ behind)
-  count_is ns few e = peel (codes "schedule ") line count (length ns) behind (codes ":" ++ listed ns) small few labelled refl e
+module _ (line : List ℕ) (count : ℕ) (after : List ℕ) (small : IsShown count) (labelled : IsLabelled (codes "schedule ") line count after) where
+  count_is : (ns : List ℕ) → IsShown (length ns) → line ≡ numbers_line ns → (length ns ≡ count) × (codes ":" ++ listed ns ≡ after)
+  count_is ns few e = peel (codes "schedule ") line count (length ns) after (codes ":" ++ listed ns) small few labelled refl e
 
-  pub no_colon : ((rest : List ℕ) → behind ≢ codes ":" ++ rest) → (ns : List ℕ) → AllByRecursion IsShown ns → IsShown (length ns) → line ≢ numbers_line ns
+  pub no_colon : ((rest : List ℕ) → after ≢ codes ":" ++ rest) → (ns : List ℕ) → AllByRecursion IsShown ns → IsShown (length ns) → line ≢ numbers_line ns
   no_colon lacks ns shown few e = lacks (listed ns) (sym (count_is ns few e).1)
 
-  module _ (text : List ℕ) (colon : behind ≡ codes ":" ++ text) where
+  module _ (text : List ℕ) (colon : after ≡ codes ":" ++ text) where
     text_is : (ns : List ℕ) → IsShown (length ns) → line ≡ numbers_line ns → text ≡ listed ns
     text_is ns few e = append_cancel_left (codes ":") text (listed ns) (sym colon ∙ sym (count_is ns few e).1)
 

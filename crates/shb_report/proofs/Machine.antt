@@ -29,28 +29,28 @@ same_taken form bytes l k a b r s h g =
     (same_added form l a b h.has_form (subst (λ x. HasForm form x b) (sym same.0) g.has_form), same.1)
 
 -- what is taken after a line that was taken
-pub behind : (form : Form) (forms : List Form) (bytes line : List ℕ) (added : List Form) (more : List ℕ) (n : ℕ) (left : List Form) (rest : List ℕ) → TakesForm form bytes line added more
+pub after : (form : Form) (forms : List Form) (bytes line : List ℕ) (added : List Form) (more : List ℕ) (n : ℕ) (left : List Form) (rest : List ℕ) → TakesForm form bytes line added more
     → Takes (form ∷ forms) bytes (suc n) left rest → Takes (added ++ forms) more n left rest
-behind form forms bytes line added more n left rest h g =
+after form forms bytes line added more n left rest h g =
     let same = same_taken form bytes line g.0 added g.1 more g.2 h g.3 in
     subst (λ a. Takes (a ++ forms) more n left rest) (sym same.0) (subst (λ m. Takes (g.1 ++ forms) m n left rest) (sym same.1) g.4)
 
 -- a line that was taken, before the line that is bad
-pub bad_behind : (form : Form) (forms : List Form) (before : ℕ) (bytes line : List ℕ) (added : List Form) (more : List ℕ) (n : ℕ) → TakesForm form bytes line added more
+pub bad_later_form : (form : Form) (forms : List Form) (before : ℕ) (bytes line : List ℕ) (added : List Form) (more : List ℕ) (n : ℕ) → TakesForm form bytes line added more
     → IsBadFrom (added ++ forms) (before + 1) more n → IsBadFrom (form ∷ forms) before bytes n
-bad_behind form forms before bytes line added more n h b = record {
+bad_later_form form forms before bytes line added more n h b = record {
   good = suc b.good;
   number = omega (arith, b.number);
   left = b.left;
   rest = b.rest;
   takes = (line, added, more, h, b.takes);
-  bad = λ left rest t. b.bad left rest (behind form forms bytes line added more (suc b.good) left rest h t);
+  bad = λ left rest t. b.bad left rest (after form forms bytes line added more (suc b.good) left rest h t);
   unfinished = unfinished;
 }
   where
     unfinished : (k : ℕ) → Takes (form ∷ forms) bytes k [] [] → ⊥
     unfinished zero t = let e : (form ∷ forms) ≡ [] = t.0 in cc
-    unfinished (suc k) t = b.unfinished k (behind form forms bytes line added more k [] [] h t)
+    unfinished (suc k) t = b.unfinished k (after form forms bytes line added more k [] [] h t)
 
 -- no line of the form stands next
 pub bad_here : (form : Form) (forms : List Form) (before : ℕ) (bytes : List ℕ) → ((line : List ℕ) (added : List Form) (rest : List ℕ) → TakesForm form bytes line added rest → ⊥)

@@ -3,16 +3,16 @@ use Rattle.std.proofs.Common.{◌≡◌, ◌+◌, ℕ, List, [], ◌∷◌, ◌+
 use Rattle.std.specs.List.{AllByRecursion}
 use Rattle.shb_report.specs.declared.lines.Position.{Position}
 use Rattle.shb_report.specs.declared.writer.Counts.{Counts}
-use Rattle.shb_report.specs.Forms.{Form, CountsForm, Races, RacesBeforePlaces, Places, PlaceForm, Race, Named, Schedule, End, Label, label_bytes, least_behind, HasForm, IsBadFrom, block_forms, place_forms}
+use Rattle.shb_report.specs.Forms.{Form, CountsForm, Races, RacesBeforePlaces, Places, PlaceForm, Race, Named, Schedule, End, Label, label_bytes, least_after, HasForm, IsBadFrom, block_forms, place_forms}
 use Rattle.shb_report.specs.Lines.{IsBadAt, Lacks, Passes, TakesLine, bytes_from}
 use Rattle.shb_report.specs.Value.{AreShown, IsRest, IsShown, counts_line, numbers_line, place_line, places_line, race_numbers_line, races_line}
 use Rattle.shb_report.proofs.LineEnds.{takes_by}
-use Rattle.shb_report.proofs.Machine.{bad_behind, bad_here}
+use Rattle.shb_report.proofs.Machine.{bad_later_form, bad_here}
 
 -- a line that was taken, and what it adds to the forms that are expected
 pub passes_by : (form : Form) (added forms : List Form) (text : List ℕ) (old new : Position) (line : List ℕ) → TakesLine text old new line → HasForm form line added → Passes text old new (form ∷ forms) (added ++ forms)
 passes_by form added forms text old new line taken has n b =
-    bad_behind form forms old.lines (bytes_from text old) line added (bytes_from text new) n (takes_by form (bytes_from text old) line (bytes_from text new) added taken.begins has)
+    bad_later_form form forms old.lines (bytes_from text old) line added (bytes_from text new) n (takes_by form (bytes_from text old) line (bytes_from text new) added taken.begins has)
     (subst (λ k. IsBadFrom (added ++ forms) k (bytes_from text new) n) taken.counted b)
 
 -- a line that is missing or bad
@@ -39,7 +39,7 @@ module _ (forms : List Form) (text : List ℕ) (old new : Position) where
   pub passes_race : (number i j : ℕ) → TakesLine text old new (race_numbers_line number i j) → IsShown i → IsShown j → Passes text old new (Race number ∷ forms) forms
   passes_race number i j taken p q = passes_by (Race number) [] forms text old new _ taken (i, j, p, q, refl, refl)
 
-  pub passes_named : (label : Label) (bytes : List ℕ) → TakesLine text old new (label_bytes label ++ bytes) → IsRest (least_behind label) bytes → Passes text old new (Named label ∷ forms) forms
+  pub passes_named : (label : Label) (bytes : List ℕ) → TakesLine text old new (label_bytes label ++ bytes) → IsRest (least_after label) bytes → Passes text old new (Named label ∷ forms) forms
   passes_named label bytes taken rest = passes_by (Named label) [] forms text old new _ taken (bytes, rest, refl, refl)
 
   pub passes_schedule : (ns : List ℕ) → TakesLine text old new (numbers_line ns) → AllByRecursion IsShown ns → IsShown (length ns) → Passes text old new (Schedule ∷ forms) forms

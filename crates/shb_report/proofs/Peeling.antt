@@ -34,18 +34,18 @@ pub counts_variables : (line : List ℕ) (locks : ℕ) (rest : List ℕ) (counts
 counts_variables line locks rest counts p h shown e = sym (peel (codes " locks ") line locks counts.locks rest _ p shown.locks h refl e).1
 
 -- a number known beforehand
-pub behind_known : (label text : List ℕ) (n : ℕ) (rest tail : List ℕ) → IsShown n → IsLabelled label text n rest → EndsNumber tail → text ≡ label ++ (decimal n ++ tail) → rest ≡ tail
-behind_known label text n rest tail p h ends e = sym (peel label text n n rest tail p p h ends e).1
+pub after_known : (label text : List ℕ) (n : ℕ) (rest tail : List ℕ) → IsShown n → IsLabelled label text n rest → EndsNumber tail → text ≡ label ++ (decimal n ++ tail) → rest ≡ tail
+after_known label text n rest tail p h ends e = sym (peel label text n n rest tail p p h ends e).1
 
 pub place_by : (line : List ℕ) (number : ℕ) (rest : List ℕ) (found : Option ℕ) → IsShown number → IsLabelled (codes "place ") line number rest
     → MatchOption found ((n : ℕ) → IsShown n → rest ≢ codes ": " ++ decimal n) (λ n. IsShown n × (rest ≡ codes ": " ++ decimal n))
     → MatchOption found ((n : ℕ) → IsShown n → line ≢ place_line number n) (λ n. IsShown n × (line ≡ place_line number n))
-place_by line number rest None p h f = λ n q e. f n q (behind_known (codes "place ") line number rest (codes ": " ++ decimal n) p h refl e)
+place_by line number rest None p h f = λ n q e. f n q (after_known (codes "place ") line number rest (codes ": " ++ decimal n) p h refl e)
 place_by line number rest (Some n) p h f = (f.0, h.text_is ∙ ap (λ r. codes "place " ++ (decimal number ++ r)) f.1)
 
 pub race_first : (line : List ℕ) (number : ℕ) (rest : List ℕ) (i j : ℕ) → IsShown number → IsLabelled (codes "race ") line number rest → line ≡ race_numbers_line number i j
     → rest ≡ codes ": " ++ (decimal i ++ (codes " " ++ decimal j))
-race_first line number rest i j p h e = behind_known (codes "race ") line number rest _ p h refl e
+race_first line number rest i j p h e = after_known (codes "race ") line number rest _ p h refl e
 
 pub is_none : (n : ℕ) (b : Bool) → b ≡ (n == 0) → b ≡ true → n ≡ 0
 is_none n b e t = grind (arith, nat_tests)

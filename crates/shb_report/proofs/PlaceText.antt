@@ -46,12 +46,12 @@ module _ (trace : TraceData) (counts : List PlaceCount) (k : ℕ) (d : PlaceCoun
 
   pub places-split : places_bytes trace (take k counts) ++ (place_bytes trace (k + 1) (get_or counts k d) ++ lines_text (place_lines (k + 1 + 1) (shown_places trace (drop (k + 1) counts)))) ≡ places_bytes trace counts
   places-split =
-      let behind = shown_places trace (drop (k + 1) counts) in
+      let after = shown_places trace (drop (k + 1) counts) in
       let up_to = shown_places trace (take (k + 1) counts) in
-      sym (append_assoc (places_bytes trace (take k counts)) (place_bytes trace (k + 1) (get_or counts k d)) (lines_text (place_lines (k + 1 + 1) behind)))
-      ∙ ap (λ l. l ++ lines_text (place_lines (k + 1 + 1) behind)) places-next
-      ∙ ap (λ n. lines_text (place_lines 1 up_to) ++ lines_text (place_lines n behind)) (sym count_up_to)
-      ∙ sym (bytes-append 1 up_to behind)
+      sym (append_assoc (places_bytes trace (take k counts)) (place_bytes trace (k + 1) (get_or counts k d)) (lines_text (place_lines (k + 1 + 1) after)))
+      ∙ ap (λ l. l ++ lines_text (place_lines (k + 1 + 1) after)) places-next
+      ∙ ap (λ n. lines_text (place_lines 1 up_to) ++ lines_text (place_lines n after)) (sym count_up_to)
+      ∙ sym (bytes-append 1 up_to after)
       ∙ ap (λ p. lines_text (place_lines 1 p)) (sym (map-append (shown_place trace) (take (k + 1) counts) (drop (k + 1) counts)) ∙ ap (shown_places trace) (take-append-drop (k + 1) counts))
 
 -- the count of the places, as it was put together, and their lines

@@ -63,8 +63,8 @@ lines_of_places number (p ∷ places) forms lines h l =
 last_line : AreLines (End ∷ []) (codes "end" ∷ [])
 last_line = (refl, ([], (refl, refl), refl))
 
-behind_counts : (places : Option (List Place)) (blocks : List Block) → AllByRecursion IsBlock blocks → IsShown (length blocks) → AreLines (block_forms 1 (length blocks) ++ End ∷ []) (block_lines 1 blocks ++ codes "end" ∷ [])
-behind_counts places blocks h few = lines_of_blocks 1 blocks (End ∷ []) (codes "end" ∷ []) h last_line
+after_counts : (places : Option (List Place)) (blocks : List Block) → AllByRecursion IsBlock blocks → IsShown (length blocks) → AreLines (block_forms 1 (length blocks) ++ End ∷ []) (block_lines 1 blocks ++ codes "end" ∷ [])
+after_counts places blocks h few = lines_of_blocks 1 blocks (End ∷ []) (codes "end" ∷ []) h last_line
 
 pub lines_of_value : (report : ReportValue) → IsReportValue report → AreLines (Version ∷ (End ∷ [])) (report_lines report)
 lines_of_value report h = by report.places h.places
@@ -83,7 +83,7 @@ lines_of_value report h = by report.places h.places
             (report.counts, h.counts, refl, refl),
             (
               one_line-races (length report.blocks),
-              (block_forms 1 (length report.blocks), (length report.blocks, h.few, refl, refl), behind_counts None report.blocks h.blocks h.few),
+              (block_forms 1 (length report.blocks), (length report.blocks, h.few, refl, refl), after_counts None report.blocks h.blocks h.few),
             ),
           ),
         ),
@@ -110,7 +110,7 @@ lines_of_value report h = by report.places h.places
                     place_forms 1 (length places),
                     (length places, p.few, refl, refl),
                     lines_of_places 1 places (block_forms 1 (length report.blocks) ++ End ∷ []) (block_lines 1 report.blocks ++ codes "end" ∷ []) p.each
-                        (behind_counts (Some places) report.blocks h.blocks h.few),
+                        (after_counts (Some places) report.blocks h.blocks h.few),
                   ),
                 ),
               ),

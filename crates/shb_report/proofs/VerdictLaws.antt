@@ -17,7 +17,7 @@ use Rattle.shb_report.proofs.GoodBlocks.{each_at, good_has_none}
 
 module _ (trace : TraceData) (disciplined : IsDisciplined trace.events) (report : ReportValue) where
   bad_block : (race : ℕ) (why : RaceFault) → IsFirstBadBlock trace report.blocks race why → IsGoodReport trace report → ⊥
-  bad_block race why h good = good_has_none trace disciplined h.block (each_at _ report.blocks h.before h.block h.there good.blocks) why h.fault.has
+  bad_block race why h good = good_has_none trace disciplined h.block (each_at _ report.blocks h.before h.block h.there good.blocks) why h.fault.0
 
   pub good_exactly : (v : Verdict) → IsVerdict trace report v → (v ≡ Good (length report.blocks)) ↔ IsGoodReport trace report
   good_exactly (Good races) h = ((λ is. h.0), (λ good. ap Good h.1))
@@ -62,9 +62,9 @@ same_fault trace block (Schedule a) SecondLine h g e = absurd (omega (arith, e))
 
 one_lowest : (trace : TraceData) (block : Block) (why other : RaceFault) → IsLowestFault trace block why → IsLowestFault trace block other → why ≡ other
 one_lowest trace block why other h g =
-    let low = h.lowest other g.has in
-    let back = g.lowest why h.has in
-    same_fault trace block why other h.has g.has (omega (arith, low, back))
+    let low = h.1 other g.0 in
+    let back = g.1 why h.0 in
+    same_fault trace block why other h.0 g.0 (omega (arith, low, back))
 
 -- the front of a list has what the list has
 in_front : {A : Type 0} (xs : List A) (n k : ℕ) (x : A) → k < n → slice_get xs k ≡ Some x → slice_get (take n xs) k ≡ Some x
@@ -77,7 +77,7 @@ module _ (trace : TraceData) (disciplined : IsDisciplined trace.events) (report 
   -- no first bad block stands before another
   not_before : (race other : ℕ) (why whyOther : RaceFault) (h : IsFirstBadBlock trace report.blocks race why) (g : IsFirstBadBlock trace report.blocks other whyOther) → h.before < g.before → ⊥
   not_before race other why whyOther h g low =
-      good_has_none trace disciplined h.block (each_at _ (take g.before report.blocks) h.before h.block (in_front report.blocks g.before h.before h.block low h.there) g.good) why h.fault.has
+      good_has_none trace disciplined h.block (each_at _ (take g.before report.blocks) h.before h.block (in_front report.blocks g.before h.before h.block low h.there) g.good) why h.fault.0
 
   one_bad_block : (race other : ℕ) (why whyOther : RaceFault) → IsFirstBadBlock trace report.blocks race why → IsFirstBadBlock trace report.blocks other whyOther → BadRace race why ≡ BadRace other whyOther
   one_bad_block race other why whyOther h g =
@@ -109,9 +109,9 @@ module _ (trace : TraceData) (disciplined : IsDisciplined trace.events) (report 
   one_verdict (BadRace race why) (BadLine line) h g = absurd g
   one_verdict (BadRace race why) BadCounts h g = absurd (g h.0)
   one_verdict (BadRace race why) (BadRace other whyOther) h g = one_bad_block race other why whyOther h.1 g.1
-  one_verdict (BadRace race why) BadPlaces h g = absurd (good_has_none trace disciplined h.1.block (each_at _ report.blocks h.1.before h.1.block h.1.there g.1) why h.1.fault.has)
+  one_verdict (BadRace race why) BadPlaces h g = absurd (good_has_none trace disciplined h.1.block (each_at _ report.blocks h.1.before h.1.block h.1.there g.1) why h.1.fault.0)
   one_verdict BadPlaces (Good races) h g = absurd (h.2 g.0.places)
   one_verdict BadPlaces (BadLine line) h g = absurd g
   one_verdict BadPlaces BadCounts h g = absurd (g h.0)
-  one_verdict BadPlaces (BadRace race why) h g = absurd (good_has_none trace disciplined g.1.block (each_at _ report.blocks g.1.before g.1.block g.1.there h.1) why g.1.fault.has)
+  one_verdict BadPlaces (BadRace race why) h g = absurd (good_has_none trace disciplined g.1.block (each_at _ report.blocks g.1.before g.1.block g.1.there h.1) why g.1.fault.0)
   one_verdict BadPlaces BadPlaces h g = refl

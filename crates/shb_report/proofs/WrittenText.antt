@@ -76,17 +76,17 @@ written_is Lists trace bytes h =
     let shown = h.blocks_are.shown in
     let counts = counts_of trace in
     let blocks = map (block_of trace) shown in
-    let behind = block_lines 1 blocks ++ codes "end" ∷ [] in
+    let after = block_lines 1 blocks ++ codes "end" ∷ [] in
     let count : length h.races ≡ length blocks = sym (ap (λ (l : List (ℕ × ℕ)). length l) h.blocks_are.races_are) ∙ length-map shown _ ∙ sym (length-map shown _) in
-    let last : h.blocks ++ tail_bytes ≡ lines_text behind =
+    let last : h.blocks ++ tail_bytes ≡ lines_text after =
     ap (λ b. b ++ tail_bytes) (h.blocks_are.bytes_are ∙ blocks_are trace 1 shown h.blocks_are.schedules_are) ∙ sym (lines_text-append (block_lines 1 blocks) (codes "end" ∷ [])) in
     h.bytes_are
     ∙ append_assoc (head_bytes counts (length h.races)) (section_of trace h.races) (h.blocks ++ tail_bytes)
     ∙ ap (λ b. head_bytes counts (length h.races) ++ (section_of trace h.races ++ b)) last
-    ∙ ap (λ b. head_bytes counts (length h.races) ++ b) (sym (lines_text-append (section_lines trace h.races) behind))
-    ∙ sym (lines_text-append (head_lines counts (length h.races)) (section_lines trace h.races ++ behind))
-    ∙ ap (λ n. lines_text (head_lines counts n ++ (section_lines trace h.races ++ behind))) count
-    ∙ ap (λ races. lines_text (head_lines counts (length blocks) ++ (section_lines trace races ++ behind))) (sym h.blocks_are.races_are)
+    ∙ ap (λ b. head_bytes counts (length h.races) ++ b) (sym (lines_text-append (section_lines trace h.races) after))
+    ∙ sym (lines_text-append (head_lines counts (length h.races)) (section_lines trace h.races ++ after))
+    ∙ ap (λ n. lines_text (head_lines counts n ++ (section_lines trace h.races ++ after))) count
+    ∙ ap (λ races. lines_text (head_lines counts (length blocks) ++ (section_lines trace races ++ after))) (sym h.blocks_are.races_are)
 
 pub written_law : (trace : TraceData) (bytes : List ℕ) → IsReport true trace bytes
     → (shown : List ShownRace) × IsRaceList trace.events (map (λ race. race.pair) shown) × All (HasSchedule true trace) shown × (bytes ≡ report_text (written_report trace shown))

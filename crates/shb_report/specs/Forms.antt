@@ -18,11 +18,11 @@ label_bytes At = codes "at "
 label_bytes And = codes "and "
 
 -- how many bytes stand after a label at least
-abbrev pub least_behind : Label → ℕ
-least_behind First = 1
-least_behind Second = 1
-least_behind At = 0
-least_behind And = 0
+abbrev pub least_after : Label → ℕ
+least_after First = 1
+least_after Second = 1
+least_after At = 0
+least_after And = 0
 
 -- the form of a line
 pub data Form : Type 0 where
@@ -56,7 +56,7 @@ HasForm RacesBeforePlaces line added = (n : ℕ) × IsShown n × (line ≡ races
 HasForm Places line added = (n : ℕ) × IsShown n × (line ≡ places_line n) × (added ≡ place_forms 1 n)
 HasForm (PlaceForm number) line added = (n : ℕ) × IsShown n × (line ≡ place_line number n) × (added ≡ [])
 HasForm (Race number) line added = (i : ℕ) × (j : ℕ) × IsShown i × IsShown j × (line ≡ race_numbers_line number i j) × (added ≡ [])
-HasForm (Named label) line added = (bytes : List ℕ) × IsRest (least_behind label) bytes × (line ≡ label_bytes label ++ bytes) × (added ≡ [])
+HasForm (Named label) line added = (bytes : List ℕ) × IsRest (least_after label) bytes × (line ≡ label_bytes label ++ bytes) × (added ≡ [])
 HasForm Schedule line added = (ns : List ℕ) × AllByRecursion IsShown ns × IsShown (length ns) × (line ≡ numbers_line ns) × (added ≡ [])
 HasForm End line added = (line ≡ codes "end") × (added ≡ [])
 

@@ -13,6 +13,7 @@ use Rattle.shb_report.specs.declared.verdict.Verdict.TheVariants.{Good, BadLine,
 use Rattle.shb_report.specs.Places.{counts_in, places_of_pairs, shown_places}
 use Rattle.shb_report.specs.Report.{counts_of, line_at}
 use Rattle.shb_report.specs.Value.{Block, ReportValue}
+use Rattle.shb_lines.specs.Lowest.{IsLowest}
 
 -- the block is about two events that conflict, the earlier one first; it has their lines; and its numbers, which count from 1, are those of a schedule of the two
 pub record IsGoodBlock (trace : TraceData) (block : Block) : Type 0 where
@@ -72,9 +73,8 @@ fault_number SecondLine = 4
 fault_number (Schedule broken) = 5
 
 -- of the faults of a block the one of lowest number
-pub record IsLowestFault (trace : TraceData) (block : Block) (why : RaceFault) : Type 0 where
-  pub has : HasRaceFault trace block why
-  pub lowest : (other : RaceFault) → HasRaceFault trace block other → fault_number why ≤ fault_number other
+abbrev pub IsLowestFault : TraceData → Block → RaceFault → Type 0
+IsLowestFault trace block why = IsLowest fault_number (HasRaceFault trace block) (Some why)
 
 -- the first block that isn't good has this number, which counts from 1, and this is its lowest fault
 pub record IsFirstBadBlock (trace : TraceData) (blocks : List Block) (race : ℕ) (why : RaceFault) : Type 0 where

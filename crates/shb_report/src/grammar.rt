@@ -5,7 +5,7 @@ ghost use Rattle.shb_report.specs.Scan.{IsLabelled};
 ghost use Rattle.shb_report.specs.Value.{AreShown, HasNoLineFeed, IsRest, IsShown, counts_line, listed, numbers_line, place_line, race_numbers_line};
 ghost use Rattle.shb_report.specs.declared.writer.Counts.{Counts};
 
-use crate::scan::{behind_label, labelled};
+use crate::scan::{after_label, labelled};
 use crate::writer::Counts;
 
 /// Whether the report that begins with this line has places, as those of version 2 have.
@@ -14,7 +14,7 @@ pub(crate) fn version_in(line: &[u8]) -> Option<bool>
         ((line.now ≢ codes "shb-report 1") × (line.now ≢ codes "shb-report 2"))
         (λ with_places. line.now ≡ (if with_places then codes "shb-report 2" else codes "shb-report 1")) }
 {
-    let Some(version) = behind_label(line, b"shb-report ") else {
+    let Some(version) = after_label(line, b"shb-report ") else {
         return None;
     };
     match version {
@@ -52,16 +52,16 @@ pub(crate) fn counts_in(line: &[u8]) -> Option<Counts>
         ((counts : Counts) → AreShown counts → line.now ≢ counts_line counts)
         (λ counts. AreShown counts × (line.now ≡ counts_line counts)) }
 {
-    let Some((events, behind_events)) = labelled(line, b"events ") else {
+    let Some((events, after_events)) = labelled(line, b"events ") else {
         return None;
     };
-    let Some((threads, behind_threads)) = labelled(behind_events, b" threads ") else {
+    let Some((threads, after_threads)) = labelled(after_events, b" threads ") else {
         return None;
     };
-    let Some((locks, behind_locks)) = labelled(behind_threads, b" locks ") else {
+    let Some((locks, after_locks)) = labelled(after_threads, b" locks ") else {
         return None;
     };
-    match number_in(behind_locks, b" variables ") {
+    match number_in(after_locks, b" variables ") {
         Some(variables) => Some(Counts {
             events,
             threads,
@@ -73,7 +73,7 @@ pub(crate) fn counts_in(line: &[u8]) -> Option<Counts>
 }
 
 /// What stands after a label and this number.
-fn behind_number<'t>(text: &'t [u8], label: &[u8], number: u64) -> Option<&'t [u8]>
+fn after_number<'t>(text: &'t [u8], label: &[u8], number: u64) -> Option<&'t [u8]>
     ensures { MatchOption result
         ((rest : List ℕ) → IsLabelled label.now text.now number rest → ⊥)
         (λ r. IsLabelled label.now text.now number r.now) }
@@ -90,7 +90,7 @@ pub(crate) fn place_in(line: &[u8], number: u64) -> Option<u64>
         ((n : ℕ) → IsShown n → line.now ≢ place_line number n)
         (λ n. IsShown n × (line.now ≡ place_line number n)) }
 {
-    match behind_number(line, b"place ", number) {
+    match after_number(line, b"place ", number) {
         Some(rest) => number_in(rest, b": "),
         None => None,
     }
@@ -102,13 +102,13 @@ pub(crate) fn race_in(line: &[u8], number: u64) -> Option<(u64, u64)>
         ((i : ℕ) (j : ℕ) → IsShown i → IsShown j → line.now ≢ race_numbers_line number i j)
         (λ pair. IsShown pair.0 × IsShown pair.1 × (line.now ≡ race_numbers_line number pair.0 pair.1)) }
 {
-    let Some(numbers) = behind_number(line, b"race ", number) else {
+    let Some(numbers) = after_number(line, b"race ", number) else {
         return None;
     };
-    let Some((first, behind_first)) = labelled(numbers, b": ") else {
+    let Some((first, after_first)) = labelled(numbers, b": ") else {
         return None;
     };
-    match number_in(behind_first, b" ") {
+    match number_in(after_first, b" ") {
         Some(second) => Some((first, second)),
         None => None,
     }
@@ -121,7 +121,7 @@ pub(crate) fn named_in<'t>(line: &'t [u8], label: &[u8], least: usize) -> Option
         ((bytes : List ℕ) → IsRest least bytes → line.now ≢ label.now ++ bytes)
         (λ r. IsRest least r.now × (line.now ≡ label.now ++ r.now)) }
 {
-    match behind_label(line, label) {
+    match after_label(line, label) {
         Some(bytes) => {
             if bytes.len() < least {
                 return None;

@@ -55,7 +55,7 @@ pub(crate) fn line_at(text: &[u8], at: Position) -> Option<&[u8]>
 
 impl Position {
     /// The position after a line.
-    pub(crate) fn behind(self, line: &[u8]) -> Position
+    pub(crate) fn after(self, line: &[u8]) -> Position
         requires start { self.start + length line.now + 1 ≤ 1073741825 }
         requires lines { self.lines ≤ self.start }
         ensures { result ≡ record { start = self.start + length line.now + 1; lines = self.lines + 1 } }

@@ -3,7 +3,7 @@ ghost use Rattle.std.specs.Prelude.{◌≡◌, ◌≢◌, ◌+◌, ◌<◌, ◌�
 ghost use Rattle.std.specs.List.{AllByRecursion};
 ghost use Rattle.shb_report.specs.Scan.{AddsShown};
 ghost use Rattle.shb_report.specs.Value.{AreShown, IsRest, IsShown, counts_line, numbers_line, place_line, places_line, race_numbers_line, races_line};
-ghost use Rattle.shb_report.specs.Forms.{Form, Label, label_bytes, least_behind, Version, CountsForm, Races, RacesBeforePlaces, Places, PlaceForm, Race, Named, Schedule, End};
+ghost use Rattle.shb_report.specs.Forms.{Form, Label, label_bytes, least_after, Version, CountsForm, Races, RacesBeforePlaces, Places, PlaceForm, Race, Named, Schedule, End};
 ghost use Rattle.shb_report.specs.Parts.{IsPlaceIn, IsRaceIn, IsSpanIn, block_at, bytes_at, place_at};
 ghost use Rattle.shb_report.specs.Lines.{BeginsWithLine, IfBad, IsAt, IsBadAt, Lacks, Passes, TakesLine, bytes_from};
 
@@ -29,7 +29,7 @@ pub(crate) fn read_version(text: &[u8], at: &mut Position) -> Option<bool>
     let Some(with_places) = version_in(line) else {
         return None;
     };
-    *at = at.behind(line);
+    *at = at.after(line);
     Some(with_places)
 }
 
@@ -47,7 +47,7 @@ pub(crate) fn read_counts(text: &[u8], at: &mut Position) -> Option<Counts>
     let Some(counts) = counts_in(line) else {
         return None;
     };
-    *at = at.behind(line);
+    *at = at.after(line);
     Some(counts)
 }
 
@@ -65,7 +65,7 @@ pub(crate) fn read_race_count(text: &[u8], at: &mut Position) -> Option<u64>
     let Some(count) = number_in(line, b"races ") else {
         return None;
     };
-    *at = at.behind(line);
+    *at = at.after(line);
     Some(count)
 }
 
@@ -83,7 +83,7 @@ pub(crate) fn read_place_count(text: &[u8], at: &mut Position) -> Option<u64>
     let Some(count) = number_in(line, b"places ") else {
         return None;
     };
-    *at = at.behind(line);
+    *at = at.after(line);
     Some(count)
 }
 
@@ -101,7 +101,7 @@ pub(crate) fn read_place_line(text: &[u8], at: &mut Position, number: u64) -> Op
     let Some(count) = place_in(line, number) else {
         return None;
     };
-    *at = at.behind(line);
+    *at = at.after(line);
     Some(count)
 }
 
@@ -119,7 +119,7 @@ pub(crate) fn read_race_line(text: &[u8], at: &mut Position, number: u64) -> Opt
     let Some(pair) = race_in(line, number) else {
         return None;
     };
-    *at = at.behind(line);
+    *at = at.after(line);
     Some(pair)
 }
 
@@ -128,7 +128,7 @@ pub(crate) fn read_named(text: &[u8], at: &mut Position, label: &[u8], least: us
     requires short { length text.now ≤ 1073741824 }
     requires at { IsAt text.now at.old }
     ensures { MatchOption result
-        ((at.new ≡ at.old) × ((l : Label) → label.now ≡ label_bytes l → least ≡ least_behind l → Lacks (Named l) (bytes_from text.now at.old)))
+        ((at.new ≡ at.old) × ((l : Label) → label.now ≡ label_bytes l → least ≡ least_after l → Lacks (Named l) (bytes_from text.now at.old)))
         (λ span. TakesLine text.now at.old at.new (label.now ++ bytes_at text.now span) × IsRest least (bytes_at text.now span) × IsSpanIn text.now span) }
 {
     let Some(line) = line_at(text, *at) else {
@@ -141,7 +141,7 @@ pub(crate) fn read_named(text: &[u8], at: &mut Position, label: &[u8], least: us
         start: (at.start + label.len()) as u32,
         len: bytes.len() as u32,
     };
-    *at = at.behind(line);
+    *at = at.after(line);
     Some(span)
 }
 
@@ -164,7 +164,7 @@ pub(crate) fn read_schedule<K: Keeping>(
     if !add_schedule(line, keeping, numbers)? {
         return Ok(false);
     }
-    *at = at.behind(line);
+    *at = at.after(line);
     Ok(true)
 }
 
@@ -182,6 +182,6 @@ pub(crate) fn read_end(text: &[u8], at: &mut Position) -> bool
     if !is_end(line) {
         return false;
     }
-    *at = at.behind(line);
+    *at = at.after(line);
     true
 }

@@ -74,7 +74,7 @@ fn number(text: &[u8]) -> Option<(u64, &[u8])>
 }
 
 /// What stands after a label at the front of a text.
-pub(crate) fn behind_label<'t>(text: &'t [u8], label: &[u8]) -> Option<&'t [u8]>
+pub(crate) fn after_label<'t>(text: &'t [u8], label: &[u8]) -> Option<&'t [u8]>
     ensures { MatchOption result ((rest : List ℕ) → text.now ≢ label.now ++ rest) (λ r. text.now ≡ label.now ++ r.now) }
 {
     text.strip_prefix(label)
@@ -86,7 +86,7 @@ pub(crate) fn labelled<'t>(text: &'t [u8], label: &[u8]) -> Option<(u64, &'t [u8
         ((n : ℕ) (rest : List ℕ) → n < 2 ^ 64 → IsLabelled label.now text.now n rest → ⊥)
         (λ r. (r.0 < 2 ^ 64) × IsLabelled label.now text.now r.0 r.1.now) }
 {
-    match behind_label(text, label) {
+    match after_label(text, label) {
         Some(rest) => number(rest),
         None => None,
     }

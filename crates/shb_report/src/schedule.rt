@@ -5,7 +5,7 @@ ghost use Rattle.shb_report.specs.Scan.{AddsShown};
 ghost use Rattle.shb_report.specs.Value.{IsShown, listed, numbers_line};
 
 use crate::keeping::Keeping;
-use crate::scan::{behind_label, labelled};
+use crate::scan::{after_label, labelled};
 use shb_io::NoMemory;
 
 /// Adds what is kept of the numbers of a text, each of which stands after a space, and says whether the text has
@@ -21,11 +21,11 @@ fn add_numbers<K: Keeping>(
 {
     let mut rest = text;
     while !rest.is_empty() {
-        let Some((number, behind)) = labelled(rest, b" ") else {
+        let Some((number, after)) = labelled(rest, b" ") else {
             return Ok(false);
         };
         numbers.push(keeping.keep(number))?;
-        rest = behind;
+        rest = after;
     }
     Ok(true)
 }
@@ -40,10 +40,10 @@ pub(crate) fn add_schedule<K: Keeping>(
         ((ns : List ℕ) × AddsShown (K.kept keeping.now) numbers.old.items numbers.new.items ns × IsShown (length ns) × (line.now ≡ numbers_line ns))
         ((ns : List ℕ) → AllByRecursion IsShown ns → IsShown (length ns) → line.now ≢ numbers_line ns)) }
 {
-    let Some((count, behind_count)) = labelled(line, b"schedule ") else {
+    let Some((count, after_count)) = labelled(line, b"schedule ") else {
         return Ok(false);
     };
-    let Some(text) = behind_label(behind_count, b":") else {
+    let Some(text) = after_label(after_count, b":") else {
         return Ok(false);
     };
     let before = numbers.len();

@@ -2,10 +2,10 @@
 use Rattle.std.proofs.Common.{◌≡◌, ◌⊎◌, ℕ, inl, inr, Bool, List, length, map, Option, Result, Ok, Err, IsErrAnd, sym, ap, subst, ◌∙◌}
 use Rattle.std.proofs.lemmas.List.{length-map}
 use Rattle.shb_lines.specs.declared.event.Event.{Event}
-use Rattle.shb_lines.specs.declared.event.LineFault.{LineFault}
+use Rattle.shb_lines.specs.declared.fault.LineFault.{LineFault}
 use Rattle.shb_lines.specs.declared.event.Pair.{Pair}
 use Rattle.shb_lines.specs.events.Discipline.{IsDisciplined}
-use Rattle.shb_lines.specs.events.Race.{IsRaceList}
+use Rattle.shb_lines.specs.events.Race.{IsRaceList, ends}
 use Rattle.shb_lines.specs.text.Text.{lines_of}
 use Rattle.shb_lines.specs.text.TraceData.{IsReadingOf, IsTraceOf, TraceData}
 use Rattle.shb_lines.proofs.events.Decide.{decide_below_pred, printed_exists}
@@ -22,7 +22,7 @@ use Rattle.shb_run.specs.declared.settings.Summary.{Summary}
 use Rattle.shb_check.specs.Judged.{IsAccepted, limits}
 use Rattle.shb_check.specs.Outcomes.{Grows}
 use Rattle.shb_run.specs.Runs.{AreWords, HasTrace, IsReportedBy, ListsPlaces, ListsSchedulable}
-use Rattle.shb_write.specs.Written.{CutsBlocksOn, CutsReportOn, OnFailedSink, OnNoMemory, These, WritesReport, ends}
+use Rattle.shb_write.specs.Written.{CutsBlocksOn, CutsReportOn, OnFailedSink, OnNoMemory, These, WritesReport}
 use Rattle.shb_run.specs.Written.{ListedBy, ReportsTrace, summary_of}
 use Rattle.shb_check.proofs.Endings.{Grows-same}
 use Rattle.shb_run.proofs.Reports.{known_blocks, known_cut, known_written}

@@ -4,12 +4,11 @@ use Rattle.std.proofs.lemmas.List.{map-append}
 use Rattle.shb_fan.specs.Values.{values_of}
 use Rattle.shb_lines.specs.declared.event.Event.{Event}
 use Rattle.shb_lines.specs.declared.event.Pair.{Pair}
-use Rattle.shb_lines.specs.events.Race.{IsRaceList}
+use Rattle.shb_lines.specs.events.Race.{IsRaceList, ends}
 use Rattle.shb_lines.specs.events.Sizes.{IsNumberedByAccess}
 use Rattle.shb_pairs.specs.Listed.{AreOpen, Listed}
 use Rattle.shb_pairs.specs.Pieces.{pieces_in}
 use Rattle.shb_pairs.specs.Races.{joined, races_at}
-use Rattle.shb_write.specs.Written.{ends}
 use Rattle.shb_pairs.proofs.Joined.{values_are_race_list}
 
 -- the first of the lists goes to the races

@@ -6,7 +6,7 @@ use Rattle.std.proofs.lemmas.List.{length-map}
 use Rattle.std.proofs.lemmas.Slice.Zip.{AllZip-long}
 use Rattle.shb_lines.specs.events.Discipline.{IsDisciplined}
 use Rattle.shb_lines.specs.events.Race.{Race}
-use Rattle.shb_lines.specs.text.Faults.{IsFaultless}
+use Rattle.shb_lines.specs.text.Faults.{HasNoLineFaultBefore}
 use Rattle.shb_lines.specs.text.Text.{IsLineText, lines_of}
 use Rattle.shb_lines.specs.text.TraceData.{IsTraceOf, TraceData}
 use Rattle.shb_lines.proofs.text.LineTexts.{held_texts}
@@ -33,7 +33,7 @@ use Rattle.shb_check.proofs.OneTrace.{one_whole_trace}
 -- the lines of the trace of a text that has no fault
 showable_of : (text : List ℕ) (trace : TraceData) → HasNoFault limits text → IsTraceOf (lines_of text) trace → AreShown (counts_of trace) → IsShowable trace
 showable_of text trace none is counts =
-    let faultless : IsFaultless limits text (length (lines_of text)) = λ k fault lt has. none k fault lt (inl has) in
+    let faultless : HasNoLineFaultBefore limits text (length (lines_of text)) = λ k fault lt has. none k fault lt (inl has) in
     let held = held_texts limits text (omega arith) (λ lines. IsTraceOf lines trace) None (faultless, is) in
     record {
       counts = counts;

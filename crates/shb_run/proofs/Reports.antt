@@ -4,7 +4,7 @@ use Rattle.std.proofs.lemmas.List.{get_or-map, length-map}
 use Rattle.std.proofs.lemmas.List.Elements.{Contains-get_or, All-from_get_or}
 use Rattle.shb_lines.specs.declared.event.Event.{Event}
 use Rattle.shb_lines.specs.declared.event.Pair.{Pair}
-use Rattle.shb_lines.specs.events.Race.{IsRaceList, Race}
+use Rattle.shb_lines.specs.events.Race.{IsRaceList, Race, ends}
 use Rattle.shb_lines.specs.text.TraceData.{TraceData}
 use Rattle.shb_report.specs.Leading.{AreLeading}
 use Rattle.shb_report.specs.Report.{IsReportOn, pair_of}
@@ -12,7 +12,7 @@ use Rattle.shb_report.proofs.LeadingReports.{leading_are_races}
 use Rattle.shb_report.proofs.WrittenGood.{all_are_races}
 use Rattle.shb_run.specs.declared.settings.Choice.{Choice}
 use Rattle.shb_run.specs.declared.settings.Choice.TheVariants as choices
-use Rattle.shb_write.specs.Written.{CutsBlocksOn, CutsReportOn, These, WritesReport, ends}
+use Rattle.shb_write.specs.Written.{CutsBlocksOn, CutsReportOn, These, WritesReport}
 use Rattle.shb_run.specs.Written.{ListedBy}
 use Rattle.shb_write.proofs.Reports.{pairs_back}
 

@@ -33,15 +33,20 @@ pub fn places_report_of_text_is_unique()
 /// the 1,073,741,824 bytes that a check reads; a longer one has a bad line there.
 pub fn own_report_is_good()
     ensures value { (text : List ℕ) (summary : Summary) (old new : Option (List ℕ)) (reported : IsReported true text summary old new)
-        → (value : ReportValue) × IsReportValue value × (reported.bytes ≡ report_text value) × IsVerdict reported.report.trace value (Good summary.races) }
+        → (value : ReportValue) × IsReportValue value × (reported.bytes ≡ report_text value)
+        × IsVerdict reported.report.trace value (Good summary.races) }
     ensures checked { (text : List ℕ) (summary : Summary) (old new : Option (List ℕ)) (reported : IsReported true text summary old new)
-        → (verdict : Verdict) → length reported.bytes ≤ most_bytes → IsVerdictOf text reported.bytes verdict → verdict ≡ Good summary.races }
+        → (verdict : Verdict) → length reported.bytes ≤ most_bytes → IsVerdictOf text reported.bytes verdict
+        → verdict ≡ Good summary.races }
 {}
 
 /// A check of what a run wrote with schedules of the leading races says that it is good, in the same words.
 pub fn own_places_report_is_good()
     ensures value { (text : List ℕ) (summary : Summary) (old new : Option (List ℕ)) (reported : IsPlacesReported true text summary old new)
-        → (value : ReportValue) × IsReportValue value × (reported.bytes ≡ report_text value) × IsVerdict reported.report.trace value (Good summary.races) }
-    ensures checked { (text : List ℕ) (summary : Summary) (old new : Option (List ℕ)) (reported : IsPlacesReported true text summary old new)
-        → (verdict : Verdict) → length reported.bytes ≤ most_bytes → IsVerdictOf text reported.bytes verdict → verdict ≡ Good summary.races }
+        → (value : ReportValue) × IsReportValue value × (reported.bytes ≡ report_text value)
+        × IsVerdict reported.report.trace value (Good summary.races) }
+    ensures checked { (text : List ℕ) (summary : Summary) (old new : Option (List ℕ))
+        (reported : IsPlacesReported true text summary old new)
+        → (verdict : Verdict) → length reported.bytes ≤ most_bytes → IsVerdictOf text reported.bytes verdict
+        → verdict ≡ Good summary.races }
 {}

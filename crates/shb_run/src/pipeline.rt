@@ -1,7 +1,7 @@
 //! The whole run: read, judge, find the races, write.
 ghost use Rattle.std.specs.Prelude.{◌≡◌, ◌⊎◌, ◌+◌, ◌-◌, ◌^◌, ◌<◌, ◌≤◌, ℕ, List, Some, IfOk, IfSome, drop};
-ghost use Rattle.shb_discipline.specs.FirstFault.{HasFirstFault};
-ghost use Rattle.shb_lines.specs.declared.event.Fault.{Fault};
+ghost use Rattle.shb_discipline.specs.FirstFault.{IsFirstFault};
+ghost use Rattle.shb_lines.specs.declared.fault.Fault.{Fault};
 ghost use Rattle.shb_lines.specs.text.Taking.{ReadsText, TakesAtMost};
 ghost use Rattle.shb_check.specs.Judged.{limits};
 ghost use Rattle.shb_check.specs.Outcomes.{CountsSink, CountsSource, Grows, OnJudged, OnMemory, OnNoTrace, OnSink, OnTrace};
@@ -71,11 +71,15 @@ fn report_by<
     gates: &Gates<'_, '_, P, W>,
 ) -> Result<Summary, WriteError>
     requires countable { K.failure_count sink.old < 2 ^ 64 - 1 }
-    ensures report { IfOk result (λ summary. ReportsTrace (ListedBy task.choice) task.settings.schedules ordered.now.trace.now.trace.now summary
+    ensures report { IfOk result (λ summary.
+        ReportsTrace (ListedBy task.choice) task.settings.schedules ordered.now.trace.now.trace.now summary
         (K.taken sink.old) (K.taken sink.new)) }
     ensures words { IfOk result AreWords }
-    ensures cut { OnFailedSink result (CutsReportOn (ListedBy task.choice) task.settings.schedules ordered.now.trace.now.trace.now (K.taken sink.old) (K.taken sink.new)) }
-    ensures memory { OnNoMemory result ((sink.new ≡ sink.old) ⊎ CutsBlocksOn (ListedBy task.choice) task.settings.schedules ordered.now.trace.now.trace.now (K.taken sink.old) (K.taken sink.new)) }
+    ensures cut { OnFailedSink result (CutsReportOn (ListedBy task.choice) task.settings.schedules ordered.now.trace.now.trace.now
+        (K.taken sink.old) (K.taken sink.new)) }
+    ensures memory { OnNoMemory result ((sink.new ≡ sink.old)
+        ⊎ CutsBlocksOn (ListedBy task.choice) task.settings.schedules ordered.now.trace.now.trace.now
+        (K.taken sink.old) (K.taken sink.new)) }
     ensures counted { IsSinkCounted (K.failure_count sink.old) (K.failure_count sink.new) result }
 {
     let Settings { workers, schedules } = task.settings;
@@ -103,8 +107,11 @@ fn report<R: Threads + Wait + Sync + RandomSource, K: Sink, P: Gate + Sync, W: G
     ensures report { IfOk result (λ summary. ReportsTrace (ListedBy task.choice) task.settings.schedules trace.now.trace.now summary
         (K.taken sink.old) (K.taken sink.new)) }
     ensures words { IfOk result AreWords }
-    ensures cut { OnFailedSink result (CutsReportOn (ListedBy task.choice) task.settings.schedules trace.now.trace.now (K.taken sink.old) (K.taken sink.new)) }
-    ensures memory { OnNoMemory result ((sink.new ≡ sink.old) ⊎ CutsBlocksOn (ListedBy task.choice) task.settings.schedules trace.now.trace.now (K.taken sink.old) (K.taken sink.new)) }
+    ensures cut { OnFailedSink result (CutsReportOn (ListedBy task.choice) task.settings.schedules trace.now.trace.now
+        (K.taken sink.old) (K.taken sink.new)) }
+    ensures memory { OnNoMemory result ((sink.new ≡ sink.old)
+        ⊎ CutsBlocksOn (ListedBy task.choice) task.settings.schedules trace.now.trace.now
+        (K.taken sink.old) (K.taken sink.new)) }
     ensures counted { IsSinkCounted (K.failure_count sink.old) (K.failure_count sink.new) result }
 {
     let links = links_of(alloc, &*trace)?;
@@ -150,19 +157,20 @@ pub fn run<S: Source, K: Sink, R: Threads + Wait + Sync + RandomSource>(
 
     // A refused trace has this fault first.
     ensures refused { OnTrace result (λ line fault. ReadsText 1073741825 (S.remaining source.old) (S.remaining source.new) (λ text.
-        HasFirstFault limits text line fault)) }
+        IsFirstFault limits text line fault)) }
 
     // What is written where no report is. Nothing, where the trace was refused or not read, and where
     // the text has a fault.
     ensures unwritten { OnNoTrace result (sink.new ≡ sink.old) }
     ensures silent { IfSome (S.remaining source.old) (λ text. (line : ℕ) (fault : Fault) →
-        HasFirstFault limits text line fault → sink.new ≡ sink.old) }
+        IsFirstFault limits text line fault → sink.new ≡ sink.old) }
 
     // Where the sink failed the text has no fault, and less than its report was written, the front of
     // it. Where memory was refused it is the same, with all lines before the first block, or nothing.
     ensures cut { OnSink result (ReadsText 1073741825 (S.remaining source.old) (S.remaining source.new) (λ text.
         HasTrace text (λ trace. CutsReport settings.schedules trace (K.taken sink.old) (K.taken sink.new)))) }
-    ensures memory { OnMemory result ((sink.new ≡ sink.old) ⊎ ReadsText 1073741825 (S.remaining source.old) (S.remaining source.new) (λ text.
+    ensures memory { OnMemory result ((sink.new ≡ sink.old)
+        ⊎ ReadsText 1073741825 (S.remaining source.old) (S.remaining source.new) (λ text.
         HasTrace text (λ trace. CutsBlocks settings.schedules trace (K.taken sink.old) (K.taken sink.new)))) }
 
     // What the sink took before stays as it was.
@@ -217,19 +225,20 @@ pub fn run_gated<
 
     // A refused trace has this fault first.
     ensures refused { OnTrace result (λ line fault. ReadsText 1073741825 (S.remaining source.old) (S.remaining source.new) (λ text.
-        HasFirstFault limits text line fault)) }
+        IsFirstFault limits text line fault)) }
 
     // What is written where no report is. Nothing, where the trace was refused or not read, and where
     // the text has a fault.
     ensures unwritten { OnNoTrace result (sink.new ≡ sink.old) }
     ensures silent { IfSome (S.remaining source.old) (λ text. (line : ℕ) (fault : Fault) →
-        HasFirstFault limits text line fault → sink.new ≡ sink.old) }
+        IsFirstFault limits text line fault → sink.new ≡ sink.old) }
 
     // Where the sink failed the text has no fault, and less than its report was written, the front of
     // it. Where memory was refused it is the same, with all lines before the first block, or nothing.
     ensures cut { OnSink result (ReadsText 1073741825 (S.remaining source.old) (S.remaining source.new) (λ text.
         HasTrace text (λ trace. CutsReport settings.schedules trace (K.taken sink.old) (K.taken sink.new)))) }
-    ensures memory { OnMemory result ((sink.new ≡ sink.old) ⊎ ReadsText 1073741825 (S.remaining source.old) (S.remaining source.new) (λ text.
+    ensures memory { OnMemory result ((sink.new ≡ sink.old)
+        ⊎ ReadsText 1073741825 (S.remaining source.old) (S.remaining source.new) (λ text.
         HasTrace text (λ trace. CutsBlocks settings.schedules trace (K.taken sink.old) (K.taken sink.new)))) }
 
     // What the sink took before stays as it was.
@@ -286,19 +295,20 @@ pub(crate) fn run_task<
 
     // A refused trace has this fault first.
     ensures refused { OnTrace result (λ line fault. ReadsText 1073741825 (S.remaining source.old) (S.remaining source.new) (λ text.
-        HasFirstFault limits text line fault)) }
+        IsFirstFault limits text line fault)) }
 
     // What is written where no report is. Nothing, where the trace was refused or not read, and where
     // the text has a fault.
     ensures unwritten { OnNoTrace result (sink.new ≡ sink.old) }
     ensures silent { IfSome (S.remaining source.old) (λ text. (line : ℕ) (fault : Fault) →
-        HasFirstFault limits text line fault → sink.new ≡ sink.old) }
+        IsFirstFault limits text line fault → sink.new ≡ sink.old) }
 
     // Where the sink failed the text has no fault, and less than its report was written, the front of
     // it. Where memory was refused it is the same, with all lines before the first block, or nothing.
     ensures cut { OnSink result (ReadsText 1073741825 (S.remaining source.old) (S.remaining source.new) (λ text.
         HasTrace text (λ trace. CutsReportOn (ListedBy task.choice) task.settings.schedules trace (K.taken sink.old) (K.taken sink.new)))) }
-    ensures memory { OnMemory result ((sink.new ≡ sink.old) ⊎ ReadsText 1073741825 (S.remaining source.old) (S.remaining source.new) (λ text.
+    ensures memory { OnMemory result ((sink.new ≡ sink.old)
+        ⊎ ReadsText 1073741825 (S.remaining source.old) (S.remaining source.new) (λ text.
         HasTrace text (λ trace. CutsBlocksOn (ListedBy task.choice) task.settings.schedules trace (K.taken sink.old) (K.taken sink.new)))) }
 
     // What the sink took before stays as it was.

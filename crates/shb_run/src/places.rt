@@ -1,7 +1,7 @@
 //! The run that lists one race of each place.
 ghost use Rattle.std.specs.Prelude.{◌≡◌, ◌⊎◌, ◌+◌, ◌-◌, ◌^◌, ◌<◌, ◌≤◌, ℕ, Some, IfOk, IfSome, drop};
-ghost use Rattle.shb_discipline.specs.FirstFault.{HasFirstFault};
-ghost use Rattle.shb_lines.specs.declared.event.Fault.{Fault};
+ghost use Rattle.shb_discipline.specs.FirstFault.{IsFirstFault};
+ghost use Rattle.shb_lines.specs.declared.fault.Fault.{Fault};
 ghost use Rattle.shb_lines.specs.text.Taking.{ReadsText, TakesAtMost};
 ghost use Rattle.shb_report.specs.Report.{LeadingRaces};
 ghost use Rattle.shb_check.specs.Judged.{limits};
@@ -54,19 +54,20 @@ pub fn run_places<S: Source, K: Sink, R: Threads + Wait + Sync + RandomSource>(
 
     // A refused trace has this fault first.
     ensures refused { OnTrace result (λ line fault. ReadsText 1073741825 (S.remaining source.old) (S.remaining source.new) (λ text.
-        HasFirstFault limits text line fault)) }
+        IsFirstFault limits text line fault)) }
 
     // What is written where no report is. Nothing, where the trace was refused or not read, and where
     // the text has a fault.
     ensures unwritten { OnNoTrace result (sink.new ≡ sink.old) }
     ensures silent { IfSome (S.remaining source.old) (λ text. (line : ℕ) (fault : Fault) →
-        HasFirstFault limits text line fault → sink.new ≡ sink.old) }
+        IsFirstFault limits text line fault → sink.new ≡ sink.old) }
 
     // Where the sink failed the text has no fault, and less than its report was written, the front of
     // it. Where memory was refused it is the same, with all lines before the first block, or nothing.
     ensures cut { OnSink result (ReadsText 1073741825 (S.remaining source.old) (S.remaining source.new) (λ text.
         HasTrace text (λ trace. CutsReportOn LeadingRaces settings.schedules trace (K.taken sink.old) (K.taken sink.new)))) }
-    ensures memory { OnMemory result ((sink.new ≡ sink.old) ⊎ ReadsText 1073741825 (S.remaining source.old) (S.remaining source.new) (λ text.
+    ensures memory { OnMemory result ((sink.new ≡ sink.old)
+        ⊎ ReadsText 1073741825 (S.remaining source.old) (S.remaining source.new) (λ text.
         HasTrace text (λ trace. CutsBlocksOn LeadingRaces settings.schedules trace (K.taken sink.old) (K.taken sink.new)))) }
 
     // What the sink took before stays as it was.

@@ -1,8 +1,7 @@
 //! The races of a trace, from the pieces of its accesses, and which of them a report lists.
 ghost use Rattle.std.specs.Prelude.{◌≡◌, IfOk, map};
-ghost use Rattle.shb_lines.specs.events.Race.{IsRaceList};
+ghost use Rattle.shb_lines.specs.events.Race.{IsRaceList, ends};
 ghost use Rattle.shb_pairs.specs.Races.{joined};
-ghost use Rattle.shb_write.specs.Written.{ends};
 ghost use Rattle.shb_run.specs.Written.{ListedBy};
 
 use crate::settings::Choice;

@@ -94,8 +94,16 @@ const THREE: &[u8] =
 
 const READ: &[u8] = b"T1|w(x)\nT2|w(z)\nT2|r(x)\nT2|w(y)\n";
 
-const NESTED: &[u8] =
-    b"T1|acq(l)\nT1|acq(l)\nT1|w(x)\nT1|rel(l)\nT1|w(y)\nT1|rel(l)\nT2|acq(l)\nT2|w(y)\nT2|rel(l)\nT2|w(x)\n";
+const NESTED: &[u8] = b"T1|acq(l)\n\
+      T1|acq(l)\n\
+      T1|w(x)\n\
+      T1|rel(l)\n\
+      T1|w(y)\n\
+      T1|rel(l)\n\
+      T2|acq(l)\n\
+      T2|w(y)\n\
+      T2|rel(l)\n\
+      T2|w(x)\n";
 
 /// A text, an event, a thread, and what every order answers for them.
 const VALUES: [(&[u8], u32, u32, u32); 42] = [
@@ -231,7 +239,16 @@ const SMALL_TRACES: [&[u8]; 24] = [
     b"T1|w(x)\nT2|r(x)\nT2|w(y)\nT3|w(y)\n",
     b"T1|acq(l)\nT1|rel(l)\nT2|acq(l)\nT2|w(x)\nT2|rel(l)\nT3|acq(l)\nT3|rel(l)\nT3|w(x)\n",
     b"T1|w(x)\nT2|w(z)\nT2|r(x)\nT2|w(y)\n",
-    b"T1|acq(l)\nT1|acq(l)\nT1|w(x)\nT1|rel(l)\nT1|w(y)\nT1|rel(l)\nT2|acq(l)\nT2|w(y)\nT2|rel(l)\nT2|w(x)\n",
+    b"T1|acq(l)\n\
+      T1|acq(l)\n\
+      T1|w(x)\n\
+      T1|rel(l)\n\
+      T1|w(y)\n\
+      T1|rel(l)\n\
+      T2|acq(l)\n\
+      T2|w(y)\n\
+      T2|rel(l)\n\
+      T2|w(x)\n",
     b"T1|acq(l)\nT1|acq(l)\nT1|w(x)\nT1|rel(l)\nT1|rel(l)\nT2|acq(l)\nT2|rel(l)\nT3|w(x)\n",
     b"T1|begin\nT1|w(x)\nT1|end\nT2|begin(m)\nT2|w(x)\nT2|end()\n",
     b"T1|w(x)|a\nT2|w(x)|a\nT3|w(x)|b\nT4|w(x)|b\n",

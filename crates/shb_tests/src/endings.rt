@@ -35,18 +35,18 @@ fn a_write_of_no_bytes_is_not_tried_again(rt: HostRuntime) {
 }
 
 #[test]
-fn a_report_is_read_on_behind_its_bad_line(rt: HostRuntime) {
+fn a_report_is_read_on_after_its_bad_line(rt: HostRuntime) {
     let mut source = Text::new(b"no report\nat all\n", 10, Some(2));
     let answer = read_report_within(rt.alloc(), &mut source, 1_000);
     holds(
         &rt,
         matches!(answer, Err(ReportError::Source)),
-        "the source that failed behind the line is answered",
+        "the source that failed after the line is answered",
     );
 }
 
 #[test]
-fn a_trace_is_read_on_behind_its_faulty_line(rt: HostRuntime) -> Result<(), Fail> {
+fn a_trace_is_read_on_after_its_faulty_line(rt: HostRuntime) -> Result<(), Fail> {
     let mut trace = Text::new(b"oops\nT1|w(x)\n", 5, Some(2));
     let mut report = Text::new(b"shb-report 1\n", 20, None);
     let mut page = Page::new(rt.alloc(), 100, 100, None)?;
@@ -54,7 +54,7 @@ fn a_trace_is_read_on_behind_its_faulty_line(rt: HostRuntime) -> Result<(), Fail
     holds(
         &rt,
         matches!(answer, Err(RunError::Source)),
-        "the source that failed behind the line is answered",
+        "the source that failed after the line is answered",
     );
     same_bytes(&rt, page.bytes(), b"", "what was written");
     Ok(())

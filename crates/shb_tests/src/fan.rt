@@ -354,7 +354,7 @@ fn job_refuses_each(rt: HostRuntime) {
         let answer = stream(&rt, rt.alloc(), &job, &FreeGate, workers, &mut taker);
         same(&rt, &answer, &Err(StreamError::Memory), "the answer");
         let taken = taker.values.len() as u64;
-        holds(&rt, taken <= k, "no value behind the refused piece");
+        holds(&rt, taken <= k, "no value after the refused piece");
         holds(
             &rt,
             is_count(taker.values.as_slice(), taken),

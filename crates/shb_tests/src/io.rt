@@ -211,7 +211,7 @@ fn a_write_of_no_bytes_is_a_failure(rt: HostRuntime) {
 }
 
 #[test]
-fn all_bytes_arrive_behind_a_buffer(rt: HostRuntime) -> Result<(), Fail> {
+fn all_bytes_arrive_through_a_buffer(rt: HostRuntime) -> Result<(), Fail> {
     let mut memory = Vec::new(rt.alloc());
     let mut sink = ToWrite::new(BufWriter::with_capacity(rt.alloc(), 4, &mut memory)?);
     write_all(&mut sink, b"abc")?;

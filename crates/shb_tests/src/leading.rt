@@ -29,14 +29,41 @@ fn ran<R: Threads + Wait + Sync + RandomSource + AllocGlobal + Abort>(
 /// Of the races (1, 2) and (1, 3), which are at one place, the first.
 const ONE_PLACE: &[u8] = b"T1|w(x)|a\nT2|r(x)|b\nT3|r(x)|b\n";
 
-const ONE_RACE: &[u8] =
-    b"shb-report 2\nevents 3 threads 3 locks 0 variables 1\nraces 1\nplaces 1\nplace 1: 1\nat a\nand b\nrace 1: 1 2\nfirst T1|w(x)|a\nsecond T2|r(x)|b\nschedule 0:\nend\n";
+const ONE_RACE: &[u8] = b"shb-report 2\n\
+      events 3 threads 3 locks 0 variables 1\n\
+      races 1\n\
+      places 1\n\
+      place 1: 1\n\
+      at a\n\
+      and b\n\
+      race 1: 1 2\n\
+      first T1|w(x)|a\n\
+      second T2|r(x)|b\n\
+      schedule 0:\n\
+      end\n";
 
 /// Two locations in either order are two places.
 const CROSSED: &[u8] = b"T1|w(x)|a\nT2|w(x)|b\nT3|w(y)|b\nT4|w(y)|a\n";
 
-const TWO_RACES: &[u8] =
-    b"shb-report 2\nevents 4 threads 4 locks 0 variables 2\nraces 2\nplaces 2\nplace 1: 1\nat a\nand b\nplace 2: 1\nat b\nand a\nrace 1: 1 2\nfirst T1|w(x)|a\nsecond T2|w(x)|b\nschedule 0:\nrace 2: 3 4\nfirst T3|w(y)|b\nsecond T4|w(y)|a\nschedule 0:\nend\n";
+const TWO_RACES: &[u8] = b"shb-report 2\n\
+      events 4 threads 4 locks 0 variables 2\n\
+      races 2\n\
+      places 2\n\
+      place 1: 1\n\
+      at a\n\
+      and b\n\
+      place 2: 1\n\
+      at b\n\
+      and a\n\
+      race 1: 1 2\n\
+      first T1|w(x)|a\n\
+      second T2|w(x)|b\n\
+      schedule 0:\n\
+      race 2: 3 4\n\
+      first T3|w(y)|b\n\
+      second T4|w(y)|a\n\
+      schedule 0:\n\
+      end\n";
 
 #[test]
 fn lists_one_race_of_each_place(rt: HostRuntime) -> Result<(), Fail> {

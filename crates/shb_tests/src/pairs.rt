@@ -225,7 +225,16 @@ const OPEN: [(&[u8], &[bool]); 11] = [
         &[false],
     ),
     (
-        b"T1|acq(l)\nT1|w(x)\nT1|r(x)\nT1|rel(l)\nT2|acq(l)\nT2|r(x)\nT2|rel(l)\nT1|acq(l)\nT1|w(x)\nT1|rel(l)\n",
+        b"T1|acq(l)\n\
+          T1|w(x)\n\
+          T1|r(x)\n\
+          T1|rel(l)\n\
+          T2|acq(l)\n\
+          T2|r(x)\n\
+          T2|rel(l)\n\
+          T1|acq(l)\n\
+          T1|w(x)\n\
+          T1|rel(l)\n",
         &[false],
     ),
 ];

@@ -79,28 +79,71 @@ const REPORTS: [(&[u8], u32, u32, Option<&[u32]>, &[u8]); 4] = [
         0,
         1,
         Some(&[]),
-        b"shb-report 2\nevents 2 threads 2 locks 0 variables 1\nraces 1\nplaces 1\nplace 1: 1\nat 1\nand 2\nrace 1: 1 2\nfirst T1|w(y)|1\nsecond T2|r(y)|2\nschedule 0:\nend\n",
+        b"shb-report 2\n\
+          events 2 threads 2 locks 0 variables 1\n\
+          races 1\n\
+          places 1\n\
+          place 1: 1\n\
+          at 1\n\
+          and 2\n\
+          race 1: 1 2\n\
+          first T1|w(y)|1\n\
+          second T2|r(y)|2\n\
+          schedule 0:\n\
+          end\n",
     ),
     (
         b"T1|w(y)|1\nT2|r(y)|2\n",
         0,
         1,
         None,
-        b"shb-report 2\nevents 2 threads 2 locks 0 variables 1\nraces 1\nplaces 1\nplace 1: 1\nat 1\nand 2\nrace 1: 1 2\nfirst T1|w(y)|1\nsecond T2|r(y)|2\nend\n",
+        b"shb-report 2\n\
+          events 2 threads 2 locks 0 variables 1\n\
+          races 1\n\
+          places 1\n\
+          place 1: 1\n\
+          at 1\n\
+          and 2\n\
+          race 1: 1 2\n\
+          first T1|w(y)|1\n\
+          second T2|r(y)|2\n\
+          end\n",
     ),
     (
         b"T1|w(x)\nT1|w(y)\nT2|r(y)\nT2|w(x)\n",
         1,
         2,
         Some(&[0]),
-        b"shb-report 2\nevents 4 threads 2 locks 0 variables 2\nraces 1\nplaces 1\nplace 1: 1\nat \nand \nrace 1: 2 3\nfirst T1|w(y)\nsecond T2|r(y)\nschedule 1: 1\nend\n",
+        b"shb-report 2\n\
+          events 4 threads 2 locks 0 variables 2\n\
+          races 1\n\
+          places 1\n\
+          place 1: 1\n\
+          at \n\
+          and \n\
+          race 1: 2 3\n\
+          first T1|w(y)\n\
+          second T2|r(y)\n\
+          schedule 1: 1\n\
+          end\n",
     ),
     (
         b"T1|w(y)|a|b\r\n\r\nT2|r(y)",
         0,
         1,
         Some(&[]),
-        b"shb-report 2\nevents 2 threads 2 locks 0 variables 1\nraces 1\nplaces 1\nplace 1: 1\nat a|b\nand \nrace 1: 1 2\nfirst T1|w(y)|a|b\nsecond T2|r(y)\nschedule 0:\nend\n",
+        b"shb-report 2\n\
+          events 2 threads 2 locks 0 variables 1\n\
+          races 1\n\
+          places 1\n\
+          place 1: 1\n\
+          at a|b\n\
+          and \n\
+          race 1: 1 2\n\
+          first T1|w(y)|a|b\n\
+          second T2|r(y)\n\
+          schedule 0:\n\
+          end\n",
     ),
 ];
 

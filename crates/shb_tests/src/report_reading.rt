@@ -4,11 +4,23 @@ use shb_io::{Source, Text};
 use shb_report::{Report, ReportError, read_report_within};
 use std::test::Fail;
 
-const ROW_2: &[u8] =
-    b"shb-report 1\nevents 4 threads 2 locks 0 variables 2\nraces 1\nrace 1: 2 3\nfirst T1|w(y)\nsecond T2|r(y)\nschedule 1: 1\nend\n";
+const ROW_2: &[u8] = b"shb-report 1\n\
+      events 4 threads 2 locks 0 variables 2\n\
+      races 1\n\
+      race 1: 2 3\n\
+      first T1|w(y)\n\
+      second T2|r(y)\n\
+      schedule 1: 1\n\
+      end\n";
 
-const ROW_1: &[u8] =
-    b"shb-report 1\nevents 2 threads 2 locks 0 variables 1\nraces 1\nrace 1: 1 2\nfirst T1|w(y)|1\nsecond T2|r(y)|2\nschedule 0:\nend\n";
+const ROW_1: &[u8] = b"shb-report 1\n\
+      events 2 threads 2 locks 0 variables 1\n\
+      races 1\n\
+      race 1: 1 2\n\
+      first T1|w(y)|1\n\
+      second T2|r(y)|2\n\
+      schedule 0:\n\
+      end\n";
 
 const LONGER: &[u8] = b"shb-report 1\nevents 0 threads 0 locks 0 variables 0\nraces 0\nend\nx";
 
@@ -87,39 +99,100 @@ const BAD_LINES: [(&[u8], u64); 30] = [
         4,
     ),
     (
-        b"shb-report 1\nevents 4 threads 2 locks 0 variables 2\nraces 18446744073709551615\nrace 1: 2 3\nfirst T1|w(y)\nsecond T2|r(y)\nschedule 1: 1\nend\n",
+        b"shb-report 1\n\
+          events 4 threads 2 locks 0 variables 2\n\
+          races 18446744073709551615\n\
+          race 1: 2 3\n\
+          first T1|w(y)\n\
+          second T2|r(y)\n\
+          schedule 1: 1\n\
+          end\n",
         8,
     ),
     (
-        b"shb-report 1\nevents 4 threads 2 locks 0 variables 2\nraces 1\nrace 2: 2 3\nfirst T1|w(y)\nsecond T2|r(y)\nschedule 1: 1\nend\n",
+        b"shb-report 1\n\
+          events 4 threads 2 locks 0 variables 2\n\
+          races 1\n\
+          race 2: 2 3\n\
+          first T1|w(y)\n\
+          second T2|r(y)\n\
+          schedule 1: 1\n\
+          end\n",
         4,
     ),
     (
-        b"shb-report 1\nevents 4 threads 2 locks 0 variables 2\nraces 1\nrace 1: 2 3\nfirst \nsecond T2|r(y)\nschedule 1: 1\nend\n",
+        b"shb-report 1\n\
+          events 4 threads 2 locks 0 variables 2\n\
+          races 1\n\
+          race 1: 2 3\n\
+          first \n\
+          second T2|r(y)\n\
+          schedule 1: 1\n\
+          end\n",
         5,
     ),
     (
-        b"shb-report 1\nevents 4 threads 2 locks 0 variables 2\nraces 1\nrace 1: 2 3\nfirst a\nsecond b\nschedule 18446744073709551615: 1\nend\n",
+        b"shb-report 1\n\
+          events 4 threads 2 locks 0 variables 2\n\
+          races 1\n\
+          race 1: 2 3\n\
+          first a\n\
+          second b\n\
+          schedule 18446744073709551615: 1\n\
+          end\n",
         7,
     ),
     (
-        b"shb-report 1\nevents 4 threads 2 locks 0 variables 2\nraces 1\nrace 1: 2 3\nfirst a\nsecond b\nschedule 01: 1\nend\n",
+        b"shb-report 1\n\
+          events 4 threads 2 locks 0 variables 2\n\
+          races 1\n\
+          race 1: 2 3\n\
+          first a\n\
+          second b\n\
+          schedule 01: 1\n\
+          end\n",
         7,
     ),
     (
-        b"shb-report 1\nevents 4 threads 2 locks 0 variables 2\nraces 1\nrace 1: 2 3\nfirst a\nsecond b\nschedule 1: 18446744073709551616\nend\n",
+        b"shb-report 1\n\
+          events 4 threads 2 locks 0 variables 2\n\
+          races 1\n\
+          race 1: 2 3\n\
+          first a\n\
+          second b\n\
+          schedule 1: 18446744073709551616\n\
+          end\n",
         7,
     ),
     (
-        b"shb-report 1\nevents 4 threads 2 locks 0 variables 2\nraces 1\nrace 1: 2 3\nfirst a\nsecond b\nschedule 1: 1 \nend\n",
+        b"shb-report 1\n\
+          events 4 threads 2 locks 0 variables 2\n\
+          races 1\n\
+          race 1: 2 3\n\
+          first a\n\
+          second b\n\
+          schedule 1: 1 \n\
+          end\n",
         7,
     ),
     (
-        b"shb-report 1\nevents 4 threads 2 locks 0 variables 2\nraces 1\nrace 1: 2 3\nfirst a\nsecond b\nschedule 1: 1\n",
+        b"shb-report 1\n\
+          events 4 threads 2 locks 0 variables 2\n\
+          races 1\n\
+          race 1: 2 3\n\
+          first a\n\
+          second b\n\
+          schedule 1: 1\n",
         8,
     ),
     (
-        b"shb-report 1\nevents 4 threads 2 locks 0 variables 2\nraces 1\nrace 1: 2 3\nfirst a\nsecond b\nend\n",
+        b"shb-report 1\n\
+          events 4 threads 2 locks 0 variables 2\n\
+          races 1\n\
+          race 1: 2 3\n\
+          first a\n\
+          second b\n\
+          end\n",
         7,
     ),
     (
@@ -131,15 +204,36 @@ const BAD_LINES: [(&[u8], u64); 30] = [
         0,
     ),
     (
-        b"shb-report 2\nevents 0 threads 0 locks 0 variables 0\nraces 0\nplaces 1\nplace 1: 0\nat \nand \nend\n",
+        b"shb-report 2\n\
+          events 0 threads 0 locks 0 variables 0\n\
+          races 0\n\
+          places 1\n\
+          place 1: 0\n\
+          at \n\
+          and \n\
+          end\n",
         0,
     ),
     (
-        b"shb-report 2\nevents 0 threads 0 locks 0 variables 0\nraces 0\nplaces 2\nplace 1: 0\nat \nand \nend\n",
+        b"shb-report 2\n\
+          events 0 threads 0 locks 0 variables 0\n\
+          races 0\n\
+          places 2\n\
+          place 1: 0\n\
+          at \n\
+          and \n\
+          end\n",
         8,
     ),
     (
-        b"shb-report 2\nevents 0 threads 0 locks 0 variables 0\nraces 0\nplaces 1\nplace 1: 0\nat a\nand\nend\n",
+        b"shb-report 2\n\
+          events 0 threads 0 locks 0 variables 0\n\
+          races 0\n\
+          places 1\n\
+          place 1: 0\n\
+          at a\n\
+          and\n\
+          end\n",
         7,
     ),
     (
@@ -147,7 +241,18 @@ const BAD_LINES: [(&[u8], u64); 30] = [
         4,
     ),
     (
-        b"shb-report 2\nevents 2 threads 2 locks 0 variables 1\nraces 1\nplaces 1\nplace 1: 1\nat 1\nand 2\nrace 1: 1 2\nfirst T1|w(y)|1\nsecond T2|r(y)|2\nschedule 0:\nend\n",
+        b"shb-report 2\n\
+          events 2 threads 2 locks 0 variables 1\n\
+          races 1\n\
+          places 1\n\
+          place 1: 1\n\
+          at 1\n\
+          and 2\n\
+          race 1: 1 2\n\
+          first T1|w(y)|1\n\
+          second T2|r(y)|2\n\
+          schedule 0:\n\
+          end\n",
         0,
     ),
 ];

@@ -108,12 +108,31 @@ pub fn expect_run<R: Threads + Wait + Sync + RandomSource + AllocGlobal + Abort>
 /// A read races with its own last write.
 pub const TRACE: &str = "T1|w(y)|1\nT2|r(y)|2\n";
 
-pub const REPORT: &[u8] =
-    b"shb-report 2\nevents 2 threads 2 locks 0 variables 1\nraces 1\nplaces 1\nplace 1: 1\nat 1\nand 2\nrace 1: 1 2\nfirst T1|w(y)|1\nsecond T2|r(y)|2\nschedule 0:\nend\n";
+pub const REPORT: &[u8] = b"shb-report 2\n\
+      events 2 threads 2 locks 0 variables 1\n\
+      races 1\n\
+      places 1\n\
+      place 1: 1\n\
+      at 1\n\
+      and 2\n\
+      race 1: 1 2\n\
+      first T1|w(y)|1\n\
+      second T2|r(y)|2\n\
+      schedule 0:\n\
+      end\n";
 
 /// The report without its schedules.
-const LISTED: &[u8] =
-    b"shb-report 2\nevents 2 threads 2 locks 0 variables 1\nraces 1\nplaces 1\nplace 1: 1\nat 1\nand 2\nrace 1: 1 2\nfirst T1|w(y)|1\nsecond T2|r(y)|2\nend\n";
+const LISTED: &[u8] = b"shb-report 2\n\
+      events 2 threads 2 locks 0 variables 1\n\
+      races 1\n\
+      places 1\n\
+      place 1: 1\n\
+      at 1\n\
+      and 2\n\
+      race 1: 1 2\n\
+      first T1|w(y)|1\n\
+      second T2|r(y)|2\n\
+      end\n";
 
 const NO_EVENTS: &[u8] =
     b"shb-report 2\nevents 0 threads 0 locks 0 variables 0\nraces 0\nplaces 0\nend\n";

@@ -20,14 +20,46 @@ const TURNS: u32 = 1_000_000_000;
 /// Two races of two variables, and so two pieces in each phase.
 const TWO_PIECES: &str = "T1|w(x)\nT1|w(y)\nT2|w(y)\nT2|w(x)\n";
 
-const TWO_PIECES_REPORT: &str =
-    "shb-report 2\nevents 4 threads 2 locks 0 variables 2\nraces 2\nplaces 1\nplace 1: 2\nat \nand \nrace 1: 1 4\nfirst T1|w(x)\nsecond T2|w(x)\nschedule 1: 3\nrace 2: 2 3\nfirst T1|w(y)\nsecond T2|w(y)\nschedule 1: 1\nend\n";
+const TWO_PIECES_REPORT: &str = "shb-report 2\n\
+     events 4 threads 2 locks 0 variables 2\n\
+     races 2\n\
+     places 1\n\
+     place 1: 2\n\
+     at \n\
+     and \n\
+     race 1: 1 4\n\
+     first T1|w(x)\n\
+     second T2|w(x)\n\
+     schedule 1: 3\n\
+     race 2: 2 3\n\
+     first T1|w(y)\n\
+     second T2|w(y)\n\
+     schedule 1: 1\n\
+     end\n";
 
 /// Three races of one variable.
 const THREE_RACES: &str = "T1|w(x)\nT2|w(x)\nT3|r(x)\n";
 
-const THREE_RACES_REPORT: &str =
-    "shb-report 2\nevents 3 threads 3 locks 0 variables 1\nraces 3\nplaces 1\nplace 1: 3\nat \nand \nrace 1: 1 2\nfirst T1|w(x)\nsecond T2|w(x)\nschedule 0:\nrace 2: 1 3\nfirst T1|w(x)\nsecond T3|r(x)\nschedule 0:\nrace 3: 2 3\nfirst T2|w(x)\nsecond T3|r(x)\nschedule 0:\nend\n";
+const THREE_RACES_REPORT: &str = "shb-report 2\n\
+     events 3 threads 3 locks 0 variables 1\n\
+     races 3\n\
+     places 1\n\
+     place 1: 3\n\
+     at \n\
+     and \n\
+     race 1: 1 2\n\
+     first T1|w(x)\n\
+     second T2|w(x)\n\
+     schedule 0:\n\
+     race 2: 1 3\n\
+     first T1|w(x)\n\
+     second T3|r(x)\n\
+     schedule 0:\n\
+     race 3: 2 3\n\
+     first T2|w(x)\n\
+     second T3|r(x)\n\
+     schedule 0:\n\
+     end\n";
 
 /// Holds piece 0 until piece 1 has entered, and counts the pieces that enter.
 #[derive(Drop)]
@@ -191,8 +223,13 @@ fn ran_watched<R: Threads + Wait + Sync + RandomSource + AllocGlobal + Abort>(
 /// Asserts the first and last lines of the report of 65 writers.
 fn expect_ends(rt: &impl Abort, report: &[u8]) {
     // The lines before the first block have 97 bytes.
-    let front =
-        "shb-report 2\nevents 65 threads 65 locks 0 variables 1\nraces 2080\nplaces 1\nplace 1: 2080\nat \nand \n";
+    let front = "shb-report 2\n\
+         events 65 threads 65 locks 0 variables 1\n\
+         races 2080\n\
+         places 1\n\
+         place 1: 2080\n\
+         at \n\
+         and \n";
     same(rt, &front.len(), &97, "bytes before the first block");
     holds(rt, report.starts_with(front.as_bytes()), "the front");
     let last = "race 2080: 64 65\nfirst T64|w(x)\nsecond T65|w(x)\nschedule 0:\nend\n";

@@ -18,7 +18,7 @@ use std::alloc::Global;
 /// The printed schedule of a race: the positions, rising, of all events that are SHB-below the
 /// predecessor of either access or are it. After it both accesses are next, and it is a correct
 /// reordering that keeps happens-before. Which of the schedules of a race is printed is this
-/// project's profile. `NoMemory` where memory was refused.
+/// project's own rule. `NoMemory` where memory was refused.
 ///
 /// It asks the order twice for each thread, and goes once over the events up to the later of the
 /// two predecessors.

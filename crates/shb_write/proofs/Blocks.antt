@@ -15,8 +15,8 @@ use Rattle.shb_lines.specs.text.TraceData.{TraceData}
 use Rattle.shb_lines.proofs.events.Decide.{printed_exists}
 use Rattle.shb_report.specs.Report.{AreBlocks, HasSchedule, ShownRace, block_bytes, blocks_from}
 use Rattle.shb_write.specs.declared.errors.WriteError.{WriteError}
-use Rattle.shb_write.specs.Written.{ends}
 use Rattle.shb_write.specs.Written.{AppendsFront, WritesBlocks}
+use Rattle.shb_lines.specs.events.Race.{ends}
 
 -- the block of the last race stands last
 pub blocks_from-push : (trace : TraceData) (number place : ℕ) (shown : List ShownRace) (race : ShownRace) → place ≡ number + length shown

@@ -8,14 +8,14 @@ use Rattle.shb_io.proofs.Growth.{Appends-trans}
 use Rattle.shb_lines.specs.declared.event.Event.{Event}
 use Rattle.shb_lines.specs.declared.event.Pair.{Pair}
 use Rattle.shb_lines.specs.events.Discipline.{IsDisciplined}
-use Rattle.shb_lines.specs.events.Race.{Race}
+use Rattle.shb_lines.specs.events.Race.{Race, ends}
 use Rattle.shb_lines.specs.text.TraceData.{TraceData}
 use Rattle.shb_report.specs.declared.places.PlaceCount.{PlaceCount}
 use Rattle.shb_report.specs.Places.{IsPairOf, counts_in, places_of_pairs, section_bytes}
 use Rattle.shb_report.specs.Report.{AreBlocks, IsReportOn, counts_of, front_bytes, head_bytes, pair_of, tail_bytes}
 use Rattle.shb_write.specs.declared.errors.WriteError.{WriteError}
 use Rattle.shb_write.specs.declared.errors.WriteError.TheVariants.{Sink, Memory}
-use Rattle.shb_write.specs.Written.{ends, CutsBlocksOn, CutsReportOn, OnFailedSink, OnNoMemory, These, WritesReport}
+use Rattle.shb_write.specs.Written.{CutsBlocksOn, CutsReportOn, OnFailedSink, OnNoMemory, These, WritesReport}
 use Rattle.shb_write.proofs.Blocks.{AreBlocks-more, AreBlocks-nil}
 use Rattle.shb_write.proofs.Ranges.{first_in_range, second_in_range}
 
@@ -61,14 +61,14 @@ module _ (ws : Bool) (trace : TraceData) (races : List Pair) (blocks : List ℕ)
   pub blocks_cut : (old now new : Option (List ℕ)) → Appends old now (front_bytes trace (map ends races)) → AppendsPrefix now new (blocks ++ tail_bytes) → CutsBlocksOn (These (map ends races)) ws trace old new
   blocks_cut old now new before front =
       let lines = front_bytes trace (map ends races) in
-      let behind = blocks ++ tail_bytes in
+      let left = blocks ++ tail_bytes in
       record {
         cut = record {
           bytes = bytes_with trace races blocks;
           report = report_of;
           count = length lines + front.0;
-          some_missing = omega (arith, length-append lines behind, front.1);
-          written = subst (Appends old new) (sym (take-append-add lines behind front.0)) (Appends-trans old now new lines (take front.0 behind) before front.2);
+          some_missing = omega (arith, length-append lines left, front.1);
+          written = subst (Appends old new) (sym (take-append-add lines left front.0)) (Appends-trans old now new lines (take front.0 left) before front.2);
         };
         front = omega arith;
       }

@@ -12,15 +12,15 @@ use Rattle.shb_lines.specs.declared.event.Event.{Event}
 use Rattle.shb_lines.specs.declared.event.Pair.{Pair}
 use Rattle.shb_lines.specs.events.Discipline.{IsDisciplined}
 use Rattle.shb_lines.specs.text.TraceData.{TraceData}
-use Rattle.shb_write.specs.Written.{ends}
 use Rattle.shb_report.specs.Report.{AreBlocks, HasSchedule, ShownRace, block_bytes, blocks_from}
 use Rattle.shb_witness.specs.Schedules.{Asked, schedule_at}
 use Rattle.shb_witness.proofs.Printed.{computed_is_printed}
 use Rattle.shb_write.specs.declared.block_writer.BlockWriter.{BlockWriter}
 use Rattle.shb_write.specs.declared.errors.WriteError.{WriteError}
-use Rattle.shb_write.specs.Scheduled.{HasStopped, HasWritten, MayWrite, behind, scheduled_blocks, shown_from}
+use Rattle.shb_write.specs.Scheduled.{HasStopped, HasWritten, MayWrite, number_after, scheduled_blocks, shown_from}
 use Rattle.shb_write.specs.Written.{WritesBlocks}
 use Rattle.shb_write.proofs.Blocks.{AreBlocks-more, blocks_from-push, front_of, shows_printed}
+use Rattle.shb_lines.specs.events.Race.{ends}
 
 abbrev pub none : Pair
 none = record { first = 0; second = 0 }
@@ -30,9 +30,9 @@ length-shown : (n : ℕ) (races : List Pair) (schedules : List (List ℕ)) → l
 length-shown n races [] = refl
 length-shown n races (s ∷ schedules) = omega (arith, length-shown (n + 1) races schedules)
 
-behind-is : (n : ℕ) (schedules : List (List ℕ)) → behind n schedules ≡ n + length schedules
-behind-is n [] = omega arith
-behind-is n (s ∷ schedules) = omega (arith, behind-is (n + 1) schedules)
+number_after-is : (n : ℕ) (schedules : List (List ℕ)) → number_after n schedules ≡ n + length schedules
+number_after-is n [] = omega arith
+number_after-is n (s ∷ schedules) = omega (arith, number_after-is (n + 1) schedules)
 
 -- one schedule more shows the next race
 shown-push : (n : ℕ) (races : List Pair) (schedules : List (List ℕ)) (s : List ℕ) (place : ℕ) → place ≡ n + length schedules
@@ -57,7 +57,7 @@ module _ {K : Type 0} (taken : K → Option (List ℕ)) (failures : K → ℕ) w
       → HasWritten taken failures start schedules before
       → scheduled_blocks start.trace.now start.written start.races.now (schedules ++ s ∷ []) ≡ scheduled_blocks start.trace.now start.written start.races.now schedules ++ block_bytes before.trace.now number (ends race) (Some s)
   next_block start before schedules s race number is numbered has =
-      let many : before.written ≡ start.written + length schedules = has.as_many ∙ behind-is start.written schedules in
+      let many : before.written ≡ start.written + length schedules = has.as_many ∙ number_after-is start.written schedules in
       let there : race ≡ get_or start.races.now (start.written + length schedules) none = is ∙ ap (λ l. get_or l before.written none) has.same_races ∙ ap (λ n. get_or start.races.now n none) many in
       let place : number ≡ start.written + length schedules + 1 = omega (arith, numbered, many) in
       blocks-push start.trace.now start.written start.races.now schedules s race number there place
@@ -74,7 +74,7 @@ module _ {K : Type 0} (taken : K → Option (List ℕ)) (failures : K → ℕ) w
     same_sink = sink ∙ has.same_sink;
     same_trace = trace ∙ has.same_trace;
     same_races = races ∙ has.same_races;
-    as_many = omega (arith, more, has.as_many, behind-is start.written given, behind-is start.written (given ++ s ∷ []), length-append given (s ∷ []));
+    as_many = omega (arith, more, has.as_many, number_after-is start.written given, number_after-is start.written (given ++ s ∷ []), length-append given (s ∷ []));
     appended = subst (Appends (taken start.sink.now) (taken after.sink.now)) (sym (next_block start before given s race number is numbered has)) (Appends-trans _ _ _ _ _ has.appended written);
     counted = counted ∙ has.counted;
   }
@@ -96,7 +96,7 @@ module _ {K : Type 0} (taken : K → Option (List ℕ)) (failures : K → ℕ) w
 
   -- there is a next race
   pub next_there : (start before : BlockWriter K) (schedules : List (List ℕ)) (s : List ℕ) → HasWritten taken failures start schedules before → MayWrite failures start schedules s → before.written < length before.races.now
-  next_there start before schedules s has may = omega (arith, may.room, has.as_many, behind-is start.written schedules, ap length has.same_races)
+  next_there start before schedules s has may = omega (arith, may.room, has.as_many, number_after-is start.written schedules, ap length has.same_races)
 
   -- the sink can count a failure more
   pub next_countable : (start before : BlockWriter K) (schedules : List (List ℕ)) (s : List ℕ) → HasWritten taken failures start schedules before → MayWrite failures start schedules s → failures before.sink.now < 2 ^ 64 - 1
@@ -221,5 +221,5 @@ module _ (trace : TraceData) (events : List Event) (races : List Pair) (same : e
         (subst (λ l. AppendsPrefix old new (scheduled_blocks trace 0 races l)) (ap (λ l. l ++ s ∷ []) (came k given first) ∙ ap (λ v. values_of (schedule_at events races) k ++ v ∷ []) (next ∙ ap (λ (a : Asked). schedule_at a.trace a.races k) is)) cut)
 
 -- what holds of what was found there holds of what was left after
-pub left_behind : {K : Type 0} (P : K → Type 0) (left found : K) → P found → left ≡ found → P left
-left_behind P left found holds same = subst P (sym same) holds
+pub left_after : {K : Type 0} (P : K → Type 0) (left found : K) → P found → left ≡ found → P left
+left_after P left found holds same = subst P (sym same) holds

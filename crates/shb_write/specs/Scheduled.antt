@@ -4,11 +4,11 @@ use Rattle.std.specs.Io.KnownBytes.{Appends}
 use Rattle.shb_io.specs.Devices.{AppendsPrefix}
 use Rattle.shb_lines.specs.declared.event.Pair.{Pair}
 use Rattle.shb_lines.specs.text.TraceData.{TraceData}
-use Rattle.shb_write.specs.Written.{ends}
 use Rattle.shb_report.specs.Report.{ShownRace, blocks_from}
 use Rattle.shb_fan.specs.Values.{values_of}
 use Rattle.shb_witness.specs.Schedules.{schedule_at}
 use Rattle.shb_write.specs.declared.block_writer.BlockWriter.{BlockWriter}
+use Rattle.shb_lines.specs.events.Race.{ends}
 
 -- race n with the first schedule, race n + 1 with the second, and so on
 abbrev pub shown_from : ℕ → List Pair → List (List ℕ) → List ShownRace
@@ -16,9 +16,9 @@ shown_from n races [] = []
 shown_from n races (schedule ∷ schedules) = record { pair = ends (slice_index_or races n (record { first = 0; second = 0 })); schedule = Some schedule } ∷ shown_from (n + 1) races schedules
 
 -- the number of the race after those
-abbrev pub behind : ℕ → List (List ℕ) → ℕ
-behind n [] = n
-behind n (schedule ∷ schedules) = behind (n + 1) schedules
+abbrev pub number_after : ℕ → List (List ℕ) → ℕ
+number_after n [] = n
+number_after n (schedule ∷ schedules) = number_after (n + 1) schedules
 
 -- the blocks of the races from number n on, with these schedules; races count from 0, blocks from 1
 abbrev pub scheduled_blocks : TraceData → ℕ → List Pair → List (List ℕ) → List ℕ
@@ -36,7 +36,7 @@ module _ {K : Type 0} (taken : K → Option (List ℕ)) (failures : K → ℕ) w
     pub same_sink : end.sink.ghost_name ≡ start.sink.ghost_name
     pub same_trace : end.trace.now ≡ start.trace.now
     pub same_races : end.races.now ≡ start.races.now
-    pub as_many : end.written ≡ behind start.written schedules
+    pub as_many : end.written ≡ number_after start.written schedules
     pub appended : Appends (taken start.sink.now) (taken end.sink.now) (scheduled_blocks start.trace.now start.written start.races.now schedules)
     pub counted : failures end.sink.now ≡ failures start.sink.now
 

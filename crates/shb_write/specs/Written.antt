@@ -7,10 +7,6 @@ use Rattle.shb_report.specs.Report.{AreBlocks, IsReportOn, front_bytes}
 use Rattle.shb_write.specs.declared.errors.WriteError.{WriteError}
 use Rattle.shb_write.specs.declared.errors.WriteError.TheVariants.{Sink, Memory}
 
--- the two positions of a pair
-abbrev pub ends : Pair → ℕ × ℕ
-ends pair = (pair.first, pair.second)
-
 -- the sink failed once where that is the answer, and else not at all
 abbrev pub IsSinkCounted : {T : Type 0} → ℕ → ℕ → Result T WriteError → Type 0
 IsSinkCounted old new (Ok x) = new ≡ old

@@ -36,7 +36,14 @@ impl<'s, 't, 'r, 'n, K: Sink> Taker<Positions> for BlockWriter<'s, 't, 'r, 'n, K
 
     ghost refuses = { λ start given schedule _ end. HasStopped K.taken K.failure_count start given schedule end };
 
-    ghost nothing = { λ s. record { same_sink = refl; same_trace = refl; same_races = refl; as_many = refl; appended = Appends-nil (K.taken s.sink.now); counted = refl } };
+    ghost nothing = { λ s. record {
+      same_sink = refl;
+      same_trace = refl;
+      same_races = refl;
+      as_many = refl;
+      appended = Appends-nil (K.taken s.sink.now);
+      counted = refl;
+    } };
 
     fn take(&mut self, _k: u64, schedule: Positions) -> Result<(), Failed> {
         let race = self.races[self.written];

@@ -5,7 +5,8 @@ ghost use Rattle.shb_report.specs.Places.{IsPlaceOf, counts_in, places_of_pairs}
 ghost use Rattle.shb_report.specs.Report.{counts_of, front_bytes};
 ghost use Rattle.shb_witness.specs.Checkpoints.{IsReached};
 ghost use Rattle.shb_witness.specs.Schedules.{AreRaces};
-ghost use Rattle.shb_write.specs.Written.{CutsBlocksOn, CutsReportOn, IsSinkCounted, OnFailedSink, OnNoMemory, These, WritesBlocks, WritesReport, ends};
+ghost use Rattle.shb_write.specs.Written.{CutsBlocksOn, CutsReportOn, IsSinkCounted, OnFailedSink, OnNoMemory, These, WritesBlocks, WritesReport};
+ghost use Rattle.shb_lines.specs.events.Race.{ends};
 
 use crate::block_writer::BlockWriter;
 use crate::errors::WriteError;

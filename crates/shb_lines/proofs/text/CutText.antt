@@ -5,16 +5,17 @@ use Rattle.std.specs.List.{onto_first}
 use Rattle.std.proofs.lemmas.Bool.Decides.{nat_tests}
 use Rattle.std.proofs.lemmas.List.{get_or-take, take-take}
 use Rattle.std.proofs.lemmas.List.Sums.{sum_by-cons}
-use Rattle.shb_lines.specs.declared.event.Fault.{Fault}
-use Rattle.shb_lines.specs.declared.event.Fault.TheVariants as faults
-use Rattle.shb_lines.specs.declared.event.Limits.{Limits}
-use Rattle.shb_lines.specs.declared.event.LineFault.{LineFault}
-use Rattle.shb_lines.specs.text.Faults.{HasFault, HasLineFault, IsFaultless, IsLowest, PassesLimit, line_at, number_of}
+use Rattle.shb_lines.specs.declared.fault.Fault.{Fault}
+use Rattle.shb_lines.specs.declared.fault.Fault.TheVariants as faults
+use Rattle.shb_lines.specs.declared.limits.Limits.{Limits}
+use Rattle.shb_lines.specs.declared.fault.LineFault.{LineFault}
+use Rattle.shb_lines.specs.text.Faults.{HasFault, HasLineFault, HasNoLineFaultBefore, PassesLimit, line_at, number_of}
 use Rattle.shb_lines.specs.text.Numbers.{events_of}
 use Rattle.shb_lines.specs.text.Text.{lines_of}
 use Rattle.shb_lines.specs.text.TraceData.{IsReading}
 use Rattle.shb_lines.proofs.text.FaultLemmas.{text_too_long}
 use Rattle.shb_lines.proofs.text.FirstFault.{IsLowest-same, with_past}
+use Rattle.shb_lines.specs.Lowest.{IsLowest}
 
 abbrev with_feed : List ℕ → ℕ
 with_feed line = length line + 1
@@ -28,30 +29,30 @@ record SharesLine (n : ℕ) (lines longer : List (List ℕ)) : Type 0 where
   within : k < length lines
   longer_within : k < length longer
   same : take k lines ≡ take k longer
-  behind : starts k lines ≤ n
+  after : starts k lines ≤ n
   inside : n < starts k lines + length (slice_index_or lines k []) + 1
   longer_inside : n < starts k lines + length (slice_index_or longer k []) + 1
 
 shares_first : (a b : List ℕ) (lines longer : List (List ℕ)) → SharesLine zero (a ∷ lines) (b ∷ longer)
-shares_first a b lines longer = record { k = zero; within = omega arith; longer_within = omega arith; same = refl; behind = omega arith; inside = omega arith; longer_inside = omega arith }
+shares_first a b lines longer = record { k = zero; within = omega arith; longer_within = omega arith; same = refl; after = omega arith; inside = omega arith; longer_inside = omega arith }
 
 -- a line feed more in front
 after_feed : (m : ℕ) (lines longer : List (List ℕ)) → SharesLine m lines longer → SharesLine (suc m) ([] ∷ lines) ([] ∷ longer)
 after_feed m lines longer h =
     let count : starts (suc h.k) ([] ∷ lines) ≡ 1 + starts h.k lines = sum_by-cons with_feed [] (take h.k lines) in
-    record { k = suc h.k; within = omega (arith, h.within); longer_within = omega (arith, h.longer_within); same = ap (λ ls. [] ∷ ls) h.same; behind = omega (arith, h.behind); inside = omega (arith, h.inside); longer_inside = omega (arith, h.longer_inside) }
+    record { k = suc h.k; within = omega (arith, h.within); longer_within = omega (arith, h.longer_within); same = ap (λ ls. [] ∷ ls) h.same; after = omega (arith, h.after); inside = omega (arith, h.inside); longer_inside = omega (arith, h.longer_inside) }
 
 -- another byte more in front
 after_byte : (x m : ℕ) (a b : List ℕ) (lines longer : List (List ℕ)) (k : ℕ) → k < length (a ∷ lines) → k < length (b ∷ longer) → take k (a ∷ lines) ≡ take k (b ∷ longer) → starts k (a ∷ lines) ≤ m
     → m < starts k (a ∷ lines) + length (slice_index_or (a ∷ lines) k []) + 1 → m < starts k (a ∷ lines) + length (slice_index_or (b ∷ longer) k []) + 1 → SharesLine (suc m) ((x ∷ a) ∷ lines) ((x ∷ b) ∷ longer)
-after_byte x m a b lines longer zero within longer_within same behind inside longer_inside =
-    record { k = zero; within = omega arith; longer_within = omega arith; same = refl; behind = omega arith; inside = omega arith; longer_inside = omega arith }
-after_byte x m a b lines longer (suc j) within longer_within same behind inside longer_inside =
+after_byte x m a b lines longer zero within longer_within same after inside longer_inside =
+    record { k = zero; within = omega arith; longer_within = omega arith; same = refl; after = omega arith; inside = omega arith; longer_inside = omega arith }
+after_byte x m a b lines longer (suc j) within longer_within same after inside longer_inside =
     let first : a ≡ b = cc in
     let rest : take j lines ≡ take j longer = cc in
     let count = sum_by-cons with_feed (x ∷ a) (take j lines) in
     let count_short = sum_by-cons with_feed a (take j lines) in
-    record { k = suc j; within = omega arith; longer_within = omega arith; same = λ i. (x ∷ first i) ∷ rest i; behind = omega arith; inside = omega arith; longer_inside = omega arith }
+    record { k = suc j; within = omega arith; longer_within = omega arith; same = λ i. (x ∷ first i) ∷ rest i; after = omega arith; inside = omega arith; longer_inside = omega arith }
 
 onto_both : (x n : ℕ) (lines longer : List (List ℕ)) → 0 < length lines → 0 < length longer → ((m : ℕ) → n ≡ suc m → SharesLine m lines longer) → SharesLine n (onto_first x lines) (onto_first x longer)
 onto_both x n [] longer some longer_some rest = absurd (omega arith)
@@ -59,7 +60,7 @@ onto_both x n (a ∷ lines) [] some longer_some rest = absurd (omega arith)
 onto_both x zero (a ∷ lines) (b ∷ longer) some longer_some rest = shares_first (x ∷ a) (x ∷ b) lines longer
 onto_both x (suc m) (a ∷ lines) (b ∷ longer) some longer_some rest =
     let h = rest m refl in
-    after_byte x m a b lines longer h.k h.within h.longer_within h.same h.behind h.inside h.longer_inside
+    after_byte x m a b lines longer h.k h.within h.longer_within h.same h.after h.inside h.longer_inside
 
 some_line : (text : List ℕ) → 0 < length (lines_of text)
 some_line [] = omega arith
@@ -99,12 +100,12 @@ at_same a b k i lt same = sym (get_or-take k a i [] lt) ∙ ap (λ ls. slice_ind
 
 module _ (limits : Limits) (text whole : List ℕ) (over : limits.text < length text) (whole_over : limits.text < length whole) (shared : SharesLine limits.text (lines_of text) (lines_of whole)) where
   passes : PassesLimit limits text shared.k
-  passes = (shared.behind, shared.inside, over)
+  passes = (shared.after, shared.inside, over)
 
   whole_passes : PassesLimit limits whole shared.k
   whole_passes =
       let start = ap (sum_by with_feed) shared.same in
-      (omega (arith, start, shared.behind), omega (arith, start, shared.longer_inside), whole_over)
+      (omega (arith, start, shared.after), omega (arith, start, shared.longer_inside), whole_over)
 
   -- a line before the shared one has the same faults in both texts
   module _ (i : ℕ) (earlier : i < shared.k) where
@@ -130,33 +131,33 @@ module _ (limits : Limits) (text whole : List ℕ) (over : limits.text < length 
         (subst (λ line. HasLineFault limits (PassesLimit limits whole i) (events_of (take i (lines_of text))) line f) (sym line_same)
         (subst (λ lines. HasLineFault limits (PassesLimit limits whole i) (events_of lines) (line_at limits whole i) f) (sym lines_same) has))
 
-  faultless_whole : (i : ℕ) → i ≤ shared.k → IsFaultless limits text i → IsFaultless limits whole i
+  faultless_whole : (i : ℕ) → i ≤ shared.k → HasNoLineFaultBefore limits text i → HasNoLineFaultBefore limits whole i
   faultless_whole i le earlier j f l has = earlier j f l (from_whole j (omega arith) f has)
 
-  not_behind : (i : ℕ) → IsFaultless limits text i → i ≤ shared.k
-  not_behind i earlier = by (lt_or_ge shared.k i)
+  not_after : (i : ℕ) → HasNoLineFaultBefore limits text i → i ≤ shared.k
+  not_after i earlier = by (lt_or_ge shared.k i)
     where
       by : (shared.k < i) ⊎ (i ≤ shared.k) → i ≤ shared.k
       by (inl l) = absurd (earlier shared.k faults.TextTooLong l passes)
       by (inr le) = le
 
-  lowest_whole : (i : ℕ) (f : Fault) → i ≤ shared.k → IsLowest (HasFault limits text i) (Some f) → IsLowest (HasFault limits whole i) (Some f)
+  lowest_whole : (i : ℕ) (f : Fault) → i ≤ shared.k → IsLowest number_of (HasFault limits text i) (Some f) → IsLowest number_of (HasFault limits whole i) (Some f)
   lowest_whole i f le lowest = by (lt_or_ge i shared.k)
     where
-      by : (i < shared.k) ⊎ (shared.k ≤ i) → IsLowest (HasFault limits whole i) (Some f)
+      by : (i < shared.k) ⊎ (shared.k ≤ i) → IsLowest number_of (HasFault limits whole i) (Some f)
       by (inl l) = IsLowest-same (HasFault limits text i) (HasFault limits whole i) (to_whole i l) (from_whole i l) (Some f) lowest
       by (inr ge) =
           let here : shared.k ≡ i = omega arith in
           let past : PassesLimit limits text i = subst (PassesLimit limits text) here passes in
           let f_is : f ≡ faults.TextTooLong = is_text_too_long f (lowest.1 faults.TextTooLong past) in
-          subst (λ g. IsLowest (HasFault limits whole i) (Some g)) (sym f_is)
+          subst (λ g. IsLowest number_of (HasFault limits whole i) (Some g)) (sym f_is)
           (text_too_long limits (PassesLimit limits whole i) (events_of (take i (lines_of whole))) (line_at limits whole i) (subst (PassesLimit limits whole) here whole_passes))
 
   reading_whole : (Holds : List (List ℕ) → Type 0) (stop : Option LineFault) → IsReading limits text Holds stop → IsReading limits whole Holds stop
   reading_whole Holds None h = absurd (h.0 shared.k faults.TextTooLong shared.within passes)
   reading_whole Holds (Some stop) h =
       let i = h.0 in
-      let le = not_behind i h.2.earlier in (
+      let le = not_after i h.2.earlier in (
         i,
         h.1,
         record {

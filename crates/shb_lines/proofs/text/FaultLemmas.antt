@@ -1,14 +1,15 @@
 -- Which fault of a line is the lowest.
 use Rattle.std.proofs.Common.{◌≡◌, ◌+◌, ◌<◌, ◌≤◌, ℕ, Bool, true, false, cond, List, [], ◌∷◌, ◌++◌, length, Option, None, Some, Ok, Err, refl, ap, subst, arith}
 use Rattle.std.specs.Str.Lines.{strip_carriage_return}
-use Rattle.shb_lines.specs.declared.event.Fault.{Fault}
-use Rattle.shb_lines.specs.declared.event.Fault.TheVariants as faults
+use Rattle.shb_lines.specs.declared.fault.Fault.{Fault}
+use Rattle.shb_lines.specs.declared.fault.Fault.TheVariants as faults
 use Rattle.shb_lines.specs.declared.event.Kind.{Kind}
-use Rattle.shb_lines.specs.declared.event.Limits.{Limits}
+use Rattle.shb_lines.specs.declared.limits.Limits.{Limits}
 use Rattle.shb_lines.specs.text.Grammar.{NamedEvent, Meaning}
 use Rattle.shb_lines.specs.text.Meaning.{event_with, meaning, meaning_with, operation_meaning}
 use Rattle.shb_lines.specs.text.Text.{threads_of}
-use Rattle.shb_lines.specs.text.Faults.{HasLineFault, IsLowest, number_of}
+use Rattle.shb_lines.specs.text.Faults.{HasLineFault, number_of}
+use Rattle.shb_lines.specs.Lowest.{IsLowest}
 
 -- the faults that the bytes of a line show
 abbrev IsOfGrammar : Fault → Type 0
@@ -47,7 +48,7 @@ module _ (limits : Limits) (past : Type 0) (before : List NamedEvent) (line : Li
   least faults.TextTooLong = omega arith
   least _ = omega arith
 
-  pub text_too_long : past → IsLowest Has (Some faults.TextTooLong)
+  pub text_too_long : past → IsLowest number_of Has (Some faults.TextTooLong)
   text_too_long p = (p, λ g _. least g)
 
   module _ (inside : past → ⊥) where
@@ -81,7 +82,7 @@ module _ (limits : Limits) (past : Type 0) (before : List NamedEvent) (line : Li
       refused_first f g e (of_events other gives is many) = absurd cc
       refused_first f g e (of_threads other gives is many) = absurd cc
 
-      pub refused : (f : Fault) → meaning (strip_carriage_return line) ≡ Err f → IsLowest Has (Some f)
+      pub refused : (f : Fault) → meaning (strip_carriage_return line) ≡ Err f → IsLowest number_of Has (Some f)
       refused f e = (has_refused f e, λ g h. refused_first f g e (later g h))
 
       module _ (e : NamedEvent) (gives : meaning (strip_carriage_return line) ≡ Ok (Some e)) where
@@ -96,7 +97,7 @@ module _ (limits : Limits) (past : Type 0) (before : List NamedEvent) (line : Li
         after_grammar g (of_events other also is many) = omega (arith, ap number_of is)
         after_grammar g (of_threads other also is many) = omega (arith, ap number_of is)
 
-        pub too_many_events : limits.events < length before + 1 → IsLowest Has (Some faults.TooManyEvents)
+        pub too_many_events : limits.events < length before + 1 → IsLowest number_of Has (Some faults.TooManyEvents)
         too_many_events many = ((e, gives, many), λ g h. after_grammar g (later g h))
 
         module _ (few : length before + 1 ≤ limits.events) where
@@ -105,7 +106,7 @@ module _ (limits : Limits) (past : Type 0) (before : List NamedEvent) (line : Li
           not_events g (of_events other also is many) = absurd (omega arith)
           not_events g (of_threads other also is many) = omega (arith, ap number_of is)
 
-          pub too_many_threads : limits.threads < length (threads_of (before ++ e ∷ [])) → IsLowest Has (Some faults.TooManyThreads)
+          pub too_many_threads : limits.threads < length (threads_of (before ++ e ∷ [])) → IsLowest number_of Has (Some faults.TooManyThreads)
           too_many_threads many = ((e, gives, many), λ g h. not_events g (later g h))
 
           nothing_later : (g : Fault) → length (threads_of (before ++ e ∷ [])) ≤ limits.threads → Later g → ⊥
@@ -113,5 +114,5 @@ module _ (limits : Limits) (past : Type 0) (before : List NamedEvent) (line : Li
           nothing_later g fewer (of_events other also is many) = omega arith
           nothing_later g fewer (of_threads other also is many) = omega (arith, many_threads other also many)
 
-          pub accepted : length (threads_of (before ++ e ∷ [])) ≤ limits.threads → IsLowest Has None
+          pub accepted : length (threads_of (before ++ e ∷ [])) ≤ limits.threads → IsLowest number_of Has None
           accepted fewer g h = nothing_later g fewer (later g h)

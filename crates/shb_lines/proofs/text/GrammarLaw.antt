@@ -10,7 +10,7 @@ use Rattle.std.proofs.lemmas.List.Sums.{fails_before_first, position_or_len_is}
 use Rattle.std.proofs.Math.Seq.{drop-append-add, drop-append_seam, get_or-append_seam, take-append_seam}
 use Rattle.shb_lines.specs.declared.event.Kind.{Kind}
 use Rattle.shb_lines.specs.declared.event.Kind.TheVariants as kinds
-use Rattle.shb_lines.specs.declared.event.Fault.TheVariants as faults
+use Rattle.shb_lines.specs.declared.fault.Fault.TheVariants as faults
 use Rattle.shb_lines.specs.text.Grammar.{HasOperand, HasOperation, HasWord, IsLine, Lacks, Meaning, is_mark, word_of}
 use Rattle.shb_lines.specs.text.Meaning.{event_with, is_bar, is_opening, kind_of, mark_operand, meaning, meaning_with, name_in, operand_of, operation_meaning}
 use Rattle.shb_lines.proofs.text.Meanings.{meaning_is}
@@ -43,8 +43,8 @@ position_at : (c : ℕ) (front rest : List ℕ) → Lacks c front → position_o
 position_at c [] rest lacks = ap (λ t. cond (not t) (1 + position_or_len (is c) rest) 0) (is_same c)
 position_at c (x ∷ front) rest lacks =
     let here = is_false x c (All-head (λ b. b ≢ c) x front lacks) in
-    let behind = position_at c front rest (All-tail (λ b. b ≢ c) x front lacks) in
-    ap (λ t. cond (not t) (1 + position_or_len (is c) (front ++ c ∷ rest)) 0) here ∙ omega (arith, behind)
+    let after = position_at c front rest (All-tail (λ b. b ≢ c) x front lacks) in
+    ap (λ t. cond (not t) (1 + position_or_len (is c) (front ++ c ∷ rest)) 0) here ∙ omega (arith, after)
 
 position_lacks : (c : ℕ) (bytes : List ℕ) → Lacks c bytes → position_or_len (is c) bytes ≡ length bytes
 position_lacks c bytes lacks = position_or_len_is (is c) bytes (length bytes) 0 (omega arith) (λ k l. is_false _ c (lacks k 0 l)) (λ l. absurd (omega arith))
@@ -160,25 +160,25 @@ word_lacks kinds.Join = lacks_of 40 (codes "join") refl
 word_lacks kinds.BeginMark = lacks_of 40 (codes "begin") refl
 word_lacks kinds.EndMark = lacks_of 40 (codes "end") refl
 
-behind_word : (operation word call : List ℕ) → operation ≡ word ++ call → drop (length word) operation ≡ call
-behind_word operation word call e = ap (drop (length word)) e ∙ drop-append_seam word call
+after_word : (operation word call : List ℕ) → operation ≡ word ++ call → drop (length word) operation ≡ call
+after_word operation word call e = ap (drop (length word)) e ∙ drop-append_seam word call
 
-behind_all : (operation word : List ℕ) → operation ≡ word → drop (length word) operation ≡ []
-behind_all operation word e = ap (drop (length word)) e ∙ drop_all word
+after_all : (operation word : List ℕ) → operation ≡ word → drop (length word) operation ≡ []
+after_all operation word e = ap (drop (length word)) e ∙ drop_all word
 
 operand_complete : (mark : Bool) (operation word operand : List ℕ) → Lacks 40 word → HasOperand mark operation word operand → HasWord operation word × (operand_of mark (drop (length word) operation) ≡ Some operand)
 unfolding closed mark_operand
 operand_complete false operation word name lacks h = (
   record { word_ends = lacks; spelled = inr (name ++ 41 ∷ [], h.spelled) },
-  ap name_in (behind_word operation word (closed name) h.spelled) ∙ name_in-closed name h.named,
+  ap name_in (after_word operation word (closed name) h.spelled) ∙ name_in-closed name h.named,
 )
 operand_complete true operation word operand lacks (inl e, none) = (
   record { word_ends = lacks; spelled = inl e },
-  ap mark_operand (behind_all operation word e) ∙ ap Some (sym none),
+  ap mark_operand (after_all operation word e) ∙ ap Some (sym none),
 )
 operand_complete true operation word operand lacks (inr h, none) = (
   record { word_ends = lacks; spelled = inr (h.0 ++ 41 ∷ [], h.1) },
-  ap mark_operand (behind_word operation word (closed h.0) h.1) ∙ mark_operand-closed h.0 ∙ ap Some (sym none),
+  ap mark_operand (after_word operation word (closed h.0) h.1) ∙ mark_operand-closed h.0 ∙ ap Some (sym none),
 )
 
 name_in-some : (call name : List ℕ) → name_in call ≡ Some name → (2 < length call) × (slice_index call (length call - 1) ≡ 41) × (take (length call - 2) (drop 1 call) ≡ name)
@@ -197,10 +197,10 @@ operand_sound mark operation word operand has e = by mark has.spelled e
     in_call rest inner spelled call = spelled ∙ ap (λ c. word ++ c) call
 
     by : (m : Bool) → (operation ≡ word) ⊎ ((rest : List ℕ) × (operation ≡ word ++ 40 ∷ rest)) → operand_of m (drop (length word) operation) ≡ Some operand → HasOperand m operation word operand
-    by false (inl bare) found = absurd (let none = ap name_in (behind_all operation word bare) in cc)
-    by true (inl bare) found = (inl bare, (let none = ap mark_operand (behind_all operation word bare) in cc))
+    by false (inl bare) found = absurd (let none = ap name_in (after_all operation word bare) in cc)
+    by true (inl bare) found = (inl bare, (let none = ap mark_operand (after_all operation word bare) in cc))
     by false (inr h) found =
-        let some = name_in-some (40 ∷ h.0) operand (sym (ap name_in (behind_word operation word (40 ∷ h.0) h.1)) ∙ found) in
+        let some = name_in-some (40 ∷ h.0) operand (sym (ap name_in (after_word operation word (40 ∷ h.0) h.1)) ∙ found) in
         let size = some.0 in
         let inner : List ℕ = take (length h.0 - 1) h.0 in
         let count : length (40 ∷ h.0) - 2 ≡ length h.0 - 1 = omega arith in
@@ -211,7 +211,7 @@ operand_sound mark operation word operand has e = by mark has.spelled e
           spelled = in_call h.0 inner h.1 (closed_of h.0 (omega arith) some.1) ∙ ap (λ n. word ++ closed n) name_is;
         }
     by true (inr h) found =
-        let some = mark_operand-some h.0 operand (sym (ap mark_operand (behind_word operation word (40 ∷ h.0) h.1)) ∙ found) in
+        let some = mark_operand-some h.0 operand (sym (ap mark_operand (after_word operation word (40 ∷ h.0) h.1)) ∙ found) in
         let size = some.0 in
         (inr (take (length h.0 - 1) h.0, in_call h.0 _ h.1 (closed_of h.0 (omega arith) some.1)), some.2)
 

@@ -2,8 +2,8 @@
 use Rattle.std.proofs.Common.{◌≡◌, ◌+◌, ◌*◌, ◌≤◌, ℕ, List, [], ◌∷◌, length, map, Option, None, Some, refl, sym, ap, subst, ◌∙◌, arith}
 use Rattle.std.specs.List.{AllByRecursion, AllZip}
 use Rattle.std.proofs.lemmas.List.{length-map}
-use Rattle.shb_lines.specs.declared.event.Limits.{Limits}
-use Rattle.shb_lines.specs.declared.event.LineFault.{LineFault}
+use Rattle.shb_lines.specs.declared.limits.Limits.{Limits}
+use Rattle.shb_lines.specs.declared.fault.LineFault.{LineFault}
 use Rattle.shb_lines.specs.declared.names.Span.{Span}
 use Rattle.shb_lines.specs.declared.reader.Reader.{Reader}
 use Rattle.shb_lines.specs.declared.trace.Places.{Places}

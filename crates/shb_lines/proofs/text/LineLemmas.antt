@@ -56,10 +56,10 @@ pub StandsAt-inner : (text line : List ℕ) (start at : ℕ) (bytes : List ℕ) 
 StandsAt-inner text line start at bytes h within is =
     let n : ℕ = length line in
     let whole : take n (drop start text) ≡ take (at + (n - at)) (drop start text) = ap (λ k. take k (drop start text)) (omega arith) in
-    let behind : drop at line ≡ take (n - at) (drop (start + at) text) = ap (drop at) (sym h.reads ∙ whole) ∙ drop-take at (n - at) (drop start text) ∙ ap (take (n - at)) (drop-drop at start text) in
+    let after : drop at line ≡ take (n - at) (drop (start + at) text) = ap (drop at) (sym h.reads ∙ whole) ∙ drop-take at (n - at) (drop start text) ∙ ap (take (n - at)) (drop-drop at start text) in
     record {
       within = let fits = h.within in omega arith;
-      reads = sym (is ∙ ap (take (length bytes)) behind ∙ take-take (length bytes) (n - at) (drop (start + at) text) (omega arith));
+      reads = sym (is ∙ ap (take (length bytes)) after ∙ take-take (length bytes) (n - at) (drop (start + at) text) (omega arith));
     }
 
 pub StandsAt-front : (text line : List ℕ) (start : ℕ) (bytes : List ℕ) → StandsAt text line (record { start = start; len = length line }) → length bytes ≤ length line → bytes ≡ take (length bytes) line → StandsAt text bytes (record { start = start; len = length bytes })

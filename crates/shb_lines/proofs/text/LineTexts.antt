@@ -3,11 +3,11 @@ use Rattle.std.proofs.Common.{◌≡◌, ◌&&◌, ◌+◌, ◌-◌, ◌==◌, �
 use Rattle.std.specs.List.{AllByRecursion, after_first, cons_option, enumerate_from, filter_map, list_all, onto_first, position_or_len}
 use Rattle.std.specs.Str.Lines.{strip_carriage_return}
 use Rattle.std.proofs.lemmas.List.{take_all}
-use Rattle.shb_lines.specs.declared.event.Fault.TheVariants as faults
-use Rattle.shb_lines.specs.declared.event.Limits.{Limits}
-use Rattle.shb_lines.specs.declared.event.LineFault.{LineFault}
+use Rattle.shb_lines.specs.declared.fault.Fault.TheVariants as faults
+use Rattle.shb_lines.specs.declared.limits.Limits.{Limits}
+use Rattle.shb_lines.specs.declared.fault.LineFault.{LineFault}
 use Rattle.shb_lines.specs.text.Limits.{most_line}
-use Rattle.shb_lines.specs.text.Faults.{IsFaultless}
+use Rattle.shb_lines.specs.text.Faults.{HasNoLineFaultBefore}
 use Rattle.shb_lines.specs.text.Grammar.{Meaning, NamedEvent}
 use Rattle.shb_lines.specs.text.Meaning.{is_bar, meaning}
 use Rattle.shb_lines.specs.text.Spans.{line_from}
@@ -81,7 +81,7 @@ line_texts_from number (line ∷ lines) all = by (meaning (strip_carriage_return
     by (Err fault) e short rest = rest
 
 module _ (limits : Limits) (text : List ℕ) (standard : limits.line ≤ most_line) where
-  faultless_lines : (n : ℕ) → IsFaultless limits text n → AllByRecursion IsShortLine (take n (lines_of text))
+  faultless_lines : (n : ℕ) → HasNoLineFaultBefore limits text n → AllByRecursion IsShortLine (take n (lines_of text))
   faultless_lines n faultless =
       short_lines (lines_of text) n (lines_of-one_line text)
       (λ k lt. let no : limits.line < length (slice_index_or (lines_of text) k []) → ⊥ = λ long. faultless k faults.LineTooLong lt long in omega arith)
@@ -111,10 +111,10 @@ line_of_event trace e h lt = at_each trace.lines e h.line_texts (omega (arith, h
 
 -- a line's location has few bytes and no line feed
 pub location_short : (line : List ℕ) → IsLineText line → IsShortLine (location_of line)
-location_short line h = behind (after_first is_bar line) (behind line (record { most = h.most; one_line = h.one_line }))
+location_short line h = after (after_first is_bar line) (after line (record { most = h.most; one_line = h.one_line }))
   where
-    behind : (bytes : List ℕ) → IsShortLine bytes → IsShortLine (after_first is_bar bytes)
-    behind bytes short = let most = short.most in record {
+    after : (bytes : List ℕ) → IsShortLine bytes → IsShortLine (after_first is_bar bytes)
+    after bytes short = let most = short.most in record {
       most = omega (arith, length-drop (position_or_len is_bar bytes + 1) bytes);
       one_line = drop-one_line (position_or_len is_bar bytes + 1) bytes short.one_line;
     }

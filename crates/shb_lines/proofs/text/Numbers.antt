@@ -147,9 +147,9 @@ module _ (tables : Tables) (distinct : IsDistinct bytes_eq tables.variables) whe
       go (inl known) h = inl known
       go (inr new) (inr h) = later (length names) e events k y (inr h)
       go (inr new) (inl h) =
-          let behind = place-new names name (omega arith) in
+          let after = place-new names name (omega arith) in
           let last : y ≡ length names = omega (arith, h, length-with_name_le names name) in
-          inr (zero, omega arith, variable ∙ ap (λ n. Some n) (place ∙ behind ∙ sym last))
+          inr (zero, omega arith, variable ∙ ap (λ n. Some n) (place ∙ after ∙ sym last))
 
   earlier : (names : List (List ℕ)) (events : List Event) (located : List LocatedEvent) → AllZip (IsEventOf tables) events located → tables.variables ≡ with_names names (flat_map variables_on located)
       → (x y : ℕ) → y < x → (k : ℕ) → variable_at events k ≡ Some x → HasEarlier (length names) events k y

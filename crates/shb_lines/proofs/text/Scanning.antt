@@ -58,9 +58,9 @@ first_line text start end within end_within end_is = by (lt_or_eq _ _ (omega (ar
         → (rest : List (List ℕ)) × (lines_of tail ≡ part text start end ∷ rest) × StartsAt text (end + 1) rest × (length (part text start end) ≡ end - start)
     by (inl before) =
         let len : end - start ≡ position_or_len (λ b. b == 10) tail = omega arith in
-        let behind : after_first (λ b. b == 10) tail ≡ drop (end + 1) text = drop-drop _ start text ∙ ap (λ n. drop n text) (omega arith) in (
+        let after : after_first (λ b. b == 10) tail ≡ drop (end + 1) text = drop-drop _ start text ∙ ap (λ n. drop n text) (omega arith) in (
           lines_of (drop (end + 1) text),
-          slice_split_first (λ b. b == 10) tail 0 before ∙ ap (λ rest. before_first (λ b. b == 10) tail ∷ lines_of rest) behind ∙ ap (λ n. take n tail ∷ lines_of (drop (end + 1) text)) (sym len),
+          slice_split_first (λ b. b == 10) tail 0 before ∙ ap (λ rest. before_first (λ b. b == 10) tail ∷ lines_of rest) after ∙ ap (λ n. take n tail ∷ lines_of (drop (end + 1) text)) (sym len),
           inl (omega (arith, length-drop start text), refl),
           omega (arith, length-take (end - start) tail),
         )

@@ -1,9 +1,14 @@
 -- Conflicts, races and their list.
 use Rattle.std.specs.Prelude.{◌≡◌, ◌≢◌, ℕ, ◌<◌, ◌⊎◌, ◌↔◌, List, Option, Some, option_and_then, Contains, AllPairs}
 use Rattle.shb_lines.specs.declared.event.Event.{Event}
+use Rattle.shb_lines.specs.declared.event.Pair.{Pair}
 use Rattle.shb_lines.specs.declared.event.Op.TheVariants.{Write}
 use Rattle.shb_lines.specs.events.Events.{thread_at, op_at, variable_of}
 use Rattle.shb_lines.specs.events.Order.{BelowPred}
+
+-- the two positions of a pair
+abbrev pub ends : Pair → ℕ × ℕ
+ends pair = (pair.first, pair.second)
 
 -- the variable that the event at a position accesses
 abbrev pub variable_at : List Event → ℕ → Option ℕ

@@ -1,12 +1,13 @@
 -- The faults of a text under limits, and the first of them.
 use Rattle.std.specs.Prelude.{◌≡◌, ◌+◌, ◌<◌, ◌≤◌, ℕ, List, [], ◌∷◌, ◌++◌, length, map, take, slice_index_or, sum_by, Option, None, Some, Ok, Err}
 use Rattle.std.specs.Str.Lines.{strip_carriage_return}
-use Rattle.shb_lines.specs.declared.event.Fault.{Fault}
-use Rattle.shb_lines.specs.declared.event.Fault.TheVariants as faults
-use Rattle.shb_lines.specs.declared.event.Limits.{Limits}
+use Rattle.shb_lines.specs.declared.fault.Fault.{Fault}
+use Rattle.shb_lines.specs.declared.fault.Fault.TheVariants as faults
+use Rattle.shb_lines.specs.declared.limits.Limits.{Limits}
 use Rattle.shb_lines.specs.text.Grammar.{NamedEvent}
 use Rattle.shb_lines.specs.text.Meaning.{meaning}
 use Rattle.shb_lines.specs.text.Text.{lines_of, threads_of, trace_of}
+use Rattle.shb_lines.specs.Lowest.{IsLowest}
 
 -- in one line the lowest number wins
 abbrev pub number_of : Fault → ℕ
@@ -39,11 +40,6 @@ HasLineFault limits past before line faults.TooManyEvents = (e : NamedEvent) × 
 HasLineFault limits past before line faults.TooManyThreads = (e : NamedEvent) × (meaning (strip_carriage_return line) ≡ Ok (Some e)) × (limits.threads < length (threads_of (before ++ e ∷ [])))
 HasLineFault limits past before line _ = ⊥
 
--- the fault of lowest number, if there is one
-abbrev pub IsLowest : (Fault → Type 0) → Option Fault → Type 0
-IsLowest Has None = (fault : Fault) → Has fault → ⊥
-IsLowest Has (Some fault) = Has fault × ((other : Fault) → Has other → number_of fault ≤ number_of other)
-
 -- lines are counted from 0 here
 module _ (limits : Limits) (text : List ℕ) where
   abbrev pub line_at : ℕ → List ℕ
@@ -62,11 +58,11 @@ module _ (limits : Limits) (text : List ℕ) where
   HasFault i fault = HasLineFault limits (PassesLimit i) (map (λ e. e.event) (trace_of (take i (lines_of text)))) (line_at i) fault
 
   -- no line before line i has a fault
-  abbrev pub IsFaultless : ℕ → Type 0
-  IsFaultless i = (k : ℕ) (fault : Fault) → k < i → HasFault k fault → ⊥
+  abbrev pub HasNoLineFaultBefore : ℕ → Type 0
+  HasNoLineFaultBefore i = (k : ℕ) (fault : Fault) → k < i → HasFault k fault → ⊥
 
   -- the least line with a fault, and its fault of lowest number
-  pub record IsFirstFault (i : ℕ) (fault : Fault) : Type 0 where
+  pub record IsFirstLineFault (i : ℕ) (fault : Fault) : Type 0 where
     pub within : i < length (lines_of text)
-    pub lowest : IsLowest (HasFault i) (Some fault)
-    pub earlier : IsFaultless i
+    pub lowest : IsLowest number_of (HasFault i) (Some fault)
+    pub earlier : HasNoLineFaultBefore i

@@ -1,7 +1,7 @@
 -- What a reader holds of the lines that it has read.
 use Rattle.std.specs.Prelude.{◌≡◌, ◌-◌, ℕ, List, [], ◌∷◌, ◌++◌, take, drop, Option, None, Some}
 use Rattle.std.specs.List.{AllZip}
-use Rattle.shb_lines.specs.declared.event.Fault.{Fault}
+use Rattle.shb_lines.specs.declared.fault.Fault.{Fault}
 use Rattle.shb_lines.specs.declared.reader.Reader.{Reader}
 use Rattle.shb_lines.specs.text.Spans.{IsLineFrom}
 use Rattle.shb_lines.specs.text.Reader.{AllStand, tables_of}

@@ -1,6 +1,6 @@
 -- What a line's reading says, without where its bytes lie in memory.
 use Rattle.std.specs.Prelude.{◌≡◌, ◌+◌, ◌≤◌, List, ℕ, length, take, drop, Option, None, Some, Result, Ok, Err}
-use Rattle.shb_lines.specs.declared.event.Fault.{Fault}
+use Rattle.shb_lines.specs.declared.fault.Fault.{Fault}
 use Rattle.shb_lines.specs.declared.grammar.LineEvent.{LineEvent}
 use Rattle.shb_lines.specs.text.Grammar.{NamedEvent, Meaning}
 

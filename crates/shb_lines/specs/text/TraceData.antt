@@ -3,10 +3,10 @@ use Rattle.std.specs.Prelude.{◌≡◌, ◌+◌, ◌≤◌, ℕ, List, length, 
 use Rattle.std.specs.List.{AllByRecursion, AllZip, IsDistinct, after_first}
 use Rattle.std.specs.Str.{bytes_eq}
 use Rattle.shb_lines.specs.declared.event.Event.{Event}
-use Rattle.shb_lines.specs.declared.event.Limits.{Limits}
-use Rattle.shb_lines.specs.declared.event.LineFault.{LineFault}
+use Rattle.shb_lines.specs.declared.limits.Limits.{Limits}
+use Rattle.shb_lines.specs.declared.fault.LineFault.{LineFault}
 use Rattle.shb_lines.specs.declared.event.Sizes.{Sizes}
-use Rattle.shb_lines.specs.text.Faults.{IsFaultless, IsFirstFault}
+use Rattle.shb_lines.specs.text.Faults.{HasNoLineFaultBefore, IsFirstLineFault}
 use Rattle.shb_lines.specs.text.Limits.{most_events}
 use Rattle.shb_lines.specs.text.Meaning.{is_bar}
 use Rattle.shb_lines.specs.text.Numbers.{IsEventOf, Tables, events_of, tables_of_events}
@@ -32,8 +32,8 @@ pub record IsTraceOf (lines : List (List ℕ)) (trace : TraceData) : Type 0 wher
 
 -- what holds of the lines before the first fault of a text, and that fault; of all lines where there is none
 abbrev pub IsReading : Limits → List ℕ → (List (List ℕ) → Type 0) → Option LineFault → Type 0
-IsReading limits text Holds None = IsFaultless limits text (length (lines_of text)) × Holds (lines_of text)
-IsReading limits text Holds (Some stop) = (before : ℕ) × (stop.line ≡ before + 1) × IsFirstFault limits text before stop.fault × Holds (take before (lines_of text))
+IsReading limits text Holds None = HasNoLineFaultBefore limits text (length (lines_of text)) × Holds (lines_of text)
+IsReading limits text Holds (Some stop) = (before : ℕ) × (stop.line ≡ before + 1) × IsFirstLineFault limits text before stop.fault × Holds (take before (lines_of text))
 
 -- the trace of the lines before the first fault of a text, and that fault
 abbrev pub IsReadingOf : Limits → List ℕ → TraceData → Option LineFault → Type 0

@@ -1,7 +1,7 @@
 -- What the program says of each fault.
 use Rattle.std.specs.Prelude.{ℕ, List, codes}
-use Rattle.shb_lines.specs.declared.event.Fault.{Fault}
-use Rattle.shb_lines.specs.declared.event.Fault.TheVariants as faults
+use Rattle.shb_lines.specs.declared.fault.Fault.{Fault}
+use Rattle.shb_lines.specs.declared.fault.Fault.TheVariants as faults
 
 abbrev pub words_of : Fault → List ℕ
 words_of faults.TextTooLong = codes "the text is longer than 1073741824 bytes"

@@ -14,8 +14,8 @@ returns-clause-verdict g c =
     let reading : ReadsText 1073741825 known left (λ text. IsReadingOf limits text parsed.trace parsed.stop) = rw c.standard.ensures at c.in_ok-parsed.ensures.reading in
     let trace = c.in_ok-trace.trace in
     let told = g.Q.Source.remaining c.args.report_source.now in
-    let behind = g.Q.Source.remaining c.judge_report.new.source in
-    reads_then 1073741825 known left _ _ reading (λ text r. reads_then 1073741825 told behind _ _ c.in_ok-verdict.ensures.verdict (λ report v.
+    let after = g.Q.Source.remaining c.judge_report.new.source in
+    reads_then 1073741825 known left _ _ reading (λ text r. reads_then 1073741825 told after _ _ c.in_ok-verdict.ensures.verdict (λ report v.
     (checked_of text report parsed.trace parsed.stop trace.events.now trace.trace.now c.in_ok-verdict.verdict trace.meets trace.of_trace c.in_ok-trace.ensures.accepted r v)))
 
 pub returns-in_default-clause-cut : goal.returns-in_default-clause-cut
@@ -26,8 +26,8 @@ returns-in_default-clause-cut g c =
     let reading : ReadsText 1073741825 known left (λ text. IsReadingOf limits text parsed.trace parsed.stop) = rw c.standard.ensures at c.in_ok-parsed.ensures.reading in
     let trace = c.in_ok-trace.trace in
     let told = g.Q.Source.remaining c.args.report_source.now in
-    let behind = g.Q.Source.remaining c.judge_report.new.source in
-    reads_then 1073741825 known left _ _ reading (λ text r. reads_then 1073741825 told behind _ _ c.in_ok-verdict.ensures.verdict (λ report v.
+    let after = g.Q.Source.remaining c.judge_report.new.source in
+    reads_then 1073741825 known left _ _ reading (λ text r. reads_then 1073741825 told after _ _ c.in_ok-verdict.ensures.verdict (λ report v.
     record {
       verdict = c.in_ok-verdict.verdict;
       checked = (checked_of text report parsed.trace parsed.stop trace.events.now trace.trace.now c.in_ok-verdict.verdict trace.meets trace.of_trace c.in_ok-trace.ensures.accepted r v);

@@ -2,11 +2,11 @@ use Rattle.std.proofs.Common.{◌++◌, ℕ, List, Vec, Global, refl, ap, ◌∙
 use Rattle.std.specs.Prelude.{map}
 use Rattle.std.proofs.lemmas.List.{take_all}
 use Rattle.shb_lines.specs.declared.event.Pair.{Pair}
-use Rattle.shb_pairs.specs.Races.{ends}
 use Rattle.shb_pairs.specs.Search.{racing}
 use Rattle.shb_pairs.proofs.Runs.{pairs_more_yes, pairs_more_no}
 use Rattle.shb_pairs.proofs.races.add_races_among.Goals as goal
 use Rattle.shb_pairs.proofs.races.add_races_among.Goals.{then-is_race_by+in_ok-push, else-is_race_by}
+use Rattle.shb_lines.specs.events.Race.{ends}
 
 pub is_race_by-requires-clause-earlier : goal.is_race_by-requires-clause-earlier
 is_race_by-requires-clause-earlier g c = c.requires.earlier c.loop-first.first-index 0 c.loop-first-test.true

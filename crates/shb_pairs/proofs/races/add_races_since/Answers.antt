@@ -1,9 +1,9 @@
 use Rattle.std.proofs.Common.{◌∙◌, refl, sym}
 use Rattle.std.specs.Prelude.{map}
 use Rattle.std.proofs.lemmas.List.{append-nil}
-use Rattle.shb_pairs.specs.Races.{ends}
 use Rattle.shb_pairs.proofs.Settled.{are_since, not_write_at, seen_access}
 use Rattle.shb_pairs.proofs.races.add_races_since.Goals as goal
+use Rattle.shb_lines.specs.events.Race.{ends}
 
 pub bounds-ordered-second : goal.bounds-ordered-second
 bounds-ordered-second g c = (seen_access c.args.ordered.now.trace.now.events.now c.requires.settled.0 c.args.accesses.now c.args.place c.requires.settled.1 c.requires.inside).1

@@ -2,9 +2,9 @@ use Rattle.std.proofs.Common.{◌≡◌, ◌-◌, ◌++◌, ℕ, List, get_or, a
 use Rattle.std.specs.Prelude.{flat_map, take, drop}
 use Rattle.std.proofs.lemmas.Bool.{eqb-true}
 use Rattle.std.proofs.lemmas.List.{length-map}
-use Rattle.shb_lines.specs.events.Race.{Race}
+use Rattle.shb_lines.specs.events.Race.{Race, ends}
 use Rattle.shb_pairs.specs.Accesses.{accesses_in}
-use Rattle.shb_pairs.specs.Races.{ends, races_with}
+use Rattle.shb_pairs.specs.Races.{races_with}
 use Rattle.shb_pairs.proofs.ByThread.{listed_of_trace}
 use Rattle.shb_pairs.proofs.Runs.{run_first, run_more}
 use Rattle.shb_pairs.proofs.Settled.{next_seen, none_added}

@@ -1,9 +1,10 @@
 use Rattle.std.proofs.Common.{◌≡◌, ◌-◌, ◌≤◌, map}
 use Rattle.std.specs.Prelude.{flat_map, take, drop, IfSome}
 use Rattle.shb_pairs.specs.Accesses.{accesses_in}
-use Rattle.shb_pairs.specs.Races.{ends, races_with}
+use Rattle.shb_pairs.specs.Races.{races_with}
 use Rattle.shb_pairs.specs.Search.{IsSettled}
 use Rattle.shb_pairs.proofs.races.races_in.Given as goal
+use Rattle.shb_lines.specs.events.Race.{ends}
 
 abbrev pub invariant-loop-place : goal.invariant-loop-place
 invariant-loop-place g l = record {

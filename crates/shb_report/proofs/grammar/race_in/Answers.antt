@@ -12,5 +12,5 @@ returns-in_default-labelled c = λ i j p q e.
 pub returns-in-None : goal.returns-in-None
 returns-in-None c = λ i j p q e.
     let first = race_first c.args.line.now c.args.number c.in-Some.numbers.now i j (omega (arith, c.ranges.number.fits)) c.in-Some.ensures e in
-    let second = peel (codes ": ") c.in-Some.numbers.now c.in-Some-labelled.first i c.in-Some-labelled.behind_first.now (codes " " ++ decimal j) c.in-Some-labelled.ensures.0 p c.in-Some-labelled.ensures.1 refl first in
+    let second = peel (codes ": ") c.in-Some.numbers.now c.in-Some-labelled.first i c.in-Some-labelled.after_first.now (codes " " ++ decimal j) c.in-Some-labelled.ensures.0 p c.in-Some-labelled.ensures.1 refl first in
     c.in-None.ensures j q (sym second.1)

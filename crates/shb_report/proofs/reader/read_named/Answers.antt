@@ -9,5 +9,5 @@ returns-in_default-named_in c = (refl, λ l label least. lacks_named _ _ _ c.in-
 
 pub returns : goal.returns
 returns c =
-    let taken = subst (λ p. TakesLine c.args.text.now c.args.at.now p c.in-Some.line.now) (sym c.behind.ensures) c.in-Some.ensures in
+    let taken = subst (λ p. TakesLine c.args.text.now c.args.at.now p c.in-Some.line.now) (sym c.after.ensures) c.in-Some.ensures in
     named_taken _ _ _ _ _ _ _ taken c.in-Some-named_in.ensures.1 c.in-Some-named_in.ensures.0 _ refl

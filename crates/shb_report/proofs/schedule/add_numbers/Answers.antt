@@ -10,5 +10,5 @@ returns-in_default g c =
 
 pub loop-rest-preserved : goal.loop-rest-preserved
 loop-rest-preserved g c =
-    one_more_listed _ _ _ _ _ c.in-Some.number c.in-Some.behind.now _ c.loop-rest.invariant c.in-Some.ensures.0 c.in-Some.ensures.1
+    one_more_listed _ _ _ _ _ c.in-Some.number c.in-Some.after.now _ c.loop-rest.invariant c.in-Some.ensures.0 c.in-Some.ensures.1
     (c.in_ok-push.ensures.items ∙ ap (λ x. c.loop-rest.numbers.items ++ x ∷ []) c.keep.ensures)

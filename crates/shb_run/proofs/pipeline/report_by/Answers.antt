@@ -1,10 +1,10 @@
 use Rattle.std.proofs.Common.{rules, ◌≡◌, List, length, map, subst, sym}
 use Rattle.shb_lines.specs.declared.event.Pair.{Pair}
-use Rattle.shb_write.specs.Written.{ends}
 use Rattle.shb_run.specs.Written.{ListedBy}
 use Rattle.shb_run.proofs.Endings.{cut_known, memory_known, reports_of}
 use Rattle.shb_run.proofs.Reports.{races_listed}
 use Rattle.shb_run.proofs.pipeline.report_by.Goals as goal
+use Rattle.shb_lines.specs.events.Race.{ends}
 
 pub write_report-requires-clause-races : goal.write_report-requires-clause-races
 write_report-requires-clause-races g c κs alive =

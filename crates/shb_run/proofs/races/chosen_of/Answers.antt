@@ -1,8 +1,7 @@
 -- The races that lead are those of the race list that do.
 use Rattle.std.proofs.Common.{List, map, subst, sym}
 use Rattle.shb_lines.specs.declared.event.Pair.{Pair}
-use Rattle.shb_lines.specs.events.Race.{IsRaceList}
-use Rattle.shb_write.specs.Written.{ends}
+use Rattle.shb_lines.specs.events.Race.{IsRaceList, ends}
 use Rattle.shb_run.specs.declared.settings.Choice.TheVariants as choices
 use Rattle.shb_run.specs.Written.{ListedBy}
 use Rattle.shb_write.proofs.Reports.{pairs_in_range}

@@ -1,7 +1,7 @@
 use Rattle.std.proofs.Common.{◌≡◌, false, map, take}
-use Rattle.shb_write.specs.Written.{ends}
 use Rattle.shb_write.proofs.Blocks.{HasBlocks}
 use Rattle.shb_write.proofs.write.write_pairs.Given as goal
+use Rattle.shb_lines.specs.events.Race.{ends}
 
 abbrev pub invariant-loop-pair : goal.invariant-loop-pair
 invariant-loop-pair g l = record {

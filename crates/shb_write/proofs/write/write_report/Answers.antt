@@ -1,11 +1,11 @@
 use Rattle.std.proofs.Common.{arith, inr, map, subst}
 use Rattle.shb_io.proofs.Growth.{Appends-trans, AppendsPrefix-after, AppendsPrefix-front}
 use Rattle.shb_lines.specs.events.Discipline.{IsDisciplined}
-use Rattle.shb_write.specs.Written.{ends}
 use Rattle.shb_report.specs.Report.{tail_bytes}
 use Rattle.shb_write.proofs.Blocks.{AppendsFront-then}
 use Rattle.shb_write.proofs.Reports.{blocks_cut, blocks_of, on_memory, on_sink, pairs_in_range, report_cut, report_written}
 use Rattle.shb_write.proofs.write.write_report.Goals as goal
+use Rattle.shb_lines.specs.events.Race.{ends}
 
 pub places_of-requires : goal.places_of-requires
 places_of-requires g c =

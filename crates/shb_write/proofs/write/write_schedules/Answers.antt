@@ -1,8 +1,8 @@
 use Rattle.std.proofs.Common.{true, map, subst}
 use Rattle.shb_lines.specs.events.Discipline.{IsDisciplined}
-use Rattle.shb_write.specs.Written.{ends}
 use Rattle.shb_write.proofs.Blocks.{WritesBlocks-none}
 use Rattle.shb_write.proofs.write.write_schedules.Goals as goal
+use Rattle.shb_lines.specs.events.Race.{ends}
 
 pub returns-in_err-prepared-clause-blocks : goal.returns-in_err-prepared-clause-blocks
 returns-in_err-prepared-clause-blocks g c =

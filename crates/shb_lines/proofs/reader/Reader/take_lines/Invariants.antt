@@ -1,6 +1,6 @@
 -- The lines before the place where the next one begins are read, and have no fault.
 use Rattle.std.proofs.Common.{◌+◌, ◌-◌, ◌<◌, ◌≤◌, length, take, vec_len}
-use Rattle.shb_lines.specs.text.Faults.{IsFaultless}
+use Rattle.shb_lines.specs.text.Faults.{HasNoLineFaultBefore}
 use Rattle.shb_lines.specs.text.Parsed.{HasRead}
 use Rattle.shb_lines.specs.text.Reader.{HasRoom}
 use Rattle.shb_lines.specs.text.Text.{lines_of}
@@ -15,7 +15,7 @@ invariant-loop-start l = record {
   few : vec_len l.self.events ≤ l.limits.events;
   begins : IsStart l.text l.line l.start;
   read : HasRead l.text l.self (take l.line (lines_of l.text));
-  faultless : IsFaultless l.limits l.text l.line;
+  faultless : HasNoLineFaultBefore l.limits l.text l.line;
   inside : l.limits.text < length l.text → l.start ≤ l.limits.text;
 }
 

@@ -1,12 +1,13 @@
 use Rattle.std.proofs.Common.{◌≡◌, ◌<◌, ℕ, Option, Some, length, arith, slice_get, slice_index_or, subst}
 use Rattle.std.proofs.lemmas.Option.{get_or_from_slice_get, slice_get_read}
-use Rattle.shb_replay.specs.Reasons.{HasReason, IsLowest, StandsEarlier}
+use Rattle.shb_replay.specs.Reasons.{HasReason, StandsEarlier, number_of}
 use Rattle.shb_replay.specs.Walks.{IsLowestIn}
 use Rattle.shb_replay.specs.declared.broken.Why.{Why}
 use Rattle.shb_replay.specs.declared.broken.Why.TheVariants as whys
 use Rattle.shb_replay.proofs.Lowest.{lowest_five, lowest_three, lowest_two}
 use Rattle.shb_replay.proofs.OrderReasons.{at_place, flag_false, flag_true}
 use Rattle.shb_replay.proofs.walked.Walked.reason.Goals as goal
+use Rattle.shb_lines.specs.Lowest.{IsLowest}
 
 pub returns-then-index : goal.returns-then-index
 returns-then-index c =
@@ -18,7 +19,7 @@ returns-then-index c =
     let lt : x < length trace.events.now = omega (arith, c.if-e-rules.false) in
     let long = c.requires.walked.stands.as_long in
     let flag = slice_get_read stands.items stands.len x c.index.result.now stands.ok.0 (let len = stands.ok.0 in omega (arith, lt, long, len)) c.index.ensures in
-    at_place (λ e. IsLowest (HasReason trace.events.now s p e) (Some whys.Repeated)) s p (lowest_two (HasReason trace.events.now s p x) (λ h. omega (arith, lt, h)) (flag_true (StandsEarlier s p) (length trace.events.now) x stands.items c.index.result.now c.requires.walked.stands flag c.if-index.true))
+    at_place (λ e. IsLowest number_of (HasReason trace.events.now s p e) (Some whys.Repeated)) s p (lowest_two (HasReason trace.events.now s p x) (λ h. omega (arith, lt, h)) (flag_true (StandsEarlier s p) (length trace.events.now) x stands.items c.index.result.now c.requires.walked.stands flag c.if-index.true))
 
 pub order_reason-requires-clause-in_trace : goal.order_reason-requires-clause-in_trace
 order_reason-requires-clause-in_trace c = at_place (λ e. e < length c.args.rules.now.linked.events.now) c.args.list.now c.args.at (omega (arith, c.if-e-rules.false))
@@ -29,7 +30,7 @@ operation_reason-requires-clause-in_trace c = at_place (λ e. e < length c.args.
 pub returns-in-Some : goal.returns-in-Some
 returns-in-Some c = λ e at. go e at
   where
-    go : (e : ℕ) → slice_get c.args.list.now c.args.at ≡ Some e → IsLowest (HasReason c.args.rules.now.linked.events.now c.args.list.now c.args.at e) (Some c.in-Some.why)
+    go : (e : ℕ) → slice_get c.args.list.now c.args.at ≡ Some e → IsLowest number_of (HasReason c.args.rules.now.linked.events.now c.args.list.now c.args.at e) (Some c.in-Some.why)
     go e at =
         let trace = c.args.rules.now.linked in
         let stands = c.args.self.now.stands in
@@ -44,7 +45,7 @@ returns-in-Some c = λ e at. go e at
 pub returns-in-None : goal.returns-in-None
 returns-in-None c = λ e at. go e at
   where
-    go : (e : ℕ) → slice_get c.args.list.now c.args.at ≡ Some e → IsLowest (HasReason c.args.rules.now.linked.events.now c.args.list.now c.args.at e) c.operation_reason.result
+    go : (e : ℕ) → slice_get c.args.list.now c.args.at ≡ Some e → IsLowest number_of (HasReason c.args.rules.now.linked.events.now c.args.list.now c.args.at e) c.operation_reason.result
     go e at =
         let trace = c.args.rules.now.linked in
         let stands = c.args.self.now.stands in

@@ -1,0 +1,57 @@
+use Rattle.std.proofs.Common.{ℕ, set, get_or, ap, subst, sym, ◌∙◌, arith}
+use Rattle.std.proofs.lemmas.Option.{slice_get-get_or}
+use Rattle.shb_lines.specs.declared.event.Event.{Event}
+use Rattle.shb_lines.specs.declared.event.Op.TheVariants.{Read}
+use Rattle.shb_lines.specs.events.Order.{ShbBelow}
+use Rattle.shb_lines.proofs.events.Items.{thread_item}
+use Rattle.shb_clocks.specs.Fronts.{IsFront}
+use Rattle.shb_clocks.specs.Learned.{IsFrontBut, IsRowUpTo}
+use Rattle.shb_clocks.proofs.LearnedLemmas.{front_whole, kept_item, row_within, local_is}
+use Rattle.shb_clocks.proofs.compared.kept_clocks.KeptClocks.clock_of.Goals as goal
+
+pub row_up_to-row-requires-clause-some : goal.row_up_to-row-requires-clause-some
+row_up_to-row-requires-clause-some c =
+    let d : Event = record { thread = 0; op = Read 0; line = 0 } in
+    let of_e = thread_item c.args.linked.now.events.now c.args.e d c.requires.in_range in
+    let low = (c.args.linked.now.within c.args.e _ (slice_get-get_or c.args.linked.now.events.now c.args.e d c.requires.in_range)).thread in
+    let kept = kept_item c.args.linked.now.events.now c.requires.taken.0 _ c.args.linked.now.sizes.threads c.args.self.now.rows _ _ c.requires.taken.2 low c.index.ensures in
+    (kept.begun c.args.e c.requires.taken.1 of_e).0
+
+pub row_up_to-row-requires-clause-first : goal.row_up_to-row-requires-clause-first
+row_up_to-row-requires-clause-first c =
+    let d : Event = record { thread = 0; op = Read 0; line = 0 } in
+    let of_e = thread_item c.args.linked.now.events.now c.args.e d c.requires.in_range in
+    let low = (c.args.linked.now.within c.args.e _ (slice_get-get_or c.args.linked.now.events.now c.args.e d c.requires.in_range)).thread in
+    let kept = kept_item c.args.linked.now.events.now c.requires.taken.0 _ c.args.linked.now.sizes.threads c.args.self.now.rows _ _ c.requires.taken.2 low c.index.ensures in
+    let place = local_is c.args.linked.now.events.now c.args.linked.now.links.now c.args.e c.local-place.result _ c.args.linked.now.of_links c.local-place.ensures.place of_e in
+    let least = (kept.begun c.args.e c.requires.taken.1 of_e).1 in
+    omega (arith, place, least)
+
+pub row-requires : goal.row-requires
+row-requires c =
+    let d : Event = record { thread = 0; op = Read 0; line = 0 } in
+    let low = (c.args.linked.now.within c.args.e _ (slice_get-get_or c.args.linked.now.events.now c.args.e d c.requires.in_range)).thread in
+    let kept = kept_item c.args.linked.now.events.now c.requires.taken.0 _ c.args.linked.now.sizes.threads c.args.self.now.rows _ _ c.requires.taken.2 low c.index.ensures in
+    row_within c.args.linked.now.events.now c.requires.taken.0 _ c.local-place.result c.row_up_to-row.result c.args.self.now.rows.rows _ kept c.row_up_to-row.ensures
+
+pub new-requires : goal.new-requires
+new-requires c =
+    let d : Event = record { thread = 0; op = Read 0; line = 0 } in
+    let low = (c.args.linked.now.within c.args.e _ (slice_get-get_or c.args.linked.now.events.now c.args.e d c.requires.in_range)).thread in
+    let long = c.row.ensures.long in
+    let width = c.requires.taken.2.width in
+    omega (arith, low, long, width)
+
+pub returns-clause-front : goal.returns-clause-front
+returns-clause-front c =
+    let d : Event = record { thread = 0; op = Read 0; line = 0 } in
+    let u = (get_or c.args.linked.now.events.now c.args.e d).thread in
+    let of_e = thread_item c.args.linked.now.events.now c.args.e d c.requires.in_range in
+    let low = (c.args.linked.now.within c.args.e _ (slice_get-get_or c.args.linked.now.events.now c.args.e d c.requires.in_range)).thread in
+    let long = c.row.ensures.long in
+    let width = c.requires.taken.2.width in
+    let kept = kept_item c.args.linked.now.events.now c.requires.taken.0 u c.args.linked.now.sizes.threads c.args.self.now.rows _ _ c.requires.taken.2 low c.index.ensures in
+    let place = local_is c.args.linked.now.events.now c.args.linked.now.links.now c.args.e c.local-place.result u c.args.linked.now.of_links c.local-place.ensures.place of_e in
+    let but = kept.clocks c.args.e c.row_up_to-row.result c.requires.taken.1 of_e (subst (λ (m : ℕ). IsRowUpTo c.index.result.now m c.row_up_to-row.result) place c.row_up_to-row.ensures) in
+    let whole = front_whole c.args.linked.now.events.now c.args.e u c.row.result.now of_e (omega (arith, low, long, width)) (subst (IsFrontBut c.args.linked.now.events.now u (λ k. ShbBelow c.args.linked.now.events.now k c.args.e)) (sym c.row.ensures.row) but) in
+    subst (IsFront c.args.linked.now.events.now (λ k. ShbBelow c.args.linked.now.events.now k c.args.e)) (sym (c.new.ensures ∙ ap (λ (m : ℕ). set c.row.result.now u m) place)) whole

@@ -1,0 +1,38 @@
+use Rattle.std.proofs.Common.{ℕ, [], ◌∷◌, ◌++◌, get_or, ap, subst, sym, ◌∙◌, arith}
+use Rattle.std.proofs.lemmas.Option.{slice_get-get_or}
+use Rattle.shb_lines.specs.declared.event.Event.{Event}
+use Rattle.shb_lines.specs.declared.event.Op.TheVariants.{Read}
+use Rattle.shb_lines.specs.events.Order.{ShbBelow}
+use Rattle.shb_lines.proofs.events.Items.{thread_item}
+use Rattle.shb_clocks.specs.Learned.{IsFrontBut}
+use Rattle.shb_clocks.specs.Rows.{AreMore}
+use Rattle.shb_clocks.proofs.LearnedLemmas.{kept_item, kept_push, all_kept_push, last_row_within, local_is}
+use Rattle.shb_clocks.proofs.compared.kept_clocks.KeptClocks.keep.Goals as goal
+
+pub number_like-requires-clause-in_range : goal.number_like-requires-clause-in_range
+number_like-requires-clause-in_range c =
+    let d : Event = record { thread = 0; op = Read 0; line = 0 } in
+    let low = (c.args.linked.now.within c.args.e _ (slice_get-get_or c.args.linked.now.events.now c.args.e d c.requires.in_range)).thread in
+    let kept = kept_item c.args.linked.now.events.now c.args.e _ c.args.linked.now.sizes.threads c.args.self.now.rows _ _ c.requires.kept low c.index.ensures in
+    last_row_within c.args.linked.now.events.now c.args.e _ c.last_row-given.result c.args.self.now.rows.rows _ c.requires.kept.some kept c.last_row-given.ensures
+
+pub index_mut-requires : goal.index_mut-requires
+index_mut-requires c =
+    let d : Event = record { thread = 0; op = Read 0; line = 0 } in
+    let low = (c.args.linked.now.within c.args.e _ (slice_get-get_or c.args.linked.now.events.now c.args.e d c.requires.in_range)).thread in
+    let many = c.requires.kept.as_many in
+    omega (arith, low, many)
+
+pub returns : goal.returns
+returns c =
+    let d : Event = record { thread = 0; op = Read 0; line = 0 } in
+    let u = (get_or c.args.linked.now.events.now c.args.e d).thread in
+    let of_e = thread_item c.args.linked.now.events.now c.args.e d c.requires.in_range in
+    let low = (c.args.linked.now.within c.args.e _ (slice_get-get_or c.args.linked.now.events.now c.args.e d c.requires.in_range)).thread in
+    let old = kept_item c.args.linked.now.events.now c.args.e u c.args.linked.now.sizes.threads c.args.self.now.rows _ _ c.requires.kept low c.index_mut.ensures.value in
+    let place = local_is c.args.linked.now.events.now c.args.linked.now.links.now c.args.e c.local.result u c.args.linked.now.of_links c.local.ensures.place of_e in
+    let more = c.in_ok-row.ensures.more in
+    let grown : AreMore c.args.self.now.rows.rows c.number_like.new.self.rows = record { as_long = more.0; same = c.in_ok-row.ensures.kept } in
+    let front = subst (IsFrontBut c.args.linked.now.events.now u (λ k. ShbBelow c.args.linked.now.events.now k c.args.e)) (sym (c.in_ok-row.ensures.row.1 ∙ c.as_slice.ensures)) (c.requires.front u of_e) in
+    let pushed = kept_push c.args.linked.now.events.now c.args.e u c.in_ok-row.row c.args.self.now.rows.rows c.number_like.new.self.rows c.index_mut.result.now c.push.new.self of_e c.requires.learning grown c.in_ok-row.ensures.row.0 front (c.in_ok-push.ensures.places ∙ ap (λ (m : ℕ). c.index_mut.result.now.places ++ m ∷ []) place) c.in_ok-push.ensures.rows old in
+    all_kept_push c.args.linked.now.events.now c.args.e u c.args.linked.now.sizes.threads c.args.self.now.rows c.number_like.new.self c.args.self.now.threads.items c.push.new.self of_e low c.in_ok-row.ensures.width grown more.1 pushed c.requires.kept

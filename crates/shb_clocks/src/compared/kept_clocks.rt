@@ -1,0 +1,92 @@
+//! The clocks of the events so far, of which those are kept at which a thread may learn.
+
+ghost use Rattle.std.specs.Prelude.{◌≡◌, ℕ, ◌+◌, ◌<◌, ◌≤◌, IfOk, Some, length, replicate};
+ghost use Rattle.shb_lines.specs.events.Discipline.{place_in_thread};
+ghost use Rattle.shb_lines.specs.events.Events.{thread_at};
+ghost use Rattle.shb_lines.specs.events.Order.{IsBelowPredCount, ShbBelow};
+ghost use Rattle.shb_clocks.specs.Fronts.{IsFront};
+ghost use Rattle.shb_clocks.specs.Learned.{AreKept, IsFrontBut, IsLearning, nothing_kept};
+
+use crate::clock::{Clock, EventClock};
+use crate::compared::kept::Kept;
+use crate::rows::Rows;
+use shb_io::NoMemory;
+use shb_links::Linked;
+use std::alloc::Global;
+
+/// The kept rows, and what is kept of each thread.
+#[derive(Drop)]
+pub struct KeptClocks {
+    pub rows: Rows,
+    pub threads: Vec<Kept>,
+}
+
+/// Nothing kept of any thread.
+fn no_places(alloc: Global, threads: u32) -> Result<Vec<Kept>, NoMemory>
+    ensures { IfOk result (λ kept. kept.items ≡ replicate threads nothing_kept) }
+{
+    let mut kept = Vec::new(alloc);
+    for t in 0..threads {
+        kept.push(Kept::new(alloc))?;
+    }
+    Ok(kept)
+}
+
+impl KeptClocks {
+    /// What is kept before the first event: the row of zeros.
+    pub fn new(alloc: Global, linked: &Linked<'_>) -> Result<Self, NoMemory>
+        ensures { IfOk result (λ kept. AreKept linked.now.events.now 0 linked.now.sizes.threads kept.rows kept.threads.items) }
+    {
+        let zeros = Clock::new(alloc, linked.sizes.threads as usize)?;
+        let mut rows = Rows::new(alloc, linked.sizes.threads);
+        rows.push(zeros.as_slice())?;
+        Ok(KeptClocks {
+            rows,
+            threads: no_places(alloc, linked.sizes.threads)?,
+        })
+    }
+
+    /// The clock of an event that was taken: the row of its thread's last kept place up to its own.
+    pub fn clock_of(&self, linked: &Linked<'_>, e: u32) -> EventClock<'_>
+        requires in_range { e < length linked.now.events.now }
+        requires taken { (n : ℕ) × (e < n) × AreKept linked.now.events.now n linked.now.sizes.threads self.now.rows self.now.threads.items }
+        ensures long { length result ≡ linked.now.sizes.threads }
+        ensures front { IsFront linked.now.events.now (λ k. ShbBelow linked.now.events.now k e) result }
+    {
+        let thread = linked.events[e as usize].thread;
+        let place = linked.links.local(e);
+        let row = self.threads[thread as usize].row_up_to(place);
+        EventClock::new(self.rows.row(row), thread, place)
+    }
+
+    /// How many events of thread t are SHB-below the predecessor of e, where all events were taken.
+    pub fn below_pred(&self, linked: &Linked<'_>, e: u32, t: u32) -> u32
+        requires in_range { e < length linked.now.events.now }
+        requires whole { AreKept linked.now.events.now (length linked.now.events.now) linked.now.sizes.threads
+            self.now.rows self.now.threads.items }
+        ensures { IsBelowPredCount linked.now.events.now t e result }
+    {
+        match linked.links.pred(e) {
+            Some(p) => self.clock_of(linked, p).entry(t),
+            None => 0,
+        }
+    }
+
+    /// Takes the event e, at which its thread may learn and which has this clock but for the entry of
+    /// its own thread.
+    pub fn keep(&mut self, linked: &Linked<'_>, e: u32, clock: &Clock) -> Result<(), NoMemory>
+        requires in_range { e < length linked.now.events.now }
+        requires learning { IsLearning linked.now.events.now e }
+        requires long { length clock.now ≡ linked.now.sizes.threads }
+        requires front { (t : ℕ) → thread_at linked.now.events.now e ≡ Some t
+            → IsFrontBut linked.now.events.now t (λ k. ShbBelow linked.now.events.now k e) clock.now }
+        requires kept { AreKept linked.now.events.now e linked.now.sizes.threads self.old.rows self.old.threads.items }
+        ensures { IfOk result (λ _. AreKept linked.now.events.now (e + 1) linked.now.sizes.threads self.new.rows self.new.threads.items) }
+    {
+        let thread = linked.events[e as usize].thread as usize;
+        let given = self.threads[thread].last_row();
+        let row = self.rows.number_like(given, clock.as_slice())?;
+        self.threads[thread].push(linked.links.local(e), row)?;
+        Ok(())
+    }
+}
