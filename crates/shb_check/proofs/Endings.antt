@@ -20,7 +20,7 @@ use Rattle.shb_check.specs.declared.errors.RunError.{RunError}
 use Rattle.shb_check.specs.declared.errors.RunError.TheVariants.{Trace, Source, Sink, Memory}
 use Rattle.shb_lines.specs.declared.read.ReadError.{ReadError}
 use Rattle.shb_lines.specs.declared.read.ReadError.TheVariants as reading
-use Rattle.shb_report.specs.declared.verdict.Verdict.{Verdict}
+use Rattle.shb_report.specs.declared.judging.verdict.Verdict.{Verdict}
 use Rattle.shb_report.specs.Checks.{IsVerdictFor}
 use Rattle.shb_check.specs.Checks.{CountsSources, IsChecked}
 use Rattle.shb_check.specs.Errors.{error_of_checking, error_of_reading}

@@ -4,8 +4,8 @@ use Rattle.std.specs.Prelude.{◌↔◌}
 use Rattle.shb_lines.specs.events.Discipline.{IsDisciplined}
 use Rattle.shb_lines.specs.text.Text.{lines_of}
 use Rattle.shb_lines.specs.text.TraceData.{TraceData}
-use Rattle.shb_report.specs.declared.verdict.Verdict.{Verdict}
-use Rattle.shb_report.specs.declared.verdict.Verdict.TheVariants.{Good, BadLine, BadCounts, BadRace, BadPlaces}
+use Rattle.shb_report.specs.declared.judging.verdict.Verdict.{Verdict}
+use Rattle.shb_report.specs.declared.judging.verdict.Verdict.TheVariants.{Good, BadLine, BadCounts, BadRace, BadPlaces}
 use Rattle.shb_report.specs.Reading.{IsBadLine}
 use Rattle.shb_report.specs.Verdicts.{IsVerdict}
 use Rattle.shb_report.proofs.Bad.{bad_line_unique}

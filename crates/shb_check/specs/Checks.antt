@@ -5,7 +5,7 @@ use Rattle.shb_lines.specs.events.Discipline.{IsDisciplined}
 use Rattle.shb_lines.specs.text.Text.{lines_of}
 use Rattle.shb_lines.specs.text.TraceData.{IsTraceOf, TraceData}
 use Rattle.shb_discipline.specs.FirstFault.{HasNoFault}
-use Rattle.shb_report.specs.declared.verdict.Verdict.{Verdict}
+use Rattle.shb_report.specs.declared.judging.verdict.Verdict.{Verdict}
 use Rattle.shb_report.specs.Checks.{IsVerdictFor, most_bytes}
 use Rattle.shb_report.specs.Reading.{IsReportText}
 use Rattle.shb_report.specs.Value.{ReportValue}

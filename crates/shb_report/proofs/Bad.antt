@@ -8,9 +8,9 @@ use Rattle.shb_report.specs.Parts.{IsTextOf}
 use Rattle.shb_report.specs.Value.{IsReportValue, ReportValue, lines_text, report_lines, report_text}
 use Rattle.shb_report.specs.Reading.{BeginsReport, IsBadLine}
 use Rattle.shb_report.specs.Forms.{Form, Version, End, Takes, IsBadFrom}
-use Rattle.shb_report.proofs.Machine.{after}
-use Rattle.shb_report.proofs.Language.{ending, takes_all, takes_front}
-use Rattle.shb_report.proofs.Values.{lines_of_value, value_of_lines}
+use Rattle.shb_report.proofs.reading.Machine.{after}
+use Rattle.shb_report.proofs.reading.Language.{ending, takes_all, takes_front}
+use Rattle.shb_report.proofs.reading.Values.{lines_of_value, value_of_lines}
 
 -- fewer lines are taken as well
 takes_less : (forms : List Form) (bytes : List ℕ) (k n : ℕ) (left : List Form) (rest : List ℕ) → Takes forms bytes n left rest → k ≤ n → (l : List Form) × (r : List ℕ) × Takes forms bytes k l r

@@ -3,12 +3,12 @@ use Rattle.std.proofs.Common.{◌≡◌, ℕ, suc, ◌+◌, ◌-◌, ◌<◌, �
 use Rattle.std.proofs.lemmas.List.{drop-append-le, length-map, map-append, map-id, take-append-le, take_all}
 use Rattle.std.proofs.Math.Seq.{drop-append_seam}
 use Rattle.std.specs.List.{AllByRecursion}
-use Rattle.shb_report.specs.declared.lines.Position.{Position}
-use Rattle.shb_report.specs.declared.lines.Stop.{Stop}
-use Rattle.shb_report.specs.declared.lines.Stop.TheVariants.{BadLine, Memory}
-use Rattle.shb_report.specs.declared.parts.PlaceEntry.{PlaceEntry}
-use Rattle.shb_report.specs.declared.parts.RaceEntry.{RaceEntry}
-use Rattle.shb_report.specs.declared.parts.Span.{Span}
+use Rattle.shb_report.specs.declared.reading.lines.Position.{Position}
+use Rattle.shb_report.specs.declared.reading.lines.Stop.{Stop}
+use Rattle.shb_report.specs.declared.reading.lines.Stop.TheVariants.{BadLine, Memory}
+use Rattle.shb_report.specs.declared.reading.parts.PlaceEntry.{PlaceEntry}
+use Rattle.shb_report.specs.declared.reading.parts.RaceEntry.{RaceEntry}
+use Rattle.shb_report.specs.declared.reading.parts.Span.{Span}
 use Rattle.shb_report.specs.Forms.{Form, block_forms, place_forms}
 use Rattle.shb_report.specs.Lines.{IfStop, TakesLine, bytes_from}
 use Rattle.shb_report.specs.Parts.{IsPlaceIn, IsRaceIn, IsSpanIn, ReadsBlock, ReadsBlocks, ReadsPlace, ReadsPlaces, TakesBlocks, block_at, block_before, block_from, blocks_at, bytes_at, place_at, place_before, places_at}

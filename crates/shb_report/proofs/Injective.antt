@@ -3,14 +3,14 @@ use Rattle.std.proofs.Common.{◌≡◌, ℕ, ◌+◌, List, [], ◌∷◌, ◌+
 use Rattle.std.specs.Fmt.{decimal}
 use Rattle.std.specs.List.{AllByRecursion}
 use Rattle.std.proofs.lemmas.List.{append_cancel_left}
-use Rattle.shb_report.specs.declared.writer.Counts.{Counts}
+use Rattle.shb_report.specs.declared.counts.Counts.{Counts}
 use Rattle.shb_report.specs.Forms.{Form, Version, End}
 use Rattle.shb_report.specs.Value.{AreShown, ArePlaces, Block, HasNoLineFeed, IsBlock, IsPlace, IsReportValue, IsShown, Place, ReportValue, block_lines, counts_line, lines_text, listed, numbers_line, place_line, place_lines, places_section, race_numbers_line, report_lines, report_text, version_line}
-use Rattle.shb_report.proofs.Fronts.{same_ending, same_line, same_number}
-use Rattle.shb_report.proofs.Language.{AreLines}
-use Rattle.shb_report.proofs.Listing.{listed_same}
-use Rattle.shb_report.proofs.Machine.{versions_differ}
-use Rattle.shb_report.proofs.Values.{lines_of_value}
+use Rattle.shb_report.proofs.reading.Fronts.{same_ending, same_line, same_number}
+use Rattle.shb_report.proofs.reading.Language.{AreLines}
+use Rattle.shb_report.proofs.reading.Listing.{listed_same}
+use Rattle.shb_report.proofs.reading.Machine.{versions_differ}
+use Rattle.shb_report.proofs.reading.Values.{lines_of_value}
 
 -- lines
 

@@ -18,7 +18,7 @@ use Rattle.shb_report.specs.declared.places.PlaceCount.{PlaceCount}
 use Rattle.shb_report.specs.Leading.{AreLeading, HasOnce, Leads, place_at}
 use Rattle.shb_report.specs.Places.{PlaceOf, counts_in, location_at, places_of_pairs, with_one_more, with_pair}
 use Rattle.shb_report.proofs.EntryLemmas.{each-weaker}
-use Rattle.shb_report.proofs.GoodBlocks.{each_at}
+use Rattle.shb_report.proofs.judging.GoodBlocks.{each_at}
 use Rattle.shb_report.proofs.Increasing.{increasing_unique}
 
 -- the first pairs of places

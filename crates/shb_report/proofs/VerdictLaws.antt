@@ -7,13 +7,13 @@ use Rattle.shb_lines.specs.events.Discipline.{IsDisciplined}
 use Rattle.shb_lines.specs.text.TraceData.{TraceData}
 use Rattle.shb_replay.proofs.OneAnswer.{one_answer}
 use Rattle.shb_replay.specs.declared.broken.Why.{Why}
-use Rattle.shb_report.specs.declared.verdict.RaceFault.{RaceFault}
-use Rattle.shb_report.specs.declared.verdict.RaceFault.TheVariants.{Absent, NoConflict, FirstLine, SecondLine, Schedule}
-use Rattle.shb_report.specs.declared.verdict.Verdict.{Verdict}
-use Rattle.shb_report.specs.declared.verdict.Verdict.TheVariants.{Good, BadLine, BadCounts, BadRace, BadPlaces}
+use Rattle.shb_report.specs.declared.judging.verdict.RaceFault.{RaceFault}
+use Rattle.shb_report.specs.declared.judging.verdict.RaceFault.TheVariants.{Absent, NoConflict, FirstLine, SecondLine, Schedule}
+use Rattle.shb_report.specs.declared.judging.verdict.Verdict.{Verdict}
+use Rattle.shb_report.specs.declared.judging.verdict.Verdict.TheVariants.{Good, BadLine, BadCounts, BadRace, BadPlaces}
 use Rattle.shb_report.specs.Value.{Block, ReportValue}
 use Rattle.shb_report.specs.Verdicts.{HasRaceFault, IsFirstBadBlock, IsGoodReport, IsLowestFault, IsVerdict, fault_number, positions_of}
-use Rattle.shb_report.proofs.GoodBlocks.{each_at, good_has_none}
+use Rattle.shb_report.proofs.judging.GoodBlocks.{each_at, good_has_none}
 
 module _ (trace : TraceData) (disciplined : IsDisciplined trace.events) (report : ReportValue) where
   bad_block : (race : ℕ) (why : RaceFault) → IsFirstBadBlock trace report.blocks race why → IsGoodReport trace report → ⊥

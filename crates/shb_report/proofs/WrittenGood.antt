@@ -15,13 +15,13 @@ use Rattle.shb_lines.specs.text.TraceData.{TraceData, location_of}
 use Rattle.shb_lines.proofs.events.Reach.{event_at_access}
 use Rattle.shb_lines.proofs.events.Schedulable.{printed_is_schedule}
 use Rattle.shb_lines.proofs.text.LineTexts.{location_short}
-use Rattle.shb_report.specs.declared.verdict.Verdict.TheVariants.{Good}
+use Rattle.shb_report.specs.declared.judging.verdict.Verdict.TheVariants.{Good}
 use Rattle.shb_report.specs.Places.{PlaceOf, counts_in, location_at, places_of_pairs, shown_place, shown_places, with_one_more, with_pair}
 use Rattle.shb_report.specs.Report.{AllRaces, HasSchedule, IsReportOn, ShownRace, line_at, pair_of}
 use Rattle.shb_report.specs.Value.{IsBlock, IsPlace, IsReportValue, IsRest, IsShown, ReportValue, report_text}
 use Rattle.shb_report.specs.Verdicts.{IsGoodBlock, IsGoodReport, IsVerdict, pair_in}
 use Rattle.shb_report.specs.Written.{IsShowable, block_of, written_report}
-use Rattle.shb_report.proofs.GoodBlocks.{each_at, in_range}
+use Rattle.shb_report.proofs.judging.GoodBlocks.{each_at, in_range}
 use Rattle.shb_report.proofs.Increasing.{increasing_few}
 use Rattle.shb_report.proofs.PlaceLemmas.{with_pair_few}
 use Rattle.shb_report.proofs.WrittenText.{written_is}

@@ -7,7 +7,7 @@ use Rattle.std.proofs.lemmas.List.Elements.{All-head, All-tail}
 use Rattle.shb_lines.specs.text.TraceData.{TraceData}
 use Rattle.shb_lines.specs.events.Race.{IsRaceList}
 use Rattle.shb_lines.specs.events.Schedule.{IsPrintedSchedule}
-use Rattle.shb_report.specs.declared.writer.Counts.{Counts}
+use Rattle.shb_report.specs.declared.counts.Counts.{Counts}
 use Rattle.shb_report.specs.Places.{counts_in, places_of_pairs, section_bytes, shown_places}
 use Rattle.shb_report.specs.Report.{AllRaces, HasSchedule, IsReport, IsReportOn, ShownRace, block_bytes, blocks_from, counts_of, event_numbers, head_bytes, line_at, pair_of, schedule_line, tail_bytes}
 use Rattle.shb_report.specs.Value.{Block, block_lines, counts_line, lines_text, listed, places_section, race_numbers_line, races_line, report_text}

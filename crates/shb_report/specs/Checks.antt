@@ -1,8 +1,8 @@
 -- What is said of the text of a report against a trace.
 use Rattle.std.specs.Prelude.{ℕ, List}
 use Rattle.shb_lines.specs.text.TraceData.{TraceData}
-use Rattle.shb_report.specs.declared.verdict.Verdict.{Verdict}
-use Rattle.shb_report.specs.declared.verdict.Verdict.TheVariants.{BadLine}
+use Rattle.shb_report.specs.declared.judging.verdict.Verdict.{Verdict}
+use Rattle.shb_report.specs.declared.judging.verdict.Verdict.TheVariants.{BadLine}
 use Rattle.shb_report.specs.Reading.{IsBadLine, IsReportText}
 use Rattle.shb_report.specs.Value.{ReportValue}
 use Rattle.shb_report.specs.Verdicts.{IsVerdict}

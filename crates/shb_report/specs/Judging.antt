@@ -4,14 +4,14 @@ use Rattle.std.specs.List.{AllByRecursion}
 use Rattle.shb_lines.specs.events.Race.{Conflict}
 use Rattle.shb_lines.specs.text.TraceData.{TraceData}
 use Rattle.shb_lines.specs.declared.event.Pair.{Pair}
-use Rattle.shb_report.specs.declared.judged.BadBlock.{BadBlock}
-use Rattle.shb_report.specs.declared.judged.JudgedBlocks.{JudgedBlocks}
-use Rattle.shb_report.specs.declared.lines.Position.{Position}
-use Rattle.shb_report.specs.declared.listed.BlockLines.{BlockLines}
-use Rattle.shb_report.specs.declared.listed.Listed.{Listed}
-use Rattle.shb_report.specs.declared.verdict.RaceFault.{RaceFault}
-use Rattle.shb_report.specs.declared.verdict.Verdict.{Verdict}
-use Rattle.shb_report.specs.declared.writer.Counts.{Counts}
+use Rattle.shb_report.specs.declared.judging.judged.BadBlock.{BadBlock}
+use Rattle.shb_report.specs.declared.judging.judged.JudgedBlocks.{JudgedBlocks}
+use Rattle.shb_report.specs.declared.reading.lines.Position.{Position}
+use Rattle.shb_report.specs.declared.reading.listed.BlockLines.{BlockLines}
+use Rattle.shb_report.specs.declared.reading.listed.Listed.{Listed}
+use Rattle.shb_report.specs.declared.judging.verdict.RaceFault.{RaceFault}
+use Rattle.shb_report.specs.declared.judging.verdict.Verdict.{Verdict}
+use Rattle.shb_report.specs.declared.counts.Counts.{Counts}
 use Rattle.shb_report.specs.Parts.{IsTextOf, TakesBlocks}
 use Rattle.shb_report.specs.Places.{IsPairOf, counts_in, places_of_pairs, shown_places}
 use Rattle.shb_report.specs.Report.{line_at}

@@ -1,8 +1,8 @@
 -- Lines of a text, taken one after another.
 use Rattle.std.specs.Prelude.{◌≡◌, ℕ, ◌+◌, ◌≤◌, List, ◌∷◌, ◌++◌, length, drop, Result, Ok, Err}
-use Rattle.shb_report.specs.declared.lines.Position.{Position}
-use Rattle.shb_report.specs.declared.lines.Stop.{Stop}
-use Rattle.shb_report.specs.declared.lines.Stop.TheVariants.{BadLine, Memory}
+use Rattle.shb_report.specs.declared.reading.lines.Position.{Position}
+use Rattle.shb_report.specs.declared.reading.lines.Stop.{Stop}
+use Rattle.shb_report.specs.declared.reading.lines.Stop.TheVariants.{BadLine, Memory}
 use Rattle.shb_report.specs.Forms.{Form, IsBadFrom, TakesForm}
 use Rattle.shb_report.specs.Value.{HasNoLineFeed}
 

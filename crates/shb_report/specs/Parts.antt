@@ -1,12 +1,12 @@
 -- Where the parts of a report stand in its text, and the report that they are.
 use Rattle.std.specs.Prelude.{◌≡◌, ℕ, ◌+◌, ◌*◌, ◌≤◌, Bool, List, [], ◌∷◌, ◌++◌, length, map, take, drop, Option, None, Some, IfSome, codes, if◌then◌else◌}
 use Rattle.std.specs.List.{AllByRecursion}
-use Rattle.shb_report.specs.declared.parts.Span.{Span}
-use Rattle.shb_report.specs.declared.parts.Parts.{Parts}
-use Rattle.shb_report.specs.declared.scanning.Head.{Head}
-use Rattle.shb_report.specs.declared.parts.RaceEntry.{RaceEntry}
-use Rattle.shb_report.specs.declared.parts.PlaceEntry.{PlaceEntry}
-use Rattle.shb_report.specs.declared.lines.Position.{Position}
+use Rattle.shb_report.specs.declared.reading.parts.Span.{Span}
+use Rattle.shb_report.specs.declared.reading.parts.Parts.{Parts}
+use Rattle.shb_report.specs.declared.reading.scanning.Head.{Head}
+use Rattle.shb_report.specs.declared.reading.parts.RaceEntry.{RaceEntry}
+use Rattle.shb_report.specs.declared.reading.parts.PlaceEntry.{PlaceEntry}
+use Rattle.shb_report.specs.declared.reading.lines.Position.{Position}
 use Rattle.shb_report.specs.Forms.{Form, Races, RacesBeforePlaces, Places, PlaceForm, Race, Named, Schedule, First, Second, At, And}
 use Rattle.shb_report.specs.Lines.{bytes_from}
 use Rattle.shb_report.specs.Value.{AreShown, ArePlaces, Block, Place, IsBlock, IsPlace, IsReportValue, IsShown, ReportValue, block_lines, counts_line, lines_text, place_lines, places_section, races_line, report_lines, report_text}

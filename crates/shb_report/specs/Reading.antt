@@ -1,7 +1,7 @@
 -- Which text is a report, and which of its lines is the first bad one.
 use Rattle.std.specs.Prelude.{◌≡◌, ℕ, ◌+◌, ◌<◌, ◌≤◌, List, ◌++◌, length, take, Result, Ok, Err}
-use Rattle.shb_report.specs.declared.report.ReportError.{ReportError}
-use Rattle.shb_report.specs.declared.report.ReportError.TheVariants as errors
+use Rattle.shb_report.specs.declared.reading.report.ReportError.{ReportError}
+use Rattle.shb_report.specs.declared.reading.report.ReportError.TheVariants as errors
 use Rattle.shb_report.specs.Value.{IsReportValue, ReportValue, lines_text, report_lines, report_text}
 
 -- the text of a report in the grammar, not longer than the limit

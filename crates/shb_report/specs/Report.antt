@@ -5,7 +5,7 @@ use Rattle.shb_lines.specs.events.Race.{IsRaceList}
 use Rattle.shb_lines.specs.events.Schedule.{IsPrintedSchedule}
 use Rattle.shb_lines.specs.text.Text.{lines_of}
 use Rattle.shb_lines.specs.text.TraceData.{IsTraceOf, TraceData}
-use Rattle.shb_report.specs.declared.writer.Counts.{Counts}
+use Rattle.shb_report.specs.declared.counts.Counts.{Counts}
 use Rattle.shb_report.specs.Leading.{AreLeading}
 use Rattle.shb_report.specs.Places.{counts_in, places_of_pairs, section_bytes}
 use Rattle.shb_report.specs.Value.{counts_line, lines_text, races_line}

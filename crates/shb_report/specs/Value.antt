@@ -1,7 +1,7 @@
 -- What a report says, and the text that says it, in version 1 (without places) and version 2 (with them).
 use Rattle.std.specs.Prelude.{◌≡◌, ℕ, ◌+◌, ◌<◌, ◌≤◌, ◌^◌, ◌==◌, not, true, List, [], ◌∷◌, ◌++◌, length, codes, decimal, Option, None, Some, IfSome}
 use Rattle.std.specs.List.{AllByRecursion, list_all}
-use Rattle.shb_report.specs.declared.writer.Counts.{Counts}
+use Rattle.shb_report.specs.declared.counts.Counts.{Counts}
 
 -- the block of a race: the numbers of its two events, their lines, and the numbers of its schedule, all as they are written
 pub record Block : Type 0 where

@@ -1,15 +1,15 @@
 -- When a report is good for a trace, and what is said of one that isn't: the first verdict that applies.
-use Rattle.std.specs.Prelude.{◌≡◌, ◌≢◌, ℕ, zero, suc, ◌+◌, ◌-◌, ◌<◌, ◌≤◌, ◌⊎◌, List, ◌++◌, codes, decimal, length, map, take, slice_get, Some, IfSome, min}
+use Rattle.std.specs.Prelude.{◌≡◌, ◌≢◌, ℕ, zero, suc, ◌+◌, ◌-◌, ◌<◌, ◌⊎◌, List, ◌++◌, codes, decimal, length, map, take, slice_get, Some, IfSome, min}
 use Rattle.std.specs.List.{AllByRecursion}
 use Rattle.shb_lines.specs.declared.event.Pair.{Pair}
 use Rattle.shb_lines.specs.events.Race.{Conflict}
 use Rattle.shb_lines.specs.events.Schedule.{IsSchedule}
 use Rattle.shb_lines.specs.text.TraceData.{TraceData}
 use Rattle.shb_replay.specs.Reasons.{IsBroken}
-use Rattle.shb_report.specs.declared.verdict.RaceFault.{RaceFault}
-use Rattle.shb_report.specs.declared.verdict.RaceFault.TheVariants.{Absent, NoConflict, FirstLine, SecondLine, Schedule}
-use Rattle.shb_report.specs.declared.verdict.Verdict.{Verdict}
-use Rattle.shb_report.specs.declared.verdict.Verdict.TheVariants.{Good, BadLine, BadCounts, BadRace, BadPlaces}
+use Rattle.shb_report.specs.declared.judging.verdict.RaceFault.{RaceFault}
+use Rattle.shb_report.specs.declared.judging.verdict.RaceFault.TheVariants.{Absent, NoConflict, FirstLine, SecondLine, Schedule}
+use Rattle.shb_report.specs.declared.judging.verdict.Verdict.{Verdict}
+use Rattle.shb_report.specs.declared.judging.verdict.Verdict.TheVariants.{Good, BadLine, BadCounts, BadRace, BadPlaces}
 use Rattle.shb_report.specs.Places.{counts_in, places_of_pairs, shown_places}
 use Rattle.shb_report.specs.Report.{counts_of, line_at}
 use Rattle.shb_report.specs.Value.{Block, ReportValue}

@@ -12,8 +12,8 @@ ghost use Rattle.shb_report.specs.Report.{AreBlocks, HasSchedule, IsReport, Show
 ghost use Rattle.shb_report.specs.Value.{IsReportValue, IsShown, ReportValue, report_text};
 ghost use Rattle.shb_report.specs.Verdicts.{IsGoodReport, IsVerdict};
 ghost use Rattle.shb_report.specs.Written.{IsShowable, written_report};
-ghost use Rattle.shb_report.specs.declared.verdict.Verdict.{Verdict};
-ghost use Rattle.shb_report.specs.declared.verdict.Verdict.TheVariants.{Good};
+ghost use Rattle.shb_report.specs.declared.judging.verdict.Verdict.{Verdict};
+ghost use Rattle.shb_report.specs.declared.judging.verdict.Verdict.TheVariants.{Good};
 
 /// A trace has at most one report in each form.
 pub fn report_is_unique()

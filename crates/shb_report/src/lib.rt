@@ -1,4 +1,6 @@
-//! Writes the report of a trace, reads reports, and judges them, in this project's report format.
+//! Writes the report of a trace, reads reports, and judges them, in this project's report format:
+//! the modules `writing`, `reading` and `judging`. Beside them stand what all three use, as places
+//! and counts, and the laws.
 //!
 //! A report is the head, the places, a block for each race of the race list in order, and the tail.
 //! Places are the pairs of locations of the races: [`places_of`] finds them. Each of the four parts
@@ -15,39 +17,17 @@
 //! a report a block at a time, and keeps the numbers of one schedule.
 #![tactic(auto)]
 
-mod buffer;
-mod checking;
-mod entries;
-mod grammar;
-mod held;
-mod held_runs;
-mod judged;
+mod counts;
 mod judging;
-mod keeping;
 pub mod laws;
 mod leading;
-mod lines;
-mod listed;
-mod number_texts;
-mod parts;
-mod place_writer;
 mod places;
-mod reader;
-mod report;
-mod scan;
-mod scanning;
-mod schedule;
-mod verdict;
-mod verdict_writer;
-pub mod writer;
+mod reading;
+mod writing;
 
-pub use checking::check_report;
-pub use judging::judge_report;
+pub use counts::Counts;
+pub use judging::{RaceFault, Verdict, check_report, judge_report};
 pub use leading::leading_of;
-pub use number_texts::NumberTexts;
-pub use place_writer::place_lines;
 pub use places::{PlaceCount, Places, places_of};
-pub use report::{Report, ReportError, read_report, read_report_within};
-pub use verdict::{RaceFault, Verdict};
-pub use verdict_writer::verdict_line;
-pub use writer::{Counts, block, head, scheduled_block, tail};
+pub use reading::{Report, ReportError, read_report, read_report_within};
+pub use writing::{NumberTexts, block, head, place_lines, scheduled_block, tail, verdict_line};

@@ -11,8 +11,8 @@ use Rattle.shb_lines.specs.text.Text.{IsLineText, lines_of}
 use Rattle.shb_lines.specs.text.TraceData.{IsTraceOf, TraceData}
 use Rattle.shb_lines.proofs.text.LineTexts.{held_texts}
 use Rattle.shb_discipline.specs.FirstFault.{HasNoFault}
-use Rattle.shb_report.specs.declared.verdict.Verdict.{Verdict}
-use Rattle.shb_report.specs.declared.verdict.Verdict.TheVariants.{Good, BadLine, BadCounts, BadRace, BadPlaces}
+use Rattle.shb_report.specs.declared.judging.verdict.Verdict.{Verdict}
+use Rattle.shb_report.specs.declared.judging.verdict.Verdict.TheVariants.{Good, BadLine, BadCounts, BadRace, BadPlaces}
 use Rattle.shb_report.specs.Reading.{IsReportText}
 use Rattle.shb_report.specs.Report.{AllRaces, IsReportOnText, LeadingRaces, counts_of}
 use Rattle.shb_report.proofs.LeadingReports.{leading_are_races}

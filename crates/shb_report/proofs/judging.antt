@@ -1,0 +1,5 @@
+pub mod GoodBlocks
+pub mod GoodRaces
+mod ShownPlaces
+mod JudgedBlocks
+mod TextVerdicts

@@ -1,0 +1,10 @@
+pub mod Fronts
+pub mod Machine
+pub mod Language
+pub mod Values
+mod Digits
+mod Peeling
+pub mod Listing
+mod LineEnds
+mod Passing
+pub mod ScanLemmas

@@ -1,0 +1,4 @@
+mod HeldLemmas
+mod RunTexts
+mod DigitLemmas
+mod PlaceText

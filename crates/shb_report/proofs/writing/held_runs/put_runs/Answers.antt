@@ -1,0 +1,34 @@
+use Rattle.std.proofs.Common.{rules, ◌++◌, ◌+◌, get_or, take, drop, subst}
+use Rattle.shb_io.specs.Devices.{AppendsPrefix, HoldsBack}
+use Rattle.shb_positions.specs.declared.positions.Run.{Run}
+use Rattle.shb_positions.specs.Runs.{run_positions}
+use Rattle.shb_report.specs.Numbers.{run_numbers}
+use Rattle.shb_report.specs.Report.{event_numbers}
+use Rattle.shb_report.proofs.writing.HeldLemmas.{HoldsBack-then, PutsPrefix-front, PutsPrefix-after, Puts-err, texts-next, texts-split}
+use Rattle.shb_report.proofs.writing.held_runs.put_runs.Goals as goal
+
+abbrev none : Run
+none = record { first = 0; len = 0 }
+
+pub returns-in_err-put_run-clause-put : goal.returns-in_err-put_run-clause-put
+returns-in_err-put_run-clause-put g c =
+    let held = c.args.held.now in
+    let runs = c.args.runs.now in
+    let k = c.loop-run.run-index in
+    let numbers = event_numbers (run_positions (get_or runs k none)) in
+    let rest = run_numbers (drop (k + 1) runs) in
+    let front = PutsPrefix-front _ _ c.loop-run.held numbers rest c.in_err-put_run.ensures.put in
+    let after = PutsPrefix-after _ _ _ held _ (run_numbers (take k runs)) (numbers ++ rest) c.loop-run.invariant.held front in
+    Puts-err _ _ _ _ held _ (run_numbers runs) c.from_residual.ensures.1
+    (subst (λ l. AppendsPrefix (g.S.Sink.taken c.args.sink.now) (g.S.Sink.taken c.put_run.new.sink) (held ++ l)) (texts-split (λ run. event_numbers (run_positions run)) runs k none c.loop-run-test.true) after)
+
+pub loop-run-preserved : goal.loop-run-preserved
+loop-run-preserved g c =
+    let held = c.args.held.now in
+    let runs = c.args.runs.now in
+    let k = c.loop-run.run-index in
+    let numbers = event_numbers (run_positions (get_or runs k none)) in
+    let more = HoldsBack-then _ _ _ held _ _ (run_numbers (take k runs)) numbers c.loop-run.invariant.held c.in_ok-put_run.ensures.put in record {
+      held = subst (λ l. HoldsBack (g.S.Sink.taken c.args.sink.now) (g.S.Sink.taken c.put_run.new.sink) c.put_run.new.held (held ++ l)) (texts-next (λ run. event_numbers (run_positions run)) runs k none c.loop-run-test.true) more;
+      counted = search rules;
+    }

@@ -1,0 +1,195 @@
+//! Judges the text of a report while it is read.
+ghost use Rattle.std.specs.Prelude.{◌≡◌, ◌+◌, ◌<◌, ◌≤◌, ◌-◌, ◌^◌, ◌++◌, ◌∷◌, [], ℕ, List, IfOk, OnOk, length};
+ghost use Rattle.shb_lines.specs.text.Taking.{IsSourceCounted, ReadsText, TakesAtMost};
+ghost use Rattle.shb_report.specs.Checks.{IsVerdictFor};
+ghost use Rattle.shb_report.specs.Forms.{End, Form, IsBadFrom, Version, block_forms};
+ghost use Rattle.shb_report.specs.Judging.{IsJudgedText, JudgesBlocks};
+ghost use Rattle.shb_report.specs.Lines.{IfBad, IfStop, IsAt, IsBadAt, Passes, bytes_from};
+ghost use Rattle.shb_report.specs.Reading.{IsBadLine};
+
+use super::checking::verdict_on;
+use super::judged::{JudgedBlocks, judge_block};
+use super::verdict::Verdict;
+use crate::reading::{
+    AsPositions, Position, Stop, lines_at, read_block, read_head, read_places, read_tail,
+    section_of,
+};
+use shb_discipline::Disciplined;
+use shb_io::Source;
+use shb_lines::{ReadError, read_whole};
+use shb_links::{Links, links_of};
+use shb_replay::Judge;
+use std::alloc::Global;
+use std::random::RandomSource;
+
+/// The most bytes that a report may have.
+const MOST_BYTES: u64 = 1_073_741_824;
+
+/// Reads so many blocks, and judges each once it is read. The room for the positions of a schedule is
+/// used again for each block.
+fn judge_blocks(
+    judge: &mut Judge<'_>,
+    alloc: Global,
+    trace: &Disciplined<'_>,
+    text: &[u8],
+    at: &mut Position,
+    count: u64,
+) -> Result<JudgedBlocks, Stop>
+    requires judge { judge.old ≡ trace.now.trace.now.events }
+    requires short { length text.now ≤ 1073741824 }
+    requires at { IsAt text.now at.old }
+    ensures at { OnOk result (IsAt text.now at.new) }
+    ensures read { IfOk result (JudgesBlocks trace.now.trace.now text.now at.old at.new count) }
+    ensures passes { OnOk result ((forms : List Form) → Passes text.now at.old at.new (block_forms 1 count ++ forms) forms) }
+    ensures bad { (forms : List Form) → IfBad result (IsBadAt text.now at.old (block_forms 1 count ++ forms)) }
+{
+    let keeping = AsPositions {
+        count: trace.trace.len(),
+    };
+    let mut positions = Vec::new(alloc);
+    let mut judged = JudgedBlocks::new(alloc);
+    let mut number = 0;
+    while number < count {
+        number += 1;
+        positions.clear();
+        let entry = match read_block(text, at, number, &keeping, &mut positions) {
+            Ok(entry) => entry,
+            Err(stop) => return Err(stop),
+        };
+        let lines = lines_at(text, entry);
+        let Ok(()) = judge_block(&mut judged, judge, trace, lines, positions.as_slice()) else {
+            return Err(Stop::Memory);
+        };
+    }
+    Ok(judged)
+}
+
+/// The verdict on the text of a report, and how many lines it has.
+#[derive(Clone, Copy)]
+struct JudgedText {
+    verdict: Verdict,
+    lines: u64,
+}
+
+/// Reads the text of a report to its end, and judges it.
+fn judge_text<R: RandomSource>(
+    rt: &R,
+    alloc: Global,
+    trace: &Disciplined<'_>,
+    links: &Links<'_>,
+    text: &[u8],
+) -> Result<JudgedText, Stop>
+    requires linked { links.now ≡ trace.now.events.now }
+    requires short { length text.now ≤ 1073741824 }
+    ensures judged { IfOk result (λ judged. IsJudgedText trace.now.trace.now text.now judged.lines judged.verdict) }
+    ensures few { IfOk result (λ judged. judged.lines ≤ 1073741824) }
+    ensures bad { IfBad result (IsBadFrom (Version ∷ (End ∷ [])) 0 text.now) }
+{
+    let mut judge = Judge::new(alloc, &*trace, &*links)?;
+    let mut at = Position { start: 0, lines: 0 };
+    let head = match read_head(text, &mut at) {
+        Ok(head) => head,
+        Err(stop) => return Err(stop),
+    };
+    let places = match read_places(alloc, text, &mut at, head.with_places) {
+        Ok(places) => places,
+        Err(stop) => return Err(stop),
+    };
+    let judged = match judge_blocks(&mut judge, alloc, trace, text, &mut at, head.races) {
+        Ok(judged) => judged,
+        Err(stop) => return Err(stop),
+    };
+    match read_tail(text, &mut at) {
+        Ok(()) => {}
+        Err(stop) => return Err(stop),
+    }
+    let section = section_of(text, head.with_places, places.as_slice());
+    let verdict = verdict_on(rt, alloc, trace.trace, head.counts, section, &judged)?;
+    Ok(JudgedText {
+        verdict,
+        lines: at.lines,
+    })
+}
+
+/// Why a text that is longer than a report may be is none.
+fn stop_of_long<R: RandomSource>(
+    rt: &R,
+    alloc: Global,
+    trace: &Disciplined<'_>,
+    links: &Links<'_>,
+    text: &[u8],
+) -> Stop
+    requires linked { links.now ≡ trace.now.events.now }
+    requires long { 1073741824 < length text.now }
+    ensures { IfStop result (IsBadLine 1073741824 text.now) }
+{
+    let (seen, _) = text.split_at(MOST_BYTES as usize);
+    match judge_text(rt, alloc, trace, links, seen) {
+        Ok(judged) => Stop::BadLine(judged.lines + 1),
+        Err(stop) => stop,
+    }
+}
+
+/// The verdict on a text.
+fn verdict_of<R: RandomSource>(
+    rt: &R,
+    alloc: Global,
+    trace: &Disciplined<'_>,
+    links: &Links<'_>,
+    text: &[u8],
+) -> Result<Verdict, Stop>
+    requires linked { links.now ≡ trace.now.events.now }
+    ensures verdict { IfOk result (IsVerdictFor trace.now.trace.now text.now) }
+    ensures bad { IfBad result (IsBadLine 1073741824 text.now) }
+{
+    if text.len() as u64 > MOST_BYTES {
+        return Err(stop_of_long(rt, alloc, trace, links, text));
+    }
+    match judge_text(rt, alloc, trace, links, text) {
+        Ok(judged) => Ok(judged.verdict),
+        Err(stop) => Err(stop),
+    }
+}
+
+/// Reads a report of at most 1,073,741,824 bytes, of version 1 or version 2, and judges it against a
+/// trace: what [`check_report`](crate::check_report) says of the report that
+/// [`read_report`](crate::read_report) reads, or its bad line.
+///
+/// The source is read to its end, or to the limit and one byte more, before any line is looked at. Then
+/// each block is judged when it is read. The first bad block is remembered, and the text is read to its
+/// end all the same, since a bad line anywhere comes before a bad block.
+///
+/// The text is kept, and of each race its pair and of each place where it stands. Of a schedule the
+/// positions that its numbers stand for are kept until the next block is read, in 4 bytes each. So a
+/// report of many blocks takes little more than its size; one made of a single block of numbers of one
+/// digit takes three times its size, and more while its list grows. The time is linear in the trace
+/// and in the report.
+///
+/// # Errors
+///
+/// `Source` where the source failed in this call, and only there. `Memory` where a growth was refused,
+/// or where there were no random numbers for the table of places. What was read of the source stays
+/// read: where a verdict is answered, all of it, or the limit and one byte.
+pub fn judge_report<S: Source, R: RandomSource>(
+    rt: &R,
+    alloc: Global,
+    trace: &Disciplined<'_>,
+    source: &mut S,
+) -> Result<Verdict, ReadError>
+    requires countable { S.failure_count source.old < 2 ^ 64 - 1 }
+    ensures verdict { IfOk result (λ verdict. ReadsText 1073741825 (S.remaining source.old) (S.remaining source.new) (λ text.
+        IsVerdictFor trace.now.trace.now text verdict)) }
+    ensures taken { TakesAtMost 1073741825 (S.remaining source.old) (S.remaining source.new) }
+    ensures given { S.given_count source.new ≤ S.given_count source.old + 1073741825 }
+    ensures counted { IsSourceCounted (S.failure_count source.old) (S.failure_count source.new) result }
+{
+    let text = read_whole(alloc, source, MOST_BYTES)?;
+    let Ok(links) = links_of(alloc, &*trace) else {
+        return Err(ReadError::Memory);
+    };
+    match verdict_of(rt, alloc, trace, &links, text.as_slice()) {
+        Ok(verdict) => Ok(verdict),
+        Err(Stop::BadLine(line)) => Ok(Verdict::BadLine { line }),
+        Err(Stop::Memory) => Err(ReadError::Memory),
+    }
+}

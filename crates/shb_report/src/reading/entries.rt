@@ -1,0 +1,140 @@
+//! Reads the blocks of the races and the places.
+ghost use Rattle.std.specs.Prelude.{◌≡◌, ◌+◌, ◌-◌, ◌<◌, ◌≤◌, ◌++◌, ◌∷◌, [], ℕ, List, length, IfOk, OnOk, vec_len};
+ghost use Rattle.shb_report.specs.Forms.{Form, block_forms, place_forms};
+ghost use Rattle.shb_report.specs.Lines.{IfBad, IsAt, IsBadAt, Passes, bytes_from};
+ghost use Rattle.shb_report.specs.Parts.{IsPlaceIn, IsRaceIn, ReadsBlock, ReadsBlocks, ReadsPlace, ReadsPlaces, block_at, block_before, place_at, place_before};
+
+use super::keeping::{AsWritten, Keeping};
+use super::lines::{Position, Stop};
+use super::parts::{PlaceEntry, RaceEntry};
+use super::reader::{read_named, read_place_line, read_race_line, read_schedule};
+use std::alloc::Global;
+
+/// Reads the block of this number, and adds what is kept of the numbers of its schedule.
+pub(crate) fn read_block<K: Keeping>(
+    text: &[u8],
+    at: &mut Position,
+    number: u64,
+    keeping: &K,
+    numbers: &mut Vec<K::Kept>,
+) -> Result<RaceEntry, Stop>
+    requires short { length text.now ≤ 1073741824 }
+    requires at { IsAt text.now at.old }
+    ensures at { OnOk result (IsAt text.now at.new) }
+    ensures read { IfOk result (λ entry. ReadsBlock (K.kept keeping.now) text.now at.old at.new number numbers.old.items numbers.new.items entry) }
+    ensures passes { OnOk result ((forms : List Form) → Passes text.now at.old at.new (block_before number forms) forms) }
+    ensures bad { (forms : List Form) → IfBad result (IsBadAt text.now at.old (block_before number forms)) }
+{
+    let Some((first, second)) = read_race_line(text, at, number) else {
+        return Err(Stop::BadLine(at.lines + 1));
+    };
+    let Some(first_line) = read_named(text, at, b"first ", 1) else {
+        return Err(Stop::BadLine(at.lines + 1));
+    };
+    let Some(second_line) = read_named(text, at, b"second ", 1) else {
+        return Err(Stop::BadLine(at.lines + 1));
+    };
+    let schedule_start = numbers.len();
+    if !read_schedule(text, at, keeping, numbers)? {
+        return Err(Stop::BadLine(at.lines + 1));
+    }
+    Ok(RaceEntry {
+        first,
+        second,
+        first_line,
+        second_line,
+        schedule_start,
+        schedule_len: numbers.len() - schedule_start,
+    })
+}
+
+/// Reads the lines of the place of this number.
+fn read_place(text: &[u8], at: &mut Position, number: u64) -> Result<PlaceEntry, Stop>
+    requires short { length text.now ≤ 1073741824 }
+    requires at { IsAt text.now at.old }
+    ensures at { OnOk result (IsAt text.now at.new) }
+    ensures read { IfOk result (λ entry. ReadsPlace text.now at.old at.new number entry) }
+    ensures passes { OnOk result ((forms : List Form) → Passes text.now at.old at.new (place_before number forms) forms) }
+    ensures bad { (forms : List Form) → IfBad result (IsBadAt text.now at.old (place_before number forms)) }
+{
+    let Some(count) = read_place_line(text, at, number) else {
+        return Err(Stop::BadLine(at.lines + 1));
+    };
+    let Some(first) = read_named(text, at, b"at ", 0) else {
+        return Err(Stop::BadLine(at.lines + 1));
+    };
+    let Some(second) = read_named(text, at, b"and ", 0) else {
+        return Err(Stop::BadLine(at.lines + 1));
+    };
+    Ok(PlaceEntry {
+        count,
+        first,
+        second,
+    })
+}
+
+/// Where the blocks of a report stand, and the numbers of all their schedules.
+#[derive(Drop)]
+pub(crate) struct BlockEntries {
+    pub races: Vec<RaceEntry>,
+    pub numbers: Vec<u64>,
+}
+
+/// Reads so many blocks.
+pub(crate) fn read_blocks(
+    alloc: Global,
+    text: &[u8],
+    at: &mut Position,
+    count: u64,
+) -> Result<BlockEntries, Stop>
+    requires short { length text.now ≤ 1073741824 }
+    requires at { IsAt text.now at.old }
+    ensures at { OnOk result (IsAt text.now at.new) }
+    ensures read { IfOk result (λ blocks. ReadsBlocks text.now at.old at.new count blocks.numbers.items blocks.races.items) }
+    ensures passes { OnOk result ((forms : List Form) → Passes text.now at.old at.new (block_forms 1 count ++ forms) forms) }
+    ensures bad { (forms : List Form) → IfBad result (IsBadAt text.now at.old (block_forms 1 count ++ forms)) }
+{
+    let mut races = Vec::new(alloc);
+    let mut numbers = Vec::new(alloc);
+    let mut number = 0;
+    while number < count {
+        number += 1;
+        let entry = match read_block(text, at, number, &AsWritten, &mut numbers) {
+            Ok(entry) => entry,
+            Err(stop) => return Err(stop),
+        };
+        let Ok(()) = races.push(entry) else {
+            return Err(Stop::Memory);
+        };
+    }
+    Ok(BlockEntries { races, numbers })
+}
+
+/// Reads so many places.
+pub(crate) fn read_place_entries(
+    alloc: Global,
+    text: &[u8],
+    at: &mut Position,
+    count: u64,
+) -> Result<Vec<PlaceEntry>, Stop>
+    requires short { length text.now ≤ 1073741824 }
+    requires at { IsAt text.now at.old }
+    ensures at { OnOk result (IsAt text.now at.new) }
+    ensures read { IfOk result (λ places. ReadsPlaces text.now at.old at.new count places.items) }
+    ensures passes { OnOk result ((forms : List Form) → Passes text.now at.old at.new (place_forms 1 count ++ forms) forms) }
+    ensures bad { (forms : List Form) → IfBad result (IsBadAt text.now at.old (place_forms 1 count ++ forms)) }
+{
+    let mut places = Vec::new(alloc);
+    let mut number = 0;
+    while number < count {
+        number += 1;
+        let entry = match read_place(text, at, number) {
+            Ok(entry) => entry,
+            Err(stop) => return Err(stop),
+        };
+        let Ok(()) = places.push(entry) else {
+            return Err(Stop::Memory);
+        };
+    }
+    Ok(places)
+}

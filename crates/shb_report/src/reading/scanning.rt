@@ -1,0 +1,133 @@
+//! Reads the text of a report.
+ghost use Rattle.std.specs.Prelude.{◌≡◌, ◌+◌, ◌<◌, ◌≤◌, ◌++◌, ◌∷◌, [], ℕ, List, codes, length, IfOk, OnOk};
+ghost use Rattle.shb_report.specs.Forms.{Form, End, Version, IsBadFrom, block_forms};
+ghost use Rattle.shb_report.specs.Lines.{IfBad, IsAt, IsBadAt, Passes, bytes_from};
+ghost use Rattle.shb_report.specs.Parts.{IsScanned, ReadsHead, ReadsSection, places_form};
+ghost use Rattle.shb_report.specs.Value.{lines_text};
+
+use super::entries::{BlockEntries, read_blocks, read_place_entries};
+use super::lines::{Position, Stop};
+use super::parts::{Parts, PlaceEntry};
+use super::reader::{read_counts, read_end, read_place_count, read_race_count, read_version};
+use crate::counts::Counts;
+use std::alloc::Global;
+
+/// What the first three lines of a report say.
+#[derive(Clone, Copy)]
+pub(crate) struct Head {
+    pub with_places: bool,
+    pub counts: Counts,
+    pub races: u64,
+}
+
+/// Reads the first three lines.
+pub(crate) fn read_head(text: &[u8], at: &mut Position) -> Result<Head, Stop>
+    requires short { length text.now ≤ 1073741824 }
+    requires at { IsAt text.now at.old }
+    ensures at { OnOk result (IsAt text.now at.new) }
+    ensures read { IfOk result (λ head. ReadsHead text.now at.old at.new head) }
+    ensures passes { IfOk result (λ head. (forms : List Form) → Passes text.now at.old at.new (Version ∷ forms) (places_form head.with_places ++ (block_forms 1 head.races ++ forms))) }
+    ensures bad { (forms : List Form) → IfBad result (IsBadAt text.now at.old (Version ∷ forms)) }
+{
+    let Some(with_places) = read_version(text, at) else {
+        return Err(Stop::BadLine(at.lines + 1));
+    };
+    let Some(counts) = read_counts(text, at) else {
+        return Err(Stop::BadLine(at.lines + 1));
+    };
+    let Some(races) = read_race_count(text, at) else {
+        return Err(Stop::BadLine(at.lines + 1));
+    };
+    Ok(Head {
+        with_places,
+        counts,
+        races,
+    })
+}
+
+/// Reads the lines of the places, where the report has them.
+pub(crate) fn read_places(
+    alloc: Global,
+    text: &[u8],
+    at: &mut Position,
+    with_places: bool,
+) -> Result<Vec<PlaceEntry>, Stop>
+    requires short { length text.now ≤ 1073741824 }
+    requires at { IsAt text.now at.old }
+    ensures at { OnOk result (IsAt text.now at.new) }
+    ensures read { IfOk result (λ places. ReadsSection text.now at.old at.new with_places places.items) }
+    ensures passes { OnOk result ((forms : List Form) → Passes text.now at.old at.new (places_form with_places ++ forms) forms) }
+    ensures bad { (forms : List Form) → IfBad result (IsBadAt text.now at.old (places_form with_places ++ forms)) }
+{
+    if !with_places {
+        return Ok(Vec::new(alloc));
+    }
+    let Some(count) = read_place_count(text, at) else {
+        return Err(Stop::BadLine(at.lines + 1));
+    };
+    match read_place_entries(alloc, text, at, count) {
+        Ok(places) => Ok(places),
+        Err(stop) => Err(stop),
+    }
+}
+
+/// Reads the last line, after which nothing may stand.
+pub(crate) fn read_tail(text: &[u8], at: &mut Position) -> Result<(), Stop>
+    requires short { length text.now ≤ 1073741824 }
+    requires at { IsAt text.now at.old }
+    ensures bytes { OnOk result (bytes_from text.now at.old ≡ lines_text (codes "end" ∷ [])) }
+    ensures lines { OnOk result (at.new.lines ≡ at.old.lines + 1) }
+    ensures within { OnOk result (at.new.lines ≤ 1073741824) }
+    ensures bad { IfBad result (IsBadAt text.now at.old (End ∷ [])) }
+{
+    if !read_end(text, at) {
+        return Err(Stop::BadLine(at.lines + 1));
+    }
+    if at.start < text.len() {
+        return Err(Stop::BadLine(at.lines + 1));
+    }
+    Ok(())
+}
+
+/// The parts of a report, and how many lines it has.
+#[derive(Drop)]
+pub(crate) struct Scanned {
+    pub parts: Parts,
+    pub lines: u64,
+}
+
+/// Reads the text of a report.
+pub(crate) fn scan(alloc: Global, text: &[u8]) -> Result<Scanned, Stop>
+    requires short { length text.now ≤ 1073741824 }
+    ensures read { IfOk result (λ scanned. IsScanned text.now scanned.parts scanned.lines) }
+    ensures few { IfOk result (λ scanned. scanned.lines ≤ 1073741824) }
+    ensures bad { IfBad result (IsBadFrom (Version ∷ (End ∷ [])) 0 text.now) }
+{
+    let mut at = Position { start: 0, lines: 0 };
+    let head = match read_head(text, &mut at) {
+        Ok(head) => head,
+        Err(stop) => return Err(stop),
+    };
+    let places = match read_places(alloc, text, &mut at, head.with_places) {
+        Ok(places) => places,
+        Err(stop) => return Err(stop),
+    };
+    let BlockEntries { races, numbers } = match read_blocks(alloc, text, &mut at, head.races) {
+        Ok(blocks) => blocks,
+        Err(stop) => return Err(stop),
+    };
+    match read_tail(text, &mut at) {
+        Ok(()) => {}
+        Err(stop) => return Err(stop),
+    }
+    Ok(Scanned {
+        parts: Parts {
+            counts: head.counts,
+            with_places: head.with_places,
+            places,
+            races,
+            numbers,
+        },
+        lines: at.lines,
+    })
+}
