@@ -23,12 +23,8 @@ pub(crate) fn read_version(text: &[u8], at: &mut Position) -> Option<bool>
         ((at.new ≡ at.old) × Lacks Version (bytes_from text.now at.old))
         (λ with_places. TakesLine text.now at.old at.new (if with_places then codes "shb-report 2" else codes "shb-report 1")) }
 {
-    let Some(line) = line_at(text, *at) else {
-        return None;
-    };
-    let Some(with_places) = version_in(line) else {
-        return None;
-    };
+    let line = line_at(text, *at)?;
+    let with_places = version_in(line)?;
     *at = at.after(line);
     Some(with_places)
 }
@@ -41,12 +37,8 @@ pub(crate) fn read_counts(text: &[u8], at: &mut Position) -> Option<Counts>
         ((at.new ≡ at.old) × Lacks CountsForm (bytes_from text.now at.old))
         (λ counts. TakesLine text.now at.old at.new (counts_line counts) × AreShown counts) }
 {
-    let Some(line) = line_at(text, *at) else {
-        return None;
-    };
-    let Some(counts) = counts_in(line) else {
-        return None;
-    };
+    let line = line_at(text, *at)?;
+    let counts = counts_in(line)?;
     *at = at.after(line);
     Some(counts)
 }
@@ -59,12 +51,8 @@ pub(crate) fn read_race_count(text: &[u8], at: &mut Position) -> Option<u64>
         ((at.new ≡ at.old) × Lacks Races (bytes_from text.now at.old) × Lacks RacesBeforePlaces (bytes_from text.now at.old))
         (λ n. TakesLine text.now at.old at.new (races_line n) × IsShown n) }
 {
-    let Some(line) = line_at(text, *at) else {
-        return None;
-    };
-    let Some(count) = number_in(line, b"races ") else {
-        return None;
-    };
+    let line = line_at(text, *at)?;
+    let count = number_in(line, b"races ")?;
     *at = at.after(line);
     Some(count)
 }
@@ -77,12 +65,8 @@ pub(crate) fn read_place_count(text: &[u8], at: &mut Position) -> Option<u64>
         ((at.new ≡ at.old) × Lacks Places (bytes_from text.now at.old))
         (λ n. TakesLine text.now at.old at.new (places_line n) × IsShown n) }
 {
-    let Some(line) = line_at(text, *at) else {
-        return None;
-    };
-    let Some(count) = number_in(line, b"places ") else {
-        return None;
-    };
+    let line = line_at(text, *at)?;
+    let count = number_in(line, b"places ")?;
     *at = at.after(line);
     Some(count)
 }
@@ -95,12 +79,8 @@ pub(crate) fn read_place_line(text: &[u8], at: &mut Position, number: u64) -> Op
         ((at.new ≡ at.old) × Lacks (PlaceForm number) (bytes_from text.now at.old))
         (λ n. TakesLine text.now at.old at.new (place_line number n) × IsShown n) }
 {
-    let Some(line) = line_at(text, *at) else {
-        return None;
-    };
-    let Some(count) = place_in(line, number) else {
-        return None;
-    };
+    let line = line_at(text, *at)?;
+    let count = place_in(line, number)?;
     *at = at.after(line);
     Some(count)
 }
@@ -113,12 +93,8 @@ pub(crate) fn read_race_line(text: &[u8], at: &mut Position, number: u64) -> Opt
         ((at.new ≡ at.old) × Lacks (Race number) (bytes_from text.now at.old))
         (λ pair. TakesLine text.now at.old at.new (race_numbers_line number pair.0 pair.1) × IsShown pair.0 × IsShown pair.1) }
 {
-    let Some(line) = line_at(text, *at) else {
-        return None;
-    };
-    let Some(pair) = race_in(line, number) else {
-        return None;
-    };
+    let line = line_at(text, *at)?;
+    let pair = race_in(line, number)?;
     *at = at.after(line);
     Some(pair)
 }
@@ -131,12 +107,8 @@ pub(crate) fn read_named(text: &[u8], at: &mut Position, label: &[u8], least: us
         ((at.new ≡ at.old) × ((l : Label) → label.now ≡ label_bytes l → least ≡ least_after l → Lacks (Named l) (bytes_from text.now at.old)))
         (λ span. TakesLine text.now at.old at.new (label.now ++ bytes_at text.now span) × IsRest least (bytes_at text.now span) × IsSpanIn text.now span) }
 {
-    let Some(line) = line_at(text, *at) else {
-        return None;
-    };
-    let Some(bytes) = named_in(line, label, least) else {
-        return None;
-    };
+    let line = line_at(text, *at)?;
+    let bytes = named_in(line, label, least)?;
     let span = Span {
         start: (at.start + label.len()) as u32,
         len: bytes.len() as u32,

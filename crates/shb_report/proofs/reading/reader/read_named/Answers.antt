@@ -4,10 +4,10 @@ use Rattle.shb_report.proofs.reading.LineEnds.{lacks_named, named_taken}
 use Rattle.shb_report.specs.Lines.{TakesLine}
 use Rattle.shb_report.proofs.reading.reader.read_named.Goals as goal
 
-pub returns-in_default-named_in : goal.returns-in_default-named_in
-returns-in_default-named_in c = (refl, λ l label least. lacks_named _ _ _ c.in-Some.ensures.begins l c.args.label.now c.args.least label least c.in_default-named_in.ensures)
+pub returns-in_err-bytes : goal.returns-in_err-bytes
+returns-in_err-bytes c = rw c.from_residual-in_err-bytes.ensures (refl, λ l label least. lacks_named _ _ _ c.in_ok-line.ensures.begins l c.args.label.now c.args.least label least c.in_err-bytes.ensures)
 
 pub returns : goal.returns
 returns c =
-    let taken = subst (λ p. TakesLine c.args.text.now c.args.at.now p c.in-Some.line.now) (sym c.after.ensures) c.in-Some.ensures in
-    named_taken _ _ _ _ _ _ _ taken c.in-Some-named_in.ensures.1 c.in-Some-named_in.ensures.0 _ refl
+    let taken = subst (λ p. TakesLine c.args.text.now c.args.at.now p c.in_ok-line.line.now) (sym c.after.ensures) c.in_ok-line.ensures in
+    named_taken _ _ _ _ _ _ _ taken c.in_ok-bytes.ensures.1 c.in_ok-bytes.ensures.0 _ refl
