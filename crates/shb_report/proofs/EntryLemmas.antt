@@ -1,5 +1,5 @@
 -- One block or place more.
-use Rattle.std.proofs.Common.{◌≡◌, ℕ, suc, ◌+◌, ◌-◌, ◌<◌, ◌≤◌, List, [], ◌∷◌, ◌++◌, length, map, codes, take, drop, refl, sym, ap, subst, ◌∙◌, arith, append_assoc, length-append, length-drop}
+use Rattle.std.proofs.Common.{◌≡◌, Result, Ok, Err, IsErrAnd, ℕ, suc, ◌+◌, ◌-◌, ◌<◌, ◌≤◌, List, [], ◌∷◌, ◌++◌, length, map, codes, take, drop, refl, sym, ap, subst, ◌∙◌, arith, append_assoc, length-append, length-drop}
 use Rattle.std.proofs.lemmas.List.{drop-append-le, length-map, map-append, map-id, take-append-le, take_all}
 use Rattle.std.proofs.Math.Seq.{drop-append_seam}
 use Rattle.std.specs.List.{AllByRecursion}
@@ -10,7 +10,7 @@ use Rattle.shb_report.specs.declared.reading.parts.PlaceEntry.{PlaceEntry}
 use Rattle.shb_report.specs.declared.reading.parts.RaceEntry.{RaceEntry}
 use Rattle.shb_report.specs.declared.reading.parts.Span.{Span}
 use Rattle.shb_report.specs.Forms.{Form, block_forms, place_forms}
-use Rattle.shb_report.specs.Lines.{IfStop, TakesLine, bytes_from}
+use Rattle.shb_report.specs.Lines.{IfBad, IfStop, TakesLine, bytes_from}
 use Rattle.shb_report.specs.Parts.{IsPlaceIn, IsRaceIn, IsSpanIn, ReadsBlock, ReadsBlocks, ReadsPlace, ReadsPlaces, TakesBlocks, block_at, block_before, block_from, blocks_at, bytes_at, place_at, place_before, places_at}
 use Rattle.shb_report.specs.Scan.{AddsShown}
 use Rattle.shb_report.specs.Value.{Block, IsBlock, IsPlace, IsRest, IsShown, Place, block_lines, lines_text, numbers_line, place_lines, race_numbers_line}
@@ -18,6 +18,11 @@ use Rattle.shb_report.specs.Value.{Block, IsBlock, IsPlace, IsRest, IsShown, Pla
 pub stop_weaker : (stop : Stop) (P Q : ℕ → Type 0) → ((n : ℕ) → P n → Q n) → IfStop stop P → IfStop stop Q
 stop_weaker (BadLine n) P Q weaker h = weaker n h
 stop_weaker Memory P Q weaker h = tt
+
+-- the same where the question mark hands the reason on
+pub bad_weaker : {T : Type 0} (result : Result T Stop) (stop : Stop) (P Q : ℕ → Type 0) → IsErrAnd result (λ s. s ≡ stop) → ((n : ℕ) → P n → Q n) → IfStop stop P → IfBad result Q
+bad_weaker (Ok x) stop P Q same weaker h = tt
+bad_weaker (Err s) stop P Q same weaker h = subst (λ s. IfStop s Q) (sym same) (stop_weaker stop P Q weaker h)
 
 -- what is expected where blocks or places are left
 one_less : (number count : ℕ) → number < count → count - number ≡ suc (count - (number + 1))

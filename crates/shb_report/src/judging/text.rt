@@ -52,10 +52,7 @@ fn judge_blocks(
     while number < count {
         number += 1;
         positions.clear();
-        let entry = match read_block(text, at, number, &keeping, &mut positions) {
-            Ok(entry) => entry,
-            Err(stop) => return Err(stop),
-        };
+        let entry = read_block(text, at, number, &keeping, &mut positions)?;
         let lines = lines_at(text, entry);
         let Ok(()) = judge_block(&mut judged, judge, trace, lines, positions.as_slice()) else {
             return Err(Stop::Memory);
@@ -87,22 +84,10 @@ fn judge_text<R: RandomSource>(
 {
     let mut judge = Judge::new(alloc, &*trace, &*links)?;
     let mut at = Position { start: 0, lines: 0 };
-    let head = match read_head(text, &mut at) {
-        Ok(head) => head,
-        Err(stop) => return Err(stop),
-    };
-    let places = match read_places(alloc, text, &mut at, head.with_places) {
-        Ok(places) => places,
-        Err(stop) => return Err(stop),
-    };
-    let judged = match judge_blocks(&mut judge, alloc, trace, text, &mut at, head.races) {
-        Ok(judged) => judged,
-        Err(stop) => return Err(stop),
-    };
-    match read_tail(text, &mut at) {
-        Ok(()) => {}
-        Err(stop) => return Err(stop),
-    }
+    let head = read_head(text, &mut at)?;
+    let places = read_places(alloc, text, &mut at, head.with_places)?;
+    let judged = judge_blocks(&mut judge, alloc, trace, text, &mut at, head.races)?;
+    read_tail(text, &mut at)?;
     let section = section_of(text, head.with_places, places.as_slice());
     let verdict = verdict_on(rt, alloc, trace.trace, head.counts, section, &judged)?;
     Ok(JudgedText {
@@ -145,10 +130,8 @@ fn verdict_of<R: RandomSource>(
     if text.len() as u64 > MOST_BYTES {
         return Err(stop_of_long(rt, alloc, trace, links, text));
     }
-    match judge_text(rt, alloc, trace, links, text) {
-        Ok(judged) => Ok(judged.verdict),
-        Err(stop) => Err(stop),
-    }
+    let judged = judge_text(rt, alloc, trace, links, text)?;
+    Ok(judged.verdict)
 }
 
 /// Reads a report of at most 1,073,741,824 bytes, of version 1 or version 2, and judges it against a

@@ -99,10 +99,7 @@ pub(crate) fn read_blocks(
     let mut number = 0;
     while number < count {
         number += 1;
-        let entry = match read_block(text, at, number, &AsWritten, &mut numbers) {
-            Ok(entry) => entry,
-            Err(stop) => return Err(stop),
-        };
+        let entry = read_block(text, at, number, &AsWritten, &mut numbers)?;
         let Ok(()) = races.push(entry) else {
             return Err(Stop::Memory);
         };
@@ -128,10 +125,7 @@ pub(crate) fn read_place_entries(
     let mut number = 0;
     while number < count {
         number += 1;
-        let entry = match read_place(text, at, number) {
-            Ok(entry) => entry,
-            Err(stop) => return Err(stop),
-        };
+        let entry = read_place(text, at, number)?;
         let Ok(()) = places.push(entry) else {
             return Err(Stop::Memory);
         };

@@ -208,10 +208,8 @@ fn report_of(alloc: Global, text: Vec<u8>, limit: u64) -> Result<Report, Stop>
     if text.len() as u64 > limit {
         return Err(stop_of_long(alloc, text.as_slice(), limit));
     }
-    match scan(alloc, text.as_slice()) {
-        Ok(scanned) => Ok(Report::new(text, scanned.parts)),
-        Err(stop) => Err(stop),
-    }
+    let scanned = scan(alloc, text.as_slice())?;
+    Ok(Report::new(text, scanned.parts))
 }
 
 /// Reads a report of at most so many bytes, of version 1 or version 2, with schedules.

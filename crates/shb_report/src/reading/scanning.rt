@@ -65,10 +65,8 @@ pub(crate) fn read_places(
     let Some(count) = read_place_count(text, at) else {
         return Err(Stop::BadLine(at.lines + 1));
     };
-    match read_place_entries(alloc, text, at, count) {
-        Ok(places) => Ok(places),
-        Err(stop) => Err(stop),
-    }
+    let places = read_place_entries(alloc, text, at, count)?;
+    Ok(places)
 }
 
 /// Reads the last line, after which nothing may stand.
@@ -104,22 +102,10 @@ pub(crate) fn scan(alloc: Global, text: &[u8]) -> Result<Scanned, Stop>
     ensures bad { IfBad result (IsBadFrom (Version ∷ (End ∷ [])) 0 text.now) }
 {
     let mut at = Position { start: 0, lines: 0 };
-    let head = match read_head(text, &mut at) {
-        Ok(head) => head,
-        Err(stop) => return Err(stop),
-    };
-    let places = match read_places(alloc, text, &mut at, head.with_places) {
-        Ok(places) => places,
-        Err(stop) => return Err(stop),
-    };
-    let BlockEntries { races, numbers } = match read_blocks(alloc, text, &mut at, head.races) {
-        Ok(blocks) => blocks,
-        Err(stop) => return Err(stop),
-    };
-    match read_tail(text, &mut at) {
-        Ok(()) => {}
-        Err(stop) => return Err(stop),
-    }
+    let head = read_head(text, &mut at)?;
+    let places = read_places(alloc, text, &mut at, head.with_places)?;
+    let BlockEntries { races, numbers } = read_blocks(alloc, text, &mut at, head.races)?;
+    read_tail(text, &mut at)?;
     Ok(Scanned {
         parts: Parts {
             counts: head.counts,

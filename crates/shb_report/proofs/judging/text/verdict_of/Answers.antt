@@ -1,18 +1,18 @@
 -- The verdict on a text within the limit, and its bad line.
 use Rattle.std.proofs.Common.{◌≤◌, length, arith}
 use Rattle.shb_report.proofs.Bad.{bad_short}
-use Rattle.shb_report.proofs.EntryLemmas.{stop_weaker}
+use Rattle.shb_report.proofs.EntryLemmas.{bad_weaker}
 use Rattle.shb_report.proofs.judging.TextVerdicts.{verdict_for}
 use Rattle.shb_report.proofs.judging.text.verdict_of.Goals as goal
 
-pub returns-in-Ok-clause-verdict : goal.returns-in-Ok-clause-verdict
-returns-in-Ok-clause-verdict g c =
+pub returns-clause-verdict : goal.returns-clause-verdict
+returns-clause-verdict g c =
     let text = c.args.text.now in
     let short : length text ≤ 1073741824 = omega (arith, c.if-text-gt-MOST_BYTES.false) in
-    verdict_for c.args.trace.now.trace.now text c.in-Ok.judged.lines c.in-Ok.judged.verdict short c.in-Ok.ensures.judged
+    verdict_for c.args.trace.now.trace.now text c.in_ok-judged.judged.lines c.in_ok-judged.judged.verdict short c.in_ok-judged.ensures.judged
 
-pub returns-in-Err-clause-bad : goal.returns-in-Err-clause-bad
-returns-in-Err-clause-bad g c =
+pub returns-in_err-judged-clause-bad : goal.returns-in_err-judged-clause-bad
+returns-in_err-judged-clause-bad g c =
     let text = c.args.text.now in
     let short : length text ≤ 1073741824 = omega (arith, c.if-text-gt-MOST_BYTES.false) in
-    stop_weaker c.in-Err.stop _ _ (λ n b. bad_short 1073741824 text n short b) c.in-Err.ensures.bad
+    bad_weaker c.from_residual.result c.in_err-judged.field-0.0 _ _ c.from_residual.ensures.1 (λ n b. bad_short 1073741824 text n short b) c.in_err-judged.ensures.bad

@@ -1,6 +1,6 @@
 -- The places stand after their count.
 use Rattle.shb_report.specs.Forms.{Places}
-use Rattle.shb_report.proofs.EntryLemmas.{stop_weaker}
+use Rattle.shb_report.proofs.EntryLemmas.{bad_weaker}
 use Rattle.shb_report.proofs.reading.Passing.{bad_at, passes_places}
 use Rattle.shb_report.proofs.reading.ScanLemmas.{section_read, with_section}
 use Rattle.shb_report.proofs.reading.scanning.read_places.Goals as goal
@@ -9,18 +9,18 @@ pub returns-in_default-clause-bad : goal.returns-in_default-clause-bad
 returns-in_default-clause-bad c = λ forms.
     with_section c.args.text.now c.args.at.now c.args.with_places forms _ c.if-not-with_places.false (bad_at Places forms _ _ _ c.in_default.ensures.0 c.in_default.ensures.1)
 
-pub returns-in-Ok-clause-read : goal.returns-in-Ok-clause-read
-returns-in-Ok-clause-read c =
-    section_read c.args.text.now c.args.at.now c.read_place_count.new.at _ c.args.with_places c.in-Some.count _ c.if-not-with_places.false c.in-Some.ensures.0 c.in-Some.ensures.1 c.in-Ok.ensures.read
+pub returns-clause-read : goal.returns-clause-read
+returns-clause-read c =
+    section_read c.args.text.now c.args.at.now c.read_place_count.new.at _ c.args.with_places c.in-Some.count _ c.if-not-with_places.false c.in-Some.ensures.0 c.in-Some.ensures.1 c.in_ok-places.ensures.read
 
-pub returns-in-Ok-clause-passes : goal.returns-in-Ok-clause-passes
-returns-in-Ok-clause-passes c = λ forms n b.
+pub returns-clause-passes : goal.returns-clause-passes
+returns-clause-passes c = λ forms n b.
     with_section c.args.text.now c.args.at.now c.args.with_places forms n c.if-not-with_places.false
-    (passes_places forms c.args.text.now c.args.at.now c.read_place_count.new.at c.in-Some.count c.in-Some.ensures.0 c.in-Some.ensures.1 n (c.in-Ok.ensures.passes forms n b))
+    (passes_places forms c.args.text.now c.args.at.now c.read_place_count.new.at c.in-Some.count c.in-Some.ensures.0 c.in-Some.ensures.1 n (c.in_ok-places.ensures.passes forms n b))
 
-pub returns-in-Err-clause-bad : goal.returns-in-Err-clause-bad
-returns-in-Err-clause-bad c = λ forms.
-    stop_weaker c.in-Err.stop _ _
+pub returns-in_err-places-clause-bad : goal.returns-in_err-places-clause-bad
+returns-in_err-places-clause-bad c = λ forms.
+    bad_weaker c.from_residual.result c.in_err-places.field-0.0 _ _ c.from_residual.ensures.1
     (λ n b. with_section c.args.text.now c.args.at.now c.args.with_places forms n c.if-not-with_places.false
     (passes_places forms c.args.text.now c.args.at.now c.read_place_count.new.at c.in-Some.count c.in-Some.ensures.0 c.in-Some.ensures.1 n b))
-    (c.in-Err.ensures.bad forms)
+    (c.in_err-places.ensures.bad forms)
