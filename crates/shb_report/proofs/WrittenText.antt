@@ -1,6 +1,5 @@
 -- The bytes that the writer puts together are the text of a report.
 use Rattle.std.proofs.Common.{◌≡◌, ℕ, ◌+◌, true, List, [], ◌∷◌, ◌++◌, length, map, codes, Option, None, Some, refl, sym, ap, subst, ◌∙◌, append_assoc}
-use Rattle.std.specs.Fmt.{decimal}
 use Rattle.std.specs.Prelude.{All, IsSomeAnd}
 use Rattle.std.proofs.lemmas.List.{length-map}
 use Rattle.std.proofs.lemmas.List.Elements.{All-head, All-tail}
@@ -9,8 +8,8 @@ use Rattle.shb_lines.specs.events.Race.{IsRaceList}
 use Rattle.shb_lines.specs.events.Schedule.{IsPrintedSchedule}
 use Rattle.shb_report.specs.declared.counts.Counts.{Counts}
 use Rattle.shb_report.specs.Places.{counts_in, places_of_pairs, section_bytes, shown_places}
-use Rattle.shb_report.specs.Report.{AllRaces, HasSchedule, IsReport, IsReportOn, ShownRace, block_bytes, blocks_from, counts_of, event_numbers, head_bytes, line_at, pair_of, schedule_line, tail_bytes}
-use Rattle.shb_report.specs.Value.{Block, block_lines, counts_line, lines_text, listed, places_section, race_numbers_line, races_line, report_text}
+use Rattle.shb_report.specs.Report.{AllRaces, HasSchedule, IsReport, IsReportOn, ShownRace, block_bytes, blocks_from, counts_of, head_bytes, pair_of, tail_bytes}
+use Rattle.shb_report.specs.Value.{block_lines, counts_line, lines_text, places_section, races_line, report_text}
 use Rattle.shb_report.specs.Written.{block_of, written_report}
 use Rattle.shb_report.proofs.EntryLemmas.{lines_text-append}
 
@@ -24,33 +23,9 @@ section_lines trace races = places_section (Some (shown_places trace (counts_in 
 abbrev section_of : TraceData → List (ℕ × ℕ) → List ℕ
 section_of trace races = section_bytes trace (counts_in (places_of_pairs trace (map pair_of races)))
 
-numbers_are : (events : List ℕ) → event_numbers events ≡ listed (map (λ event. event + 1) events)
-numbers_are [] = refl
-numbers_are (e ∷ events) = append_assoc (codes " ") (decimal (e + 1)) (event_numbers events) ∙ ap (λ l. codes " " ++ (decimal (e + 1) ++ l)) (numbers_are events)
-
--- the pieces of a block, put together one way and the other
-block_pieces : (number first second first_line second_line count events : List ℕ)
-    → (codes "race " ++ (number ++ (codes ": " ++ (first ++ (codes " " ++ (second ++ codes "\n"))))))
-    ++ (((codes "first " ++ (first_line ++ codes "\n")) ++ (codes "second " ++ (second_line ++ codes "\n"))) ++ ((codes "schedule " ++ (count ++ codes ":")) ++ (events ++ codes "\n")))
-    ≡ (codes "race " ++ (number ++ (codes ": " ++ (first ++ (codes " " ++ second)))))
-    ++ (10 ∷ ((codes "first " ++ first_line) ++ (10 ∷ ((codes "second " ++ second_line) ++ (10 ∷ ((codes "schedule " ++ (count ++ (codes ":" ++ events))) ++ (10 ∷ [])))))))
-block_pieces number first second first_line second_line count events = simp append_assoc
-
--- a block, by the line of its schedule
-abbrev with_schedule : TraceData → ℕ → ShownRace → List ℕ → List ℕ
-with_schedule trace number race schedule_line =
-    race_numbers_line number (race.pair.0 + 1) (race.pair.1 + 1)
-    ++ (10 ∷ ((codes "first " ++ line_at trace race.pair.0) ++ (10 ∷ ((codes "second " ++ line_at trace race.pair.1) ++ (10 ∷ (schedule_line ++ (10 ∷ [])))))))
-
 block_is : (trace : TraceData) (number : ℕ) (race : ShownRace) (schedule : List ℕ) → race.schedule ≡ Some schedule → block_bytes trace number race.pair race.schedule ≡ lines_text (block_lines number (block_of trace race ∷ []))
 block_is trace number race schedule is =
-    let numbers = map (λ event. event + 1) schedule in
-    let shown : Block = record { first = race.pair.0 + 1; second = race.pair.1 + 1; first_line = line_at trace race.pair.0; second_line = line_at trace race.pair.1; schedule = numbers } in
-    let count : length schedule ≡ length numbers = sym (length-map schedule _) in
     ap (λ s. block_bytes trace number race.pair s) is
-    ∙ block_pieces (decimal number) (decimal (race.pair.0 + 1)) (decimal (race.pair.1 + 1)) (line_at trace race.pair.0) (line_at trace race.pair.1) (decimal (length schedule)) (event_numbers schedule)
-    ∙ ap (λ events. with_schedule trace number race (codes "schedule " ++ (decimal (length schedule) ++ (codes ":" ++ events)))) (numbers_are schedule)
-    ∙ ap (λ n. with_schedule trace number race (codes "schedule " ++ (decimal n ++ (codes ":" ++ listed numbers)))) count
     ∙ ap (λ (s : Option (List ℕ)). lines_text (block_lines number (block_of trace (record { pair = race.pair; schedule = s }) ∷ []))) (sym is)
 
 -- blocks, one after another

@@ -2,3 +2,4 @@ mod HeldLemmas
 mod RunTexts
 mod DigitLemmas
 mod PlaceText
+mod BlockText

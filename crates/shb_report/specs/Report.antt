@@ -1,5 +1,5 @@
 -- The bytes of a report, in version 2, and which bytes are the report of a trace or of a text.
-use Rattle.std.specs.Prelude.{◌≡◌, ℕ, ◌+◌, Bool, MatchBool, List, [], ◌∷◌, ◌++◌, length, map, flat_map, All, slice_get, codes, decimal, Option, None, Some, IsSomeAnd, unwrap_or}
+use Rattle.std.specs.Prelude.{◌≡◌, ℕ, ◌+◌, Bool, MatchBool, List, [], ◌∷◌, ◌++◌, length, map, All, slice_get, codes, Option, None, Some, IsSomeAnd, unwrap_or}
 use Rattle.shb_lines.specs.declared.event.Pair.{Pair}
 use Rattle.shb_lines.specs.events.Race.{IsRaceList}
 use Rattle.shb_lines.specs.events.Schedule.{IsPrintedSchedule}
@@ -8,50 +8,26 @@ use Rattle.shb_lines.specs.text.TraceData.{IsTraceOf, TraceData}
 use Rattle.shb_report.specs.declared.counts.Counts.{Counts}
 use Rattle.shb_report.specs.Leading.{AreLeading}
 use Rattle.shb_report.specs.Places.{counts_in, places_of_pairs, section_bytes}
-use Rattle.shb_report.specs.Value.{counts_line, lines_text, races_line}
-
--- a label, a text and a line feed
-abbrev pub labelled_line : List ℕ → List ℕ → List ℕ
-labelled_line label text = label ++ (text ++ codes "\n")
+use Rattle.shb_report.specs.Value.{counts_line, lines_text, numbers_line, race_numbers_line, races_line}
 
 -- the first lines: the version, the counts of the trace and the number of races
 abbrev pub head_bytes : Counts → ℕ → List ℕ
 head_bytes counts races = lines_text (codes "shb-report 2" ∷ (counts_line counts ∷ (races_line races ∷ [])))
 
--- the number of a race, and the numbers of its two events, which are counted from 1
-abbrev pub race_line : ℕ → ℕ × ℕ → List ℕ
-race_line number pair =
-    codes "race " ++ (decimal number ++ (codes ": " ++ (decimal (pair.0 + 1) ++ (codes " " ++ (decimal (pair.1 + 1) ++ codes "\n")))))
-
--- a space and the number of an event, which is counted from 1
-abbrev pub event_number : ℕ → List ℕ
-event_number event = codes " " ++ decimal (event + 1)
-
-abbrev pub event_numbers : List ℕ → List ℕ
-event_numbers events = flat_map event_number events
-
--- how many events a schedule has
-abbrev pub schedule_start : ℕ → List ℕ
-schedule_start count = codes "schedule " ++ (decimal count ++ codes ":")
-
--- how many events a schedule has, and their numbers
-abbrev pub schedule_line : List ℕ → List ℕ
-schedule_line events = schedule_start (length events) ++ (event_numbers events ++ codes "\n")
-
-abbrev pub schedule_bytes : Option (List ℕ) → List ℕ
-schedule_bytes None = []
-schedule_bytes (Some events) = schedule_line events
-
 -- the line of an event as the text has it; every event of a trace has one
 abbrev pub line_at : TraceData → ℕ → List ℕ
 line_at trace event = unwrap_or (slice_get trace.lines event) []
 
-abbrev pub event_lines : TraceData → ℕ × ℕ → List ℕ
-event_lines trace pair = labelled_line (codes "first ") (line_at trace pair.0) ++ labelled_line (codes "second ") (line_at trace pair.1)
+-- the line of a schedule if there is one: how many events it has, and their numbers, which are counted from 1
+abbrev pub schedule_lines : Option (List ℕ) → List (List ℕ)
+schedule_lines None = []
+schedule_lines (Some events) = numbers_line (map (λ event. event + 1) events) ∷ []
 
--- the block of a race: its numbers, the lines of its two events, and its schedule if there is one
+-- the block of a race: its number and those of its two events, which are counted from 1, the lines of the two, and its schedule if there is one
 abbrev pub block_bytes : TraceData → ℕ → ℕ × ℕ → Option (List ℕ) → List ℕ
-block_bytes trace number pair schedule = race_line number pair ++ (event_lines trace pair ++ schedule_bytes schedule)
+block_bytes trace number pair schedule =
+    lines_text (race_numbers_line number (pair.0 + 1) (pair.1 + 1)
+    ∷ ((codes "first " ++ line_at trace pair.0) ∷ ((codes "second " ++ line_at trace pair.1) ∷ schedule_lines schedule)))
 
 abbrev pub tail_bytes : List ℕ
 tail_bytes = codes "end\n"

@@ -2,7 +2,7 @@
 ghost use Rattle.std.specs.Prelude.{◌≡◌, ◌+◌, ◌<◌, ◌≤◌, ◌++◌, length, MatchOption, OnOk, IfOk};
 ghost use Rattle.std.specs.List.{slice_range};
 ghost use Rattle.shb_positions.specs.Runs.{EndsInRange, run_positions};
-ghost use Rattle.shb_report.specs.Report.{event_number, event_numbers};
+ghost use Rattle.shb_report.specs.Pieces.{event_number, event_numbers};
 
 use super::buffer::TextBuffer;
 use shb_io::NoMemory;

@@ -1,5 +1,6 @@
 use Rattle.std.proofs.Common.{◌++◌, codes}
-use Rattle.shb_report.specs.Report.{labelled_line, line_at}
+use Rattle.shb_report.specs.Pieces.{labelled_line}
+use Rattle.shb_report.specs.Report.{line_at}
 use Rattle.shb_report.proofs.writing.HeldLemmas.{PutsPrefix-front, Puts-then, Puts-err}
 use Rattle.shb_report.proofs.writing.writer.put_event_lines.Goals as goal
 
