@@ -14,9 +14,7 @@ pub(crate) fn version_in(line: &[u8]) -> Option<bool>
         ((line.now ≢ codes "shb-report 1") × (line.now ≢ codes "shb-report 2"))
         (λ with_places. line.now ≡ (if with_places then codes "shb-report 2" else codes "shb-report 1")) }
 {
-    let Some(version) = after_label(line, b"shb-report ") else {
-        return None;
-    };
+    let version = after_label(line, b"shb-report ")?;
     match version {
         b"1" => Some(false),
         b"2" => Some(true),
@@ -40,9 +38,7 @@ pub(crate) fn number_in(text: &[u8], label: &[u8]) -> Option<u64>
         ((n : ℕ) → IsShown n → text.now ≢ label.now ++ decimal n)
         (λ n. IsShown n × (text.now ≡ label.now ++ decimal n)) }
 {
-    let Some((number, rest)) = labelled(text, label) else {
-        return None;
-    };
+    let (number, rest) = labelled(text, label)?;
     if rest.is_empty() { Some(number) } else { None }
 }
 
@@ -52,24 +48,16 @@ pub(crate) fn counts_in(line: &[u8]) -> Option<Counts>
         ((counts : Counts) → AreShown counts → line.now ≢ counts_line counts)
         (λ counts. AreShown counts × (line.now ≡ counts_line counts)) }
 {
-    let Some((events, after_events)) = labelled(line, b"events ") else {
-        return None;
-    };
-    let Some((threads, after_threads)) = labelled(after_events, b" threads ") else {
-        return None;
-    };
-    let Some((locks, after_locks)) = labelled(after_threads, b" locks ") else {
-        return None;
-    };
-    match number_in(after_locks, b" variables ") {
-        Some(variables) => Some(Counts {
-            events,
-            threads,
-            locks,
-            variables,
-        }),
-        None => None,
-    }
+    let (events, after_events) = labelled(line, b"events ")?;
+    let (threads, after_threads) = labelled(after_events, b" threads ")?;
+    let (locks, after_locks) = labelled(after_threads, b" locks ")?;
+    let variables = number_in(after_locks, b" variables ")?;
+    Some(Counts {
+        events,
+        threads,
+        locks,
+        variables,
+    })
 }
 
 /// What stands after a label and this number.
@@ -78,10 +66,8 @@ fn after_number<'t>(text: &'t [u8], label: &[u8], number: u64) -> Option<&'t [u8
         ((rest : List ℕ) → IsLabelled label.now text.now number rest → ⊥)
         (λ r. IsLabelled label.now text.now number r.now) }
 {
-    match labelled(text, label) {
-        Some((found, rest)) => { if found == number { Some(rest) } else { None } }
-        None => None,
-    }
+    let (found, rest) = labelled(text, label)?;
+    if found == number { Some(rest) } else { None }
 }
 
 /// How many races have the place of this number, in its first line.
@@ -90,10 +76,8 @@ pub(crate) fn place_in(line: &[u8], number: u64) -> Option<u64>
         ((n : ℕ) → IsShown n → line.now ≢ place_line number n)
         (λ n. IsShown n × (line.now ≡ place_line number n)) }
 {
-    match after_number(line, b"place ", number) {
-        Some(rest) => number_in(rest, b": "),
-        None => None,
-    }
+    let rest = after_number(line, b"place ", number)?;
+    number_in(rest, b": ")
 }
 
 /// The numbers of the two events of a race of this number, in its first line.
@@ -102,16 +86,10 @@ pub(crate) fn race_in(line: &[u8], number: u64) -> Option<(u64, u64)>
         ((i : ℕ) (j : ℕ) → IsShown i → IsShown j → line.now ≢ race_numbers_line number i j)
         (λ pair. IsShown pair.0 × IsShown pair.1 × (line.now ≡ race_numbers_line number pair.0 pair.1)) }
 {
-    let Some(numbers) = after_number(line, b"race ", number) else {
-        return None;
-    };
-    let Some((first, after_first)) = labelled(numbers, b": ") else {
-        return None;
-    };
-    match number_in(after_first, b" ") {
-        Some(second) => Some((first, second)),
-        None => None,
-    }
+    let numbers = after_number(line, b"race ", number)?;
+    let (first, after_first) = labelled(numbers, b": ")?;
+    let second = number_in(after_first, b" ")?;
+    Some((first, second))
 }
 
 /// The bytes after a label, of which there are at least so many, and not more than a line may have.
@@ -121,16 +99,9 @@ pub(crate) fn named_in<'t>(line: &'t [u8], label: &[u8], least: usize) -> Option
         ((bytes : List ℕ) → IsRest least bytes → line.now ≢ label.now ++ bytes)
         (λ r. IsRest least r.now × (line.now ≡ label.now ++ r.now)) }
 {
-    match after_label(line, label) {
-        Some(bytes) => {
-            if bytes.len() < least {
-                return None;
-            }
-            if bytes.len() > 4096 {
-                return None;
-            }
-            Some(bytes)
-        }
-        None => None,
+    let bytes = after_label(line, label)?;
+    if bytes.len() < least || bytes.len() > 4096 {
+        return None;
     }
+    Some(bytes)
 }

@@ -37,10 +37,8 @@ fn line_from(rest: &[u8]) -> Option<&[u8]>
     ensures { MatchOption result (HasNoLineFeed rest.now)
         (λ line. BeginsWithLine rest.now line.now (drop (length line.now + 1) rest.now)) }
 {
-    match memchr(b'\n', rest) {
-        Some(len) => Some(&rest[..len]),
-        None => None,
-    }
+    let len = memchr(b'\n', rest)?;
+    Some(&rest[..len])
 }
 
 /// The line at a position.

@@ -46,12 +46,8 @@ fn value_of(digits: &[u8]) -> Option<u64>
 {
     let mut value: u64 = 0;
     for digit in digits {
-        let Some(more) = value.checked_mul(10) else {
-            return None;
-        };
-        let Some(next) = more.checked_add(u64::from(*digit - b'0')) else {
-            return None;
-        };
+        let more = value.checked_mul(10)?;
+        let next = more.checked_add(u64::from(*digit - b'0'))?;
         value = next;
     }
     Some(value)
@@ -67,10 +63,8 @@ fn number(text: &[u8]) -> Option<(u64, &[u8])>
     if !is_numeral(digits) {
         return None;
     }
-    match value_of(digits) {
-        Some(value) => Some((value, rest)),
-        None => None,
-    }
+    let value = value_of(digits)?;
+    Some((value, rest))
 }
 
 /// What stands after a label at the front of a text.
@@ -86,8 +80,6 @@ pub(crate) fn labelled<'t>(text: &'t [u8], label: &[u8]) -> Option<(u64, &'t [u8
         ((n : ℕ) (rest : List ℕ) → n < 2 ^ 64 → IsLabelled label.now text.now n rest → ⊥)
         (λ r. (r.0 < 2 ^ 64) × IsLabelled label.now text.now r.0 r.1.now) }
 {
-    match after_label(text, label) {
-        Some(rest) => number(rest),
-        None => None,
-    }
+    let rest = after_label(text, label)?;
+    number(rest)
 }

@@ -2,5 +2,5 @@
 use Rattle.shb_report.proofs.reading.Digits.{labelled_by}
 use Rattle.shb_report.proofs.reading.scan.labelled.Goals as goal
 
-pub returns-in-Some : goal.returns-in-Some
-returns-in-Some c = labelled_by c.args.label.now c.args.text.now c.in-Some.rest.now c.number.result c.in-Some.ensures c.number.ensures
+pub returns : goal.returns
+returns c = labelled_by c.args.label.now c.args.text.now c.in_ok-rest.rest.now c.number.result c.in_ok-rest.ensures c.number.ensures

@@ -8,12 +8,11 @@ returns-then-not-is_numeral c =
     let split = c.split_digits.ensures in
     number_not_plain _ _ _ split.whole split.digits split.ends (λ plain. let yes = c.is_numeral.ensures.1 plain in search rules)
 
-pub returns-in-Some : goal.returns-in-Some
-returns-in-Some c =
+pub returns : goal.returns
+returns c =
     let split = c.split_digits.ensures in
-    (c.in-Some.ensures.0, number_is _ _ _ split.whole split.digits split.ends c.in-Some.value (c.if-not-is_numeral.ensures.0 (search rules)) c.in-Some.ensures.0 c.in-Some.ensures.1)
+    (c.in_ok-value.ensures.0, number_is _ _ _ split.whole split.digits split.ends c.in_ok-value.value (c.if-not-is_numeral.ensures.0 (search rules)) c.in_ok-value.ensures.0 c.in_ok-value.ensures.1)
 
-pub returns-in-None : goal.returns-in-None
-returns-in-None c =
-    let split = c.split_digits.ensures in
-    number_too_large _ _ _ split.whole split.digits split.ends c.in-None.ensures
+pub returns-in_err-value : goal.returns-in_err-value
+returns-in_err-value c = rw c.from_residual.ensures (let split = c.split_digits.ensures in
+    number_too_large _ _ _ split.whole split.digits split.ends c.in_err-value.ensures)
