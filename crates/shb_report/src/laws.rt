@@ -31,13 +31,15 @@ pub fn report_exists()
 /// A text is the text of at most one report in the grammar. So what is read of the text of a report is
 /// that report.
 pub fn report_of_a_text_is_unique()
-    ensures { (report other : ReportValue) → IsReportValue report → IsReportValue other → report_text report ≡ report_text other → report ≡ other }
+    ensures { (report other : ReportValue) → IsReportValue report → IsReportValue other
+        → report_text report ≡ report_text other → report ≡ other }
 {}
 
 /// A text has at most one bad line, and none where it is a report within the limit.
 pub fn bad_line_is_unique()
     ensures one { (limit : ℕ) (text : List ℕ) (m n : ℕ) → IsBadLine limit text m → IsBadLine limit text n → m ≡ n }
-    ensures no_report { (limit : ℕ) (text : List ℕ) (n : ℕ) (report : ReportValue) → IsReportText limit text report → IsBadLine limit text n → ⊥ }
+    ensures no_report { (limit : ℕ) (text : List ℕ) (n : ℕ) (report : ReportValue) → IsReportText limit text report
+        → IsBadLine limit text n → ⊥ }
 {}
 
 /// The report of a trace that the writer's parts are, with schedules, is the text of a report as it is

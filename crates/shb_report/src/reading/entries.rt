@@ -21,7 +21,8 @@ pub(crate) fn read_block<K: Keeping>(
     requires short { length text.now ≤ 1073741824 }
     requires at { IsAt text.now at.old }
     ensures at { OnOk result (IsAt text.now at.new) }
-    ensures read { IfOk result (λ entry. ReadsBlock (K.kept keeping.now) text.now at.old at.new number numbers.old.items numbers.new.items entry) }
+    ensures read { IfOk result (λ entry.
+        ReadsBlock (K.kept keeping.now) text.now at.old at.new number numbers.old.items numbers.new.items entry) }
     ensures passes { OnOk result ((forms : List Form) → Passes text.now at.old at.new (block_before number forms) forms) }
     ensures bad { (forms : List Form) → IfBad result (IsBadAt text.now at.old (block_before number forms)) }
 {

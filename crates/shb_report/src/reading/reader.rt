@@ -104,8 +104,10 @@ pub(crate) fn read_named(text: &[u8], at: &mut Position, label: &[u8], least: us
     requires short { length text.now ≤ 1073741824 }
     requires at { IsAt text.now at.old }
     ensures { MatchOption result
-        ((at.new ≡ at.old) × ((l : Label) → label.now ≡ label_bytes l → least ≡ least_after l → Lacks (Named l) (bytes_from text.now at.old)))
-        (λ span. TakesLine text.now at.old at.new (label.now ++ bytes_at text.now span) × IsRest least (bytes_at text.now span) × IsSpanIn text.now span) }
+        ((at.new ≡ at.old)
+        × ((l : Label) → label.now ≡ label_bytes l → least ≡ least_after l → Lacks (Named l) (bytes_from text.now at.old)))
+        (λ span. TakesLine text.now at.old at.new (label.now ++ bytes_at text.now span)
+        × IsRest least (bytes_at text.now span) × IsSpanIn text.now span) }
 {
     let line = line_at(text, *at)?;
     let bytes = named_in(line, label, least)?;
@@ -127,7 +129,8 @@ pub(crate) fn read_schedule<K: Keeping>(
     requires short { length text.now ≤ 1073741824 }
     requires at { IsAt text.now at.old }
     ensures { IfOk result (λ found. MatchBool found
-        ((ns : List ℕ) × AddsShown (K.kept keeping.now) numbers.old.items numbers.new.items ns × IsShown (length ns) × TakesLine text.now at.old at.new (numbers_line ns))
+        ((ns : List ℕ) × AddsShown (K.kept keeping.now) numbers.old.items numbers.new.items ns × IsShown (length ns)
+        × TakesLine text.now at.old at.new (numbers_line ns))
         ((at.new ≡ at.old) × Lacks Schedule (bytes_from text.now at.old))) }
 {
     let Some(line) = line_at(text, *at) else {

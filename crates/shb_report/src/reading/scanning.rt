@@ -26,7 +26,8 @@ pub(crate) fn read_head(text: &[u8], at: &mut Position) -> Result<Head, Stop>
     requires at { IsAt text.now at.old }
     ensures at { OnOk result (IsAt text.now at.new) }
     ensures read { IfOk result (λ head. ReadsHead text.now at.old at.new head) }
-    ensures passes { IfOk result (λ head. (forms : List Form) → Passes text.now at.old at.new (Version ∷ forms) (places_form head.with_places ++ (block_forms 1 head.races ++ forms))) }
+    ensures passes { IfOk result (λ head. (forms : List Form)
+        → Passes text.now at.old at.new (Version ∷ forms) (places_form head.with_places ++ (block_forms 1 head.races ++ forms))) }
     ensures bad { (forms : List Form) → IfBad result (IsBadAt text.now at.old (Version ∷ forms)) }
 {
     let Some(with_places) = read_version(text, at) else {

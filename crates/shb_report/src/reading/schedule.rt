@@ -37,7 +37,8 @@ pub(crate) fn add_schedule<K: Keeping>(
     numbers: &mut Vec<K::Kept>,
 ) -> Result<bool, NoMemory>
     ensures { IfOk result (λ good. MatchBool good
-        ((ns : List ℕ) × AddsShown (K.kept keeping.now) numbers.old.items numbers.new.items ns × IsShown (length ns) × (line.now ≡ numbers_line ns))
+        ((ns : List ℕ) × AddsShown (K.kept keeping.now) numbers.old.items numbers.new.items ns × IsShown (length ns)
+        × (line.now ≡ numbers_line ns))
         ((ns : List ℕ) → AllByRecursion IsShown ns → IsShown (length ns) → line.now ≢ numbers_line ns)) }
 {
     let Some((count, after_count)) = labelled(line, b"schedule ") else {
