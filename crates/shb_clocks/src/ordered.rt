@@ -20,3 +20,18 @@ pub struct Ordered<'a, O: Order> {
     pub ghost of_trace: { O.trace order.now ≡ trace.now.events.now },
     pub ghost linked: { links.now ≡ trace.now.events.now },
 }
+
+impl<'a, O: Order> Ordered<'a, O> {
+    /// A trace, its links and an order of it.
+    pub fn new(order: &'a O, trace: &'a Disciplined<'a>, links: &'a Links<'a>) -> Ordered<'a, O>
+        requires of_trace { O.trace order.now ≡ trace.now.events.now }
+        requires linked { links.now ≡ trace.now.events.now }
+        ensures { result.trace.now ≡ trace.now }
+    {
+        Ordered {
+            order,
+            trace,
+            links,
+        }
+    }
+}

@@ -10,10 +10,8 @@ ghost use Rattle.shb_pairs.specs.declared.screen.Mark.{Mark};
 ghost use Rattle.shb_pairs.specs.declared.screen.KeptRead.{KeptRead};
 
 use shb_clocks::{Order, Ordered};
-use shb_discipline::Disciplined;
 use shb_io::NoMemory;
 use shb_lines::variable;
-use shb_links::Links;
 use std::alloc::{AllocError, Global};
 
 /// The place of an event that isn't known any more, above that of each event.
@@ -262,27 +260,18 @@ fn flags_of(alloc: Global, table: &[Latest]) -> Result<Vec<bool>, AllocError>
 /// `NoMemory` where memory was refused.
 pub fn open_variables<O: Order>(
     alloc: Global,
-    order: &O,
-    trace: &Disciplined<'_>,
-    links: &Links<'_>,
+    ordered: &Ordered<'_, O>,
 ) -> Result<Vec<bool>, NoMemory>
-    requires of_trace { O.trace order.now ≡ trace.now.events.now }
-    requires linked { links.now ≡ trace.now.events.now }
-    ensures { IfOk result (λ flags. AreOpen trace.now.events.now flags.items) }
+    ensures { IfOk result (λ flags. AreOpen ordered.now.trace.now.events.now flags.items) }
 {
-    let ordered = Ordered {
-        order: &*order,
-        trace: &*trace,
-        links: &*links,
-    };
     let none = Latest {
         write: nothing(),
         read: no_read(),
     };
     let mut reads = Vec::new(alloc);
-    let mut table = vec![in alloc; none; trace.sizes.variables as usize]?;
-    for e in 0..trace.events.len() as u32 {
-        screen(&ordered, &mut reads, &mut table, e)?;
+    let mut table = vec![in alloc; none; ordered.trace.sizes.variables as usize]?;
+    for e in 0..ordered.trace.events.len() as u32 {
+        screen(ordered, &mut reads, &mut table, e)?;
     }
     Ok(flags_of(alloc, table.as_slice())?)
 }

@@ -82,15 +82,9 @@ impl<'a> Model for Judge<'a> {
 
 impl<'a> Judge<'a> {
     /// A judge of lists of this trace, by two passes over it. `NoMemory` where memory was refused.
-    pub fn new(
-        alloc: Global,
-        trace: &'a Disciplined<'a>,
-        links: &'a Links<'a>,
-    ) -> Result<Judge<'a>, NoMemory>
-        requires linked { links.now ≡ trace.now.events.now }
-        ensures { IfOk result (λ judge. judge ≡ trace.now.events.now) }
+    pub fn new(alloc: Global, linked: Linked<'a>) -> Result<Judge<'a>, NoMemory>
+        ensures { IfOk result (λ judge. judge ≡ linked.entry.events.now) }
     {
-        let linked = Linked::new(trace, links);
         let rules = Rules::new(alloc, linked)?;
         let walked = Walked::new(alloc, &rules.linked)?;
         Ok(Judge { rules, walked })
@@ -135,6 +129,6 @@ pub fn replay(
     ensures broken { IfOk result (λ answer. IfSome answer (λ b. IsBroken trace.now.events.now
         list.now pair.first pair.second b.at b.why)) }
 {
-    let mut judge = Judge::new(alloc, &*trace, &*links)?;
+    let mut judge = Judge::new(alloc, Linked::new(&*trace, &*links))?;
     Ok(judge.replay(list, pair))
 }

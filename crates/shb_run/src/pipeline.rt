@@ -17,7 +17,7 @@ use shb_discipline::Disciplined;
 use shb_fan::{FreeGate, Gate};
 use shb_io::{Sink, Source};
 use shb_lines::{Limits, Trace, parse};
-use shb_links::{Links, links_of};
+use shb_links::links_of;
 use shb_write::{BlockPlan, WriteError, write_report};
 use std::alloc::Global;
 use std::random::RandomSource;
@@ -35,23 +35,6 @@ fn summary_of(trace: &Trace, races: u64) -> Summary
         locks: u64::from(trace.locks()),
         variables: u64::from(trace.variables()),
         races,
-    }
-}
-
-/// A trace with its links and an order of it.
-fn ordered_of<'a, O: Order>(
-    order: &'a O,
-    trace: &'a Disciplined<'a>,
-    links: &'a Links<'a>,
-) -> Ordered<'a, O>
-    requires of_trace { O.trace order.now ≡ trace.now.events.now }
-    requires linked { links.now ≡ trace.now.events.now }
-    ensures { result.trace.now ≡ trace.now }
-{
-    Ordered {
-        order,
-        trace,
-        links,
     }
 }
 
@@ -116,7 +99,7 @@ fn report<R: Threads + Wait + Sync + RandomSource, K: Sink, P: Gate + Sync, W: G
 {
     let links = links_of(alloc, &*trace)?;
     let order = by_event(alloc, &*trace, &links)?;
-    let ordered = ordered_of(&order, &*trace, &links);
+    let ordered = Ordered::new(&order, &*trace, &links);
     report_by(rt, alloc, sink, &ordered, task, gates)
 }
 

@@ -39,7 +39,7 @@ pub fn races_of<R: Threads + Wait + Sync, O: Order + Sync, G: Gate + Sync>(
 ) -> Result<Vec<Pair>, NoMemory>
     ensures listed { IfOk result (λ races. IsRaceList ordered.now.trace.now.events.now (map ends races.items)) }
 {
-    let flags = open_variables(alloc, ordered.order, ordered.trace, ordered.links)?;
+    let flags = open_variables(alloc, ordered)?;
     let accesses = accesses_of_open(alloc, ordered.trace, &flags)?;
     let pieces = pieces(alloc, &accesses)?;
     let job = PairJob::new(

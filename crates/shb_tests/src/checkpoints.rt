@@ -4,7 +4,7 @@
 use crate::asserting::same;
 use crate::fixtures::{Question, asked};
 use shb_discipline::Disciplined;
-use shb_links::Links;
+use shb_links::{Linked, Links};
 use shb_witness::{checkpoints_of, front_of};
 use std::alloc::Global;
 use std::test::Fail;
@@ -30,7 +30,7 @@ impl Question for Fronts {
         trace: &Disciplined<'_>,
         links: &Links<'_>,
     ) -> Result<Vec<u32>, Fail> {
-        let points = checkpoints_of(alloc, trace, links)?;
+        let points = checkpoints_of(alloc, &Linked::new(trace, links))?;
         let mut fronts = Vec::new(alloc);
         for cut in [63, 64, 127, 128, 191, 192, 200] {
             fronts.push(front_of(Some(points.as_slice()), &[cut]))?;

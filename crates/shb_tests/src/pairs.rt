@@ -3,7 +3,7 @@ ghost use Rattle.std.specs.Prelude.{◌≡◌, ◌<◌, ◌≤◌, length};
 
 use crate::asserting::{holds, same, same_in_row};
 use crate::fixtures::{Mixture, Question, asked, pair, push_mixed_lines};
-use shb_clocks::{FullClocks, Order, full, versions};
+use shb_clocks::{FullClocks, Order, Ordered, full, versions};
 use shb_discipline::Disciplined;
 use shb_fan::Job;
 use shb_io::NoMemory;
@@ -47,26 +47,28 @@ impl Question for OpenFlags {
         links: &Links<'_>,
     ) -> Result<Vec<bool>, Fail> {
         let order = versions(alloc, trace, links)?;
-        Ok(open_variables(alloc, &order, trace, links)?)
+        Ok(open_variables(alloc, &Ordered::new(&order, trace, links))?)
     }
 }
 
 /// What the search finds among these accesses.
 fn found_among<O: Order>(
     alloc: Global,
-    order: &O,
-    trace: &Disciplined<'_>,
-    links: &Links<'_>,
+    ordered: &Ordered<'_, O>,
     accesses: &Accesses<'_>,
 ) -> Result<Found, NoMemory>
-    requires of_trace { O.trace order.now ≡ trace.now.events.now }
-    requires linked { links.now ≡ trace.now.events.now }
-    requires accesses { accesses.now.trace ≡ trace.now.events.now }
+    requires accesses { accesses.now.trace ≡ ordered.now.trace.now.events.now }
 {
     let pieces = pieces(alloc, accesses)?;
     let mut counts = Vec::new(alloc);
     let mut races = Vec::new(alloc);
-    let job = PairJob::new(&*order, &*trace, &*links, &*accesses, pieces.as_slice());
+    let job = PairJob::new(
+        ordered.order,
+        ordered.trace,
+        ordered.links,
+        &*accesses,
+        pieces.as_slice(),
+    );
     for k in 0..job.pieces() {
         let value = job.run(alloc, k)?;
         counts.push(value.len())?;
@@ -93,7 +95,8 @@ impl Question for Search {
     ) -> Result<Found, Fail> {
         let order = versions(alloc, trace, links)?;
         let accesses = accesses_of(alloc, trace)?;
-        Ok(found_among(alloc, &order, trace, links, &accesses)?)
+        let ordered = Ordered::new(&order, trace, links);
+        Ok(found_among(alloc, &ordered, &accesses)?)
     }
 }
 
@@ -110,9 +113,10 @@ impl Question for SearchOpen {
         links: &Links<'_>,
     ) -> Result<Found, Fail> {
         let order = versions(alloc, trace, links)?;
-        let flags = open_variables(alloc, &order, trace, links)?;
+        let ordered = Ordered::new(&order, trace, links);
+        let flags = open_variables(alloc, &ordered)?;
         let accesses = accesses_of_open(alloc, trace, flags.as_slice())?;
-        Ok(found_among(alloc, &order, trace, links, &accesses)?)
+        Ok(found_among(alloc, &ordered, &accesses)?)
     }
 }
 

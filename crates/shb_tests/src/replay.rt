@@ -6,7 +6,7 @@ use crate::asserting::same;
 use crate::fixtures::{Question, asked, pair};
 use shb_discipline::Disciplined;
 use shb_lines::Pair;
-use shb_links::Links;
+use shb_links::{Linked, Links};
 use shb_replay::{Broken, Judge, Why, replay};
 use std::alloc::Global;
 use std::test::Fail;
@@ -175,7 +175,7 @@ impl Question for OneJudge {
         trace: &Disciplined<'_>,
         links: &Links<'_>,
     ) -> Result<Option<[Option<Broken>; 5]>, Fail> {
-        let mut judge = Judge::new(alloc, trace, links)?;
+        let mut judge = Judge::new(alloc, Linked::new(trace, links))?;
         if trace.events.len() != 7 {
             return Ok(None);
         }

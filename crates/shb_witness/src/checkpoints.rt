@@ -5,9 +5,8 @@ ghost use Rattle.std.specs.Prelude.{◌≡◌, ℕ, ◌<◌, ◌≤◌, All, IfO
 ghost use Rattle.shb_lines.specs.declared.event.Event.{Event};
 ghost use Rattle.shb_witness.specs.Checkpoints.{AreReached, IsReached, Reach};
 
-use shb_discipline::Disciplined;
 use shb_io::NoMemory;
-use shb_links::Links;
+use shb_links::Linked;
 use std::alloc::Global;
 
 /// How far each thread has come before a position.
@@ -20,19 +19,14 @@ pub struct Checkpoint {
 
 /// Checkpoints of a trace, at least 64 events and 16 times the threads apart: about a byte of
 /// memory an event. `NoMemory` where memory was refused.
-pub fn checkpoints_of(
-    alloc: Global,
-    trace: &Disciplined<'_>,
-    links: &Links<'_>,
-) -> Result<Vec<Checkpoint>, NoMemory>
-    requires linked { links.now ≡ trace.now.events.now }
-    ensures { IfOk result (λ points. All (IsReached trace.now.events.now) points.items) }
+pub fn checkpoints_of(alloc: Global, linked: &Linked<'_>) -> Result<Vec<Checkpoint>, NoMemory>
+    ensures { IfOk result (λ points. All (IsReached linked.now.events.now) points.items) }
 {
-    let mut places = vec![in alloc; 0u32; trace.sizes.threads as usize]?;
-    let apart = trace.sizes.threads.saturating_mul(16).max(64);
+    let mut places = vec![in alloc; 0u32; linked.sizes.threads as usize]?;
+    let apart = linked.sizes.threads.saturating_mul(16).max(64);
     let mut next = apart;
     let mut points = Vec::new(alloc);
-    for k in 0..trace.events.len() as u32 {
+    for k in 0..linked.events.len() as u32 {
         if k == next {
             points.push(Checkpoint {
                 before: k,
@@ -40,8 +34,8 @@ pub fn checkpoints_of(
             })?;
             next = next.saturating_add(apart);
         }
-        let thread = trace.events[k as usize].thread;
-        reach(&mut places, thread as usize, links.local(k));
+        let thread = linked.events[k as usize].thread;
+        reach(&mut places, thread as usize, linked.links.local(k));
     }
     Ok(points)
 }

@@ -5,6 +5,7 @@ ghost use Rattle.shb_witness.specs.Checkpoints.{IsReached};
 use crate::found::Found;
 use shb_clocks::Order;
 use shb_io::NoMemory;
+use shb_links::Linked;
 use shb_report::NumberTexts;
 use shb_witness::{Checkpoint, checkpoints_of};
 use std::alloc::Global;
@@ -38,6 +39,7 @@ pub(crate) fn prepared_for<O: Order>(
     ensures { IfOk result (λ prepared. All (IsReached found.now.ordered.now.trace.now.events.now) prepared.points.items) }
 {
     let numbers = numbers_for(alloc, found)?;
-    let points = checkpoints_of(alloc, found.ordered.trace, found.ordered.links)?;
+    let linked = Linked::new(found.ordered.trace, found.ordered.links);
+    let points = checkpoints_of(alloc, &linked)?;
     Ok(Prepared { numbers, points })
 }

@@ -15,7 +15,7 @@ use crate::reading::{PlaceEntry, Report, Section, bytes_in, same_bytes};
 use shb_discipline::Disciplined;
 use shb_io::NoMemory;
 use shb_lines::{Pair, Trace};
-use shb_links::Links;
+use shb_links::{Linked, Links};
 use shb_replay::Judge;
 use std::alloc::Global;
 use std::random::RandomSource;
@@ -120,7 +120,7 @@ fn judge_listed(
     requires linked { links.now ≡ trace.now.events.now }
     ensures { IfOk result (AreJudged trace.now.trace.now report.now.blocks) }
 {
-    let mut judge = Judge::new(alloc, &*trace, &*links)?;
+    let mut judge = Judge::new(alloc, Linked::new(&*trace, &*links))?;
     let mut positions = Vec::new(alloc);
     let mut judged = JudgedBlocks::new(alloc);
     for k in 0..report.len() {

@@ -17,7 +17,7 @@ use crate::reading::{
 use shb_discipline::Disciplined;
 use shb_io::Source;
 use shb_lines::{ReadError, read_whole};
-use shb_links::{Links, links_of};
+use shb_links::{Linked, links_of};
 use shb_replay::Judge;
 use std::alloc::Global;
 use std::random::RandomSource;
@@ -73,16 +73,15 @@ fn judge_text<R: RandomSource>(
     rt: &R,
     alloc: Global,
     trace: &Disciplined<'_>,
-    links: &Links<'_>,
     text: &[u8],
 ) -> Result<JudgedText, Stop>
-    requires linked { links.now ≡ trace.now.events.now }
     requires short { length text.now ≤ 1073741824 }
     ensures judged { IfOk result (λ judged. IsJudgedText trace.now.trace.now text.now judged.lines judged.verdict) }
     ensures few { IfOk result (λ judged. judged.lines ≤ 1073741824) }
     ensures bad { IfBad result (IsBadFrom (Version ∷ (End ∷ [])) 0 text.now) }
 {
-    let mut judge = Judge::new(alloc, &*trace, &*links)?;
+    let links = links_of(alloc, &*trace)?;
+    let mut judge = Judge::new(alloc, Linked::new(&*trace, &links))?;
     let mut at = Position { start: 0, lines: 0 };
     let head = read_head(text, &mut at)?;
     let places = read_places(alloc, text, &mut at, head.with_places)?;
@@ -101,15 +100,13 @@ fn stop_of_long<R: RandomSource>(
     rt: &R,
     alloc: Global,
     trace: &Disciplined<'_>,
-    links: &Links<'_>,
     text: &[u8],
 ) -> Stop
-    requires linked { links.now ≡ trace.now.events.now }
     requires long { 1073741824 < length text.now }
     ensures { IfStop result (IsBadLine 1073741824 text.now) }
 {
     let (seen, _) = text.split_at(MOST_BYTES as usize);
-    match judge_text(rt, alloc, trace, links, seen) {
+    match judge_text(rt, alloc, trace, seen) {
         Ok(judged) => Stop::BadLine(judged.lines + 1),
         Err(stop) => stop,
     }
@@ -120,17 +117,15 @@ fn verdict_of<R: RandomSource>(
     rt: &R,
     alloc: Global,
     trace: &Disciplined<'_>,
-    links: &Links<'_>,
     text: &[u8],
 ) -> Result<Verdict, Stop>
-    requires linked { links.now ≡ trace.now.events.now }
     ensures verdict { IfOk result (IsVerdictFor trace.now.trace.now text.now) }
     ensures bad { IfBad result (IsBadLine 1073741824 text.now) }
 {
     if text.len() as u64 > MOST_BYTES {
-        return Err(stop_of_long(rt, alloc, trace, links, text));
+        return Err(stop_of_long(rt, alloc, trace, text));
     }
-    let judged = judge_text(rt, alloc, trace, links, text)?;
+    let judged = judge_text(rt, alloc, trace, text)?;
     Ok(judged.verdict)
 }
 
@@ -167,10 +162,7 @@ pub fn judge_report<S: Source, R: RandomSource>(
     ensures counted { IsSourceCounted (S.failure_count source.old) (S.failure_count source.new) result }
 {
     let text = read_whole(alloc, source, MOST_BYTES)?;
-    let Ok(links) = links_of(alloc, &*trace) else {
-        return Err(ReadError::Memory);
-    };
-    match verdict_of(rt, alloc, trace, &links, text.as_slice()) {
+    match verdict_of(rt, alloc, trace, text.as_slice()) {
         Ok(verdict) => Ok(verdict),
         Err(Stop::BadLine(line)) => Ok(Verdict::BadLine { line }),
         Err(Stop::Memory) => Err(ReadError::Memory),

@@ -4,7 +4,7 @@ use Rattle.shb_witness.proofs.checkpoints.checkpoints_of.Given as goal
 
 abbrev pub invariant-loop-k : goal.invariant-loop-k
 invariant-loop-k l = record {
-  as_long : length l.places.items ≡ l.trace.sizes.threads;
-  reached : Reach l.trace.events.now l.k l.places.items;
-  points : All (IsReached l.trace.events.now) l.points.items;
+  as_long : length l.places.items ≡ l.linked.sizes.threads;
+  reached : Reach l.linked.events.now l.k l.places.items;
+  points : All (IsReached l.linked.events.now) l.points.items;
 }

@@ -7,13 +7,13 @@ use Rattle.shb_report.specs.Reading.{IsBadLine}
 use Rattle.shb_report.proofs.judging.TextVerdicts.{verdict_told}
 use Rattle.shb_report.proofs.judging.text.judge_report.Goals as goal
 
-pub returns-in-Ok-verdict_of-clause-verdict : goal.returns-in-Ok-verdict_of-clause-verdict
-returns-in-Ok-verdict_of-clause-verdict g c =
+pub returns-in-Ok-clause-verdict : goal.returns-in-Ok-clause-verdict
+returns-in-Ok-clause-verdict g c =
     let trace = c.args.trace.now.trace.now in
     let text = c.in_ok-text.text in
     let whole = c.in_ok-text.ensures.ok in
-    let verdict = c.in-Ok-verdict_of.verdict in
-    let judged = subst (λ (t : List ℕ). IsVerdictFor trace t verdict) c.as_slice.ensures.value c.in-Ok-verdict_of.ensures.verdict in
+    let verdict = c.in-Ok.verdict in
+    let judged = subst (λ (t : List ℕ). IsVerdictFor trace t verdict) c.as_slice.ensures.value c.in-Ok.ensures.verdict in
     reads_text _ _ text.items 1073741824 (λ t. IsVerdictFor trace t verdict) (omega (arith, whole.0, text.ok.0)) whole.1 (λ short. whole.2 (omega (arith, short, text.ok.0))) judged
     (verdict_told trace _ _ text.items verdict whole.1 (λ short. whole.2 (omega (arith, short, text.ok.0))) judged)
 
