@@ -123,17 +123,13 @@ impl Question for SearchOpen {
 /// The races of a later access of a variable, by a test of each earlier event.
 fn push_races(
     races: &mut Vec<Pair>,
-    order: &FullClocks<'_>,
-    trace: &Disciplined<'_>,
-    links: &Links<'_>,
+    ordered: &Ordered<'_, FullClocks<'_>>,
     second: u32,
 ) -> Result<(), NoMemory>
-    requires of_trace { order.now ≡ trace.now.events.now }
-    requires linked { links.now ≡ trace.now.events.now }
-    requires second { second < length trace.now.events.now }
+    requires second { second < length ordered.now.trace.now.events.now }
 {
     for first in 0..second {
-        if is_race(order, trace, links, first, second) {
+        if is_race(ordered.order, ordered.trace, ordered.links, first, second) {
             races.push(pair(first, second))?;
         }
     }
@@ -153,11 +149,12 @@ impl Question for PlainRaces {
         links: &Links<'_>,
     ) -> Result<Vec<Pair>, Fail> {
         let order = full(alloc, trace, links)?;
+        let ordered = Ordered::new(&order, trace, links);
         let mut races = Vec::new(alloc);
         for x in 0..trace.sizes.variables {
             for second in 0..trace.events.len() as u32 {
                 if variable(trace.events[second as usize].op) == Some(x) {
-                    push_races(&mut races, &order, trace, links, second)?;
+                    push_races(&mut races, &ordered, second)?;
                 }
             }
         }
