@@ -1,5 +1,5 @@
-//! The orders that the run does not use: simpler ones, and one that is smaller and slower. Tests and
-//! benchmarks compare the run's order with them.
+//! The orders that the run does not use: two plain ones, and one that takes less memory and finds its
+//! clocks by a search. The tests compare the orders with one another.
 mod clock_versions;
 mod edges;
 mod full_clocks;

@@ -5,8 +5,8 @@
 //! vector clock for each event; [`ClockVersions`], a clock only where a thread may learn of others
 //! (its first event, an acquire, a join, a read that has a last write), found by binary search;
 //! [`EventRows`], rows that events share, with the number of a row for each event, so that a
-//! look-up searches nothing. The run uses the last; the others stand in `compared`. [`Ordered`] is a trace with its links and an
-//! order of it, which are of one trace by its type.
+//! look-up searches nothing. The run uses the last; the others stand in `compared`. [`Ordered`] is a
+//! trace with its links and an order of it, which are of one trace by its type.
 //!
 //! A vector clock of a property of events has for each thread the number of its events, from the
 //! first on, that have the property (`IsFront`). Clocks are rows of one flat list, and a row says
