@@ -21,6 +21,13 @@ preds_start trace xs none = record { as_long = ap length none; each = λ e lt. a
 pub writes_start : (trace : List Event) (xs : List (Option ℕ)) → xs ≡ [] → HasLastWrites trace 0 xs
 writes_start trace xs none = record { as_long = ap length none; each = λ e lt. absurd (omega (arith, lt)) }
 
+-- tables of nothing
+pub no_preds : (trace : List Event) (xs : List (Option ℕ)) → xs ≡ [] → HasPreds trace (length xs) xs
+no_preds trace xs none = subst (λ (n : ℕ). HasPreds trace n xs) (sym (ap length none)) (preds_start trace xs none)
+
+pub no_writes : (trace : List Event) (xs : List (Option ℕ)) → xs ≡ [] → HasLastWrites trace (length xs) xs
+no_writes trace xs none = subst (λ (n : ℕ). HasLastWrites trace n xs) (sym (ap length none)) (writes_start trace xs none)
+
 -- one more row of each table
 pub locals_more : (trace : List Event) (n : ℕ) (locals : List ℕ) (x : ℕ) → ((t : ℕ) → thread_at trace n ≡ Some t → x ≡ place_in_thread trace t n) → HasLocals trace n locals → HasLocals trace (n + 1) (locals ++ x ∷ [])
 locals_more trace n locals x is old = record {
@@ -60,15 +67,13 @@ local_answer trace seen locals x e t same has lt is of_e =
 option_answer : (P : ℕ → Type 0) (xs : List (Option ℕ)) (x : Option ℕ) (e : ℕ) → e < length xs → x ≡ get_or xs e x → Exactly P (get_or xs e None) → Exactly P x
 option_answer P xs x e lt is known = subst (λ (o : Option ℕ). Exactly P o) (sym (get_or_read xs e x lt is None)) known
 
-pub pred_answer : (trace seen : List Event) (preds : List (Option ℕ)) (x : Option ℕ) (e : ℕ) → trace ≡ seen → HasPreds trace (length trace) preds → e < length seen → x ≡ get_or preds e x → Exactly (λ p. IsPred seen p e) x
+pub pred_answer : (trace seen : List Event) (preds : List (Option ℕ)) (x : Option ℕ) (e : ℕ) → trace ≡ seen → HasPreds trace (length preds) preds → e < length preds → x ≡ get_or preds e x → Exactly (λ p. IsPred seen p e) x
 pred_answer trace seen preds x e same has lt is =
-    let size = ap length same in
-    subst (λ (tr : List Event). Exactly (λ p. IsPred tr p e) x) same (option_answer _ preds x e (let m = has.as_long in omega (arith, size, lt, m)) is (has.each e (omega (arith, size, lt))))
+    subst (λ (tr : List Event). Exactly (λ p. IsPred tr p e) x) same (option_answer _ preds x e lt is (has.each e lt))
 
-pub write_answer : (trace seen : List Event) (writes : List (Option ℕ)) (x : Option ℕ) (e : ℕ) → trace ≡ seen → HasLastWrites trace (length trace) writes → e < length seen → x ≡ get_or writes e x → Exactly (λ w. LastWrite seen w e) x
+pub write_answer : (trace seen : List Event) (writes : List (Option ℕ)) (x : Option ℕ) (e : ℕ) → trace ≡ seen → HasLastWrites trace (length writes) writes → e < length writes → x ≡ get_or writes e x → Exactly (λ w. LastWrite seen w e) x
 write_answer trace seen writes x e same has lt is =
-    let size = ap length same in
-    subst (λ (tr : List Event). Exactly (λ w. LastWrite tr w e) x) same (option_answer _ writes x e (let m = has.as_long in omega (arith, size, lt, m)) is (has.each e (omega (arith, size, lt))))
+    subst (λ (tr : List Event). Exactly (λ w. LastWrite tr w e) x) same (option_answer _ writes x e lt is (has.each e lt))
 
 pub local_number : (trace seen : List Event) (locals : List ℕ) (x e : ℕ) → trace ≡ seen → HasLocals trace (length trace) locals → e < length seen → x ≡ get_or locals e x → IsLocal seen e x
 local_number trace seen locals x e same has lt is =

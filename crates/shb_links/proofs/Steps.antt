@@ -57,6 +57,12 @@ module _ (trace : List Event) (e t : ℕ) (of_e : thread_at trace e ≡ Some t) 
           let forks_t : op_at trace p ≡ Some (Fork t) = rw (← same) forks in
           no_fork p (fork_earlier trace disciplined t p e forks_t of_e) forks_t
 
+  -- the same by the one fork of the thread
+  pub pred_by_fork : IsDisciplined trace → (last fork : Option ℕ) → Latest (OfThread trace t) e last → Exactly (ForksThread trace t) fork → Exactly (λ p. IsPred trace p e) (option_or last fork)
+  pred_by_fork disciplined (Some p) fork latest forks = in_thread t latest.holds of_e latest.earlier latest.last
+  pred_by_fork disciplined None (Some f) none forks = by_fork t forks of_e none
+  pred_by_fork disciplined None None none no_fork = pred_link disciplined None None none (λ k lt. no_fork k)
+
 -- the last write of a read, and of what is no read
 pub write_link : (trace : List Event) (e x : ℕ) → op_at trace e ≡ Some (Read x) → (o : Option ℕ) → Latest (WritesVariable trace x) e o → Exactly (λ w. LastWrite trace w e) o
 write_link trace e x reads (Some w) latest = record { variable = x; reads = reads; writes = latest.holds; earlier = latest.earlier; latest = latest.last }

@@ -43,10 +43,10 @@ pub record HasForks (trace : List Event) (forks : List (Option ℕ)) : Type 0 wh
 pub record HasLastEvents (trace : List Event) (last : List (Option ℕ)) : Type 0 where
   pub each : (t : ℕ) → Latest (OfThread trace t) (length trace) (slice_index_or last t None)
 
--- the links of the whole trace
+-- the links of the whole trace; the tables of predecessors and last writes are those of its first events, or empty
 pub record HasLinks (trace : List Event) (locals : List ℕ) (preds writes forks last : List (Option ℕ)) : Type 0 where
   pub places : HasLocals trace (length trace) locals
-  pub predecessors : HasPreds trace (length trace) preds
-  pub last_writes : HasLastWrites trace (length trace) writes
+  pub predecessors : HasPreds trace (length preds) preds
+  pub last_writes : HasLastWrites trace (length writes) writes
   pub forks_of_threads : HasForks trace forks
   pub last_events : HasLastEvents trace last

@@ -4,6 +4,7 @@ use Rattle.shb_lines.specs.declared.event.Event.{Event}
 use Rattle.shb_lines.specs.declared.event.Sizes.{Sizes}
 use Rattle.shb_links.specs.declared.pass.Entries.{Entries}
 use Rattle.shb_links.specs.declared.pass.LatestEvents.{LatestEvents}
+use Rattle.shb_links.specs.declared.pass.LocalTimes.{LocalTimes}
 use Rattle.shb_links.specs.Latest.{ForksThread, IsLatestTable, OfThread, WritesVariable}
 use Rattle.shb_links.specs.Links.{HasLastWrites, HasLocals, HasPreds}
 
@@ -18,3 +19,9 @@ pub record AreEntries (trace : List Event) (n : ℕ) (entries : Entries) : Type 
   pub locals : HasLocals trace n entries.locals.items
   pub preds : HasPreds trace n entries.preds.items
   pub last_writes : HasLastWrites trace n entries.last_writes.items
+
+-- the local time of each event, and the last event and the fork of each thread
+pub record AreLocalTimes (trace : List Event) (n : ℕ) (sizes : Sizes) (found : LocalTimes) : Type 0 where
+  pub locals : HasLocals trace n found.locals.items
+  pub last : IsLatestTable (OfThread trace) n sizes.threads found.last.items
+  pub forks : IsLatestTable (ForksThread trace) n sizes.threads found.forks.items

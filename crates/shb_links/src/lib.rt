@@ -6,6 +6,9 @@
 //! position, 0 for none: four bytes each. The table of last events is kept too: by the discipline
 //! nothing of a thread follows a join of it, so at a join it tells the thread's last event so far.
 //!
+//! [`links_without_tables`] keeps no predecessors and no last writes: they are searched for in the trace
+//! when they are asked for. A report without schedules asks for none.
+//!
 //! [`Linked`] is a trace with its links, which the crates above hand on as one.
 #![tactic(auto)]
 
@@ -14,6 +17,7 @@ mod link;
 mod linked;
 mod links;
 mod pass;
+mod search;
 
 pub use linked::Linked;
-pub use links::{Links, links_of};
+pub use links::{Links, links_of, links_without_tables};

@@ -9,14 +9,16 @@ ghost use Rattle.shb_links.specs.Latest.{Latest, OfThread, ForksThread};
 ghost use Rattle.shb_links.specs.Links.{Exactly, IsLocal, HasLinks};
 
 use crate::link::Link;
-use crate::pass::{Entries, LatestEvents};
+use crate::pass::{Entries, LatestEvents, LocalTimes};
+use crate::search::{latest_of_thread, latest_write};
 use shb_discipline::Disciplined;
 use shb_io::NoMemory;
+use shb_lines::Op;
 use std::alloc::Global;
 use std::marker::Model;
 
 /// The links of a trace. Contracts see it as the list of the trace's events, since that list fixes
-/// every link.
+/// every link. Predecessors and last writes stand in tables, or are searched for where these have none.
 pub struct Links<'a> {
     trace: &'a Disciplined<'a>,
     locals: Vec<u32>,
@@ -68,7 +70,20 @@ impl<'a> Links<'a> {
         requires { e < length self.now }
         ensures { Exactly (λ p. IsPred self.now p e) result }
     {
-        self.preds[e as usize].position()
+        if (e as usize) < self.preds.len() {
+            return self.preds[e as usize].position();
+        }
+        self.searched_pred(e)
+    }
+
+    /// The predecessor of event `e`, searched for.
+    fn searched_pred(&self, e: u32) -> Option<u32>
+        requires { e < length self.now }
+        ensures { Exactly (λ p. IsPred self.now p e) result }
+    {
+        let thread = self.trace.events[e as usize].thread;
+        let last = latest_of_thread(self.trace.events, thread, e);
+        last.or(self.forked_by(thread))
     }
 
     /// The fork of thread `t`. `None` exactly where no event forks it, as for every number that
@@ -101,7 +116,21 @@ impl<'a> Links<'a> {
         requires { e < length self.now }
         ensures { Exactly (λ w. LastWrite self.now w e) result }
     {
-        self.last_writes[e as usize].position()
+        if (e as usize) < self.last_writes.len() {
+            return self.last_writes[e as usize].position();
+        }
+        self.searched_write(e)
+    }
+
+    /// The last write of event `e`, searched for.
+    fn searched_write(&self, e: u32) -> Option<u32>
+        requires { e < length self.now }
+        ensures { Exactly (λ w. LastWrite self.now w e) result }
+    {
+        match self.trace.events[e as usize].op {
+            Op::Read(variable) => latest_write(self.trace.events, variable, e),
+            _ => None,
+        }
     }
 }
 
@@ -127,6 +156,35 @@ pub fn links_of<'a>(alloc: Global, trace: &'a Disciplined<'a>) -> Result<Links<'
         locals,
         preds,
         last_writes,
+        forks,
+        last,
+    })
+}
+
+/// The same links in four bytes an event, without tables of predecessors and last writes: these are searched
+/// for in the trace when they are asked for, which takes a step for each event between. It is for reports
+/// without schedules, which ask for none. `NoMemory` where memory was refused.
+pub fn links_without_tables<'a>(
+    alloc: Global,
+    trace: &'a Disciplined<'a>,
+) -> Result<Links<'a>, NoMemory>
+    ensures { IfOk result (λ links. links ≡ trace.now.events.now) }
+{
+    let mut found = LocalTimes::new(alloc, trace)?;
+    let count = trace.events.len() as u32;
+    for e in 0..count {
+        found.take(trace, e)?;
+    }
+    let LocalTimes {
+        locals,
+        last,
+        forks,
+    } = found;
+    Ok(Links {
+        trace,
+        locals,
+        preds: Vec::new(alloc),
+        last_writes: Vec::new(alloc),
         forks,
         last,
     })

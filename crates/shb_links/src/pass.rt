@@ -7,7 +7,7 @@ ghost use Rattle.shb_lines.specs.events.Events.{thread_at};
 ghost use Rattle.shb_lines.specs.events.Sizes.{IsWithin};
 ghost use Rattle.shb_links.specs.Latest.{IsLatestTable, OfThread, WritesVariable, ForksThread};
 ghost use Rattle.shb_links.specs.Links.{Exactly, HasLocals};
-ghost use Rattle.shb_links.specs.Pass.{AreEntries, AreLatest};
+ghost use Rattle.shb_links.specs.Pass.{AreEntries, AreLatest, AreLocalTimes};
 
 use crate::latest::empty_table;
 use crate::link::Link;
@@ -31,6 +31,15 @@ pub(crate) struct Entries {
     pub(crate) locals: Vec<u32>,
     pub(crate) preds: Vec<Link>,
     pub(crate) last_writes: Vec<Link>,
+}
+
+/// What the pass without tables has found: the local time of each event, and the last event and the fork
+/// of each thread.
+#[derive(Drop)]
+pub(crate) struct LocalTimes {
+    pub(crate) locals: Vec<u32>,
+    pub(crate) last: Vec<Option<u32>>,
+    pub(crate) forks: Vec<Option<u32>>,
 }
 
 impl LatestEvents {
@@ -90,6 +99,32 @@ impl Entries {
             .push(pred_of(trace, last, latest.forks.as_slice(), e))?;
         self.last_writes
             .push(last_write_of(trace, latest.writes.as_slice(), e))?;
+        Ok(())
+    }
+}
+
+impl LocalTimes {
+    /// No event met, with room for the events of a trace.
+    pub(crate) fn new(alloc: Global, trace: &Disciplined<'_>) -> Result<Self, NoMemory>
+        ensures { IfOk result (AreLocalTimes trace.now.events.now 0 trace.now.sizes) }
+    {
+        Ok(LocalTimes {
+            locals: Vec::with_capacity(alloc, trace.events.len())?,
+            last: empty_table(alloc, trace.sizes.threads)?,
+            forks: empty_table(alloc, trace.sizes.threads)?,
+        })
+    }
+
+    /// Takes event `e`.
+    pub(crate) fn take(&mut self, trace: &Disciplined<'_>, e: u32) -> Result<(), NoMemory>
+        requires in_range { e < length trace.now.events.now }
+        requires found { AreLocalTimes trace.now.events.now e trace.now.sizes self.old }
+        ensures { OnOk result (AreLocalTimes trace.now.events.now (e + 1) trace.now.sizes self.new) }
+    {
+        let local = next_local(trace, self.locals.as_slice(), self.last.as_slice(), e);
+        self.locals.push(local)?;
+        note_thread(trace.events, trace.sizes, &mut self.last, e);
+        note_fork(trace, &mut self.forks, e);
         Ok(())
     }
 }

@@ -1,0 +1,20 @@
+-- The local times and the tables of threads are those of all events, and nothing else is kept.
+use Rattle.std.proofs.Common.{◌≡◌, ℕ, length, refl, subst, arith}
+use Rattle.shb_links.specs.Latest.{IsLatestTable, ForksThread, OfThread}
+use Rattle.shb_links.specs.Links.{HasLocals}
+use Rattle.shb_links.proofs.Rows.{no_preds, no_writes}
+use Rattle.shb_links.proofs.Tables.{forks_whole, last_whole}
+use Rattle.shb_links.proofs.links.links_without_tables.Goals as goal
+
+pub invariant_of-result : goal.invariant_of-result
+invariant_of-result c =
+    let trace = c.args.trace.now in
+    let all : c.loop-e.e ≡ length trace.events.now = omega arith in
+    let found = c.loop-e.found in
+    record {
+      places = subst (λ (n : ℕ). HasLocals trace.events.now n found.locals.items) all c.loop-e.invariant.locals;
+      predecessors = no_preds trace.events.now _ c.new-2.ensures.items;
+      last_writes = no_writes trace.events.now _ c.new-3.ensures.items;
+      forks_of_threads = forks_whole trace.events.now trace.sizes found.forks.items trace.within (subst (λ (n : ℕ). IsLatestTable (ForksThread trace.events.now) n trace.sizes.threads found.forks.items) all c.loop-e.invariant.forks);
+      last_events = last_whole trace.events.now trace.sizes found.last.items trace.within (subst (λ (n : ℕ). IsLatestTable (OfThread trace.events.now) n trace.sizes.threads found.last.items) all c.loop-e.invariant.last);
+    }
