@@ -20,22 +20,23 @@ use Rattle.shb_check.specs.declared.errors.RunError.{RunError}
 use Rattle.shb_check.specs.declared.errors.RunError.TheVariants.{Trace, Source, Sink, Memory}
 use Rattle.shb_lines.specs.declared.read.ReadError.{ReadError}
 use Rattle.shb_lines.specs.declared.read.ReadError.TheVariants as reading
+use Rattle.shb_lines.specs.text.Limits.{standard_limits}
 use Rattle.shb_report.specs.declared.judging.verdict.Verdict.{Verdict}
 use Rattle.shb_report.specs.Checks.{IsVerdictFor}
 use Rattle.shb_check.specs.Checks.{CountsSources, IsChecked}
 use Rattle.shb_check.specs.Errors.{error_of_checking, error_of_reading}
-use Rattle.shb_check.specs.Judged.{IsAccepted, IsRefusalOf, limits}
+use Rattle.shb_check.specs.Judged.{IsAccepted, IsRefusalOf}
 use Rattle.shb_check.specs.Outcomes.{Grows, OnJudged, OnNoTrace, OnTrace}
 
 -- a text with no fault has no first one
-pub no_first_fault : (text : List ℕ) (line : ℕ) (fault : Fault) → HasNoFault limits text → IsFirstFault limits text line fault → ⊥
+pub no_first_fault : (text : List ℕ) (line : ℕ) (fault : Fault) → HasNoFault standard_limits text → IsFirstFault standard_limits text line fault → ⊥
 no_first_fault text line fault none first = none first.before fault first.within first.lowest.0
 
 -- the lines were stopped, and no event before that breaks the discipline
 pub stopped_of : (read : TraceData) (stop : Option LineFault) (found : LineFault) (events : List Event) (trace : TraceData)
-    → IsDisciplined events → events ≡ trace.events → trace ≡ read → stop ≡ Some found → (text : List ℕ) → IsReadingOf limits text read stop → IsFirstFault limits text found.line found.fault
+    → IsDisciplined events → events ≡ trace.events → trace ≡ read → stop ≡ Some found → (text : List ℕ) → IsReadingOf standard_limits text read stop → IsFirstFault standard_limits text found.line found.fault
 stopped_of read stop found events trace disciplined same as_read is text reading =
-    stopped limits text read found (subst (IsReadingOf limits text read) is reading) (subst (λ t. IsDisciplined t.events) as_read (subst IsDisciplined same disciplined))
+    stopped standard_limits text read found (subst (IsReadingOf standard_limits text read) is reading) (subst (λ t. IsDisciplined t.events) as_read (subst IsDisciplined same disciplined))
 
 -- neither a line nor an event has a fault
 pub accepted_of : (read : TraceData) (stop : Option LineFault) (events : List Event) (trace : TraceData)
@@ -46,8 +47,8 @@ accepted_of read stop events trace disciplined same as_read is = record {
   whole = λ text reading. (all text reading).1;
 }
   where
-    all : (text : List ℕ) → IsReadingOf limits text read stop → HasNoFault limits text × IsTraceOf (lines_of text) read
-    all text reading = accepted limits text read (subst (IsReadingOf limits text read) is reading) (subst (λ t. IsDisciplined t.events) as_read (subst IsDisciplined same disciplined))
+    all : (text : List ℕ) → IsReadingOf standard_limits text read stop → HasNoFault standard_limits text × IsTraceOf (lines_of text) read
+    all text reading = accepted standard_limits text read (subst (IsReadingOf standard_limits text read) is reading) (subst (λ t. IsDisciplined t.events) as_read (subst IsDisciplined same disciplined))
 
 -- what the check of the discipline refuses is refused for its first fault
 pub refused_of : {T : Type 0} (read : TraceData) (stop : Option LineFault) (error : CheckError) (r : Result T RunError)
@@ -56,25 +57,25 @@ refused_of read stop error (Ok x) is refusal = absurd is
 refused_of read stop error (Err e) is refusal = subst (IsRefusalOf read stop) (sym is) (told error refusal)
   where
     told : (error : CheckError) → IsRefusal read.events error → IsRefusalOf read stop (error_of_checking error)
-    told (checking.Undisciplined line fault) first = λ text reading. undisciplined limits text read stop line fault reading first
+    told (checking.Undisciplined line fault) first = λ text reading. undisciplined standard_limits text read stop line fault reading first
     told checking.Memory first = tt
 
 -- the fault of a refusal is the first of the text that was read
 pub refusal_first : {T : Type 0} (read : TraceData) (stop : Option LineFault) (n : ℕ) (known left : Option (List ℕ)) (error : RunError) (r : Result T RunError) → IsErrAnd r (λ e. e ≡ error)
-    → ReadsText n known left (λ text. IsReadingOf limits text read stop) → IsRefusalOf read stop error → OnTrace r (λ line fault. ReadsText n known left (λ text. IsFirstFault limits text line fault))
+    → ReadsText n known left (λ text. IsReadingOf standard_limits text read stop) → IsRefusalOf read stop error → OnTrace r (λ line fault. ReadsText n known left (λ text. IsFirstFault standard_limits text line fault))
 refusal_first read stop n known left error (Ok x) is reading refusal = absurd is
 refusal_first {T} read stop n known left error (Err e) is reading refusal =
-    subst (λ (x : RunError). OnTrace {T = T} (Err x) (λ line fault. ReadsText n known left (λ text. IsFirstFault limits text line fault))) (sym is) (told error refusal)
+    subst (λ (x : RunError). OnTrace {T = T} (Err x) (λ line fault. ReadsText n known left (λ text. IsFirstFault standard_limits text line fault))) (sym is) (told error refusal)
   where
-    told : (error : RunError) → IsRefusalOf read stop error → OnTrace {T = T} (Err error) (λ line fault. ReadsText n known left (λ text. IsFirstFault limits text line fault))
-    told (Trace line fault) refusal = reads_then n known left (λ text. IsReadingOf limits text read stop) (λ text. IsFirstFault limits text line fault) reading refusal
+    told : (error : RunError) → IsRefusalOf read stop error → OnTrace {T = T} (Err error) (λ line fault. ReadsText n known left (λ text. IsFirstFault standard_limits text line fault))
+    told (Trace line fault) refusal = reads_then n known left (λ text. IsReadingOf standard_limits text read stop) (λ text. IsFirstFault standard_limits text line fault) reading refusal
     told Source refusal = tt
     told Sink refusal = tt
     told Memory refusal = tt
 
 -- a text with no fault has none of which anything is to be said
 pub none_found : (read : TraceData) (stop : Option LineFault) (trace : TraceData) (known : Option (List ℕ)) (P : Type 0)
-    → IsAccepted read stop trace → IfSome known (λ text. IsReadingOf limits text read stop) → IfSome known (λ text. (line : ℕ) (fault : Fault) → IsFirstFault limits text line fault → P)
+    → IsAccepted read stop trace → IfSome known (λ text. IsReadingOf standard_limits text read stop) → IfSome known (λ text. (line : ℕ) (fault : Fault) → IsFirstFault standard_limits text line fault → P)
 none_found read stop trace known P accepted reading = IfSome_then known reading (λ text one line fault first. absurd (no_first_fault text line fault (accepted.faultless text one) first))
 
 -- what holds of each run that read its text
@@ -108,7 +109,7 @@ Grows-same a = ([], Appends-nil a)
 
 -- the verdict on two texts that were read
 pub checked_of : (text report : List ℕ) (read : TraceData) (stop : Option LineFault) (events : List Event) (trace : TraceData) (verdict : Verdict)
-    → IsDisciplined events → events ≡ trace.events → IsAccepted read stop trace → IsReadingOf limits text read stop → IsVerdictFor trace report verdict → IsChecked text report verdict
+    → IsDisciplined events → events ≡ trace.events → IsAccepted read stop trace → IsReadingOf standard_limits text read stop → IsVerdictFor trace report verdict → IsChecked text report verdict
 checked_of text report read stop events trace verdict disciplined same accepted reading is = record {
   faultless = accepted.faultless text reading;
   verdict_is = record {
@@ -134,7 +135,7 @@ of_no_trace (Err Source) P p = p
 of_no_trace (Err Sink) P p = tt
 of_no_trace (Err Memory) P p = tt
 
-pub of_any_fault : (known : Option (List ℕ)) (P : Type 0) → P → IfSome known (λ text. (line : ℕ) (fault : Fault) → IsFirstFault limits text line fault → P)
+pub of_any_fault : (known : Option (List ℕ)) (P : Type 0) → P → IfSome known (λ text. (line : ℕ) (fault : Fault) → IsFirstFault standard_limits text line fault → P)
 of_any_fault None P p = tt
 of_any_fault (Some text) P p = λ line fault first. p
 

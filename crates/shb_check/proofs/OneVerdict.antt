@@ -2,6 +2,7 @@
 use Rattle.std.proofs.Common.{◌≡◌, ◌⊎◌, inl, inr, ℕ, List, refl, sym, ap, subst, ◌∙◌}
 use Rattle.std.specs.Prelude.{◌↔◌}
 use Rattle.shb_lines.specs.events.Discipline.{IsDisciplined}
+use Rattle.shb_lines.specs.text.Limits.{most_bytes}
 use Rattle.shb_lines.specs.text.Text.{lines_of}
 use Rattle.shb_lines.specs.text.TraceData.{TraceData}
 use Rattle.shb_report.specs.declared.judging.verdict.Verdict.{Verdict}
@@ -11,7 +12,7 @@ use Rattle.shb_report.specs.Verdicts.{IsVerdict}
 use Rattle.shb_report.proofs.Bad.{bad_line_unique}
 use Rattle.shb_report.proofs.Injective.{report_same}
 use Rattle.shb_report.proofs.VerdictLaws.{one_verdict}
-use Rattle.shb_report.specs.Checks.{IsJudged, IsVerdictFor, most_bytes}
+use Rattle.shb_report.specs.Checks.{IsJudged, IsVerdictFor}
 use Rattle.shb_check.specs.Checks.{IsGoodFor, IsVerdictOf}
 use Rattle.shb_check.proofs.OneTrace.{one_whole_trace}
 

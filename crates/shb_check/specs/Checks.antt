@@ -2,17 +2,17 @@
 use Rattle.std.specs.Prelude.{◌≡◌, ℕ, ◌+◌, ◌⊎◌, List, length, Option, Result, Err}
 use Rattle.shb_io.specs.Devices.{AppendsPrefix}
 use Rattle.shb_lines.specs.events.Discipline.{IsDisciplined}
+use Rattle.shb_lines.specs.text.Limits.{most_bytes, standard_limits}
 use Rattle.shb_lines.specs.text.Text.{lines_of}
 use Rattle.shb_lines.specs.text.TraceData.{IsTraceOf, TraceData}
 use Rattle.shb_discipline.specs.FirstFault.{HasNoFault}
 use Rattle.shb_report.specs.declared.judging.verdict.Verdict.{Verdict}
-use Rattle.shb_report.specs.Checks.{IsVerdictFor, most_bytes}
+use Rattle.shb_report.specs.Checks.{IsVerdictFor}
 use Rattle.shb_report.specs.Reading.{IsReportText}
 use Rattle.shb_report.specs.Value.{ReportValue}
 use Rattle.shb_report.specs.Verdicts.{IsGoodReport, verdict_bytes}
 use Rattle.shb_check.specs.declared.errors.RunError.{RunError}
 use Rattle.shb_check.specs.declared.errors.RunError.TheVariants.{Source}
-use Rattle.shb_check.specs.Judged.{limits}
 
 -- the verdict on the text of a report against the trace of all lines of a text, which is disciplined
 pub record IsVerdictOf (text report : List ℕ) (verdict : Verdict) : Type 0 where
@@ -32,7 +32,7 @@ pub record IsGoodFor (text report : List ℕ) (races : ℕ) : Type 0 where
 
 -- the text of the trace has no fault, and this is the verdict of the two texts
 pub record IsChecked (text report : List ℕ) (verdict : Verdict) : Type 0 where
-  pub faultless : HasNoFault limits text
+  pub faultless : HasNoFault standard_limits text
   pub verdict_is : IsVerdictOf text report verdict
 
 -- of the verdict's line the first bytes were written, not all of them

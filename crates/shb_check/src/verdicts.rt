@@ -4,9 +4,9 @@ ghost use Rattle.std.specs.Io.KnownBytes.{Appends};
 ghost use Rattle.shb_discipline.specs.FirstFault.{IsFirstFault};
 ghost use Rattle.shb_lines.specs.text.Taking.{ReadsText, TakesAtMost};
 ghost use Rattle.shb_lines.specs.declared.fault.Fault.{Fault};
+ghost use Rattle.shb_lines.specs.text.Limits.{most_read, standard_limits};
 ghost use Rattle.shb_report.specs.Verdicts.{verdict_bytes};
 ghost use Rattle.shb_check.specs.Checks.{CountsSources, IsChecked, IsLineCutShort};
-ghost use Rattle.shb_check.specs.Judged.{limits};
 ghost use Rattle.shb_check.specs.Outcomes.{CountsSink, Grows, OnJudged, OnMemory, OnNoTrace, OnSink, OnTrace, OnWriting};
 
 use crate::errors::RunError;
@@ -50,27 +50,27 @@ pub fn check<S: Source, Q: Source, K: Sink, R: RandomSource>(
     requires sink_countable { K.failure_count sink.old < 2 ^ 64 - 1 }
 
     // The trace has no fault, the verdict is that of the two texts that were read, and its line was written.
-    ensures verdict { IfOk result (λ verdict. ReadsText 1073741825 (S.remaining trace_source.old) (S.remaining trace_source.new) (λ text.
-        ReadsText 1073741825 (Q.remaining report_source.old) (Q.remaining report_source.new) (λ report.
+    ensures verdict { IfOk result (λ verdict. ReadsText most_read (S.remaining trace_source.old) (S.remaining trace_source.new) (λ text.
+        ReadsText most_read (Q.remaining report_source.old) (Q.remaining report_source.new) (λ report.
         IsChecked text report verdict))) }
     ensures line { IfOk result (λ verdict. Appends (K.taken sink.old) (K.taken sink.new) (verdict_bytes verdict)) }
 
     // A refused trace has this fault first.
     ensures refused { OnTrace result (λ line fault.
-        ReadsText 1073741825 (S.remaining trace_source.old) (S.remaining trace_source.new) (λ text.
-        IsFirstFault limits text line fault)) }
+        ReadsText most_read (S.remaining trace_source.old) (S.remaining trace_source.new) (λ text.
+        IsFirstFault standard_limits text line fault)) }
 
     // What is written where no verdict is. Nothing, where the trace was refused, where a source failed,
     // where memory was refused, and where the trace has a fault.
     ensures unwritten { OnNoTrace result (sink.new ≡ sink.old) }
     ensures memory { OnMemory result (sink.new ≡ sink.old) }
     ensures silent { IfSome (S.remaining trace_source.old) (λ text. (line : ℕ) (fault : Fault) →
-        IsFirstFault limits text line fault → sink.new ≡ sink.old) }
+        IsFirstFault standard_limits text line fault → sink.new ≡ sink.old) }
 
     // Where the sink failed the trace has no fault, and less than the line of the verdict was written,
     // the front of it.
-    ensures cut { OnSink result (ReadsText 1073741825 (S.remaining trace_source.old) (S.remaining trace_source.new) (λ text.
-        ReadsText 1073741825 (Q.remaining report_source.old) (Q.remaining report_source.new) (λ report.
+    ensures cut { OnSink result (ReadsText most_read (S.remaining trace_source.old) (S.remaining trace_source.new) (λ text.
+        ReadsText most_read (Q.remaining report_source.old) (Q.remaining report_source.new) (λ report.
         IsLineCutShort text report (K.taken sink.old) (K.taken sink.new)))) }
 
     // What the sink took before stays as it was.
@@ -79,21 +79,21 @@ pub fn check<S: Source, Q: Source, K: Sink, R: RandomSource>(
     // Where the trace has a fault the report isn't read, whatever is answered; nor where the source of
     // the trace failed.
     ensures unread { IfSome (S.remaining trace_source.old) (λ text. (line : ℕ) (fault : Fault) →
-        IsFirstFault limits text line fault → report_source.new ≡ report_source.old) }
+        IsFirstFault standard_limits text line fault → report_source.new ≡ report_source.old) }
     ensures unread_after { OnTrace result (λ _ _. report_source.new ≡ report_source.old) }
     ensures unread_failed { S.failure_count trace_source.new ≡ S.failure_count trace_source.old + 1 →
         report_source.new ≡ report_source.old }
 
     // Each source lost its first bytes, at most 1,073,741,825, and gave no more than those. It lost
     // exactly those: of the trace where that was judged, of the report where a line was to be written.
-    ensures trace_taken { TakesAtMost 1073741825 (S.remaining trace_source.old) (S.remaining trace_source.new) }
-    ensures trace_given { S.given_count trace_source.new ≤ S.given_count trace_source.old + 1073741825 }
+    ensures trace_taken { TakesAtMost most_read (S.remaining trace_source.old) (S.remaining trace_source.new) }
+    ensures trace_given { S.given_count trace_source.new ≤ S.given_count trace_source.old + most_read }
     ensures trace_left { OnJudged result (IfSome (S.remaining trace_source.old) (λ text.
-        S.remaining trace_source.new ≡ Some (drop 1073741825 text))) }
-    ensures report_taken { TakesAtMost 1073741825 (Q.remaining report_source.old) (Q.remaining report_source.new) }
-    ensures report_given { Q.given_count report_source.new ≤ Q.given_count report_source.old + 1073741825 }
+        S.remaining trace_source.new ≡ Some (drop most_read text))) }
+    ensures report_taken { TakesAtMost most_read (Q.remaining report_source.old) (Q.remaining report_source.new) }
+    ensures report_given { Q.given_count report_source.new ≤ Q.given_count report_source.old + most_read }
     ensures report_left { OnWriting result (IfSome (Q.remaining report_source.old) (λ report.
-        Q.remaining report_source.new ≡ Some (drop 1073741825 report))) }
+        Q.remaining report_source.new ≡ Some (drop most_read report))) }
 
     // An error of a device comes with one failure more of that device, and no other answer does.
     ensures sources { CountsSources (S.failure_count trace_source.old) (S.failure_count trace_source.new)

@@ -2,6 +2,7 @@
 ghost use Rattle.std.specs.Prelude.{◌≡◌, ◌≤◌, IfErr, IfOk, OnOk, length};
 ghost use Rattle.shb_lines.specs.events.Discipline.{IsDisciplined};
 ghost use Rattle.shb_lines.specs.events.Sizes.{IsWithin};
+ghost use Rattle.shb_lines.specs.text.Limits.{most_events};
 ghost use Rattle.shb_discipline.specs.Faults.{IsFirstIfAny, IsRefusal};
 
 use crate::disciplined::Disciplined;
@@ -33,7 +34,7 @@ impl From<NoMemory> for CheckError {
 /// The first event that may not come after those before it: its line and its fault of lowest
 /// number.
 fn first_fault(alloc: Global, events: &[Event], sizes: Sizes) -> Result<Option<LineFault>, NoMemory>
-    requires few { length events.now ≤ 4194304 }
+    requires few { length events.now ≤ most_events }
     requires within { IsWithin events.now sizes }
     ensures { IfOk result (IsFirstIfAny events.now) }
 {

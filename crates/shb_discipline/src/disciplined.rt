@@ -2,6 +2,7 @@
 ghost use Rattle.std.specs.Prelude.{◌≡◌, ◌≤◌, length};
 ghost use Rattle.shb_lines.specs.events.Discipline.{IsDisciplined, IsDisciplined-prop};
 ghost use Rattle.shb_lines.specs.events.Sizes.{IsNumberedByAccess, IsNumberedByAccess-prop, IsWithin, IsWithin-prop};
+ghost use Rattle.shb_lines.specs.text.Limits.{most_events};
 ghost use Rattle.shb_lines.specs.text.TraceData.{sizes_of};
 
 use shb_lines::{Event, Sizes, Trace};
@@ -27,7 +28,7 @@ pub struct Disciplined<'a> {
     pub sizes: Sizes,
     pub ghost of_trace: { events.now ≡ trace.now.events },
     pub ghost of_sizes: { sizes ≡ sizes_of trace.now },
-    pub ghost few: { length events.now ≤ 4194304 },
+    pub ghost few: { length events.now ≤ most_events },
     pub ghost within: { IsWithin events.now sizes } by { IsWithin-prop events.now sizes },
     pub ghost numbered: { IsNumberedByAccess events.now } by { IsNumberedByAccess-prop events.now },
     pub ghost meets: { IsDisciplined events.now } by { IsDisciplined-prop events.now },

@@ -17,3 +17,4 @@ pub mod RunValues
 pub mod Accounts
 pub mod SeatSteps
 pub mod FanSteps
+pub mod JoinedLists

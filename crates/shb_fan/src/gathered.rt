@@ -16,6 +16,11 @@ use std::thread::Threads;
 /// How many runs for each worker there are at least, where pieces are drawn in runs.
 const RUNS_EACH: u64 = 16;
 
+/// Whether there are so many pieces that they are drawn in runs.
+pub(crate) fn has_many(pieces: u64, workers: Workers) -> bool {
+    u64::from(workers.get()) * (RUN * RUNS_EACH) <= pieces
+}
+
 /// Keeps what it is given.
 #[derive(Drop)]
 struct Keeper<T: Drop> {
@@ -42,10 +47,10 @@ impl<T: Drop> Taker<T> for Keeper<T> {
     }
 }
 
-/// Keeps the values of the runs that it is given, one run after the other.
+/// Keeps the values of the lists that it is given, one list after the other.
 #[derive(Drop)]
-struct RunKeeper<T: Drop> {
-    values: Vec<T>,
+pub(crate) struct RunKeeper<T: Drop> {
+    pub(crate) values: Vec<T>,
 }
 
 impl<T: Drop> Taker<Vec<T>> for RunKeeper<T> {
@@ -125,8 +130,8 @@ pub fn gather<
 >(rt: &R, alloc: Global, job: &J, gate: &G, workers: Workers) -> Result<Vec<T>, NoMemory>
     ensures { IfOk result (λ v. map J.meaning v.items ≡ values_of (J.value job.now) (J.count job.now)) }
 {
-    if job.pieces() < u64::from(workers.get()) * (RUN * RUNS_EACH) {
-        return gather_pieces(rt, alloc, job, gate, workers);
+    if has_many(job.pieces(), workers) {
+        return gather_runs(rt, alloc, job, gate, workers);
     }
-    gather_runs(rt, alloc, job, gate, workers)
+    gather_pieces(rt, alloc, job, gate, workers)
 }

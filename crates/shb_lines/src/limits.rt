@@ -2,6 +2,9 @@
 ghost use Rattle.std.specs.Prelude.{◌≡◌};
 ghost use Rattle.shb_lines.specs.text.Limits.{standard_limits};
 
+/// How many bytes a text may have, that of a trace or of a report.
+pub const MOST_BYTES: u64 = 1_073_741_824;
+
 /// How much a text may hold. The limits are this project's own; tests use small ones.
 #[derive(Clone, Copy, Debug, PartialEq, Eq)]
 pub struct Limits {
@@ -21,7 +24,7 @@ impl Limits {
         ensures { result ≡ standard_limits }
     {
         Limits {
-            text: 1_073_741_824,
+            text: MOST_BYTES,
             line: 4096,
             events: 4_194_304,
             threads: 1024,

@@ -1,7 +1,7 @@
 //! Reads the bytes of a source.
 ghost use Rattle.std.specs.Prelude.{◌≡◌, ◌+◌, ◌-◌, ◌^◌, ◌<◌, ◌≤◌, ◌++◌, ℕ, List, length, vec_len, IfOk};
 ghost use Rattle.std.specs.Io.KnownBytes.{Consumes, IsAtEnd};
-ghost use Rattle.shb_lines.specs.text.Limits.{most_text};
+ghost use Rattle.shb_lines.specs.text.Limits.{most_bytes};
 ghost use Rattle.shb_lines.specs.text.Taking.{IsSourceCounted, TakesAtMost};
 
 use crate::read::ReadError;
@@ -53,7 +53,7 @@ pub fn read_whole<S: Source>(
     source: &mut S,
     limit: u64,
 ) -> Result<Vec<u8>, ReadError>
-    requires standard { limit ≤ most_text }
+    requires standard { limit ≤ most_bytes }
     requires countable { S.failure_count source.old < 2 ^ 64 - 1 }
     ensures ok { IfOk result (λ text. (vec_len text ≤ limit + 1)
         × Consumes (S.remaining source.old) (S.remaining source.new) text.items

@@ -3,6 +3,7 @@
 ghost use Rattle.std.specs.Prelude.{◌≡◌, ◌≤◌, length};
 ghost use Rattle.shb_lines.specs.events.Discipline.{IsDisciplined, IsDisciplined-prop};
 ghost use Rattle.shb_lines.specs.events.Sizes.{IsNumberedByAccess, IsNumberedByAccess-prop, IsWithin, IsWithin-prop};
+ghost use Rattle.shb_lines.specs.text.Limits.{most_events};
 
 use crate::links::Links;
 use shb_discipline::Disciplined;
@@ -20,7 +21,7 @@ pub struct Linked<'a> {
     /// The links of the events: place in the thread, predecessor, last write.
     pub links: &'a Links<'a>,
     pub ghost of_links: { links.now ≡ events.now },
-    pub ghost few: { length events.now ≤ 4194304 },
+    pub ghost few: { length events.now ≤ most_events },
     pub ghost within: { IsWithin events.now sizes } by { IsWithin-prop events.now sizes },
     pub ghost numbered: { IsNumberedByAccess events.now } by { IsNumberedByAccess-prop events.now },
     pub ghost meets: { IsDisciplined events.now } by { IsDisciplined-prop events.now },

@@ -9,9 +9,9 @@ use Rattle.shb_lines.specs.events.Schedule.{IsPrintedSchedule}
 use Rattle.shb_lines.specs.text.TraceData.{TraceData}
 use Rattle.shb_lines.proofs.events.Decide.{printed_exists}
 use Rattle.shb_lines.proofs.events.RaceLists.{race_list_unique}
+use Rattle.shb_lines.proofs.events.Increasing.{increasing_equal}
 use Rattle.shb_report.specs.Leading.{AreLeading}
 use Rattle.shb_report.specs.Report.{AllRaces, AreBlocks, HasSchedule, IsReport, IsReportOn, LeadingRaces, ShownRace, block_bytes, blocks_from, front_bytes, pair_of, tail_bytes}
-use Rattle.shb_report.proofs.Increasing.{increasing_unique}
 use Rattle.shb_report.proofs.LeadingLemmas.{leading_unique}
 
 -- the pairs of some races that are shown
@@ -20,7 +20,7 @@ pairs_of shown = map (λ race. race.pair) shown
 
 -- a pair has one printed schedule
 printed_unique : (trace : List Event) (s t : List ℕ) (i j : ℕ) → IsPrintedSchedule trace s i j → IsPrintedSchedule trace t i j → s ≡ t
-printed_unique trace s t i j hs ht = increasing_unique s t hs.in_order ht.in_order
+printed_unique trace s t i j hs ht = increasing_equal s t hs.in_order ht.in_order
     (λ k. ((λ c. (ht.members k).1 ((hs.members k).0 c)), (λ c. (hs.members k).1 ((ht.members k).0 c))))
 
 -- a race is shown with one schedule, or with none

@@ -14,12 +14,12 @@ use Rattle.std.proofs.lemmas.Slice.Eq.{bytes_eq-Decides}
 use Rattle.shb_lines.specs.declared.event.Pair.{Pair}
 use Rattle.shb_lines.specs.text.TraceData.{TraceData}
 use Rattle.shb_lines.proofs.events.Listed.{IsListed, listed_more_no, listed_more_yes, listed_none}
+use Rattle.shb_lines.proofs.events.Increasing.{increasing_equal}
 use Rattle.shb_report.specs.declared.places.PlaceCount.{PlaceCount}
 use Rattle.shb_report.specs.Leading.{AreLeading, HasOnce, Leads, place_at}
 use Rattle.shb_report.specs.Places.{PlaceOf, counts_in, location_at, places_of_pairs, with_one_more, with_pair}
 use Rattle.shb_report.proofs.EntryLemmas.{each-weaker}
 use Rattle.shb_report.proofs.judging.GoodBlocks.{each_at}
-use Rattle.shb_report.proofs.Increasing.{increasing_unique}
 
 -- the first pairs of places
 abbrev pub firsts : List PlaceOf → List Pair
@@ -260,7 +260,7 @@ some_same (x ∷ xs) (y ∷ ys) e =
 -- a list has one list of leading races
 pub leading_unique : (trace : TraceData) (races leading others : List Pair) → AreLeading trace races leading → AreLeading trace races others → leading ≡ others
 leading_unique trace races leading others a b =
-    let same : a.numbers ≡ b.numbers = increasing_unique a.numbers b.numbers a.in_order b.in_order
+    let same : a.numbers ≡ b.numbers = increasing_equal a.numbers b.numbers a.in_order b.in_order
     (λ k. ((λ c. (b.members k).1 ((a.members k).0 c)), (λ c. (a.members k).1 ((b.members k).0 c)))) in
     some_same leading others (sym a.races_are ∙ ap (map (slice_get races)) same ∙ b.races_are)
 

@@ -1,15 +1,12 @@
 -- What is said of the text of a report against a trace.
 use Rattle.std.specs.Prelude.{ℕ, List}
+use Rattle.shb_lines.specs.text.Limits.{most_bytes}
 use Rattle.shb_lines.specs.text.TraceData.{TraceData}
 use Rattle.shb_report.specs.declared.judging.verdict.Verdict.{Verdict}
 use Rattle.shb_report.specs.declared.judging.verdict.Verdict.TheVariants.{BadLine}
 use Rattle.shb_report.specs.Reading.{IsBadLine, IsReportText}
 use Rattle.shb_report.specs.Value.{ReportValue}
 use Rattle.shb_report.specs.Verdicts.{IsVerdict}
-
--- how many bytes a report may have
-abbrev pub most_bytes : ℕ
-most_bytes = 1073741824
 
 -- the text is a report, and this is its verdict against the trace
 pub record IsJudged (trace : TraceData) (text : List ℕ) (verdict : Verdict) : Type 0 where

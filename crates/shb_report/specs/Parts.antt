@@ -1,6 +1,7 @@
 -- Where the parts of a report stand in its text, and the report that they are.
 use Rattle.std.specs.Prelude.{◌≡◌, ℕ, ◌+◌, ◌*◌, ◌≤◌, Bool, List, [], ◌∷◌, ◌++◌, length, map, take, drop, Option, None, Some, IfSome, codes, if◌then◌else◌}
 use Rattle.std.specs.List.{AllByRecursion}
+use Rattle.shb_lines.specs.text.Limits.{most_bytes}
 use Rattle.shb_report.specs.declared.reading.parts.Span.{Span}
 use Rattle.shb_report.specs.declared.reading.parts.Parts.{Parts}
 use Rattle.shb_report.specs.declared.reading.scanning.Head.{Head}
@@ -112,7 +113,7 @@ report_at text parts = record {
 
 -- the parts lie in the text
 pub record ArePartsIn (text : List ℕ) (parts : Parts) : Type 0 where
-  pub short : length text ≤ 1073741824
+  pub short : length text ≤ most_bytes
   pub places : AllByRecursion (IsPlaceIn text) parts.places.items
   pub races : AllByRecursion (IsRaceIn text parts.numbers.items) parts.races.items
 

@@ -11,6 +11,7 @@ use Rattle.shb_lines.specs.text.TraceData.{IsReadingOf, IsTraceOf, TraceData}
 use Rattle.shb_lines.proofs.events.Decide.{decide_below_pred, printed_exists}
 use Rattle.shb_lines.proofs.events.Schedulable.{printed_is_schedule}
 use Rattle.shb_lines.proofs.events.Unschedulable.{race_of_schedule}
+use Rattle.shb_lines.specs.text.Limits.{standard_limits}
 use Rattle.shb_discipline.proofs.FirstFault.{accepted}
 use Rattle.shb_report.specs.Report.{AllRaces, IsReportOn, IsReportOnText, LeadingRaces}
 use Rattle.shb_report.proofs.LeadingReports.{leading_are_races, race_led_once}
@@ -19,7 +20,7 @@ use Rattle.shb_write.specs.declared.errors.WriteError.TheVariants as writing
 use Rattle.shb_run.specs.declared.settings.Choice.{Choice}
 use Rattle.shb_run.specs.declared.settings.Choice.TheVariants.{All, Leading}
 use Rattle.shb_run.specs.declared.settings.Summary.{Summary}
-use Rattle.shb_check.specs.Judged.{IsAccepted, limits}
+use Rattle.shb_check.specs.Judged.{IsAccepted}
 use Rattle.shb_check.specs.Outcomes.{Grows}
 use Rattle.shb_run.specs.Runs.{AreWords, HasTrace, IsReportedBy, ListsPlaces, ListsSchedulable}
 use Rattle.shb_write.specs.Written.{CutsBlocksOn, CutsReportOn, OnFailedSink, OnNoMemory, These, WritesReport}
@@ -50,7 +51,7 @@ places_of trace races disciplined lists = record {
 }
 
 abbrev pub report_of_text : (Lists : TraceData → List (ℕ × ℕ) → Type 0) (ws : Bool) (text bytes : List ℕ) (read : TraceData) (stop : Option LineFault) (trace : TraceData)
-    → IsAccepted read stop trace → IsReadingOf limits text read stop → IsReportOn Lists ws trace bytes → IsReportOnText Lists ws text bytes
+    → IsAccepted read stop trace → IsReadingOf standard_limits text read stop → IsReportOn Lists ws trace bytes → IsReportOnText Lists ws text bytes
 report_of_text Lists ws text bytes read stop trace accepted reading report = record {
   trace = trace;
   trace_is = subst (IsTraceOf (lines_of text)) (sym accepted.same) (accepted.whole text reading);
@@ -58,7 +59,7 @@ report_of_text Lists ws text bytes read stop trace accepted reading report = rec
 }
 
 pub reported_of : (choice : Choice) (ws : Bool) (text : List ℕ) (read : TraceData) (stop : Option LineFault) (events : List Event) (trace : TraceData) (summary : Summary) (old new : Option (List ℕ))
-    → IsDisciplined events → events ≡ trace.events → IsAccepted read stop trace → ReportsTrace (ListedBy choice) ws trace summary old new → AreWords summary → IsReadingOf limits text read stop
+    → IsDisciplined events → events ≡ trace.events → IsAccepted read stop trace → ReportsTrace (ListedBy choice) ws trace summary old new → AreWords summary → IsReadingOf standard_limits text read stop
     → IsReportedBy choice ws text summary old new
 reported_of All ws text read stop events trace summary old new disciplined same accepted written words reading = record {
   faultless = accepted.faultless text reading;
@@ -82,7 +83,7 @@ reported_of Leading ws text read stop events trace summary old new disciplined s
 }
 
 -- a text that has no fault, and what holds of its trace
-pub has_trace : (text : List ℕ) (read : TraceData) (stop : Option LineFault) (trace : TraceData) (P : TraceData → Type 0) → IsAccepted read stop trace → P trace → IsReadingOf limits text read stop → HasTrace text P
+pub has_trace : (text : List ℕ) (read : TraceData) (stop : Option LineFault) (trace : TraceData) (P : TraceData → Type 0) → IsAccepted read stop trace → P trace → IsReadingOf standard_limits text read stop → HasTrace text P
 has_trace text read stop trace P accepted holds reading = record {
   faultless = accepted.faultless text reading;
   trace = trace;

@@ -10,6 +10,7 @@ use Rattle.shb_lines.specs.text.Faults.{HasNoLineFaultBefore}
 use Rattle.shb_lines.specs.text.Text.{IsLineText, lines_of}
 use Rattle.shb_lines.specs.text.TraceData.{IsTraceOf, TraceData}
 use Rattle.shb_lines.proofs.text.LineTexts.{held_texts}
+use Rattle.shb_lines.specs.text.Limits.{most_bytes, standard_limits}
 use Rattle.shb_discipline.specs.FirstFault.{HasNoFault}
 use Rattle.shb_report.specs.declared.judging.verdict.Verdict.{Verdict}
 use Rattle.shb_report.specs.declared.judging.verdict.Verdict.TheVariants.{Good, BadLine, BadCounts, BadRace, BadPlaces}
@@ -23,18 +24,17 @@ use Rattle.shb_report.proofs.Injective.{report_same}
 use Rattle.shb_report.proofs.VerdictLaws.{one_verdict}
 use Rattle.shb_report.proofs.WrittenGood.{all_are_races, written_good}
 use Rattle.shb_run.specs.declared.settings.Summary.{Summary}
-use Rattle.shb_report.specs.Checks.{IsJudged, IsVerdictFor, most_bytes}
+use Rattle.shb_report.specs.Checks.{IsJudged, IsVerdictFor}
 use Rattle.shb_check.specs.Checks.{IsVerdictOf}
-use Rattle.shb_check.specs.Judged.{limits}
 use Rattle.shb_run.specs.Runs.{AreWords, IsPlacesReported, IsReported}
 use Rattle.shb_run.specs.Written.{summary_of}
 use Rattle.shb_check.proofs.OneTrace.{one_whole_trace}
 
 -- the lines of the trace of a text that has no fault
-showable_of : (text : List ℕ) (trace : TraceData) → HasNoFault limits text → IsTraceOf (lines_of text) trace → AreShown (counts_of trace) → IsShowable trace
+showable_of : (text : List ℕ) (trace : TraceData) → HasNoFault standard_limits text → IsTraceOf (lines_of text) trace → AreShown (counts_of trace) → IsShowable trace
 showable_of text trace none is counts =
-    let faultless : HasNoLineFaultBefore limits text (length (lines_of text)) = λ k fault lt has. none k fault lt (inl has) in
-    let held = held_texts limits text (omega arith) (λ lines. IsTraceOf lines trace) None (faultless, is) in
+    let faultless : HasNoLineFaultBefore standard_limits text (length (lines_of text)) = λ k fault lt has. none k fault lt (inl has) in
+    let held = held_texts standard_limits text (omega arith) (λ lines. IsTraceOf lines trace) None (faultless, is) in
     record {
       counts = counts;
       a_line_each = ap (λ (l : List (List ℕ)). length l) is.lines_are ∙ length-map _ (λ e. e.text) ∙ AllZip-long _ _ _ is.events_are;
@@ -43,7 +43,7 @@ showable_of text trace none is counts =
 
 -- a report with schedules that lists races
 module _ (Lists : TraceData → List (ℕ × ℕ) → Type 0) (are_races : (trace : TraceData) (races : List (ℕ × ℕ)) → Lists trace races → (i j : ℕ) → Contains races (i, j) → Race trace.events i j)
-    (text bytes : List ℕ) (summary : Summary) (faultless : HasNoFault limits text) (report : IsReportOnText Lists true text bytes) (disciplined : IsDisciplined report.trace.events)
+    (text bytes : List ℕ) (summary : Summary) (faultless : HasNoFault standard_limits text) (report : IsReportOnText Lists true text bytes) (disciplined : IsDisciplined report.trace.events)
     (summary_is : summary ≡ summary_of report.trace (length report.report.races)) (words : AreWords summary) where
   abbrev trace : TraceData
   trace = report.trace

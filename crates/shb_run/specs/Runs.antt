@@ -8,11 +8,11 @@ use Rattle.shb_lines.specs.text.TraceData.{IsTraceOf, TraceData}
 use Rattle.shb_lines.specs.events.Order.{BelowPred}
 use Rattle.shb_lines.specs.events.Race.{Conflict, Race}
 use Rattle.shb_lines.specs.events.Schedule.{IsPrintedSchedule, IsSchedule}
+use Rattle.shb_lines.specs.text.Limits.{standard_limits}
 use Rattle.shb_discipline.specs.FirstFault.{HasNoFault}
 use Rattle.shb_report.specs.Leading.{HasOnce, place_at}
 use Rattle.shb_report.specs.Report.{IsPlacesReportOf, IsReportOf, pair_of}
 use Rattle.shb_report.specs.Value.{IsShown}
-use Rattle.shb_check.specs.Judged.{limits}
 use Rattle.shb_run.specs.declared.settings.Choice.{Choice}
 use Rattle.shb_run.specs.declared.settings.Choice.TheVariants.{All, Leading}
 use Rattle.shb_run.specs.declared.settings.Summary.{Summary}
@@ -34,7 +34,7 @@ pub record AreWords (summary : Summary) : Type 0 where
 
 -- the text has no fault, its report was written and nothing else, the trace of the report is disciplined, and the summary is that of the report
 pub record IsReported (with_schedules : Bool) (text : List ℕ) (summary : Summary) (old new : Option (List ℕ)) : Type 0 where
-  pub faultless : HasNoFault limits text
+  pub faultless : HasNoFault standard_limits text
   pub bytes : List ℕ
   pub report : IsReportOf with_schedules text bytes
   pub disciplined : IsDisciplined report.trace.events
@@ -51,7 +51,7 @@ pub record ListsPlaces (trace : TraceData) (races : List (ℕ × ℕ)) : Type 0 
 
 -- the text has no fault, its places report was written and nothing else, the trace of the report is disciplined, and the summary is that of the report
 pub record IsPlacesReported (with_schedules : Bool) (text : List ℕ) (summary : Summary) (old new : Option (List ℕ)) : Type 0 where
-  pub faultless : HasNoFault limits text
+  pub faultless : HasNoFault standard_limits text
   pub bytes : List ℕ
   pub report : IsPlacesReportOf with_schedules text bytes
   pub disciplined : IsDisciplined report.trace.events
@@ -67,7 +67,7 @@ IsReportedBy Leading with_schedules text summary old new = IsPlacesReported with
 
 -- the text has no fault, and P holds of its trace
 pub record HasTrace (text : List ℕ) (P : TraceData → Type 0) : Type 0 where
-  pub faultless : HasNoFault limits text
+  pub faultless : HasNoFault standard_limits text
   pub trace : TraceData
   pub trace_is : IsTraceOf (lines_of text) trace
   pub holds : P trace

@@ -2,8 +2,8 @@
 ghost use Rattle.std.specs.Prelude.{◌≡◌, ◌⊎◌, ◌+◌, ◌-◌, ◌^◌, ◌<◌, ◌≤◌, ℕ, List, Some, IfOk, IfSome, drop};
 ghost use Rattle.shb_discipline.specs.FirstFault.{IsFirstFault};
 ghost use Rattle.shb_lines.specs.declared.fault.Fault.{Fault};
+ghost use Rattle.shb_lines.specs.text.Limits.{most_read, standard_limits};
 ghost use Rattle.shb_lines.specs.text.Taking.{ReadsText, TakesAtMost};
-ghost use Rattle.shb_check.specs.Judged.{limits};
 ghost use Rattle.shb_check.specs.Outcomes.{CountsSink, CountsSource, Grows, OnJudged, OnMemory, OnNoTrace, OnSink, OnTrace};
 ghost use Rattle.shb_run.specs.Runs.{AreWords, HasTrace, IsReported, IsReportedBy};
 ghost use Rattle.shb_write.specs.Written.{CutsBlocksOn, CutsReportOn, IsSinkCounted, OnFailedSink, OnNoMemory};
@@ -135,25 +135,25 @@ pub fn run<S: Source, K: Sink, R: Threads + Wait + Sync + RandomSource>(
         IsReported settings.schedules text summary (K.taken sink.old) (K.taken sink.new))) }
 
     // The same, whether or not the source tells its bytes: of the text that was read.
-    ensures read { IfOk result (λ summary. ReadsText 1073741825 (S.remaining source.old) (S.remaining source.new) (λ text.
+    ensures read { IfOk result (λ summary. ReadsText most_read (S.remaining source.old) (S.remaining source.new) (λ text.
         IsReported settings.schedules text summary (K.taken sink.old) (K.taken sink.new))) }
 
     // A refused trace has this fault first.
-    ensures refused { OnTrace result (λ line fault. ReadsText 1073741825 (S.remaining source.old) (S.remaining source.new) (λ text.
-        IsFirstFault limits text line fault)) }
+    ensures refused { OnTrace result (λ line fault. ReadsText most_read (S.remaining source.old) (S.remaining source.new) (λ text.
+        IsFirstFault standard_limits text line fault)) }
 
     // What is written where no report is. Nothing, where the trace was refused or not read, and where
     // the text has a fault.
     ensures unwritten { OnNoTrace result (sink.new ≡ sink.old) }
     ensures silent { IfSome (S.remaining source.old) (λ text. (line : ℕ) (fault : Fault) →
-        IsFirstFault limits text line fault → sink.new ≡ sink.old) }
+        IsFirstFault standard_limits text line fault → sink.new ≡ sink.old) }
 
     // Where the sink failed the text has no fault, and less than its report was written, the front of
     // it. Where memory was refused it is the same, with all lines before the first block, or nothing.
-    ensures cut { OnSink result (ReadsText 1073741825 (S.remaining source.old) (S.remaining source.new) (λ text.
+    ensures cut { OnSink result (ReadsText most_read (S.remaining source.old) (S.remaining source.new) (λ text.
         HasTrace text (λ trace. CutsReport settings.schedules trace (K.taken sink.old) (K.taken sink.new)))) }
     ensures memory { OnMemory result ((sink.new ≡ sink.old)
-        ⊎ ReadsText 1073741825 (S.remaining source.old) (S.remaining source.new) (λ text.
+        ⊎ ReadsText most_read (S.remaining source.old) (S.remaining source.new) (λ text.
         HasTrace text (λ trace. CutsBlocks settings.schedules trace (K.taken sink.old) (K.taken sink.new)))) }
 
     // What the sink took before stays as it was.
@@ -161,10 +161,10 @@ pub fn run<S: Source, K: Sink, R: Threads + Wait + Sync + RandomSource>(
 
     // The source lost its first bytes, at most 1,073,741,825, and gave no more than those; it lost
     // exactly those where the text was judged.
-    ensures taken { TakesAtMost 1073741825 (S.remaining source.old) (S.remaining source.new) }
-    ensures given { S.given_count source.new ≤ S.given_count source.old + 1073741825 }
+    ensures taken { TakesAtMost most_read (S.remaining source.old) (S.remaining source.new) }
+    ensures given { S.given_count source.new ≤ S.given_count source.old + most_read }
     ensures left { OnJudged result (IfSome (S.remaining source.old) (λ text.
-        S.remaining source.new ≡ Some (drop 1073741825 text))) }
+        S.remaining source.new ≡ Some (drop most_read text))) }
 
     // An error of a device comes with one failure more of that device, and no other answer does.
     ensures source { CountsSource (S.failure_count source.old) (S.failure_count source.new) result }
@@ -203,25 +203,25 @@ pub fn run_gated<
         IsReported settings.schedules text summary (K.taken sink.old) (K.taken sink.new))) }
 
     // The same, whether or not the source tells its bytes: of the text that was read.
-    ensures read { IfOk result (λ summary. ReadsText 1073741825 (S.remaining source.old) (S.remaining source.new) (λ text.
+    ensures read { IfOk result (λ summary. ReadsText most_read (S.remaining source.old) (S.remaining source.new) (λ text.
         IsReported settings.schedules text summary (K.taken sink.old) (K.taken sink.new))) }
 
     // A refused trace has this fault first.
-    ensures refused { OnTrace result (λ line fault. ReadsText 1073741825 (S.remaining source.old) (S.remaining source.new) (λ text.
-        IsFirstFault limits text line fault)) }
+    ensures refused { OnTrace result (λ line fault. ReadsText most_read (S.remaining source.old) (S.remaining source.new) (λ text.
+        IsFirstFault standard_limits text line fault)) }
 
     // What is written where no report is. Nothing, where the trace was refused or not read, and where
     // the text has a fault.
     ensures unwritten { OnNoTrace result (sink.new ≡ sink.old) }
     ensures silent { IfSome (S.remaining source.old) (λ text. (line : ℕ) (fault : Fault) →
-        IsFirstFault limits text line fault → sink.new ≡ sink.old) }
+        IsFirstFault standard_limits text line fault → sink.new ≡ sink.old) }
 
     // Where the sink failed the text has no fault, and less than its report was written, the front of
     // it. Where memory was refused it is the same, with all lines before the first block, or nothing.
-    ensures cut { OnSink result (ReadsText 1073741825 (S.remaining source.old) (S.remaining source.new) (λ text.
+    ensures cut { OnSink result (ReadsText most_read (S.remaining source.old) (S.remaining source.new) (λ text.
         HasTrace text (λ trace. CutsReport settings.schedules trace (K.taken sink.old) (K.taken sink.new)))) }
     ensures memory { OnMemory result ((sink.new ≡ sink.old)
-        ⊎ ReadsText 1073741825 (S.remaining source.old) (S.remaining source.new) (λ text.
+        ⊎ ReadsText most_read (S.remaining source.old) (S.remaining source.new) (λ text.
         HasTrace text (λ trace. CutsBlocks settings.schedules trace (K.taken sink.old) (K.taken sink.new)))) }
 
     // What the sink took before stays as it was.
@@ -229,10 +229,10 @@ pub fn run_gated<
 
     // The source lost its first bytes, at most 1,073,741,825, and gave no more than those; it lost
     // exactly those where the text was judged.
-    ensures taken { TakesAtMost 1073741825 (S.remaining source.old) (S.remaining source.new) }
-    ensures given { S.given_count source.new ≤ S.given_count source.old + 1073741825 }
+    ensures taken { TakesAtMost most_read (S.remaining source.old) (S.remaining source.new) }
+    ensures given { S.given_count source.new ≤ S.given_count source.old + most_read }
     ensures left { OnJudged result (IfSome (S.remaining source.old) (λ text.
-        S.remaining source.new ≡ Some (drop 1073741825 text))) }
+        S.remaining source.new ≡ Some (drop most_read text))) }
 
     // An error of a device comes with one failure more of that device, and no other answer does.
     ensures source { CountsSource (S.failure_count source.old) (S.failure_count source.new) result }
@@ -273,25 +273,25 @@ pub(crate) fn run_task<
         IsReportedBy task.choice task.settings.schedules text summary (K.taken sink.old) (K.taken sink.new))) }
 
     // The same, whether or not the source tells its bytes: of the text that was read.
-    ensures read { IfOk result (λ summary. ReadsText 1073741825 (S.remaining source.old) (S.remaining source.new) (λ text.
+    ensures read { IfOk result (λ summary. ReadsText most_read (S.remaining source.old) (S.remaining source.new) (λ text.
         IsReportedBy task.choice task.settings.schedules text summary (K.taken sink.old) (K.taken sink.new))) }
 
     // A refused trace has this fault first.
-    ensures refused { OnTrace result (λ line fault. ReadsText 1073741825 (S.remaining source.old) (S.remaining source.new) (λ text.
-        IsFirstFault limits text line fault)) }
+    ensures refused { OnTrace result (λ line fault. ReadsText most_read (S.remaining source.old) (S.remaining source.new) (λ text.
+        IsFirstFault standard_limits text line fault)) }
 
     // What is written where no report is. Nothing, where the trace was refused or not read, and where
     // the text has a fault.
     ensures unwritten { OnNoTrace result (sink.new ≡ sink.old) }
     ensures silent { IfSome (S.remaining source.old) (λ text. (line : ℕ) (fault : Fault) →
-        IsFirstFault limits text line fault → sink.new ≡ sink.old) }
+        IsFirstFault standard_limits text line fault → sink.new ≡ sink.old) }
 
     // Where the sink failed the text has no fault, and less than its report was written, the front of
     // it. Where memory was refused it is the same, with all lines before the first block, or nothing.
-    ensures cut { OnSink result (ReadsText 1073741825 (S.remaining source.old) (S.remaining source.new) (λ text.
+    ensures cut { OnSink result (ReadsText most_read (S.remaining source.old) (S.remaining source.new) (λ text.
         HasTrace text (λ trace. CutsReportOn (ListedBy task.choice) task.settings.schedules trace (K.taken sink.old) (K.taken sink.new)))) }
     ensures memory { OnMemory result ((sink.new ≡ sink.old)
-        ⊎ ReadsText 1073741825 (S.remaining source.old) (S.remaining source.new) (λ text.
+        ⊎ ReadsText most_read (S.remaining source.old) (S.remaining source.new) (λ text.
         HasTrace text (λ trace. CutsBlocksOn (ListedBy task.choice) task.settings.schedules trace (K.taken sink.old) (K.taken sink.new)))) }
 
     // What the sink took before stays as it was.
@@ -299,10 +299,10 @@ pub(crate) fn run_task<
 
     // The source lost its first bytes, at most 1,073,741,825, and gave no more than those; it lost
     // exactly those where the text was judged.
-    ensures taken { TakesAtMost 1073741825 (S.remaining source.old) (S.remaining source.new) }
-    ensures given { S.given_count source.new ≤ S.given_count source.old + 1073741825 }
+    ensures taken { TakesAtMost most_read (S.remaining source.old) (S.remaining source.new) }
+    ensures given { S.given_count source.new ≤ S.given_count source.old + most_read }
     ensures left { OnJudged result (IfSome (S.remaining source.old) (λ text.
-        S.remaining source.new ≡ Some (drop 1073741825 text))) }
+        S.remaining source.new ≡ Some (drop most_read text))) }
 
     // An error of a device comes with one failure more of that device, and no other answer does.
     ensures source { CountsSource (S.failure_count source.old) (S.failure_count source.new) result }

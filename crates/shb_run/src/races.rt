@@ -1,13 +1,12 @@
 //! The races of a trace, from the pieces of its accesses, and which of them a report lists.
-ghost use Rattle.std.specs.Prelude.{◌≡◌, IfOk, map};
+ghost use Rattle.std.specs.Prelude.{IfOk, map};
 ghost use Rattle.shb_lines.specs.events.Race.{IsRaceList, ends};
-ghost use Rattle.shb_pairs.specs.Races.{joined};
 ghost use Rattle.shb_run.specs.Written.{ListedBy};
 
 use crate::settings::Choice;
 use shb_clocks::{Order, Ordered};
 use shb_discipline::Disciplined;
-use shb_fan::{Gate, Workers, gather};
+use shb_fan::{Gate, Workers, gather_joined};
 use shb_io::NoMemory;
 use shb_lines::Pair;
 use shb_pairs::{PairJob, accesses_of_open, open_variables, pieces};
@@ -16,17 +15,6 @@ use std::alloc::Global;
 use std::random::RandomSource;
 use std::sync::Wait;
 use std::thread::Threads;
-
-/// Lists of races, one after the other.
-fn join(alloc: Global, lists: Vec<Vec<Pair>>) -> Result<Vec<Pair>, NoMemory>
-    ensures joined { IfOk result (λ races. map ends races.items ≡ joined (map (λ list. map ends list.items) lists.items)) }
-{
-    let mut races = Vec::new(alloc);
-    for list in lists {
-        races.extend_from_slice(&list)?;
-    }
-    Ok(races)
-}
 
 /// All races of a trace, in the order in which a report lists them, found by workers that look at
 /// pieces at once. The variables that can't race are left out first, by one pass over the trace.
@@ -49,8 +37,7 @@ pub fn races_of<R: Threads + Wait + Sync, O: Order + Sync, G: Gate + Sync>(
         &accesses,
         &pieces,
     );
-    let lists = gather(rt, alloc, &job, gate, workers)?;
-    join(alloc, lists)
+    gather_joined(rt, alloc, &job, gate, workers)
 }
 
 /// Those of the races of a trace that a report lists. The others are let go.

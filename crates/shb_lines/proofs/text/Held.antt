@@ -7,7 +7,7 @@ use Rattle.shb_lines.specs.declared.fault.LineFault.{LineFault}
 use Rattle.shb_lines.specs.declared.names.Span.{Span}
 use Rattle.shb_lines.specs.declared.reader.Reader.{Reader}
 use Rattle.shb_lines.specs.declared.trace.Places.{Places}
-use Rattle.shb_lines.specs.text.Limits.{most_events, most_text}
+use Rattle.shb_lines.specs.text.Limits.{most_bytes, most_events}
 use Rattle.shb_lines.specs.text.Spans.{IsLineFrom, line_from, NamesWithSpans, StandIn, names_in, spans_in}
 use Rattle.shb_lines.specs.text.Parsed.{HasRead}
 use Rattle.shb_lines.specs.text.Numbers.{IsEventOf}
@@ -75,7 +75,7 @@ module _ (text : List ℕ) (reader : Reader) (places : Places) (noted : AreNoted
     lines_are = ap (λ v. map (line_from text) v.items) noted.starts ∙ lines_are text reader.starts.items (trace_of lines) read.starts_are;
   }
 
-  pub places_held : length text ≤ most_text + 1 → length reader.events.items ≤ most_events → HasRoom reader → AllByRecursion IsLineText (map (λ e. e.text) (trace_of lines)) → ArePlaces text places
+  pub places_held : length text ≤ most_bytes + 1 → length reader.events.items ≤ most_events → HasRoom reader → AllByRecursion IsLineText (map (λ e. e.text) (trace_of lines)) → ArePlaces text places
   places_held short few room line_texts =
       let n = length reader.events.items in
       let len = reader.events.ok.0 in

@@ -12,6 +12,7 @@ use Rattle.shb_lines.specs.events.Race.{Conflict}
 use Rattle.shb_lines.specs.events.Schedule.{IsSchedule}
 use Rattle.shb_lines.specs.text.TraceData.{TraceData}
 use Rattle.shb_lines.proofs.events.Places.{contains_at}
+use Rattle.shb_lines.specs.text.Limits.{most_events}
 use Rattle.shb_replay.proofs.Lowest.{answer_none}
 use Rattle.shb_replay.specs.declared.broken.Broken.{Broken}
 use Rattle.shb_replay.specs.Reasons.{IsBroken}
@@ -116,7 +117,7 @@ broken_lowest trace block events s pair broken events_are s_is pair_is good is =
     by (Schedule other) h = omega arith
 
 -- the numbers of its two events have 32 bits, and count from 1
-pub pair_bounds : (trace : TraceData) (events : List Event) (block : Block) → events ≡ trace.events → length events ≤ 4194304 → HasGoodPair trace block
+pub pair_bounds : (trace : TraceData) (events : List Event) (block : Block) → events ≡ trace.events → length events ≤ most_events → HasGoodPair trace block
     → (block.first < 4294967296) × (block.second < 4294967296) × (1 ≤ block.first) × (1 ≤ block.second)
 pair_bounds trace events block same few good =
     let count : length events ≡ length trace.events = ap (λ (l : List Event). length l) same in

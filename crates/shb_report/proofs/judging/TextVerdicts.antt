@@ -1,10 +1,11 @@
 -- The verdict on a text, and on all that a source told.
 use Rattle.std.proofs.Common.{ℕ, ◌≤◌, List, ◌++◌, length, Option, None, Some, IfSome, sym, ap, subst, ◌∙◌, append-nil}
 use Rattle.std.specs.Io.KnownBytes.{Consumes, IsAtEnd}
+use Rattle.shb_lines.specs.text.Limits.{most_bytes}
 use Rattle.shb_lines.specs.text.TraceData.{TraceData}
 use Rattle.shb_report.specs.declared.judging.verdict.Verdict.{Verdict}
 use Rattle.shb_report.specs.declared.judging.verdict.Verdict.TheVariants.{Good, BadLine, BadCounts, BadRace, BadPlaces}
-use Rattle.shb_report.specs.Checks.{IsJudged, IsVerdictFor, most_bytes}
+use Rattle.shb_report.specs.Checks.{IsJudged, IsVerdictFor}
 use Rattle.shb_report.specs.Judging.{IsJudgedText}
 use Rattle.shb_report.proofs.Bad.{bad_of_source}
 

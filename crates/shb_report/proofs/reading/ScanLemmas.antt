@@ -2,6 +2,7 @@
 use Rattle.std.proofs.Common.{◌≡◌, inl, inr, ℕ, ◌+◌, ◌*◌, ◌<◌, ◌≤◌, Bool, true, false, List, [], ◌∷◌, ◌++◌, length, codes, refl, sym, ap, subst, ◌∙◌, arith, append_assoc, append-nil, length-append, length-drop}
 use Rattle.std.proofs.lemmas.List.{length-map}
 use Rattle.std.specs.List.{AllByRecursion}
+use Rattle.shb_lines.specs.text.Limits.{most_bytes}
 use Rattle.shb_report.specs.declared.reading.lines.Position.{Position}
 use Rattle.shb_report.specs.declared.reading.parts.PlaceEntry.{PlaceEntry}
 use Rattle.shb_report.specs.declared.reading.parts.Parts.{Parts}
@@ -98,7 +99,7 @@ whole_text text a b c with_places counts entries blocks races lines shown_counts
     }
 
 pub scanned : (text : List ℕ) (a b c : Position) (parts : Parts) (races lines : ℕ)
-    → length text ≤ 1073741824 → AreShown parts.counts → IsShown races
+    → length text ≤ most_bytes → AreShown parts.counts → IsShown races
     → text ≡ lines_text (version_text parts.with_places ∷ (counts_line parts.counts ∷ (races_line races ∷ []))) ++ bytes_from text a → a.lines ≡ 3
     → ReadsSection text a b parts.with_places parts.places.items → ReadsBlocks text b c races parts.numbers.items parts.races.items
     → bytes_from text c ≡ lines_text (codes "end" ∷ []) → lines ≡ c.lines + 1 → IsScanned text parts lines

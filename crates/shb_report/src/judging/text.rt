@@ -1,5 +1,6 @@
 //! Judges the text of a report while it is read.
 ghost use Rattle.std.specs.Prelude.{◌≡◌, ◌+◌, ◌<◌, ◌≤◌, ◌-◌, ◌^◌, ◌++◌, ◌∷◌, [], ℕ, List, IfOk, OnOk, length};
+ghost use Rattle.shb_lines.specs.text.Limits.{most_bytes, most_read};
 ghost use Rattle.shb_lines.specs.text.Taking.{IsSourceCounted, ReadsText, TakesAtMost};
 ghost use Rattle.shb_report.specs.Checks.{IsVerdictFor};
 ghost use Rattle.shb_report.specs.Forms.{End, Form, IsBadFrom, Version, block_forms};
@@ -16,14 +17,11 @@ use crate::reading::{
 };
 use shb_discipline::Disciplined;
 use shb_io::Source;
-use shb_lines::{ReadError, read_whole};
+use shb_lines::{MOST_BYTES, ReadError, read_whole};
 use shb_links::{Linked, links_of};
 use shb_replay::Judge;
 use std::alloc::Global;
 use std::random::RandomSource;
-
-/// The most bytes that a report may have.
-const MOST_BYTES: u64 = 1_073_741_824;
 
 /// Reads so many blocks, and judges each once it is read. The room for the positions of a schedule is
 /// used again for each block.
@@ -36,7 +34,7 @@ fn judge_blocks(
     count: u64,
 ) -> Result<JudgedBlocks, Stop>
     requires judge { judge.old ≡ trace.now.trace.now.events }
-    requires short { length text.now ≤ 1073741824 }
+    requires short { length text.now ≤ most_bytes }
     requires at { IsAt text.now at.old }
     ensures at { OnOk result (IsAt text.now at.new) }
     ensures read { IfOk result (JudgesBlocks trace.now.trace.now text.now at.old at.new count) }
@@ -75,9 +73,9 @@ fn judge_text<R: RandomSource>(
     trace: &Disciplined<'_>,
     text: &[u8],
 ) -> Result<JudgedText, Stop>
-    requires short { length text.now ≤ 1073741824 }
+    requires short { length text.now ≤ most_bytes }
     ensures judged { IfOk result (λ judged. IsJudgedText trace.now.trace.now text.now judged.lines judged.verdict) }
-    ensures few { IfOk result (λ judged. judged.lines ≤ 1073741824) }
+    ensures few { IfOk result (λ judged. judged.lines ≤ most_bytes) }
     ensures bad { IfBad result (IsBadFrom (Version ∷ (End ∷ [])) 0 text.now) }
 {
     let links = links_of(alloc, &*trace)?;
@@ -102,8 +100,8 @@ fn stop_of_long<R: RandomSource>(
     trace: &Disciplined<'_>,
     text: &[u8],
 ) -> Stop
-    requires long { 1073741824 < length text.now }
-    ensures { IfStop result (IsBadLine 1073741824 text.now) }
+    requires long { most_bytes < length text.now }
+    ensures { IfStop result (IsBadLine most_bytes text.now) }
 {
     let (seen, _) = text.split_at(MOST_BYTES as usize);
     match judge_text(rt, alloc, trace, seen) {
@@ -120,7 +118,7 @@ fn verdict_of<R: RandomSource>(
     text: &[u8],
 ) -> Result<Verdict, Stop>
     ensures verdict { IfOk result (IsVerdictFor trace.now.trace.now text.now) }
-    ensures bad { IfBad result (IsBadLine 1073741824 text.now) }
+    ensures bad { IfBad result (IsBadLine most_bytes text.now) }
 {
     if text.len() as u64 > MOST_BYTES {
         return Err(stop_of_long(rt, alloc, trace, text));
@@ -155,10 +153,10 @@ pub fn judge_report<S: Source, R: RandomSource>(
     source: &mut S,
 ) -> Result<Verdict, ReadError>
     requires countable { S.failure_count source.old < 2 ^ 64 - 1 }
-    ensures verdict { IfOk result (λ verdict. ReadsText 1073741825 (S.remaining source.old) (S.remaining source.new) (λ text.
+    ensures verdict { IfOk result (λ verdict. ReadsText most_read (S.remaining source.old) (S.remaining source.new) (λ text.
         IsVerdictFor trace.now.trace.now text verdict)) }
-    ensures taken { TakesAtMost 1073741825 (S.remaining source.old) (S.remaining source.new) }
-    ensures given { S.given_count source.new ≤ S.given_count source.old + 1073741825 }
+    ensures taken { TakesAtMost most_read (S.remaining source.old) (S.remaining source.new) }
+    ensures given { S.given_count source.new ≤ S.given_count source.old + most_read }
     ensures counted { IsSourceCounted (S.failure_count source.old) (S.failure_count source.new) result }
 {
     let text = read_whole(alloc, source, MOST_BYTES)?;

@@ -1,5 +1,6 @@
 //! Reads the blocks of the races and the places.
 ghost use Rattle.std.specs.Prelude.{◌≡◌, ◌+◌, ◌-◌, ◌<◌, ◌≤◌, ◌++◌, ◌∷◌, [], ℕ, List, length, IfOk, OnOk, vec_len};
+ghost use Rattle.shb_lines.specs.text.Limits.{most_bytes};
 ghost use Rattle.shb_report.specs.Forms.{Form, block_forms, place_forms};
 ghost use Rattle.shb_report.specs.Lines.{IfBad, IsAt, IsBadAt, Passes, bytes_from};
 ghost use Rattle.shb_report.specs.Parts.{IsPlaceIn, IsRaceIn, ReadsBlock, ReadsBlocks, ReadsPlace, ReadsPlaces, block_at, block_before, place_at, place_before};
@@ -18,7 +19,7 @@ pub(crate) fn read_block<K: Keeping>(
     keeping: &K,
     numbers: &mut Vec<K::Kept>,
 ) -> Result<RaceEntry, Stop>
-    requires short { length text.now ≤ 1073741824 }
+    requires short { length text.now ≤ most_bytes }
     requires at { IsAt text.now at.old }
     ensures at { OnOk result (IsAt text.now at.new) }
     ensures read { IfOk result (λ entry.
@@ -51,7 +52,7 @@ pub(crate) fn read_block<K: Keeping>(
 
 /// Reads the lines of the place of this number.
 fn read_place(text: &[u8], at: &mut Position, number: u64) -> Result<PlaceEntry, Stop>
-    requires short { length text.now ≤ 1073741824 }
+    requires short { length text.now ≤ most_bytes }
     requires at { IsAt text.now at.old }
     ensures at { OnOk result (IsAt text.now at.new) }
     ensures read { IfOk result (λ entry. ReadsPlace text.now at.old at.new number entry) }
@@ -88,7 +89,7 @@ pub(crate) fn read_blocks(
     at: &mut Position,
     count: u64,
 ) -> Result<BlockEntries, Stop>
-    requires short { length text.now ≤ 1073741824 }
+    requires short { length text.now ≤ most_bytes }
     requires at { IsAt text.now at.old }
     ensures at { OnOk result (IsAt text.now at.new) }
     ensures read { IfOk result (λ blocks. ReadsBlocks text.now at.old at.new count blocks.numbers.items blocks.races.items) }
@@ -115,7 +116,7 @@ pub(crate) fn read_place_entries(
     at: &mut Position,
     count: u64,
 ) -> Result<Vec<PlaceEntry>, Stop>
-    requires short { length text.now ≤ 1073741824 }
+    requires short { length text.now ≤ most_bytes }
     requires at { IsAt text.now at.old }
     ensures at { OnOk result (IsAt text.now at.new) }
     ensures read { IfOk result (λ places. ReadsPlaces text.now at.old at.new count places.items) }

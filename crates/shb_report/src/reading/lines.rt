@@ -1,5 +1,6 @@
 //! Takes the lines of a text one after another.
 ghost use Rattle.std.specs.Prelude.{◌≡◌, ◌+◌, ◌<◌, ◌≤◌, ℕ, length, drop, MatchOption};
+ghost use Rattle.shb_lines.specs.text.Limits.{most_bytes};
 ghost use Rattle.shb_report.specs.Lines.{BeginsWithLine, IsAt, TakesLine, bytes_from};
 ghost use Rattle.shb_report.specs.Value.{HasNoLineFeed};
 
@@ -54,7 +55,7 @@ pub(crate) fn line_at(text: &[u8], at: Position) -> Option<&[u8]>
 impl Position {
     /// The position after a line.
     pub(crate) fn after(self, line: &[u8]) -> Position
-        requires start { self.start + length line.now + 1 ≤ 1073741825 }
+        requires start { self.start + length line.now + 1 ≤ most_bytes + 1 }
         requires lines { self.lines ≤ self.start }
         ensures { result ≡ record { start = self.start + length line.now + 1; lines = self.lines + 1 } }
     {

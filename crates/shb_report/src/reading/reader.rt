@@ -1,6 +1,7 @@
 //! Reads the parts of a report.
 ghost use Rattle.std.specs.Prelude.{◌≡◌, ◌≢◌, ◌+◌, ◌<◌, ◌≤◌, ◌++◌, ◌∷◌, [], ℕ, List, codes, decimal, length, IfOk, IsTrue, MatchBool, MatchOption, OnOk, if◌then◌else◌, vec_len};
 ghost use Rattle.std.specs.List.{AllByRecursion};
+ghost use Rattle.shb_lines.specs.text.Limits.{most_bytes};
 ghost use Rattle.shb_report.specs.Scan.{AddsShown};
 ghost use Rattle.shb_report.specs.Value.{AreShown, IsRest, IsShown, counts_line, numbers_line, place_line, places_line, race_numbers_line, races_line};
 ghost use Rattle.shb_report.specs.Forms.{Form, Label, label_bytes, least_after, Version, CountsForm, Races, RacesBeforePlaces, Places, PlaceForm, Race, Named, Schedule, End};
@@ -17,7 +18,7 @@ use shb_io::NoMemory;
 
 /// Reads the line of the version, and says whether the report has places.
 pub(crate) fn read_version(text: &[u8], at: &mut Position) -> Option<bool>
-    requires short { length text.now ≤ 1073741824 }
+    requires short { length text.now ≤ most_bytes }
     requires at { IsAt text.now at.old }
     ensures { MatchOption result
         ((at.new ≡ at.old) × Lacks Version (bytes_from text.now at.old))
@@ -31,7 +32,7 @@ pub(crate) fn read_version(text: &[u8], at: &mut Position) -> Option<bool>
 
 /// Reads the line of the counts.
 pub(crate) fn read_counts(text: &[u8], at: &mut Position) -> Option<Counts>
-    requires short { length text.now ≤ 1073741824 }
+    requires short { length text.now ≤ most_bytes }
     requires at { IsAt text.now at.old }
     ensures { MatchOption result
         ((at.new ≡ at.old) × Lacks CountsForm (bytes_from text.now at.old))
@@ -45,7 +46,7 @@ pub(crate) fn read_counts(text: &[u8], at: &mut Position) -> Option<Counts>
 
 /// Reads the line that says how many races there are.
 pub(crate) fn read_race_count(text: &[u8], at: &mut Position) -> Option<u64>
-    requires short { length text.now ≤ 1073741824 }
+    requires short { length text.now ≤ most_bytes }
     requires at { IsAt text.now at.old }
     ensures { MatchOption result
         ((at.new ≡ at.old) × Lacks Races (bytes_from text.now at.old) × Lacks RacesBeforePlaces (bytes_from text.now at.old))
@@ -59,7 +60,7 @@ pub(crate) fn read_race_count(text: &[u8], at: &mut Position) -> Option<u64>
 
 /// Reads the line that says how many places there are.
 pub(crate) fn read_place_count(text: &[u8], at: &mut Position) -> Option<u64>
-    requires short { length text.now ≤ 1073741824 }
+    requires short { length text.now ≤ most_bytes }
     requires at { IsAt text.now at.old }
     ensures { MatchOption result
         ((at.new ≡ at.old) × Lacks Places (bytes_from text.now at.old))
@@ -73,7 +74,7 @@ pub(crate) fn read_place_count(text: &[u8], at: &mut Position) -> Option<u64>
 
 /// Reads the first line of the place of this number: how many races have it.
 pub(crate) fn read_place_line(text: &[u8], at: &mut Position, number: u64) -> Option<u64>
-    requires short { length text.now ≤ 1073741824 }
+    requires short { length text.now ≤ most_bytes }
     requires at { IsAt text.now at.old }
     ensures { MatchOption result
         ((at.new ≡ at.old) × Lacks (PlaceForm number) (bytes_from text.now at.old))
@@ -87,7 +88,7 @@ pub(crate) fn read_place_line(text: &[u8], at: &mut Position, number: u64) -> Op
 
 /// Reads the first line of the block of this number: the numbers of the two events.
 pub(crate) fn read_race_line(text: &[u8], at: &mut Position, number: u64) -> Option<(u64, u64)>
-    requires short { length text.now ≤ 1073741824 }
+    requires short { length text.now ≤ most_bytes }
     requires at { IsAt text.now at.old }
     ensures { MatchOption result
         ((at.new ≡ at.old) × Lacks (Race number) (bytes_from text.now at.old))
@@ -101,7 +102,7 @@ pub(crate) fn read_race_line(text: &[u8], at: &mut Position, number: u64) -> Opt
 
 /// Reads a line of a label and at least so many bytes, and answers where those bytes stand.
 pub(crate) fn read_named(text: &[u8], at: &mut Position, label: &[u8], least: usize) -> Option<Span>
-    requires short { length text.now ≤ 1073741824 }
+    requires short { length text.now ≤ most_bytes }
     requires at { IsAt text.now at.old }
     ensures { MatchOption result
         ((at.new ≡ at.old)
@@ -126,7 +127,7 @@ pub(crate) fn read_schedule<K: Keeping>(
     keeping: &K,
     numbers: &mut Vec<K::Kept>,
 ) -> Result<bool, NoMemory>
-    requires short { length text.now ≤ 1073741824 }
+    requires short { length text.now ≤ most_bytes }
     requires at { IsAt text.now at.old }
     ensures { IfOk result (λ found. MatchBool found
         ((ns : List ℕ) × AddsShown (K.kept keeping.now) numbers.old.items numbers.new.items ns × IsShown (length ns)
@@ -145,7 +146,7 @@ pub(crate) fn read_schedule<K: Keeping>(
 
 /// Reads the last line, and says whether it is there.
 pub(crate) fn read_end(text: &[u8], at: &mut Position) -> bool
-    requires short { length text.now ≤ 1073741824 }
+    requires short { length text.now ≤ most_bytes }
     requires at { IsAt text.now at.old }
     ensures { MatchBool result
         (TakesLine text.now at.old at.new (codes "end"))

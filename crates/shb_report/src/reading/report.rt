@@ -1,5 +1,6 @@
 //! A report that was read.
 ghost use Rattle.std.specs.Prelude.{◌≡◌, ◌+◌, ◌<◌, ◌≤◌, ◌^◌, ◌-◌, ℕ, List, Some, length, take, drop, option_map, slice_get, IfOk};
+ghost use Rattle.shb_lines.specs.text.Limits.{most_bytes, most_read};
 ghost use Rattle.shb_lines.specs.text.Taking.{ReadsText, TakesAtMost};
 ghost use Rattle.shb_report.specs.Judging.{block_in};
 ghost use Rattle.shb_report.specs.Lines.{IfBad, IfStop};
@@ -13,7 +14,7 @@ use super::parts::Parts;
 use super::scanning::scan;
 use crate::counts::Counts;
 use shb_io::Source;
-use shb_lines::{ReadError, read_whole};
+use shb_lines::{MOST_BYTES, ReadError, read_whole};
 use std::alloc::Global;
 use std::marker::Model;
 
@@ -188,7 +189,7 @@ impl Report {
 
 /// Why a text that is longer than the limit is no report.
 fn stop_of_long(alloc: Global, text: &[u8], limit: u64) -> Stop
-    requires standard { limit ≤ 1073741824 }
+    requires standard { limit ≤ most_bytes }
     requires long { limit < length text.now }
     ensures { IfStop result (IsBadLine limit text.now) }
 {
@@ -201,7 +202,7 @@ fn stop_of_long(alloc: Global, text: &[u8], limit: u64) -> Stop
 
 /// Reads the report of a text.
 fn report_of(alloc: Global, text: Vec<u8>, limit: u64) -> Result<Report, Stop>
-    requires standard { limit ≤ 1073741824 }
+    requires standard { limit ≤ most_bytes }
     ensures report { IfOk result (λ report. IsReportText limit text.items report) }
     ensures bad { IfBad result (IsBadLine limit text.items) }
 {
@@ -233,7 +234,7 @@ pub fn read_report_within<S: Source>(
     source: &mut S,
     limit: u64,
 ) -> Result<Report, ReportError>
-    requires standard { limit ≤ 1073741824 }
+    requires standard { limit ≤ most_bytes }
     requires countable { S.failure_count source.old < 2 ^ 64 - 1 }
     // The text that was read, all bytes of a source that tells them, is that of the report, or this is its
     // bad line. Its first bytes are gone then, up to one more than the limit.
@@ -262,13 +263,13 @@ pub fn read_report_within<S: Source>(
 /// its memory.
 pub fn read_report<S: Source>(alloc: Global, source: &mut S) -> Result<Report, ReportError>
     requires { S.failure_count source.old < 2 ^ 64 - 1 }
-    ensures report { IfOk result (λ report. ReadsText 1073741825 (S.remaining source.old) (S.remaining source.new)
-        (λ text. IsReportText 1073741824 text report)) }
-    ensures bad { IfBadLine result (λ n. ReadsText 1073741825 (S.remaining source.old) (S.remaining source.new)
-        (λ text. IsBadLine 1073741824 text n)) }
-    ensures taken { TakesAtMost 1073741825 (S.remaining source.old) (S.remaining source.new) }
-    ensures given { S.given_count source.new ≤ S.given_count source.old + 1073741825 }
+    ensures report { IfOk result (λ report. ReadsText most_read (S.remaining source.old) (S.remaining source.new)
+        (λ text. IsReportText most_bytes text report)) }
+    ensures bad { IfBadLine result (λ n. ReadsText most_read (S.remaining source.old) (S.remaining source.new)
+        (λ text. IsBadLine most_bytes text n)) }
+    ensures taken { TakesAtMost most_read (S.remaining source.old) (S.remaining source.new) }
+    ensures given { S.given_count source.new ≤ S.given_count source.old + most_read }
     ensures counted { IsSourceCounted (S.failure_count source.old) (S.failure_count source.new) result }
 {
-    read_report_within(alloc, source, 1_073_741_824)
+    read_report_within(alloc, source, MOST_BYTES)
 }

@@ -1,5 +1,6 @@
 //! Reads the text of a report.
 ghost use Rattle.std.specs.Prelude.{◌≡◌, ◌+◌, ◌<◌, ◌≤◌, ◌++◌, ◌∷◌, [], ℕ, List, codes, length, IfOk, OnOk};
+ghost use Rattle.shb_lines.specs.text.Limits.{most_bytes};
 ghost use Rattle.shb_report.specs.Forms.{Form, End, Version, IsBadFrom, block_forms};
 ghost use Rattle.shb_report.specs.Lines.{IfBad, IsAt, IsBadAt, Passes, bytes_from};
 ghost use Rattle.shb_report.specs.Parts.{IsScanned, ReadsHead, ReadsSection, places_form};
@@ -22,7 +23,7 @@ pub(crate) struct Head {
 
 /// Reads the first three lines.
 pub(crate) fn read_head(text: &[u8], at: &mut Position) -> Result<Head, Stop>
-    requires short { length text.now ≤ 1073741824 }
+    requires short { length text.now ≤ most_bytes }
     requires at { IsAt text.now at.old }
     ensures at { OnOk result (IsAt text.now at.new) }
     ensures read { IfOk result (λ head. ReadsHead text.now at.old at.new head) }
@@ -53,7 +54,7 @@ pub(crate) fn read_places(
     at: &mut Position,
     with_places: bool,
 ) -> Result<Vec<PlaceEntry>, Stop>
-    requires short { length text.now ≤ 1073741824 }
+    requires short { length text.now ≤ most_bytes }
     requires at { IsAt text.now at.old }
     ensures at { OnOk result (IsAt text.now at.new) }
     ensures read { IfOk result (λ places. ReadsSection text.now at.old at.new with_places places.items) }
@@ -72,11 +73,11 @@ pub(crate) fn read_places(
 
 /// Reads the last line, after which nothing may stand.
 pub(crate) fn read_tail(text: &[u8], at: &mut Position) -> Result<(), Stop>
-    requires short { length text.now ≤ 1073741824 }
+    requires short { length text.now ≤ most_bytes }
     requires at { IsAt text.now at.old }
     ensures bytes { OnOk result (bytes_from text.now at.old ≡ lines_text (codes "end" ∷ [])) }
     ensures lines { OnOk result (at.new.lines ≡ at.old.lines + 1) }
-    ensures within { OnOk result (at.new.lines ≤ 1073741824) }
+    ensures within { OnOk result (at.new.lines ≤ most_bytes) }
     ensures bad { IfBad result (IsBadAt text.now at.old (End ∷ [])) }
 {
     if !read_end(text, at) {
@@ -97,9 +98,9 @@ pub(crate) struct Scanned {
 
 /// Reads the text of a report.
 pub(crate) fn scan(alloc: Global, text: &[u8]) -> Result<Scanned, Stop>
-    requires short { length text.now ≤ 1073741824 }
+    requires short { length text.now ≤ most_bytes }
     ensures read { IfOk result (λ scanned. IsScanned text.now scanned.parts scanned.lines) }
-    ensures few { IfOk result (λ scanned. scanned.lines ≤ 1073741824) }
+    ensures few { IfOk result (λ scanned. scanned.lines ≤ most_bytes) }
     ensures bad { IfBad result (IsBadFrom (Version ∷ (End ∷ [])) 0 text.now) }
 {
     let mut at = Position { start: 0, lines: 0 };

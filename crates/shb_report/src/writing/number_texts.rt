@@ -2,6 +2,7 @@
 ghost use Rattle.std.specs.Prelude.{◌≡◌, ◌+◌, ◌<◌, ◌≤◌, ◌++◌, length, MatchOption, OnOk, IfOk};
 ghost use Rattle.std.specs.List.{slice_range};
 ghost use Rattle.shb_positions.specs.Runs.{EndsInRange, run_positions};
+ghost use Rattle.shb_lines.specs.text.Limits.{most_events};
 ghost use Rattle.shb_report.specs.Pieces.{event_number, event_numbers};
 
 use super::buffer::TextBuffer;
@@ -35,7 +36,7 @@ impl NumberTexts {
     /// The texts of the numbers of the first `count` events, at most as many as a trace has.
     /// `NoMemory` where memory was refused: it takes up to 12 bytes a number.
     pub fn of_first(alloc: Global, count: u32) -> Result<NumberTexts, NoMemory>
-        requires few { count ≤ 4194304 }
+        requires few { count ≤ most_events }
         ensures { IfOk result (λ texts. texts ≡ count) }
     {
         let mut number = TextBuffer::new();

@@ -1,11 +1,12 @@
 use Rattle.std.proofs.Common.{◌≤◌, length, sym, subst}
 use Rattle.shb_lines.specs.events.Discipline.{IsDisciplined}
 use Rattle.shb_lines.specs.events.Sizes.{IsNumberedByAccess, IsWithin}
+use Rattle.shb_lines.specs.text.Limits.{most_events}
 use Rattle.shb_discipline.specs.Faults.{IsFirstIfAny}
 use Rattle.shb_discipline.proofs.checking.check.Goals as goal
 
 pub invariant_of-result-clause-few : goal.invariant_of-result-clause-few
-invariant_of-result-clause-few c = subst (λ es. length es ≤ 4194304) (sym c.events-events.ensures.value) c.events-events.ensures.few
+invariant_of-result-clause-few c = subst (λ es. length es ≤ most_events) (sym c.events-events.ensures.value) c.events-events.ensures.few
 
 pub invariant_of-result-clause-within : goal.invariant_of-result-clause-within
 invariant_of-result-clause-within c = subst (λ es. IsWithin es c.sizes-sizes.result) (sym c.events-events.ensures.value) (subst (IsWithin c.args.trace.now.events) (sym c.sizes-sizes.ensures) c.events-events.ensures.within)

@@ -1,7 +1,7 @@
 use Rattle.shb_lines.specs.text.Taking.{ReadsText}
 use Rattle.shb_lines.specs.text.TraceData.{IsReadingOf}
 use Rattle.shb_lines.proofs.text.TakingLemmas.{reads_left, reads_then, reads_told}
-use Rattle.shb_check.specs.Judged.{limits}
+use Rattle.shb_lines.specs.text.Limits.{most_read, standard_limits}
 use Rattle.shb_check.proofs.Endings.{Grows-same, judged, none_found, not_judged, refusal_first}
 use Rattle.shb_run.specs.Written.{ListedBy}
 use Rattle.shb_run.proofs.Endings.{grown_of_refused, has_trace, or_then, reported_of}
@@ -12,9 +12,9 @@ returns-in-Ok-clause-reported g c =
     let parsed = c.in_ok-parsed.parsed in
     let known = g.S.Source.remaining c.args.source.now in
     let left = g.S.Source.remaining c.parse.new.source in
-    let reading : ReadsText 1073741825 known left (λ text. IsReadingOf limits text parsed.trace parsed.stop) = rw c.standard.ensures at c.in_ok-parsed.ensures.reading in
+    let reading : ReadsText most_read known left (λ text. IsReadingOf standard_limits text parsed.trace parsed.stop) = rw c.standard.ensures at c.in_ok-parsed.ensures.reading in
     let trace = c.in_ok-trace.trace in
-    reads_told 1073741825 known left _ (reads_then 1073741825 known left _ _ reading (λ text. reported_of c.args.task.choice c.args.task.settings.schedules text parsed.trace parsed.stop trace.events.now trace.trace.now _
+    reads_told most_read known left _ (reads_then most_read known left _ _ reading (λ text. reported_of c.args.task.choice c.args.task.settings.schedules text parsed.trace parsed.stop trace.events.now trace.trace.now _
     (g.K.Sink.taken c.args.sink.now) (g.K.Sink.taken c.report.new.sink) trace.meets trace.of_trace c.in_ok-trace.ensures.accepted c.in-Ok.ensures.report c.in-Ok.ensures.words))
 
 pub returns-in-Ok-clause-read : goal.returns-in-Ok-clause-read
@@ -22,9 +22,9 @@ returns-in-Ok-clause-read g c =
     let parsed = c.in_ok-parsed.parsed in
     let known = g.S.Source.remaining c.args.source.now in
     let left = g.S.Source.remaining c.parse.new.source in
-    let reading : ReadsText 1073741825 known left (λ text. IsReadingOf limits text parsed.trace parsed.stop) = rw c.standard.ensures at c.in_ok-parsed.ensures.reading in
+    let reading : ReadsText most_read known left (λ text. IsReadingOf standard_limits text parsed.trace parsed.stop) = rw c.standard.ensures at c.in_ok-parsed.ensures.reading in
     let trace = c.in_ok-trace.trace in
-    reads_then 1073741825 known left _ _ reading (λ text. reported_of c.args.task.choice c.args.task.settings.schedules text parsed.trace parsed.stop trace.events.now trace.trace.now _
+    reads_then most_read known left _ _ reading (λ text. reported_of c.args.task.choice c.args.task.settings.schedules text parsed.trace parsed.stop trace.events.now trace.trace.now _
     (g.K.Sink.taken c.args.sink.now) (g.K.Sink.taken c.report.new.sink) trace.meets trace.of_trace c.in_ok-trace.ensures.accepted c.in-Ok.ensures.report c.in-Ok.ensures.words)
 
 pub returns-in-Err-Sink-clause-cut : goal.returns-in-Err-Sink-clause-cut
@@ -32,42 +32,42 @@ returns-in-Err-Sink-clause-cut g c =
     let parsed = c.in_ok-parsed.parsed in
     let known = g.S.Source.remaining c.args.source.now in
     let left = g.S.Source.remaining c.parse.new.source in
-    let reading : ReadsText 1073741825 known left (λ text. IsReadingOf limits text parsed.trace parsed.stop) = rw c.standard.ensures at c.in_ok-parsed.ensures.reading in
+    let reading : ReadsText most_read known left (λ text. IsReadingOf standard_limits text parsed.trace parsed.stop) = rw c.standard.ensures at c.in_ok-parsed.ensures.reading in
     let cut = rw c.in-Err-Sink.field-0-is at c.in-Err-Sink.ensures.cut in
-    reads_then 1073741825 known left _ _ reading (λ text. has_trace text parsed.trace parsed.stop c.in_ok-trace.trace.trace.now _ c.in_ok-trace.ensures.accepted cut)
+    reads_then most_read known left _ _ reading (λ text. has_trace text parsed.trace parsed.stop c.in_ok-trace.trace.trace.now _ c.in_ok-trace.ensures.accepted cut)
 
 pub returns-clause-memory : goal.returns-clause-memory
 returns-clause-memory g c =
     let parsed = c.in_ok-parsed.parsed in
     let known = g.S.Source.remaining c.args.source.now in
     let left = g.S.Source.remaining c.parse.new.source in
-    let reading : ReadsText 1073741825 known left (λ text. IsReadingOf limits text parsed.trace parsed.stop) = rw c.standard.ensures at c.in_ok-parsed.ensures.reading in
+    let reading : ReadsText most_read known left (λ text. IsReadingOf standard_limits text parsed.trace parsed.stop) = rw c.standard.ensures at c.in_ok-parsed.ensures.reading in
     let refused = rw c.in-Err-Memory.field-0-is at c.in-Err-Memory.ensures.memory in
-    or_then refused (λ cut. reads_then 1073741825 known left _ _ reading (λ text. has_trace text parsed.trace parsed.stop c.in_ok-trace.trace.trace.now _ c.in_ok-trace.ensures.accepted cut))
+    or_then refused (λ cut. reads_then most_read known left _ _ reading (λ text. has_trace text parsed.trace parsed.stop c.in_ok-trace.trace.trace.now _ c.in_ok-trace.ensures.accepted cut))
 
 pub returns-in-Ok-clause-silent : goal.returns-in-Ok-clause-silent
 returns-in-Ok-clause-silent g c =
     let parsed = c.in_ok-parsed.parsed in
     let known = g.S.Source.remaining c.args.source.now in
     let left = g.S.Source.remaining c.parse.new.source in
-    let reading : ReadsText 1073741825 known left (λ text. IsReadingOf limits text parsed.trace parsed.stop) = rw c.standard.ensures at c.in_ok-parsed.ensures.reading in
-    none_found parsed.trace parsed.stop c.in_ok-trace.trace.trace.now known _ c.in_ok-trace.ensures.accepted (reads_told 1073741825 known left _ reading)
+    let reading : ReadsText most_read known left (λ text. IsReadingOf standard_limits text parsed.trace parsed.stop) = rw c.standard.ensures at c.in_ok-parsed.ensures.reading in
+    none_found parsed.trace parsed.stop c.in_ok-trace.trace.trace.now known _ c.in_ok-trace.ensures.accepted (reads_told most_read known left _ reading)
 
 pub returns-in-Err-Sink-clause-silent : goal.returns-in-Err-Sink-clause-silent
 returns-in-Err-Sink-clause-silent g c =
     let parsed = c.in_ok-parsed.parsed in
     let known = g.S.Source.remaining c.args.source.now in
     let left = g.S.Source.remaining c.parse.new.source in
-    let reading : ReadsText 1073741825 known left (λ text. IsReadingOf limits text parsed.trace parsed.stop) = rw c.standard.ensures at c.in_ok-parsed.ensures.reading in
-    none_found parsed.trace parsed.stop c.in_ok-trace.trace.trace.now known _ c.in_ok-trace.ensures.accepted (reads_told 1073741825 known left _ reading)
+    let reading : ReadsText most_read known left (λ text. IsReadingOf standard_limits text parsed.trace parsed.stop) = rw c.standard.ensures at c.in_ok-parsed.ensures.reading in
+    none_found parsed.trace parsed.stop c.in_ok-trace.trace.trace.now known _ c.in_ok-trace.ensures.accepted (reads_told most_read known left _ reading)
 
 pub returns-clause-silent : goal.returns-clause-silent
 returns-clause-silent g c =
     let parsed = c.in_ok-parsed.parsed in
     let known = g.S.Source.remaining c.args.source.now in
     let left = g.S.Source.remaining c.parse.new.source in
-    let reading : ReadsText 1073741825 known left (λ text. IsReadingOf limits text parsed.trace parsed.stop) = rw c.standard.ensures at c.in_ok-parsed.ensures.reading in
-    none_found parsed.trace parsed.stop c.in_ok-trace.trace.trace.now known _ c.in_ok-trace.ensures.accepted (reads_told 1073741825 known left _ reading)
+    let reading : ReadsText most_read known left (λ text. IsReadingOf standard_limits text parsed.trace parsed.stop) = rw c.standard.ensures at c.in_ok-parsed.ensures.reading in
+    none_found parsed.trace parsed.stop c.in_ok-trace.trace.trace.now known _ c.in_ok-trace.ensures.accepted (reads_told most_read known left _ reading)
 
 pub returns-in_err-parsed-clause-taken : goal.returns-in_err-parsed-clause-taken
 returns-in_err-parsed-clause-taken g c =
@@ -110,24 +110,24 @@ returns-in_err-trace-clause-left g c =
     let parsed = c.in_ok-parsed.parsed in
     let known = g.S.Source.remaining c.args.source.now in
     let left = g.S.Source.remaining c.parse.new.source in
-    let reading : ReadsText 1073741825 known left (λ text. IsReadingOf limits text parsed.trace parsed.stop) = rw c.standard.ensures at c.in_ok-parsed.ensures.reading in
-    judged _ _ (reads_left 1073741825 known left _ reading)
+    let reading : ReadsText most_read known left (λ text. IsReadingOf standard_limits text parsed.trace parsed.stop) = rw c.standard.ensures at c.in_ok-parsed.ensures.reading in
+    judged _ _ (reads_left most_read known left _ reading)
 
 pub returns-in-Ok-clause-left : goal.returns-in-Ok-clause-left
 returns-in-Ok-clause-left g c =
     let parsed = c.in_ok-parsed.parsed in
     let known = g.S.Source.remaining c.args.source.now in
     let left = g.S.Source.remaining c.parse.new.source in
-    let reading : ReadsText 1073741825 known left (λ text. IsReadingOf limits text parsed.trace parsed.stop) = rw c.standard.ensures at c.in_ok-parsed.ensures.reading in
-    reads_left 1073741825 known left _ reading
+    let reading : ReadsText most_read known left (λ text. IsReadingOf standard_limits text parsed.trace parsed.stop) = rw c.standard.ensures at c.in_ok-parsed.ensures.reading in
+    reads_left most_read known left _ reading
 
 pub returns-in-Err-Sink-clause-left : goal.returns-in-Err-Sink-clause-left
 returns-in-Err-Sink-clause-left g c =
     let parsed = c.in_ok-parsed.parsed in
     let known = g.S.Source.remaining c.args.source.now in
     let left = g.S.Source.remaining c.parse.new.source in
-    let reading : ReadsText 1073741825 known left (λ text. IsReadingOf limits text parsed.trace parsed.stop) = rw c.standard.ensures at c.in_ok-parsed.ensures.reading in
-    reads_left 1073741825 known left _ reading
+    let reading : ReadsText most_read known left (λ text. IsReadingOf standard_limits text parsed.trace parsed.stop) = rw c.standard.ensures at c.in_ok-parsed.ensures.reading in
+    reads_left most_read known left _ reading
 
 pub returns-in_err-parsed-clause-grown : goal.returns-in_err-parsed-clause-grown
 returns-in_err-parsed-clause-grown g c =
@@ -156,5 +156,5 @@ returns-in_err-trace-clause-refused g c =
     let parsed = c.in_ok-parsed.parsed in
     let known = g.S.Source.remaining c.args.source.now in
     let left = g.S.Source.remaining c.parse.new.source in
-    let reading : ReadsText 1073741825 known left (λ text. IsReadingOf limits text parsed.trace parsed.stop) = rw c.standard.ensures at c.in_ok-parsed.ensures.reading in
-    refusal_first parsed.trace parsed.stop 1073741825 known left _ c.from_residual-in_err-trace.result c.from_residual-in_err-trace.ensures.1 reading c.in_err-trace.ensures.refused
+    let reading : ReadsText most_read known left (λ text. IsReadingOf standard_limits text parsed.trace parsed.stop) = rw c.standard.ensures at c.in_ok-parsed.ensures.reading in
+    refusal_first parsed.trace parsed.stop most_read known left _ c.from_residual-in_err-trace.result c.from_residual-in_err-trace.ensures.1 reading c.in_err-trace.ensures.refused

@@ -9,7 +9,7 @@ returns g c =
     let trace = c.args.ordered.now.trace.now in
     let is = sym (c.new-job.ensures ∙ c.in_ok-accesses.ensures) in
     record {
-      listed = listed_of _ c.join.result _ c.new-job.result trace.events.now c.join.ensures.joined c.in_ok-lists.ensures
+      listed = listed_of _ c.gather_joined.result c.new-job.result trace.events.now c.gather_joined.ensures
           (ap (λ (a : Listed). a.trace) (sym is))
           (subst (λ (a : Listed). IsNumberedByAccess a.trace) is trace.numbered)
           (subst (λ (a : Listed). AreOpen a.trace a.flags) is (subst (λ (flags : List Bool). AreOpen trace.events.now flags) (sym c.deref.ensures.value) c.in_ok-flags.ensures));
