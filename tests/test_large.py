@@ -1,5 +1,7 @@
-"""Sizes that small traces never reach: more than 65,536 races, names, kept clocks and events of a schedule; and
-as many locks, names and events of a schedule as a trace of the most events has."""
+"""Sizes that small traces never reach: more than 65,536 races, names, kept clocks and events of a schedule; as many
+locks, names and events of a schedule as a trace of the most events has; and clocks of 1,024 threads in little memory."""
+
+import resource
 
 import program
 
@@ -56,6 +58,24 @@ def the_most():
     return b"".join(lines), b"".join(report), 1
 
 
+def random_locks(threads, rounds):
+    """The threads take locks by fixed numbers, each time for the lock's own variable; at the end two of them write
+    without one."""
+    lines, number = [], 1
+    for k in range(rounds):
+        number = (number * 1_103_515_245 + 12_345) % 2**32
+        thread, lock = (k, k) if k < threads else ((number >> 6) % threads, (number >> 16) % threads)
+        lines.append(b"T%d|acq(l%d)\nT%d|w(v%d)\nT%d|rel(l%d)\n" % (thread, lock, thread, lock, thread, lock))
+    lines.append(b"T0|w(z)\nT1|w(z)\n")
+    events = 3 * rounds + 2
+    report = [
+        b"shb-report 2\nevents %d threads %d locks %d variables %d\n" % (events, threads, threads, threads + 1),
+        b"races 1\n" + places(1),
+        b"race 1: %d %d\nfirst T0|w(z)\nsecond T1|w(z)\nend\n" % (events - 1, events),
+    ]
+    return b"".join(lines), b"".join(report)
+
+
 class Large(program.Case):
     def compare(self, text, report, races):
         trace = self.file(text)
@@ -94,3 +114,12 @@ class Large(program.Case):
         text, report, races = the_most()
         self.assertEqual(text.count(b"\n"), MOST_EVENTS)
         self.compare(text, report, races)
+
+    def test_clocks_of_many_threads_in_little_memory(self):
+        """A clock of 1,024 threads has 4 KiB, and each acquire makes one: all together they don't fit."""
+        threads, rounds = 1024, 100_000
+        text, report = random_locks(threads, rounds)
+        room = len(text) + 200 * 2**20
+        self.assertGreater(4 * threads * rounds, room)
+        limited = {"preexec_fn": lambda: resource.setrlimit(resource.RLIMIT_AS, (room, room))}
+        self.expect(program.run(["races", "--list"], text, **limited), 0, report)
