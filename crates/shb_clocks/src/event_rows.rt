@@ -1,6 +1,6 @@
 //! An order by the number of a row for each event.
 
-ghost use Rattle.std.specs.Prelude.{◌≡◌, ◌<◌, List, IfOk, length};
+ghost use Rattle.std.specs.Prelude.{◌≡◌, ◌<◌, true, List, IfOk, length};
 ghost use Rattle.shb_lines.specs.declared.event.Event.{Event};
 ghost use Rattle.shb_clocks.specs.Stamps.{HasRowsBefore};
 
@@ -62,6 +62,8 @@ pub fn by_event<'a>(
 
 impl<'a> Order for EventRows<'a> {
     ghost trace = { λ o. o };
+
+    ghost asks = { λ _ _. true };
 
     fn below_pred(&self, e: u32, t: u32) -> u32 {
         if t == self.linked.events[e as usize].thread {

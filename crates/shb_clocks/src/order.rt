@@ -1,6 +1,6 @@
 //! What an order answers.
 
-ghost use Rattle.std.specs.Prelude.{◌<◌, List, length};
+ghost use Rattle.std.specs.Prelude.{◌≡◌, ℕ, ◌<◌, Bool, true, List, length};
 ghost use Rattle.shb_lines.specs.declared.event.Event.{Event};
 ghost use Rattle.shb_lines.specs.events.Order.{IsBelowPredCount};
 
@@ -15,12 +15,16 @@ pub trait Order {
     /// The trace that is ordered.
     ghost trace: { Self → List Event };
 
+    /// About which events it can be asked.
+    ghost asks: { Self → ℕ → Bool };
+
     /// The number of events of thread `t` that are SHB-below the predecessor of event `e`, or are
     /// it; 0 where `e` has none, and for every `t` that names no thread. Events and threads count
     /// from 0. These events are the first ones of their thread, so an earlier event of thread `t` is
     /// SHB-below the predecessor exactly where its place in the thread, from 1, is at most this
     /// number.
     fn below_pred(&self, e: u32, t: u32) -> u32
-        requires { e < length (trace self.now) }
+        requires in_range { e < length (trace self.now) }
+        requires asked { asks self.now e ≡ true }
         ensures { IsBelowPredCount (trace self.now) t e result };
 }

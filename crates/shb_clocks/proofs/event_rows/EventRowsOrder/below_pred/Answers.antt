@@ -13,7 +13,7 @@ no_event = record { thread = 0; op = Read 0; line = 0 }
 pub returns-then-t-self : goal.returns-then-t-self
 returns-then-t-self c =
     let trace : List Event = c.self.inside.linked.events.now in
-    let lt : c.args.e < length trace = subst (λ (tr : List Event). c.args.e < length tr) (sym c.self.view_is) c.requires in
+    let lt : c.args.e < length trace = subst (λ (tr : List Event). c.args.e < length tr) (sym c.self.view_is) c.requires.in_range in
     let u : ℕ = (get_or trace c.args.e no_event).thread in
     let of_e = thread_item trace c.args.e no_event lt in
     let place = local_is trace c.self.inside.linked.links.now c.args.e c.local.result u c.self.inside.linked.of_links c.local.ensures.place of_e in
@@ -23,13 +23,13 @@ returns-then-t-self c =
 pub row-requires : goal.row-requires
 row-requires c =
     let trace : List Event = c.self.inside.linked.events.now in
-    let lt : c.args.e < length trace = subst (λ (tr : List Event). c.args.e < length tr) (sym c.self.view_is) c.requires in
+    let lt : c.args.e < length trace = subst (λ (tr : List Event). c.args.e < length tr) (sym c.self.view_is) c.requires.in_range in
     (row_read trace c.self.inside.rows.rows c.args.e _ c.index.result.now c.self.inside.before.items lt (thread_item trace c.args.e no_event lt) c.self.invariant.1 c.index.ensures).in_range
 
 pub returns : goal.returns
 returns c =
     let trace : List Event = c.self.inside.linked.events.now in
-    let lt : c.args.e < length trace = subst (λ (tr : List Event). c.args.e < length tr) (sym c.self.view_is) c.requires in
+    let lt : c.args.e < length trace = subst (λ (tr : List Event). c.args.e < length tr) (sym c.self.view_is) c.requires.in_range in
     let u : ℕ = (get_or trace c.args.e no_event).thread in
     let before = row_read trace c.self.inside.rows.rows c.args.e u c.index.result.now c.self.inside.before.items lt (thread_item trace c.args.e no_event lt) c.self.invariant.1 c.index.ensures in
     count_other trace c.args.self.now c.self.inside.rows.rows c.args.e u c.args.t c.index.result.now c.entry.result c.row.result.now c.self.view_is before c.row.ensures.row c.if-t-self.false c.entry.ensures
