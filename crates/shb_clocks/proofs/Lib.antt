@@ -6,6 +6,7 @@ pub mod MarksLemmas
 pub mod MayLearn
 pub mod PastLemmas
 pub mod RowsLemmas
+pub mod MovedLemmas
 pub mod Sources
 pub mod Counting
 pub mod StampItems

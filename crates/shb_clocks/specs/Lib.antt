@@ -1,6 +1,7 @@
 pub mod Fronts
 pub mod Learned
 pub mod Marks
+pub mod Moved
 pub mod Past
 pub mod Rows
 pub mod Stamps

@@ -21,6 +21,7 @@
 #![tactic(auto)]
 
 mod clock;
+mod compact;
 mod compared;
 mod event_rows;
 mod order;

@@ -37,6 +37,20 @@ impl Rows {
         }
     }
 
+    /// How many entries each clock has.
+    pub fn width(&self) -> u32
+        ensures { result ≡ self.now.width }
+    {
+        self.width
+    }
+
+    /// How many clocks there are.
+    pub fn count(&self) -> u32
+        ensures { result ≡ length self.now.rows }
+    {
+        self.count
+    }
+
     /// The clock of a number.
     pub fn row(&self, number: u32) -> &[u32]
         requires { number < length self.now.rows }
