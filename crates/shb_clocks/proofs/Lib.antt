@@ -7,6 +7,7 @@ pub mod MayLearn
 pub mod PastLemmas
 pub mod RowsLemmas
 pub mod MovedLemmas
+pub mod OpenItems
 pub mod Sources
 pub mod Counting
 pub mod StampItems

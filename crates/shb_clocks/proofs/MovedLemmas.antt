@@ -1,8 +1,8 @@
 -- Rows that are moved, one after the other.
-use Rattle.std.proofs.Common.{◌≡◌, ◌≢◌, ℕ, zero, suc, ◌+◌, ◌-◌, ◌<◌, ◌≤◌, ◌⊎◌, inl, inr, List, [], ◌∷◌, ◌++◌, Some, length, get_or, arith, subst, ap, sym, ◌∙◌, refl, get_or-set_same, get_or-set_other}
+use Rattle.std.proofs.Common.{◌≡◌, ℕ, suc, ◌+◌, ◌-◌, ◌<◌, ◌≤◌, ◌⊎◌, inl, inr, List, [], ◌∷◌, ◌++◌, Some, length, get_or, arith, subst, ap, sym, ◌∙◌, refl, get_or-set_same, get_or-set_other}
 use Rattle.std.specs.Prelude.{replicate, sum_by}
 use Rattle.std.proofs.Math.ListN.{set, length-set, length-replicate, get_or-replicate}
-use Rattle.std.proofs.lemmas.Bool.{cases_lt, cases_eq}
+use Rattle.std.proofs.lemmas.Bool.{cases_eq}
 use Rattle.std.proofs.lemmas.List.{get_or_push, get_or_read, length_push}
 use Rattle.std.proofs.lemmas.List.Folds.{sum_by-replicate}
 use Rattle.std.proofs.lemmas.List.Sums.{get_or-le-sum_by, sum_by-set}
@@ -114,7 +114,7 @@ module _ {A : Type 0} (default : A) where
 
 -- what the tables name is the same among the new rows
 module _ (trace : List Event) (old new : List (List ℕ)) where
-  row_moved : (t a b : ℕ) (P : ℕ → Type 0) → IsMovedRow old new a b → IsRowFor trace old t P a → IsRowFor trace new t P b
+  pub row_moved : (t a b : ℕ) (P : ℕ → Type 0) → IsMovedRow old new a b → IsRowFor trace old t P a → IsRowFor trace new t P b
   row_moved t a b P h row = record { in_range = h.in_range; front = subst (IsFrontBut trace t P) (sym h.same) row.front }
 
   pub current_moved : (n threads : ℕ) (before after : List ℕ) → AreAlike 0 (IsMovedRow old new) before after → AreCurrent trace old n threads before → AreCurrent trace new n threads after

@@ -77,9 +77,9 @@ impl Rows {
         Ok(self.count - 1)
     }
 
-    /// The number of a row that is this clock: the given one, or a new one.
+    /// The number of a row that is this clock: the given one, or a new one. The given number may name
+    /// no row.
     pub fn number_like(&mut self, given: u32, clock: &[u32]) -> Result<u32, NoMemory>
-        requires in_range { given < length self.old.rows }
         requires long { length clock.now ≡ self.old.width }
         requires few { length self.old.rows + 1 < 2 ^ 32 }
         ensures width { OnOk result (self.new.width ≡ self.old.width) }
@@ -88,7 +88,7 @@ impl Rows {
             → OnOk result (slice_index_or self.new.rows i [] ≡ slice_index_or self.old.rows i []) }
         ensures row { IfOk result (λ number. (number < length self.new.rows) × (slice_index_or self.new.rows number [] ≡ clock.now)) }
     {
-        if self.row(given) == clock {
+        if given < self.count() && self.row(given) == clock {
             return Ok(given);
         }
         self.push(clock)

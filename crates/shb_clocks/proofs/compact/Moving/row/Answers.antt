@@ -1,4 +1,4 @@
-use Rattle.std.proofs.Common.{◌<◌, arith}
+use Rattle.std.proofs.Common.{arith}
 use Rattle.shb_clocks.proofs.MovedLemmas.{moved_known, moved_push, moved_room}
 use Rattle.shb_clocks.proofs.compact.Moving.row.Goals as goal
 
