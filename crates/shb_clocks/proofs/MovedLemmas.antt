@@ -59,13 +59,13 @@ module _ (old new : RowsData) (moved : List ℕ) (number known : ℕ) (are : Are
     width = width ∙ are.width;
     as_many = length-set moved number (place + 1) ∙ are.as_many;
     few =
-      (let is_zero : get_or moved number 0 ≡ 0 = (let at = item in omega (arith, at, none)) in
-      let one : unmoved (get_or moved number 0) ≡ 1 = ap unmoved is_zero in
-      let none_left : unmoved (place + 1) ≡ 0 = ap unmoved (let next : place + 1 ≡ suc place = omega arith in next) in
-      let set_sum = sum_by-set unmoved moved number (place + 1) 0 (let many = are.as_many in omega (arith, many, low)) in
-      let few = are.few in
-      let size = ap length is ∙ length_push new.rows row in
-      omega (arith, one, none_left, set_sum, few, size));
+        (let is_zero : get_or moved number 0 ≡ 0 = (let at = item in omega (arith, at, none)) in
+        let one : unmoved (get_or moved number 0) ≡ 1 = ap unmoved is_zero in
+        let none_left : unmoved (place + 1) ≡ 0 = ap unmoved (let next : place + 1 ≡ suc place = omega arith in next) in
+        let set_sum = sum_by-set unmoved moved number (place + 1) 0 (let many = are.as_many in omega (arith, many, low)) in
+        let few = are.few in
+        let size = ap length is ∙ length_push new.rows row in
+        omega (arith, one, none_left, set_sum, few, size));
     each = λ a b lt at. go a b lt at (cases_eq a number);
   }
     where
