@@ -31,6 +31,11 @@ pub record HasRowsBefore (trace : List Event) (flags : List Bool) (rows : List (
   pub as_many : length before ≡ n
   pub each : (e t : ℕ) → e < n → accesses_open flags trace e ≡ true → thread_at trace e ≡ Some t → IsRowFor trace rows t (λ k. BelowPred trace k e) (slice_index_or before e 0)
 
+-- for each access of a variable that is open by these flags, the row of what is below its predecessor
+pub record HasOpenRows (trace : List Event) (flags : List Bool) (rows : List (List ℕ)) (before : List ℕ) : Type 0 where
+  pub rows_before : HasRowsBefore trace flags rows (length before) before
+  pub all : (e : ℕ) → e < length trace → accesses_open flags trace e ≡ true → e < length before
+
 -- for each thread the row of what it knows after the first n events
 pub record AreCurrent (trace : List Event) (rows : List (List ℕ)) (n threads : ℕ) (current : List ℕ) : Type 0 where
   pub as_many : length current ≡ threads

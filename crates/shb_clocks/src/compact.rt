@@ -92,7 +92,8 @@ impl Moving {
         requires moved { AreMoved old.now self.old.rows self.old.moved.items }
         ensures moved { OnOk result (AreMoved old.now self.new.rows self.new.moved.items) }
         ensures more { OnOk result (AreMore self.old.rows.rows self.new.rows.rows) }
-        ensures stamps { OnOk result (AreAlike empty_stamp (IsMovedStamp old.now.rows self.new.rows.rows) stamps.old.items stamps.new.items) }
+        ensures stamps { OnOk result (AreAlike empty_stamp (IsMovedStamp old.now.rows self.new.rows.rows)
+            stamps.old.items stamps.new.items) }
     {
         for x in 0..stamps.len() {
             let stamp = self.stamp(old, stamps[x])?;

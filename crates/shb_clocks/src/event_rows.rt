@@ -2,7 +2,7 @@
 
 ghost use Rattle.std.specs.Prelude.{◌≡◌, ◌<◌, true, IfOk, length};
 ghost use Rattle.shb_clocks.specs.Open.{OpenTrace, accesses_open};
-ghost use Rattle.shb_clocks.specs.Stamps.{HasRowsBefore};
+ghost use Rattle.shb_clocks.specs.Stamps.{HasOpenRows};
 
 use crate::clock::entry;
 use crate::kept_rows::{KeptRows, kept_rows};
@@ -34,13 +34,14 @@ impl<'a> Model for EventRows<'a> {
     ghost view = { λ o. record { trace = o.linked.events.now; flags = o.flags.now } };
 
     ghost invariant = { λ o. (o.rows.width ≡ o.linked.sizes.threads)
-        × HasRowsBefore o.linked.events.now o.flags.now o.rows.rows (length o.linked.events.now) o.before.items };
+        × HasOpenRows o.linked.events.now o.flags.now o.rows.rows o.before.items };
 }
 
 /// The order of a trace at the accesses of open variables, those whose flag isn't false, found by one
-/// forward pass. Memory: four bytes an event, and four bytes a thread for each row that is kept: one
-/// for such an access where its thread knows something new since its last one. While it runs, twelve
-/// bytes for each lock and variable, and four bytes a thread for each row in use.
+/// forward pass up to the last of them. Memory: four bytes for each event up to there, and four bytes
+/// a thread for each row that is kept: one for such an access where its thread knows something new
+/// since its last one. While it runs, twelve bytes for each lock and variable, and four bytes a thread
+/// for each row in use.
 ///
 /// # Errors
 ///

@@ -4,10 +4,10 @@ ghost use Rattle.std.specs.Prelude.{◌≡◌, ℕ, ◌+◌, ◌<◌, ◌^◌, B
 ghost use Rattle.shb_lines.specs.events.Events.{thread_at};
 ghost use Rattle.shb_lines.specs.events.Order.{BelowPred};
 ghost use Rattle.shb_clocks.specs.KeptRows.{AreKeptRows};
-ghost use Rattle.shb_clocks.specs.Stamps.{HasGrown, IsRowFor, IsSwept};
+ghost use Rattle.shb_clocks.specs.Stamps.{HasGrown, HasOpenRows, IsRowFor, IsSwept};
 
 use crate::clock::zeros;
-use crate::open::is_asked;
+use crate::open::{asked_end, is_asked};
 use crate::rows::Rows;
 use crate::stamps::Stamps;
 use shb_io::NoMemory;
@@ -58,7 +58,7 @@ impl KeptRows {
     {
         Ok(KeptRows {
             rows: Rows::new(alloc, linked.sizes.threads),
-            before: Vec::with_capacity(alloc, linked.events.len())?,
+            before: Vec::new(alloc),
             last: zeros(alloc, linked.sizes.threads)?,
         })
     }
@@ -86,13 +86,14 @@ impl KeptRows {
     }
 }
 
-/// What is kept of a whole trace, found by one forward pass.
+/// What is kept of a whole trace, found by one forward pass up to the last access of an open variable.
 pub fn kept_rows(alloc: Global, linked: &Linked<'_>, flags: &[bool]) -> Result<KeptRows, NoMemory>
-    ensures { IfOk result (AreKeptRows linked.now.events.now flags.now (length linked.now.events.now) linked.now.sizes) }
+    ensures width { IfOk result (λ kept. kept.rows.width ≡ linked.now.sizes.threads) }
+    ensures rows { IfOk result (λ kept. HasOpenRows linked.now.events.now flags.now kept.rows.rows kept.before.items) }
 {
     let mut stamps = Stamps::new(alloc, linked)?;
     let mut kept = KeptRows::new(alloc, linked)?;
-    for e in 0..linked.events.len() as u32 {
+    for e in 0..asked_end(linked, flags) {
         kept.note(linked, flags, &stamps, e)?;
         stamps.pass(alloc, linked, e)?;
     }

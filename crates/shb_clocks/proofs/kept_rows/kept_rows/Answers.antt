@@ -1,8 +1,9 @@
-use Rattle.std.proofs.Common.{◌≡◌, ℕ, length, subst, arith}
-use Rattle.shb_clocks.specs.KeptRows.{AreKeptRows}
+use Rattle.std.proofs.Common.{ℕ, sym, subst, arith}
+use Rattle.shb_clocks.specs.Stamps.{HasRowsBefore}
 use Rattle.shb_clocks.proofs.kept_rows.kept_rows.Goals as goal
 
-pub returns : goal.returns
-returns c =
-    let all : c.loop-e.e ≡ length c.args.linked.now.events.now = omega arith in
-    subst (λ (n : ℕ). AreKeptRows c.args.linked.now.events.now c.args.flags.now n c.args.linked.now.sizes c.loop-e.kept) all c.loop-e.invariant.kept
+pub returns-clause-rows : goal.returns-clause-rows
+returns-clause-rows c = record {
+  rows_before = subst (λ (n : ℕ). HasRowsBefore c.args.linked.now.events.now c.args.flags.now c.loop-e.kept.rows.rows n c.loop-e.kept.before.items) (sym c.loop-e.invariant.kept.before.as_many) c.loop-e.invariant.kept.before;
+  all = λ e lt asked. (let below = c.asked_end-e-end.ensures.all e lt asked in let many = c.loop-e.invariant.kept.before.as_many in omega (arith, below, many));
+}
