@@ -1,6 +1,6 @@
 //! What an order answers.
 
-ghost use Rattle.std.specs.Prelude.{◌<◌, List, length};
+ghost use Rattle.std.specs.Prelude.{◌≡◌, ℕ, ◌<◌, Bool, true, List, length};
 ghost use Rattle.shb_lines.specs.declared.event.Event.{Event};
 ghost use Rattle.shb_lines.specs.events.Order.{IsBelowPredCount};
 
@@ -10,10 +10,13 @@ ghost use Rattle.shb_lines.specs.events.Order.{IsBelowPredCount};
 /// later acquire of its lock, a fork to the forked thread, a thread to a join of it, and a write to
 /// each read whose last write it is. It comes from the OOPSLA 2018 paper of Mathur, Kini and
 /// Viswanathan. The predecessor of an event is the event before it in its thread or, for a thread's
-/// first event, the fork of the thread.
+/// first event, the fork of the thread. An order can be asked about some events, which it names.
 pub trait Order {
     /// The trace that is ordered.
     ghost trace: { Self → List Event };
+
+    /// The events that it can be asked about.
+    ghost asks: { Self → ℕ → Bool };
 
     /// The number of events of thread `t` that are SHB-below the predecessor of event `e`, or are
     /// it; 0 where `e` has none, and for every `t` that names no thread. Events and threads count
@@ -21,6 +24,7 @@ pub trait Order {
     /// SHB-below the predecessor exactly where its place in the thread, from 1, is at most this
     /// number.
     fn below_pred(&self, e: u32, t: u32) -> u32
-        requires { e < length (trace self.now) }
+        requires in_range { e < length (trace self.now) }
+        requires asked { asks self.now e ≡ true }
         ensures { IsBelowPredCount (trace self.now) t e result };
 }

@@ -1,6 +1,6 @@
 //! An order by clocks that are kept only where a thread may learn of others.
 
-ghost use Rattle.std.specs.Prelude.{◌≡◌, ◌<◌, List, IfOk, length};
+ghost use Rattle.std.specs.Prelude.{◌≡◌, ◌<◌, true, List, IfOk, length};
 ghost use Rattle.shb_lines.specs.declared.event.Event.{Event};
 ghost use Rattle.shb_clocks.specs.Learned.{AreKept, AreLearnedPlaces};
 
@@ -70,6 +70,8 @@ impl<'a> ClockVersions<'a> {
 
 impl<'a> Order for ClockVersions<'a> {
     ghost trace = { λ o. o };
+
+    ghost asks = { λ _ _. true };
 
     fn below_pred(&self, e: u32, t: u32) -> u32 {
         self.clocks.below_pred(&self.linked, e, t)

@@ -1,6 +1,6 @@
 //! An order by one clock for each event.
 
-ghost use Rattle.std.specs.Prelude.{◌≡◌, ℕ, ◌<◌, List, IfOk, length};
+ghost use Rattle.std.specs.Prelude.{◌≡◌, ℕ, ◌<◌, true, List, IfOk, length};
 ghost use Rattle.shb_lines.specs.declared.event.Event.{Event};
 ghost use Rattle.shb_clocks.specs.Past.{HasClocks};
 
@@ -57,6 +57,8 @@ pub fn full<'a>(
 
 impl<'a> Order for FullClocks<'a> {
     ghost trace = { λ o. o };
+
+    ghost asks = { λ _ _. true };
 
     fn below_pred(&self, e: u32, t: u32) -> u32 {
         match self.linked.links.pred(e) {

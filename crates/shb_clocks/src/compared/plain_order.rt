@@ -123,6 +123,8 @@ fn count_marked(events: &[Event], row: &Marks, t: u32) -> u32
 impl<'a> Order for PlainOrder<'a> {
     ghost trace = { λ o. o };
 
+    ghost asks = { λ _ _. true };
+
     fn below_pred(&self, e: u32, t: u32) -> u32 {
         count_marked(self.linked.events, &self.rows[e as usize], t)
     }

@@ -5,7 +5,7 @@ use Rattle.shb_clocks.proofs.compared.clock_versions.ClockVersionsOrder.below_pr
 
 pub below_pred-requires : goal.below_pred-requires
 below_pred-requires c = record {
-  in_range = subst (λ (tr : List Event). c.args.e < length tr) (sym c.self.view_is) c.requires;
+  in_range = subst (λ (tr : List Event). c.args.e < length tr) (sym c.self.view_is) c.requires.in_range;
   whole = c.self.invariant;
 }
 
