@@ -54,6 +54,7 @@ fn add_races_among<O: Order>(
     second: u32,
 ) -> Result<(), AllocError>
     requires in_range { second < length ordered.now.trace.now.events.now }
+    requires asked { O.asks ordered.now.order.now second ≡ true }
     requires earlier { All (λ i. i < second) firsts.now }
     ensures { IfOk result (λ _. map ends races.new.items ≡ map ends races.old.items
         ++ map (λ i. (i, second)) (racing ordered.now.trace.now.events.now second firsts.now)) }
@@ -73,6 +74,7 @@ fn add_races_among<O: Order>(
 fn is_ordered<O: Order>(ordered: &Ordered<'_, O>, first: u32, second: u32) -> bool
     requires earlier { first < second }
     requires in_range { second < length ordered.now.trace.now.events.now }
+    requires asked { O.asks ordered.now.order.now second ≡ true }
     ensures { IsTrue result ↔ BelowPred ordered.now.trace.now.events.now first second }
 {
     // Of two events of one thread the order isn't asked.
@@ -90,6 +92,7 @@ fn add_races_since<O: Order>(
     place: usize,
 ) -> Result<(), AllocError>
     requires inside { place < length accesses.now }
+    requires asked { O.asks ordered.now.order.now (slice_index_or accesses.now place 0) ≡ true }
     requires settled { (x : ℕ) × (accesses.now ≡ accesses_in ordered.now.trace.now.events.now x)
         × IsSettled ordered.now.trace.now.events.now x accesses.now place write }
     requires ordered { BelowPred ordered.now.trace.now.events.now (slice_index_or accesses.now write 0)
@@ -115,6 +118,7 @@ fn ordered_write<O: Order>(
     place: usize,
 ) -> Option<usize>
     requires inside { place < length accesses.now }
+    requires asked { O.asks ordered.now.order.now (slice_index_or accesses.now place 0) ≡ true }
     requires settled { (x : ℕ) × (accesses.now ≡ accesses_in ordered.now.trace.now.events.now x)
         × IfSome settled (λ s. IsSettled ordered.now.trace.now.events.now x accesses.now place s) }
     ensures settled { (x : ℕ) → IfSome settled (λ s. IsSettled ordered.now.trace.now.events.now x accesses.now place s)

@@ -75,6 +75,7 @@ fn add_tail<O: Order>(
     second: u32,
 ) -> Result<(), AllocError>
     requires in_range { second < length ordered.now.trace.now.events.now }
+    requires asked { O.asks ordered.now.order.now second ≡ true }
     requires some { 0 < length positions.now }
     requires rivals { AreRivals ordered.now.trace.now.events.now second positions.now }
     requires one_thread { IsOfOneThread ordered.now.trace.now.events.now positions.now }
@@ -100,6 +101,7 @@ fn add_rivals<O: Order>(
     second: u32,
 ) -> Result<(), AllocError>
     requires in_range { second < length ordered.now.trace.now.events.now }
+    requires asked { O.asks ordered.now.order.now second ≡ true }
     requires rivals { AreRivals ordered.now.trace.now.events.now second positions.now }
     requires each_in_range { All (λ k. k < length ordered.now.trace.now.events.now) positions.now }
     requires sorted { AllPairs (IsBeforeByThread ordered.now.trace.now.events.now) positions.now }

@@ -1,10 +1,10 @@
 //! The variables that may have a race, by one pass over a trace.
 
-ghost use Rattle.std.specs.Prelude.{◌≡◌, ◌≢◌, ◌==◌, ℕ, ◌+◌, ◌<◌, Some, IfOk, IsTrue, OnOk, length, map};
+ghost use Rattle.std.specs.Prelude.{◌≡◌, ◌≢◌, ◌==◌, ℕ, ◌+◌, ◌<◌, true, Some, IfOk, IsTrue, OnOk, length, map};
 ghost use Rattle.shb_lines.specs.declared.event.Op.TheVariants.{Write};
 ghost use Rattle.shb_lines.specs.events.Events.{op_at};
 ghost use Rattle.shb_lines.specs.events.Race.{variable_at};
-ghost use Rattle.shb_pairs.specs.Listed.{AreOpen};
+ghost use Rattle.shb_pairs.specs.Listed.{AreOpen, AsksAll};
 ghost use Rattle.shb_pairs.specs.Screen.{AreScreened, IsMarkOf, IsOf, IsPast, IsScreened, no_place};
 ghost use Rattle.shb_pairs.specs.declared.screen.Mark.{Mark};
 ghost use Rattle.shb_pairs.specs.declared.screen.KeptRead.{KeptRead};
@@ -90,6 +90,7 @@ fn mark_of<O: Order>(ordered: &Ordered<'_, O>, e: u32) -> Mark
 /// Whether what a mark stands for is SHB-below the predecessor of an event.
 fn is_past<O: Order>(ordered: &Ordered<'_, O>, mark: Mark, e: u32) -> bool
     requires in_range { e < length ordered.now.trace.now.events.now }
+    requires asked { O.asks ordered.now.order.now e ≡ true }
     ensures { IsTrue result → IsPast ordered.now.trace.now.events.now mark e }
 {
     if mark.place == NO_PLACE {
@@ -120,6 +121,7 @@ fn are_past<O: Order>(
     e: u32,
 ) -> bool
     requires in_range { e < length ordered.now.trace.now.events.now }
+    requires asked { O.asks ordered.now.order.now e ≡ true }
     ensures { IsTrue result → (mark : Mark) → IsOf reads.now mark newest → IsPast ordered.now.trace.now.events.now mark e }
 {
     let mut read = newest;
@@ -143,6 +145,7 @@ fn after_read<O: Order>(
     e: u32,
 ) -> Result<Latest, NoMemory>
     requires in_range { e < length ordered.now.trace.now.events.now }
+    requires asked { O.asks ordered.now.order.now e ≡ true }
     ensures kept { (mark : Mark) (read : KeptRead) → IsOf reads.old.items mark read → OnOk result (IsOf reads.new.items mark read) }
     ensures screened { (x : ℕ) → variable_at ordered.now.trace.now.events.now e ≡ Some x
         → op_at ordered.now.trace.now.events.now e ≢ Some (Write x)
@@ -177,6 +180,7 @@ fn after_write<O: Order>(
     e: u32,
 ) -> Latest
     requires in_range { e < length ordered.now.trace.now.events.now }
+    requires asked { O.asks ordered.now.order.now e ≡ true }
     ensures { (x : ℕ) → variable_at ordered.now.trace.now.events.now e ≡ Some x
         → IsPast ordered.now.trace.now.events.now latest.write e
         → IsScreened ordered.now.trace.now.events.now reads.now e x latest
@@ -200,6 +204,7 @@ fn after_access<O: Order>(
     e: u32,
 ) -> Result<Latest, NoMemory>
     requires in_range { e < length ordered.now.trace.now.events.now }
+    requires asked { O.asks ordered.now.order.now e ≡ true }
     ensures kept { (mark : Mark) (read : KeptRead) → IsOf reads.old.items mark read → OnOk result (IsOf reads.new.items mark read) }
     ensures screened { (x : ℕ) → variable_at ordered.now.trace.now.events.now e ≡ Some x
         → IsScreened ordered.now.trace.now.events.now reads.old.items e x latest
@@ -222,6 +227,7 @@ fn screen<O: Order>(
     e: u32,
 ) -> Result<(), NoMemory>
     requires in_range { e < length ordered.now.trace.now.events.now }
+    requires asked { O.asks ordered.now.order.now e ≡ true }
     requires screened { AreScreened ordered.now.trace.now.events.now reads.old.items e
         ordered.now.trace.now.sizes.variables table.old.items }
     ensures { OnOk result (AreScreened ordered.now.trace.now.events.now reads.new.items (e + 1)
@@ -262,6 +268,7 @@ pub fn open_variables<O: Order>(
     alloc: Global,
     ordered: &Ordered<'_, O>,
 ) -> Result<Vec<bool>, NoMemory>
+    requires asked { AsksAll (O.asks ordered.now.order.now) ordered.now.trace.now.events.now }
     ensures { IfOk result (λ flags. AreOpen ordered.now.trace.now.events.now flags.items) }
 {
     let none = Latest {

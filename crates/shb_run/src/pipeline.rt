@@ -3,6 +3,7 @@ ghost use Rattle.std.specs.Prelude.{◌≡◌, ◌⊎◌, ◌+◌, ◌-◌, ◌^
 ghost use Rattle.shb_discipline.specs.FirstFault.{IsFirstFault};
 ghost use Rattle.shb_lines.specs.declared.fault.Fault.{Fault};
 ghost use Rattle.shb_lines.specs.text.Taking.{ReadsText, TakesAtMost};
+ghost use Rattle.shb_pairs.specs.Listed.{AsksAll};
 ghost use Rattle.shb_check.specs.Judged.{limits};
 ghost use Rattle.shb_check.specs.Outcomes.{CountsSink, CountsSource, Grows, OnJudged, OnMemory, OnNoTrace, OnSink, OnTrace};
 ghost use Rattle.shb_run.specs.Runs.{AreWords, HasTrace, IsReported, IsReportedBy};
@@ -54,6 +55,7 @@ fn report_by<
     gates: &Gates<'_, '_, P, W>,
 ) -> Result<Summary, WriteError>
     requires countable { K.failure_count sink.old < 2 ^ 64 - 1 }
+    requires asked { AsksAll (O.asks ordered.now.order.now) ordered.now.trace.now.events.now }
     ensures report { IfOk result (λ summary.
         ReportsTrace (ListedBy task.choice) task.settings.schedules ordered.now.trace.now.trace.now summary
         (K.taken sink.old) (K.taken sink.new)) }

@@ -1,6 +1,7 @@
 //! The races of a trace, from the pieces of its accesses, and which of them a report lists.
 ghost use Rattle.std.specs.Prelude.{◌≡◌, IfOk, map};
 ghost use Rattle.shb_lines.specs.events.Race.{IsRaceList, ends};
+ghost use Rattle.shb_pairs.specs.Listed.{AsksAll};
 ghost use Rattle.shb_pairs.specs.Races.{joined};
 ghost use Rattle.shb_run.specs.Written.{ListedBy};
 
@@ -37,6 +38,7 @@ pub fn races_of<R: Threads + Wait + Sync, O: Order + Sync, G: Gate + Sync>(
     gate: &G,
     workers: Workers,
 ) -> Result<Vec<Pair>, NoMemory>
+    requires asked { AsksAll (O.asks ordered.now.order.now) ordered.now.trace.now.events.now }
     ensures listed { IfOk result (λ races. IsRaceList ordered.now.trace.now.events.now (map ends races.items)) }
 {
     let flags = open_variables(alloc, ordered)?;

@@ -1,5 +1,6 @@
 //! The races of small traces, and that the search finds what a scan of all pairs finds.
 ghost use Rattle.std.specs.Prelude.{◌≡◌, ◌<◌, ◌≤◌, length};
+ghost use Rattle.shb_pairs.specs.Listed.{AsksOpen};
 
 use crate::asserting::{holds, same, same_in_row};
 use crate::fixtures::{Mixture, Question, asked, pair, push_mixed_lines};
@@ -58,6 +59,7 @@ fn found_among<O: Order>(
     accesses: &Accesses<'_>,
 ) -> Result<Found, NoMemory>
     requires accesses { accesses.now.trace ≡ ordered.now.trace.now.events.now }
+    requires asked { AsksOpen (O.asks ordered.now.order.now) accesses.now.flags ordered.now.trace.now.events.now }
 {
     let pieces = pieces(alloc, accesses)?;
     let mut counts = Vec::new(alloc);

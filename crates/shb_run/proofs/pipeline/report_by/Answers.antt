@@ -1,5 +1,6 @@
 use Rattle.std.proofs.Common.{rules, ◌≡◌, List, length, map, subst, sym}
 use Rattle.shb_lines.specs.declared.event.Pair.{Pair}
+use Rattle.shb_witness.proofs.Printed.{race_ends}
 use Rattle.shb_run.specs.Written.{ListedBy}
 use Rattle.shb_run.proofs.Endings.{cut_known, memory_known, reports_of}
 use Rattle.shb_run.proofs.Reports.{races_listed}
@@ -12,6 +13,14 @@ write_report-requires-clause-races g c κs alive =
     let choice = c.args.task.choice in
     let lists = subst (λ (races : List Pair). ListedBy choice trace.trace.now (map ends races)) (sym c.deref.ensures.value) c.in_ok-chosen.ensures.chosen in
     races_listed choice trace.trace.now trace.events.now c.deref.result.now trace.of_trace lists
+
+pub write_report-requires-clause-asked : goal.write_report-requires-clause-asked
+write_report-requires-clause-asked g c κs alive k d lt =
+    let trace = c.args.ordered.now.trace.now in
+    let choice = c.args.task.choice in
+    let lists = subst (λ (races : List Pair). ListedBy choice trace.trace.now (map ends races)) (sym c.deref.ensures.value) c.in_ok-chosen.ensures.chosen in
+    let ends = race_ends trace.events.now _ _ (races_listed choice trace.trace.now trace.events.now c.deref.result.now trace.of_trace lists k d lt) in
+    (c.requires.asked _ ends.0, c.requires.asked _ ends.1)
 
 pub returns-in_err-write_report-clause-cut : goal.returns-in_err-write_report-clause-cut
 returns-in_err-write_report-clause-cut g c =

@@ -1,8 +1,12 @@
 use Rattle.std.proofs.Common.{List, Bool, ap, sym, subst, ◌∙◌}
 use Rattle.shb_lines.specs.events.Sizes.{IsNumberedByAccess}
 use Rattle.shb_pairs.specs.Listed.{AreOpen, Listed}
+use Rattle.shb_pairs.proofs.Found.{accessed_within}
 use Rattle.shb_run.proofs.Joining.{listed_of}
 use Rattle.shb_run.proofs.races.races_of.Goals as goal
+
+pub new-job-requires-clause-asked : goal.new-job-requires-clause-asked
+new-job-requires-clause-asked g c e x access opened = c.requires.asked _ (accessed_within c.args.ordered.now.trace.now.events.now e x access)
 
 pub returns : goal.returns
 returns g c =

@@ -20,7 +20,7 @@ overflow_cast-piece-2 g c =
 pub invariant_of-search : goal.invariant_of-search
 invariant_of-search g c =
     let run = (piece_value c.self.inside.accesses.now c.args.self.now c.self.inside.ordered.trace.now.events.now c.self.inside.pieces.now c.args.k _ c.self.view_is c.self.invariant.0 c.self.invariant.1 c.requires c.piece_with-piece.ensures).0 in
-    record { of_trace = c.self.invariant.0; listed = run.listed; accessed = run.variable }
+    record { of_trace = c.self.invariant.0; listed = run.listed; asked = c.self.invariant.2; accessed = run.variable }
 
 pub races_in-requires-clause-forward : goal.races_in-requires-clause-forward
 races_in-requires-clause-forward g c = (piece_value c.self.inside.accesses.now c.args.self.now c.self.inside.ordered.trace.now.events.now c.self.inside.pieces.now c.args.k _ c.self.view_is c.self.invariant.0 c.self.invariant.1 c.requires c.piece_with-piece.ensures).0.forward
