@@ -4,4 +4,5 @@ pub mod Marks
 pub mod Past
 pub mod Rows
 pub mod Stamps
+pub mod SweepData
 pub mod Sweeps

@@ -74,7 +74,6 @@ pub record IsSwept (trace : List Event) (n : ℕ) (sizes : Sizes) (stamps : Stam
   pub width : stamps.rows.width ≡ sizes.threads
   pub long : length stamps.clock ≡ sizes.threads
   pub few : length stamps.rows.rows ≤ 2 * n + 1
-  pub before : HasRowsBefore trace stamps.rows.rows n stamps.before.items
   pub current : AreCurrent trace stamps.rows.rows n sizes.threads stamps.current.items
   pub locks : AreStamps trace stamps.rows.rows (ReleasesLock trace) n sizes.locks stamps.locks.items
   pub variables : AreStamps trace stamps.rows.rows (WritesVariable trace) n sizes.variables stamps.variables.items

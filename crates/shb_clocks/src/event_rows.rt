@@ -7,7 +7,7 @@ ghost use Rattle.shb_clocks.specs.Stamps.{HasRowsBefore};
 use crate::clock::entry;
 use crate::order::Order;
 use crate::rows::Rows;
-use crate::stamps::sweep;
+use crate::stamps::Stamps;
 use shb_discipline::Disciplined;
 use shb_io::NoMemory;
 use shb_lines::Event;
@@ -35,6 +35,21 @@ impl<'a> Model for EventRows<'a> {
         × HasRowsBefore o.linked.events.now o.rows.rows (length o.linked.events.now) o.before.items };
 }
 
+/// The rows of a trace and the number of the row before each event, found by one forward pass.
+fn rows_before(alloc: Global, linked: &Linked<'_>) -> Result<(Rows, Vec<u32>), NoMemory>
+    ensures width { IfOk result (λ kept. kept.0.width ≡ linked.now.sizes.threads) }
+    ensures before { IfOk result (λ kept. HasRowsBefore linked.now.events.now kept.0.rows (length linked.now.events.now) kept.1.items) }
+{
+    let mut stamps = Stamps::new(alloc, linked)?;
+    let mut before = Vec::with_capacity(alloc, linked.events.len())?;
+    for e in 0..linked.events.len() as u32 {
+        before.push(stamps.row_before(linked, e))?;
+        stamps.take(linked, e)?;
+    }
+    let Stamps { rows, .. } = stamps;
+    Ok((rows, before))
+}
+
 /// The order of a trace by rows of clocks and the number of a row for each event, found by one
 /// forward pass. Memory: four bytes an event, twelve for each lock and variable while it runs, and
 /// four bytes a thread for each row. A row is added at each fork, and at an acquire, a read or a join
@@ -52,7 +67,7 @@ pub fn by_event<'a>(
     ensures { IfOk result (λ order. order ≡ trace.now.events.now) }
 {
     let linked = Linked::new(trace, links);
-    let (rows, before) = sweep(alloc, &linked)?;
+    let (rows, before) = rows_before(alloc, &linked)?;
     Ok(EventRows {
         linked,
         rows,

@@ -28,8 +28,10 @@ mod ordered;
 mod rows;
 mod stamp;
 mod stamps;
+mod sweep;
 
 pub use compared::{ClockVersions, FullClocks, PlainOrder, full, plain, versions};
 pub use event_rows::{EventRows, by_event};
 pub use order::Order;
 pub use ordered::Ordered;
+pub use sweep::Sweep;

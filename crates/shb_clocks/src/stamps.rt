@@ -1,26 +1,25 @@
-//! The sweep by stamps: rows that never change, and stamps that name them.
+//! What a sweep by stamps keeps: rows that never change, and stamps that name them.
 
 ghost use Rattle.std.specs.Prelude.{◌≡◌, ℕ, ◌+◌, ◌<◌, ◌^◌, List, [], ◌∷◌, Some, IfOk, OnOk, length, replicate, slice_index_or};
 ghost use Rattle.shb_lines.specs.declared.event.Op.TheVariants.{Join};
 ghost use Rattle.shb_lines.specs.events.Events.{op_at, thread_at};
-ghost use Rattle.shb_lines.specs.events.Order.{BelowPred, ShbBelow};
+ghost use Rattle.shb_lines.specs.events.Order.{BelowPred, IsBelowPredCount, ShbBelow};
 ghost use Rattle.shb_links.specs.Latest.{ReleasesLock, WritesVariable};
-ghost use Rattle.shb_clocks.specs.Stamps.{AreCurrent, AreStamps, HasGrown, HasRowsBefore, IsRowFor, IsSource, IsStampOf, IsSwept, KnowsStamp, empty_stamp};
+ghost use Rattle.shb_clocks.specs.Rows.{AreMore};
+ghost use Rattle.shb_clocks.specs.Stamps.{AreCurrent, AreStamps, HasGrown, IsRowFor, IsSource, IsStampOf, IsSwept, KnowsStamp, empty_stamp};
 
-use crate::clock::Clock;
+use crate::clock::{Clock, entry};
 use crate::rows::Rows;
 use crate::stamp::{Stamp, push_joined, push_stamp};
 use shb_io::NoMemory;
 use shb_lines::Op;
 use shb_links::Linked;
-use std::alloc::{AllocError, Global};
+use std::alloc::Global;
 
 /// What the sweep keeps after some events.
 #[derive(Drop)]
 pub struct Stamps {
     pub rows: Rows,
-    /// For each event the number of the row of what its thread knew before it.
-    pub before: Vec<u32>,
     /// For each thread the number of the row of what it knows.
     pub current: Vec<u32>,
     /// For each lock the stamp of its last release.
@@ -32,7 +31,7 @@ pub struct Stamps {
 }
 
 /// Zeros, one for each thread.
-fn zeros(alloc: Global, threads: u32) -> Result<Vec<u32>, AllocError>
+fn zeros(alloc: Global, threads: u32) -> Result<Vec<u32>, NoMemory>
     ensures { IfOk result (λ zeros. zeros.items ≡ replicate threads 0) }
 {
     Ok(vec![in alloc; 0; threads as usize]?)
@@ -153,7 +152,6 @@ impl Stamps {
         let clock = Clock::new(alloc, linked.sizes.threads as usize)?;
         Ok(Stamps {
             rows: first_row(alloc, linked.sizes.threads, &clock)?,
-            before: Vec::with_capacity(alloc, linked.events.len())?,
             current: zeros(alloc, linked.sizes.threads)?,
             locks: no_stamps(alloc, linked.sizes.locks)?,
             variables: no_stamps(alloc, linked.sizes.variables)?,
@@ -193,14 +191,37 @@ impl Stamps {
         }
     }
 
+    /// The number of the row of what the thread of e, the next event, knows before it.
+    pub fn row_before(&self, linked: &Linked<'_>, e: u32) -> u32
+        requires in_range { e < length linked.now.events.now }
+        requires swept { IsSwept linked.now.events.now e linked.now.sizes self.now }
+        ensures { (t : ℕ) → thread_at linked.now.events.now e ≡ Some t
+            → IsRowFor linked.now.events.now self.now.rows.rows t (λ k. BelowPred linked.now.events.now k e) result }
+    {
+        self.current[linked.events[e as usize].thread as usize]
+    }
+
+    /// The number of events of thread t that are SHB-below the predecessor of e, the next event.
+    pub fn below_pred(&self, linked: &Linked<'_>, e: u32, t: u32) -> u32
+        requires in_range { e < length linked.now.events.now }
+        requires swept { IsSwept linked.now.events.now e linked.now.sizes self.now }
+        ensures { IsBelowPredCount linked.now.events.now t e result }
+    {
+        if t == linked.events[e as usize].thread {
+            return linked.links.local(e) - 1;
+        }
+        entry(self.rows.row(self.row_before(linked, e)), t)
+    }
+
     /// Takes the event e.
     pub fn take(&mut self, linked: &Linked<'_>, e: u32) -> Result<(), NoMemory>
         requires in_range { e < length linked.now.events.now }
         requires swept { IsSwept linked.now.events.now e linked.now.sizes self.old }
-        ensures { OnOk result (IsSwept linked.now.events.now (e + 1) linked.now.sizes self.new) }
+        ensures swept { OnOk result (IsSwept linked.now.events.now (e + 1) linked.now.sizes self.new) }
+        ensures more { OnOk result (AreMore self.old.rows.rows self.new.rows.rows) }
     {
         let thread = linked.events[e as usize].thread;
-        let before = self.current[thread as usize];
+        let before = self.row_before(linked, e);
         let source = self.source(linked, e);
         let row = row_after(&mut self.rows, &mut self.clock, linked, e, before, source)?;
         let stamp = Stamp {
@@ -208,7 +229,6 @@ impl Stamps {
             thread,
             place: linked.links.local(e),
         };
-        self.before.push(before)?;
         note_release(linked, e, stamp, &mut self.locks);
         note_write(linked, e, stamp, &mut self.variables);
         pass_on(
@@ -221,17 +241,4 @@ impl Stamps {
         )?;
         Ok(())
     }
-}
-
-/// The rows of a trace and the number of the row before each event, found by one forward pass.
-pub fn sweep(alloc: Global, linked: &Linked<'_>) -> Result<(Rows, Vec<u32>), NoMemory>
-    ensures width { IfOk result (λ kept. kept.0.width ≡ linked.now.sizes.threads) }
-    ensures before { IfOk result (λ kept. HasRowsBefore linked.now.events.now kept.0.rows (length linked.now.events.now) kept.1.items) }
-{
-    let mut stamps = Stamps::new(alloc, linked)?;
-    for e in 0..linked.events.len() as u32 {
-        stamps.take(linked, e)?;
-    }
-    let Stamps { rows, before, .. } = stamps;
-    Ok((rows, before))
 }

@@ -2,7 +2,7 @@ use Rattle.std.proofs.Common.{ℕ, List, [], length, get_or, ap, ◌∙◌, arit
 use Rattle.std.proofs.Math.ListN.{length-replicate}
 use Rattle.shb_links.specs.Latest.{WritesVariable, ReleasesLock}
 use Rattle.shb_clocks.proofs.StampItems.{current_start}
-use Rattle.shb_clocks.proofs.Stamping.{before_start, stamps_start}
+use Rattle.shb_clocks.proofs.Stamping.{stamps_start}
 use Rattle.shb_clocks.proofs.stamps.Stamps.new.Goals as goal
 
 pub returns : goal.returns
@@ -15,7 +15,6 @@ returns c =
       width = c.in_ok-first_row.ensures.width;
       long = ap length c.in_ok-clock.ensures ∙ length-replicate sizes.threads 0;
       few = omega (arith, one);
-      before = before_start trace c.in_ok-first_row.field-0.rows c.in_ok-with_capacity.field-0.items c.in_ok-with_capacity.ensures.items;
       current = current_start trace c.in_ok-first_row.field-0.rows sizes.threads c.in_ok-zeros.field-0.items (omega (arith, one)) (ap (λ (rs : List (List ℕ)). get_or rs 0 []) rows) c.in_ok-zeros.ensures;
       locks = stamps_start trace c.in_ok-first_row.field-0.rows (ReleasesLock trace) sizes.locks c.in_ok-no_stamps.field-0.items c.in_ok-no_stamps.ensures;
       variables = stamps_start trace c.in_ok-first_row.field-0.rows (WritesVariable trace) sizes.variables c.in_ok-no_stamps-2.field-0.items c.in_ok-no_stamps-2.ensures;
