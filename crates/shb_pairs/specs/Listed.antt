@@ -1,5 +1,5 @@
 -- The variables of a trace whose accesses are listed.
-use Rattle.std.specs.Prelude.{◌≡◌, ℕ, ◌<◌, Bool, true, false, List, Some, length, slice_index_or}
+use Rattle.std.specs.Prelude.{◌≡◌, ℕ, Bool, true, false, List, Some, slice_index_or}
 use Rattle.shb_lines.specs.declared.event.Event.{Event}
 use Rattle.shb_lines.specs.events.Race.{Race, variable_at}
 
@@ -23,7 +23,3 @@ AreOpen trace flags = (x : ℕ) → is_open flags x ≡ false → IsRaceFree tra
 -- each access of an open variable is an event that an order can be asked about
 abbrev pub AsksOpen : (ℕ → Bool) → List Bool → List Event → Type 0
 AsksOpen asks flags trace = (e x : ℕ) → variable_at trace e ≡ Some x → is_open flags x ≡ true → asks e ≡ true
-
--- each event is one that an order can be asked about
-abbrev pub AsksAll : (ℕ → Bool) → List Event → Type 0
-AsksAll asks trace = (e : ℕ) → e < length trace → asks e ≡ true

@@ -105,6 +105,6 @@ impl<'a, O: Order> Job for PairJob<'a, O> {
             accesses: self.accesses,
             variable: piece.variable,
         };
-        Ok(races_in(alloc, &search, piece.from as usize, piece.to as usize)?)
+        races_in(alloc, &search, piece.from as usize, piece.to as usize)
     }
 }

@@ -4,15 +4,17 @@ ghost use Rattle.std.specs.Prelude.{◌≡◌, ◌≢◌, ◌==◌, ℕ, ◌+◌
 ghost use Rattle.shb_lines.specs.declared.event.Op.TheVariants.{Write};
 ghost use Rattle.shb_lines.specs.events.Events.{op_at};
 ghost use Rattle.shb_lines.specs.events.Race.{variable_at};
-ghost use Rattle.shb_pairs.specs.Listed.{AreOpen, AsksAll};
+ghost use Rattle.shb_pairs.specs.Listed.{AreOpen};
 ghost use Rattle.shb_pairs.specs.Screen.{AreScreened, IsMarkOf, IsOf, IsPast, IsScreened, no_place};
 ghost use Rattle.shb_pairs.specs.declared.screen.Mark.{Mark};
 ghost use Rattle.shb_pairs.specs.declared.screen.KeptRead.{KeptRead};
 
-use shb_clocks::{Order, Ordered};
+use shb_clocks::{Order, Ordered, Sweep};
+use shb_discipline::Disciplined;
 use shb_io::NoMemory;
 use shb_lines::variable;
-use std::alloc::{AllocError, Global};
+use shb_links::Links;
+use std::alloc::Global;
 
 /// The place of an event that isn't known any more, above that of each event.
 const NO_PLACE: u32 = u32::MAX;
@@ -241,7 +243,7 @@ fn screen<O: Order>(
 }
 
 /// Which variables are open, by what is kept of each.
-fn flags_of(alloc: Global, table: &[Latest]) -> Result<Vec<bool>, AllocError>
+fn flags_of(alloc: Global, table: &[Latest]) -> Result<Vec<bool>, NoMemory>
     ensures { IfOk result (λ flags. flags.items ≡ map (λ latest. latest.write.place == no_place) table.now) }
 {
     let mut flags = Vec::with_capacity(alloc, table.len())?;
@@ -252,9 +254,9 @@ fn flags_of(alloc: Global, table: &[Latest]) -> Result<Vec<bool>, AllocError>
 }
 
 /// Which variables may have a race, a flag for each: where it is false, no pair of accesses of the
-/// variable is a race. One pass over the trace in its order, with two look-ups of the order for each
-/// access and one more for each read that isn't ordered after the read before it; 20 bytes a variable
-/// and 12 such a read.
+/// variable is a race. One pass over the trace with a [`Sweep`], which is asked twice for each access
+/// and once more for each read that isn't ordered after the read before it. Beside what the sweep
+/// keeps, 20 bytes a variable and 12 such a read.
 ///
 /// A variable is settled where, of each access, the last write before it is SHB-below its
 /// predecessor and, where the access writes, so are the reads since that write. A flag may be true
@@ -264,21 +266,25 @@ fn flags_of(alloc: Global, table: &[Latest]) -> Result<Vec<bool>, AllocError>
 /// # Errors
 ///
 /// `NoMemory` where memory was refused.
-pub fn open_variables<O: Order>(
+pub fn open_variables(
     alloc: Global,
-    ordered: &Ordered<'_, O>,
+    trace: &Disciplined<'_>,
+    links: &Links<'_>,
 ) -> Result<Vec<bool>, NoMemory>
-    requires asked { AsksAll (O.asks ordered.now.order.now) ordered.now.trace.now.events.now }
-    ensures { IfOk result (λ flags. AreOpen ordered.now.trace.now.events.now flags.items) }
+    requires of_trace { links.now ≡ trace.now.events.now }
+    ensures { IfOk result (λ flags. AreOpen trace.now.events.now flags.items) }
 {
     let none = Latest {
         write: nothing(),
         read: no_read(),
     };
     let mut reads = Vec::new(alloc);
-    let mut table = vec![in alloc; none; ordered.trace.sizes.variables as usize]?;
-    for e in 0..ordered.trace.events.len() as u32 {
-        screen(ordered, &mut reads, &mut table, e)?;
+    let mut table = vec![in alloc; none; trace.sizes.variables as usize]?;
+    let mut sweep = Sweep::new(alloc, &*trace, &*links)?;
+    for e in 0..trace.events.len() as u32 {
+        let ordered = Ordered::new(&sweep, &*trace, &*links);
+        screen(&ordered, &mut reads, &mut table, e)?;
+        sweep.pass(alloc)?;
     }
-    Ok(flags_of(alloc, table.as_slice())?)
+    flags_of(alloc, table.as_slice())
 }

@@ -3,7 +3,6 @@ ghost use Rattle.std.specs.Prelude.{◌≡◌, ◌⊎◌, ◌+◌, ◌-◌, ◌^
 ghost use Rattle.shb_discipline.specs.FirstFault.{IsFirstFault};
 ghost use Rattle.shb_lines.specs.declared.fault.Fault.{Fault};
 ghost use Rattle.shb_lines.specs.text.Taking.{ReadsText, TakesAtMost};
-ghost use Rattle.shb_pairs.specs.Listed.{AsksAll};
 ghost use Rattle.shb_check.specs.Judged.{limits};
 ghost use Rattle.shb_check.specs.Outcomes.{CountsSink, CountsSource, Grows, OnJudged, OnMemory, OnNoTrace, OnSink, OnTrace};
 ghost use Rattle.shb_run.specs.Runs.{AreWords, HasTrace, IsReported, IsReportedBy};
@@ -11,6 +10,7 @@ ghost use Rattle.shb_write.specs.Written.{CutsBlocksOn, CutsReportOn, IsSinkCoun
 ghost use Rattle.shb_run.specs.Written.{CutsBlocks, CutsReport, ListedBy, ReportsTrace, summary_of};
 
 use crate::races::{chosen_of, races_of};
+use crate::screened::Screened;
 use crate::settings::{Choice, Gates, Settings, Summary, Task};
 use shb_check::{RunError, judge};
 use shb_clocks::{Order, Ordered, by_event};
@@ -19,6 +19,7 @@ use shb_fan::{FreeGate, Gate};
 use shb_io::{Sink, Source};
 use shb_lines::{Limits, Trace, parse};
 use shb_links::links_of;
+use shb_pairs::open_variables;
 use shb_write::{BlockPlan, WriteError, write_report};
 use std::alloc::Global;
 use std::random::RandomSource;
@@ -50,25 +51,26 @@ fn report_by<
     rt: &R,
     alloc: Global,
     sink: &mut K,
-    ordered: &Ordered<'_, O>,
+    screened: &Screened<'_, '_, '_, O>,
     task: Task,
     gates: &Gates<'_, '_, P, W>,
 ) -> Result<Summary, WriteError>
     requires countable { K.failure_count sink.old < 2 ^ 64 - 1 }
-    requires asked { AsksAll (O.asks ordered.now.order.now) ordered.now.trace.now.events.now }
     ensures report { IfOk result (λ summary.
-        ReportsTrace (ListedBy task.choice) task.settings.schedules ordered.now.trace.now.trace.now summary
+        ReportsTrace (ListedBy task.choice) task.settings.schedules screened.now.ordered.now.trace.now.trace.now summary
         (K.taken sink.old) (K.taken sink.new)) }
     ensures words { IfOk result AreWords }
-    ensures cut { OnFailedSink result (CutsReportOn (ListedBy task.choice) task.settings.schedules ordered.now.trace.now.trace.now
+    ensures cut { OnFailedSink result (CutsReportOn (ListedBy task.choice) task.settings.schedules
+        screened.now.ordered.now.trace.now.trace.now
         (K.taken sink.old) (K.taken sink.new)) }
     ensures memory { OnNoMemory result ((sink.new ≡ sink.old)
-        ⊎ CutsBlocksOn (ListedBy task.choice) task.settings.schedules ordered.now.trace.now.trace.now
+        ⊎ CutsBlocksOn (ListedBy task.choice) task.settings.schedules screened.now.ordered.now.trace.now.trace.now
         (K.taken sink.old) (K.taken sink.new)) }
     ensures counted { IsSinkCounted (K.failure_count sink.old) (K.failure_count sink.new) result }
 {
     let Settings { workers, schedules } = task.settings;
-    let races = races_of(rt, alloc, ordered, gates.pair, workers)?;
+    let ordered = screened.ordered;
+    let races = races_of(rt, alloc, screened, gates.pair, workers)?;
     let chosen = chosen_of(rt, alloc, ordered.trace, races, task.choice)?;
     let plan = BlockPlan {
         schedules,
@@ -100,9 +102,13 @@ fn report<R: Threads + Wait + Sync + RandomSource, K: Sink, P: Gate + Sync, W: G
     ensures counted { IsSinkCounted (K.failure_count sink.old) (K.failure_count sink.new) result }
 {
     let links = links_of(alloc, &*trace)?;
+    let flags = open_variables(alloc, &*trace, &links)?;
     let order = by_event(alloc, &*trace, &links)?;
-    let ordered = Ordered::new(&order, &*trace, &links);
-    report_by(rt, alloc, sink, &ordered, task, gates)
+    let screened = Screened {
+        ordered: &Ordered::new(&order, &*trace, &links),
+        flags: &flags,
+    };
+    report_by(rt, alloc, sink, &screened, task, gates)
 }
 
 /// Reads a trace, finds its races, and writes its report.

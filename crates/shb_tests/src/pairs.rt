@@ -47,8 +47,7 @@ impl Question for OpenFlags {
         trace: &Disciplined<'_>,
         links: &Links<'_>,
     ) -> Result<Vec<bool>, Fail> {
-        let order = versions(alloc, trace, links)?;
-        Ok(open_variables(alloc, &Ordered::new(&order, trace, links))?)
+        Ok(open_variables(alloc, trace, links)?)
     }
 }
 
@@ -116,7 +115,7 @@ impl Question for SearchOpen {
     ) -> Result<Found, Fail> {
         let order = versions(alloc, trace, links)?;
         let ordered = Ordered::new(&order, trace, links);
-        let flags = open_variables(alloc, &ordered)?;
+        let flags = open_variables(alloc, trace, links)?;
         let accesses = accesses_of_open(alloc, trace, flags.as_slice())?;
         Ok(found_among(alloc, &ordered, &accesses)?)
     }
