@@ -6,6 +6,8 @@ pub mod MarksLemmas
 pub mod MayLearn
 pub mod PastLemmas
 pub mod RowsLemmas
+pub mod MovedLemmas
+pub mod OpenItems
 pub mod Sources
 pub mod Counting
 pub mod StampItems

@@ -1,5 +1,5 @@
 -- The sweep by stamps, an event at a time.
-use Rattle.std.proofs.Common.{◌≡◌, ◌≢◌, ℕ, ◌+◌, ◌<◌, ◌≤◌, ◌⊎◌, inl, inr, true, false, List, [], ◌∷◌, ◌++◌, Some, length, get_or, take, arith, subst, ap, sym, ◌∙◌, refl, get_or-set_same, get_or-set_other}
+use Rattle.std.proofs.Common.{◌≡◌, ◌≢◌, ℕ, ◌+◌, ◌<◌, ◌≤◌, ◌⊎◌, inl, inr, Bool, true, false, List, [], ◌∷◌, ◌++◌, Some, length, get_or, take, arith, subst, ap, sym, ◌∙◌, refl, get_or-set_same, get_or-set_other}
 use Rattle.std.specs.Prelude.{◌↔◌, ◌==◌, count_by, max, replicate, slice_get}
 use Rattle.std.proofs.Math.ListN.{set, length-set, length-replicate, get_or-replicate}
 use Rattle.std.proofs.lemmas.Bool.{cases_lt, cases_eq, cases_order, cases_Bool, eqb-true, ne_eqb}
@@ -17,6 +17,7 @@ use Rattle.shb_links.specs.Latest.{IsLatestBefore, OfThread, WritesVariable, Rel
 use Rattle.shb_links.proofs.Balance.{HasHolder, IsPassing, balanced, disciplined_below, holder_after, some_counted}
 use Rattle.shb_clocks.specs.Fronts.{IsFront, BelowRelease, Learns, StrictlyBelow}
 use Rattle.shb_clocks.specs.Learned.{IsFrontBut}
+use Rattle.shb_clocks.specs.Open.{accesses_open}
 use Rattle.shb_clocks.specs.Rows.{AreMore, RowsData}
 use Rattle.shb_clocks.specs.Stamps.{AreCurrent, AreStamps, HasGrown, HasRowsBefore, IsKnown, IsLatestStamp, of_event, of_none, IsRowFor, IsSource, from_event, from_none, IsStampOf, empty_stamp}
 use Rattle.shb_clocks.specs.declared.stamp.Stamp.{Stamp}
@@ -58,18 +59,18 @@ module _ (trace : List Event) where
   pub row_same : (rows : List (List ℕ)) (t r : ℕ) (P Q : ℕ → Type 0) → ((s k : ℕ) → thread_at trace k ≡ Some s → s ≢ t → P k ↔ Q k) → IsRowFor trace rows t P r → IsRowFor trace rows t Q r
   row_same rows t r P Q same h = record { in_range = h.in_range; front = front_but_same trace t P Q (get_or rows r []) same h.front }
 
-  pub before_more : (rows more : List (List ℕ)) (n : ℕ) (before : List ℕ) → AreMore rows more → HasRowsBefore trace rows n before → HasRowsBefore trace more n before
-  before_more rows more n before grown h = record { as_many = h.as_many; each = λ e t lt of_e. row_more rows more t _ _ grown (h.each e t lt of_e) }
+  pub before_more : (flags : List Bool) (rows more : List (List ℕ)) (n : ℕ) (before : List ℕ) → AreMore rows more → HasRowsBefore trace flags rows n before → HasRowsBefore trace flags more n before
+  before_more flags rows more n before grown h = record { as_many = h.as_many; each = λ e t lt asked of_e. row_more rows more t _ _ grown (h.each e t lt asked of_e) }
 
-  pub before_push : (rows : List (List ℕ)) (n r : ℕ) (before pushed : List ℕ) → ((t : ℕ) → thread_at trace n ≡ Some t → IsRowFor trace rows t (λ k. BelowPred trace k n) r) → pushed ≡ before ++ r ∷ [] → HasRowsBefore trace rows n before → HasRowsBefore trace rows (n + 1) pushed
-  before_push rows n r before pushed own is h = record {
+  pub before_push : (flags : List Bool) (rows : List (List ℕ)) (n r : ℕ) (before pushed : List ℕ) → ((t : ℕ) → accesses_open flags trace n ≡ true → thread_at trace n ≡ Some t → IsRowFor trace rows t (λ k. BelowPred trace k n) r) → pushed ≡ before ++ r ∷ [] → HasRowsBefore trace flags rows n before → HasRowsBefore trace flags rows (n + 1) pushed
+  before_push flags rows n r before pushed own is h = record {
     as_many = ap length is ∙ (length_push before r ∙ ap (λ (m : ℕ). m + 1) h.as_many);
-    each = λ e t lt of_e. elim (cases_lt e n) [
-      | inl less ↦ subst (IsRowFor trace rows t (λ k. BelowPred trace k e)) (sym (ap (λ (xs : List ℕ). get_or xs e 0) is ∙ get_or_append_left before (r ∷ []) 0 e (let many = h.as_many in omega (arith, less, many)))) (h.each e t less of_e)
+    each = λ e t lt asked of_e. elim (cases_lt e n) [
+      | inl less ↦ subst (IsRowFor trace rows t (λ k. BelowPred trace k e)) (sym (ap (λ (xs : List ℕ). get_or xs e 0) is ∙ get_or_append_left before (r ∷ []) 0 e (let many = h.as_many in omega (arith, less, many)))) (h.each e t less asked of_e)
       | inr past ↦
           let at : e ≡ n = omega (arith, lt, past) in
           let item = ap (λ (xs : List ℕ). get_or xs e 0) is ∙ get_or_push before r 0 e (let many = h.as_many in omega (arith, many, at)) in
-          subst (IsRowFor trace rows t (λ k. BelowPred trace k e)) (sym item) (subst (λ (m : ℕ). IsRowFor trace rows t (λ k. BelowPred trace k m) r) (sym at) (own t (subst (λ (m : ℕ). thread_at trace m ≡ Some t) at of_e)))
+          subst (IsRowFor trace rows t (λ k. BelowPred trace k e)) (sym item) (subst (λ (m : ℕ). IsRowFor trace rows t (λ k. BelowPred trace k m) r) (sym at) (own t (subst (λ (m : ℕ). accesses_open flags trace m ≡ true) at asked) (subst (λ (m : ℕ). thread_at trace m ≡ Some t) at of_e)))
     ];
   }
 
@@ -115,8 +116,8 @@ module _ (trace : List Event) where
     each = λ x lt. subst (IsLatestStamp trace rows (P x) 0) (sym (ap (λ (xs : List Stamp). get_or xs x empty_stamp) is ∙ get_or-replicate size x empty_stamp empty_stamp lt)) (of_none (λ k below h. absurd (omega (arith, below))) refl);
   }
 
-  pub before_start : (rows : List (List ℕ)) (before : List ℕ) → before ≡ [] → HasRowsBefore trace rows 0 before
-  before_start rows before is = record { as_many = ap length is; each = λ e t lt of_e. absurd (omega (arith, lt)) }
+  pub before_start : (flags : List Bool) (rows : List (List ℕ)) (before : List ℕ) → before ≡ [] → HasRowsBefore trace flags rows 0 before
+  before_start flags rows before is = record { as_many = ap length is; each = λ e t lt asked of_e. absurd (omega (arith, lt)) }
 
 module _ (trace : List Event) (disciplined : IsDisciplined trace) where
   -- a later release of a lock is above an earlier one

@@ -1,6 +1,9 @@
 pub mod Fronts
+pub mod KeptRows
 pub mod Learned
 pub mod Marks
+pub mod Moved
+pub mod Open
 pub mod Past
 pub mod Rows
 pub mod Stamps

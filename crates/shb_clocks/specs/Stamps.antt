@@ -1,5 +1,5 @@
 -- What the sweep by stamps keeps: rows of clocks, and stamps that name one and an event.
-use Rattle.std.specs.Prelude.{◌≡◌, ℕ, ◌+◌, ◌*◌, ◌<◌, ◌≤◌, ◌⊎◌, ◌↔◌, List, [], Some, length, slice_index_or}
+use Rattle.std.specs.Prelude.{◌≡◌, ℕ, ◌+◌, ◌*◌, ◌<◌, ◌≤◌, ◌⊎◌, ◌↔◌, Bool, true, List, [], Some, length, slice_index_or}
 use Rattle.shb_lines.specs.declared.event.Event.{Event}
 use Rattle.shb_lines.specs.declared.event.Op.TheVariants.{Fork}
 use Rattle.shb_lines.specs.declared.event.Sizes.{Sizes}
@@ -9,6 +9,7 @@ use Rattle.shb_lines.specs.events.Order.{ShbBelow, BelowPred}
 use Rattle.shb_links.specs.Latest.{IsLatestBefore, ReleasesLock, WritesVariable}
 use Rattle.shb_clocks.specs.Fronts.{Learns}
 use Rattle.shb_clocks.specs.Learned.{IsFrontBut}
+use Rattle.shb_clocks.specs.Open.{accesses_open}
 use Rattle.shb_clocks.specs.Rows.{AreMore, RowsData}
 use Rattle.shb_clocks.specs.declared.stamp.Stamp.{Stamp}
 use Rattle.shb_clocks.specs.declared.stamps.Stamps.{Stamps}
@@ -25,10 +26,10 @@ pub record IsKnown (trace : List Event) (t n k : ℕ) : Type 0 where
   pub of_or_forks : (thread_at trace event ≡ Some t) ⊎ (op_at trace event ≡ Some (Fork t))
   pub below : ShbBelow trace k event
 
--- for each of the first n events the row of what is below its predecessor
-pub record HasRowsBefore (trace : List Event) (rows : List (List ℕ)) (n : ℕ) (before : List ℕ) : Type 0 where
+-- for each of the first n events that access a variable that is open by these flags, the row of what is below its predecessor
+pub record HasRowsBefore (trace : List Event) (flags : List Bool) (rows : List (List ℕ)) (n : ℕ) (before : List ℕ) : Type 0 where
   pub as_many : length before ≡ n
-  pub each : (e t : ℕ) → e < n → thread_at trace e ≡ Some t → IsRowFor trace rows t (λ k. BelowPred trace k e) (slice_index_or before e 0)
+  pub each : (e t : ℕ) → e < n → accesses_open flags trace e ≡ true → thread_at trace e ≡ Some t → IsRowFor trace rows t (λ k. BelowPred trace k e) (slice_index_or before e 0)
 
 -- for each thread the row of what it knows after the first n events
 pub record AreCurrent (trace : List Event) (rows : List (List ℕ)) (n threads : ℕ) (current : List ℕ) : Type 0 where

@@ -138,6 +138,13 @@ pub fn entry(clock: &[u32], t: u32) -> u32
     }
 }
 
+/// As many zeros as this.
+pub fn zeros(alloc: Global, size: u32) -> Result<Vec<u32>, NoMemory>
+    ensures { IfOk result (λ zeros. zeros.items ≡ replicate size 0) }
+{
+    Ok(vec![in alloc; 0; size as usize]?)
+}
+
 /// Sets all entries of a clock to zero.
 fn clear(clock: &mut [u32])
     ensures long { length clock.new ≡ length clock.old }

@@ -10,12 +10,12 @@ ghost use Rattle.shb_lines.specs.events.Order.{IsBelowPredCount};
 /// later acquire of its lock, a fork to the forked thread, a thread to a join of it, and a write to
 /// each read whose last write it is. It comes from the OOPSLA 2018 paper of Mathur, Kini and
 /// Viswanathan. The predecessor of an event is the event before it in its thread or, for a thread's
-/// first event, the fork of the thread.
+/// first event, the fork of the thread. An order can be asked about some events, which it names.
 pub trait Order {
     /// The trace that is ordered.
     ghost trace: { Self → List Event };
 
-    /// About which events it can be asked.
+    /// The events that it can be asked about.
     ghost asks: { Self → ℕ → Bool };
 
     /// The number of events of thread `t` that are SHB-below the predecessor of event `e`, or are

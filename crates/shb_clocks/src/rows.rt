@@ -37,6 +37,20 @@ impl Rows {
         }
     }
 
+    /// How many entries each clock has.
+    pub fn width(&self) -> u32
+        ensures { result ≡ self.now.width }
+    {
+        self.width
+    }
+
+    /// How many clocks there are.
+    pub fn count(&self) -> u32
+        ensures { result ≡ length self.now.rows }
+    {
+        self.count
+    }
+
     /// The clock of a number.
     pub fn row(&self, number: u32) -> &[u32]
         requires { number < length self.now.rows }
@@ -63,9 +77,9 @@ impl Rows {
         Ok(self.count - 1)
     }
 
-    /// The number of a row that is this clock: the given one, or a new one.
+    /// The number of a row that is this clock: the given one, or a new one. The given number may name
+    /// no row.
     pub fn number_like(&mut self, given: u32, clock: &[u32]) -> Result<u32, NoMemory>
-        requires in_range { given < length self.old.rows }
         requires long { length clock.now ≡ self.old.width }
         requires few { length self.old.rows + 1 < 2 ^ 32 }
         ensures width { OnOk result (self.new.width ≡ self.old.width) }
@@ -74,7 +88,7 @@ impl Rows {
             → OnOk result (slice_index_or self.new.rows i [] ≡ slice_index_or self.old.rows i []) }
         ensures row { IfOk result (λ number. (number < length self.new.rows) × (slice_index_or self.new.rows number [] ≡ clock.now)) }
     {
-        if self.row(given) == clock {
+        if given < self.count() && self.row(given) == clock {
             return Ok(given);
         }
         self.push(clock)

@@ -1,6 +1,6 @@
 //! What a sweep by stamps keeps: rows that never change, and stamps that name them.
 
-ghost use Rattle.std.specs.Prelude.{◌≡◌, ℕ, ◌+◌, ◌<◌, ◌^◌, List, [], ◌∷◌, Some, IfOk, OnOk, length, replicate, slice_index_or};
+ghost use Rattle.std.specs.Prelude.{◌≡◌, ℕ, ◌+◌, ◌<◌, ◌≤◌, ◌^◌, List, [], ◌∷◌, Some, IfOk, OnOk, length, replicate, slice_index_or};
 ghost use Rattle.shb_lines.specs.declared.event.Op.TheVariants.{Join};
 ghost use Rattle.shb_lines.specs.events.Events.{op_at, thread_at};
 ghost use Rattle.shb_lines.specs.events.Order.{BelowPred, IsBelowPredCount, ShbBelow};
@@ -8,7 +8,8 @@ ghost use Rattle.shb_links.specs.Latest.{ReleasesLock, WritesVariable};
 ghost use Rattle.shb_clocks.specs.Rows.{AreMore};
 ghost use Rattle.shb_clocks.specs.Stamps.{AreCurrent, AreStamps, HasGrown, IsRowFor, IsSource, IsStampOf, IsSwept, KnowsStamp, empty_stamp};
 
-use crate::clock::{Clock, entry};
+use crate::clock::{Clock, entry, zeros};
+use crate::compact::compacted;
 use crate::rows::Rows;
 use crate::stamp::{Stamp, push_joined, push_stamp};
 use shb_io::NoMemory;
@@ -28,13 +29,17 @@ pub struct Stamps {
     pub variables: Vec<Stamp>,
     /// Space to make a row in.
     pub clock: Clock,
+    /// The number of rows at which those that nothing names are freed.
+    pub limit: u32,
 }
 
-/// Zeros, one for each thread.
-fn zeros(alloc: Global, threads: u32) -> Result<Vec<u32>, NoMemory>
-    ensures { IfOk result (λ zeros. zeros.items ≡ replicate threads 0) }
-{
-    Ok(vec![in alloc; 0; threads as usize]?)
+/// The number of rows at which the next compaction is due: twice those in use, at least as many as
+/// take 1 MiB, and at least as many as take the bytes of all stamps, which a compaction looks at.
+fn row_limit(linked: &Linked<'_>, used: u32) -> u32 {
+    let stamps = linked.sizes.locks.saturating_add(linked.sizes.variables);
+    let entries = stamps.saturating_mul(4).max(262_144);
+    used.saturating_mul(2)
+        .max(entries / linked.sizes.threads.max(1))
 }
 
 /// Stamps of no event.
@@ -156,6 +161,7 @@ impl Stamps {
             locks: no_stamps(alloc, linked.sizes.locks)?,
             variables: no_stamps(alloc, linked.sizes.variables)?,
             clock,
+            limit: row_limit(linked, 0),
         })
     }
 
@@ -239,6 +245,36 @@ impl Stamps {
             stamp,
             &mut self.current,
         )?;
+        Ok(())
+    }
+
+    /// Takes the event e. Where there are many rows then, those that nothing names are freed.
+    pub fn pass(&mut self, alloc: Global, linked: &Linked<'_>, e: u32) -> Result<(), NoMemory>
+        requires in_range { e < length linked.now.events.now }
+        requires swept { IsSwept linked.now.events.now e linked.now.sizes self.old }
+        ensures { OnOk result (IsSwept linked.now.events.now (e + 1) linked.now.sizes self.new) }
+    {
+        self.take(linked, e)?;
+        if self.rows.count() >= self.limit {
+            self.compact(alloc, linked, e + 1)?;
+        }
+        Ok(())
+    }
+
+    /// Frees the rows that nothing names. What is kept after the first n events stays the same.
+    fn compact(&mut self, alloc: Global, linked: &Linked<'_>, n: u32) -> Result<(), NoMemory>
+        requires in_range { n ≤ length linked.now.events.now }
+        requires swept { IsSwept linked.now.events.now n linked.now.sizes self.old }
+        ensures { OnOk result (IsSwept linked.now.events.now n linked.now.sizes self.new) }
+    {
+        self.rows = compacted(
+            alloc,
+            &self.rows,
+            &mut self.current,
+            &mut self.locks,
+            &mut self.variables,
+        )?;
+        self.limit = row_limit(linked, self.rows.count());
         Ok(())
     }
 }

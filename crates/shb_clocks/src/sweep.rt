@@ -66,7 +66,7 @@ impl<'a> Sweep<'a> {
         let e = self.next;
         // where memory is refused there is no next event
         self.next = self.linked.events.len() as u32;
-        self.stamps.take(&self.linked, e)?;
+        self.stamps.pass(alloc, &self.linked, e)?;
         self.next = e + 1;
         Ok(())
     }

@@ -1,4 +1,4 @@
-use Rattle.std.proofs.Common.{ℕ, List, get_or, subst, arith}
+use Rattle.std.proofs.Common.{ℕ, List, get_or, subst}
 use Rattle.shb_lines.specs.declared.event.Event.{Event}
 use Rattle.shb_lines.specs.declared.event.Op.TheVariants.{Read}
 use Rattle.shb_lines.specs.events.Order.{BelowPred}

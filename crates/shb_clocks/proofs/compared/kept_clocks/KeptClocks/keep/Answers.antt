@@ -6,15 +6,8 @@ use Rattle.shb_lines.specs.events.Order.{ShbBelow}
 use Rattle.shb_lines.proofs.events.Items.{thread_item}
 use Rattle.shb_clocks.specs.Learned.{IsFrontBut}
 use Rattle.shb_clocks.specs.Rows.{AreMore}
-use Rattle.shb_clocks.proofs.LearnedLemmas.{kept_item, kept_push, all_kept_push, last_row_within, local_is}
+use Rattle.shb_clocks.proofs.LearnedLemmas.{kept_item, kept_push, all_kept_push, local_is}
 use Rattle.shb_clocks.proofs.compared.kept_clocks.KeptClocks.keep.Goals as goal
-
-pub number_like-requires-clause-in_range : goal.number_like-requires-clause-in_range
-number_like-requires-clause-in_range c =
-    let d : Event = record { thread = 0; op = Read 0; line = 0 } in
-    let low = (c.args.linked.now.within c.args.e _ (slice_get-get_or c.args.linked.now.events.now c.args.e d c.requires.in_range)).thread in
-    let kept = kept_item c.args.linked.now.events.now c.args.e _ c.args.linked.now.sizes.threads c.args.self.now.rows _ _ c.requires.kept low c.index.ensures in
-    last_row_within c.args.linked.now.events.now c.args.e _ c.last_row-given.result c.args.self.now.rows.rows _ c.requires.kept.some kept c.last_row-given.ensures
 
 pub index_mut-requires : goal.index_mut-requires
 index_mut-requires c =

@@ -1,0 +1,13 @@
+-- What is kept for look-ups after the first events.
+use Rattle.std.specs.Prelude.{◌≡◌, ℕ, ◌≤◌, Bool, List, length}
+use Rattle.shb_lines.specs.declared.event.Event.{Event}
+use Rattle.shb_lines.specs.declared.event.Sizes.{Sizes}
+use Rattle.shb_clocks.specs.Stamps.{HasRowsBefore}
+use Rattle.shb_clocks.specs.declared.kept_rows.KeptRows.{KeptRows}
+
+-- what is kept after the first n events, where the order is asked about accesses of the variables that are open by these flags
+pub record AreKeptRows (trace : List Event) (flags : List Bool) (n : ℕ) (sizes : Sizes) (kept : KeptRows) : Type 0 where
+  pub width : kept.rows.width ≡ sizes.threads
+  pub few : length kept.rows.rows ≤ n
+  pub as_many : length kept.last.items ≡ sizes.threads
+  pub before : HasRowsBefore trace flags kept.rows.rows n kept.before.items
