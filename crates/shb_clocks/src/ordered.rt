@@ -26,7 +26,8 @@ impl<'a, O: Order> Ordered<'a, O> {
     pub fn new(order: &'a O, trace: &'a Disciplined<'a>, links: &'a Links<'a>) -> Ordered<'a, O>
         requires of_trace { O.trace order.now ≡ trace.now.events.now }
         requires linked { links.now ≡ trace.now.events.now }
-        ensures { result.trace.now ≡ trace.now }
+        ensures trace { result.trace.now ≡ trace.now }
+        ensures order { result.order.now ≡ order.now }
     {
         Ordered {
             order,

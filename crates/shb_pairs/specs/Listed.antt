@@ -19,3 +19,7 @@ IsRaceFree trace x = (i j : ℕ) → variable_at trace j ≡ Some x → ¬ Race 
 -- a variable that isn't open has no race
 abbrev pub AreOpen : List Event → List Bool → Type 0
 AreOpen trace flags = (x : ℕ) → is_open flags x ≡ false → IsRaceFree trace x
+
+-- each access of an open variable is an event that an order can be asked about
+abbrev pub AsksOpen : (ℕ → Bool) → List Bool → List Event → Type 0
+AsksOpen asks flags trace = (e x : ℕ) → variable_at trace e ≡ Some x → is_open flags x ≡ true → asks e ≡ true

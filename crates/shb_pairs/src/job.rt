@@ -1,7 +1,7 @@
 //! The races of a trace as work in pieces.
 
 ghost use Rattle.std.specs.Prelude.{◌≡◌, ◌<◌, length, map};
-ghost use Rattle.shb_pairs.specs.Listed.{Listed};
+ghost use Rattle.shb_pairs.specs.Listed.{AsksOpen, Listed};
 ghost use Rattle.shb_pairs.specs.Pieces.{pieces_in};
 ghost use Rattle.shb_pairs.specs.Races.{piece_at, races_at};
 ghost use Rattle.shb_lines.specs.events.Race.{ends};
@@ -40,12 +40,14 @@ impl<'a, O: Order> Model for PairJob<'a, O> {
 
     ghost view = { λ j. j.accesses.now };
 
-    ghost invariant = { λ j. (j.accesses.now.trace ≡ j.ordered.trace.now.events.now) × (j.pieces.now ≡ pieces_in j.accesses.now) };
+    ghost invariant = { λ j. (j.accesses.now.trace ≡ j.ordered.trace.now.events.now) × (j.pieces.now ≡ pieces_in j.accesses.now)
+        × AsksOpen (O.asks j.ordered.order.now) j.accesses.now.flags j.ordered.trace.now.events.now };
 }
 
 impl<'a, O: Order> PairJob<'a, O> {
     /// The search on these pieces of these accesses. The order, the links, the accesses and the pieces
-    /// are of the trace, and the pieces are all of its pieces.
+    /// are of the trace, the order can be asked about each access of an open variable, and the pieces are
+    /// all of its pieces.
     pub fn new(
         order: &'a O,
         trace: &'a Disciplined<'a>,
@@ -56,6 +58,7 @@ impl<'a, O: Order> PairJob<'a, O> {
         requires of_trace { O.trace order.now ≡ trace.now.events.now }
         requires linked { links.now ≡ trace.now.events.now }
         requires accesses { accesses.now.trace ≡ trace.now.events.now }
+        requires asked { AsksOpen (O.asks order.now) accesses.now.flags trace.now.events.now }
         requires pieces { pieces.now ≡ pieces_in accesses.now }
         ensures { result ≡ accesses.now }
     {
@@ -102,6 +105,6 @@ impl<'a, O: Order> Job for PairJob<'a, O> {
             accesses: self.accesses,
             variable: piece.variable,
         };
-        Ok(races_in(alloc, &search, piece.from as usize, piece.to as usize)?)
+        races_in(alloc, &search, piece.from as usize, piece.to as usize)
     }
 }

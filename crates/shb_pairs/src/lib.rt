@@ -1,7 +1,7 @@
 //! The races of a trace: the race test, the accesses of each variable, and the search for all races
 //! in pieces of work. Everything is generic in the order.
 //!
-//! [`open_variables`] goes over the trace once, in its order, and finds variables that can't race
+//! [`open_variables`] goes over the trace once, with a sweep, and finds variables that can't race
 //! ("settled"): before each access the last write is SHB-below its predecessor and, before a write,
 //! so are the reads since, which the newest tells where each has the one before it below. The others
 //! are open. [`accesses_of_open`] collects their

@@ -6,7 +6,7 @@ ghost use Rattle.shb_pairs.specs.Pieces.{pieces_in, run_length, runs_of};
 
 use crate::accesses::Accesses;
 use shb_io::NoMemory;
-use std::alloc::{AllocError, Global};
+use std::alloc::Global;
 
 /// How many accesses a run has at most. The number is this project's own.
 const RUN_LENGTH: u32 = 64;
@@ -24,7 +24,7 @@ pub struct Piece {
 }
 
 /// Cuts a list of accesses into runs of at most 64.
-fn cut(pieces: &mut Vec<Piece>, variable: u32, accesses: u32) -> Result<(), AllocError>
+fn cut(pieces: &mut Vec<Piece>, variable: u32, accesses: u32) -> Result<(), NoMemory>
     ensures { IfOk result (λ _. pieces.new.items ≡ pieces.old.items ++ runs_of variable accesses (div_ceil accesses run_length)) }
 {
     for k in 0..accesses.div_ceil(RUN_LENGTH) {

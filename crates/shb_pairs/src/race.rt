@@ -1,6 +1,6 @@
 //! The race test, over any order.
 
-ghost use Rattle.std.specs.Prelude.{◌≡◌, ◌<◌, ℕ, List, IsTrue, ◌↔◌, length};
+ghost use Rattle.std.specs.Prelude.{◌≡◌, ◌<◌, ℕ, true, List, IsTrue, ◌↔◌, length};
 ghost use Rattle.shb_lines.specs.events.Order.{BelowPred};
 ghost use Rattle.shb_lines.specs.events.Race.{Conflict, Race};
 ghost use Rattle.shb_lines.specs.events.Schedule.{IsSchedule};
@@ -15,6 +15,7 @@ use shb_links::Links;
 pub(crate) fn is_below_pred<O: Order>(ordered: &Ordered<'_, O>, first: u32, second: u32) -> bool
     requires first { first < length ordered.now.trace.now.events.now }
     requires second { second < length ordered.now.trace.now.events.now }
+    requires asked { O.asks ordered.now.order.now second ≡ true }
     ensures { IsTrue result ↔ BelowPred ordered.now.trace.now.events.now first second }
 {
     let thread = ordered.trace.events[first as usize].thread;
@@ -25,6 +26,7 @@ pub(crate) fn is_below_pred<O: Order>(ordered: &Ordered<'_, O>, first: u32, seco
 pub(crate) fn is_race_by<O: Order>(ordered: &Ordered<'_, O>, first: u32, second: u32) -> bool
     requires earlier { first < second }
     requires in_range { second < length ordered.now.trace.now.events.now }
+    requires asked { O.asks ordered.now.order.now second ≡ true }
     ensures race { IsTrue result ↔ Race ordered.now.trace.now.events.now first second }
     ensures below { ¬ IsTrue result → Conflict ordered.now.trace.now.events.now first second
         → BelowPred ordered.now.trace.now.events.now first second }
@@ -40,7 +42,8 @@ pub(crate) fn is_race_by<O: Order>(ordered: &Ordered<'_, O>, first: u32, second:
 /// conflict and are no race, the earlier one is SHB-below the predecessor of the later one.
 ///
 /// The events are positions from 0, the earlier one first. The order and the links are of the same
-/// trace. Two look-ups, whatever the length of the trace.
+/// trace, and the order can be asked about the later event. Two look-ups, whatever the length of the
+/// trace.
 pub fn is_race<O: Order>(
     order: &O,
     trace: &Disciplined<'_>,
@@ -52,6 +55,7 @@ pub fn is_race<O: Order>(
     requires linked { links.now ≡ trace.now.events.now }
     requires earlier { first < second }
     requires in_range { second < length trace.now.events.now }
+    requires asked { O.asks order.now second ≡ true }
     ensures race { IsTrue result ↔ Race trace.now.events.now first second }
     ensures schedulable { IsTrue result
         ↔ (Conflict trace.now.events.now first second

@@ -15,11 +15,12 @@ use crate::rivals::rivals_of;
 use crate::search::Search;
 use shb_clocks::{Order, Ordered};
 use shb_discipline::Disciplined;
+use shb_io::NoMemory;
 use shb_lines::Pair;
-use std::alloc::{AllocError, Global};
+use std::alloc::Global;
 
 /// Adds the pairs of some positions with a later one.
-fn add_pairs(races: &mut Vec<Pair>, firsts: &[u32], second: u32) -> Result<(), AllocError>
+fn add_pairs(races: &mut Vec<Pair>, firsts: &[u32], second: u32) -> Result<(), NoMemory>
     ensures { IfOk result (λ _. map ends races.new.items ≡ map ends races.old.items ++ map (λ i. (i, second)) firsts.now) }
 {
     for first in firsts {
@@ -37,7 +38,7 @@ fn add_races<O: Order>(
     races: &mut Vec<Pair>,
     search: &Search<'_, '_, O>,
     second: u32,
-) -> Result<(), AllocError>
+) -> Result<(), NoMemory>
     requires accessed { variable_at search.now.ordered.now.trace.now.events.now second ≡ Some search.now.variable }
     ensures { IfOk result (λ _. map ends races.new.items ≡ map ends races.old.items
         ++ races_with search.now.ordered.now.trace.now.events.now second) }
@@ -52,8 +53,9 @@ fn add_races_among<O: Order>(
     ordered: &Ordered<'_, O>,
     firsts: &[u32],
     second: u32,
-) -> Result<(), AllocError>
+) -> Result<(), NoMemory>
     requires in_range { second < length ordered.now.trace.now.events.now }
+    requires asked { O.asks ordered.now.order.now second ≡ true }
     requires earlier { All (λ i. i < second) firsts.now }
     ensures { IfOk result (λ _. map ends races.new.items ≡ map ends races.old.items
         ++ map (λ i. (i, second)) (racing ordered.now.trace.now.events.now second firsts.now)) }
@@ -73,6 +75,7 @@ fn add_races_among<O: Order>(
 fn is_ordered<O: Order>(ordered: &Ordered<'_, O>, first: u32, second: u32) -> bool
     requires earlier { first < second }
     requires in_range { second < length ordered.now.trace.now.events.now }
+    requires asked { O.asks ordered.now.order.now second ≡ true }
     ensures { IsTrue result ↔ BelowPred ordered.now.trace.now.events.now first second }
 {
     // Of two events of one thread the order isn't asked.
@@ -88,8 +91,9 @@ fn add_races_since<O: Order>(
     accesses: &[u32],
     write: usize,
     place: usize,
-) -> Result<(), AllocError>
+) -> Result<(), NoMemory>
     requires inside { place < length accesses.now }
+    requires asked { O.asks ordered.now.order.now (slice_index_or accesses.now place 0) ≡ true }
     requires settled { (x : ℕ) × (accesses.now ≡ accesses_in ordered.now.trace.now.events.now x)
         × IsSettled ordered.now.trace.now.events.now x accesses.now place write }
     requires ordered { BelowPred ordered.now.trace.now.events.now (slice_index_or accesses.now write 0)
@@ -115,6 +119,7 @@ fn ordered_write<O: Order>(
     place: usize,
 ) -> Option<usize>
     requires inside { place < length accesses.now }
+    requires asked { O.asks ordered.now.order.now (slice_index_or accesses.now place 0) ≡ true }
     requires settled { (x : ℕ) × (accesses.now ≡ accesses_in ordered.now.trace.now.events.now x)
         × IfSome settled (λ s. IsSettled ordered.now.trace.now.events.now x accesses.now place s) }
     ensures settled { (x : ℕ) → IfSome settled (λ s. IsSettled ordered.now.trace.now.events.now x accesses.now place s)
@@ -166,7 +171,7 @@ fn add_races_at<O: Order>(
     search: &Search<'_, '_, O>,
     settled: Option<usize>,
     place: usize,
-) -> Result<(), AllocError>
+) -> Result<(), NoMemory>
     requires inside { place < length (accesses_in search.now.ordered.now.trace.now.events.now search.now.variable) }
     requires settled { IfSome settled
         (λ s. IsSettled search.now.ordered.now.trace.now.events.now search.now.variable
@@ -196,7 +201,7 @@ pub(crate) fn races_in<O: Order>(
     search: &Search<'_, '_, O>,
     from: usize,
     to: usize,
-) -> Result<Vec<Pair>, AllocError>
+) -> Result<Vec<Pair>, NoMemory>
     requires forward { from ≤ to }
     requires within { to ≤ length (accesses_in search.now.ordered.now.trace.now.events.now search.now.variable) }
     ensures { IfOk result (λ v. map ends v.items

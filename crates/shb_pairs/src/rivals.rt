@@ -14,9 +14,10 @@ ghost use Rattle.shb_pairs.specs.declared.buckets.Key.TheVariants.{Thread};
 use crate::buckets::part;
 use crate::search::Search;
 use shb_clocks::{Order, Ordered};
+use shb_io::NoMemory;
 use shb_lines::Event;
 use shb_links::Links;
-use std::alloc::{AllocError, Global};
+use std::alloc::Global;
 
 /// Where the positions of one thread end that start at a place, among positions by thread.
 fn run_end(events: &[Event], positions: &[u32], start: usize) -> usize
@@ -73,8 +74,9 @@ fn add_tail<O: Order>(
     ordered: &Ordered<'_, O>,
     positions: &[u32],
     second: u32,
-) -> Result<(), AllocError>
+) -> Result<(), NoMemory>
     requires in_range { second < length ordered.now.trace.now.events.now }
+    requires asked { O.asks ordered.now.order.now second ≡ true }
     requires some { 0 < length positions.now }
     requires rivals { AreRivals ordered.now.trace.now.events.now second positions.now }
     requires one_thread { IsOfOneThread ordered.now.trace.now.events.now positions.now }
@@ -98,8 +100,9 @@ fn add_rivals<O: Order>(
     ordered: &Ordered<'_, O>,
     positions: &[u32],
     second: u32,
-) -> Result<(), AllocError>
+) -> Result<(), NoMemory>
     requires in_range { second < length ordered.now.trace.now.events.now }
+    requires asked { O.asks ordered.now.order.now second ≡ true }
     requires rivals { AreRivals ordered.now.trace.now.events.now second positions.now }
     requires each_in_range { All (λ k. k < length ordered.now.trace.now.events.now) positions.now }
     requires sorted { AllPairs (IsBeforeByThread ordered.now.trace.now.events.now) positions.now }
@@ -119,7 +122,7 @@ pub(crate) fn rivals_of<O: Order>(
     alloc: Global,
     search: &Search<'_, '_, O>,
     second: u32,
-) -> Result<Vec<u32>, AllocError>
+) -> Result<Vec<u32>, NoMemory>
     requires accessed { variable_at search.now.ordered.now.trace.now.events.now second ≡ Some search.now.variable }
     ensures { IfOk result (λ v. v.items ≡ numbers_where (λ i. is_race search.now.ordered.now.trace.now.events.now i second) second) }
 {

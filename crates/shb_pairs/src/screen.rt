@@ -1,6 +1,6 @@
 //! The variables that may have a race, by one pass over a trace.
 
-ghost use Rattle.std.specs.Prelude.{◌≡◌, ◌≢◌, ◌==◌, ℕ, ◌+◌, ◌<◌, Some, IfOk, IsTrue, OnOk, length, map};
+ghost use Rattle.std.specs.Prelude.{◌≡◌, ◌≢◌, ◌==◌, ℕ, ◌+◌, ◌<◌, true, Some, IfOk, IsTrue, OnOk, length, map};
 ghost use Rattle.shb_lines.specs.declared.event.Op.TheVariants.{Write};
 ghost use Rattle.shb_lines.specs.events.Events.{op_at};
 ghost use Rattle.shb_lines.specs.events.Race.{variable_at};
@@ -9,10 +9,12 @@ ghost use Rattle.shb_pairs.specs.Screen.{AreScreened, IsMarkOf, IsOf, IsPast, Is
 ghost use Rattle.shb_pairs.specs.declared.screen.Mark.{Mark};
 ghost use Rattle.shb_pairs.specs.declared.screen.KeptRead.{KeptRead};
 
-use shb_clocks::{Order, Ordered};
+use shb_clocks::{Order, Ordered, Sweep};
+use shb_discipline::Disciplined;
 use shb_io::NoMemory;
 use shb_lines::variable;
-use std::alloc::{AllocError, Global};
+use shb_links::Links;
+use std::alloc::Global;
 
 /// The place of an event that isn't known any more, above that of each event.
 const NO_PLACE: u32 = u32::MAX;
@@ -90,6 +92,7 @@ fn mark_of<O: Order>(ordered: &Ordered<'_, O>, e: u32) -> Mark
 /// Whether what a mark stands for is SHB-below the predecessor of an event.
 fn is_past<O: Order>(ordered: &Ordered<'_, O>, mark: Mark, e: u32) -> bool
     requires in_range { e < length ordered.now.trace.now.events.now }
+    requires asked { O.asks ordered.now.order.now e ≡ true }
     ensures { IsTrue result → IsPast ordered.now.trace.now.events.now mark e }
 {
     if mark.place == NO_PLACE {
@@ -120,6 +123,7 @@ fn are_past<O: Order>(
     e: u32,
 ) -> bool
     requires in_range { e < length ordered.now.trace.now.events.now }
+    requires asked { O.asks ordered.now.order.now e ≡ true }
     ensures { IsTrue result → (mark : Mark) → IsOf reads.now mark newest → IsPast ordered.now.trace.now.events.now mark e }
 {
     let mut read = newest;
@@ -143,6 +147,7 @@ fn after_read<O: Order>(
     e: u32,
 ) -> Result<Latest, NoMemory>
     requires in_range { e < length ordered.now.trace.now.events.now }
+    requires asked { O.asks ordered.now.order.now e ≡ true }
     ensures kept { (mark : Mark) (read : KeptRead) → IsOf reads.old.items mark read → OnOk result (IsOf reads.new.items mark read) }
     ensures screened { (x : ℕ) → variable_at ordered.now.trace.now.events.now e ≡ Some x
         → op_at ordered.now.trace.now.events.now e ≢ Some (Write x)
@@ -177,6 +182,7 @@ fn after_write<O: Order>(
     e: u32,
 ) -> Latest
     requires in_range { e < length ordered.now.trace.now.events.now }
+    requires asked { O.asks ordered.now.order.now e ≡ true }
     ensures { (x : ℕ) → variable_at ordered.now.trace.now.events.now e ≡ Some x
         → IsPast ordered.now.trace.now.events.now latest.write e
         → IsScreened ordered.now.trace.now.events.now reads.now e x latest
@@ -200,6 +206,7 @@ fn after_access<O: Order>(
     e: u32,
 ) -> Result<Latest, NoMemory>
     requires in_range { e < length ordered.now.trace.now.events.now }
+    requires asked { O.asks ordered.now.order.now e ≡ true }
     ensures kept { (mark : Mark) (read : KeptRead) → IsOf reads.old.items mark read → OnOk result (IsOf reads.new.items mark read) }
     ensures screened { (x : ℕ) → variable_at ordered.now.trace.now.events.now e ≡ Some x
         → IsScreened ordered.now.trace.now.events.now reads.old.items e x latest
@@ -222,6 +229,7 @@ fn screen<O: Order>(
     e: u32,
 ) -> Result<(), NoMemory>
     requires in_range { e < length ordered.now.trace.now.events.now }
+    requires asked { O.asks ordered.now.order.now e ≡ true }
     requires screened { AreScreened ordered.now.trace.now.events.now reads.old.items e
         ordered.now.trace.now.sizes.variables table.old.items }
     ensures { OnOk result (AreScreened ordered.now.trace.now.events.now reads.new.items (e + 1)
@@ -235,7 +243,7 @@ fn screen<O: Order>(
 }
 
 /// Which variables are open, by what is kept of each.
-fn flags_of(alloc: Global, table: &[Latest]) -> Result<Vec<bool>, AllocError>
+fn flags_of(alloc: Global, table: &[Latest]) -> Result<Vec<bool>, NoMemory>
     ensures { IfOk result (λ flags. flags.items ≡ map (λ latest. latest.write.place == no_place) table.now) }
 {
     let mut flags = Vec::with_capacity(alloc, table.len())?;
@@ -246,9 +254,9 @@ fn flags_of(alloc: Global, table: &[Latest]) -> Result<Vec<bool>, AllocError>
 }
 
 /// Which variables may have a race, a flag for each: where it is false, no pair of accesses of the
-/// variable is a race. One pass over the trace in its order, with two look-ups of the order for each
-/// access and one more for each read that isn't ordered after the read before it; 20 bytes a variable
-/// and 12 such a read.
+/// variable is a race. One pass over the trace with a [`Sweep`], which is asked twice for each access
+/// and once more for each read that isn't ordered after the read before it. Beside what the sweep
+/// keeps, 20 bytes a variable and 12 such a read.
 ///
 /// A variable is settled where, of each access, the last write before it is SHB-below its
 /// predecessor and, where the access writes, so are the reads since that write. A flag may be true
@@ -258,20 +266,25 @@ fn flags_of(alloc: Global, table: &[Latest]) -> Result<Vec<bool>, AllocError>
 /// # Errors
 ///
 /// `NoMemory` where memory was refused.
-pub fn open_variables<O: Order>(
+pub fn open_variables(
     alloc: Global,
-    ordered: &Ordered<'_, O>,
+    trace: &Disciplined<'_>,
+    links: &Links<'_>,
 ) -> Result<Vec<bool>, NoMemory>
-    ensures { IfOk result (λ flags. AreOpen ordered.now.trace.now.events.now flags.items) }
+    requires of_trace { links.now ≡ trace.now.events.now }
+    ensures { IfOk result (λ flags. AreOpen trace.now.events.now flags.items) }
 {
     let none = Latest {
         write: nothing(),
         read: no_read(),
     };
     let mut reads = Vec::new(alloc);
-    let mut table = vec![in alloc; none; ordered.trace.sizes.variables as usize]?;
-    for e in 0..ordered.trace.events.len() as u32 {
-        screen(ordered, &mut reads, &mut table, e)?;
+    let mut table = vec![in alloc; none; trace.sizes.variables as usize]?;
+    let mut sweep = Sweep::new(alloc, &*trace, &*links)?;
+    for e in 0..trace.events.len() as u32 {
+        let ordered = Ordered::new(&sweep, &*trace, &*links);
+        screen(&ordered, &mut reads, &mut table, e)?;
+        sweep.pass(alloc)?;
     }
-    Ok(flags_of(alloc, table.as_slice())?)
+    flags_of(alloc, table.as_slice())
 }

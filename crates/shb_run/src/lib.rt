@@ -11,6 +11,7 @@ pub mod laws;
 mod pipeline;
 mod places;
 mod races;
+mod screened;
 mod settings;
 mod words;
 

@@ -10,6 +10,7 @@ ghost use Rattle.shb_write.specs.Written.{CutsBlocksOn, CutsReportOn, IsSinkCoun
 ghost use Rattle.shb_run.specs.Written.{CutsBlocks, CutsReport, ListedBy, ReportsTrace, summary_of};
 
 use crate::races::{chosen_of, races_of};
+use crate::screened::Screened;
 use crate::settings::{Choice, Gates, Settings, Summary, Task};
 use shb_check::{RunError, judge};
 use shb_clocks::{Order, Ordered, by_event};
@@ -18,6 +19,7 @@ use shb_fan::{FreeGate, Gate};
 use shb_io::{Sink, Source};
 use shb_lines::{Limits, Trace, parse};
 use shb_links::links_of;
+use shb_pairs::open_variables;
 use shb_write::{BlockPlan, WriteError, write_report};
 use std::alloc::Global;
 use std::random::RandomSource;
@@ -49,24 +51,26 @@ fn report_by<
     rt: &R,
     alloc: Global,
     sink: &mut K,
-    ordered: &Ordered<'_, O>,
+    screened: &Screened<'_, '_, '_, O>,
     task: Task,
     gates: &Gates<'_, '_, P, W>,
 ) -> Result<Summary, WriteError>
     requires countable { K.failure_count sink.old < 2 ^ 64 - 1 }
     ensures report { IfOk result (λ summary.
-        ReportsTrace (ListedBy task.choice) task.settings.schedules ordered.now.trace.now.trace.now summary
+        ReportsTrace (ListedBy task.choice) task.settings.schedules screened.now.ordered.now.trace.now.trace.now summary
         (K.taken sink.old) (K.taken sink.new)) }
     ensures words { IfOk result AreWords }
-    ensures cut { OnFailedSink result (CutsReportOn (ListedBy task.choice) task.settings.schedules ordered.now.trace.now.trace.now
+    ensures cut { OnFailedSink result (CutsReportOn (ListedBy task.choice) task.settings.schedules
+        screened.now.ordered.now.trace.now.trace.now
         (K.taken sink.old) (K.taken sink.new)) }
     ensures memory { OnNoMemory result ((sink.new ≡ sink.old)
-        ⊎ CutsBlocksOn (ListedBy task.choice) task.settings.schedules ordered.now.trace.now.trace.now
+        ⊎ CutsBlocksOn (ListedBy task.choice) task.settings.schedules screened.now.ordered.now.trace.now.trace.now
         (K.taken sink.old) (K.taken sink.new)) }
     ensures counted { IsSinkCounted (K.failure_count sink.old) (K.failure_count sink.new) result }
 {
     let Settings { workers, schedules } = task.settings;
-    let races = races_of(rt, alloc, ordered, gates.pair, workers)?;
+    let ordered = screened.ordered;
+    let races = races_of(rt, alloc, screened, gates.pair, workers)?;
     let chosen = chosen_of(rt, alloc, ordered.trace, races, task.choice)?;
     let plan = BlockPlan {
         schedules,
@@ -98,9 +102,13 @@ fn report<R: Threads + Wait + Sync + RandomSource, K: Sink, P: Gate + Sync, W: G
     ensures counted { IsSinkCounted (K.failure_count sink.old) (K.failure_count sink.new) result }
 {
     let links = links_of(alloc, &*trace)?;
+    let flags = open_variables(alloc, &*trace, &links)?;
     let order = by_event(alloc, &*trace, &links)?;
-    let ordered = Ordered::new(&order, &*trace, &links);
-    report_by(rt, alloc, sink, &ordered, task, gates)
+    let screened = Screened {
+        ordered: &Ordered::new(&order, &*trace, &links),
+        flags: &flags,
+    };
+    report_by(rt, alloc, sink, &screened, task, gates)
 }
 
 /// Reads a trace, finds its races, and writes its report.

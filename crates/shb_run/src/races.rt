@@ -3,13 +3,14 @@ ghost use Rattle.std.specs.Prelude.{IfOk, map};
 ghost use Rattle.shb_lines.specs.events.Race.{IsRaceList, ends};
 ghost use Rattle.shb_run.specs.Written.{ListedBy};
 
+use crate::screened::Screened;
 use crate::settings::Choice;
-use shb_clocks::{Order, Ordered};
+use shb_clocks::Order;
 use shb_discipline::Disciplined;
 use shb_fan::{Gate, Workers, gather_joined};
 use shb_io::NoMemory;
 use shb_lines::Pair;
-use shb_pairs::{PairJob, accesses_of_open, open_variables, pieces};
+use shb_pairs::{PairJob, accesses_of_open, pieces};
 use shb_report::leading_of;
 use std::alloc::Global;
 use std::random::RandomSource;
@@ -17,18 +18,18 @@ use std::sync::Wait;
 use std::thread::Threads;
 
 /// All races of a trace, in the order in which a report lists them, found by workers that look at
-/// pieces at once. The variables that can't race are left out first, by one pass over the trace.
+/// pieces at once. The variables that aren't open are left out.
 pub fn races_of<R: Threads + Wait + Sync, O: Order + Sync, G: Gate + Sync>(
     rt: &R,
     alloc: Global,
-    ordered: &Ordered<'_, O>,
+    screened: &Screened<'_, '_, '_, O>,
     gate: &G,
     workers: Workers,
 ) -> Result<Vec<Pair>, NoMemory>
-    ensures listed { IfOk result (λ races. IsRaceList ordered.now.trace.now.events.now (map ends races.items)) }
+    ensures listed { IfOk result (λ races. IsRaceList screened.now.ordered.now.trace.now.events.now (map ends races.items)) }
 {
-    let flags = open_variables(alloc, ordered)?;
-    let accesses = accesses_of_open(alloc, ordered.trace, &flags)?;
+    let ordered = screened.ordered;
+    let accesses = accesses_of_open(alloc, ordered.trace, screened.flags)?;
     let pieces = pieces(alloc, &accesses)?;
     let job = PairJob::new(
         ordered.order,

@@ -1,5 +1,5 @@
 //! What the orders answer on small traces, and that all four answer alike.
-ghost use Rattle.std.specs.Prelude.{◌≡◌};
+ghost use Rattle.std.specs.Prelude.{◌≡◌, ℕ, true};
 
 use crate::asserting::{same, same_in_row};
 use crate::fixtures::{Mixture, Question, asked, push_line, push_mixed_lines};
@@ -12,7 +12,8 @@ use std::test::Fail;
 
 /// What an order answers, 0 for an event that isn't there.
 fn answer<O: Order>(order: &O, trace: &Disciplined<'_>, e: u32, t: u32) -> u32
-    requires { O.trace order.now ≡ trace.now.events.now }
+    requires of_trace { O.trace order.now ≡ trace.now.events.now }
+    requires asked { O.asks order.now e ≡ true }
 {
     if (e as usize) < trace.events.len() {
         order.below_pred(e, t)
@@ -54,6 +55,7 @@ fn differs<O: Order>(
 ) -> Option<(u32, u32)>
     requires plain { plain.now ≡ trace.now.events.now }
     requires order { O.trace order.now ≡ trace.now.events.now }
+    requires asked { (e : ℕ) → O.asks order.now e ≡ true }
 {
     for e in 0..trace.events.len() as u32 {
         for t in 0..trace.sizes.threads {

@@ -1,5 +1,6 @@
 //! The races of small traces, and that the search finds what a scan of all pairs finds.
 ghost use Rattle.std.specs.Prelude.{◌≡◌, ◌<◌, ◌≤◌, length};
+ghost use Rattle.shb_pairs.specs.Listed.{AsksOpen};
 
 use crate::asserting::{holds, same, same_in_row};
 use crate::fixtures::{Mixture, Question, asked, pair, push_mixed_lines};
@@ -46,8 +47,7 @@ impl Question for OpenFlags {
         trace: &Disciplined<'_>,
         links: &Links<'_>,
     ) -> Result<Vec<bool>, Fail> {
-        let order = versions(alloc, trace, links)?;
-        Ok(open_variables(alloc, &Ordered::new(&order, trace, links))?)
+        Ok(open_variables(alloc, trace, links)?)
     }
 }
 
@@ -58,6 +58,7 @@ fn found_among<O: Order>(
     accesses: &Accesses<'_>,
 ) -> Result<Found, NoMemory>
     requires accesses { accesses.now.trace ≡ ordered.now.trace.now.events.now }
+    requires asked { AsksOpen (O.asks ordered.now.order.now) accesses.now.flags ordered.now.trace.now.events.now }
 {
     let pieces = pieces(alloc, accesses)?;
     let mut counts = Vec::new(alloc);
@@ -114,7 +115,7 @@ impl Question for SearchOpen {
     ) -> Result<Found, Fail> {
         let order = versions(alloc, trace, links)?;
         let ordered = Ordered::new(&order, trace, links);
-        let flags = open_variables(alloc, &ordered)?;
+        let flags = open_variables(alloc, trace, links)?;
         let accesses = accesses_of_open(alloc, trace, flags.as_slice())?;
         Ok(found_among(alloc, &ordered, &accesses)?)
     }

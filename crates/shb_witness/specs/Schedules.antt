@@ -1,5 +1,5 @@
 -- The printed schedules of races, as lists that compute, so that the value of each piece of work is named.
-use Rattle.std.specs.Prelude.{ℕ, ◌||◌, List, All, length, slice_index_or}
+use Rattle.std.specs.Prelude.{◌≡◌, ℕ, Bool, true, ◌||◌, List, All, length, slice_index_or}
 use Rattle.shb_lines.specs.declared.event.Event.{Event}
 use Rattle.shb_lines.specs.declared.event.Pair.{Pair}
 use Rattle.shb_lines.specs.events.Race.{Race}
@@ -13,6 +13,14 @@ pub record Asked : Type 0 where
 -- each pair is a race
 abbrev pub AreRaces : List Event → List Pair → Type 0
 AreRaces trace pairs = All (λ p. Race trace p.first p.second) pairs
+
+-- both events of the pair are such that an order can be asked about them
+abbrev pub AsksBoth : (ℕ → Bool) → Pair → Type 0
+AsksBoth asks p = (asks p.first ≡ true) × (asks p.second ≡ true)
+
+-- the same of each pair
+abbrev pub AsksEach : (ℕ → Bool) → List Pair → Type 0
+AsksEach asks pairs = All (AsksBoth asks) pairs
 
 -- the positions of the events below the predecessor of either, in trace order
 unfoldable pub printed_schedule : List Event → Pair → List ℕ

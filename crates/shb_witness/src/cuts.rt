@@ -3,6 +3,7 @@
 ghost use Rattle.std.specs.Prelude.{◌≡◌, ℕ, ◌<◌, ◌≤◌, IfOk, length};
 ghost use Rattle.shb_lines.specs.events.Order.{BelowPred};
 ghost use Rattle.shb_witness.specs.Cuts.{BelowEither, HasCuts};
+ghost use Rattle.shb_witness.specs.Schedules.{AsksBoth};
 
 use shb_clocks::{Order, Ordered};
 use shb_io::NoMemory;
@@ -18,6 +19,7 @@ pub fn cuts_of<O: Order>(
 ) -> Result<Vec<u32>, NoMemory>
     requires first { pair.first < length ordered.now.trace.now.events.now }
     requires second { pair.second < length ordered.now.trace.now.events.now }
+    requires asked { AsksBoth (O.asks ordered.now.order.now) pair }
     ensures { IfOk result (λ cuts. HasCuts ordered.now.trace.now.events.now pair.first pair.second
         ordered.now.trace.now.sizes.threads cuts.items) }
 {

@@ -5,7 +5,7 @@ ghost use Rattle.shb_lines.specs.events.Race.{Race};
 ghost use Rattle.shb_lines.specs.declared.event.Event.{Event};
 ghost use Rattle.shb_lines.specs.declared.event.Pair.{Pair};
 ghost use Rattle.shb_witness.specs.Checkpoints.{AreReached, IsReached};
-ghost use Rattle.shb_witness.specs.Schedules.{Asked, AreRaces, schedule_at};
+ghost use Rattle.shb_witness.specs.Schedules.{Asked, AreRaces, AsksEach, schedule_at};
 
 use crate::checkpoints::Checkpoint;
 use crate::schedules::schedule_runs;
@@ -35,11 +35,12 @@ impl<'a, O: Order> Model for WitnessJob<'a, O> {
     ghost view = { λ j. record { trace = j.ordered.trace.now.events.now; races = j.pairs.now } };
 
     ghost invariant = { λ j. AreRaces j.ordered.trace.now.events.now j.pairs.now
-        × AreReached j.ordered.trace.now.events.now j.points };
+        × AreReached j.ordered.trace.now.events.now j.points
+        × AsksEach (O.asks j.ordered.order.now) j.pairs.now };
 }
 
 impl<'a, O: Order> WitnessJob<'a, O> {
-    /// The work of making a schedule for each of these races.
+    /// The work of making a schedule for each of these races. The order can be asked about their events.
     pub fn new(
         order: &'a O,
         trace: &'a Disciplined<'a>,
@@ -49,6 +50,7 @@ impl<'a, O: Order> WitnessJob<'a, O> {
         requires of_trace { O.trace order.now ≡ trace.now.events.now }
         requires linked { links.now ≡ trace.now.events.now }
         requires races { AreRaces trace.now.events.now pairs.now }
+        requires asked { AsksEach (O.asks order.now) pairs.now }
         ensures { result ≡ record { trace = trace.now.events.now; races = pairs.now } }
     {
         let ordered = Ordered {

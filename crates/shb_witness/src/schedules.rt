@@ -4,6 +4,7 @@ ghost use Rattle.std.specs.Prelude.{◌≡◌, IfOk};
 ghost use Rattle.shb_lines.specs.events.Race.{Race};
 ghost use Rattle.shb_lines.specs.events.Schedule.{IsPrintedSchedule, IsSchedule};
 ghost use Rattle.shb_witness.specs.Checkpoints.{AreReached};
+ghost use Rattle.shb_witness.specs.Schedules.{AsksBoth};
 
 use crate::checkpoints::{Checkpoint, front_of};
 use crate::cuts::{cuts_of, end_of};
@@ -20,8 +21,8 @@ use std::alloc::Global;
 /// reordering that keeps happens-before. Which of the schedules of a race is printed is this
 /// project's own rule. `NoMemory` where memory was refused.
 ///
-/// It asks the order twice for each thread, and goes once over the events up to the later of the
-/// two predecessors.
+/// It asks the order about both accesses, once for each thread, and goes once over the events up to
+/// the later of the two predecessors.
 pub fn schedule<O: Order>(
     alloc: Global,
     order: &O,
@@ -32,6 +33,7 @@ pub fn schedule<O: Order>(
     requires of_trace { O.trace order.now ≡ trace.now.events.now }
     requires linked { links.now ≡ trace.now.events.now }
     requires race { Race trace.now.events.now pair.first pair.second }
+    requires asked { AsksBoth (O.asks order.now) pair }
     ensures printed { IfOk result (λ s. IsPrintedSchedule trace.now.events.now s.items
         pair.first pair.second) }
     ensures schedule { IfOk result (λ s. IsSchedule trace.now.events.now s.items
@@ -55,6 +57,7 @@ pub(crate) fn schedule_runs<O: Order>(
 ) -> Result<Positions, NoMemory>
     requires points { AreReached ordered.now.trace.now.events.now points }
     requires race { Race ordered.now.trace.now.events.now pair.first pair.second }
+    requires asked { AsksBoth (O.asks ordered.now.order.now) pair }
     ensures { IfOk result (λ s. IsPrintedSchedule ordered.now.trace.now.events.now s pair.first pair.second) }
 {
     let cuts = cuts_of(alloc, ordered, pair)?;

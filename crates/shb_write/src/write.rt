@@ -4,7 +4,7 @@ ghost use Rattle.shb_io.specs.Devices.{IsCounted, Writes};
 ghost use Rattle.shb_report.specs.Places.{IsPlaceOf, counts_in, places_of_pairs};
 ghost use Rattle.shb_report.specs.Report.{counts_of, front_bytes};
 ghost use Rattle.shb_witness.specs.Checkpoints.{IsReached};
-ghost use Rattle.shb_witness.specs.Schedules.{AreRaces};
+ghost use Rattle.shb_witness.specs.Schedules.{AreRaces, AsksEach};
 ghost use Rattle.shb_write.specs.Written.{CutsBlocksOn, CutsReportOn, IsSinkCounted, OnFailedSink, OnNoMemory, These, WritesBlocks, WritesReport};
 ghost use Rattle.shb_lines.specs.events.Race.{ends};
 
@@ -148,7 +148,7 @@ fn write_front<K: Sink>(
     place_lines(sink, trace, places)
 }
 
-/// Writes the report of a trace that lists these races.
+/// Writes the report of a trace that lists these races. The order can be asked about their events.
 ///
 /// The places are made before anything is written: so where memory is refused either nothing was
 /// written, or at least all lines before the first block.
@@ -173,6 +173,7 @@ pub fn write_report<
 ) -> Result<(), WriteError>
     requires countable { K.failure_count sink.old < 2 ^ 64 - 1 }
     requires races { AreRaces ordered.now.trace.now.events.now races.now }
+    requires asked { AsksEach (O.asks ordered.now.order.now) races.now }
     ensures report { IfOk result (λ _. WritesReport (These (map ends races.now)) plan.now.schedules ordered.now.trace.now.trace.now
         (K.taken sink.old) (K.taken sink.new)) }
     ensures cut { OnFailedSink result (CutsReportOn (These (map ends races.now)) plan.now.schedules ordered.now.trace.now.trace.now

@@ -1,5 +1,10 @@
+use Rattle.std.proofs.Common.{◌≡◌}
 use Rattle.shb_pairs.specs.Screen.{AreScreened}
 use Rattle.shb_pairs.proofs.screen.open_variables.Given as goal
 
 abbrev pub invariant-loop-e : goal.invariant-loop-e
-invariant-loop-e g l = AreScreened l.ordered.trace.now.events.now l.reads.items l.e l.ordered.trace.now.sizes.variables l.table.items
+invariant-loop-e l = record {
+  of_trace : l.sweep.trace ≡ l.trace.events.now;
+  next : l.sweep.next ≡ l.e;
+  screened : AreScreened l.trace.events.now l.reads.items l.e l.trace.sizes.variables l.table.items;
+}

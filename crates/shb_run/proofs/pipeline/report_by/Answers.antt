@@ -2,34 +2,42 @@ use Rattle.std.proofs.Common.{rules, ◌≡◌, List, length, map, subst, sym}
 use Rattle.shb_lines.specs.declared.event.Pair.{Pair}
 use Rattle.shb_run.specs.Written.{ListedBy}
 use Rattle.shb_run.proofs.Endings.{cut_known, memory_known, reports_of}
-use Rattle.shb_run.proofs.Reports.{races_listed}
+use Rattle.shb_run.proofs.Reports.{asks_race, races_listed}
 use Rattle.shb_run.proofs.pipeline.report_by.Goals as goal
 use Rattle.shb_lines.specs.events.Race.{ends}
 
 pub write_report-requires-clause-races : goal.write_report-requires-clause-races
 write_report-requires-clause-races g c κs alive =
-    let trace = c.args.ordered.now.trace.now in
+    let trace = c.args.screened.now.ordered.now.trace.now in
     let choice = c.args.task.choice in
     let lists = subst (λ (races : List Pair). ListedBy choice trace.trace.now (map ends races)) (sym c.deref.ensures.value) c.in_ok-chosen.ensures.chosen in
     races_listed choice trace.trace.now trace.events.now c.deref.result.now trace.of_trace lists
 
+pub write_report-requires-clause-asked : goal.write_report-requires-clause-asked
+write_report-requires-clause-asked g c κs alive k d lt =
+    let trace = c.args.screened.now.ordered.now.trace.now in
+    let choice = c.args.task.choice in
+    let lists = subst (λ (races : List Pair). ListedBy choice trace.trace.now (map ends races)) (sym c.deref.ensures.value) c.in_ok-chosen.ensures.chosen in
+    asks_race trace.events.now c.args.screened.now.flags.now _ _ _ c.args.screened.now.settled c.args.screened.now.asked
+    (races_listed choice trace.trace.now trace.events.now c.deref.result.now trace.of_trace lists k d lt)
+
 pub returns-in_err-write_report-clause-cut : goal.returns-in_err-write_report-clause-cut
 returns-in_err-write_report-clause-cut g c =
-    let trace = c.args.ordered.now.trace.now in
+    let trace = c.args.screened.now.ordered.now.trace.now in
     let choice = c.args.task.choice in
     let lists = subst (λ (races : List Pair). ListedBy choice trace.trace.now (map ends races)) (sym c.deref.ensures.value) c.in_ok-chosen.ensures.chosen in
     cut_known choice c.args.task.settings.schedules trace.trace.now (map ends c.deref.result.now) lists (Unit {0}) _ _ _ c.from_residual-in_err-write_report.result c.from_residual-in_err-write_report.ensures.1 c.in_err-write_report.ensures.cut
 
 pub returns-in_err-write_report-clause-memory : goal.returns-in_err-write_report-clause-memory
 returns-in_err-write_report-clause-memory g c =
-    let trace = c.args.ordered.now.trace.now in
+    let trace = c.args.screened.now.ordered.now.trace.now in
     let choice = c.args.task.choice in
     let lists = subst (λ (races : List Pair). ListedBy choice trace.trace.now (map ends races)) (sym c.deref.ensures.value) c.in_ok-chosen.ensures.chosen in
     memory_known choice c.args.task.settings.schedules trace.trace.now (map ends c.deref.result.now) lists (Unit {0}) _ _ _ _ c.from_residual-in_err-write_report.result c.from_residual-in_err-write_report.ensures.1 c.in_err-write_report.ensures.memory
 
 pub returns-clause-report : goal.returns-clause-report
 returns-clause-report g c =
-    let trace = c.args.ordered.now.trace.now in
+    let trace = c.args.screened.now.ordered.now.trace.now in
     let choice = c.args.task.choice in
     let schedules = c.args.task.settings.schedules in
     let lists = subst (λ (races : List Pair). ListedBy choice trace.trace.now (map ends races)) (sym c.deref.ensures.value) c.in_ok-chosen.ensures.chosen in

@@ -6,11 +6,11 @@ use Rattle.shb_run.proofs.races.races_of.Goals as goal
 
 pub returns : goal.returns
 returns g c =
-    let trace = c.args.ordered.now.trace.now in
+    let trace = c.args.screened.now.ordered.now.trace.now in
     let is = sym (c.new-job.ensures ∙ c.in_ok-accesses.ensures) in
     record {
       listed = listed_of _ c.gather_joined.result c.new-job.result trace.events.now c.gather_joined.ensures
           (ap (λ (a : Listed). a.trace) (sym is))
           (subst (λ (a : Listed). IsNumberedByAccess a.trace) is trace.numbered)
-          (subst (λ (a : Listed). AreOpen a.trace a.flags) is (subst (λ (flags : List Bool). AreOpen trace.events.now flags) (sym c.deref.ensures.value) c.in_ok-flags.ensures));
+          (subst (λ (a : Listed). AreOpen a.trace a.flags) is c.args.screened.now.settled);
     }

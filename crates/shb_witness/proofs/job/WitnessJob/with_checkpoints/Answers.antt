@@ -8,4 +8,5 @@ pub invariant_of-result : goal.invariant_of-result
 invariant_of-result g c = (
   c.self.invariant.0,
   subst (λ (trace : List Event). All (IsReached trace) c.args.points.now) (sym (ap (λ (a : Asked). a.trace) c.self.view_is)) c.requires,
+  c.self.invariant.2,
 )

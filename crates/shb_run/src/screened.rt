@@ -1,0 +1,16 @@
+//! An ordered trace whose variables are told apart.
+ghost use Rattle.shb_pairs.specs.Listed.{AreOpen, AsksOpen};
+
+use shb_clocks::{Order, Ordered};
+
+/// An ordered trace, with a flag for each of its variables. That a variable whose flag is false has no
+/// race, and that the order can be asked about each access of any other, is part of the type.
+#[derive(Drop)]
+pub(crate) struct Screened<'s, 'a, 'f, O: Order> {
+    /// The trace, with its links and its order.
+    pub(crate) ordered: &'s Ordered<'a, O>,
+    /// Which variables are open.
+    pub(crate) flags: &'f [bool],
+    pub(crate) ghost settled: { AreOpen ordered.now.trace.now.events.now flags.now },
+    pub(crate) ghost asked: { AsksOpen (O.asks ordered.now.order.now) flags.now ordered.now.trace.now.events.now },
+}
