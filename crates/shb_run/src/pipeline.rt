@@ -16,9 +16,9 @@ use shb_check::{RunError, judge};
 use shb_clocks::{Order, Ordered, by_event};
 use shb_discipline::Disciplined;
 use shb_fan::{FreeGate, Gate};
-use shb_io::{Sink, Source};
+use shb_io::{NoMemory, Sink, Source};
 use shb_lines::{Limits, Trace, parse};
-use shb_links::links_of;
+use shb_links::{Links, links_of, links_without_tables};
 use shb_pairs::open_variables;
 use shb_write::{BlockPlan, WriteError, write_report};
 use std::alloc::Global;
@@ -81,6 +81,21 @@ fn report_by<
     Ok(summary_of(ordered.trace.trace, chosen.len() as u64))
 }
 
+/// The links that a report needs: one without schedules asks for no predecessors and no last writes.
+fn links_for<'a>(
+    alloc: Global,
+    trace: &'a Disciplined<'a>,
+    schedules: bool,
+) -> Result<Links<'a>, NoMemory>
+    ensures { IfOk result (λ links. links ≡ trace.now.events.now) }
+{
+    if schedules {
+        links_of(alloc, trace)
+    } else {
+        links_without_tables(alloc, trace)
+    }
+}
+
 /// Finds the races of a trace, and writes the report of those that are asked for.
 fn report<R: Threads + Wait + Sync + RandomSource, K: Sink, P: Gate + Sync, W: Gate + Sync>(
     rt: &R,
@@ -101,7 +116,7 @@ fn report<R: Threads + Wait + Sync + RandomSource, K: Sink, P: Gate + Sync, W: G
         (K.taken sink.old) (K.taken sink.new)) }
     ensures counted { IsSinkCounted (K.failure_count sink.old) (K.failure_count sink.new) result }
 {
-    let links = links_of(alloc, &*trace)?;
+    let links = links_for(alloc, &*trace, task.settings.schedules)?;
     let flags = open_variables(alloc, &*trace, &links)?;
     let order = by_event(alloc, &*trace, &links)?;
     let screened = Screened {
