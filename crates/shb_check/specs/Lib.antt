@@ -2,4 +2,4 @@ pub mod Errors
 pub mod Judged
 pub mod Outcomes
 pub mod Checks
-pub mod Words
+pub mod Statuses

@@ -7,7 +7,7 @@ use thiserror::Error;
 #[derive(Debug, Drop, Error)]
 pub enum RunError {
     /// The trace is refused: this is its first fault, and its line, from 1. Nothing was written.
-    #[error("line {line}: {}", .fault.words())]
+    #[error("line {line}: {}", .fault.message())]
     Trace { line: u32, fault: Fault },
     /// The source failed. Nothing was written.
     #[error("cannot read")]

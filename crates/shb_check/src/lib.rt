@@ -9,10 +9,10 @@ mod errors;
 mod judging;
 pub mod laws;
 mod verdicts;
-mod words;
+mod statuses;
 
 pub use errors::RunError;
 pub use judging::judge;
 pub use shb_report::{RaceFault, Verdict};
 pub use verdicts::check;
-pub use words::{end_of_check, exit_status, fault_line, status_of_check, tell_error};
+pub use statuses::{end_of_check, exit_status, fault_line, status_of_check, tell_error};

@@ -7,7 +7,7 @@ use Rattle.std.proofs.lemmas.List.{take_all}
 use Rattle.std.proofs.lemmas.Option.{slice_get_cases, slice_get_within}
 use Rattle.shb_lines.specs.declared.event.Event.{Event}
 use Rattle.shb_lines.specs.events.Events.{thread_at}
-use Rattle.shb_lines.specs.events.Discipline.{is_of, place_in_thread}
+use Rattle.shb_lines.specs.events.Discipline.{is_of, local_time}
 use Rattle.shb_lines.specs.events.Order.{ShbBelow, IsNumberOf, here, step, same_thread, happens_before}
 use Rattle.shb_lines.proofs.events.Counts.{count_more_yes, count_more_no}
 use Rattle.shb_lines.proofs.events.Events.{event_of_thread, thread_is, is_of_true}
@@ -15,7 +15,7 @@ use Rattle.shb_lines.proofs.events.Prefix.{is_of_thread}
 use Rattle.shb_lines.proofs.events.Listed.{number_none, number_same, number_more_yes, number_more_no}
 use Rattle.shb_lines.proofs.events.Schedulable.{path_forward}
 use Rattle.shb_clocks.specs.Fronts.{IsFront}
-use Rattle.shb_clocks.proofs.Locals.{place_at, place_rises, place_order, place_within}
+use Rattle.shb_clocks.proofs.Locals.{time_at, time_rises, time_order, time_within}
 
 pub thread_in_range : (trace : List Event) (k t : ℕ) → thread_at trace k ≡ Some t → k < length trace
 thread_in_range trace k t of_k = let e = event_of_thread trace k t of_k in slice_get_within trace k e.0 e.1
@@ -24,7 +24,7 @@ module _ (trace : List Event) where
   pub front_none : (P : ℕ → Type 0) (clock : List ℕ) → ((k : ℕ) → P k → ⊥) → ((t : ℕ) → get_or clock t 0 ≡ 0) → IsFront trace P clock
   front_none P clock none zeros = record {
     within = λ t. (let z = zeros t in omega (arith, z));
-    exact = λ t k of_k. ((λ le. absurd (let p = place_at trace t k of_k in let z = zeros t in omega (arith, p, z, le))), (λ h. absurd (none k h)));
+    exact = λ t k of_k. ((λ le. absurd (let p = time_at trace t k of_k in let z = zeros t in omega (arith, p, z, le))), (λ h. absurd (none k h)));
   }
 
   pub front_same : (P Q : ℕ → Type 0) (clock : List ℕ) → ((k : ℕ) → P k ↔ Q k) → IsFront trace P clock → IsFront trace Q clock
@@ -36,54 +36,54 @@ module _ (trace : List Event) where
   pub front_join : (P Q : ℕ → Type 0) (one other clock : List ℕ) → IsFront trace P one → IsFront trace Q other → ((t : ℕ) → get_or clock t 0 ≡ max (get_or one t 0) (get_or other t 0)) → IsFront trace (λ k. P k ⊎ Q k) clock
   front_join P Q one other clock first second each = record {
     within = λ t. (let a = first.within t in let b = second.within t in let m = each t in omega (arith, a, b, m));
-    exact = λ t k of_k. ((λ le. up t k of_k (cases_lt (get_or one t 0) (place_in_thread trace t k)) le), down t k of_k);
+    exact = λ t k of_k. ((λ le. up t k of_k (cases_lt (get_or one t 0) (local_time trace t k)) le), down t k of_k);
   }
     where
-      up : (t k : ℕ) → thread_at trace k ≡ Some t → (get_or one t 0 < place_in_thread trace t k) ⊎ (place_in_thread trace t k ≤ get_or one t 0) → place_in_thread trace t k ≤ get_or clock t 0 → P k ⊎ Q k
+      up : (t k : ℕ) → thread_at trace k ≡ Some t → (get_or one t 0 < local_time trace t k) ⊎ (local_time trace t k ≤ get_or one t 0) → local_time trace t k ≤ get_or clock t 0 → P k ⊎ Q k
       up t k of_k (inr low) le = inl ((first.exact t k of_k).0 low)
       up t k of_k (inl high) le = inr ((second.exact t k of_k).0 (let m = each t in omega (arith, m, high, le)))
 
-      down : (t k : ℕ) → thread_at trace k ≡ Some t → P k ⊎ Q k → place_in_thread trace t k ≤ get_or clock t 0
+      down : (t k : ℕ) → thread_at trace k ≡ Some t → P k ⊎ Q k → local_time trace t k ≤ get_or clock t 0
       down t k of_k (inl p) = let le = (first.exact t k of_k).1 p in let m = each t in omega (arith, m, le)
       down t k of_k (inr q) = let le = (second.exact t k of_k).1 q in let m = each t in omega (arith, m, le)
 
-  -- the clock of an event is that of all strictly below it, with its own place as its thread's entry
-  pub front_own : (P : ℕ → Type 0) (e u : ℕ) (clock : List ℕ) → thread_at trace e ≡ Some u → u < length clock → ((t k : ℕ) → thread_at trace k ≡ Some t → t ≢ u → P k ↔ ShbBelow trace k e) → ((t : ℕ) → t ≢ u → get_or clock t 0 ≤ count_by (is_of t) trace) → ((t k : ℕ) → thread_at trace k ≡ Some t → t ≢ u → (place_in_thread trace t k ≤ get_or clock t 0) ↔ P k) → IsFront trace (λ k. ShbBelow trace k e) (set clock u (place_in_thread trace u e))
+  -- the clock of an event is that of all strictly below it, with its own local time as its thread's entry
+  pub front_own : (P : ℕ → Type 0) (e u : ℕ) (clock : List ℕ) → thread_at trace e ≡ Some u → u < length clock → ((t k : ℕ) → thread_at trace k ≡ Some t → t ≢ u → P k ↔ ShbBelow trace k e) → ((t : ℕ) → t ≢ u → get_or clock t 0 ≤ count_by (is_of t) trace) → ((t k : ℕ) → thread_at trace k ≡ Some t → t ≢ u → (local_time trace t k ≤ get_or clock t 0) ↔ P k) → IsFront trace (λ k. ShbBelow trace k e) (set clock u (local_time trace u e))
   front_own P e u clock of_e within same low old = record {
     within = λ t. bound t (cases_eq t u);
     exact = λ t k of_k. exact t k of_k (cases_eq t u);
   }
     where
-      own : get_or (set clock u (place_in_thread trace u e)) u 0 ≡ place_in_thread trace u e
-      own = get_or-set_same clock u (place_in_thread trace u e) 0 within
+      own : get_or (set clock u (local_time trace u e)) u 0 ≡ local_time trace u e
+      own = get_or-set_same clock u (local_time trace u e) 0 within
 
-      other : (t : ℕ) → t ≢ u → get_or (set clock u (place_in_thread trace u e)) t 0 ≡ get_or clock t 0
-      other t ne = get_or-set_other clock u t (place_in_thread trace u e) 0 ne
+      other : (t : ℕ) → t ≢ u → get_or (set clock u (local_time trace u e)) t 0 ≡ get_or clock t 0
+      other t ne = get_or-set_other clock u t (local_time trace u e) 0 ne
 
-      bound : (t : ℕ) → (t ≡ u) ⊎ (t ≡ u → ⊥) → get_or (set clock u (place_in_thread trace u e)) t 0 ≤ count_by (is_of t) trace
-      bound t (inl is) = rw is (let o = own in let le = place_within trace u e (thread_in_range trace e u of_e) in omega (arith, o, le))
+      bound : (t : ℕ) → (t ≡ u) ⊎ (t ≡ u → ⊥) → get_or (set clock u (local_time trace u e)) t 0 ≤ count_by (is_of t) trace
+      bound t (inl is) = rw is (let o = own in let le = time_within trace u e (thread_in_range trace e u of_e) in omega (arith, o, le))
       bound t (inr ne) = let o = other t ne in let le = low t ne in omega (arith, o, le)
 
       in_order : (k : ℕ) → thread_at trace k ≡ Some u → (k < e) ⊎ (e ≤ k) → k ≤ e → ShbBelow trace k e
       in_order k of_k (inl lt) le = step (happens_before (record { earlier = lt; rule = same_thread u of_k of_e })) here
       in_order k of_k (inr ge) le = subst (λ x. ShbBelow trace k x) (let g : k ≡ e = omega arith in g) here
 
-      place_le : (k : ℕ) → (k < e) ⊎ (e ≤ k) → k ≤ e → place_in_thread trace u k ≤ place_in_thread trace u e
-      place_le k (inl lt) le = let rises = place_rises trace u k e of_e lt in omega (arith, rises)
-      place_le k (inr ge) le = let g : k ≡ e = omega arith in rw g (let r : place_in_thread trace u e ≤ place_in_thread trace u e = omega arith in r)
+      time_le : (k : ℕ) → (k < e) ⊎ (e ≤ k) → k ≤ e → local_time trace u k ≤ local_time trace u e
+      time_le k (inl lt) le = let rises = time_rises trace u k e of_e lt in omega (arith, rises)
+      time_le k (inr ge) le = let g : k ≡ e = omega arith in rw g (let r : local_time trace u e ≤ local_time trace u e = omega arith in r)
 
-      exact : (t k : ℕ) → thread_at trace k ≡ Some t → (t ≡ u) ⊎ (t ≡ u → ⊥) → (place_in_thread trace t k ≤ get_or (set clock u (place_in_thread trace u e)) t 0) ↔ ShbBelow trace k e
+      exact : (t k : ℕ) → thread_at trace k ≡ Some t → (t ≡ u) ⊎ (t ≡ u → ⊥) → (local_time trace t k ≤ get_or (set clock u (local_time trace u e)) t 0) ↔ ShbBelow trace k e
       exact t k of_k (inr ne) = let o = other t ne in let prior = old t k of_k ne in let s = same t k of_k ne in (
         (λ le. s.0 (prior.0 (omega (arith, o, le)))),
         (λ path. (let le = prior.1 (s.1 path) in omega (arith, o, le))),
       )
       exact t k of_k (inl is) = let of_u : thread_at trace k ≡ Some u = of_k ∙ ap (λ n. Some n) is in let o = own in rw is (
-        (λ le. in_order k of_u (cases_lt k e) (place_order trace u k e of_u (omega (arith, o, le)))),
-        (λ path. (let le = place_le k (cases_lt k e) (path_forward trace k e path) in omega (arith, o, le))),
+        (λ le. in_order k of_u (cases_lt k e) (time_order trace u k e of_u (omega (arith, o, le)))),
+        (λ path. (let le = time_le k (cases_lt k e) (path_forward trace k e path) in omega (arith, o, le))),
       )
 
-  -- how many of the first m events of a thread have a place up to n
-  number_below : (t n m : ℕ) → m ≤ length trace → IsNumberOf (λ k. (k < m) × ((thread_at trace k ≡ Some t) × (place_in_thread trace t k ≤ n))) (min n (count_by (is_of t) (take m trace)))
+  -- how many of the first m events of a thread have a local time up to n
+  number_below : (t n m : ℕ) → m ≤ length trace → IsNumberOf (λ k. (k < m) × ((thread_at trace k ≡ Some t) × (local_time trace t k ≤ n))) (min n (count_by (is_of t) (take m trace)))
   number_below t n zero le = rw (let z : min n (count_by (is_of t) (take 0 trace)) ≡ 0 = omega arith in z) (number_none _)
   number_below t n (suc m) le = elim (slice_get_cases trace m).1 [
     | inl c ↦ rw add-one at (go (number_below t n m (omega arith)) c.0 c.2 (cases_Bool (is_of t c.0)))
@@ -91,7 +91,7 @@ module _ (trace : List Event) where
   ]
     where
       P : ℕ → Type 0
-      P k = (thread_at trace k ≡ Some t) × (place_in_thread trace t k ≤ n)
+      P k = (thread_at trace k ≡ Some t) × (local_time trace t k ≤ n)
 
       Prior : Type 0
       Prior = IsNumberOf (λ k. (k < m) × P k) (min n (count_by (is_of t) (take m trace)))
@@ -99,30 +99,30 @@ module _ (trace : List Event) where
       of_m : (e : Event) → slice_get trace m ≡ Some e → is_of t e ≡ true → thread_at trace m ≡ Some t
       of_m e at_m is = thread_is trace m e at_m ∙ ap (λ x. Some x) (is_of_thread t e is)
 
-      counted : Prior → (e : Event) → slice_get trace m ≡ Some e → is_of t e ≡ true → (place_in_thread trace t m ≤ n) ⊎ (n < place_in_thread trace t m) → IsNumberOf (λ k. (k < m + 1) × P k) (min n (count_by (is_of t) (take (m + 1) trace)))
+      counted : Prior → (e : Event) → slice_get trace m ≡ Some e → is_of t e ≡ true → (local_time trace t m ≤ n) ⊎ (n < local_time trace t m) → IsNumberOf (λ k. (k < m + 1) × P k) (min n (count_by (is_of t) (take (m + 1) trace)))
       counted prior e at_m is (inl low) =
-          let place = place_at trace t m (of_m e at_m is) in
+          let time = time_at trace t m (of_m e at_m is) in
           let one = count_more_yes (is_of t) trace m e at_m is in
-          let total : min n (count_by (is_of t) (take m trace)) + 1 ≡ min n (count_by (is_of t) (take (m + 1) trace)) = omega (arith, place, one, low) in
+          let total : min n (count_by (is_of t) (take m trace)) + 1 ≡ min n (count_by (is_of t) (take (m + 1) trace)) = omega (arith, time, one, low) in
           subst (λ c. IsNumberOf (λ k. (k < m + 1) × P k) c) total (number_more_yes P m _ (of_m e at_m is, low) prior)
       counted prior e at_m is (inr high) =
-          let place = place_at trace t m (of_m e at_m is) in
+          let time = time_at trace t m (of_m e at_m is) in
           let one = count_more_yes (is_of t) trace m e at_m is in
-          let total : min n (count_by (is_of t) (take m trace)) ≡ min n (count_by (is_of t) (take (m + 1) trace)) = omega (arith, place, one, high) in
+          let total : min n (count_by (is_of t) (take m trace)) ≡ min n (count_by (is_of t) (take (m + 1) trace)) = omega (arith, time, one, high) in
           subst (λ c. IsNumberOf (λ k. (k < m + 1) × P k) c) total (number_more_no P m _ (λ h. (let le = h.1 in omega (arith, high, le))) prior)
 
       go : Prior → (e : Event) → slice_get trace m ≡ Some e → (is_of t e ≡ true) ⊎ (is_of t e ≡ false) → IsNumberOf (λ k. (k < m + 1) × P k) (min n (count_by (is_of t) (take (m + 1) trace)))
-      go prior e at_m (inl is) = counted prior e at_m is (elim (cases_lt n (place_in_thread trace t m)) [ inl h ↦ inr h | inr h ↦ inl h ])
+      go prior e at_m (inl is) = counted prior e at_m is (elim (cases_lt n (local_time trace t m)) [ inl h ↦ inr h | inr h ↦ inl h ])
       go prior e at_m (inr not) =
           let one = count_more_no (is_of t) trace m e at_m not in
           subst (λ c. IsNumberOf (λ k. (k < m + 1) × P k) (min n c)) (sym one) (number_more_no P m _ (λ h. (let d = thread_is trace m e at_m in let s : Some e.thread ≡ Some t = sym d ∙ h.0 in let yes_it = is_of_true t e (let g : e.thread ≡ t = cc in g) in (let f : ⊥ = cc in f))) prior)
 
-  pub number_up_to : (t n : ℕ) → n ≤ count_by (is_of t) trace → IsNumberOf (λ k. (thread_at trace k ≡ Some t) × (place_in_thread trace t k ≤ n)) n
+  pub number_up_to : (t n : ℕ) → n ≤ count_by (is_of t) trace → IsNumberOf (λ k. (thread_at trace k ≡ Some t) × (local_time trace t k ≤ n)) n
   number_up_to t n le =
       let all = number_below t n (length trace) (omega arith) in
       let whole = ap (count_by (is_of t)) (take_all (length trace) trace (omega arith)) in
       let total : min n (count_by (is_of t) (take (length trace) trace)) ≡ n = omega (arith, whole, le) in
-      number_same _ _ n (λ k. ((λ h. h.1), (λ h. (thread_in_range trace k t h.0, h)))) (subst (λ c. IsNumberOf (λ k. (k < length trace) × ((thread_at trace k ≡ Some t) × (place_in_thread trace t k ≤ n))) c) total all)
+      number_same _ _ n (λ k. ((λ h. h.1), (λ h. (thread_in_range trace k t h.0, h)))) (subst (λ c. IsNumberOf (λ k. (k < length trace) × ((thread_at trace k ≡ Some t) × (local_time trace t k ≤ n))) c) total all)
 
   -- an entry is the number of the thread's events that have the property
   pub number_from_front : (P : ℕ → Type 0) (clock : List ℕ) (t : ℕ) → IsFront trace P clock → IsNumberOf (λ k. (thread_at trace k ≡ Some t) × P k) (get_or clock t 0)

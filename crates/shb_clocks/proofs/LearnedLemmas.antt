@@ -7,7 +7,7 @@ use Rattle.std.proofs.lemmas.List.{get_or_push, length_push, get_or_read, get_or
 use Rattle.std.proofs.lemmas.List.Elements.{Contains-get_or}
 use Rattle.shb_lines.specs.declared.event.Event.{Event}
 use Rattle.shb_lines.specs.events.Events.{thread_at}
-use Rattle.shb_lines.specs.events.Discipline.{IsDisciplined, is_of, place_in_thread}
+use Rattle.shb_lines.specs.events.Discipline.{IsDisciplined, is_of, local_time}
 use Rattle.shb_lines.specs.events.Order.{ShbBelow, here, step, same_thread, happens_before, IsPred, in_thread, by_fork}
 use Rattle.shb_lines.proofs.events.Counts.{count_more_no}
 use Rattle.shb_lines.proofs.events.Decide.{find_pred, pred_unique}
@@ -19,12 +19,12 @@ use Rattle.shb_clocks.specs.Fronts.{IsFront, Learns, by_acquire, by_join, by_rea
 use Rattle.shb_clocks.specs.Learned.{IsLearning, first, acquires, joins, reads, LearnsAt, KeptData, nothing_kept, IsRowUpTo, IsFrontBut, number_before, IsKept, AreKept}
 use Rattle.shb_clocks.specs.Rows.{AreMore, RowsData}
 use Rattle.shb_clocks.proofs.Fronts.{front_own}
-use Rattle.shb_clocks.proofs.Locals.{place_at, place_rises, place_order, place_after}
+use Rattle.shb_clocks.proofs.Locals.{time_at, time_rises, time_order, time_after}
 use Rattle.shb_clocks.proofs.Sources.{below_cases, path_append}
 
 module _ (trace : List Event) where
   -- the clock of an event, from a row without the entry of its thread
-  pub front_whole : (b u : ℕ) (row : List ℕ) → thread_at trace b ≡ Some u → u < length row → IsFrontBut trace u (λ k. ShbBelow trace k b) row → IsFront trace (λ k. ShbBelow trace k b) (set row u (place_in_thread trace u b))
+  pub front_whole : (b u : ℕ) (row : List ℕ) → thread_at trace b ≡ Some u → u < length row → IsFrontBut trace u (λ k. ShbBelow trace k b) row → IsFront trace (λ k. ShbBelow trace k b) (set row u (local_time trace u b))
   front_whole b u row of_b lt but = front_own trace (λ k. ShbBelow trace k b) b u row of_b lt (λ t k of_k ne. ((λ h. h), (λ h. h))) but.within but.exact
 
   pub front_but_same : (u : ℕ) (P Q : ℕ → Type 0) (clock : List ℕ) → ((t k : ℕ) → thread_at trace k ≡ Some t → t ≢ u → P k ↔ Q k) → IsFrontBut trace u P clock → IsFrontBut trace u Q clock
@@ -38,7 +38,7 @@ module _ (trace : List Event) where
 
   -- how many events of a thread come before, one event more
   number_own : (n t : ℕ) → thread_at trace n ≡ Some t → number_before trace t (n + 1) ≡ number_before trace t n + 1
-  number_own n t of_n = place_at trace t n of_n
+  number_own n t of_n = time_at trace t n of_n
 
   pub number_other : (n t u : ℕ) → thread_at trace n ≡ Some u → t ≢ u → number_before trace t (n + 1) ≡ number_before trace t n
   number_other n t u of_n ne = let d = event_of_thread trace n u of_n in count_more_no (is_of t) trace n d.0 d.1 (fails d.0 d.2 (cases_Bool (is_of t d.0)))
@@ -47,19 +47,19 @@ module _ (trace : List Event) where
       fails d is (inr h) = h
       fails d is (inl h) = absurd (ne (sym (is_of_thread t d h) ∙ is))
 
-  place_alone : (m n t : ℕ) → thread_at trace m ≡ Some t → thread_at trace n ≡ Some t → place_in_thread trace t m ≡ place_in_thread trace t n → m ≡ n
-  place_alone m n t of_m of_n same =
-      let low = place_order trace t m n of_m (omega (arith, same)) in
-      let high = place_order trace t n m of_n (omega (arith, same)) in
+  time_alone : (m n t : ℕ) → thread_at trace m ≡ Some t → thread_at trace n ≡ Some t → local_time trace t m ≡ local_time trace t n → m ≡ n
+  time_alone m n t of_m of_n same =
+      let low = time_order trace t m n of_m (omega (arith, same)) in
+      let high = time_order trace t n m of_n (omega (arith, same)) in
       omega (arith, low, high)
 
-  listed : (n t : ℕ) (rows : List (List ℕ)) (kept : KeptData) → IsKept trace n rows t kept → IsListed (LearnsAt trace t) (number_before trace t n + 1) kept.places
+  listed : (n t : ℕ) (rows : List (List ℕ)) (kept : KeptData) → IsKept trace n rows t kept → IsListed (LearnsAt trace t) (number_before trace t n + 1) kept.times
   listed n t rows kept old = record { rising = old.rising; members = old.all }
 
-  member_low : (n t i : ℕ) (rows : List (List ℕ)) (kept : KeptData) → IsKept trace n rows t kept → i < length kept.places → get_or kept.places i 0 ≤ number_before trace t n
-  member_low n t i rows kept old lt = let low = ((old.all (get_or kept.places i 0)).0 (Contains-get_or kept.places i 0 lt)).0 in omega (arith, low)
+  member_low : (n t i : ℕ) (rows : List (List ℕ)) (kept : KeptData) → IsKept trace n rows t kept → i < length kept.times → get_or kept.times i 0 ≤ number_before trace t n
+  member_low n t i rows kept old lt = let low = ((old.all (get_or kept.times i 0)).0 (Contains-get_or kept.times i 0 lt)).0 in omega (arith, low)
 
-  kept_clocks : (n t b row : ℕ) (rows more : List (List ℕ)) (kept : KeptData) → AreMore rows more → IsKept trace n rows t kept → b < n → thread_at trace b ≡ Some t → IsRowUpTo kept (place_in_thread trace t b) row → IsFrontBut trace t (λ k. ShbBelow trace k b) (get_or more row [])
+  kept_clocks : (n t b row : ℕ) (rows more : List (List ℕ)) (kept : KeptData) → AreMore rows more → IsKept trace n rows t kept → b < n → thread_at trace b ≡ Some t → IsRowUpTo kept (local_time trace t b) row → IsFrontBut trace t (λ k. ShbBelow trace k b) (get_or more row [])
   kept_clocks n t b row rows more kept grown old lt of_b up =
       let size = old.as_many in
       let range = up.in_range in
@@ -72,7 +72,7 @@ module _ (trace : List Event) where
   kept_other n t u rows more kept of_n ne grown old = record {
     as_many = old.as_many;
     rising = old.rising;
-    all = λ place. subst (λ (m : ℕ). Contains kept.places place ↔ ((place < m + 1) × LearnsAt trace t place)) (sym (number_other n t u of_n ne)) (old.all place);
+    all = λ time. subst (λ (m : ℕ). Contains kept.times time ↔ ((time < m + 1) × LearnsAt trace t time)) (sym (number_other n t u of_n ne)) (old.all time);
     begun = λ b lt of_b. old.begun b (earlier b lt of_b (cases_lt b n)) of_b;
     within = λ i lt. (let low = old.within i lt in let long = grown.as_long in omega (arith, low, long));
     clocks = λ b row lt of_b up. kept_clocks n t b row rows more kept grown old (earlier b lt of_b (cases_lt b n)) of_b up;
@@ -83,18 +83,18 @@ module _ (trace : List Event) where
       earlier b lt of_b (inr le) = absurd (ne (thread_same n t u (subst (λ (m : ℕ). thread_at trace m ≡ Some t) (let g : b ≡ n = omega (arith, lt, le) in g) of_b) of_n))
 
   -- an event of the thread, at which it may learn
-  module _ (n u row : ℕ) (rows more : List (List ℕ)) (kept pushed : KeptData) (of_n : thread_at trace n ≡ Some u) (learning : IsLearning trace n) (grown : AreMore rows more) (low : row < length more) (front : IsFrontBut trace u (λ k. ShbBelow trace k n) (get_or more row [])) (places : pushed.places ≡ kept.places ++ place_in_thread trace u n ∷ []) (numbers : pushed.rows ≡ kept.rows ++ row ∷ []) (old : IsKept trace n rows u kept) where
-    long_places : length pushed.places ≡ length kept.places + 1
-    long_places = ap length places ∙ length_push kept.places (place_in_thread trace u n)
+  module _ (n u row : ℕ) (rows more : List (List ℕ)) (kept pushed : KeptData) (of_n : thread_at trace n ≡ Some u) (learning : IsLearning trace n) (grown : AreMore rows more) (low : row < length more) (front : IsFrontBut trace u (λ k. ShbBelow trace k n) (get_or more row [])) (times : pushed.times ≡ kept.times ++ local_time trace u n ∷ []) (numbers : pushed.rows ≡ kept.rows ++ row ∷ []) (old : IsKept trace n rows u kept) where
+    long_times : length pushed.times ≡ length kept.times + 1
+    long_times = ap length times ∙ length_push kept.times (local_time trace u n)
 
     long_rows : length pushed.rows ≡ length kept.rows + 1
     long_rows = ap length numbers ∙ length_push kept.rows row
 
-    place_old : (i : ℕ) → i < length kept.places → get_or pushed.places i 0 ≡ get_or kept.places i 0
-    place_old i lt = ap (λ (xs : List ℕ). get_or xs i 0) places ∙ get_or-append kept.places (place_in_thread trace u n ∷ []) 0 i lt
+    time_old : (i : ℕ) → i < length kept.times → get_or pushed.times i 0 ≡ get_or kept.times i 0
+    time_old i lt = ap (λ (xs : List ℕ). get_or xs i 0) times ∙ get_or-append kept.times (local_time trace u n ∷ []) 0 i lt
 
-    place_new : get_or pushed.places (length kept.places) 0 ≡ place_in_thread trace u n
-    place_new = ap (λ (xs : List ℕ). get_or xs (length kept.places) 0) places ∙ get_or_push kept.places (place_in_thread trace u n) 0 (length kept.places) refl
+    time_new : get_or pushed.times (length kept.times) 0 ≡ local_time trace u n
+    time_new = ap (λ (xs : List ℕ). get_or xs (length kept.times) 0) times ∙ get_or_push kept.times (local_time trace u n) 0 (length kept.times) refl
 
     row_old : (i : ℕ) → i < length kept.rows → get_or pushed.rows i 0 ≡ get_or kept.rows i 0
     row_old i lt = ap (λ (xs : List ℕ). get_or xs i 0) numbers ∙ get_or-append kept.rows (row ∷ []) 0 i lt
@@ -102,64 +102,64 @@ module _ (trace : List Event) where
     row_new : (i : ℕ) → length kept.rows ≡ i → get_or pushed.rows i 0 ≡ row
     row_new i is = ap (λ (xs : List ℕ). get_or xs i 0) numbers ∙ get_or_push kept.rows row 0 i is
 
-    more_listed : IsListed (LearnsAt trace u) (number_before trace u (n + 1) + 1) pushed.places
+    more_listed : IsListed (LearnsAt trace u) (number_before trace u (n + 1) + 1) pushed.times
     more_listed =
         let own = number_own n u of_n in
-        let here : LearnsAt trace u (number_before trace u n + 1) = record { event = n; of_thread = of_n; learning = learning; place_is = own } in
-        let next = listed_more_yes (LearnsAt trace u) (number_before trace u n + 1) kept.places here (listed n u rows kept old) in
-        let one_more : kept.places ++ (number_before trace u n + 1) ∷ [] ≡ pushed.places = ap (λ (m : ℕ). kept.places ++ m ∷ []) (sym own) ∙ sym places in
-        subst (λ (m : ℕ). IsListed (LearnsAt trace u) (m + 1) pushed.places) (sym own) (subst (IsListed (LearnsAt trace u) (number_before trace u n + 1 + 1)) one_more next)
+        let here : LearnsAt trace u (number_before trace u n + 1) = record { event = n; of_thread = of_n; learning = learning; time_is = own } in
+        let next = listed_more_yes (LearnsAt trace u) (number_before trace u n + 1) kept.times here (listed n u rows kept old) in
+        let one_more : kept.times ++ (number_before trace u n + 1) ∷ [] ≡ pushed.times = ap (λ (m : ℕ). kept.times ++ m ∷ []) (sym own) ∙ sym times in
+        subst (λ (m : ℕ). IsListed (LearnsAt trace u) (m + 1) pushed.times) (sym own) (subst (IsListed (LearnsAt trace u) (number_before trace u n + 1 + 1)) one_more next)
 
-    begun_more : (b : ℕ) → thread_at trace b ≡ Some u → (b < n) ⊎ (n ≤ b) → b < n + 1 → (0 < length kept.places) ⊎ (length kept.places ≤ 0) → get_or pushed.places 0 0 ≤ place_in_thread trace u b
-    begun_more b of_b (inl lt) within (inl some) = let o = (old.begun b lt of_b).1 in let s = place_old 0 some in omega (arith, o, s)
+    begun_more : (b : ℕ) → thread_at trace b ≡ Some u → (b < n) ⊎ (n ≤ b) → b < n + 1 → (0 < length kept.times) ⊎ (length kept.times ≤ 0) → get_or pushed.times 0 0 ≤ local_time trace u b
+    begun_more b of_b (inl lt) within (inl some) = let o = (old.begun b lt of_b).1 in let s = time_old 0 some in omega (arith, o, s)
     begun_more b of_b (inl lt) within (inr none) = let some = (old.begun b lt of_b).0 in absurd (omega (arith, some, none))
     begun_more b of_b (inr le) within (inl some) =
         let is : n ≡ b = omega (arith, le, within) in
         let small = member_low n u 0 rows kept old some in
         let own = number_own n u of_n in
-        let s = place_old 0 some in
-        subst (λ (m : ℕ). get_or pushed.places 0 0 ≤ place_in_thread trace u m) is (omega (arith, small, own, s))
+        let s = time_old 0 some in
+        subst (λ (m : ℕ). get_or pushed.times 0 0 ≤ local_time trace u m) is (omega (arith, small, own, s))
     begun_more b of_b (inr le) within (inr none) =
         let is : n ≡ b = omega (arith, le, within) in
-        let empty : length kept.places ≡ 0 = omega (arith, none) in
-        let s = place_new in
-        subst (λ (m : ℕ). get_or pushed.places 0 0 ≤ place_in_thread trace u m) is (let at_first : get_or pushed.places 0 0 ≡ place_in_thread trace u n = subst (λ (m : ℕ). get_or pushed.places m 0 ≡ place_in_thread trace u n) empty s in omega (arith, at_first))
+        let empty : length kept.times ≡ 0 = omega (arith, none) in
+        let s = time_new in
+        subst (λ (m : ℕ). get_or pushed.times 0 0 ≤ local_time trace u m) is (let at_first : get_or pushed.times 0 0 ≡ local_time trace u n = subst (λ (m : ℕ). get_or pushed.times m 0 ≡ local_time trace u n) empty s in omega (arith, at_first))
 
     -- the row of an older event is the one that it was
-    up_old : (b r : ℕ) → b < n → (up : IsRowUpTo pushed (place_in_thread trace u b) r) → (up.index < length kept.places) ⊎ (length kept.places ≤ up.index) → IsRowUpTo kept (place_in_thread trace u b) r
+    up_old : (b r : ℕ) → b < n → (up : IsRowUpTo pushed (local_time trace u b) r) → (up.index < length kept.times) ⊎ (length kept.times ≤ up.index) → IsRowUpTo kept (local_time trace u b) r
     up_old b r lt up (inl inside) = record {
       index = up.index;
       in_range = inside;
-      up_to = (let h = up.up_to in let s = place_old up.index inside in omega (arith, h, s));
-      last = λ j above within. (let h = up.last j above (let more_long = long_places in omega (arith, within, more_long)) in let s = place_old j within in omega (arith, h, s));
+      up_to = (let h = up.up_to in let s = time_old up.index inside in omega (arith, h, s));
+      last = λ j above within. (let h = up.last j above (let more_long = long_times in omega (arith, within, more_long)) in let s = time_old j within in omega (arith, h, s));
       row_is = sym (row_old up.index (let size = old.as_many in omega (arith, inside, size))) ∙ up.row_is;
     }
     up_old b r lt up (inr past) =
         let range = up.in_range in
-        let total = long_places in
-        let is : length kept.places ≡ up.index = omega (arith, range, total, past) in
-        let own : get_or pushed.places up.index 0 ≡ place_in_thread trace u n = subst (λ (m : ℕ). get_or pushed.places m 0 ≡ place_in_thread trace u n) is place_new in
+        let total = long_times in
+        let is : length kept.times ≡ up.index = omega (arith, range, total, past) in
+        let own : get_or pushed.times up.index 0 ≡ local_time trace u n = subst (λ (m : ℕ). get_or pushed.times m 0 ≡ local_time trace u n) is time_new in
         let h = up.up_to in
-        let rises = place_rises trace u b n of_n lt in
+        let rises = time_rises trace u b n of_n lt in
         absurd (omega (arith, own, h, rises))
 
-    up_new : (r : ℕ) → (up : IsRowUpTo pushed (place_in_thread trace u n) r) → (up.index < length kept.places) ⊎ (length kept.places ≤ up.index) → r ≡ row
+    up_new : (r : ℕ) → (up : IsRowUpTo pushed (local_time trace u n) r) → (up.index < length kept.times) ⊎ (length kept.times ≤ up.index) → r ≡ row
     up_new r up (inl inside) =
-        let h = up.last (length kept.places) inside (let total = long_places in omega (arith, total)) in
-        let own = place_new in
+        let h = up.last (length kept.times) inside (let total = long_times in omega (arith, total)) in
+        let own = time_new in
         absurd (omega (arith, h, own))
     up_new r up (inr past) =
         let range = up.in_range in
-        let total = long_places in
+        let total = long_times in
         let size = old.as_many in
         sym up.row_is ∙ row_new up.index (omega (arith, range, total, past, size))
 
-    clocks_more : (b r : ℕ) → (b < n) ⊎ (n ≤ b) → b < n + 1 → thread_at trace b ≡ Some u → IsRowUpTo pushed (place_in_thread trace u b) r → IsFrontBut trace u (λ k. ShbBelow trace k b) (get_or more r [])
-    clocks_more b r (inl lt) within of_b up = kept_clocks n u b r rows more kept grown old lt of_b (up_old b r lt up (cases_lt up.index (length kept.places)))
+    clocks_more : (b r : ℕ) → (b < n) ⊎ (n ≤ b) → b < n + 1 → thread_at trace b ≡ Some u → IsRowUpTo pushed (local_time trace u b) r → IsFrontBut trace u (λ k. ShbBelow trace k b) (get_or more r [])
+    clocks_more b r (inl lt) within of_b up = kept_clocks n u b r rows more kept grown old lt of_b (up_old b r lt up (cases_lt up.index (length kept.times)))
     clocks_more b r (inr le) within of_b up =
         let is : b ≡ n = omega (arith, le, within) in
-        let here : IsRowUpTo pushed (place_in_thread trace u n) r = subst (λ (m : ℕ). IsRowUpTo pushed (place_in_thread trace u m) r) is up in
-        let same = up_new r here (cases_lt here.index (length kept.places)) in
+        let here : IsRowUpTo pushed (local_time trace u n) r = subst (λ (m : ℕ). IsRowUpTo pushed (local_time trace u m) r) is up in
+        let same = up_new r here (cases_lt here.index (length kept.times)) in
         subst (λ (m : ℕ). IsFrontBut trace u (λ k. ShbBelow trace k m) (get_or more r [])) (sym is) (subst (λ (m : ℕ). IsFrontBut trace u (λ k. ShbBelow trace k n) (get_or more m [])) (sym same) front)
 
     within_more : (i : ℕ) → i < length pushed.rows → (i < length kept.rows) ⊎ (length kept.rows ≤ i) → get_or pushed.rows i 0 < length more
@@ -168,10 +168,10 @@ module _ (trace : List Event) where
 
     pub kept_push : IsKept trace (n + 1) more u pushed
     kept_push = record {
-      as_many = long_rows ∙ (ap (λ (m : ℕ). m + 1) old.as_many ∙ sym long_places);
+      as_many = long_rows ∙ (ap (λ (m : ℕ). m + 1) old.as_many ∙ sym long_times);
       rising = more_listed.rising;
       all = more_listed.members;
-      begun = λ b lt of_b. ((let total = long_places in omega (arith, total)), begun_more b of_b (cases_lt b n) lt (cases_lt 0 (length kept.places)));
+      begun = λ b lt of_b. ((let total = long_times in omega (arith, total)), begun_more b of_b (cases_lt b n) lt (cases_lt 0 (length kept.times)));
       within = λ i lt. within_more i lt (cases_lt i (length kept.rows));
       clocks = λ b r lt of_b up. clocks_more b r (cases_lt b n) lt of_b up;
     }
@@ -213,37 +213,37 @@ module _ (trace : List Event) where
         down (inr (inl below)) = subst (λ (q : ℕ). ShbBelow trace k q) (pred_unique trace disciplined below.0 p n below.1 after.pred) below.2
         down (inr (inr learns)) = absurd (not_learning (learns_learning n k learns))
 
-    place_next : place_in_thread trace u n ≡ place_in_thread trace u p + 1
-    place_next = place_after trace u p n of_n after.earlier after.last
+    time_next : local_time trace u n ≡ local_time trace u p + 1
+    time_next = time_after trace u p n of_n after.earlier after.last
 
-    up_before : (r : ℕ) → IsRowUpTo kept (place_in_thread trace u n) r → IsRowUpTo kept (place_in_thread trace u p) r
+    up_before : (r : ℕ) → IsRowUpTo kept (local_time trace u n) r → IsRowUpTo kept (local_time trace u p) r
     up_before r up = record {
       index = up.index;
       in_range = up.in_range;
-      up_to = (let small = member_low n u up.index rows kept old up.in_range in let own = number_own n u of_n in let next = place_next in omega (arith, small, own, next));
-      last = λ j above within. (let h = up.last j above within in let next = place_next in omega (arith, h, next));
+      up_to = (let small = member_low n u up.index rows kept old up.in_range in let own = number_own n u of_n in let next = time_next in omega (arith, small, own, next));
+      last = λ j above within. (let h = up.last j above within in let next = time_next in omega (arith, h, next));
       row_is = up.row_is;
     }
 
     never : LearnsAt trace u (number_before trace u n + 1) → ⊥
-    never at = let same = place_alone at.event n u at.of_thread of_n (at.place_is ∙ sym (number_own n u of_n)) in not_learning (subst (IsLearning trace) same at.learning)
+    never at = let same = time_alone at.event n u at.of_thread of_n (at.time_is ∙ sym (number_own n u of_n)) in not_learning (subst (IsLearning trace) same at.learning)
 
-    still_listed : IsListed (LearnsAt trace u) (number_before trace u (n + 1) + 1) kept.places
-    still_listed = subst (λ (m : ℕ). IsListed (LearnsAt trace u) (m + 1) kept.places) (sym (number_own n u of_n)) (listed_more_no (LearnsAt trace u) (number_before trace u n + 1) kept.places never (listed n u rows kept old))
+    still_listed : IsListed (LearnsAt trace u) (number_before trace u (n + 1) + 1) kept.times
+    still_listed = subst (λ (m : ℕ). IsListed (LearnsAt trace u) (m + 1) kept.times) (sym (number_own n u of_n)) (listed_more_no (LearnsAt trace u) (number_before trace u n + 1) kept.times never (listed n u rows kept old))
 
-    begun_still : (b : ℕ) → (b < n) ⊎ (n ≤ b) → b < n + 1 → thread_at trace b ≡ Some u → (0 < length kept.places) × (get_or kept.places 0 0 ≤ place_in_thread trace u b)
+    begun_still : (b : ℕ) → (b < n) ⊎ (n ≤ b) → b < n + 1 → thread_at trace b ≡ Some u → (0 < length kept.times) × (get_or kept.times 0 0 ≤ local_time trace u b)
     begun_still b (inl lt) within of_b = old.begun b lt of_b
     begun_still b (inr le) within of_b =
         let is : n ≡ b = omega (arith, le, within) in
         let prior = old.begun p after.earlier after.of_thread in
-        let next = place_next in
-        subst (λ (m : ℕ). (0 < length kept.places) × (get_or kept.places 0 0 ≤ place_in_thread trace u m)) is (prior.0, (let low = prior.1 in omega (arith, low, next)))
+        let next = time_next in
+        subst (λ (m : ℕ). (0 < length kept.times) × (get_or kept.times 0 0 ≤ local_time trace u m)) is (prior.0, (let low = prior.1 in omega (arith, low, next)))
 
-    clocks_still : (b r : ℕ) → (b < n) ⊎ (n ≤ b) → b < n + 1 → thread_at trace b ≡ Some u → IsRowUpTo kept (place_in_thread trace u b) r → IsFrontBut trace u (λ k. ShbBelow trace k b) (get_or rows r [])
+    clocks_still : (b r : ℕ) → (b < n) ⊎ (n ≤ b) → b < n + 1 → thread_at trace b ≡ Some u → IsRowUpTo kept (local_time trace u b) r → IsFrontBut trace u (λ k. ShbBelow trace k b) (get_or rows r [])
     clocks_still b r (inl lt) within of_b up = old.clocks b r lt of_b up
     clocks_still b r (inr le) within of_b up =
         let is : b ≡ n = omega (arith, le, within) in
-        let here : IsRowUpTo kept (place_in_thread trace u n) r = subst (λ (m : ℕ). IsRowUpTo kept (place_in_thread trace u m) r) is up in
+        let here : IsRowUpTo kept (local_time trace u n) r = subst (λ (m : ℕ). IsRowUpTo kept (local_time trace u m) r) is up in
         let prior = old.clocks p r after.earlier after.of_thread (up_before r here) in
         subst (λ (m : ℕ). IsFrontBut trace u (λ k. ShbBelow trace k m) (get_or rows r [])) (sym is) (front_but_same u (λ k. ShbBelow trace k p) (λ k. ShbBelow trace k n) (get_or rows r []) below_same prior)
 
@@ -268,8 +268,8 @@ module _ (trace : List Event) where
       go (inl lt) = let low = old.within (length kept.rows - 1) (omega (arith, lt)) in omega (arith, is, low)
       go (inr none) = let zero_there = get_or_past kept.rows (length kept.rows - 1) 0 (omega (arith, none)) in omega (arith, is, zero_there, some)
 
-  pub row_within : (n t place row : ℕ) (rows : List (List ℕ)) (kept : KeptData) → IsKept trace n rows t kept → IsRowUpTo kept place row → row < length rows
-  row_within n t place row rows kept old up = let size = old.as_many in let range = up.in_range in let low = old.within up.index (omega (arith, size, range)) in let is = up.row_is in omega (arith, low, is)
+  pub row_within : (n t time row : ℕ) (rows : List (List ℕ)) (kept : KeptData) → IsKept trace n rows t kept → IsRowUpTo kept time row → row < length rows
+  row_within n t time row rows kept old up = let size = old.as_many in let range = up.in_range in let low = old.within up.index (omega (arith, size, range)) in let is = up.row_is in omega (arith, low, is)
 
   -- what is kept of all threads, one event more
   pub all_kept_push : (n u threads : ℕ) (rows more : RowsData) (kepts : List KeptData) (pushed : KeptData) → thread_at trace n ≡ Some u → u < threads → more.width ≡ rows.width → AreMore rows.rows more.rows → length more.rows ≤ length rows.rows + 1 → IsKept trace (n + 1) more.rows u pushed → AreKept trace n threads rows kepts → AreKept trace (n + 1) threads more (set kepts u pushed)
@@ -310,14 +310,14 @@ module _ (trace : List Event) where
   kept_start t rows = record {
     as_many = refl;
     rising = λ k lt. absurd (omega arith);
-    all = λ place. ((λ c. absurd (let lt = c.1 in omega arith)), (λ h. absurd (unplaced place h.0 h.1)));
+    all = λ time. ((λ c. absurd (let lt = c.1 in omega arith)), (λ h. absurd (no_time_learns time h.0 h.1)));
     begun = λ b lt of_b. absurd (omega arith);
     within = λ i lt. absurd (omega arith);
     clocks = λ b row lt of_b up. absurd (omega arith);
   }
     where
-      unplaced : (place : ℕ) → place < number_before trace t 0 + 1 → LearnsAt trace t place → ⊥
-      unplaced place low at = let own = place_at trace t at.event at.of_thread in let is = at.place_is in omega (arith, low, own, is)
+      no_time_learns : (time : ℕ) → time < number_before trace t 0 + 1 → LearnsAt trace t time → ⊥
+      no_time_learns time low at = let own = time_at trace t at.event at.of_thread in let is = at.time_is in omega (arith, low, own, is)
 
   pub all_kept_start : (threads : ℕ) (rows : RowsData) (kepts : List KeptData) → rows.width ≡ threads → length rows.rows ≡ 1 → kepts ≡ replicate threads nothing_kept → AreKept trace 0 threads rows kepts
   all_kept_start threads rows kepts width one same = record {
@@ -328,6 +328,6 @@ module _ (trace : List Event) where
     each = λ t lt. subst (IsKept trace 0 rows.rows t) (sym (ap (λ (xs : List KeptData). get_or xs t nothing_kept) same ∙ get_or-replicate threads t nothing_kept nothing_kept lt)) (kept_start t rows.rows);
   }
 
--- the place of an event, by the links
-pub local_is : (trace links : List Event) (e x u : ℕ) → links ≡ trace → ((t : ℕ) → thread_at links e ≡ Some t → x ≡ place_in_thread links t e) → thread_at trace e ≡ Some u → x ≡ place_in_thread trace u e
-local_is trace links e x u same place of_e = subst (λ (tr : List Event). (t : ℕ) → thread_at tr e ≡ Some t → x ≡ place_in_thread tr t e) same place u of_e
+-- the local time of an event, by the links
+pub local_is : (trace links : List Event) (e x u : ℕ) → links ≡ trace → ((t : ℕ) → thread_at links e ≡ Some t → x ≡ local_time links t e) → thread_at trace e ≡ Some u → x ≡ local_time trace u e
+local_is trace links e x u same time of_e = subst (λ (tr : List Event). (t : ℕ) → thread_at tr e ≡ Some t → x ≡ local_time tr t e) same time u of_e

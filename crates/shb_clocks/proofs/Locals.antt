@@ -1,34 +1,34 @@
--- The place of an event in its thread rises along the thread.
+-- The local time of an event rises along the thread.
 use Rattle.std.proofs.Common.{◌≡◌, ◌≢◌, ℕ, ◌+◌, ◌<◌, ◌≤◌, ◌⊎◌, inl, inr, true, false, List, Some, length, take, arith, ap, ◌∙◌}
 use Rattle.std.specs.Prelude.{count_by, slice_get}
 use Rattle.std.proofs.lemmas.Bool.{cases_lt, cases_Bool}
 use Rattle.std.proofs.lemmas.List.{take_all}
 use Rattle.shb_lines.specs.declared.event.Event.{Event}
 use Rattle.shb_lines.specs.events.Events.{thread_at}
-use Rattle.shb_lines.specs.events.Discipline.{is_of, place_in_thread}
+use Rattle.shb_lines.specs.events.Discipline.{is_of, local_time}
 use Rattle.shb_lines.proofs.events.Counts.{count_more_yes, count_mono, count_gap}
 use Rattle.shb_lines.proofs.events.Events.{event_of_thread, is_of_true, thread_is}
 use Rattle.shb_lines.proofs.events.Prefix.{is_of_thread}
 
 module _ (trace : List Event) (t : ℕ) where
-  pub place_at : (k : ℕ) → thread_at trace k ≡ Some t → place_in_thread trace t k ≡ count_by (is_of t) (take k trace) + 1
-  place_at k of_k = let e = event_of_thread trace k t of_k in count_more_yes (is_of t) trace k e.0 e.1 (is_of_true t e.0 e.2)
+  pub time_at : (k : ℕ) → thread_at trace k ≡ Some t → local_time trace t k ≡ count_by (is_of t) (take k trace) + 1
+  time_at k of_k = let e = event_of_thread trace k t of_k in count_more_yes (is_of t) trace k e.0 e.1 (is_of_true t e.0 e.2)
 
-  pub place_rises : (a b : ℕ) → thread_at trace b ≡ Some t → a < b → place_in_thread trace t a < place_in_thread trace t b
-  place_rises a b of_b lt =
-      let later = place_at b of_b in
+  pub time_rises : (a b : ℕ) → thread_at trace b ≡ Some t → a < b → local_time trace t a < local_time trace t b
+  time_rises a b of_b lt =
+      let later = time_at b of_b in
       let more = count_mono (is_of t) trace (a + 1) b (omega arith) in
       omega (arith, later, more)
 
-  pub place_order : (a b : ℕ) → thread_at trace a ≡ Some t → place_in_thread trace t a ≤ place_in_thread trace t b → a ≤ b
-  place_order a b of_a le = go (cases_lt b a)
+  pub time_order : (a b : ℕ) → thread_at trace a ≡ Some t → local_time trace t a ≤ local_time trace t b → a ≤ b
+  time_order a b of_a le = go (cases_lt b a)
     where
       go : (b < a) ⊎ (a ≤ b) → a ≤ b
       go (inr h) = h
-      go (inl h) = let rises = place_rises b a of_a h in absurd (omega (arith, rises, le))
+      go (inl h) = let rises = time_rises b a of_a h in absurd (omega (arith, rises, le))
 
-  pub place_within : (k : ℕ) → k < length trace → place_in_thread trace t k ≤ count_by (is_of t) trace
-  place_within k lt =
+  pub time_within : (k : ℕ) → k < length trace → local_time trace t k ≤ count_by (is_of t) trace
+  time_within k lt =
       let more = count_mono (is_of t) trace (k + 1) (length trace) (omega arith) in
       let whole = ap (count_by (is_of t)) (take_all (length trace) trace (omega arith)) in
       omega (arith, more, whole)
@@ -41,8 +41,8 @@ module _ (trace : List Event) (t : ℕ) where
       other k d low high at_k (inr fails) = fails
       other k d low high at_k (inl is) = absurd (none k low high (thread_is trace k d at_k ∙ ap (λ x. Some x) (is_of_thread t d is)))
 
-  pub place_first : (e : ℕ) → thread_at trace e ≡ Some t → ((m : ℕ) → m < e → thread_at trace m ≢ Some t) → place_in_thread trace t e ≡ 1
-  place_first e of_e none = let before = gap 0 e (omega arith) (λ m low high. none m high) in let own = place_at e of_e in omega (arith, before, own)
+  pub time_first : (e : ℕ) → thread_at trace e ≡ Some t → ((m : ℕ) → m < e → thread_at trace m ≢ Some t) → local_time trace t e ≡ 1
+  time_first e of_e none = let before = gap 0 e (omega arith) (λ m low high. none m high) in let own = time_at e of_e in omega (arith, before, own)
 
-  pub place_after : (p e : ℕ) → thread_at trace e ≡ Some t → p < e → ((m : ℕ) → p < m → m < e → thread_at trace m ≢ Some t) → place_in_thread trace t e ≡ place_in_thread trace t p + 1
-  place_after p e of_e lt none = let between = gap (p + 1) e (omega (arith, lt)) (λ m low high. none m (omega (arith, low)) high) in let own = place_at e of_e in omega (arith, between, own)
+  pub time_after : (p e : ℕ) → thread_at trace e ≡ Some t → p < e → ((m : ℕ) → p < m → m < e → thread_at trace m ≢ Some t) → local_time trace t e ≡ local_time trace t p + 1
+  time_after p e of_e lt none = let between = gap (p + 1) e (omega (arith, lt)) (λ m low high. none m (omega (arith, low)) high) in let own = time_at e of_e in omega (arith, between, own)

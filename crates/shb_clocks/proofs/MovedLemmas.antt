@@ -10,11 +10,11 @@ use Rattle.shb_clocks.specs.Moved.{AreAlike, AreMoved, IsMovedRow, IsMovedStamp,
 use Rattle.shb_clocks.specs.Rows.{AreMore, RowsData}
 use Rattle.shb_clocks.specs.declared.stamp.Stamp.{Stamp}
 use Rattle.shb_lines.specs.declared.event.Event.{Event}
-use Rattle.shb_lines.specs.events.Discipline.{place_in_thread}
+use Rattle.shb_lines.specs.events.Discipline.{local_time}
 use Rattle.shb_lines.specs.events.Order.{ShbBelow}
 use Rattle.shb_clocks.specs.Learned.{IsFrontBut}
 use Rattle.shb_clocks.specs.Stamps.{AreCurrent, AreStamps, IsLatestStamp, of_event, of_none, IsRowFor, empty_stamp}
-use Rattle.shb_clocks.proofs.Locals.{place_at}
+use Rattle.shb_clocks.proofs.Locals.{time_at}
 use Rattle.shb_clocks.proofs.Stamping.{more_push}
 
 -- what was moved stays so as the new rows grow
@@ -22,7 +22,7 @@ pub row_further : (old new more : List (List ℕ)) → AreMore new more → (a b
 row_further old new more grown a b h = record { in_range = (let long = grown.as_long in let low = h.in_range in omega (arith, long, low)); same = grown.same b h.in_range ∙ h.same }
 
 pub stamp_further : (old new more : List (List ℕ)) → AreMore new more → (a b : Stamp) → IsMovedStamp old new a b → IsMovedStamp old more a b
-stamp_further old new more grown a b (of_row thread place row) = of_row thread place (row_further old new more grown a.row b.row row)
+stamp_further old new more grown a b (of_row thread time row) = of_row thread time (row_further old new more grown a.row b.row row)
 stamp_further old new more grown a b (of_no_event none same) = of_no_event none same
 
 -- nothing moved
@@ -53,16 +53,16 @@ module _ (old new : RowsData) (moved : List ℕ) (number known : ℕ) (are : Are
       let few = are.few in
       omega (arith, one, le, few)
 
-  pub moved_push : (0 < known → ⊥) → (more : RowsData) (row : List ℕ) (place : ℕ) → more.width ≡ new.width → more.rows ≡ new.rows ++ row ∷ [] → row ≡ get_or old.rows number [] → place ≡ length new.rows → AreMoved old more (set moved number (place + 1))
+  pub moved_push : (0 < known → ⊥) → (more : RowsData) (row : List ℕ) (time : ℕ) → more.width ≡ new.width → more.rows ≡ new.rows ++ row ∷ [] → row ≡ get_or old.rows number [] → time ≡ length new.rows → AreMoved old more (set moved number (time + 1))
   unfolding unmoved
-  moved_push none more row place width is row_is at_end = record {
+  moved_push none more row time width is row_is at_end = record {
     width = width ∙ are.width;
-    as_many = length-set moved number (place + 1) ∙ are.as_many;
+    as_many = length-set moved number (time + 1) ∙ are.as_many;
     few =
         (let is_zero : get_or moved number 0 ≡ 0 = (let at = item in omega (arith, at, none)) in
         let one : unmoved (get_or moved number 0) ≡ 1 = ap unmoved is_zero in
-        let none_left : unmoved (place + 1) ≡ 0 = ap unmoved (let next : place + 1 ≡ suc place = omega arith in next) in
-        let set_sum = sum_by-set unmoved moved number (place + 1) 0 (let many = are.as_many in omega (arith, many, low)) in
+        let none_left : unmoved (time + 1) ≡ 0 = ap unmoved (let next : time + 1 ≡ suc time = omega arith in next) in
+        let set_sum = sum_by-set unmoved moved number (time + 1) 0 (let many = are.as_many in omega (arith, many, low)) in
         let few = are.few in
         let size = ap length is ∙ length_push new.rows row in
         omega (arith, one, none_left, set_sum, few, size));
@@ -72,15 +72,15 @@ module _ (old new : RowsData) (moved : List ℕ) (number known : ℕ) (are : Are
       grown : AreMore new.rows more.rows
       grown = more_push new.rows more.rows row is
 
-      go : (a b : ℕ) → a < length old.rows → get_or (set moved number (place + 1)) a 0 ≡ b + 1 → (a ≡ number) ⊎ (a ≡ number → ⊥) → IsMovedRow old.rows more.rows a b
+      go : (a b : ℕ) → a < length old.rows → get_or (set moved number (time + 1)) a 0 ≡ b + 1 → (a ≡ number) ⊎ (a ≡ number → ⊥) → IsMovedRow old.rows more.rows a b
       go a b lt at (inl same) =
-          let here = ap (λ (m : ℕ). get_or (set moved number (place + 1)) m 0) same ∙ get_or-set_same moved number (place + 1) 0 (let many = are.as_many in omega (arith, many, low)) in
+          let here = ap (λ (m : ℕ). get_or (set moved number (time + 1)) m 0) same ∙ get_or-set_same moved number (time + 1) 0 (let many = are.as_many in omega (arith, many, low)) in
           let end : b ≡ length new.rows = omega (arith, here, at, at_end) in
           record {
             in_range = (let size = ap length is ∙ length_push new.rows row in omega (arith, size, end));
             same = ap (λ (rs : List (List ℕ)). get_or rs b []) is ∙ (get_or_push new.rows row [] b (sym end) ∙ (row_is ∙ ap (λ (m : ℕ). get_or old.rows m []) (sym same)));
           }
-      go a b lt at (inr ne) = row_further old.rows new.rows more.rows grown a b (are.each a b lt (sym (get_or-set_other moved number a (place + 1) 0 ne) ∙ at))
+      go a b lt at (inr ne) = row_further old.rows new.rows more.rows grown a b (are.each a b lt (sym (get_or-set_other moved number a (time + 1) 0 ne) ∙ at))
 
 -- the items before x are alike, and the others are as they were
 pub record PartAlike {A : Type 0} (default : A) (IsAlike : A → A → Type 0) (before after : List A) (x : ℕ) : Type 0 where
@@ -124,14 +124,14 @@ module _ (trace : List Event) (old new : List (List ℕ)) where
   }
 
   latest_moved : (P : ℕ → Type 0) (n : ℕ) (a b : Stamp) → IsMovedStamp old new a b → IsLatestStamp trace old P n a → IsLatestStamp trace new P n b
-  latest_moved P n a b (of_row thread place row) (of_event e latest is) = of_event e latest (record {
+  latest_moved P n a b (of_row thread time row) (of_event e latest is) = of_event e latest (record {
     of_thread = is.of_thread ∙ ap (λ (t : ℕ). Some t) (sym thread);
-    place_is = place ∙ (is.place_is ∙ ap (λ (t : ℕ). place_in_thread trace t e) (sym thread));
+    time_is = time ∙ (is.time_is ∙ ap (λ (t : ℕ). local_time trace t e) (sym thread));
     row_is = subst (λ (t : ℕ). IsRowFor trace new t (λ k. ShbBelow trace k e) b.row) (sym thread) (row_moved a.thread a.row b.row (λ k. ShbBelow trace k e) row is.row_is);
   })
-  latest_moved P n a b (of_row thread place row) (of_none absent none) = of_none absent (place ∙ none)
-  latest_moved P n a b (of_no_event none same) (of_event e latest is) = absurd (let some = place_at trace a.thread e is.of_thread in let at = is.place_is in omega (arith, none, some, at))
-  latest_moved P n a b (of_no_event none same) (of_none absent also) = of_none absent (ap (λ (s : Stamp). s.place) same ∙ none)
+  latest_moved P n a b (of_row thread time row) (of_none absent none) = of_none absent (time ∙ none)
+  latest_moved P n a b (of_no_event none same) (of_event e latest is) = absurd (let some = time_at trace a.thread e is.of_thread in let at = is.time_is in omega (arith, none, some, at))
+  latest_moved P n a b (of_no_event none same) (of_none absent also) = of_none absent (ap (λ (s : Stamp). s.time) same ∙ none)
 
   pub stamps_moved : (P : ℕ → ℕ → Type 0) (n size : ℕ) (before after : List Stamp) → AreAlike empty_stamp (IsMovedStamp old new) before after → AreStamps trace old P n size before → AreStamps trace new P n size after
   stamps_moved P n size before after alike h = record {
@@ -143,9 +143,9 @@ module _ (trace : List Event) (rows : List (List ℕ)) where
   pub current_low : (n threads : ℕ) (current : List ℕ) → AreCurrent trace rows n threads current → (x : ℕ) → x < length current → get_or current x 0 < length rows
   current_low n threads current h x lt = (h.each x (let many = h.as_many in omega (arith, many, lt))).in_range
 
-  latest_low : (P : ℕ → Type 0) (n : ℕ) (stamp : Stamp) → IsLatestStamp trace rows P n stamp → (stamp.place ≡ 0) ⊎ (stamp.row < length rows)
+  latest_low : (P : ℕ → Type 0) (n : ℕ) (stamp : Stamp) → IsLatestStamp trace rows P n stamp → (stamp.time ≡ 0) ⊎ (stamp.row < length rows)
   latest_low P n stamp (of_event e latest is) = inr is.row_is.in_range
   latest_low P n stamp (of_none absent none) = inl none
 
-  pub stamps_low : (P : ℕ → ℕ → Type 0) (n size : ℕ) (stamps : List Stamp) → AreStamps trace rows P n size stamps → (x : ℕ) → x < length stamps → ((get_or stamps x empty_stamp).place ≡ 0) ⊎ ((get_or stamps x empty_stamp).row < length rows)
+  pub stamps_low : (P : ℕ → ℕ → Type 0) (n size : ℕ) (stamps : List Stamp) → AreStamps trace rows P n size stamps → (x : ℕ) → x < length stamps → ((get_or stamps x empty_stamp).time ≡ 0) ⊎ ((get_or stamps x empty_stamp).row < length rows)
   stamps_low P n size stamps h x lt = latest_low (P x) n (get_or stamps x empty_stamp) (h.each x (let many = h.as_many in omega (arith, many, lt)))

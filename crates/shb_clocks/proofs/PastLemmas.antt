@@ -11,7 +11,7 @@ use Rattle.shb_lines.specs.declared.event.Event.{Event}
 use Rattle.shb_lines.specs.declared.event.Op.{Op}
 use Rattle.shb_lines.specs.declared.event.Op.TheVariants.{Read, Acquire, Release, Join}
 use Rattle.shb_lines.specs.events.Events.{thread_at, op_at}
-use Rattle.shb_lines.specs.events.Discipline.{IsDisciplined, place_in_thread}
+use Rattle.shb_lines.specs.events.Discipline.{IsDisciplined, local_time}
 use Rattle.shb_lines.specs.events.Order.{LastWrite, ShbBelow, here, step, same_thread, happens_before, IsPred, BelowPred, IsBelowPredCount}
 use Rattle.shb_lines.proofs.events.Decide.{pred_unique, last_write_unique}
 use Rattle.shb_lines.proofs.events.Schedulable.{pred_earlier}
@@ -28,21 +28,21 @@ use Rattle.shb_clocks.proofs.Fronts.{front_none, front_same, front_join, front_o
 use Rattle.shb_clocks.proofs.Sources.{path_append, strictly_below_below, below_cases}
 
 -- rows of a flat list
-pub row_end : (threads place n : ℕ) → place < n → place * threads + threads ≤ n * threads
-row_end threads place n lt =
-    let le = mul-le-mul_right {m = suc place} {n = n} threads (omega arith) in
-    let more = suc-mul place threads in
+pub row_end : (threads time n : ℕ) → time < n → time * threads + threads ≤ n * threads
+row_end threads time n lt =
+    let le = mul-le-mul_right {m = suc time} {n = n} threads (omega arith) in
+    let more = suc-mul time threads in
     omega (arith, le, more)
 
-pub row_long : (threads place n : ℕ) (clocks : List ℕ) → place < n → length clocks ≡ n * threads → length (row_at threads clocks place) ≡ threads
+pub row_long : (threads time n : ℕ) (clocks : List ℕ) → time < n → length clocks ≡ n * threads → length (row_at threads clocks time) ≡ threads
 unfolding row_at
-row_long threads place n clocks lt long = length-take-le threads (drop (place * threads) clocks) (simp length-drop (let fits = row_end threads place n lt in omega (arith, fits, long)))
+row_long threads time n clocks lt long = length-take-le threads (drop (time * threads) clocks) (simp length-drop (let fits = row_end threads time n lt in omega (arith, fits, long)))
 
-row_kept : (threads place n : ℕ) (clocks more : List ℕ) → place < n → length clocks ≡ n * threads → row_at threads (clocks ++ more) place ≡ row_at threads clocks place
+row_kept : (threads time n : ℕ) (clocks more : List ℕ) → time < n → length clocks ≡ n * threads → row_at threads (clocks ++ more) time ≡ row_at threads clocks time
 unfolding row_at
-row_kept threads place n clocks more lt long =
-    let fits = row_end threads place n lt in
-    ap (take threads) (drop-append-le (place * threads) clocks more (omega (arith, fits, long))) ∙ take-append-le threads (drop (place * threads) clocks) more (simp length-drop (omega (arith, fits, long)))
+row_kept threads time n clocks more lt long =
+    let fits = row_end threads time n lt in
+    ap (take threads) (drop-append-le (time * threads) clocks more (omega (arith, fits, long))) ∙ take-append-le threads (drop (time * threads) clocks) more (simp length-drop (omega (arith, fits, long)))
 
 row_new : (threads n : ℕ) (clocks more : List ℕ) → length clocks ≡ n * threads → length more ≡ threads → row_at threads (clocks ++ more) n ≡ more
 unfolding row_at
@@ -184,11 +184,11 @@ module _ (trace : List Event) (disciplined : IsDisciplined trace) (e : ℕ) wher
   )
 
   -- a read whose last write is below its predecessor learns nothing of it
-  pub front_known_write : (w u n : ℕ) (clock : List ℕ) → LastWrite trace w e → thread_at trace w ≡ Some u → n ≡ place_in_thread trace u w → n ≤ get_or clock u 0 → IsFront trace (λ k. BelowPred trace k e) clock → IsFront trace (StrictlyBelow trace e) clock
-  front_known_write w u n clock last of_w place known front = front_same trace (λ k. BelowPred trace k e) (StrictlyBelow trace e) clock (λ k. ((λ h. inl h), (λ h. down k h))) front
+  pub front_known_write : (w u n : ℕ) (clock : List ℕ) → LastWrite trace w e → thread_at trace w ≡ Some u → n ≡ local_time trace u w → n ≤ get_or clock u 0 → IsFront trace (λ k. BelowPred trace k e) clock → IsFront trace (StrictlyBelow trace e) clock
+  front_known_write w u n clock last of_w time known front = front_same trace (λ k. BelowPred trace k e) (StrictlyBelow trace e) clock (λ k. ((λ h. inl h), (λ h. down k h))) front
     where
       write_below : BelowPred trace w e
-      write_below = (front.exact u w of_w).0 (omega (arith, place, known))
+      write_below = (front.exact u w of_w).0 (omega (arith, time, known))
 
       down : (k : ℕ) → StrictlyBelow trace e k → BelowPred trace k e
       down k (inl below) = below
@@ -200,7 +200,7 @@ module _ (trace : List Event) (disciplined : IsDisciplined trace) (e : ℕ) wher
   read_learns_nothing x k reads none learns = let from = learns_read x k reads learns in none from.write from.last
 
   -- the clock of the event
-  pub front_event : (u : ℕ) (clock : List ℕ) → thread_at trace e ≡ Some u → u < length clock → IsFront trace (StrictlyBelow trace e) clock → IsFront trace (λ k. ShbBelow trace k e) (set clock u (place_in_thread trace u e))
+  pub front_event : (u : ℕ) (clock : List ℕ) → thread_at trace e ≡ Some u → u < length clock → IsFront trace (StrictlyBelow trace e) clock → IsFront trace (λ k. ShbBelow trace k e) (set clock u (local_time trace u e))
   front_event u clock of_e within front = front_own trace (StrictlyBelow trace e) e u clock of_e within same (λ t ne. front.within t) (λ t k of_k ne. front.exact t k of_k)
     where
       other : (t k : ℕ) → thread_at trace k ≡ Some t → t ≢ u → (k ≡ e) ⊎ StrictlyBelow trace e k → StrictlyBelow trace e k
@@ -219,18 +219,18 @@ pub count_without_pred : (seen : List Event) (e t : ℕ) → ((p : ℕ) → IsPr
 count_without_pred seen e t none = number_from_front seen (λ k. BelowPred seen k e) [] t (front_none seen (λ k. BelowPred seen k e) [] (λ k below. none below.0 below.1) (λ t. refl))
 
 -- a row that the code reads
-pub row_fits : (threads place n : ℕ) (clocks : List ℕ) → place < n → length clocks ≡ n * threads → (place + 1) * threads ≤ length clocks
-row_fits threads place n clocks lt long = let fits = row_end threads place n lt in let more = suc-mul place threads in omega (arith, fits, more, long)
+pub row_fits : (threads time n : ℕ) (clocks : List ℕ) → time < n → length clocks ≡ n * threads → (time + 1) * threads ≤ length clocks
+row_fits threads time n clocks lt long = let fits = row_end threads time n lt in let more = suc-mul time threads in omega (arith, fits, more, long)
 
-module _ (trace : List Event) (n threads place : ℕ) (clocks seen row : List ℕ) (has : HasClocks trace n threads clocks) (lt : place < n) (same : seen ≡ clocks) (is : row ≡ row_at threads seen place) where
-  row_is : row ≡ row_at threads clocks place
-  row_is = is ∙ ap (λ (xs : List ℕ). row_at threads xs place) same
+module _ (trace : List Event) (n threads time : ℕ) (clocks seen row : List ℕ) (has : HasClocks trace n threads clocks) (lt : time < n) (same : seen ≡ clocks) (is : row ≡ row_at threads seen time) where
+  row_is : row ≡ row_at threads clocks time
+  row_is = is ∙ ap (λ (xs : List ℕ). row_at threads xs time) same
 
   pub row_wide : length row ≡ threads
-  row_wide = ap length row_is ∙ row_long threads place n clocks lt has.as_long
+  row_wide = ap length row_is ∙ row_long threads time n clocks lt has.as_long
 
-  pub row_front : IsFront trace (λ k. ShbBelow trace k place) row
-  row_front = subst (IsFront trace (λ k. ShbBelow trace k place)) (sym row_is) (has.each place lt)
+  pub row_front : IsFront trace (λ k. ShbBelow trace k time) row
+  row_front = subst (IsFront trace (λ k. ShbBelow trace k time)) (sym row_is) (has.each time lt)
 
 -- the clock of a lock, as the code reads it
 pub lock_front : (trace : List Event) (n threads locks l : ℕ) (clocks : List (List ℕ)) (item seen : List ℕ) → HasLockClocks trace n threads locks clocks → l < locks → item ≡ get_or clocks l item → seen ≡ item → IsFront trace (BelowRelease trace l n) seen
@@ -261,11 +261,11 @@ pub op_within : (trace : List Event) (sizes : Sizes) (e : ℕ) (d : Event) (op :
 op_within trace sizes e d op within lt is = subst (IsOpWithin sizes) is (within e (get_or trace e d) (slice_get-get_or trace e d lt)).operation
 
 -- the own entry
-pub tick_front : (trace links : List Event) (sizes : Sizes) (e x : ℕ) (d : Event) (clock put : List ℕ) → IsDisciplined trace → links ≡ trace → IsWithin trace sizes → e < length trace → ((t : ℕ) → thread_at links e ≡ Some t → x ≡ place_in_thread links t e) → length clock ≡ sizes.threads → IsFront trace (StrictlyBelow trace e) clock → put ≡ set clock (get_or trace e d).thread x → IsFront trace (λ k. ShbBelow trace k e) put
-tick_front trace links sizes e x d clock put disciplined same within lt place long front is =
+pub tick_front : (trace links : List Event) (sizes : Sizes) (e x : ℕ) (d : Event) (clock put : List ℕ) → IsDisciplined trace → links ≡ trace → IsWithin trace sizes → e < length trace → ((t : ℕ) → thread_at links e ≡ Some t → x ≡ local_time links t e) → length clock ≡ sizes.threads → IsFront trace (StrictlyBelow trace e) clock → put ≡ set clock (get_or trace e d).thread x → IsFront trace (λ k. ShbBelow trace k e) put
+tick_front trace links sizes e x d clock put disciplined same within lt time long front is =
     let u : ℕ = (get_or trace e d).thread in
     let of_e : thread_at trace e ≡ Some u = thread_item trace e d lt in
-    let own : x ≡ place_in_thread trace u e = subst (λ (tr : List Event). (t : ℕ) → thread_at tr e ≡ Some t → x ≡ place_in_thread tr t e) same place u of_e in
+    let own : x ≡ local_time trace u e = subst (λ (tr : List Event). (t : ℕ) → thread_at tr e ≡ Some t → x ≡ local_time tr t e) same time u of_e in
     let low = (within e (get_or trace e d) (slice_get-get_or trace e d lt)).thread in
     subst (IsFront trace (λ k. ShbBelow trace k e)) (sym (is ∙ ap (λ (n : ℕ). set clock u n) own)) (front_event trace disciplined e u clock of_e (omega (arith, low, long)) front)
 

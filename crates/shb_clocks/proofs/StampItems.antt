@@ -12,7 +12,7 @@ use Rattle.shb_lines.proofs.events.Events.{event_of_thread, event_of_op}
 use Rattle.shb_lines.proofs.events.Items.{op_item}
 use Rattle.shb_clocks.specs.Stamps.{AreCurrent, AreStamps, IsKnown, IsLatestStamp, IsRowFor, empty_stamp}
 use Rattle.shb_clocks.specs.declared.stamp.Stamp.{Stamp}
-use Rattle.shb_clocks.proofs.Locals.{place_at}
+use Rattle.shb_clocks.proofs.Locals.{time_at}
 use Rattle.shb_clocks.proofs.PastLemmas.{zero_entry}
 
 -- numbers within the sizes
@@ -26,7 +26,7 @@ pub op_is : (trace : List Event) (e : ℕ) (d : Event) (op : Op) → e < length 
 op_is trace e d op lt is = op_item trace e d lt ∙ ap (λ (o : Op). Some o) is
 
 -- whether a stamp is known, as the code tests it
-pub known_read : (stamp : Stamp) (u t : ℕ) (seen row : List ℕ) → u ≡ t → seen ≡ row → (stamp.thread ≡ u) ⊎ (stamp.place ≤ get_or seen stamp.thread 0) → (stamp.thread ≡ t) ⊎ (stamp.place ≤ get_or row stamp.thread 0)
+pub known_read : (stamp : Stamp) (u t : ℕ) (seen row : List ℕ) → u ≡ t → seen ≡ row → (stamp.thread ≡ u) ⊎ (stamp.time ≤ get_or seen stamp.thread 0) → (stamp.thread ≡ t) ⊎ (stamp.time ≤ get_or row stamp.thread 0)
 known_read stamp u t seen row same is (inl own) = inl (own ∙ same)
 known_read stamp u t seen row same is (inr le) = inr (let item = ap (λ (xs : List ℕ). get_or xs stamp.thread 0) is in omega (arith, le, item))
 
@@ -45,7 +45,7 @@ current_start trace rows threads current some first is = record {
     in_range = some;
     front = record {
       within = λ s ne. (let z = zero s in omega (arith, z));
-      exact = λ s k of_k ne. ((λ le. absurd (let own = place_at trace s k of_k in let z = zero s in omega (arith, own, z, le))), (λ h. absurd (let lt = h.earlier in omega (arith, lt))));
+      exact = λ s k of_k ne. ((λ le. absurd (let own = time_at trace s k of_k in let z = zero s in omega (arith, own, z, le))), (λ h. absurd (let lt = h.earlier in omega (arith, lt))));
     };
   });
 }

@@ -8,7 +8,7 @@ use Rattle.shb_lines.specs.declared.event.Event.{Event}
 use Rattle.shb_lines.specs.declared.event.Op.{Op}
 use Rattle.shb_lines.specs.declared.event.Op.TheVariants.{Read, Write, Acquire, Release, Fork, Join}
 use Rattle.shb_lines.specs.events.Events.{thread_at, op_at}
-use Rattle.shb_lines.specs.events.Discipline.{IsDisciplined, MayDo, acquires, releases, only, is_acquire, is_release, is_fork, is_of, place_in_thread}
+use Rattle.shb_lines.specs.events.Discipline.{IsDisciplined, MayDo, acquires, releases, only, is_acquire, is_release, is_fork, is_of, local_time}
 use Rattle.shb_lines.specs.events.Order.{ShbBelow, here, step, same_thread, lock_passed, forked, happens_before, BelowPred, IsPred, in_thread, by_fork}
 use Rattle.shb_lines.proofs.events.Counts.{count_mono, counted_before}
 use Rattle.shb_lines.proofs.events.Events.{thread_is, op_is, event_of_op, fork_allowed, fork_earlier, is_fork_true, is_acquire_parts}
@@ -78,7 +78,7 @@ module _ (trace : List Event) where
   current_more rows more n threads current grown h = record { as_many = h.as_many; each = λ t lt. row_more rows more t _ _ grown (h.each t lt) }
 
   pub stamp_more : (rows more : List (List ℕ)) (e : ℕ) (stamp : Stamp) → AreMore rows more → IsStampOf trace rows e stamp → IsStampOf trace more e stamp
-  stamp_more rows more e stamp grown h = record { of_thread = h.of_thread; place_is = h.place_is; row_is = row_more rows more stamp.thread stamp.row _ grown h.row_is }
+  stamp_more rows more e stamp grown h = record { of_thread = h.of_thread; time_is = h.time_is; row_is = row_more rows more stamp.thread stamp.row _ grown h.row_is }
 
   latest_more : (rows more : List (List ℕ)) (P : ℕ → Type 0) (n : ℕ) (stamp : Stamp) → AreMore rows more → IsLatestStamp trace rows P n stamp → IsLatestStamp trace more P n stamp
   latest_more rows more P n stamp grown (of_event e latest is) = of_event e latest (stamp_more rows more e stamp grown is)
@@ -243,16 +243,16 @@ module _ (trace : List Event) (disciplined : IsDisciplined trace) where
   source_read rows e x stamp reads (of_event w latest is) = from_event w latest.earlier is (λ k. read_learns trace disciplined e x w k reads (record { variable = x; reads = reads; writes = latest.holds; earlier = latest.earlier; latest = λ m low high. latest.last m low high }))
   source_read rows e x stamp reads (of_none absent zero) = from_none (λ k learns. read_learns_nothing trace disciplined e x k reads (λ w last. absent w last.earlier (last.writes ∙ ap (λ (y : ℕ). Some (Write y)) (let h = last.reads in let s : Some (Read last.variable) ≡ Some (Read x) = sym h ∙ reads in cc))) learns) zero
 
-  pub source_join : (rows : List (List ℕ)) (e v last : ℕ) (stamp : Stamp) → op_at trace e ≡ Some (Join v) → IsLatestBefore (OfThread trace v) (length trace) last → stamp.thread ≡ v → stamp.place ≡ place_in_thread trace v last → IsRowFor trace rows v (IsKnown trace v e) stamp.row → IsSource trace rows e stamp
-  source_join rows e v last stamp joins latest thread place row =
+  pub source_join : (rows : List (List ℕ)) (e v last : ℕ) (stamp : Stamp) → op_at trace e ≡ Some (Join v) → IsLatestBefore (OfThread trace v) (length trace) last → stamp.thread ≡ v → stamp.time ≡ local_time trace v last → IsRowFor trace rows v (IsKnown trace v e) stamp.row → IsSource trace rows e stamp
+  source_join rows e v last stamp joins latest thread time row =
       let so_far = latest_join trace trace disciplined e v last refl joins latest in
       from_event last so_far.earlier (record {
         of_thread = latest.holds ∙ ap (λ (n : ℕ). Some n) (sym thread);
-        place_is = place ∙ ap (λ (n : ℕ). place_in_thread trace n last) (sym thread);
+        time_is = time ∙ ap (λ (n : ℕ). local_time trace n last) (sym thread);
         row_is = subst (λ (n : ℕ). IsRowFor trace rows n (λ k. ShbBelow trace k last) stamp.row) (sym thread) (row_same trace rows v stamp.row (IsKnown trace v e) (λ k. ShbBelow trace k last) (λ s k of_k ne. known_latest e last v so_far k) row);
       }) (λ k. join_learns trace disciplined e v last k joins so_far)
 
-  pub source_join_nothing : (rows : List (List ℕ)) (e v : ℕ) (stamp : Stamp) → op_at trace e ≡ Some (Join v) → ((k : ℕ) → k < length trace → thread_at trace k ≢ Some v) → stamp.place ≡ 0 → IsSource trace rows e stamp
+  pub source_join_nothing : (rows : List (List ℕ)) (e v : ℕ) (stamp : Stamp) → op_at trace e ≡ Some (Join v) → ((k : ℕ) → k < length trace → thread_at trace k ≢ Some v) → stamp.time ≡ 0 → IsSource trace rows e stamp
   source_join_nothing rows e v stamp joins none zero = from_none (λ k learns. join_learns_nothing trace disciplined e v k joins (λ m lt of_m. none m (thread_in_range trace m v of_m) of_m) learns) zero
 
   -- the row after an event of thread u
@@ -272,42 +272,42 @@ module _ (trace : List Event) (disciplined : IsDisciplined trace) where
     pub row_nothing_new : ((k : ℕ) → Learns trace e k → BelowPred trace k e) → IsRowFor trace rows u (λ k. ShbBelow trace k e) before
     row_nothing_new nothing = row_same trace rows u before (λ k. BelowPred trace k e) (λ k. ShbBelow trace k e) (λ t k of_k ne. pred_below t k nothing of_k ne) row
 
-    source_known : (r : ℕ) (source : Stamp) → r < e → IsStampOf trace rows r source → (source.thread ≡ u) ⊎ (source.place ≤ get_or (get_or rows before []) source.thread 0) → (source.thread ≡ u) ⊎ (source.thread ≢ u) → BelowPred trace r e
+    source_known : (r : ℕ) (source : Stamp) → r < e → IsStampOf trace rows r source → (source.thread ≡ u) ⊎ (source.time ≤ get_or (get_or rows before []) source.thread 0) → (source.thread ≡ u) ⊎ (source.thread ≢ u) → BelowPred trace r e
     source_known r source lt is known (inl same) = thread_below_pred trace u r e lt (is.of_thread ∙ ap (λ (n : ℕ). Some n) same) of_e
     source_known r source lt is (inl same) (inr ne) = absurd (ne same)
-    source_known r source lt is (inr le) (inr ne) = (row.front.exact source.thread r is.of_thread ne).0 (let place = is.place_is in omega (arith, le, place))
+    source_known r source lt is (inr le) (inr ne) = (row.front.exact source.thread r is.of_thread ne).0 (let time = is.time_is in omega (arith, le, time))
 
-    pub row_known : (source : Stamp) → IsSource trace rows e source → (source.thread ≡ u) ⊎ (source.place ≤ get_or (get_or rows before []) source.thread 0) → IsRowFor trace rows u (λ k. ShbBelow trace k e) before
+    pub row_known : (source : Stamp) → IsSource trace rows e source → (source.thread ≡ u) ⊎ (source.time ≤ get_or (get_or rows before []) source.thread 0) → IsRowFor trace rows u (λ k. ShbBelow trace k e) before
     row_known source (from_none nothing zero) known = row_nothing_new (λ k learns. absurd (nothing k learns))
     row_known source (from_event r lt is same) known =
         let below = source_known r source lt is known (cases_eq source.thread u) in
         row_nothing_new (λ k learns. (below.0, below.1, path_append trace k r below.0 ((same k).1 learns) below.2))
 
     -- the source, where it isn't known
-    pub source_new : (source : Stamp) → IsSource trace rows e source → ((source.thread ≡ u) ⊎ (source.place ≤ get_or (get_or rows before []) source.thread 0) → ⊥) → (r : ℕ) × (r < e) × IsStampOf trace rows r source × ((k : ℕ) → ShbBelow trace k r ↔ Learns trace e k)
+    pub source_new : (source : Stamp) → IsSource trace rows e source → ((source.thread ≡ u) ⊎ (source.time ≤ get_or (get_or rows before []) source.thread 0) → ⊥) → (r : ℕ) × (r < e) × IsStampOf trace rows r source × ((k : ℕ) → ShbBelow trace k r ↔ Learns trace e k)
     source_new source (from_event r lt is same) unknown = (r, lt, is, same)
     source_new source (from_none nothing zero) unknown = absurd (unknown (inr (omega (arith, zero))))
 
-    pub row_joined : (source : Stamp) (joined : List ℕ) → IsSource trace rows e source → ((source.thread ≡ u) ⊎ (source.place ≤ get_or (get_or rows before []) source.thread 0) → ⊥) → source.thread < length (get_or rows source.row []) → ((t : ℕ) → get_or joined t 0 ≡ max (get_or (get_or rows before []) t 0) (get_or (set (get_or rows source.row []) source.thread source.place) t 0)) → IsFrontBut trace u (λ k. ShbBelow trace k e) joined
+    pub row_joined : (source : Stamp) (joined : List ℕ) → IsSource trace rows e source → ((source.thread ≡ u) ⊎ (source.time ≤ get_or (get_or rows before []) source.thread 0) → ⊥) → source.thread < length (get_or rows source.row []) → ((t : ℕ) → get_or joined t 0 ≡ max (get_or (get_or rows before []) t 0) (get_or (set (get_or rows source.row []) source.thread source.time) t 0)) → IsFrontBut trace u (λ k. ShbBelow trace k e) joined
     row_joined source joined is unknown wide each = record { within = λ t ne. within t ne; exact = λ t k of_k ne. (down t k of_k ne, up t k of_k ne) }
       where
         found : (r : ℕ) × (r < e) × IsStampOf trace rows r source × ((k : ℕ) → ShbBelow trace k r ↔ Learns trace e k)
         found = source_new source is unknown
 
-        clock : IsFront trace (λ k. ShbBelow trace k found.0) (set (get_or rows source.row []) source.thread source.place)
-        clock = subst (λ (n : ℕ). IsFront trace (λ k. ShbBelow trace k found.0) (set (get_or rows source.row []) source.thread n)) (sym found.2.place_is) (front_whole trace found.0 source.thread (get_or rows source.row []) found.2.of_thread wide found.2.row_is.front)
+        clock : IsFront trace (λ k. ShbBelow trace k found.0) (set (get_or rows source.row []) source.thread source.time)
+        clock = subst (λ (n : ℕ). IsFront trace (λ k. ShbBelow trace k found.0) (set (get_or rows source.row []) source.thread n)) (sym found.2.time_is) (front_whole trace found.0 source.thread (get_or rows source.row []) found.2.of_thread wide found.2.row_is.front)
 
         within : (t : ℕ) → t ≢ u → get_or joined t 0 ≤ count_by (is_of t) trace
         within t ne = let a = row.front.within t ne in let b = clock.within t in let m = each t in omega (arith, a, b, m)
 
-        down : (t k : ℕ) → thread_at trace k ≡ Some t → t ≢ u → place_in_thread trace t k ≤ get_or joined t 0 → ShbBelow trace k e
-        down t k of_k ne le = elim (cases_lt (get_or (get_or rows before []) t 0) (place_in_thread trace t k)) [
+        down : (t k : ℕ) → thread_at trace k ≡ Some t → t ≢ u → local_time trace t k ≤ get_or joined t 0 → ShbBelow trace k e
+        down t k of_k ne le = elim (cases_lt (get_or (get_or rows before []) t 0) (local_time trace t k)) [
           | inr low ↦ strictly_below_below trace disciplined k e (inl ((row.front.exact t k of_k ne).0 low))
           | inl high ↦ strictly_below_below trace disciplined k e (inr ((found.3 k).0 ((clock.exact t k of_k).0 (let m = each t in omega (arith, m, high, le)))))
         ]
 
-        up : (t k : ℕ) → thread_at trace k ≡ Some t → t ≢ u → ShbBelow trace k e → place_in_thread trace t k ≤ get_or joined t 0
-        up t k of_k ne path = from_others (λ j. place_in_thread trace t j ≤ get_or joined t 0) t k of_k ne (λ h. elim h [
+        up : (t k : ℕ) → thread_at trace k ≡ Some t → t ≢ u → ShbBelow trace k e → local_time trace t k ≤ get_or joined t 0
+        up t k of_k ne path = from_others (λ j. local_time trace t j ≤ get_or joined t 0) t k of_k ne (λ h. elim h [
           | inl below ↦ (let le = (row.front.exact t k of_k ne).1 below in let m = each t in omega (arith, m, le))
           | inr learns ↦ (let le = (clock.exact t k of_k).1 ((found.3 k).1 learns) in let m = each t in omega (arith, m, le))
         ]) path
@@ -327,14 +327,14 @@ module _ (trace : List Event) (disciplined : IsDisciplined trace) where
     pub current_set : ((t : ℕ) → op_at trace n ≢ Some (Fork t)) → AreCurrent trace rows (n + 1) threads (set current stamp.thread stamp.row)
     current_set no_fork = record { as_many = length-set current stamp.thread stamp.row ∙ old.as_many; each = λ t lt. row_of_thread t lt (no_fork t) (cases_eq t stamp.thread) }
 
-    pub current_forked : (more : List (List ℕ)) (child row : ℕ) → op_at trace n ≡ Some (Fork child) → child < threads → AreMore rows more → row < length more → get_or more row [] ≡ set (get_or rows stamp.row []) stamp.thread stamp.place → stamp.thread < length (get_or rows stamp.row []) → AreCurrent trace more (n + 1) threads (set (set current stamp.thread stamp.row) child row)
+    pub current_forked : (more : List (List ℕ)) (child row : ℕ) → op_at trace n ≡ Some (Fork child) → child < threads → AreMore rows more → row < length more → get_or more row [] ≡ set (get_or rows stamp.row []) stamp.thread stamp.time → stamp.thread < length (get_or rows stamp.row []) → AreCurrent trace more (n + 1) threads (set (set current stamp.thread stamp.row) child row)
     current_forked more child row forks below grown in_range row_is wide = record {
       as_many = length-set (set current stamp.thread stamp.row) child row ∙ (length-set current stamp.thread stamp.row ∙ old.as_many);
       each = λ t lt. go t lt (cases_eq t child);
     }
       where
         clock : IsFront trace (λ k. ShbBelow trace k n) (get_or more row [])
-        clock = subst (IsFront trace (λ k. ShbBelow trace k n)) (sym row_is) (subst (λ (m : ℕ). IsFront trace (λ k. ShbBelow trace k n) (set (get_or rows stamp.row []) stamp.thread m)) (sym is.place_is) (front_whole trace n stamp.thread (get_or rows stamp.row []) is.of_thread wide is.row_is.front))
+        clock = subst (IsFront trace (λ k. ShbBelow trace k n)) (sym row_is) (subst (λ (m : ℕ). IsFront trace (λ k. ShbBelow trace k n) (set (get_or rows stamp.row []) stamp.thread m)) (sym is.time_is) (front_whole trace n stamp.thread (get_or rows stamp.row []) is.of_thread wide is.row_is.front))
 
         child_row : IsRowFor trace more child (IsKnown trace child (n + 1)) row
         child_row = record {

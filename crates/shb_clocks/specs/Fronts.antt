@@ -3,13 +3,13 @@ use Rattle.std.specs.Prelude.{◌≡◌, ℕ, ◌<◌, ◌≤◌, ◌↔◌, ◌
 use Rattle.shb_lines.specs.declared.event.Event.{Event}
 use Rattle.shb_lines.specs.declared.event.Op.TheVariants.{Acquire, Release, Join}
 use Rattle.shb_lines.specs.events.Events.{thread_at, op_at}
-use Rattle.shb_lines.specs.events.Discipline.{is_of, place_in_thread}
+use Rattle.shb_lines.specs.events.Discipline.{is_of, local_time}
 use Rattle.shb_lines.specs.events.Order.{LastWrite, ShbBelow, BelowPred}
 
--- the events with the property are those whose place is no higher than their thread's entry
+-- the events with the property are those whose local time is no higher than their thread's entry
 pub record IsFront (trace : List Event) (P : ℕ → Type 0) (clock : List ℕ) : Type 0 where
   pub within : (t : ℕ) → slice_index_or clock t 0 ≤ count_by (is_of t) trace
-  pub exact : (t k : ℕ) → thread_at trace k ≡ Some t → (place_in_thread trace t k ≤ slice_index_or clock t 0) ↔ P k
+  pub exact : (t k : ℕ) → thread_at trace k ≡ Some t → (local_time trace t k ≤ slice_index_or clock t 0) ↔ P k
 
 -- k is below a release of the lock before n
 pub record BelowRelease (trace : List Event) (lock n k : ℕ) : Type 0 where

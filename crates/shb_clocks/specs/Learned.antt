@@ -4,7 +4,7 @@ use Rattle.std.specs.List.Sorted.{IsStrictlyIncreasing}
 use Rattle.shb_lines.specs.declared.event.Event.{Event}
 use Rattle.shb_lines.specs.declared.event.Op.TheVariants.{Acquire, Join}
 use Rattle.shb_lines.specs.events.Events.{thread_at, op_at}
-use Rattle.shb_lines.specs.events.Discipline.{is_of, place_in_thread}
+use Rattle.shb_lines.specs.events.Discipline.{is_of, local_time}
 use Rattle.shb_lines.specs.events.Order.{LastWrite, ShbBelow}
 use Rattle.shb_clocks.specs.Rows.{RowsData}
 
@@ -15,38 +15,38 @@ pub data IsLearning (trace : List Event) (e : ℕ) : Type 0 where
   joins : (u : ℕ) → op_at trace e ≡ Some (Join u) → IsLearning trace e
   reads : (w : ℕ) → LastWrite trace w e → IsLearning trace e
 
--- thread t may learn at its event of this place
-pub record LearnsAt (trace : List Event) (t place : ℕ) : Type 0 where
+-- thread t may learn at its event of this local time
+pub record LearnsAt (trace : List Event) (t time : ℕ) : Type 0 where
   pub event : ℕ
   pub of_thread : thread_at trace event ≡ Some t
   pub learning : IsLearning trace event
-  pub place_is : place_in_thread trace t event ≡ place
+  pub time_is : local_time trace t event ≡ time
 
--- exactly the places at which thread t may learn, rising
-pub record AreLearnedPlaces (trace : List Event) (t : ℕ) (places : List ℕ) : Type 0 where
-  pub rising : IsStrictlyIncreasing places
-  pub all : (place : ℕ) → Contains places place ↔ LearnsAt trace t place
+-- exactly the local times at which thread t may learn, rising
+pub record AreLearnedTimes (trace : List Event) (t : ℕ) (times : List ℕ) : Type 0 where
+  pub rising : IsStrictlyIncreasing times
+  pub all : (time : ℕ) → Contains times time ↔ LearnsAt trace t time
 
--- the places of a thread at which a clock is kept, and beside each the number of the row that is its clock
+-- the local times of a thread at which a clock is kept, and beside each the number of the row that is its clock
 pub record KeptData : Type 0 where
-  pub places : List ℕ
+  pub times : List ℕ
   pub rows : List ℕ
 
 abbrev pub nothing_kept : KeptData
-nothing_kept = record { places = []; rows = [] }
+nothing_kept = record { times = []; rows = [] }
 
--- the row is that of the last kept place up to this one
-pub record IsRowUpTo (kept : KeptData) (place row : ℕ) : Type 0 where
+-- the row is that of the last kept local time up to this one
+pub record IsRowUpTo (kept : KeptData) (time row : ℕ) : Type 0 where
   pub index : ℕ
-  pub in_range : index < length kept.places
-  pub up_to : slice_index_or kept.places index 0 ≤ place
-  pub last : (j : ℕ) → index < j → j < length kept.places → place < slice_index_or kept.places j 0
+  pub in_range : index < length kept.times
+  pub up_to : slice_index_or kept.times index 0 ≤ time
+  pub last : (j : ℕ) → index < j → j < length kept.times → time < slice_index_or kept.times j 0
   pub row_is : slice_index_or kept.rows index 0 ≡ row
 
 -- the entries of all threads but u are those of a clock of the events with the property
 pub record IsFrontBut (trace : List Event) (u : ℕ) (P : ℕ → Type 0) (clock : List ℕ) : Type 0 where
   pub within : (t : ℕ) → t ≢ u → slice_index_or clock t 0 ≤ count_by (is_of t) trace
-  pub exact : (t k : ℕ) → thread_at trace k ≡ Some t → t ≢ u → (place_in_thread trace t k ≤ slice_index_or clock t 0) ↔ P k
+  pub exact : (t k : ℕ) → thread_at trace k ≡ Some t → t ≢ u → (local_time trace t k ≤ slice_index_or clock t 0) ↔ P k
 
 -- how many of the first n events are of thread t
 abbrev pub number_before : List Event → ℕ → ℕ → ℕ
@@ -54,12 +54,12 @@ number_before trace t n = count_by (is_of t) (take n trace)
 
 -- what is kept of thread t after the first n events
 pub record IsKept (trace : List Event) (n : ℕ) (rows : List (List ℕ)) (t : ℕ) (kept : KeptData) : Type 0 where
-  pub as_many : length kept.rows ≡ length kept.places
-  pub rising : IsStrictlyIncreasing kept.places
-  pub all : (place : ℕ) → Contains kept.places place ↔ ((place < number_before trace t n + 1) × LearnsAt trace t place)
-  pub begun : (b : ℕ) → b < n → thread_at trace b ≡ Some t → (0 < length kept.places) × (slice_index_or kept.places 0 0 ≤ place_in_thread trace t b)
+  pub as_many : length kept.rows ≡ length kept.times
+  pub rising : IsStrictlyIncreasing kept.times
+  pub all : (time : ℕ) → Contains kept.times time ↔ ((time < number_before trace t n + 1) × LearnsAt trace t time)
+  pub begun : (b : ℕ) → b < n → thread_at trace b ≡ Some t → (0 < length kept.times) × (slice_index_or kept.times 0 0 ≤ local_time trace t b)
   pub within : (i : ℕ) → i < length kept.rows → slice_index_or kept.rows i 0 < length rows
-  pub clocks : (b row : ℕ) → b < n → thread_at trace b ≡ Some t → IsRowUpTo kept (place_in_thread trace t b) row → IsFrontBut trace t (λ k. ShbBelow trace k b) (slice_index_or rows row [])
+  pub clocks : (b row : ℕ) → b < n → thread_at trace b ≡ Some t → IsRowUpTo kept (local_time trace t b) row → IsFrontBut trace t (λ k. ShbBelow trace k b) (slice_index_or rows row [])
 
 -- what is kept of all threads after the first n events; the first row is of zeros, of a thread that has learned nothing
 pub record AreKept (trace : List Event) (n threads : ℕ) (rows : RowsData) (kept : List KeptData) : Type 0 where

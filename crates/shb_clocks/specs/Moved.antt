@@ -10,8 +10,8 @@ pub record IsMovedRow (old new : List (List ℕ)) (a b : ℕ) : Type 0 where
 
 -- among the new rows the stamp names the clock that it named among the old ones, or it is of no event
 pub data IsMovedStamp (old new : List (List ℕ)) (before after : Stamp) : Type 0 where
-  of_row : after.thread ≡ before.thread → after.place ≡ before.place → IsMovedRow old new before.row after.row → IsMovedStamp old new before after
-  of_no_event : before.place ≡ 0 → after ≡ before → IsMovedStamp old new before after
+  of_row : after.thread ≡ before.thread → after.time ≡ before.time → IsMovedRow old new before.row after.row → IsMovedStamp old new before after
+  of_no_event : before.time ≡ 0 → after ≡ before → IsMovedStamp old new before after
 
 -- lists of one length, in which the items at each position stand in the relation
 pub record AreAlike {A : Type 0} (default : A) (IsAlike : A → A → Type 0) (before after : List A) : Type 0 where

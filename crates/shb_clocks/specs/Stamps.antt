@@ -4,7 +4,7 @@ use Rattle.shb_lines.specs.declared.event.Event.{Event}
 use Rattle.shb_lines.specs.declared.event.Op.TheVariants.{Fork}
 use Rattle.shb_lines.specs.declared.event.Sizes.{Sizes}
 use Rattle.shb_lines.specs.events.Events.{thread_at, op_at}
-use Rattle.shb_lines.specs.events.Discipline.{place_in_thread}
+use Rattle.shb_lines.specs.events.Discipline.{local_time}
 use Rattle.shb_lines.specs.events.Order.{ShbBelow, BelowPred}
 use Rattle.shb_links.specs.Latest.{IsLatestBefore, ReleasesLock, WritesVariable}
 use Rattle.shb_clocks.specs.Fronts.{Learns}
@@ -41,23 +41,23 @@ pub record AreCurrent (trace : List Event) (rows : List (List ℕ)) (n threads :
   pub as_many : length current ≡ threads
   pub each : (t : ℕ) → t < threads → IsRowFor trace rows t (IsKnown trace t n) (slice_index_or current t 0)
 
--- the stamp of an event: its row, with the entry of its thread set to its place, is the event's clock
+-- the stamp of an event: its row, with the entry of its thread set to its local time, is the event's clock
 pub record IsStampOf (trace : List Event) (rows : List (List ℕ)) (e : ℕ) (stamp : Stamp) : Type 0 where
   pub of_thread : thread_at trace e ≡ Some stamp.thread
-  pub place_is : stamp.place ≡ place_in_thread trace stamp.thread e
+  pub time_is : stamp.time ≡ local_time trace stamp.thread e
   pub row_is : IsRowFor trace rows stamp.thread (λ k. ShbBelow trace k e) stamp.row
 
 -- the stamp of the latest event before n that has the property, or an empty one where there is none
 pub data IsLatestStamp (trace : List Event) (rows : List (List ℕ)) (P : ℕ → Type 0) (n : ℕ) (stamp : Stamp) : Type 0 where
   of_event : (e : ℕ) → IsLatestBefore P n e → IsStampOf trace rows e stamp → IsLatestStamp trace rows P n stamp
-  of_none : ((k : ℕ) → k < n → ¬ P k) → stamp.place ≡ 0 → IsLatestStamp trace rows P n stamp
+  of_none : ((k : ℕ) → k < n → ¬ P k) → stamp.time ≡ 0 → IsLatestStamp trace rows P n stamp
 
 -- thread t, which knows this row but for its own entry, knows the event of the stamp, or the stamp is of no event
 abbrev pub KnowsStamp : List ℕ → ℕ → Stamp → Type 0
-KnowsStamp row t stamp = (stamp.thread ≡ t) ⊎ (stamp.place ≤ slice_index_or row stamp.thread 0)
+KnowsStamp row t stamp = (stamp.thread ≡ t) ⊎ (stamp.time ≤ slice_index_or row stamp.thread 0)
 
 abbrev pub empty_stamp : Stamp
-empty_stamp = record { row = 0; thread = 0; place = 0 }
+empty_stamp = record { row = 0; thread = 0; time = 0 }
 
 -- for each number below the size the stamp of its latest event before n
 pub record AreStamps (trace : List Event) (rows : List (List ℕ)) (P : ℕ → ℕ → Type 0) (n size : ℕ) (stamps : List Stamp) : Type 0 where
@@ -67,7 +67,7 @@ pub record AreStamps (trace : List Event) (rows : List (List ℕ)) (P : ℕ → 
 -- the stamp of all that e learns of other threads: an earlier event's, or an empty one where that is nothing
 pub data IsSource (trace : List Event) (rows : List (List ℕ)) (e : ℕ) (stamp : Stamp) : Type 0 where
   from_event : (r : ℕ) → r < e → IsStampOf trace rows r stamp → ((k : ℕ) → ShbBelow trace k r ↔ Learns trace e k) → IsSource trace rows e stamp
-  from_none : ((k : ℕ) → ¬ Learns trace e k) → stamp.place ≡ 0 → IsSource trace rows e stamp
+  from_none : ((k : ℕ) → ¬ Learns trace e k) → stamp.time ≡ 0 → IsSource trace rows e stamp
 
 -- rows with at most one more after them
 pub record HasGrown (old new : RowsData) : Type 0 where

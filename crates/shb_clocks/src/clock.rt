@@ -60,7 +60,7 @@ impl Clock {
         ensures { self.new ≡ other.now }
     {
         self.entries.copy_from_slice(other.row);
-        self.entries[other.thread as usize] = other.place;
+        self.entries[other.thread as usize] = other.time;
     }
 
     /// Raises each entry to that of an event's clock, where that is greater.
@@ -69,7 +69,7 @@ impl Clock {
         ensures long { length self.new ≡ length self.old }
         ensures joined { (t : ℕ) → slice_index_or self.new t 0 ≡ max (slice_index_or self.old t 0) (slice_index_or other.now t 0) }
     {
-        let own = self.entries[other.thread as usize].max(other.place);
+        let own = self.entries[other.thread as usize].max(other.time);
         join(self.entries.as_mut_slice(), other.row);
         self.entries[other.thread as usize] = own;
     }
@@ -90,30 +90,30 @@ impl Clock {
     }
 }
 
-/// The clock of an event: a row that other events may share, and the event's own place as the entry
+/// The clock of an event: a row that other events may share, and the event's local time as the entry
 /// of its thread. It is seen as the list of entries.
 #[derive(Drop)]
 pub struct EventClock<'a> {
     row: &'a [u32],
     thread: u32,
-    place: u32,
+    time: u32,
 }
 
 impl<'a> Model for EventClock<'a> {
     ghost Value = { List ℕ };
 
-    ghost view = { λ c. set c.row.now c.thread c.place };
+    ghost view = { λ c. set c.row.now c.thread c.time };
 
     ghost invariant = { λ c. c.thread < length c.row.now };
 }
 
 impl<'a> EventClock<'a> {
-    /// The clock of the event at this place of the thread.
-    pub fn new(row: &'a [u32], thread: u32, place: u32) -> Self
+    /// The clock of the event with this local time in the thread.
+    pub fn new(row: &'a [u32], thread: u32, time: u32) -> Self
         requires { thread < length row.now }
-        ensures { result ≡ set row.now thread place }
+        ensures { result ≡ set row.now thread time }
     {
-        EventClock { row, thread, place }
+        EventClock { row, thread, time }
     }
 
     /// The entry of a thread, 0 where the clock has none.
@@ -121,7 +121,7 @@ impl<'a> EventClock<'a> {
         ensures { result ≡ slice_index_or self.now t 0 }
     {
         if t == self.thread {
-            self.place
+            self.time
         } else {
             entry(self.row, t)
         }
@@ -166,10 +166,10 @@ fn join(clock: &mut [u32], other: &[u32])
     }
 }
 
-/// The clock at a place of a flat list of clocks.
-pub fn row(clocks: &[u32], threads: usize, place: usize) -> &[u32]
-    requires { (place + 1) * threads ≤ length clocks.now }
-    ensures { result.now ≡ row_at threads clocks.now place }
+/// The clock with this number in a flat list of clocks.
+pub fn row(clocks: &[u32], threads: usize, number: usize) -> &[u32]
+    requires { (number + 1) * threads ≤ length clocks.now }
+    ensures { result.now ≡ row_at threads clocks.now number }
 {
-    &clocks[place * threads..place * threads + threads]
+    &clocks[number * threads..number * threads + threads]
 }

@@ -50,21 +50,21 @@ impl Moving {
 
     /// The stamp by the new number of its row. A stamp of no event stays as it is.
     fn stamp(&mut self, old: &Rows, stamp: Stamp) -> Result<Stamp, NoMemory>
-        requires in_range { (stamp.place ≡ 0) ⊎ (stamp.row < length old.now.rows) }
+        requires in_range { (stamp.time ≡ 0) ⊎ (stamp.row < length old.now.rows) }
         requires few { length old.now.rows < 2 ^ 32 }
         requires moved { AreMoved old.now self.old.rows self.old.moved.items }
         ensures moved { OnOk result (AreMoved old.now self.new.rows self.new.moved.items) }
         ensures more { OnOk result (AreMore self.old.rows.rows self.new.rows.rows) }
         ensures stamp { IfOk result (IsMovedStamp old.now.rows self.new.rows.rows stamp) }
     {
-        if stamp.place == 0 {
+        if stamp.time == 0 {
             return Ok(stamp);
         }
         let row = self.row(old, stamp.row)?;
         Ok(Stamp {
             row,
             thread: stamp.thread,
-            place: stamp.place,
+            time: stamp.time,
         })
     }
 
@@ -86,7 +86,7 @@ impl Moving {
 
     /// Moves the rows of these stamps, and puts the new stamps in their place.
     fn stamps(&mut self, old: &Rows, stamps: &mut Vec<Stamp>) -> Result<(), NoMemory>
-        requires in_range { (x : ℕ) → x < length stamps.old.items → ((slice_index_or stamps.old.items x empty_stamp).place ≡ 0)
+        requires in_range { (x : ℕ) → x < length stamps.old.items → ((slice_index_or stamps.old.items x empty_stamp).time ≡ 0)
             ⊎ ((slice_index_or stamps.old.items x empty_stamp).row < length old.now.rows) }
         requires few { length old.now.rows < 2 ^ 32 }
         requires moved { AreMoved old.now self.old.rows self.old.moved.items }
@@ -113,9 +113,9 @@ pub fn compacted(
 ) -> Result<Rows, NoMemory>
     requires few { length old.now.rows < 2 ^ 32 }
     requires current { (x : ℕ) → x < length current.old.items → slice_index_or current.old.items x 0 < length old.now.rows }
-    requires locks { (x : ℕ) → x < length locks.old.items → ((slice_index_or locks.old.items x empty_stamp).place ≡ 0)
+    requires locks { (x : ℕ) → x < length locks.old.items → ((slice_index_or locks.old.items x empty_stamp).time ≡ 0)
         ⊎ ((slice_index_or locks.old.items x empty_stamp).row < length old.now.rows) }
-    requires variables { (x : ℕ) → x < length variables.old.items → ((slice_index_or variables.old.items x empty_stamp).place ≡ 0)
+    requires variables { (x : ℕ) → x < length variables.old.items → ((slice_index_or variables.old.items x empty_stamp).time ≡ 0)
         ⊎ ((slice_index_or variables.old.items x empty_stamp).row < length old.now.rows) }
     ensures width { IfOk result (λ rows. rows.width ≡ old.now.width) }
     ensures few { IfOk result (λ rows. length rows.rows ≤ length old.now.rows) }

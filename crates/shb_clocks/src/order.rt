@@ -21,7 +21,7 @@ pub trait Order {
     /// The number of events of thread `t` that are SHB-below the predecessor of event `e`, or are
     /// it; 0 where `e` has none, and for every `t` that names no thread. Events and threads count
     /// from 0. These events are the first ones of their thread, so an earlier event of thread `t` is
-    /// SHB-below the predecessor exactly where its place in the thread, from 1, is at most this
+    /// SHB-below the predecessor exactly where its local time is at most this
     /// number.
     fn below_pred(&self, e: u32, t: u32) -> u32
         requires in_range { e < length (trace self.now) }

@@ -15,7 +15,7 @@ pub struct Ordered<'a, O: Order> {
     pub order: &'a O,
     /// The trace, which keeps the discipline of locks, forks and joins.
     pub trace: &'a Disciplined<'a>,
-    /// The links of its events: place in the thread, predecessor, last write.
+    /// The links of its events: local time, predecessor, last write.
     pub links: &'a Links<'a>,
     pub ghost of_trace: { O.trace order.now ≡ trace.now.events.now },
     pub ghost linked: { links.now ≡ trace.now.events.now },

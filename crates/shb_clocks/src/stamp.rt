@@ -8,12 +8,12 @@ use crate::rows::Rows;
 use shb_io::NoMemory;
 
 /// The clock of an event: the row of that number, with the entry of the event's thread set to the
-/// event's place in it, from 1. Place 0 stands for no event.
+/// event's local time, from 1. Time 0 stands for no event.
 #[derive(Clone, Copy)]
 pub struct Stamp {
     pub row: u32,
     pub thread: u32,
-    pub place: u32,
+    pub time: u32,
 }
 
 impl Stamp {
@@ -24,7 +24,7 @@ impl Stamp {
         Stamp {
             row: 0,
             thread: 0,
-            place: 0,
+            time: 0,
         }
     }
 
@@ -32,7 +32,7 @@ impl Stamp {
     pub fn is_known(self, thread: u32, row: &[u32]) -> bool
         ensures { IsTrue result ↔ KnowsStamp row.now thread self }
     {
-        self.thread == thread || self.place <= entry(row, self.thread)
+        self.thread == thread || self.time <= entry(row, self.thread)
     }
 }
 
@@ -55,10 +55,10 @@ pub fn push_joined(
     ensures number { IfOk result (λ number. number < length rows.new.rows) }
     ensures joined { (t : ℕ) → IfOk result (λ number. slice_index_or (slice_index_or rows.new.rows number []) t 0
         ≡ max (slice_index_or (slice_index_or rows.old.rows given []) t 0)
-        (slice_index_or (set (slice_index_or rows.old.rows stamp.row []) stamp.thread stamp.place) t 0)) }
+        (slice_index_or (set (slice_index_or rows.old.rows stamp.row []) stamp.thread stamp.time) t 0)) }
 {
     clock.copy(rows.row(given));
-    clock.join_event(&EventClock::new(rows.row(stamp.row), stamp.thread, stamp.place));
+    clock.join_event(&EventClock::new(rows.row(stamp.row), stamp.thread, stamp.time));
     rows.push(clock.as_slice())
 }
 
@@ -72,8 +72,8 @@ pub fn push_stamp(rows: &mut Rows, clock: &mut Clock, stamp: Stamp) -> Result<u3
     ensures grown { OnOk result (HasGrown rows.old rows.new) }
     ensures wide { length (slice_index_or rows.old.rows stamp.row []) ≡ rows.old.width }
     ensures row { IfOk result (λ number. (number < length rows.new.rows) × (slice_index_or rows.new.rows number []
-        ≡ set (slice_index_or rows.old.rows stamp.row []) stamp.thread stamp.place)) }
+        ≡ set (slice_index_or rows.old.rows stamp.row []) stamp.thread stamp.time)) }
 {
-    clock.copy_event(&EventClock::new(rows.row(stamp.row), stamp.thread, stamp.place));
+    clock.copy_event(&EventClock::new(rows.row(stamp.row), stamp.thread, stamp.time));
     rows.push(clock.as_slice())
 }

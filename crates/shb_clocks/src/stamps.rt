@@ -176,7 +176,7 @@ impl Stamps {
             Some(last) => Stamp {
                 row: self.current[thread as usize],
                 thread,
-                place: linked.links.local(last),
+                time: linked.links.local(last),
             },
             None => Stamp::empty(),
         }
@@ -233,7 +233,7 @@ impl Stamps {
         let stamp = Stamp {
             row,
             thread,
-            place: linked.links.local(e),
+            time: linked.links.local(e),
         };
         note_release(linked, e, stamp, &mut self.locks);
         note_write(linked, e, stamp, &mut self.variables);

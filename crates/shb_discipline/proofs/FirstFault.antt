@@ -21,7 +21,7 @@ use Rattle.shb_discipline.proofs.Faultless.{may_come, no_fault}
 use Rattle.shb_discipline.proofs.Lines.{line_bounds, lines_rise, located_from, trace_of-split}
 use Rattle.shb_discipline.proofs.Numbering.{front_trace, one_trace}
 
--- places in lists
+-- indices in lists
 AllZip-at : {A B : Type 0} (R : A → B → Type 0) (xs : List A) (ys : List B) (k : ℕ) (x : A) → AllZip R xs ys → slice_get xs k ≡ Some x → (y : B) × (slice_get ys k ≡ Some y) × R x y
 AllZip-at R [] ys k x all at = absurd cc
 AllZip-at R (z ∷ xs) [] k x all at = absurd all
@@ -89,8 +89,8 @@ module _ (text : List ℕ) (m : ℕ) (trace : TraceData) (h : IsTraceOf (take m 
       let rise = lines_rise 1 lines p q a.0 b.0 a.1 b.1 lt in
       omega (arith, a.2, b.2, rise)
 
-  same_place : (p q : ℕ) (e d : Event) → slice_get trace.events p ≡ Some e → slice_get trace.events q ≡ Some d → e.line ≡ d.line → p ≡ q
-  same_place p q e d at_p at_q same = elim (cases_order p q) [
+  same_index : (p q : ℕ) (e d : Event) → slice_get trace.events p ≡ Some e → slice_get trace.events q ≡ Some d → e.line ≡ d.line → p ≡ q
+  same_index p q e d at_p at_q same = elim (cases_order p q) [
     | inl is ↦ is
     | inr other ↦ elim other [
       | inl low ↦ absurd (let rise = line_rises p q e d at_p at_q low in omega (arith, rise, same))
@@ -98,8 +98,8 @@ module _ (text : List ℕ) (m : ℕ) (trace : TraceData) (h : IsTraceOf (take m 
     ]
   ]
 
-  earlier_place : (p q : ℕ) (e d : Event) → slice_get trace.events p ≡ Some e → slice_get trace.events q ≡ Some d → e.line < d.line → p < q
-  earlier_place p q e d at_p at_q lt = elim (cases_lt p q) [
+  earlier_index : (p q : ℕ) (e d : Event) → slice_get trace.events p ≡ Some e → slice_get trace.events q ≡ Some d → e.line < d.line → p < q
+  earlier_index p q e d at_p at_q lt = elim (cases_lt p q) [
     | inl low ↦ low
     | inr le ↦ absurd (go (cases_lt q p) le)
   ]
@@ -190,17 +190,17 @@ module _ (text : List ℕ) (m : ℕ) (trace : TraceData) (h : IsTraceOf (take m 
         lower other (inl line_fault) = absurd (faultless j other few line_fault)
         lower other (inr b) =
             let found = broken j other few b in
-            let place : found.0 ≡ first.position = same_place found.0 first.position found.1 first.event found.2 first.at (found.3 ∙ sym on_line) in
-            let one : Some found.1 ≡ Some first.event = sym found.2 ∙ (ap (slice_get trace.events) place ∙ first.at) in
+            let index : found.0 ≡ first.position = same_index found.0 first.position found.1 first.event found.2 first.at (found.3 ∙ sym on_line) in
+            let one : Some found.1 ≡ Some first.event = sym found.2 ∙ (ap (slice_get trace.events) index ∙ first.at) in
             let event : found.1 ≡ first.event = cc in
-            first.lowest.1 other (subst (λ e. HasDisciplineFault (take first.position trace.events) e other) event (subst (λ p. HasDisciplineFault (take p trace.events) found.1 other) place found.4))
+            first.lowest.1 other (subst (λ e. HasDisciplineFault (take first.position trace.events) e other) event (subst (λ p. HasDisciplineFault (take p trace.events) found.1 other) index found.4))
 
         earlier : HasNoFaultBefore limits text j
         earlier k other lt (inl line_fault) = faultless k other (omega (arith, few)) line_fault
         earlier k other lt (inr b) =
             let found = broken k other (omega (arith, few)) b in
-            let place = earlier_place found.0 first.position found.1 first.event found.2 first.at (let line = found.3 in omega (arith, line, on_line)) in
-            no_fault (take found.0 trace.events) found.1 (first.earlier found.0 found.1 place found.2) other found.4
+            let index = earlier_index found.0 first.position found.1 first.event found.2 first.at (let line = found.3 in omega (arith, line, on_line)) in
+            no_fault (take found.0 trace.events) found.1 (first.earlier found.0 found.1 index found.2) other found.4
 
     pub first_of_discipline : (line : ℕ) (f : Fault) → IsFirstDisciplineFault trace.events line f → IsFirstFault limits text line f
     first_of_discipline line f first = first_on_line line f first (first.event.line - 1) (let bounds = line_within first.position first.event first.at in omega (arith, bounds.0))

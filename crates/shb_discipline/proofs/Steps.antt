@@ -17,7 +17,7 @@ use Rattle.shb_discipline.specs.declared.state.LockState.{LockState}
 use Rattle.shb_discipline.specs.declared.state.State.{State}
 use Rattle.shb_discipline.specs.State.{AreFlags, AreLocks, Covers, CoversOp, IsLockAfter, IsStateAfter, Tells}
 
--- what stands at a place after a write
+-- what stands at an index after a write
 pub set_cases : {X : Type 0} (xs : List X) (i j : ℕ) (y z : X) → i < length xs → slice_get (set xs i y) j ≡ Some z → ((j ≡ i) × (z ≡ y)) ⊎ ((j ≢ i) × (slice_get xs j ≡ Some z))
 set_cases xs i j y z lt at = go (cases_eq j i)
   where

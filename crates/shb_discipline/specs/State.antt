@@ -31,7 +31,7 @@ pub record IsStateAfter (past : List Event) (state : State) : Type 0 where
   pub forked : AreFlags is_fork past state.forked.items
   pub joined : AreFlags is_join past state.joined.items
 
--- there is a place for the lock or the thread that the operation names
+-- there is an entry for the lock or the thread that the operation names
 abbrev pub CoversOp : State → Op → Type 0
 CoversOp state (Acquire l) = l < vec_len state.locks
 CoversOp state (Release l) = l < vec_len state.locks
@@ -39,7 +39,7 @@ CoversOp state (Fork u) = (u < vec_len state.started) × (u < vec_len state.fork
 CoversOp state (Join u) = u < vec_len state.joined
 CoversOp state _ = Unit {0}
 
--- there is a place for each lock and each thread of the event
+-- there is an entry for each lock and each thread of the event
 pub record Covers (state : State) (e : Event) : Type 0 where
   pub started : e.thread < vec_len state.started
   pub joined : e.thread < vec_len state.joined

@@ -5,7 +5,7 @@ use Rattle.shb_fan.specs.declared.machine.Replayed.TheVariants.{Ended, Refused}
 use Rattle.shb_fan.specs.declared.step.Step.{Step}
 use Rattle.shb_fan.specs.Machine.{Allowed, Facts, Runs, State, start}
 
--- the step at this place isn't allowed, and all before it are
+-- the step at this index isn't allowed, and all before it are
 pub record IsRefusedAt (actors pieces : ℕ) (steps : List Step) (at : ℕ) : Type 0 where
   pub state : State
   pub step : Step
@@ -13,7 +13,7 @@ pub record IsRefusedAt (actors pieces : ℕ) (steps : List Step) (at : ℕ) : Ty
   pub there : slice_get steps at ≡ Some step
   pub refused : ¬ Allowed state step
 
--- all steps are allowed and led here, or this is the place of the first that isn't
+-- all steps are allowed and led here, or this is the index of the first that isn't
 abbrev pub HasReplayed : ℕ → ℕ → List Step → Replayed → Type 0
 HasReplayed actors pieces steps (Ended fan) = Runs (start actors pieces) steps fan
 HasReplayed actors pieces steps (Refused at) = IsRefusedAt actors pieces steps at

@@ -36,7 +36,8 @@ impl<T: Drop> Taker<Vec<Vec<T>>> for RunJoiner<T> {
 
     type Error = NoMemory;
 
-    ghost takes = { λ start given end. end.joined.items ≡ start.joined.items ++ flat_map (λ list. list.items) (flat_map (λ run. run.items) given) };
+    ghost takes = { λ start given end. end.joined.items ≡ start.joined.items
+        ++ flat_map (λ list. list.items) (flat_map (λ run. run.items) given) };
 
     ghost may_take = { λ _ _ _. Unit {0} };
 

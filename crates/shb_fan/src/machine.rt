@@ -237,7 +237,7 @@ impl Fan {
 pub enum Replayed {
     /// All were allowed, and led here.
     Ended(Fan),
-    /// The place of the first step that isn't allowed.
+    /// The index of the first step that isn't allowed.
     Refused { at: usize },
 }
 

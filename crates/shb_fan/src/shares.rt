@@ -6,7 +6,7 @@ use crate::ring_table::{SeatView, Slots};
 use atomic_table::Table;
 use std::alloc::Global;
 
-/// One thread's place at the ring.
+/// One thread's seat at the ring.
 #[derive(Drop)]
 pub struct Seat<T, M> {
     pub(crate) place: atomic_table::Seat<Option<T>, SeatView<M>>,

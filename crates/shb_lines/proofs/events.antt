@@ -7,7 +7,7 @@ pub mod Items
 pub mod Increasing
 pub mod Listed
 pub mod Locks
-pub mod Places
+pub mod Indices
 pub mod Prefix
 pub mod RaceLists
 pub mod Reach

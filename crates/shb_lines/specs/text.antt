@@ -7,7 +7,7 @@ pub mod Names
 pub mod Text
 pub mod Numbers
 pub mod Faults
-pub mod Words
+pub mod Messages
 pub mod TraceData
 pub mod Taking
 -- what the reader and the trace hold
@@ -16,4 +16,4 @@ pub mod Hashing
 pub mod Spans
 pub mod Reader
 pub mod Parsed
-pub mod Places
+pub mod Parts

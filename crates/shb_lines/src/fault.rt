@@ -1,7 +1,7 @@
 //! The faults of a text: of its lines, and of the discipline of their events.
 ghost use Rattle.std.specs.Prelude.{◌≡◌};
 ghost use Rattle.shb_lines.specs.text.Faults.{number_of};
-ghost use Rattle.shb_lines.specs.text.Words.{words_of};
+ghost use Rattle.shb_lines.specs.text.Messages.{message_of};
 
 /// What is wrong with a line: with its bytes, which `parse` answers, or with its event after the
 /// events before it, which the discipline of locks, forks and joins answers. They are listed by their
@@ -69,9 +69,9 @@ impl Fault {
         }
     }
 
-    /// What the program says of it, in words. They name the limits of the program.
-    pub fn words(self) -> &'static str
-        ensures { result.now ≡ words_of self }
+    /// What the program says of it. It names the limits of the program.
+    pub fn message(self) -> &'static str
+        ensures { result.now ≡ message_of self }
     {
         match self {
             Fault::TextTooLong => "the text is longer than 1073741824 bytes",

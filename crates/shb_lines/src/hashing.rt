@@ -23,7 +23,7 @@ fn folded_product(a: u64, b: u64) -> u64
     (product & 0xFFFF_FFFF_FFFF_FFFF) as u64 ^ (product >> 64) as u64
 }
 
-/// The eight bytes from a place on, as a word.
+/// The eight bytes from an offset on, as a word.
 fn word_at(bytes: &[u8], at: usize) -> u64
     requires { at + 8 ≤ length bytes.now }
     ensures { result ≡ spec.word_at bytes.now at }
@@ -31,7 +31,7 @@ fn word_at(bytes: &[u8], at: usize) -> u64
     eight(&bytes[at..at + 8])
 }
 
-/// The state after the two words at a place.
+/// The state after the two words at an offset.
 fn with_words(bytes: &[u8], key: u64, state: u64, at: usize) -> u64
     requires { at + 16 ≤ length bytes.now }
     ensures { result ≡ spec.with_words bytes.now key state at }

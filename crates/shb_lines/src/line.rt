@@ -1,4 +1,4 @@
-//! The line that begins at a place of a text.
+//! The line that begins at an offset of a text.
 ghost use Rattle.std.specs.Prelude.{◌≡◌, ◌≤◌, length};
 ghost use Rattle.std.specs.Str.Lines.{strip_carriage_return};
 ghost use Rattle.shb_lines.specs.text.Spans.{line_from as line_from_start};
@@ -16,7 +16,7 @@ pub fn without_carriage_return(line: &[u8]) -> &[u8]
     }
 }
 
-/// The line that begins at a place of the text. Where it ends is looked for when it is asked for, which
+/// The line that begins at an offset of the text. Where it ends is looked for when it is asked for, which
 /// is seldom, so that a trace keeps four bytes a line and not eight.
 pub fn line_from(text: &[u8], start: usize) -> &[u8]
     requires { start ≤ length text.now }

@@ -20,7 +20,7 @@ use crate::grammar::{LineEvent, read_line};
 use crate::limits::Limits;
 use crate::line::without_carriage_return;
 use crate::names::{Names, Span};
-use crate::trace::Places;
+use crate::trace::Parts;
 use memchr::memchr;
 use shb_io::NoMemory;
 use std::alloc::Global;
@@ -37,7 +37,7 @@ fn passes_limit(text: &[u8], limits: &Limits, end: usize) -> bool
 /// Where the line that begins at `start` ends: at its line feed, or at the end of the text.
 fn line_end(text: &[u8], start: usize) -> usize
     requires { start ≤ length text.now }
-    ensures place { result ≡ start + position_or_len (λ b. b == 10) (drop start text.now) }
+    ensures offset { result ≡ start + position_or_len (λ b. b == 10) (drop start text.now) }
     ensures within { result ≤ length text.now }
 {
     let (_, rest) = text.split_at(start);
@@ -270,12 +270,12 @@ impl<'t> Reader<'t> {
     }
 
     /// Where what was read stands.
-    pub fn into_places(self, alloc: Global) -> Result<Places, NoMemory>
-        ensures events { IfOk result (λ places. places.events ≡ self.entry.events) }
-        ensures starts { IfOk result (λ places. places.starts ≡ self.entry.starts) }
-        ensures threads { IfOk result (λ places. places.threads.items ≡ spans_in self.entry.threads.table.entries) }
-        ensures locks { IfOk result (λ places. places.locks.items ≡ spans_in self.entry.locks.table.entries) }
-        ensures variables { IfOk result (λ places. places.variables.items ≡ spans_in self.entry.variables.table.entries) }
+    pub fn into_parts(self, alloc: Global) -> Result<Parts, NoMemory>
+        ensures events { IfOk result (λ parts. parts.events ≡ self.entry.events) }
+        ensures starts { IfOk result (λ parts. parts.starts ≡ self.entry.starts) }
+        ensures threads { IfOk result (λ parts. parts.threads.items ≡ spans_in self.entry.threads.table.entries) }
+        ensures locks { IfOk result (λ parts. parts.locks.items ≡ spans_in self.entry.locks.table.entries) }
+        ensures variables { IfOk result (λ parts. parts.variables.items ≡ spans_in self.entry.variables.table.entries) }
     {
         let threads = self.threads.spans(alloc)?;
         let locks = self.locks.spans(alloc)?;
@@ -287,7 +287,7 @@ impl<'t> Reader<'t> {
             locks: _,
             variables: _,
         } = self;
-        Ok(Places {
+        Ok(Parts {
             events,
             starts,
             threads,

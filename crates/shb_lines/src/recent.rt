@@ -35,7 +35,7 @@ pub struct Known {
 }
 
 /// Two names that were looked up lately, the newer first. Two, so that two names which are kept in one
-/// place and looked up by turns are both remembered.
+/// slot and looked up by turns are both remembered.
 #[derive(Clone, Copy)]
 pub struct Bucket {
     pub newer: Known,
@@ -119,7 +119,7 @@ pub fn ends_of(name: &[u8]) -> Ends
 
 /// Which of so many buckets a name's ends are kept in. Every bit of them counts: without the fold of the
 /// high bits into the low ones, names that differ in their last letters alone would meet.
-fn place_of(ends: Ends, count: usize) -> usize
+fn slot_of(ends: Ends, count: usize) -> usize
     requires { 0 < count }
     ensures { result < count }
 {
@@ -168,7 +168,7 @@ impl Recent {
         ensures number { (names : List (List ℕ)) (name : List ℕ) → AreRemembered names self.now.buckets.items
             → HasEnds ends.first ends.last ends.len name → IfSome result (λ number. slice_get names number ≡ Some name) }
     {
-        let bucket = &self.buckets[place_of(ends, self.buckets.len())];
+        let bucket = &self.buckets[slot_of(ends, self.buckets.len())];
         if has_ends(&bucket.newer, ends) {
             Some(bucket.newer.number)
         } else if has_ends(&bucket.older, ends) {
@@ -196,15 +196,15 @@ impl Recent {
             → AreRemembered names self.new.buckets.items }
     {
         self.make_room(count)?;
-        let place = place_of(ends, self.buckets.len());
+        let slot = slot_of(ends, self.buckets.len());
         let newer = Known {
             first: ends.first,
             last: ends.last,
             len: ends.len,
             number,
         };
-        let older = self.buckets[place].newer;
-        self.buckets[place] = Bucket { newer, older };
+        let older = self.buckets[slot].newer;
+        self.buckets[slot] = Bucket { newer, older };
         Ok(())
     }
 }

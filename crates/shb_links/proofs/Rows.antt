@@ -6,10 +6,10 @@ use Rattle.std.proofs.lemmas.List.{get_or_push, length_push, get_or_read}
 use Rattle.shb_lines.specs.declared.event.Event.{Event}
 use Rattle.shb_lines.specs.declared.event.Op.TheVariants.{Read}
 use Rattle.shb_lines.specs.events.Events.{thread_at}
-use Rattle.shb_lines.specs.events.Discipline.{place_in_thread}
+use Rattle.shb_lines.specs.events.Discipline.{local_time}
 use Rattle.shb_lines.specs.events.Order.{IsPred, LastWrite}
 use Rattle.shb_lines.proofs.events.Items.{thread_item}
-use Rattle.shb_links.proofs.Places.{place_is_number}
+use Rattle.shb_links.proofs.LocalTimes.{time_is_number}
 use Rattle.shb_links.specs.Links.{Exactly, IsLocal, HasLocals, HasPreds, HasLastWrites}
 
 pub locals_start : (trace : List Event) (xs : List ℕ) → xs ≡ [] → HasLocals trace 0 xs
@@ -29,15 +29,15 @@ pub no_writes : (trace : List Event) (xs : List (Option ℕ)) → xs ≡ [] → 
 no_writes trace xs none = subst (λ (n : ℕ). HasLastWrites trace n xs) (sym (ap length none)) (writes_start trace xs none)
 
 -- one more row of each table
-pub locals_more : (trace : List Event) (n : ℕ) (locals : List ℕ) (x : ℕ) → ((t : ℕ) → thread_at trace n ≡ Some t → x ≡ place_in_thread trace t n) → HasLocals trace n locals → HasLocals trace (n + 1) (locals ++ x ∷ [])
+pub locals_more : (trace : List Event) (n : ℕ) (locals : List ℕ) (x : ℕ) → ((t : ℕ) → thread_at trace n ≡ Some t → x ≡ local_time trace t n) → HasLocals trace n locals → HasLocals trace (n + 1) (locals ++ x ∷ [])
 locals_more trace n locals x is old = record {
   as_long = length_push locals x ∙ ap (λ m. m + 1) old.as_long;
   each = λ e t lt of_e. go e t lt of_e (cases_lt e n);
 }
   where
-    go : (e t : ℕ) → e < n + 1 → thread_at trace e ≡ Some t → (e < n) ⊎ (n ≤ e) → get_or (locals ++ x ∷ []) e 0 ≡ place_in_thread trace t e
+    go : (e t : ℕ) → e < n + 1 → thread_at trace e ≡ Some t → (e < n) ⊎ (n ≤ e) → get_or (locals ++ x ∷ []) e 0 ≡ local_time trace t e
     go e t lt of_e (inl low) = get_or-append locals (x ∷ []) 0 e (let m = old.as_long in omega arith) ∙ old.each e t low of_e
-    go e t lt of_e (inr le) = let same : n ≡ e = omega arith in get_or_push locals x 0 e (old.as_long ∙ same) ∙ subst (λ (k : ℕ). x ≡ place_in_thread trace t k) same (is t (rw same of_e))
+    go e t lt of_e (inr le) = let same : n ≡ e = omega arith in get_or_push locals x 0 e (old.as_long ∙ same) ∙ subst (λ (k : ℕ). x ≡ local_time trace t k) same (is t (rw same of_e))
 
 rows_more : (P : ℕ → ℕ → Type 0) (n : ℕ) (rows : List (Option ℕ)) (x : Option ℕ) → length rows ≡ n → Exactly (P n) x → ((e : ℕ) → e < n → Exactly (P e) (get_or rows e None)) → (e : ℕ) → e < n + 1 → (e < n) ⊎ (n ≤ e) → Exactly (P e) (get_or (rows ++ x ∷ []) e None)
 rows_more P n rows x long is old e lt (inl low) = subst (λ (o : Option ℕ). Exactly (P e) o) (sym (get_or-append rows (x ∷ []) None e (omega arith))) (old e low)
@@ -58,7 +58,7 @@ writes_more trace n writes x is old = record {
 }
 
 -- what a getter answers, where the links are seen as the trace
-pub local_answer : (trace seen : List Event) (locals : List ℕ) (x e t : ℕ) → trace ≡ seen → HasLocals trace (length trace) locals → e < length seen → x ≡ get_or locals e x → thread_at seen e ≡ Some t → x ≡ place_in_thread seen t e
+pub local_answer : (trace seen : List Event) (locals : List ℕ) (x e t : ℕ) → trace ≡ seen → HasLocals trace (length trace) locals → e < length seen → x ≡ get_or locals e x → thread_at seen e ≡ Some t → x ≡ local_time seen t e
 local_answer trace seen locals x e t same has lt is of_e =
     let size = ap length same in
     let there : x ≡ get_or locals e 0 = get_or_read locals e x (let m = has.as_long in omega (arith, size, lt, m)) is 0 in
@@ -79,4 +79,4 @@ pub local_number : (trace seen : List Event) (locals : List ℕ) (x e : ℕ) →
 local_number trace seen locals x e same has lt is =
     let d : Event = record { thread = 0; op = Read 0; line = 0 } in
     let of_e = thread_item seen e d lt in
-    subst (λ (n : ℕ). IsLocal seen e n) (sym (local_answer trace seen locals x e (get_or seen e d).thread same has lt is of_e)) (place_is_number seen e (get_or seen e d).thread lt of_e)
+    subst (λ (n : ℕ). IsLocal seen e n) (sym (local_answer trace seen locals x e (get_or seen e d).thread same has lt is of_e)) (time_is_number seen e (get_or seen e d).thread lt of_e)

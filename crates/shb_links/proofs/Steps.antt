@@ -9,7 +9,7 @@ use Rattle.std.proofs.lemmas.Option.{slice_get-get_or}
 use Rattle.shb_lines.specs.declared.event.Event.{Event}
 use Rattle.shb_lines.specs.declared.event.Op.TheVariants.{Read, Fork}
 use Rattle.shb_lines.specs.events.Events.{thread_at, op_at}
-use Rattle.shb_lines.specs.events.Discipline.{IsDisciplined, is_of, place_in_thread}
+use Rattle.shb_lines.specs.events.Discipline.{IsDisciplined, is_of, local_time}
 use Rattle.shb_lines.specs.events.Order.{IsPred, in_thread, by_fork, LastWrite}
 use Rattle.shb_lines.proofs.events.Counts.{count_more_yes, count_gap}
 use Rattle.shb_lines.proofs.events.Events.{thread_is, event_of_thread, is_of_true, fork_earlier}
@@ -21,16 +21,16 @@ use Rattle.shb_links.specs.Links.{Exactly, HasLocals}
 use Rattle.shb_lines.specs.events.Sizes.{IsWithin}
 use Rattle.shb_lines.specs.declared.event.Sizes.{Sizes}
 
-pub place_bound : (trace : List Event) (t e : ℕ) → place_in_thread trace t e ≤ e + 1
-place_bound trace t e =
+pub time_bound : (trace : List Event) (t e : ℕ) → local_time trace t e ≤ e + 1
+time_bound trace t e =
     let all = count_by-le-length (is_of t) (take (e + 1) trace) in
     let front = length-take {A = Event} (e + 1) trace in
     omega (arith, all, front)
 
--- the place of an event, from the last event of its thread
+-- the local time of an event, from the last event of its thread
 module _ (trace : List Event) (e t : ℕ) (of_e : thread_at trace e ≡ Some t) where
-  place_here : place_in_thread trace t e ≡ count_by (is_of t) (take e trace) + 1
-  place_here = let d = event_of_thread trace e t of_e in count_more_yes (is_of t) trace e d.0 d.1 (is_of_true t d.0 d.2)
+  time_here : local_time trace t e ≡ count_by (is_of t) (take e trace) + 1
+  time_here = let d = event_of_thread trace e t of_e in count_more_yes (is_of t) trace e d.0 d.1 (is_of_true t d.0 d.2)
 
   none_of : (a : ℕ) → ((m : ℕ) → a ≤ m → m < e → thread_at trace m ≢ Some t) → a ≤ e → count_by (is_of t) (take e trace) ≡ count_by (is_of t) (take a trace)
   none_of a none le = count_gap (is_of t) trace a e le (λ k d low high at_k. other k d low high at_k (cases_Bool (is_of t d)))
@@ -39,11 +39,11 @@ module _ (trace : List Event) (e t : ℕ) (of_e : thread_at trace e ≡ Some t) 
       other k d low high at_k (inr fails) = fails
       other k d low high at_k (inl is) = absurd (none k low high (thread_is trace k d at_k ∙ ap (λ x. Some x) (is_of_thread t d is)))
 
-  pub place_first : ((m : ℕ) → m < e → thread_at trace m ≢ Some t) → place_in_thread trace t e ≡ 1
-  place_first none = let gap = none_of 0 (λ m low high. none m high) (omega arith) in let own = place_here in omega (arith, gap, own)
+  pub time_first : ((m : ℕ) → m < e → thread_at trace m ≢ Some t) → local_time trace t e ≡ 1
+  time_first none = let gap = none_of 0 (λ m low high. none m high) (omega arith) in let own = time_here in omega (arith, gap, own)
 
-  pub place_after : (p : ℕ) → IsLatestBefore (OfThread trace t) e p → place_in_thread trace t e ≡ place_in_thread trace t p + 1
-  place_after p latest = let gap = none_of (p + 1) (λ m low high. latest.last m (omega arith) high) (let lt = latest.earlier in omega arith) in let own = place_here in omega (arith, gap, own)
+  pub time_after : (p : ℕ) → IsLatestBefore (OfThread trace t) e p → local_time trace t e ≡ local_time trace t p + 1
+  time_after p latest = let gap = none_of (p + 1) (λ m low high. latest.last m (omega arith) high) (let lt = latest.earlier in omega arith) in let own = time_here in omega (arith, gap, own)
 
   pub pred_link : IsDisciplined trace → (last fork : Option ℕ) → Latest (OfThread trace t) e last → Latest (ForksThread trace t) e fork → Exactly (λ p. IsPred trace p e) (option_or last fork)
   pred_link disciplined (Some p) fork latest forks = in_thread t latest.holds of_e latest.earlier latest.last
@@ -76,20 +76,20 @@ thread_entry P trace sizes table e t d within lt has of_e =
 
 -- what the pass finds of the event at e, from the tables of what stands before it
 module _ (trace : List Event) (sizes : Sizes) (e : ℕ) (d : Event) (within : IsWithin trace sizes) (lt : e < length trace) where
-  pub place_next : (locals : List ℕ) (last : List (Option ℕ)) (p : ℕ) → HasLocals trace e locals → IsLatestTable (OfThread trace) e sizes.threads last → get_or last (get_or trace e d).thread None ≡ Some p → (t : ℕ) → thread_at trace e ≡ Some t → get_or locals p 0 + 1 ≡ place_in_thread trace t e
-  place_next locals last p places has is t of_e =
+  pub time_next : (locals : List ℕ) (last : List (Option ℕ)) (p : ℕ) → HasLocals trace e locals → IsLatestTable (OfThread trace) e sizes.threads last → get_or last (get_or trace e d).thread None ≡ Some p → (t : ℕ) → thread_at trace e ≡ Some t → get_or locals p 0 + 1 ≡ local_time trace t e
+  time_next locals last p times has is t of_e =
       let latest : IsLatestBefore (OfThread trace t) e p = subst (λ (o : Option ℕ). Latest (OfThread trace t) e o) is (thread_entry (OfThread trace) trace sizes last e t d within lt has of_e) in
-      let known = places.each p t latest.earlier latest.holds in
-      let after = place_after trace e t of_e p latest in
+      let known = times.each p t latest.earlier latest.holds in
+      let after = time_after trace e t of_e p latest in
       omega (arith, known, after)
 
-  pub place_start : (last : List (Option ℕ)) → IsLatestTable (OfThread trace) e sizes.threads last → get_or last (get_or trace e d).thread None ≡ None → (t : ℕ) → thread_at trace e ≡ Some t → 1 ≡ place_in_thread trace t e
-  place_start last has is t of_e = sym (place_first trace e t of_e (subst (λ (o : Option ℕ). Latest (OfThread trace t) e o) is (thread_entry (OfThread trace) trace sizes last e t d within lt has of_e)))
+  pub time_start : (last : List (Option ℕ)) → IsLatestTable (OfThread trace) e sizes.threads last → get_or last (get_or trace e d).thread None ≡ None → (t : ℕ) → thread_at trace e ≡ Some t → 1 ≡ local_time trace t e
+  time_start last has is t of_e = sym (time_first trace e t of_e (subst (λ (o : Option ℕ). Latest (OfThread trace t) e o) is (thread_entry (OfThread trace) trace sizes last e t d within lt has of_e)))
 
-  pub place_small : (locals : List ℕ) (last : List (Option ℕ)) (p : ℕ) → HasLocals trace e locals → IsLatestTable (OfThread trace) e sizes.threads last → get_or last (get_or trace e d).thread None ≡ Some p → get_or locals p 0 < length trace
-  place_small locals last p places has is =
-      let next = place_next locals last p places has is (get_or trace e d).thread (thread_item trace e d lt) in
-      let low = place_bound trace (get_or trace e d).thread e in
+  pub time_small : (locals : List ℕ) (last : List (Option ℕ)) (p : ℕ) → HasLocals trace e locals → IsLatestTable (OfThread trace) e sizes.threads last → get_or last (get_or trace e d).thread None ≡ Some p → get_or locals p 0 < length trace
+  time_small locals last p times has is =
+      let next = time_next locals last p times has is (get_or trace e d).thread (thread_item trace e d lt) in
+      let low = time_bound trace (get_or trace e d).thread e in
       omega (arith, next, low, lt)
 
   pub pred_found : (last forks : List (Option ℕ)) → IsDisciplined trace → IsLatestTable (OfThread trace) e sizes.threads last → IsLatestTable (ForksThread trace) e sizes.threads forks → Exactly (λ p. IsPred trace p e) (option_or (get_or last (get_or trace e d).thread None) (get_or forks (get_or trace e d).thread None))

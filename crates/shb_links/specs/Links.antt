@@ -2,7 +2,7 @@
 use Rattle.std.specs.Prelude.{◌≡◌, ℕ, zero, suc, ◌<◌, ◌≤◌, List, Option, Some, None, length, slice_index_or}
 use Rattle.shb_lines.specs.declared.event.Event.{Event}
 use Rattle.shb_lines.specs.events.Events.{thread_at}
-use Rattle.shb_lines.specs.events.Discipline.{place_in_thread}
+use Rattle.shb_lines.specs.events.Discipline.{local_time}
 use Rattle.shb_lines.specs.events.Order.{IsPred, LastWrite, IsNumberOf}
 use Rattle.shb_links.specs.Latest.{ForksThread, Latest, OfThread}
 
@@ -20,10 +20,10 @@ Exactly P None = (k : ℕ) → ¬ P k
 abbrev pub IsLocal : List Event → ℕ → ℕ → Type 0
 IsLocal trace e n = IsNumberOf (λ k. (k ≤ e) × (thread_at trace k ≡ thread_at trace e)) n
 
--- the places in their threads, from 1, of the first n events
+-- the local times, from 1, of the first n events
 pub record HasLocals (trace : List Event) (n : ℕ) (locals : List ℕ) : Type 0 where
   pub as_long : length locals ≡ n
-  pub each : (e t : ℕ) → e < n → thread_at trace e ≡ Some t → slice_index_or locals e 0 ≡ place_in_thread trace t e
+  pub each : (e t : ℕ) → e < n → thread_at trace e ≡ Some t → slice_index_or locals e 0 ≡ local_time trace t e
 
 -- the predecessors of the first n events
 pub record HasPreds (trace : List Event) (n : ℕ) (preds : List (Option ℕ)) : Type 0 where
@@ -45,7 +45,7 @@ pub record HasLastEvents (trace : List Event) (last : List (Option ℕ)) : Type 
 
 -- the links of the whole trace; the tables of predecessors and last writes are those of its first events, or empty
 pub record HasLinks (trace : List Event) (locals : List ℕ) (preds writes forks last : List (Option ℕ)) : Type 0 where
-  pub places : HasLocals trace (length trace) locals
+  pub times : HasLocals trace (length trace) locals
   pub predecessors : HasPreds trace (length preds) preds
   pub last_writes : HasLastWrites trace (length writes) writes
   pub forks_of_threads : HasForks trace forks

@@ -14,7 +14,7 @@ pub record AreLatest (trace : List Event) (n : ℕ) (sizes : Sizes) (latest : La
   pub writes : IsLatestTable (WritesVariable trace) n sizes.variables latest.writes.items
   pub forks : IsLatestTable (ForksThread trace) n sizes.threads latest.forks.items
 
--- the place, the predecessor and the last write of each event
+-- the local time, the predecessor and the last write of each event
 pub record AreEntries (trace : List Event) (n : ℕ) (entries : Entries) : Type 0 where
   pub locals : HasLocals trace n entries.locals.items
   pub preds : HasPreds trace n entries.preds.items

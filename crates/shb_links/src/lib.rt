@@ -1,4 +1,4 @@
-//! The links of a disciplined trace: the place of each event in its thread, its predecessor, the
+//! The links of a disciplined trace: the local time of each event, its predecessor, the
 //! last write of each read, and the fork of each thread.
 //!
 //! One forward pass with three tables: the last event of each thread, the last write of each

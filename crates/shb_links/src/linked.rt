@@ -18,7 +18,7 @@ pub struct Linked<'a> {
     pub events: &'a [Event],
     /// How many threads, locks and variables the trace names.
     pub sizes: Sizes,
-    /// The links of the events: place in the thread, predecessor, last write.
+    /// The links of the events: local time, predecessor, last write.
     pub links: &'a Links<'a>,
     pub ghost of_links: { links.now ≡ events.now },
     pub ghost few: { length events.now ≤ most_events },

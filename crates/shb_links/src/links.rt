@@ -1,8 +1,8 @@
-//! The links of a trace: places in threads, predecessors, last writes and forks.
+//! The links of a trace: local times, predecessors, last writes and forks.
 
 ghost use Rattle.std.specs.Prelude.{◌≡◌, ℕ, ◌<◌, List, Some, IfOk, length};
 ghost use Rattle.shb_lines.specs.declared.event.Event.{Event};
-ghost use Rattle.shb_lines.specs.events.Discipline.{place_in_thread};
+ghost use Rattle.shb_lines.specs.events.Discipline.{local_time};
 ghost use Rattle.shb_lines.specs.events.Order.{IsPred, LastWrite};
 ghost use Rattle.shb_lines.specs.events.Events.{thread_at};
 ghost use Rattle.shb_links.specs.Latest.{Latest, OfThread, ForksThread};
@@ -52,12 +52,12 @@ impl<'a> Model for Links<'a> {
 }
 
 impl<'a> Links<'a> {
-    /// The place of event `e` in its thread: how many events of that thread stand at `e` or before
+    /// The local time of event `e`: how many events of that thread stand at `e` or before
     /// it, so 1 for the thread's first event.
     pub fn local(&self, e: u32) -> u32
         requires { e < length self.now }
-        ensures place { (t : ℕ) → thread_at self.now e ≡ Some t
-            → result ≡ place_in_thread self.now t e }
+        ensures time { (t : ℕ) → thread_at self.now e ≡ Some t
+            → result ≡ local_time self.now t e }
         ensures number { IsLocal self.now e result }
     {
         self.locals[e as usize]

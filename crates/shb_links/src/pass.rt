@@ -1,7 +1,7 @@
 //! The pass over a trace that finds its links.
 
 ghost use Rattle.std.specs.Prelude.{◌≡◌, ℕ, ◌<◌, ◌+◌, List, Some, IfOk, OnOk, length};
-ghost use Rattle.shb_lines.specs.events.Discipline.{place_in_thread};
+ghost use Rattle.shb_lines.specs.events.Discipline.{local_time};
 ghost use Rattle.shb_lines.specs.events.Order.{IsPred, LastWrite};
 ghost use Rattle.shb_lines.specs.events.Events.{thread_at};
 ghost use Rattle.shb_lines.specs.events.Sizes.{IsWithin};
@@ -25,7 +25,7 @@ pub(crate) struct LatestEvents {
     pub(crate) forks: Vec<Option<u32>>,
 }
 
-/// What the pass has found of each event: its place in its thread, its predecessor and its last write.
+/// What the pass has found of each event: its local time, its predecessor and its last write.
 #[derive(Drop)]
 pub(crate) struct Entries {
     pub(crate) locals: Vec<u32>,
@@ -129,14 +129,14 @@ impl LocalTimes {
     }
 }
 
-/// The place of an event in its thread, from the places before it and the last event of each
+/// The local time of an event, from those before it and the last event of each
 /// thread.
 fn next_local(trace: &Disciplined<'_>, locals: &[u32], last: &[Option<u32>], e: u32) -> u32
     requires in_range { e < length trace.now.events.now }
     requires locals { HasLocals trace.now.events.now e locals.now }
     requires last { IsLatestTable (OfThread trace.now.events.now) e trace.now.sizes.threads last.now }
     ensures { (t : ℕ) → thread_at trace.now.events.now e ≡ Some t
-        → result ≡ place_in_thread trace.now.events.now t e }
+        → result ≡ local_time trace.now.events.now t e }
 {
     match last[trace.events[e as usize].thread as usize] {
         Some(p) => locals[p as usize] + 1,

@@ -14,7 +14,8 @@ use Rattle.shb_lines.specs.events.Reach.{numbers_where}
 use Rattle.shb_lines.specs.events.Sizes.{IsNumberedByAccess}
 use Rattle.shb_pairs.specs.declared.piece.Piece.{Piece}
 use Rattle.shb_pairs.specs.Accesses.{accesses_in, listed_accesses, variables_in}
-use Rattle.shb_pairs.specs.Listed.{AreOpen, Listed, is_open}
+use Rattle.shb_clocks.specs.Open.{OpenTrace, is_open}
+use Rattle.shb_pairs.specs.Open.{AreOpen}
 use Rattle.shb_pairs.specs.Pieces.{run_at, runs_of, pieces_below, pieces_in}
 use Rattle.shb_pairs.specs.Races.{races_with, races_of, races_at, joined}
 use Rattle.shb_pairs.proofs.Listing.{numbers_below, races_on, races_on_parts, all_races, all_is_race_list}
@@ -72,24 +73,24 @@ no_members : {X : Type 0} (xs : List X) → ((p : X) → Contains xs p → ⊥) 
 no_members [] none = refl
 no_members (x ∷ xs) none = absurd (none x (contains_head x xs))
 
-variable_joined : (a : Listed) → AreOpen a.trace a.flags → (x : ℕ) → flat_map (races_of a.trace) (runs_on x (listed_accesses a x)) ≡ races_on a.trace x
-variable_joined a settled x = elim (cases_Bool (is_open a.flags x)) [
+variable_joined : (a : OpenTrace) → AreOpen a.trace a.flags → (x : ℕ) → flat_map (races_of a.trace) (runs_on x (listed_accesses a x)) ≡ races_on a.trace x
+variable_joined a free_write x = elim (cases_Bool (is_open a.flags x)) [
   | inl h ↦ ap (λ (ks : List ℕ). flat_map (races_of a.trace) (runs_on x ks)) (listed_open a x h) ∙ open_joined a.trace x
-  | inr h ↦ ap (λ (ks : List ℕ). flat_map (races_of a.trace) (runs_on x ks)) (listed_closed a x h) ∙ (ap (λ (ps : List Piece). flat_map (races_of a.trace) ps) (no_runs x) ∙ sym (no_members (races_on a.trace x) (λ p c. let there = races_on_parts a.trace x p c in settled x h p.0 p.1 there.0 there.1)))
+  | inr h ↦ ap (λ (ks : List ℕ). flat_map (races_of a.trace) (runs_on x ks)) (listed_closed a x h) ∙ (ap (λ (ps : List Piece). flat_map (races_of a.trace) ps) (no_runs x) ∙ sym (no_members (races_on a.trace x) (λ p c. let there = races_on_parts a.trace x p c in free_write x h p.0 p.1 there.0 there.1)))
 ]
 
-pieces_joined : (a : Listed) → AreOpen a.trace a.flags → (n : ℕ) → flat_map (races_of a.trace) (pieces_below a n) ≡ flat_map (races_on a.trace) (numbers_below n)
+pieces_joined : (a : OpenTrace) → AreOpen a.trace a.flags → (n : ℕ) → flat_map (races_of a.trace) (pieces_below a n) ≡ flat_map (races_on a.trace) (numbers_below n)
 unfolding pieces_below numbers_where
-pieces_joined a settled zero = refl
-pieces_joined a settled (suc x) =
+pieces_joined a free_write zero = refl
+pieces_joined a free_write (suc x) =
     flat_map-append (races_of a.trace) (pieces_below a x) (runs_on x (listed_accesses a x))
-    ∙ (ap (λ (ys : List (ℕ × ℕ)). ys ++ flat_map (races_of a.trace) (runs_on x (listed_accesses a x))) (pieces_joined a settled x)
-    ∙ (ap (λ (ys : List (ℕ × ℕ)). flat_map (races_on a.trace) (numbers_below x) ++ ys) (variable_joined a settled x ∙ sym (append-nil (races_on a.trace x)))
+    ∙ (ap (λ (ys : List (ℕ × ℕ)). ys ++ flat_map (races_of a.trace) (runs_on x (listed_accesses a x))) (pieces_joined a free_write x)
+    ∙ (ap (λ (ys : List (ℕ × ℕ)). flat_map (races_on a.trace) (numbers_below x) ++ ys) (variable_joined a free_write x ∙ sym (append-nil (races_on a.trace x)))
     ∙ sym (flat_map-append (races_on a.trace) (numbers_below x) (x ∷ []))))
 
-pub values_joined : (a : Listed) → AreOpen a.trace a.flags → joined (values_of (races_at a) (length (pieces_in a))) ≡ all_races a.trace
+pub values_joined : (a : OpenTrace) → AreOpen a.trace a.flags → joined (values_of (races_at a) (length (pieces_in a))) ≡ all_races a.trace
 unfolding races_at
-values_joined a settled = joined_values (races_of a.trace) (pieces_in a) _ ∙ pieces_joined a settled (variables_in a.trace)
+values_joined a free_write = joined_values (races_of a.trace) (pieces_in a) _ ∙ pieces_joined a free_write (variables_in a.trace)
 
-pub values_are_race_list : (a : Listed) → IsNumberedByAccess a.trace → AreOpen a.trace a.flags → IsRaceList a.trace (joined (values_of (races_at a) (length (pieces_in a))))
-values_are_race_list a numbered settled = subst (IsRaceList a.trace) (sym (values_joined a settled)) (all_is_race_list a.trace numbered)
+pub values_are_race_list : (a : OpenTrace) → IsNumberedByAccess a.trace → AreOpen a.trace a.flags → IsRaceList a.trace (joined (values_of (races_at a) (length (pieces_in a))))
+values_are_race_list a numbered free_write = subst (IsRaceList a.trace) (sym (values_joined a free_write)) (all_is_race_list a.trace numbered)

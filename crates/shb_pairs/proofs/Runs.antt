@@ -13,7 +13,7 @@ use Rattle.shb_lines.proofs.events.Reach.{numbers_listed, reflect_race}
 use Rattle.shb_lines.specs.declared.event.Pair.{Pair}
 use Rattle.shb_pairs.specs.declared.piece.Piece.{Piece}
 use Rattle.shb_pairs.specs.Accesses.{accesses_at, accesses_in, listed_accesses, variables_in}
-use Rattle.shb_pairs.specs.Listed.{Listed, is_open}
+use Rattle.shb_clocks.specs.Open.{OpenTrace, is_open}
 use Rattle.shb_pairs.specs.Pieces.{run_at, runs_of, pieces_below, pieces_in}
 use Rattle.shb_pairs.specs.Races.{piece_at, races_with, races_of, races_at}
 use Rattle.shb_pairs.proofs.ByThread.{listed_closed, listed_open}
@@ -29,7 +29,7 @@ pub record IsRun (trace : List Event) (flags : List Bool) (p : Piece) : Type 0 w
 pub run_start : (n k : ℕ) → k < div_ceil n 64 → 64 * k < n
 run_start n k lt = omega arith
 
-runs_within : (a : Listed) (x k : ℕ) → x < variables_in a.trace → is_open a.flags x ≡ true → k ≤ div_ceil (length (accesses_in a.trace x)) 64 → All (IsRun a.trace a.flags) (runs_of x (length (accesses_in a.trace x)) k)
+runs_within : (a : OpenTrace) (x k : ℕ) → x < variables_in a.trace → is_open a.flags x ≡ true → k ≤ div_ceil (length (accesses_in a.trace x)) 64 → All (IsRun a.trace a.flags) (runs_of x (length (accesses_in a.trace x)) k)
 unfolding runs_of
 runs_within a x zero below opened le = All-nil (IsRun a.trace a.flags)
 runs_within a x (suc k) below opened le =
@@ -47,18 +47,18 @@ zero_runs x n k e = rw e refl
 pub no_runs : (x : ℕ) → runs_on x [] ≡ []
 no_runs x = zero_runs x 0 (div_ceil 0 64) (omega arith)
 
-variable_within_runs : (a : Listed) (x : ℕ) → x < variables_in a.trace → All (IsRun a.trace a.flags) (runs_on x (listed_accesses a x))
+variable_within_runs : (a : OpenTrace) (x : ℕ) → x < variables_in a.trace → All (IsRun a.trace a.flags) (runs_on x (listed_accesses a x))
 variable_within_runs a x below = elim (cases_Bool (is_open a.flags x)) [
   | inl h ↦ subst (λ (ks : List ℕ). All (IsRun a.trace a.flags) (runs_on x ks)) (sym (listed_open a x h)) (runs_within a x _ below h (omega arith))
   | inr h ↦ subst (λ (ks : List ℕ). All (IsRun a.trace a.flags) (runs_on x ks)) (sym (listed_closed a x h)) (rw (no_runs x) (All-nil (IsRun a.trace a.flags)))
 ]
 
-pieces_within : (a : Listed) (n : ℕ) → n ≤ variables_in a.trace → All (IsRun a.trace a.flags) (pieces_below a n)
+pieces_within : (a : OpenTrace) (n : ℕ) → n ≤ variables_in a.trace → All (IsRun a.trace a.flags) (pieces_below a n)
 unfolding pieces_below
 pieces_within a zero le = All-nil (IsRun a.trace a.flags)
 pieces_within a (suc x) le = All-append (IsRun a.trace a.flags) (pieces_below a x) (runs_on x (listed_accesses a x)) (pieces_within a x (omega arith)) (variable_within_runs a x (omega arith))
 
-pub piece_within : (a : Listed) (k : ℕ) (d : Piece) → k < length (pieces_in a) → IsRun a.trace a.flags (get_or (pieces_in a) k d)
+pub piece_within : (a : OpenTrace) (k : ℕ) (d : Piece) → k < length (pieces_in a) → IsRun a.trace a.flags (get_or (pieces_in a) k d)
 piece_within a k d lt = pieces_within a (variables_in a.trace) (omega arith) k d lt
 
 -- one run more, and one variable more
@@ -66,7 +66,7 @@ pub runs_more : (x n k : ℕ) → runs_of x n (k + 1) ≡ runs_of x n k ++ run_a
 unfolding runs_of
 runs_more x n k = rw add-one refl
 
-pub pieces_more : (a : Listed) (x : ℕ) → pieces_below a (x + 1) ≡ pieces_below a x ++ runs_on x (listed_accesses a x)
+pub pieces_more : (a : OpenTrace) (x : ℕ) → pieces_below a (x + 1) ≡ pieces_below a x ++ runs_on x (listed_accesses a x)
 unfolding pieces_below
 pieces_more a x = rw add-one refl
 
@@ -163,12 +163,12 @@ pub run_first : (trace : List Event) (xs : List ℕ) (pairs : List Pair) (from :
 run_first trace xs pairs from none = let e : from - from ≡ 0 = omega arith in rw (none, e) refl
 
 -- the run and the races of piece k
-pub piece_value : (a seen : Listed) (trace : List Event) (pieces : List Piece) (k : ℕ) (piece : Piece) → a ≡ seen → a.trace ≡ trace → pieces ≡ pieces_in a → k < length (pieces_in seen) → piece ≡ piece_at pieces k
+pub piece_value : (a seen : OpenTrace) (trace : List Event) (pieces : List Piece) (k : ℕ) (piece : Piece) → a ≡ seen → a.trace ≡ trace → pieces ≡ pieces_in a → k < length (pieces_in seen) → piece ≡ piece_at pieces k
     → IsRun trace a.flags piece × (races_at seen k ≡ races_of seen.trace piece)
 unfolding races_at
 piece_value a seen trace pieces k piece same of_trace is lt found =
-    let own : piece ≡ piece_at (pieces_in seen) k = found ∙ ap (λ (ps : List Piece). piece_at ps k) (is ∙ ap (λ (b : Listed). pieces_in b) same) in
-    (subst (λ (tr : List Event). IsRun tr a.flags piece) of_trace (subst (λ (b : Listed). IsRun b.trace b.flags piece) (sym same) (subst (IsRun seen.trace seen.flags) (sym own) (piece_within seen k _ lt))), ap (λ (q : Piece). races_of seen.trace q) (sym own))
+    let own : piece ≡ piece_at (pieces_in seen) k = found ∙ ap (λ (ps : List Piece). piece_at ps k) (is ∙ ap (λ (b : OpenTrace). pieces_in b) same) in
+    (subst (λ (tr : List Event). IsRun tr a.flags piece) of_trace (subst (λ (b : OpenTrace). IsRun b.trace b.flags piece) (sym same) (subst (IsRun seen.trace seen.flags) (sym own) (piece_within seen k _ lt))), ap (λ (q : Piece). races_of seen.trace q) (sym own))
 
 pub run_small : (trace : List Event) (flags : List Bool) (p : Piece) → IsRun trace flags p → (p.from ≤ length trace) × (p.to ≤ length trace)
 run_small trace flags p run =

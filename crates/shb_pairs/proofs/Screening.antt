@@ -23,9 +23,9 @@ use Rattle.shb_pairs.proofs.Counting.{variable_item}
 use Rattle.shb_pairs.specs.declared.screen.Latest.{Latest}
 use Rattle.shb_pairs.specs.declared.screen.Mark.{Mark}
 use Rattle.shb_pairs.specs.declared.screen.KeptRead.{KeptRead}
-use Rattle.shb_pairs.specs.Listed.{AreOpen}
-use Rattle.shb_pairs.specs.Screen.{AreScreened, Covers, IsMarkOf, IsOf, IsPast, IsScreened, newest, no_place, older}
-use Rattle.shb_pairs.proofs.Settled.{chain_below}
+use Rattle.shb_pairs.specs.Open.{AreOpen}
+use Rattle.shb_pairs.specs.Screen.{AreScreened, Covers, IsMarkOf, IsOf, IsPast, IsScreened, newest, no_time, older}
+use Rattle.shb_pairs.proofs.FreeWrites.{chain_below}
 
 -- the event of a mark that is past
 pub mark_below : (trace : List Event) (mark : Mark) (e j : ℕ) → IsMarkOf trace mark e → e < j → IsPast trace mark j → BelowPred trace e j
@@ -33,11 +33,11 @@ mark_below trace mark e j own lt past = elim past.below [
   | inl none ↦ absurd (
       let d = event_of_thread trace e mark.thread own.thread in
       let more = count_more_yes (is_of mark.thread) trace e d.0 d.1 (is_of_true mark.thread d.0 d.2) in
-      let place = own.place in
-      omega (arith, none, more, place))
+      let time = own.time in
+      omega (arith, none, more, time))
   | inr some ↦ elim some [
     | inl same ↦ thread_below_pred trace mark.thread e j lt own.thread same
-    | inr counted ↦ (let place = own.place in let le = counted.2 in below_from_local trace mark.thread j counted.0 counted.1 e own.thread (omega (arith, place, le)))
+    | inr counted ↦ (let time = own.time in let le = counted.2 in below_from_local trace mark.thread j counted.0 counted.1 e own.thread (omega (arith, time, le)))
   ]
 ]
 
@@ -85,15 +85,15 @@ pub screened_none : (trace : List Event) (reads : List KeptRead) (x : ℕ) (late
 screened_none trace reads x latest = record {
   writes = λ k e lt le writes past. absurd (omega (arith, lt));
   accesses = λ k lt access. absurd (omega (arith, lt));
-  free = λ i j lt access placed race. absurd (omega (arith, lt));
+  free = λ i j lt access known race. absurd (omega (arith, lt));
 }
 
 -- an open variable
-pub screened_open : (trace : List Event) (reads : List KeptRead) (n x : ℕ) (latest : Latest) → latest.write.place ≡ no_place → IsScreened trace reads n x latest
+pub screened_open : (trace : List Event) (reads : List KeptRead) (n x : ℕ) (latest : Latest) → latest.write.time ≡ no_time → IsScreened trace reads n x latest
 screened_open trace reads n x latest is = record {
-  writes = λ k e lt le writes past. absurd (past.placed is);
-  accesses = λ k lt access. (latest.read.mark, newest refl, λ e le past also. absurd (past.placed is));
-  free = λ i j lt access placed race. placed is;
+  writes = λ k e lt le writes past. absurd (past.known is);
+  accesses = λ k lt access. (latest.read.mark, newest refl, λ e le past also. absurd (past.known is));
+  free = λ i j lt access known race. known is;
 }
 
 -- an event that doesn't access the variable
@@ -101,7 +101,7 @@ pub screened_other : (trace : List Event) (reads : List KeptRead) (n x : ℕ) (l
 screened_other trace reads n x latest other h = record {
   writes = λ k e lt le writes past. h.writes k e (before k lt (write_accesses trace k x writes)) (omega arith) writes past;
   accesses = λ k lt access. (let c = h.accesses k (before k lt access) access in (c.0, c.1, λ e le past also. c.2 e (omega arith) past also));
-  free = λ i j lt access placed race. h.free i j (before j lt access) access placed race;
+  free = λ i j lt access known race. h.free i j (before j lt access) access known race;
 }
   where
     before : (k : ℕ) → k < n + 1 → variable_at trace k ≡ Some x → k < n
@@ -123,9 +123,9 @@ pub screened_write : (trace : List Event) → IsDisciplined trace → (reads : L
 screened_write trace disciplined reads n x latest next access past also own h = record {
   writes = λ k e lt le writes later. below k e lt le (write_accesses trace k x writes) later;
   accesses = λ k lt of_k. (next.read.mark, newest refl, λ e le later read. below k e lt le of_k later);
-  free = λ i j lt of_j placed race. elim (cases_eq j n) [
+  free = λ i j lt of_j known race. elim (cases_eq j n) [
     | inl same ↦ (let here : Race trace i n = subst (Race trace i) same race in here.unordered (all_below trace reads n x latest past also h i here.earlier (race_accesses trace x i n access here)))
-    | inr ne ↦ h.free i j (omega arith) of_j past.placed race
+    | inr ne ↦ h.free i j (omega arith) of_j past.known race
   ];
 }
   where
@@ -146,7 +146,7 @@ module _ (trace : List Event) (disciplined : IsDisciplined trace) (reads : List 
   read_free : (i j : ℕ) → j < n + 1 → variable_at trace j ≡ Some x → Race trace i j → ⊥
   read_free i j lt of_j race = elim (cases_eq j n) [
     | inl same ↦ here (subst (Race trace i) same race)
-    | inr ne ↦ h.free i j (omega arith) of_j past.placed race
+    | inr ne ↦ h.free i j (omega arith) of_j past.known race
   ]
     where
       here : Race trace i n → ⊥
@@ -163,7 +163,7 @@ module _ (trace : List Event) (disciplined : IsDisciplined trace) (reads : List 
   covers_more : (k : ℕ) (mark : Mark) → Covers trace n latest.write mark k → Covers trace (n + 1) next.write mark k
   covers_more k mark covers e le later read = covers e (omega arith) (subst (λ (m : Mark). IsPast trace m e) same_write later) read
 
-  -- it is after the newest read, whose place it takes
+  -- it is after the newest read, which it replaces
   pub screened_read : IsPast trace latest.read.mark n → IsMarkOf trace next.read.mark n → next.read.before ≡ latest.read.before → IsScreened trace reads (n + 1) x next
   screened_read also own same_before = record {
     writes = read_writes;
@@ -171,7 +171,7 @@ module _ (trace : List Event) (disciplined : IsDisciplined trace) (reads : List 
       | inl same ↦ (next.read.mark, newest refl, own_covers k same own)
       | inr ne ↦ (let c = h.accesses k (omega arith) of_k in kept_covers k c.0 c.1 c.2)
     ];
-    free = λ i j lt of_j placed race. read_free i j lt of_j race;
+    free = λ i j lt of_j known race. read_free i j lt of_j race;
   }
     where
       kept_covers : (k : ℕ) (mark : Mark) → IsOf reads mark latest.read → Covers trace n latest.write mark k → (m : Mark) × IsOf reads m next.read × Covers trace (n + 1) next.write m k
@@ -186,15 +186,15 @@ module _ (trace : List Event) (disciplined : IsDisciplined trace) (reads : List 
       | inl same ↦ (next.read.mark, newest refl, own_covers k same own)
       | inr ne ↦ (let c = h.accesses k (omega arith) of_k in (c.0, older latest.read at (kept c.0 latest.read c.1), covers_more k c.0 c.2))
     ];
-    free = λ i j lt of_j placed race. read_free i j lt of_j race;
+    free = λ i j lt of_j known race. read_free i j lt of_j race;
   }
 
   -- or the reads are not kept
-  pub screened_unordered : next.read.mark.place ≡ no_place → IsScreened trace reads (n + 1) x next
+  pub screened_unordered : next.read.mark.time ≡ no_time → IsScreened trace reads (n + 1) x next
   screened_unordered none = record {
     writes = read_writes;
-    accesses = λ k lt of_k. (next.read.mark, newest refl, λ e le later read. absurd (read.placed none));
-    free = λ i j lt of_j placed race. read_free i j lt of_j race;
+    accesses = λ k lt of_k. (next.read.mark, newest refl, λ e le later read. absurd (read.known none));
+    free = λ i j lt of_j known race. read_free i j lt of_j race;
   }
 
 -- the table
@@ -221,14 +221,14 @@ table_access trace reads more n size x next table kept within access screened h 
     go y d lt (inr ne) = rw (get_or-set_other table x y next d ne) (screened_other trace more n y (get_or table y d) (λ of_n. ne (let s : Some y ≡ Some x = sym of_n ∙ access in cc)) (screened_more trace reads more n y (get_or table y d) kept (h.each y d lt)))
 
 -- the flags
-pub flags_open : (trace : List Event) (reads : List KeptRead) (size : ℕ) (table : List Latest) (flags : List Bool) → ((k x : ℕ) → variable_at trace k ≡ Some x → (k < length trace) × (x < size)) → flags ≡ map (λ (latest : Latest). latest.write.place == no_place) table → AreScreened trace reads (length trace) size table → AreOpen trace flags
+pub flags_open : (trace : List Event) (reads : List KeptRead) (size : ℕ) (table : List Latest) (flags : List Bool) → ((k x : ℕ) → variable_at trace k ≡ Some x → (k < length trace) × (x < size)) → flags ≡ map (λ (latest : Latest). latest.write.time == no_time) table → AreScreened trace reads (length trace) size table → AreOpen trace flags
 flags_open trace reads size table flags within is h x shut i j of_j race =
     let range = within j x of_j in
-    let none : Mark = record { place = 0; thread = 0 } in
+    let none : Mark = record { time = 0; thread = 0 } in
     let d : Latest = record { write = none; read = record { mark = none; before = 0 } } in
     let lt : x < length table = (let long = h.as_many in let low = range.1 in omega (arith, long, low)) in
-    let flag : get_or flags x true ≡ (get_or table x d).write.place == no_place = ap (λ (bs : List Bool). get_or bs x true) is ∙ get_or-map (λ (latest : Latest). latest.write.place == no_place) table x d true lt in
-    (h.each x d range.1).free i j range.0 of_j (λ e. (let yes_it = eq-eqb (get_or table x d).write.place no_place e in let f : true ≡ false = sym yes_it ∙ (sym flag ∙ shut) in (let g : ⊥ = cc in g))) race
+    let flag : get_or flags x true ≡ (get_or table x d).write.time == no_time = ap (λ (bs : List Bool). get_or bs x true) is ∙ get_or-map (λ (latest : Latest). latest.write.time == no_time) table x d true lt in
+    (h.each x d range.1).free i j range.0 of_j (λ e. (let yes_it = eq-eqb (get_or table x d).write.time no_time e in let f : true ≡ false = sym yes_it ∙ (sym flag ∙ shut) in (let g : ⊥ = cc in g))) race
 
 pub apart : (x : ℕ) → Some x ≡ None → ⊥
 apart x h = let f : ⊥ = cc in f

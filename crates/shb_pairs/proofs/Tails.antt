@@ -10,7 +10,7 @@ use Rattle.std.proofs.lemmas.List.Elements.{All-drop, All-take, filter-append}
 use Rattle.shb_lines.specs.declared.event.Event.{Event}
 use Rattle.shb_lines.specs.declared.event.Op.TheVariants.{Read, Write}
 use Rattle.shb_lines.specs.events.Events.{op_at, thread_at}
-use Rattle.shb_lines.specs.events.Discipline.{is_of, place_in_thread}
+use Rattle.shb_lines.specs.events.Discipline.{is_of, local_time}
 use Rattle.shb_lines.specs.events.Order.{IsBelowPredCount}
 use Rattle.shb_lines.specs.events.Race.{Conflict, Race, variable_at}
 use Rattle.shb_lines.specs.events.Reach.{is_race}
@@ -30,10 +30,10 @@ pub record IsRival (trace : List Event) (t j i : ℕ) : Type 0 where
   pub thread : thread_at trace i ≡ Some t
   pub conflict : Conflict trace i j
 
--- a rival races exactly where its place is above what is below the predecessor of j
-pub rival_races : (trace : List Event) (t j n i : ℕ) → IsBelowPredCount trace t j n → IsRival trace t j i → Race trace i j ↔ (n < place_in_thread trace t i)
+-- a rival races exactly where its local time is above what is below the predecessor of j
+pub rival_races : (trace : List Event) (t j n i : ℕ) → IsBelowPredCount trace t j n → IsRival trace t j i → Race trace i j ↔ (n < local_time trace t i)
 rival_races trace t j n i count rival = (
-  (λ race. elim (cases_lt n (place_in_thread trace t i)) [ inl lt ↦ lt | inr le ↦ absurd (race.unordered (below_from_local trace t j n count i rival.thread le)) ]),
+  (λ race. elim (cases_lt n (local_time trace t i)) [ inl lt ↦ lt | inr le ↦ absurd (race.unordered (below_from_local trace t j n count i rival.thread le)) ]),
   (λ lt. record {
     conflict = rival.conflict;
     earlier = rival.earlier;
@@ -41,9 +41,9 @@ rival_races trace t j n i count rival = (
   }),
 )
 
--- places rise along a thread
-pub places_rise : (trace : List Event) (t a b : ℕ) → a < b → thread_at trace b ≡ Some t → place_in_thread trace t a < place_in_thread trace t b
-places_rise trace t a b lt of_b =
+-- local times rise along a thread
+pub times_rise : (trace : List Event) (t a b : ℕ) → a < b → thread_at trace b ≡ Some t → local_time trace t a < local_time trace t b
+times_rise trace t a b lt of_b =
     let e = event_of_thread trace b t of_b in
     let own = count_more_yes (is_of t) trace b e.0 e.1 (is_of_true t e.0 e.2) in
     let more = count_mono (is_of t) trace (a + 1) b (omega arith) in
@@ -59,7 +59,7 @@ pub filter_none : {X : Type 0} (f : X → Bool) (xs : List X) → ((k : ℕ) (d 
 filter_none f [] none = refl
 filter_none f (x ∷ xs) none = rw (none zero x (omega arith)) (filter_none f xs (λ k d lt. none (suc k) d (omega arith)))
 
--- those that pass are the ones between two places
+-- those that pass are the ones between two indices
 pub filter_between : {X : Type 0} (f : X → Bool) (xs : List X) (from to : ℕ) → from ≤ to → to ≤ length xs → ((k : ℕ) (d : X) → k < from → k < length xs → f (get_or xs k d) ≡ false) → ((k : ℕ) (d : X) → from ≤ k → k < to → f (get_or xs k d) ≡ true) → ((k : ℕ) (d : X) → to ≤ k → k < length xs → f (get_or xs k d) ≡ false) → filter f xs ≡ take (to - from) (drop from xs)
 filter_between {X} f xs from to le within low middle high =
     ap (λ (ys : List X). filter f ys) (sym (take-append-drop to xs)) ∙ (filter-append f (take to xs) (drop to xs) ∙ (rw (front, rest, append-nil) (let e : from + (to - from) ≡ to = omega arith in ap (λ (n : ℕ). drop from (take n xs)) (sym e) ∙ drop-take from (to - from) xs)))
@@ -160,7 +160,7 @@ own_thread_races trace j ks within h some same = filter_none (λ i. is_race trac
     race.conflict.other_thread (thread_key trace (get_or ks k 0) (h.in_range k 0 lt) ∙ (ap (λ (n : ℕ). Some n) (h.same_thread k lt ∙ same) ∙ sym (thread_key trace j within))))))
 
 -- what the search among the positions of another thread finds
-pub other_thread_races : (trace : List Event) (j n from to : ℕ) (ks : List ℕ) → j < length trace → AreRivals trace j ks → IsOfOneThread trace ks → 0 < length ks → (key_at trace Thread (get_or ks 0 0) ≡ key_at trace Thread j → ⊥) → IsBelowPredCount trace (key_at trace Thread (get_or ks 0 0)) j n → from ≤ to → to ≤ length ks → ((k : ℕ) → k < to → get_or ks k 0 < j) → ((k : ℕ) → to ≤ k → k < length ks → j ≤ get_or ks k 0) → ((t k : ℕ) → from ≤ k → k < to → thread_at trace (get_or ks k 0) ≡ Some t → n < place_in_thread trace t (get_or ks k 0)) → ((t k : ℕ) → k + 1 ≡ from → thread_at trace (get_or ks k 0) ≡ Some t → place_in_thread trace t (get_or ks k 0) ≤ n) → racing trace j ks ≡ take (to - from) (drop from ks)
+pub other_thread_races : (trace : List Event) (j n from to : ℕ) (ks : List ℕ) → j < length trace → AreRivals trace j ks → IsOfOneThread trace ks → 0 < length ks → (key_at trace Thread (get_or ks 0 0) ≡ key_at trace Thread j → ⊥) → IsBelowPredCount trace (key_at trace Thread (get_or ks 0 0)) j n → from ≤ to → to ≤ length ks → ((k : ℕ) → k < to → get_or ks k 0 < j) → ((k : ℕ) → to ≤ k → k < length ks → j ≤ get_or ks k 0) → ((t k : ℕ) → from ≤ k → k < to → thread_at trace (get_or ks k 0) ≡ Some t → n < local_time trace t (get_or ks k 0)) → ((t k : ℕ) → k + 1 ≡ from → thread_at trace (get_or ks k 0) ≡ Some t → local_time trace t (get_or ks k 0) ≤ n) → racing trace j ks ≡ take (to - from) (drop from ks)
 other_thread_races trace j n from to ks inside rivals h some other count le within before after above under =
     filter_between (λ i. is_race trace i j) ks from to le within
     (λ k d lt here. rw (get_or_default ks k d 0 here) (not_racing trace (get_or ks k 0) j (λ race. let is_above = (rival_races trace thread j n (get_or ks k 0) count (is_rival k (omega arith))).0 race in let is_under = low k lt in omega (arith, is_above, is_under))))
@@ -180,14 +180,14 @@ other_thread_races trace j n from to ks inside rivals h some other count le with
       conflict = rival_conflicts trace j k ks rivals (omega arith) (λ same. other (let e : Some thread ≡ Some (key_at trace Thread j) = sym (of_thread k (omega arith)) ∙ (same ∙ thread_key trace j inside) in cc));
     }
 
-    last : (q : ℕ) → q + 1 ≡ from → place_in_thread trace thread (get_or ks q 0) ≤ n
+    last : (q : ℕ) → q + 1 ≡ from → local_time trace thread (get_or ks q 0) ≤ n
     last q e = under thread q e (of_thread q (omega (arith, e)))
 
-    low : (k : ℕ) → k < from → place_in_thread trace thread (get_or ks k 0) ≤ n
+    low : (k : ℕ) → k < from → local_time trace thread (get_or ks k 0) ≤ n
     low k lt =
         let end = last (from - 1) (omega arith) in
         elim (cases_lt k (from - 1)) [
-          | inl less ↦ (let rise = places_rise trace thread (get_or ks k 0) (get_or ks (from - 1) 0) (h.rising k (from - 1) 0 less (omega arith)) (of_thread (from - 1) (omega arith)) in omega (arith, rise, end))
+          | inl less ↦ (let rise = times_rise trace thread (get_or ks k 0) (get_or ks (from - 1) 0) (h.rising k (from - 1) 0 less (omega arith)) (of_thread (from - 1) (omega arith)) in omega (arith, rise, end))
           | inr past ↦ (let e : k ≡ from - 1 = omega arith in rw e end)
         ]
 

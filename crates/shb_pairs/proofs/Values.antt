@@ -9,7 +9,7 @@ use Rattle.shb_lines.specs.events.Reach.{numbers_where, is_race}
 use Rattle.shb_lines.proofs.events.Reach.{numbers_listed}
 use Rattle.shb_pairs.specs.declared.piece.Piece.{Piece}
 use Rattle.shb_pairs.specs.Accesses.{accesses_at, accesses_in}
-use Rattle.shb_pairs.specs.Listed.{Listed}
+use Rattle.shb_clocks.specs.Open.{OpenTrace}
 use Rattle.shb_pairs.specs.Pieces.{pieces_in}
 use Rattle.shb_pairs.specs.Races.{AreRacesOfRun, PairBefore, accesses_of_run, piece_at, races_at, races_of, races_with}
 use Rattle.shb_pairs.proofs.ByThread.{listed_open}
@@ -53,7 +53,7 @@ run_rises trace ks rising = flat_map_ordered PairBefore (races_with trace) ks
     let rise = rising a b d lt within in
     inl (omega (arith, later_p, later_q, rise)))
 
-value_of_run : (a : Listed) (p : Piece) → IsRun a.trace a.flags p → AreRacesOfRun a p (races_of a.trace p)
+value_of_run : (a : OpenTrace) (p : Piece) → IsRun a.trace a.flags p → AreRacesOfRun a p (races_of a.trace p)
 unfolding races_of
 value_of_run a p run = record {
   all = λ i j. (
@@ -66,6 +66,6 @@ value_of_run a p run = record {
     same : accesses_of_run a p ≡ slice_range (accesses_in a.trace p.variable) p.from p.to
     same = ap (λ (ks : List ℕ). slice_range ks p.from p.to) (listed_open a p.variable run.listed)
 
-pub value_of_piece : (a : Listed) (k : ℕ) → k < length (pieces_in a) → AreRacesOfRun a (piece_at (pieces_in a) k) (races_at a k)
+pub value_of_piece : (a : OpenTrace) (k : ℕ) → k < length (pieces_in a) → AreRacesOfRun a (piece_at (pieces_in a) k) (races_at a k)
 unfolding races_at
 value_of_piece a k lt = value_of_run a (piece_at (pieces_in a) k) (piece_within a k _ lt)

@@ -6,7 +6,7 @@ use Rattle.shb_lines.specs.events.Reach.{numbers_where, is_race}
 use Rattle.shb_lines.specs.declared.event.Pair.{Pair}
 use Rattle.shb_pairs.specs.declared.piece.Piece.{Piece}
 use Rattle.shb_pairs.specs.Accesses.{accesses_in, listed_accesses}
-use Rattle.shb_pairs.specs.Listed.{Listed}
+use Rattle.shb_clocks.specs.Open.{OpenTrace}
 use Rattle.shb_pairs.specs.Pieces.{pieces_in}
 
 -- the races whose later access is j, by the earlier access
@@ -22,11 +22,11 @@ abbrev pub piece_at : List Piece → ℕ → Piece
 piece_at pieces k = slice_index_or pieces k (record { variable = 0; from = 0; to = 0 })
 
 -- the races of piece k
-unfoldable pub races_at : Listed → ℕ → List (ℕ × ℕ)
+unfoldable pub races_at : OpenTrace → ℕ → List (ℕ × ℕ)
 races_at a k = races_of a.trace (piece_at (pieces_in a) k)
 
 -- the accesses in a run
-abbrev pub accesses_of_run : Listed → Piece → List ℕ
+abbrev pub accesses_of_run : OpenTrace → Piece → List ℕ
 accesses_of_run a p = slice_range (listed_accesses a p.variable) p.from p.to
 
 -- p stands before q: by the later access, then by the earlier
@@ -34,7 +34,7 @@ abbrev pub PairBefore : ℕ × ℕ → ℕ × ℕ → Type 0
 PairBefore p q = (p.1 < q.1) ⊎ ((p.1 ≡ q.1) × (p.0 < q.0))
 
 -- all races whose later access is in the run, each once, by the later access, then by the earlier
-pub record AreRacesOfRun (a : Listed) (p : Piece) (races : List (ℕ × ℕ)) : Type 0 where
+pub record AreRacesOfRun (a : OpenTrace) (p : Piece) (races : List (ℕ × ℕ)) : Type 0 where
   pub all : (i j : ℕ) → Contains races (i, j) ↔ (Race a.trace i j × Contains (accesses_of_run a p) j)
   pub in_order : AllPairs PairBefore races
 

@@ -2,7 +2,7 @@
 use Rattle.std.specs.Prelude.{◌≡◌, ◌≢◌, ℕ, ◌<◌, ◌≤◌, ◌⊎◌, List, Some, length, slice_get, slice_index_or}
 use Rattle.shb_lines.specs.declared.event.Event.{Event}
 use Rattle.shb_lines.specs.declared.event.Op.TheVariants.{Write}
-use Rattle.shb_lines.specs.events.Discipline.{place_in_thread}
+use Rattle.shb_lines.specs.events.Discipline.{local_time}
 use Rattle.shb_lines.specs.events.Events.{thread_at, op_at}
 use Rattle.shb_lines.specs.events.Order.{BelowPred, IsBelowPredCount}
 use Rattle.shb_lines.specs.events.Race.{Race, variable_at}
@@ -10,19 +10,19 @@ use Rattle.shb_pairs.specs.declared.screen.Latest.{Latest}
 use Rattle.shb_pairs.specs.declared.screen.Mark.{Mark}
 use Rattle.shb_pairs.specs.declared.screen.KeptRead.{KeptRead}
 
--- the place of no event: an access is not known to be ordered after what such a mark stands for
-abbrev pub no_place : ℕ
-no_place = 4294967295
+-- the local time of no event: an access is not known to be ordered after what such a mark stands for
+abbrev pub no_time : ℕ
+no_time = 4294967295
 
--- what the mark stands for is SHB-below the predecessor of e: it is nothing, or an event of the thread of e, or its place is among those below
+-- what the mark stands for is SHB-below the predecessor of e: it is nothing, or an event of the thread of e, or its local time is among those below
 pub record IsPast (trace : List Event) (mark : Mark) (e : ℕ) : Type 0 where
-  pub placed : mark.place ≢ no_place
-  pub below : (mark.place ≡ 0) ⊎ ((thread_at trace e ≡ Some mark.thread) ⊎ ((n : ℕ) × IsBelowPredCount trace mark.thread e n × (mark.place ≤ n)))
+  pub known : mark.time ≢ no_time
+  pub below : (mark.time ≡ 0) ⊎ ((thread_at trace e ≡ Some mark.thread) ⊎ ((n : ℕ) × IsBelowPredCount trace mark.thread e n × (mark.time ≤ n)))
 
 -- the mark of the event at e
 pub record IsMarkOf (trace : List Event) (mark : Mark) (e : ℕ) : Type 0 where
   pub thread : thread_at trace e ≡ Some mark.thread
-  pub place : mark.place ≡ place_in_thread trace mark.thread e
+  pub time : mark.time ≡ local_time trace mark.thread e
 
 -- the mark is that of a read, or of one that its numbers lead to
 pub data IsOf (reads : List KeptRead) (mark : Mark) : KeptRead → Type 0 where
@@ -37,7 +37,7 @@ Covers trace n write mark k = (e : ℕ) → n ≤ e → IsPast trace write e →
 pub record IsScreened (trace : List Event) (reads : List KeptRead) (n x : ℕ) (latest : Latest) : Type 0 where
   pub writes : (k e : ℕ) → k < n → n ≤ e → op_at trace k ≡ Some (Write x) → IsPast trace latest.write e → BelowPred trace k e
   pub accesses : (k : ℕ) → k < n → variable_at trace k ≡ Some x → (mark : Mark) × IsOf reads mark latest.read × Covers trace n latest.write mark k
-  pub free : (i j : ℕ) → j < n → variable_at trace j ≡ Some x → latest.write.place ≢ no_place → ¬ Race trace i j
+  pub free : (i j : ℕ) → j < n → variable_at trace j ≡ Some x → latest.write.time ≢ no_time → ¬ Race trace i j
 
 -- the same of each variable
 pub record AreScreened (trace : List Event) (reads : List KeptRead) (n size : ℕ) (table : List Latest) : Type 0 where

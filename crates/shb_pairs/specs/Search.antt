@@ -25,8 +25,8 @@ pub record IsOfOneThread (trace : List Event) (list : List ℕ) : Type 0 where
   pub same_thread : (k : ℕ) → k < length list → key_at trace Thread (slice_index_or list k 0) ≡ key_at trace Thread (slice_index_or list 0 0)
   pub rising : AllPairs (λ a b. a < b) list
 
--- the access at place s is the last write before place q among the accesses of x, and no event races with it
-pub record IsSettled (trace : List Event) (x : ℕ) (accesses : List ℕ) (q s : ℕ) : Type 0 where
+-- the access at index s is the last write before index q among the accesses of x, and no event races with it
+pub record IsFreeWrite (trace : List Event) (x : ℕ) (accesses : List ℕ) (q s : ℕ) : Type 0 where
   pub earlier : s < q
   pub writes : op_at trace (slice_index_or accesses s 0) ≡ Some (Write x)
   pub free : (i : ℕ) → ¬ Race trace i (slice_index_or accesses s 0)

@@ -1,7 +1,8 @@
 //! The races of a trace as work in pieces.
 
 ghost use Rattle.std.specs.Prelude.{◌≡◌, ◌<◌, length, map};
-ghost use Rattle.shb_pairs.specs.Listed.{AsksOpen, Listed};
+ghost use Rattle.shb_clocks.specs.Open.{OpenTrace};
+ghost use Rattle.shb_pairs.specs.Open.{AsksOpen};
 ghost use Rattle.shb_pairs.specs.Pieces.{pieces_in};
 ghost use Rattle.shb_pairs.specs.Races.{piece_at, races_at};
 ghost use Rattle.shb_lines.specs.events.Race.{ends};
@@ -36,7 +37,7 @@ pub struct PairJob<'a, O: Order> {
 }
 
 impl<'a, O: Order> Model for PairJob<'a, O> {
-    ghost Value = { Listed };
+    ghost Value = { OpenTrace };
 
     ghost view = { λ j. j.accesses.now };
 

@@ -9,20 +9,21 @@ ghost use Rattle.shb_lines.specs.events.Order.{BelowPred};
 ghost use Rattle.shb_lines.specs.events.Race.{Conflict, IsRaceList, Race};
 ghost use Rattle.shb_lines.specs.events.Schedule.{IsPrintedSchedule, IsSchedule};
 ghost use Rattle.shb_lines.specs.events.Sizes.{IsNumberedByAccess};
-ghost use Rattle.shb_pairs.specs.Listed.{AreOpen, Listed};
+ghost use Rattle.shb_clocks.specs.Open.{OpenTrace};
+ghost use Rattle.shb_pairs.specs.Open.{AreOpen};
 ghost use Rattle.shb_pairs.specs.Pieces.{pieces_in};
 ghost use Rattle.shb_pairs.specs.Races.{AreRacesOfRun, joined, piece_at, races_at};
 
 /// The values of all pieces, joined, are the race list, where a variable that isn't open has no race.
 pub fn pieces_give_race_list()
-    ensures { (a : Listed) → IsNumberedByAccess a.trace → AreOpen a.trace a.flags
+    ensures { (a : OpenTrace) → IsNumberedByAccess a.trace → AreOpen a.trace a.flags
         → IsRaceList a.trace (joined (values_of (races_at a) (length (pieces_in a)))) }
 {}
 
 /// The value of a piece is its own races: a pair is in it exactly where it is a race whose later access
 /// is in the run of the piece; each once, by the later access, then by the earlier one.
 pub fn piece_gives_its_races()
-    ensures { (a : Listed) (k : ℕ) → k < length (pieces_in a) → AreRacesOfRun a (piece_at (pieces_in a) k) (races_at a k) }
+    ensures { (a : OpenTrace) (k : ℕ) → k < length (pieces_in a) → AreRacesOfRun a (piece_at (pieces_in a) k) (races_at a k) }
 {}
 
 /// The printed schedule of a race is a schedule of it.

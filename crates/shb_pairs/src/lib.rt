@@ -11,7 +11,7 @@
 //!
 //! The search for a later access j goes over the threads that write its variable (that access it,
 //! where j writes). In the accesses of a thread it finds by binary search where j stands, and walks
-//! back while a place is above what the order answers: what it walks over are the races. A write
+//! back while a local time is above what the order answers: what it walks over are the races. A write
 //! without a race that is SHB-below the predecessor of j orders all accesses before it; then only
 //! those after it are tested, one by one. So accesses that are ordered cost about one look-up each.
 #![tactic(auto)]

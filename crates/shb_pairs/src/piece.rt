@@ -36,7 +36,7 @@ fn cut(pieces: &mut Vec<Piece>, variable: u32, accesses: u32) -> Result<(), NoMe
 }
 
 /// Cuts the accesses of each variable into runs of 64, the last one of what is left, by variable and
-/// then by place. The length 64 is this project's own.
+/// then by index. The length 64 is this project's own.
 ///
 /// # Errors
 ///

@@ -10,7 +10,7 @@ use shb_discipline::Disciplined;
 use shb_lines::events_conflict_at;
 use shb_links::Links;
 
-/// Whether an event is SHB-below the predecessor of a later one, or is it: whether its place in its
+/// Whether an event is SHB-below the predecessor of a later one, or is it: whether its local time in its
 /// thread is at most the number of events of that thread that the order answers.
 pub(crate) fn is_below_pred<O: Order>(ordered: &Ordered<'_, O>, first: u32, second: u32) -> bool
     requires first { first < length ordered.now.trace.now.events.now }

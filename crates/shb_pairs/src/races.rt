@@ -6,9 +6,9 @@ ghost use Rattle.shb_lines.specs.events.Events.{op_at};
 ghost use Rattle.shb_lines.specs.events.Order.{BelowPred};
 ghost use Rattle.shb_lines.specs.events.Race.{Race, variable_at, ends};
 ghost use Rattle.shb_pairs.specs.Accesses.{accesses_in, variables_in};
-ghost use Rattle.shb_pairs.specs.Listed.{is_open};
+ghost use Rattle.shb_clocks.specs.Open.{is_open};
 ghost use Rattle.shb_pairs.specs.Races.{races_with};
-ghost use Rattle.shb_pairs.specs.Search.{IsSettled, racing};
+ghost use Rattle.shb_pairs.specs.Search.{IsFreeWrite, racing};
 
 use crate::race::{is_below_pred, is_race_by};
 use crate::rivals::rivals_of;
@@ -83,108 +83,108 @@ fn is_ordered<O: Order>(ordered: &Ordered<'_, O>, first: u32, second: u32) -> bo
         || is_below_pred(ordered, first, second)
 }
 
-/// Adds the races of the access at a place, where the last write before it has no race and is
+/// Adds the races of the access at an index, where the last write before it has no race and is
 /// SHB-below its predecessor: then it races with reads after that write alone.
 fn add_races_since<O: Order>(
     races: &mut Vec<Pair>,
     ordered: &Ordered<'_, O>,
     accesses: &[u32],
     write: usize,
-    place: usize,
+    index: usize,
 ) -> Result<(), NoMemory>
-    requires inside { place < length accesses.now }
-    requires asked { O.asks ordered.now.order.now (slice_index_or accesses.now place 0) ≡ true }
-    requires settled { (x : ℕ) × (accesses.now ≡ accesses_in ordered.now.trace.now.events.now x)
-        × IsSettled ordered.now.trace.now.events.now x accesses.now place write }
+    requires inside { index < length accesses.now }
+    requires asked { O.asks ordered.now.order.now (slice_index_or accesses.now index 0) ≡ true }
+    requires free_write { (x : ℕ) × (accesses.now ≡ accesses_in ordered.now.trace.now.events.now x)
+        × IsFreeWrite ordered.now.trace.now.events.now x accesses.now index write }
     requires ordered { BelowPred ordered.now.trace.now.events.now (slice_index_or accesses.now write 0)
-        (slice_index_or accesses.now place 0) }
+        (slice_index_or accesses.now index 0) }
     ensures { IfOk result (λ _. map ends races.new.items ≡ map ends races.old.items
-        ++ races_with ordered.now.trace.now.events.now (slice_index_or accesses.now place 0)) }
+        ++ races_with ordered.now.trace.now.events.now (slice_index_or accesses.now index 0)) }
 {
-    let second = accesses[place];
+    let second = accesses[index];
     if ordered.trace.events[second as usize].op.is_write() {
-        let (earlier, _) = accesses.split_at(place);
+        let (earlier, _) = accesses.split_at(index);
         let (_, since) = earlier.split_at(write + 1);
         add_races_among(races, ordered, since, second)?;
     }
     Ok(())
 }
 
-/// The last write before a place, where it has no race and is SHB-below the predecessor of the
-/// access at the place.
+/// The last write before an index, where it has no race and is SHB-below the predecessor of the
+/// access at the index.
 fn ordered_write<O: Order>(
     ordered: &Ordered<'_, O>,
     accesses: &[u32],
-    settled: Option<usize>,
-    place: usize,
+    free_write: Option<usize>,
+    index: usize,
 ) -> Option<usize>
-    requires inside { place < length accesses.now }
-    requires asked { O.asks ordered.now.order.now (slice_index_or accesses.now place 0) ≡ true }
-    requires settled { (x : ℕ) × (accesses.now ≡ accesses_in ordered.now.trace.now.events.now x)
-        × IfSome settled (λ s. IsSettled ordered.now.trace.now.events.now x accesses.now place s) }
-    ensures settled { (x : ℕ) → IfSome settled (λ s. IsSettled ordered.now.trace.now.events.now x accesses.now place s)
-        → IfSome result (λ s. IsSettled ordered.now.trace.now.events.now x accesses.now place s) }
-    ensures used { (s : ℕ) → settled ≡ Some s
+    requires inside { index < length accesses.now }
+    requires asked { O.asks ordered.now.order.now (slice_index_or accesses.now index 0) ≡ true }
+    requires free_write { (x : ℕ) × (accesses.now ≡ accesses_in ordered.now.trace.now.events.now x)
+        × IfSome free_write (λ s. IsFreeWrite ordered.now.trace.now.events.now x accesses.now index s) }
+    ensures free_write { (x : ℕ) → IfSome free_write (λ s. IsFreeWrite ordered.now.trace.now.events.now x accesses.now index s)
+        → IfSome result (λ s. IsFreeWrite ordered.now.trace.now.events.now x accesses.now index s) }
+    ensures used { (s : ℕ) → free_write ≡ Some s
         → BelowPred ordered.now.trace.now.events.now (slice_index_or accesses.now s 0)
-        (slice_index_or accesses.now place 0) → result ≡ Some s }
+        (slice_index_or accesses.now index 0) → result ≡ Some s }
     ensures ordered { IfSome result
         (λ s. BelowPred ordered.now.trace.now.events.now (slice_index_or accesses.now s 0)
-        (slice_index_or accesses.now place 0)) }
+        (slice_index_or accesses.now index 0)) }
 {
-    match settled {
-        Some(write) if is_ordered(ordered, accesses[write], accesses[place]) => { Some(write) }
+    match free_write {
+        Some(write) if is_ordered(ordered, accesses[write], accesses[index]) => { Some(write) }
         _ => None,
     }
 }
 
-/// The last write before the place after this one, where it is known to have no race.
-fn next_settled(
+/// The last write before the index after this one, where it is known to have no race.
+fn next_free_write(
     trace: &Disciplined<'_>,
     accesses: &[u32],
-    settled: Option<usize>,
-    place: usize,
+    free_write: Option<usize>,
+    index: usize,
     free: bool,
 ) -> Option<usize>
-    requires inside { place < length accesses.now }
+    requires inside { index < length accesses.now }
     requires accesses { (x : ℕ) × (accesses.now ≡ accesses_in trace.now.events.now x) }
-    requires free { IsTrue free → (i : ℕ) → ¬ Race trace.now.events.now i (slice_index_or accesses.now place 0) }
-    ensures settled { (x : ℕ) → accesses.now ≡ accesses_in trace.now.events.now x
-        → IfSome settled (λ s. IsSettled trace.now.events.now x accesses.now place s)
-        → IfSome result (λ s. IsSettled trace.now.events.now x accesses.now (place + 1) s) }
+    requires free { IsTrue free → (i : ℕ) → ¬ Race trace.now.events.now i (slice_index_or accesses.now index 0) }
+    ensures free_write { (x : ℕ) → accesses.now ≡ accesses_in trace.now.events.now x
+        → IfSome free_write (λ s. IsFreeWrite trace.now.events.now x accesses.now index s)
+        → IfSome result (λ s. IsFreeWrite trace.now.events.now x accesses.now (index + 1) s) }
     ensures fresh { IsTrue free → (x : ℕ)
-        → op_at trace.now.events.now (slice_index_or accesses.now place 0) ≡ Some (Write x) → result ≡ Some place }
+        → op_at trace.now.events.now (slice_index_or accesses.now index 0) ≡ Some (Write x) → result ≡ Some index }
 {
-    if !trace.events[accesses[place] as usize].op.is_write() {
-        settled
+    if !trace.events[accesses[index] as usize].op.is_write() {
+        free_write
     } else if free {
-        Some(place)
+        Some(index)
     } else {
         None
     }
 }
 
-/// Adds the races of the access at a place of the accesses of a variable. `settled` is the place of
+/// Adds the races of the access at an index of the accesses of a variable. `free_write` is the index of
 /// the last write before it, where that is known to have no race.
 fn add_races_at<O: Order>(
     alloc: Global,
     races: &mut Vec<Pair>,
     search: &Search<'_, '_, O>,
-    settled: Option<usize>,
-    place: usize,
+    free_write: Option<usize>,
+    index: usize,
 ) -> Result<(), NoMemory>
-    requires inside { place < length (accesses_in search.now.ordered.now.trace.now.events.now search.now.variable) }
-    requires settled { IfSome settled
-        (λ s. IsSettled search.now.ordered.now.trace.now.events.now search.now.variable
-        (accesses_in search.now.ordered.now.trace.now.events.now search.now.variable) place s) }
+    requires inside { index < length (accesses_in search.now.ordered.now.trace.now.events.now search.now.variable) }
+    requires free_write { IfSome free_write
+        (λ s. IsFreeWrite search.now.ordered.now.trace.now.events.now search.now.variable
+        (accesses_in search.now.ordered.now.trace.now.events.now search.now.variable) index s) }
     ensures { IfOk result (λ _. map ends races.new.items ≡ map ends races.old.items
         ++ races_with search.now.ordered.now.trace.now.events.now
-        (slice_index_or (accesses_in search.now.ordered.now.trace.now.events.now search.now.variable) place 0)) }
+        (slice_index_or (accesses_in search.now.ordered.now.trace.now.events.now search.now.variable) index 0)) }
 {
-    let places = search.accesses.of(search.variable);
-    match ordered_write(search.ordered, places, settled, place) {
-        Some(write) => add_races_since(races, search.ordered, places, write, place),
+    let accesses = search.accesses.of(search.variable);
+    match ordered_write(search.ordered, accesses, free_write, index) {
+        Some(write) => add_races_since(races, search.ordered, accesses, write, index),
         None => {
-            let second = places[place];
+            let second = accesses[index];
             add_races(alloc, races, search, second)
         }
     }
@@ -208,14 +208,14 @@ pub(crate) fn races_in<O: Order>(
         ≡ flat_map (races_with search.now.ordered.now.trace.now.events.now)
         (slice_range (accesses_in search.now.ordered.now.trace.now.events.now search.now.variable) from to)) }
 {
-    let places = search.accesses.of(search.variable);
+    let accesses = search.accesses.of(search.variable);
     let mut races = Vec::new(alloc);
-    let mut settled = None;
-    for place in from..to {
+    let mut free_write = None;
+    for index in from..to {
         let count = races.len();
-        add_races_at(alloc, &mut races, search, settled, place)?;
+        add_races_at(alloc, &mut races, search, free_write, index)?;
         let free = races.len() == count;
-        settled = next_settled(search.ordered.trace, places, settled, place, free);
+        free_write = next_free_write(search.ordered.trace, accesses, free_write, index, free);
     }
     Ok(races)
 }

@@ -1,13 +1,13 @@
 //! The accesses that race with a later one, found thread by thread.
 
 ghost use Rattle.std.specs.Prelude.{◌≡◌, ◌++◌, ℕ, ◌+◌, ◌<◌, ◌≤◌, true, Some, All, AllPairs, IfOk, length, slice_index_or};
-ghost use Rattle.shb_lines.specs.events.Discipline.{place_in_thread};
+ghost use Rattle.shb_lines.specs.events.Discipline.{local_time};
 ghost use Rattle.shb_lines.specs.events.Events.{thread_at};
 ghost use Rattle.shb_lines.specs.events.Race.{variable_at};
 ghost use Rattle.shb_lines.specs.events.Reach.{is_race, numbers_where};
 ghost use Rattle.shb_pairs.specs.Accesses.{IsBeforeByThread};
 ghost use Rattle.shb_pairs.specs.Buckets.{key_at};
-ghost use Rattle.shb_pairs.specs.Listed.{is_open};
+ghost use Rattle.shb_clocks.specs.Open.{is_open};
 ghost use Rattle.shb_pairs.specs.Search.{AreRivals, IsOfOneThread, racing};
 ghost use Rattle.shb_pairs.specs.declared.buckets.Key.TheVariants.{Thread};
 
@@ -19,7 +19,7 @@ use shb_lines::Event;
 use shb_links::Links;
 use std::alloc::Global;
 
-/// Where the positions of one thread end that start at a place, among positions by thread.
+/// Where the positions of one thread end that start at an index, among positions by thread.
 fn run_end(events: &[Event], positions: &[u32], start: usize) -> usize
     requires in_range { All (λ k. k < length events.now) positions.now }
     requires sorted { AllPairs (IsBeforeByThread events.now) positions.now }
@@ -53,9 +53,9 @@ fn tail_start(links: &Links<'_>, positions: &[u32], end: usize, below: u32) -> u
     requires within { end ≤ length positions.now }
     ensures start { result ≤ end }
     ensures above { (t k : ℕ) → result ≤ k → k < end → thread_at links.now (slice_index_or positions.now k 0) ≡ Some t
-        → below < place_in_thread links.now t (slice_index_or positions.now k 0) }
+        → below < local_time links.now t (slice_index_or positions.now k 0) }
     ensures under { (t k : ℕ) → k + 1 ≡ result → thread_at links.now (slice_index_or positions.now k 0) ≡ Some t
-        → place_in_thread links.now t (slice_index_or positions.now k 0) ≤ below }
+        → local_time links.now t (slice_index_or positions.now k 0) ≤ below }
 {
     // From the newest back: each step but the last is a race that is found.
     for k in (0..end).rev() {
@@ -66,7 +66,7 @@ fn tail_start(links: &Links<'_>, positions: &[u32], end: usize, below: u32) -> u
     0
 }
 
-/// Adds the positions, all of one thread, that race with a later access. Places in a thread rise with
+/// Adds the positions, all of one thread, that race with a later access. Local times rise with
 /// positions, so the races are the last ones before it: those after the events of the thread that
 /// are SHB-below its predecessor.
 fn add_tail<O: Order>(

@@ -4,8 +4,8 @@ ghost use Rattle.std.specs.Prelude.{◌≡◌, ◌≢◌, ◌==◌, ℕ, ◌+◌
 ghost use Rattle.shb_lines.specs.declared.event.Op.TheVariants.{Write};
 ghost use Rattle.shb_lines.specs.events.Events.{op_at};
 ghost use Rattle.shb_lines.specs.events.Race.{variable_at};
-ghost use Rattle.shb_pairs.specs.Listed.{AreOpen};
-ghost use Rattle.shb_pairs.specs.Screen.{AreScreened, IsMarkOf, IsOf, IsPast, IsScreened, no_place};
+ghost use Rattle.shb_pairs.specs.Open.{AreOpen};
+ghost use Rattle.shb_pairs.specs.Screen.{AreScreened, IsMarkOf, IsOf, IsPast, IsScreened, no_time};
 ghost use Rattle.shb_pairs.specs.declared.screen.Mark.{Mark};
 ghost use Rattle.shb_pairs.specs.declared.screen.KeptRead.{KeptRead};
 
@@ -16,8 +16,8 @@ use shb_lines::variable;
 use shb_links::Links;
 use std::alloc::Global;
 
-/// The place of an event that isn't known any more, above that of each event.
-const NO_PLACE: u32 = u32::MAX;
+/// The local time of an event that isn't known any more, above that of each event.
+const NO_TIME: u32 = u32::MAX;
 
 /// The number of no read, above that of each.
 const NO_READ: u32 = u32::MAX;
@@ -25,11 +25,11 @@ const NO_READ: u32 = u32::MAX;
 /// At most so many reads are kept: 12 MiB.
 const MOST_READS: usize = 1 << 20;
 
-/// An event by its place in its thread, from 1, and the thread; or nothing, or an event that isn't
+/// An event by its local time, from 1, and its thread; or nothing, or an event that isn't
 /// known any more.
 #[derive(Clone, Copy)]
 struct Mark {
-    place: u32,
+    time: u32,
     thread: u32,
 }
 
@@ -52,20 +52,20 @@ struct Latest {
 
 /// The mark of nothing, after which each event is.
 fn nothing() -> Mark
-    ensures { result.place ≡ 0 }
+    ensures { result.time ≡ 0 }
 {
     Mark {
-        place: 0,
+        time: 0,
         thread: 0,
     }
 }
 
 /// The mark after which no event is.
 fn unordered() -> Mark
-    ensures { result.place ≡ no_place }
+    ensures { result.time ≡ no_time }
 {
     Mark {
-        place: NO_PLACE,
+        time: NO_TIME,
         thread: 0,
     }
 }
@@ -84,7 +84,7 @@ fn mark_of<O: Order>(ordered: &Ordered<'_, O>, e: u32) -> Mark
     ensures { IsMarkOf ordered.now.trace.now.events.now result e }
 {
     Mark {
-        place: ordered.links.local(e),
+        time: ordered.links.local(e),
         thread: ordered.trace.events[e as usize].thread,
     }
 }
@@ -95,19 +95,19 @@ fn is_past<O: Order>(ordered: &Ordered<'_, O>, mark: Mark, e: u32) -> bool
     requires asked { O.asks ordered.now.order.now e ≡ true }
     ensures { IsTrue result → IsPast ordered.now.trace.now.events.now mark e }
 {
-    if mark.place == NO_PLACE {
+    if mark.time == NO_TIME {
         false
     } else {
         // What asks the order nothing comes first.
-        mark.place == 0
+        mark.time == 0
             || mark.thread == ordered.trace.events[e as usize].thread
-            || mark.place <= ordered.order.below_pred(e, mark.thread)
+            || mark.time <= ordered.order.below_pred(e, mark.thread)
     }
 }
 
 /// What is kept of an open variable.
 fn opened() -> Latest
-    ensures { result.write.place ≡ no_place }
+    ensures { result.write.time ≡ no_time }
 {
     Latest {
         write: unordered(),
@@ -244,11 +244,11 @@ fn screen<O: Order>(
 
 /// Which variables are open, by what is kept of each.
 fn flags_of(alloc: Global, table: &[Latest]) -> Result<Vec<bool>, NoMemory>
-    ensures { IfOk result (λ flags. flags.items ≡ map (λ latest. latest.write.place == no_place) table.now) }
+    ensures { IfOk result (λ flags. flags.items ≡ map (λ latest. latest.write.time == no_time) table.now) }
 {
     let mut flags = Vec::with_capacity(alloc, table.len())?;
     for latest in table {
-        flags.push(latest.write.place == NO_PLACE)?;
+        flags.push(latest.write.time == NO_TIME)?;
     }
     Ok(flags)
 }

@@ -2,7 +2,8 @@
 
 ghost use Rattle.std.specs.Prelude.{◌≡◌, ◌<◌, true};
 ghost use Rattle.shb_pairs.specs.Accesses.{variables_in};
-ghost use Rattle.shb_pairs.specs.Listed.{AsksOpen, is_open};
+ghost use Rattle.shb_clocks.specs.Open.{is_open};
+ghost use Rattle.shb_pairs.specs.Open.{AsksOpen};
 
 use crate::accesses::Accesses;
 use shb_clocks::{Order, Ordered};

@@ -16,7 +16,7 @@ last a (suc n) j e = ap (λ l. a ∷ l) (last (a + 1) n j (omega arith))
 pub range_more : (a n m j : ℕ) → a + n ≡ j → m ≡ n + 1 → range_with_len a m ≡ range_with_len a n ++ j ∷ []
 range_more a n m j e more = let on : m ≡ suc n = omega arith in ap (range_with_len a) on ∙ last a n j e
 
--- the numbers up to a place, and those from there on
+-- the numbers up to an index, and those from there on
 pub range_split : (a m n b k : ℕ) → a + m ≡ b → m + n ≡ k → range_with_len a k ≡ range_with_len a m ++ range_with_len b n
 range_split a zero n b k e more = let on : n ≡ k = omega arith in let from : a ≡ b = omega arith in cc
 range_split a (suc m) n b zero e more = absurd (omega arith)

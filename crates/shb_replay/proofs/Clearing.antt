@@ -1,4 +1,4 @@
--- What is left of what stands, while its places are forgotten one by one.
+-- What is left of what stands, while its indices are forgotten one by one.
 use Rattle.std.proofs.Common.{◌≡◌, ◌≢◌, ℕ, ◌+◌, ◌<◌, ◌≤◌, ◌⊎◌, inl, inr, Bool, true, false, List, Option, Some, None, length, get_or, refl, sym, ◌∙◌, ap, arith, subst, get_or-set_same, get_or-set_other}
 use Rattle.std.specs.Prelude.{slice_get}
 use Rattle.std.specs.Vec.{with_item}
@@ -20,13 +20,13 @@ flags_only : (P Q : ℕ → Type 0) (size : ℕ) (flags : List Bool) → ((k : �
 flags_only P Q size flags to h = record { as_long = h.as_long; each = λ k at. to k (h.each k true at) }
 
 write_there : (trace : List Event) (s : List ℕ) (p x w : ℕ) (o : Option ℕ) → Exactly (IsLatestWrite trace s p x) o → o ≡ Some w → IsBetween s 0 p (λ b. op_at trace b ≡ Some (Write x))
-write_there trace s p x w (Some v) h same = record { place = h.place; from = omega arith; below = h.earlier; event = v; at = h.at; holds = h.writes }
+write_there trace s p x w (Some v) h same = record { index = h.index; from = omega arith; below = h.earlier; event = v; at = h.at; holds = h.writes }
 write_there trace s p x w None h same = absurd (let f : ⊥ = cc in f)
 
 pub all_left : (trace : List Event) (sizes : Sizes) (s : List ℕ) (p : ℕ) (walked : Walked) → IsWalked trace sizes s p walked → IsLeft trace sizes s 0 p walked
 all_left trace sizes s p walked h = record {
-  stands = flags_only (StandsEarlier s p) (λ a. IsBetween s 0 p (λ b. b ≡ a)) (length trace) walked.stands.items (λ a stands. record { place = stands.place; from = omega arith; below = stands.earlier; event = a; at = stands.at; holds = refl }) h.stands;
-  joined = flags_only (JoinStands trace s p) (λ t. IsBetween s 0 p (λ b. op_at trace b ≡ Some (Join t))) sizes.threads walked.joined.items (λ t joined. record { place = joined.stands.place; from = omega arith; below = joined.stands.earlier; event = joined.event; at = joined.stands.at; holds = joined.joins }) h.joined;
+  stands = flags_only (StandsEarlier s p) (λ a. IsBetween s 0 p (λ b. b ≡ a)) (length trace) walked.stands.items (λ a stands. record { index = stands.index; from = omega arith; below = stands.earlier; event = a; at = stands.at; holds = refl }) h.stands;
+  joined = flags_only (JoinStands trace s p) (λ t. IsBetween s 0 p (λ b. op_at trace b ≡ Some (Join t))) sizes.threads walked.joined.items (λ t joined. record { index = joined.stands.index; from = omega arith; below = joined.stands.earlier; event = joined.event; at = joined.stands.at; holds = joined.joins }) h.joined;
   writes = record { as_long = h.writes.as_long; each = λ x w lt is. write_there trace s p x w (get_or walked.writes.items x None) (h.writes.each x lt) is };
 }
 
@@ -52,15 +52,15 @@ none_left trace sizes s p walked h r = record {
   writes = record { as_long = h.writes.as_long; each = λ x lt. no_write trace r x (get_or walked.writes.items x None) (λ w is. none_between s p (λ b. op_at trace b ≡ Some (Write x)) (h.writes.each x w lt is)) };
 }
 
--- one place less
+-- one index less
 module _ (trace : List Event) (sizes : Sizes) (s : List ℕ) (m p e : ℕ) (at : slice_get s m ≡ Some e) where
   later : (P : ℕ → Type 0) → IsBetween s m p P → (P e → ⊥) → IsBetween s (m + 1) p P
-  later P h other = record { place = h.place; from = go (cases_lt m h.place); below = h.below; event = h.event; at = h.at; holds = h.holds }
+  later P h other = record { index = h.index; from = go (cases_lt m h.index); below = h.below; event = h.event; at = h.at; holds = h.holds }
     where
-      go : (m < h.place) ⊎ (h.place ≤ m) → m + 1 ≤ h.place
+      go : (m < h.index) ⊎ (h.index ≤ m) → m + 1 ≤ h.index
       go (inl lt) = omega (arith, lt)
       go (inr le) =
-          let same : h.place ≡ m = let from = h.from in omega (arith, from, le) in
+          let same : h.index ≡ m = let from = h.from in omega (arith, from, le) in
           absurd (other (subst P (one_value s m h.event e (subst (λ (k : ℕ). slice_get s k ≡ Some h.event) same h.at) at) h.holds))
 
   flags_less : (P : ℕ → ℕ → Type 0) (size k : ℕ) (flags : List Bool) → k < size → ((j : ℕ) → j ≢ k → P j e → ⊥) → AreFlagsOnly (λ j. IsBetween s m p (P j)) size flags → AreFlagsOnly (λ j. IsBetween s (m + 1) p (P j)) size (set flags k false)

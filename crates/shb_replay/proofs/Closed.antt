@@ -1,4 +1,4 @@
--- Where no place up to n has a reason: what must stand before an event does.
+-- Where no index up to n has a reason: what must stand before an event does.
 use Rattle.std.proofs.Common.{◌≡◌, ℕ, zero, suc, ◌<◌, ◌≤◌, ◌⊎◌, inl, inr, false, List, Some, length, refl, sym, arith, subst}
 use Rattle.std.specs.Prelude.{slice_get}
 use Rattle.std.proofs.lemmas.Bool.{cases_lt, cases_order}
@@ -42,7 +42,7 @@ module _ (trace : List Event) (s : List ℕ) (n : ℕ) (unbroken : IsUnbroken tr
     where
       reach : (p : ℕ) → IsLatest (of_thread trace t) b p → StandsEarlier s q p → ((r : ℕ) → r < n → slice_get s r ≡ Some p → a < p → StandsEarlier s r a) → (a ≡ p) ⊎ ((a < p) ⊎ (p < a)) → StandsEarlier s q a
       reach p found stands rest (inl same) = subst (λ (k : ℕ). StandsEarlier s q k) (sym same) stands
-      reach p found stands rest (inr (inl later)) = widen s stands.place q a (let e = stands.earlier in omega arith) (rest stands.place (let e = stands.earlier in omega (arith, e, lq)) stands.at later)
+      reach p found stands rest (inr (inl later)) = widen s stands.index q a (let e = stands.earlier in omega arith) (rest stands.index (let e = stands.earlier in omega (arith, e, lq)) stands.at later)
       reach p found stands rest (inr (inr earlier)) = absurd (let fails = found.last a earlier lt in let passes = of_thread_at trace t a of_a in (let f : ⊥ = cc in f))
 
       go : ((p : ℕ) × IsLatest (of_thread trace t) b p) ⊎ ((k : ℕ) → k < b → of_thread trace t k ≡ false) → ((r p : ℕ) → p ≤ m → r < n → slice_get s r ≡ Some p → a < p → thread_at trace p ≡ Some t → StandsEarlier s r a) → StandsEarlier s q a
@@ -58,7 +58,7 @@ module _ (trace : List Event) (s : List ℕ) (n : ℕ) (unbroken : IsUnbroken tr
   fork_within zero q b f u le lq at forks of_b (inl (p, found)) = absurd (let below = found.below in omega (arith, below, le))
   fork_within (suc m) q b f u le lq at forks of_b (inl (p, found)) =
       let stands = before_stands q b p lq at (latest_is_before trace u p b of_b found) in
-      widen s stands.place q f (let e = stands.earlier in omega arith) (fork_within m stands.place p f u (let below = found.below in omega (arith, below, le)) (let e = stands.earlier in omega (arith, e, lq)) stands.at forks (of_thread_true trace u p found.passing) (latest_below (of_thread trace u) p))
+      widen s stands.index q f (let e = stands.earlier in omega arith) (fork_within m stands.index p f u (let below = found.below in omega (arith, below, le)) (let e = stands.earlier in omega (arith, e, lq)) stands.at forks (of_thread_true trace u p found.passing) (latest_below (of_thread trace u) p))
 
   -- the fork of its thread
   pub fork_stands : (q b f u : ℕ) → q < n → slice_get s q ≡ Some b → op_at trace f ≡ Some (Fork u) → thread_at trace b ≡ Some u → StandsEarlier s q f
@@ -88,4 +88,4 @@ module _ (trace : List Event) (s : List ℕ) (n : ℕ) (unbroken : IsUnbroken tr
     where
       go : (m ≡ c) ⊎ StandsEarlier s q m → (a ≡ c) ⊎ StandsEarlier s q a
       go (inl same) = inr (edge_stands q a c lq at (subst (λ (k : ℕ). HbEdge trace a k) same edge))
-      go (inr stands) = inr (widen s stands.place q a (let e = stands.earlier in omega arith) (edge_stands stands.place a m (let e = stands.earlier in omega (arith, e, lq)) stands.at edge))
+      go (inr stands) = inr (widen s stands.index q a (let e = stands.earlier in omega arith) (edge_stands stands.index a m (let e = stands.earlier in omega (arith, e, lq)) stands.at edge))

@@ -1,4 +1,4 @@
--- The events of a thread that stand before a place of an unbroken list are those before a position of the trace.
+-- The events of a thread that stand before an index of an unbroken list are those before a position of the trace.
 use Rattle.std.proofs.Common.{◌≡◌, ℕ, zero, suc, ◌+◌, ◌<◌, ◌≤◌, ◌⊎◌, inl, inr, Bool, true, false, List, Some, length, take, get_or, refl, sym, ◌∙◌, ap, arith, subst, add-one}
 use Rattle.std.specs.Prelude.{slice_get, count_by, Contains}
 use Rattle.std.proofs.lemmas.Bool.{cases_Bool, cases_eq, cases_lt, cases_order}
@@ -7,8 +7,8 @@ use Rattle.shb_lines.specs.declared.event.Event.{Event}
 use Rattle.shb_lines.specs.events.Events.{thread_at, events_at}
 use Rattle.shb_lines.proofs.events.Counts.{count_more_yes, count_more_no, count_gap}
 use Rattle.shb_lines.proofs.events.Events.{thread_is}
-use Rattle.shb_lines.proofs.events.Places.{place_of}
-use Rattle.shb_lines.proofs.events.Reordered.{event_at_place, length_events}
+use Rattle.shb_lines.proofs.events.Indices.{index_of}
+use Rattle.shb_lines.proofs.events.Reordered.{event_at_index, length_events}
 use Rattle.shb_replay.specs.Reasons.{StandsEarlier, IsUnbroken}
 use Rattle.shb_replay.proofs.Standing.{widen, stands_next, stands_here}
 use Rattle.shb_replay.proofs.Closed.{in_trace, once, thread_stands}
@@ -17,7 +17,7 @@ use Rattle.shb_replay.proofs.Closed.{in_trace, once, thread_stands}
 abbrev pub TestsThread : ℕ → (Event → Bool) → Type 0
 TestsThread t f = (e : Event) → f e ≡ true → e.thread ≡ t
 
--- the events of thread t that stand before place q are those before position m
+-- the events of thread t that stand before index q are those before position m
 pub record IsCut (trace : List Event) (s : List ℕ) (q t m : ℕ) : Type 0 where
   pub standing : (k : ℕ) → thread_at trace k ≡ Some t → k < m → StandsEarlier s q k
   pub alone : (k : ℕ) → thread_at trace k ≡ Some t → StandsEarlier s q k → k < m
@@ -31,13 +31,13 @@ pub record IsEventAt (trace : List Event) (s : List ℕ) (q b : ℕ) (e : Event)
 
 module _ (trace : List Event) (s : List ℕ) (unbroken : IsUnbroken trace s (length s)) where
   pub members_in_trace : (a : ℕ) → Contains s a → a < length trace
-  members_in_trace a c = let place = place_of s a c in in_trace trace s (length s) unbroken place.0 a (slice_get_within s place.0 a place.1) place.1
+  members_in_trace a c = let index = index_of s a c in in_trace trace s (length s) unbroken index.0 a (slice_get_within s index.0 a index.1) index.1
 
   pub event_at : (q b : ℕ) → slice_get s q ≡ Some b → (e : Event) × IsEventAt trace s q b e
-  event_at q b at = let e = event_at_place trace s members_in_trace q b at in (e.0, record { at = at; there = e.1; is = e.2 })
+  event_at q b at = let e = event_at_index trace s members_in_trace q b at in (e.0, record { at = at; there = e.1; is = e.2 })
 
-  pub place_of_event : (q : ℕ) (e : Event) → slice_get (events_at trace s) q ≡ Some e → (b : ℕ) × IsEventAt trace s q b e
-  place_of_event q e there =
+  pub index_of_event : (q : ℕ) (e : Event) → slice_get (events_at trace s) q ≡ Some e → (b : ℕ) × IsEventAt trace s q b e
+  index_of_event q e there =
       let within = slice_get_within (events_at trace s) q e there in
       let same_length = length_events trace s members_in_trace in
       let at = slice_get-get_or s q 0 (omega (arith, within, same_length)) in
@@ -105,8 +105,8 @@ module _ (trace : List Event) (s : List ℕ) (unbroken : IsUnbroken trace s (len
         high k of_t (inr (inl lt)) stands = omega (arith, lt)
         high k of_t (inr (inr gt)) (inr same) = omega (arith, same)
         high k of_t (inr (inr gt)) (inl stands) =
-            let prior = thread_stands trace s (length s) unbroken stands.place k b t (let lt = stands.earlier in omega (arith, lt, within)) stands.at gt of_own of_t in
-            absurd (once trace s (length s) unbroken q b within here.at (widen s stands.place q b (let lt = stands.earlier in omega (arith, lt)) prior))
+            let prior = thread_stands trace s (length s) unbroken stands.index k b t (let lt = stands.earlier in omega (arith, lt, within)) stands.at gt of_own of_t in
+            absurd (once trace s (length s) unbroken q b within here.at (widen s stands.index q b (let lt = stands.earlier in omega (arith, lt)) prior))
 
     cut_other : (t m : ℕ) → IsCut trace s q t m → (e.thread ≡ t → ⊥) → IsCut trace s (q + 1) t m
     cut_other t m cut ne = record {

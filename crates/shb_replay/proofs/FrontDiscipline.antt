@@ -17,7 +17,7 @@ use Rattle.shb_replay.specs.Reasons.{StandsEarlier, IsUnbroken}
 use Rattle.shb_replay.proofs.Standing.{widen}
 use Rattle.shb_replay.proofs.Closed.{once, thread_stands, fork_stands, joined_stands, release_stands}
 use Rattle.shb_links.proofs.Balance.{HasHolder, IsPassing, acquires_yes, releases_no, holder_after, disciplined_below, some_counted, others_balanced}
-use Rattle.shb_replay.proofs.Cuts.{IsCut, IsEventAt, place_of_event, own_count, cut_of}
+use Rattle.shb_replay.proofs.Cuts.{IsCut, IsEventAt, index_of_event, own_count, cut_of}
 
 fork_op : (u : ℕ) (op : Op) → op_is_fork u op ≡ true → op ≡ Fork u
 fork_op u (Fork v) h = ap (λ n. Fork n) (sym (eqb-true u v h))
@@ -67,7 +67,7 @@ module _ (trace : List Event) (disciplined : IsDisciplined trace) (s : List ℕ)
   ]
     where
       refuse : (k : ℕ) × IsPassing f (events_at trace s) 0 q k → ⊥
-      refuse (k, found) = let place = place_of_event trace s unbroken k found.event found.at in none k place.0 found.event found.below place.1 found.passes
+      refuse (k, found) = let index = index_of_event trace s unbroken k found.event found.at in none k index.0 found.event found.below index.1 found.passes
 
   module _ (q b : ℕ) (e : Event) (here : IsEventAt trace s q b e) where
     within : q < length s
@@ -76,19 +76,19 @@ module _ (trace : List Event) (disciplined : IsDisciplined trace) (s : List ℕ)
     of_thread : thread_at trace b ≡ Some e.thread
     of_thread = thread_is trace b e here.is
 
-    -- it doesn't stand earlier, and not at a place before one of those before
+    -- it doesn't stand earlier, and not at an index before one of those before
     not_before : (k : ℕ) → k < q → StandsEarlier s k b → ⊥
     not_before k lt stands = once trace s (length s) unbroken q b within here.at (widen s k q b (omega (arith, lt)) stands)
 
     not_joined : (u : ℕ) → e.thread ≡ u → count_by (is_join u) (take q (events_at trace s)) ≡ 0
-    not_joined u is = none_counted (is_join u) q (λ k a d lt place passes. not_before k lt (joined_stands trace s (length s) unbroken k a b u (omega (arith, lt, within)) place.at (op_is trace a d place.is ∙ ap (λ (o : Op). Some o) (is_join_op u d passes)) (of_thread ∙ ap (λ (n : ℕ). Some n) is)))
+    not_joined u is = none_counted (is_join u) q (λ k a d lt index passes. not_before k lt (joined_stands trace s (length s) unbroken k a b u (omega (arith, lt, within)) index.at (op_is trace a d index.is ∙ ap (λ (o : Op). Some o) (is_join_op u d passes)) (of_thread ∙ ap (λ (n : ℕ). Some n) is)))
 
     may_fork : (u : ℕ) → e.op ≡ Fork u → MayFork (take b trace) e.thread u → MayFork (take q (events_at trace s)) e.thread u
     may_fork u is may = record {
       other = may.other;
-      not_started = none_counted (is_of u) q (λ k a d lt place passes. not_before k lt (fork_stands trace s (length s) unbroken k a b u (omega (arith, lt, within)) place.at forks (thread_is trace a d place.is ∙ ap (λ (n : ℕ). Some n) (is_of_thread u d passes))));
-      not_forked = none_counted (is_fork u) q (λ k a d lt place passes. (let same = one_fork trace disciplined u a b (op_is trace a d place.is ∙ ap (λ (o : Op). Some o) (is_fork_op u d passes)) forks in once trace s (length s) unbroken q b within here.at (record { place = k; earlier = lt; at = place.at ∙ ap (λ (n : ℕ). Some n) same })));
-      not_joined = none_counted (is_join u) q (λ k a d lt place passes. unbroken q b whys.JoinEarly within here.at (inr (a, record { thread = u; forks = forks; joins = op_is trace a d place.is ∙ ap (λ (o : Op). Some o) (is_join_op u d passes); stands = record { place = k; earlier = lt; at = place.at } })));
+      not_started = none_counted (is_of u) q (λ k a d lt index passes. not_before k lt (fork_stands trace s (length s) unbroken k a b u (omega (arith, lt, within)) index.at forks (thread_is trace a d index.is ∙ ap (λ (n : ℕ). Some n) (is_of_thread u d passes))));
+      not_forked = none_counted (is_fork u) q (λ k a d lt index passes. (let same = one_fork trace disciplined u a b (op_is trace a d index.is ∙ ap (λ (o : Op). Some o) (is_fork_op u d passes)) forks in once trace s (length s) unbroken q b within here.at (record { index = k; earlier = lt; at = index.at ∙ ap (λ (n : ℕ). Some n) same })));
+      not_joined = none_counted (is_join u) q (λ k a d lt index passes. unbroken q b whys.JoinEarly within here.at (inr (a, record { thread = u; forks = forks; joins = op_is trace a d index.is ∙ ap (λ (o : Op). Some o) (is_join_op u d passes); stands = record { index = k; earlier = lt; at = index.at } })));
     }
       where
         forks : op_at trace b ≡ Some (Fork u)
@@ -125,11 +125,11 @@ module _ (trace : List Event) (disciplined : IsDisciplined trace) (s : List ℕ)
           let gives : op_at trace r ≡ Some (Release l) = op_is trace r found.event found.at ∙ ap (λ (o : Op). Some o) parts.1 in
           let of_t : thread_at trace r ≡ Some e.thread = thread_is trace r found.event found.at ∙ ap (λ (n : ℕ). Some n) (release_tests e.thread l found.event found.passes) in
           let first = stands.earlier in
-          let given = release_stands trace s (length s) unbroken stands.place k r l (omega (arith, first, within)) stands.at acquires_k gives found.below in
+          let given = release_stands trace s (length s) unbroken stands.index k r l (omega (arith, first, within)) stands.at acquires_k gives found.below in
           let second = given.earlier in
           let from = found.from in
-          let prior = thread_stands trace s (length s) unbroken given.place r b e.thread (omega (arith, first, second, within)) given.at (omega (arith, from)) of_thread of_t in
-          not_before given.place (omega (arith, first, second)) prior
+          let prior = thread_stands trace s (length s) unbroken given.index r b e.thread (omega (arith, first, second, within)) given.at (omega (arith, from)) of_thread of_t in
+          not_before given.index (omega (arith, first, second)) prior
 
       acquired_later : (k : ℕ) → IsPassing (is_acquire (only h) l) trace b m k → ⊥
       acquired_later k found =
@@ -220,7 +220,7 @@ module _ (trace : List Event) (disciplined : IsDisciplined trace) (s : List ℕ)
     where
       go : (k < n) ⊎ (n ≤ k) → DisciplinedBelow (events_at trace s) n → MayCome (take k (events_at trace s)) e
       go (inl low) below = below k e low at
-      go (inr high) below = let place = place_of_event trace s unbroken k e at in may_come k place.0 e place.1 (λ j d small at_j. below j d (omega (arith, small, lt)) at_j)
+      go (inr high) below = let index = index_of_event trace s unbroken k e at in may_come k index.0 e index.1 (λ j d small at_j. below j d (omega (arith, small, lt)) at_j)
 
   pub front_disciplined : IsDisciplined (events_at trace s)
   front_disciplined k e at = below_all (suc k) k e (omega arith) at

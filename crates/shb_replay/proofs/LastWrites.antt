@@ -1,4 +1,4 @@
--- The latest write before a place of a list, against the last write in the trace.
+-- The latest write before an index of a list, against the last write in the trace.
 use Rattle.std.proofs.Common.{◌≡◌, ◌≢◌, ℕ, ◌<◌, ◌⊎◌, inl, inr, Bool, true, false, List, Option, Some, None, refl, sym, ◌∙◌, ap, arith, subst}
 use Rattle.std.specs.Prelude.{slice_get, ◌↔◌}
 use Rattle.std.proofs.lemmas.Bool.{cases_eq, cases_order}
@@ -13,48 +13,48 @@ use Rattle.shb_lines.proofs.events.Listed.{Decided}
 use Rattle.shb_lines.proofs.events.Search.{IsLatest, latest_below, writes_at_true, writes_at_is}
 use Rattle.shb_links.specs.Links.{Exactly}
 use Rattle.shb_replay.specs.Reasons.{IsLatestWrite}
-use Rattle.shb_replay.proofs.Standing.{one_value, same_place}
+use Rattle.shb_replay.proofs.Standing.{one_value, same_index}
 
--- a list has at most one latest write before a place
+-- a list has at most one latest write before an index
 pub latest_unique : (trace : List Event) (s : List ℕ) (p x v w : ℕ) → IsLatestWrite trace s p x v → IsLatestWrite trace s p x w → v ≡ w
-latest_unique trace s p x v w hv hw = go (cases_order hv.place hw.place)
+latest_unique trace s p x v w hv hw = go (cases_order hv.index hw.index)
   where
-    go : (hv.place ≡ hw.place) ⊎ ((hv.place < hw.place) ⊎ (hw.place < hv.place)) → v ≡ w
-    go (inl same) = one_value s hw.place v w (subst (λ (k : ℕ). slice_get s k ≡ Some v) same hv.at) hw.at
-    go (inr (inl lt)) = absurd (hv.latest hw.place w lt hw.earlier hw.at hw.writes)
-    go (inr (inr gt)) = absurd (hw.latest hv.place v gt hv.earlier hv.at hv.writes)
+    go : (hv.index ≡ hw.index) ⊎ ((hv.index < hw.index) ⊎ (hw.index < hv.index)) → v ≡ w
+    go (inl same) = one_value s hw.index v w (subst (λ (k : ℕ). slice_get s k ≡ Some v) same hv.at) hw.at
+    go (inr (inl lt)) = absurd (hv.latest hw.index w lt hw.earlier hw.at hw.writes)
+    go (inr (inr gt)) = absurd (hw.latest hv.index v gt hv.earlier hv.at hv.writes)
 
--- whether the event at a place of the list writes x
-abbrev place_writes : (trace : List Event) (x : ℕ) → Option ℕ → Bool
-place_writes trace x (Some k) = writes_at trace x k
-place_writes trace x None = false
+-- whether the event at an index of the list writes x
+abbrev writes_there : (trace : List Event) (x : ℕ) → Option ℕ → Bool
+writes_there trace x (Some k) = writes_at trace x k
+writes_there trace x None = false
 
-place_writes_is : (trace : List Event) (s : List ℕ) (x q k : ℕ) → slice_get s q ≡ Some k → op_at trace k ≡ Some (Write x) → place_writes trace x (slice_get s q) ≡ true
-place_writes_is trace s x q k at writes = ap (place_writes trace x) at ∙ writes_at_is trace x k writes
+writes_there_is : (trace : List Event) (s : List ℕ) (x q k : ℕ) → slice_get s q ≡ Some k → op_at trace k ≡ Some (Write x) → writes_there trace x (slice_get s q) ≡ true
+writes_there_is trace s x q k at writes = ap (writes_there trace x) at ∙ writes_at_is trace x k writes
 
-place_writes_true : (trace : List Event) (x : ℕ) (o : Option ℕ) → place_writes trace x o ≡ true → (k : ℕ) × (o ≡ Some k) × (op_at trace k ≡ Some (Write x))
-place_writes_true trace x (Some k) h = (k, refl, writes_at_true trace x k h)
-place_writes_true trace x None h = absurd (let f : ⊥ = cc in f)
+writes_there_true : (trace : List Event) (x : ℕ) (o : Option ℕ) → writes_there trace x o ≡ true → (k : ℕ) × (o ≡ Some k) × (op_at trace k ≡ Some (Write x))
+writes_there_true trace x (Some k) h = (k, refl, writes_at_true trace x k h)
+writes_there_true trace x None h = absurd (let f : ⊥ = cc in f)
 
 pub find_latest : (trace : List Event) (s : List ℕ) (p x : ℕ) → (o : Option ℕ) × Exactly (IsLatestWrite trace s p x) o
-find_latest trace s p x = go (latest_below (λ q. place_writes trace x (slice_get s q)) p)
+find_latest trace s p x = go (latest_below (λ q. writes_there trace x (slice_get s q)) p)
   where
-    later : (q k : ℕ) → place_writes trace x (slice_get s q) ≡ false → slice_get s q ≡ Some k → op_at trace k ≢ Some (Write x)
-    later q k fails at writes = let passes = place_writes_is trace s x q k at writes in (let f : ⊥ = cc in f)
+    later : (q k : ℕ) → writes_there trace x (slice_get s q) ≡ false → slice_get s q ≡ Some k → op_at trace k ≢ Some (Write x)
+    later q k fails at writes = let passes = writes_there_is trace s x q k at writes in (let f : ⊥ = cc in f)
 
-    go : ((q : ℕ) × IsLatest (λ r. place_writes trace x (slice_get s r)) p q) ⊎ ((m : ℕ) → m < p → place_writes trace x (slice_get s m) ≡ false) → (o : Option ℕ) × Exactly (IsLatestWrite trace s p x) o
+    go : ((q : ℕ) × IsLatest (λ r. writes_there trace x (slice_get s r)) p q) ⊎ ((m : ℕ) → m < p → writes_there trace x (slice_get s m) ≡ false) → (o : Option ℕ) × Exactly (IsLatestWrite trace s p x) o
     go (inl (q, found)) =
-        let event = place_writes_true trace x (slice_get s q) found.passing in (
+        let event = writes_there_true trace x (slice_get s q) found.passing in (
           Some event.0,
           record {
-            place = q;
+            index = q;
             earlier = found.below;
             at = event.1;
             writes = event.2;
             latest = λ r k low high at. later r k (found.last r low high) at;
           },
         )
-    go (inr none) = (None, λ w h. later h.place w (none h.place h.earlier) h.at h.writes)
+    go (inr none) = (None, λ w h. later h.index w (none h.index h.earlier) h.at h.writes)
 
 found_last_write : (trace : List Event) (r : ℕ) → (o : Option ℕ) × Exactly (λ w. LastWrite trace w r) o
 found_last_write trace r = go (find_last_write trace r)
@@ -106,31 +106,31 @@ module _ (trace : List Event) (s : List ℕ) (p x e : ℕ) where
       go : (o : Option ℕ) × Exactly (IsLatestWrite trace s p x) o → (l : Option ℕ) × Exactly (λ w. LastWrite trace w e) l → Decided ((w : ℕ) → IsLatestWrite trace s p x w ↔ LastWrite trace w e)
       go (o, a) (l, b) = by o l a b (cases_option o l)
 
--- in a list of different positions the latest write before the place of a read is the last write in the list
+-- in a list of different positions the latest write before the index of a read is the last write in the list
 module _ (trace : List Event) (s : List ℕ) (distinct : (a : ℕ) → ¬ StandsBefore s a a) (q x r : ℕ) (at : slice_get s q ≡ Some r) where
   pub latest_in : (w : ℕ) → op_at trace r ≡ Some (Read x) → IsLatestWrite trace s q x w → LastWriteIn trace s w r
   latest_in w reads h = record {
     variable = x;
     reads = reads;
     writes = h.writes;
-    earlier = record { place = h.place; later_place = q; before = h.earlier; first = h.at; second = at };
+    earlier = record { index = h.index; later_index = q; before = h.earlier; first = h.at; second = at };
     latest = λ k after before. between k after before;
   }
     where
       between : (k : ℕ) → StandsBefore s w k → StandsBefore s k r → op_at trace k ≢ Some (Write x)
       between k after before =
-          let first = same_place s distinct after.place h.place w after.first h.at in
-          let middle = same_place s distinct after.later_place before.place k after.second before.first in
-          let last = same_place s distinct before.later_place q r before.second at in
+          let first = same_index s distinct after.index h.index w after.first h.at in
+          let middle = same_index s distinct after.later_index before.index k after.second before.first in
+          let last = same_index s distinct before.later_index q r before.second at in
           let low = after.before in
           let high = before.before in
-          h.latest after.later_place k (omega (arith, first, low)) (omega (arith, middle, last, high)) after.second
+          h.latest after.later_index k (omega (arith, first, low)) (omega (arith, middle, last, high)) after.second
 
   pub latest_out : (w : ℕ) → (h : LastWriteIn trace s w r) → h.variable ≡ x → IsLatestWrite trace s q x w
   latest_out w h same = record {
-    place = h.earlier.place;
-    earlier = (let last = same_place s distinct h.earlier.later_place q r h.earlier.second at in let lt = h.earlier.before in omega (arith, last, lt));
+    index = h.earlier.index;
+    earlier = (let last = same_index s distinct h.earlier.later_index q r h.earlier.second at in let lt = h.earlier.before in omega (arith, last, lt));
     at = h.earlier.first;
     writes = rw (← same) h.writes;
-    latest = λ p k low high at_k. rw (← same) (h.latest k (record { place = h.earlier.place; later_place = p; before = low; first = h.earlier.first; second = at_k }) (record { place = p; later_place = q; before = high; first = at_k; second = at }));
+    latest = λ p k low high at_k. rw (← same) (h.latest k (record { index = h.earlier.index; later_index = p; before = low; first = h.earlier.first; second = at_k }) (record { index = p; later_index = q; before = high; first = at_k; second = at }));
   }

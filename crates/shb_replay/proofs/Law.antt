@@ -1,4 +1,4 @@
--- No place of a list has a reason exactly where the list is a correct reordering that keeps happens-before.
+-- No index of a list has a reason exactly where the list is a correct reordering that keeps happens-before.
 use Rattle.std.proofs.Common.{◌≡◌, ℕ, ◌<◌, ◌⊎◌, inl, inr, List, Some, length, take, refl, sym, ◌∙◌, arith}
 use Rattle.std.specs.Prelude.{slice_get, Contains, ◌↔◌}
 use Rattle.std.proofs.lemmas.Option.{slice_get_within}
@@ -10,8 +10,8 @@ use Rattle.shb_lines.specs.events.Order.{LastWrite, lock_passed, here, step}
 use Rattle.shb_lines.specs.events.Schedule.{StandsBefore, LastWriteIn, IsCorrectReordering, KeepsHb, IsNext, IsSchedule}
 use Rattle.shb_lines.proofs.events.Counts.{counted_before}
 use Rattle.shb_lines.proofs.events.Events.{op_is, fork_allowed, is_join_true}
-use Rattle.shb_lines.proofs.events.Places.{place_of, contains_at}
-use Rattle.shb_lines.proofs.events.Reordered.{event_at_place}
+use Rattle.shb_lines.proofs.events.Indices.{index_of, contains_at}
+use Rattle.shb_lines.proofs.events.Reordered.{event_at_index}
 use Rattle.shb_replay.specs.declared.broken.Why.TheVariants as whys
 use Rattle.shb_replay.specs.Reasons.{StandsEarlier, ForksAfterJoin, IsLatestWrite, IsUnbroken}
 use Rattle.shb_replay.proofs.Standing.{stands_before, before_stands_earlier}
@@ -23,20 +23,20 @@ use Rattle.shb_replay.proofs.LastWrites.{decide_agree, latest_in, latest_out}
 module _ (trace : List Event) (disciplined : IsDisciplined trace) (s : List ℕ) where
   module _ (unbroken : IsUnbroken trace s (length s)) where
     distinct : (a : ℕ) → ¬ StandsBefore s a a
-    distinct a h = once trace s (length s) unbroken h.later_place a (slice_get_within s h.later_place a h.second) h.second (record { place = h.place; earlier = h.before; at = h.first })
+    distinct a h = once trace s (length s) unbroken h.later_index a (slice_get_within s h.later_index a h.second) h.second (record { index = h.index; earlier = h.before; at = h.first })
 
-    -- what stands before the place of a member stands before the member
+    -- what stands before the index of a member stands before the member
     before_member : (a b : ℕ) → Contains s b → ((q : ℕ) → q < length s → slice_get s q ≡ Some b → StandsEarlier s q a) → StandsBefore s a b
-    before_member a b c stands = let place = place_of s b c in stands_before s place.0 a b place.1 (stands place.0 (slice_get_within s place.0 b place.1) place.1)
+    before_member a b c stands = let index = index_of s b c in stands_before s index.0 a b index.1 (stands index.0 (slice_get_within s index.0 b index.1) index.1)
 
     agree_at : (q r x : ℕ) → slice_get s q ≡ Some r → op_at trace r ≡ Some (Read x) → (w : ℕ) → IsLatestWrite trace s q x w ↔ LastWrite trace w r
     agree_at q r x at reads = elim (decide_agree trace s q x r) [ inl h ↦ h | inr not ↦ absurd (unbroken q r whys.LastWrite (slice_get_within s q r at) at (x, record { reads = reads; differ = not })) ]
 
     reads_same : (w r : ℕ) → Contains s r → LastWriteIn trace s w r ↔ LastWrite trace w r
     reads_same w r c =
-        let place = place_of s r c in (
-          (λ h. (agree_at place.0 r h.variable place.1 h.reads w).0 (latest_out trace s distinct place.0 h.variable r place.1 w h refl)),
-          (λ h. latest_in trace s distinct place.0 h.variable r place.1 w h.reads ((agree_at place.0 r h.variable place.1 h.reads w).1 h)),
+        let index = index_of s r c in (
+          (λ h. (agree_at index.0 r h.variable index.1 h.reads w).0 (latest_out trace s distinct index.0 h.variable r index.1 w h refl)),
+          (λ h. latest_in trace s distinct index.0 h.variable r index.1 w h.reads ((agree_at index.0 r h.variable index.1 h.reads w).1 h)),
         )
 
     correct : IsCorrectReordering trace s
@@ -50,7 +50,7 @@ module _ (trace : List Event) (disciplined : IsDisciplined trace) (s : List ℕ)
     }
 
     keeps : KeepsHb trace s
-    keeps a b path c = let place = place_of s b c in go place.0 place.1 (path_stands trace s (length s) unbroken place.0 a b (slice_get_within s place.0 b place.1) place.1 path)
+    keeps a b path c = let index = index_of s b c in go index.0 index.1 (path_stands trace s (length s) unbroken index.0 a b (slice_get_within s index.0 b index.1) index.1 path)
       where
         go : (q : ℕ) → slice_get s q ≡ Some b → (a ≡ b) ⊎ StandsEarlier s q a → (a ≡ b) ⊎ StandsBefore s a b
         go q at (inl same) = inl same
@@ -69,12 +69,12 @@ module _ (trace : List Event) (disciplined : IsDisciplined trace) (s : List ℕ)
     -- a fork doesn't stand after a join of its thread, since the list is disciplined
     no_join : (p e j : ℕ) → slice_get s p ≡ Some e → ForksAfterJoin trace s p e j → ⊥
     no_join p e j at h =
-        let fork = event_at_place trace s both.0.positions.in_range p e at in
-        let join = event_at_place trace s both.0.positions.in_range h.stands.place j h.stands.at in
+        let fork = event_at_index trace s both.0.positions.in_range p e at in
+        let join = event_at_index trace s both.0.positions.in_range h.stands.index j h.stands.at in
         let fork_op : Some fork.0.op ≡ Some (Fork h.thread) = sym (op_is trace e fork.0 fork.2) ∙ h.forks in
         let join_op : Some join.0.op ≡ Some (Join h.thread) = sym (op_is trace j join.0 join.2) ∙ h.joins in
         let may = fork_allowed (take p (events_at trace s)) fork.0 h.thread (both.0.disciplined p fork.0 fork.1) (let g : fork.0.op ≡ Fork h.thread = cc in g) in
-        let some = counted_before (is_join h.thread) (events_at trace s) h.stands.place p join.0 join.1 (is_join_true h.thread join.0 (let g : join.0.op ≡ Join h.thread = cc in g)) h.stands.earlier in
+        let some = counted_before (is_join h.thread) (events_at trace s) h.stands.index p join.0 join.1 (is_join_true h.thread join.0 (let g : join.0.op ≡ Join h.thread = cc in g)) h.stands.earlier in
         let none = may.not_joined in
         omega (arith, some, none)
 

@@ -1,4 +1,4 @@
--- The lowest reason of an event, and the first place with a reason.
+-- The lowest reason of an event, and the first index with a reason.
 use Rattle.std.proofs.Common.{◌≡◌, ℕ, ◌+◌, ◌<◌, ◌≤◌, ◌⊎◌, inl, inr, List, Option, Some, None, length, refl, arith, subst}
 use Rattle.std.specs.Prelude.{slice_get, ◌↔◌}
 use Rattle.std.proofs.lemmas.Bool.{cases_lt}

@@ -1,4 +1,4 @@
--- A list has at most one place and reason at which it is no schedule.
+-- A list has at most one index and reason at which it is no schedule.
 use Rattle.std.proofs.Common.{◌≡◌, ℕ, zero, suc, ◌<◌, ◌⊎◌, inl, inr, List, Some, refl, sym, ◌∙◌, ap, arith, subst}
 use Rattle.std.proofs.lemmas.Bool.{cases_order}
 use Rattle.std.proofs.lemmas.Option.{slice_get_within}
@@ -44,17 +44,17 @@ module _ (trace : List Event) (s : List ℕ) (i j : ℕ) where
   two_ways p whys.LockOrder h = inr h
   two_ways p whys.LastWrite h = inr h
 
-  -- a place with a reason isn't among those before another answer's place
+  -- an index with a reason isn't among those before another answer's index
   not_before : (p n : ℕ) (why : Why) → IsFirstReason trace s p why → IsUnbroken trace s n → p < n → ⊥
   not_before p n why h unbroken lt = unbroken p h.event why lt h.there h.lowest.0
 
   at_end : (p q : ℕ) (why : Why) → IsFirstReason trace s p why → IsNotNext trace s i j q → ⊥
   at_end p q why h end = not_before p q why h end.earlier (let lt = slice_get_within s p h.event h.there in let e = end.at_end in omega (arith, lt, e))
 
-  same_place : (p q : ℕ) (why other : Why) → IsFirstReason trace s p why → IsFirstReason trace s q other → (p ≡ q) ⊎ ((p < q) ⊎ (q < p)) → p ≡ q
-  same_place p q why other h g (inl same) = same
-  same_place p q why other h g (inr (inl lt)) = absurd (not_before p q why h g.earlier lt)
-  same_place p q why other h g (inr (inr gt)) = absurd (not_before q p other g h.earlier gt)
+  same_index : (p q : ℕ) (why other : Why) → IsFirstReason trace s p why → IsFirstReason trace s q other → (p ≡ q) ⊎ ((p < q) ⊎ (q < p)) → p ≡ q
+  same_index p q why other h g (inl same) = same
+  same_index p q why other h g (inr (inl lt)) = absurd (not_before p q why h g.earlier lt)
+  same_index p q why other h g (inr (inr gt)) = absurd (not_before q p other g h.earlier gt)
 
   same_reason : (p : ℕ) (why other : Why) → IsFirstReason trace s p why → IsFirstReason trace s p other → why ≡ other
   same_reason p why other h g =
@@ -69,7 +69,7 @@ module _ (trace : List Event) (s : List ℕ) (i j : ℕ) where
   by_ways p q why other (inl h) (inr g) = absurd (at_end q p other g h.1)
   by_ways p q why other (inr h) (inl g) = absurd (at_end p q why h g.1)
   by_ways p q why other (inr h) (inr g) =
-      let same = same_place p q why other h g (cases_order p q) in
+      let same = same_index p q why other h g (cases_order p q) in
       (same, same_reason q why other (subst (λ (k : ℕ). IsFirstReason trace s k why) same h) g)
 
   pub one_answer : (p q : ℕ) (why other : Why) → IsBroken trace s i j p why → IsBroken trace s i j q other → (p ≡ q) × (why ≡ other)

@@ -1,4 +1,4 @@
--- The reasons of an event by its operation, where no place before it has a reason.
+-- The reasons of an event by its operation, where no index before it has a reason.
 use Rattle.std.proofs.Common.{◌≡◌, ◌≢◌, ℕ, ◌<◌, ◌≤◌, ◌⊎◌, inl, inr, true, false, List, Option, Some, None, length, take, get_or, refl, sym, ◌∙◌, ap, arith, subst}
 use Rattle.std.specs.Prelude.{slice_get, ◌==◌, ◌↔◌, IfSome}
 use Rattle.std.specs.Option.{option_eq}
@@ -28,7 +28,7 @@ use Rattle.shb_replay.proofs.LastWrites.{writes_agree, writes_differ}
 module _ (trace : List Event) (disciplined : IsDisciplined trace) (s : List ℕ) (p : ℕ) (unbroken : IsUnbroken trace s p) where
   -- the last event of a thread stands only where all of them do
   ended_by : (q t a b : ℕ) → q < p → slice_get s q ≡ Some b → thread_at trace b ≡ Some t → thread_at trace a ≡ Some t → (b < a → ⊥) → (a ≡ b) ⊎ ((a < b) ⊎ (b < a)) → StandsEarlier s p a
-  ended_by q t a b lt at of_b of_a last (inl same) = record { place = q; earlier = lt; at = at ∙ ap (λ (n : ℕ). Some n) (sym same) }
+  ended_by q t a b lt at of_b of_a last (inl same) = record { index = q; earlier = lt; at = at ∙ ap (λ (n : ℕ). Some n) (sym same) }
   ended_by q t a b lt at of_b of_a last (inr (inl low)) = widen s q p a (omega (arith, lt)) (thread_stands trace s p unbroken q b a t lt at low of_a of_b)
   ended_by q t a b lt at of_b of_a last (inr (inr high)) = absurd (last high)
 
@@ -36,7 +36,7 @@ module _ (trace : List Event) (disciplined : IsDisciplined trace) (s : List ℕ)
   thread_ended t (Some b) latest stands a of_a =
       let there = stands b refl in
       let e = event_of_thread trace a t of_a in
-      ended_by there.place t a b there.earlier there.at latest.holds of_a (λ high. latest.last a high (slice_get_within trace a e.0 e.1) of_a) (cases_order a b)
+      ended_by there.index t a b there.earlier there.at latest.holds of_a (λ high. latest.last a high (slice_get_within trace a e.0 e.1) of_a) (cases_order a b)
   thread_ended t None none stands a of_a = absurd (let e = event_of_thread trace a t of_a in none a (slice_get_within trace a e.0 e.1) of_a)
 
   -- between two releases by different threads the later one acquires the lock
@@ -79,7 +79,7 @@ module _ (trace : List Event) (disciplined : IsDisciplined trace) (s : List ℕ)
       let gives : op_at trace k ≡ Some (Release l) = op_is trace k d at_k ∙ ap (λ (o : Op). Some o) releases_k in
       let stands = thread_stands trace s p unbroken q r a e.thread lq at found.1.below of_t (thread_is trace r e at_r) in
       let first = stands.earlier in
-      widen s stands.place q k (omega (arith, first)) (release_stands trace s p unbroken stands.place a k l (omega (arith, first, lq)) stands.at takes gives (apart a takes gives found.1.from))
+      widen s stands.index q k (omega (arith, first)) (release_stands trace s p unbroken stands.index a k l (omega (arith, first, lq)) stands.at takes gives (apart a takes gives found.1.from))
     where
       apart : (a : ℕ) → op_at trace a ≡ Some (Acquire l) → op_at trace k ≡ Some (Release l) → k ≤ a → k < a
       apart a takes gives le = elim (cases_lt k a) [ inl low ↦ low | inr ge ↦ absurd (let same : a ≡ k = omega (arith, le, ge) in let both : Some (Acquire l) ≡ Some (Release l) = sym takes ∙ (ap (op_at trace) same ∙ gives) in (let f : ⊥ = cc in f)) ]
@@ -88,7 +88,7 @@ module _ (trace : List Event) (disciplined : IsDisciplined trace) (s : List ℕ)
   handed_on l r k stands releases_r releases_k lt =
       let e = event_of_op trace r (Release l) releases_r in
       let d = event_of_op trace k (Release l) releases_k in
-      widen s stands.place p k (let low = stands.earlier in omega (arith, low)) (handed_by stands.place l r k e.0 d.0 stands.earlier stands.at e.1 d.1 e.2 d.2 lt (cases_eq d.0.thread e.0.thread))
+      widen s stands.index p k (let low = stands.earlier in omega (arith, low)) (handed_by stands.index l r k e.0 d.0 stands.earlier stands.at e.1 d.1 e.2 d.2 lt (cases_eq d.0.thread e.0.thread))
 
   released_before : (l x : ℕ) (o : Option ℕ) → Latest (ReleasesLock trace l) x o → ((r : ℕ) → o ≡ Some r → StandsEarlier s p r) → (k : ℕ) → k < x → op_at trace k ≡ Some (Release l) → StandsEarlier s p k
   released_before l x (Some r) latest stands k lt gives = go (cases_order k r)

@@ -22,9 +22,9 @@ use Rattle.shb_replay.proofs.Standing.{member_stands, stands_member}
 use Rattle.shb_replay.proofs.Closed.{thread_stands, fork_stands}
 use Rattle.shb_replay.proofs.FrontDiscipline.{one_fork}
 
--- what holds of the event at a place
-pub at_place : (P : ℕ → Type 0) (s : List ℕ) (p : ℕ) → P (get_or s p 0) → (e : ℕ) → slice_get s p ≡ Some e → P e
-at_place P s p h e at = subst P (get_or_from_slice_get s p e 0 at) h
+-- what holds of the event at an index
+pub at_index : (P : ℕ → Type 0) (s : List ℕ) (p : ℕ) → P (get_or s p 0) → (e : ℕ) → slice_get s p ≡ Some e → P e
+at_index P s p h e at = subst P (get_or_from_slice_get s p e 0 at) h
 
 pub pred_in_trace : (trace : List Event) (a e : ℕ) → IsPred trace a e → a < length trace
 pred_in_trace trace a e pred = below_pred_in_range trace a e (a, pred, here)
@@ -118,16 +118,16 @@ module _ (trace : List Event) (disciplined : IsDisciplined trace) (s : List ℕ)
       go : (b ≡ a) ⊎ ((b < a) ⊎ (a < b)) → StandsEarlier s (length s) b
       go (inl is) = subst (λ (k : ℕ). StandsEarlier s (length s) k) (sym is) stands
       go (inr (inl low)) =
-          let prior = thread_stands trace s (length s) unbroken stands.place a b u stands.earlier stands.at low (of_b ∙ ap (λ (n : ℕ). Some n) (same of_e of_e')) of_a in
-          record { place = prior.place; earlier = (let x = prior.earlier in let y = stands.earlier in omega (arith, x, y)); at = prior.at }
+          let prior = thread_stands trace s (length s) unbroken stands.index a b u stands.earlier stands.at low (of_b ∙ ap (λ (n : ℕ). Some n) (same of_e of_e')) of_a in
+          record { index = prior.index; earlier = (let x = prior.earlier in let y = stands.earlier in omega (arith, x, y)); at = prior.at }
       go (inr (inr high)) = absurd (last b high below (of_b ∙ ap (λ (n : ℕ). Some n) (same of_e of_e')))
   thread_before t a b (by_fork u forks of_e first) stands below of_b of_e' = absurd (first b below (of_b ∙ (sym of_e' ∙ of_e)))
 
   fork_before : (t a f : ℕ) → IsPred trace a e → StandsEarlier s (length s) a → op_at trace f ≡ Some (Fork t) → thread_at trace e ≡ Some t → StandsEarlier s (length s) f
   fork_before t a f (in_thread u of_a of_e lt last) stands forks of_e' =
       let of_t : thread_at trace a ≡ Some t = of_a ∙ (sym of_e ∙ of_e') in
-      let prior = fork_stands trace s (length s) unbroken stands.place a f t stands.earlier stands.at forks of_t in
-      record { place = prior.place; earlier = (let x = prior.earlier in let y = stands.earlier in omega (arith, x, y)); at = prior.at }
+      let prior = fork_stands trace s (length s) unbroken stands.index a f t stands.earlier stands.at forks of_t in
+      record { index = prior.index; earlier = (let x = prior.earlier in let y = stands.earlier in omega (arith, x, y)); at = prior.at }
   fork_before t a f (by_fork u forks' of_e first) stands forks of_e' =
       let both : Some u ≡ Some t = sym of_e ∙ of_e' in
       let same : u ≡ t = cc in

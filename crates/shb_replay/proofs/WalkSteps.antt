@@ -1,4 +1,4 @@
--- What stands, one place further.
+-- What stands, one index further.
 use Rattle.std.proofs.Common.{◌≡◌, ◌≢◌, ℕ, ◌+◌, ◌<◌, ◌⊎◌, inl, inr, Bool, true, false, List, Option, Some, None, length, get_or, sym, ◌∙◌, arith, subst, get_or-set_same, get_or-set_other}
 use Rattle.std.specs.Prelude.{slice_get}
 use Rattle.std.specs.Vec.{with_item}
@@ -57,26 +57,26 @@ module _ (trace : List Event) (sizes : Sizes) (s : List ℕ) (p e : ℕ) (at : s
   joined_same flags none = flags_same (JoinStands trace s p) (JoinStands trace s (p + 1)) sizes.threads flags join_kept (λ u h. elim (join_before u h) [ inl before ↦ before | inr now ↦ absurd (none u now) ])
 
   write_here : (x : ℕ) → op_at trace e ≡ Some (Write x) → IsLatestWrite trace s (p + 1) x e
-  write_here x writes = record { place = p; earlier = omega arith; at = at; writes = writes; latest = λ q k low high at_k. absurd (omega (arith, low, high)) }
+  write_here x writes = record { index = p; earlier = omega arith; at = at; writes = writes; latest = λ q k low high at_k. absurd (omega (arith, low, high)) }
 
   write_kept : (x : ℕ) (o : Option ℕ) → op_at trace e ≢ Some (Write x) → Exactly (IsLatestWrite trace s p x) o → Exactly (IsLatestWrite trace s (p + 1) x) o
   write_kept x (Some w) other h = record {
-    place = h.place;
+    index = h.index;
     earlier = (let lt = h.earlier in omega (arith, lt));
     at = h.at;
     writes = h.writes;
     latest = λ q k low high at_k. still q k low (cases_order q p) high at_k;
   }
     where
-      still : (q k : ℕ) → h.place < q → (q ≡ p) ⊎ ((q < p) ⊎ (p < q)) → q < p + 1 → slice_get s q ≡ Some k → op_at trace k ≢ Some (Write x)
+      still : (q k : ℕ) → h.index < q → (q ≡ p) ⊎ ((q < p) ⊎ (p < q)) → q < p + 1 → slice_get s q ≡ Some k → op_at trace k ≢ Some (Write x)
       still q k low (inl same) high at_k = λ writes. other (subst (λ (j : ℕ). op_at trace j ≡ Some (Write x)) (one_value s p k e (subst (λ (r : ℕ). slice_get s r ≡ Some k) same at_k) at) writes)
       still q k low (inr (inl lt)) high at_k = h.latest q k low lt at_k
       still q k low (inr (inr gt)) high at_k = absurd (omega (arith, gt, high))
-  write_kept x None other none = λ w h. refuse w h (cases_order h.place p)
+  write_kept x None other none = λ w h. refuse w h (cases_order h.index p)
     where
-      refuse : (w : ℕ) (h : IsLatestWrite trace s (p + 1) x w) → (h.place ≡ p) ⊎ ((h.place < p) ⊎ (p < h.place)) → ⊥
+      refuse : (w : ℕ) (h : IsLatestWrite trace s (p + 1) x w) → (h.index ≡ p) ⊎ ((h.index < p) ⊎ (p < h.index)) → ⊥
       refuse w h (inl same) = other (subst (λ (j : ℕ). op_at trace j ≡ Some (Write x)) (one_value s p w e (subst (λ (r : ℕ). slice_get s r ≡ Some w) same h.at) at) h.writes)
-      refuse w h (inr (inl lt)) = none w (record { place = h.place; earlier = lt; at = h.at; writes = h.writes; latest = λ q k low high at_k. h.latest q k low (omega (arith, high)) at_k })
+      refuse w h (inr (inl lt)) = none w (record { index = h.index; earlier = lt; at = h.at; writes = h.writes; latest = λ q k low high at_k. h.latest q k low (omega (arith, high)) at_k })
       refuse w h (inr (inr gt)) = let lt = h.earlier in omega (arith, gt, lt)
 
   writes_more : (writes : List (Option ℕ)) (x : ℕ) → op_at trace e ≡ Some (Write x) → x < sizes.variables → AreLatestWrites trace s p sizes.variables writes → AreLatestWrites trace s (p + 1) sizes.variables (set writes x (Some e))

@@ -1,4 +1,4 @@
--- What is known at a place of a list: which events stand earlier, and what the trace asks of an event.
+-- What is known at an index of a list: which events stand earlier, and what the trace asks of an event.
 use Rattle.std.specs.Prelude.{◌≡◌, ℕ, ◌<◌, ◌≤◌, Bool, true, false, List, Option, Some, slice_get, slice_index_or, length, None}
 use Rattle.shb_lines.specs.declared.event.Event.{Event}
 use Rattle.shb_lines.specs.declared.event.Sizes.{Sizes}
@@ -26,7 +26,7 @@ abbrev pub Tells : Bool → Type 0 → Type 0
 Tells true P = P
 Tells false P = ¬ P
 
--- whether there is such an event that doesn't stand at a place before p
+-- whether there is such an event that doesn't stand at an index before p
 abbrev pub TellsLack : List ℕ → ℕ → Option ℕ → Bool → Type 0
 TellsLack s p event true = (e : ℕ) × (event ≡ Some e) × ¬ StandsEarlier s p e
 TellsLack s p event false = (e : ℕ) → event ≡ Some e → StandsEarlier s p e
@@ -41,18 +41,18 @@ pub record AreFlags (P : ℕ → Type 0) (size : ℕ) (flags : List Bool) : Type
   pub as_long : length flags ≡ size
   pub each : (k : ℕ) (flag : Bool) → slice_get flags k ≡ Some flag → Tells flag (P k)
 
--- a join of thread t stands at a place before p
+-- a join of thread t stands at an index before p
 pub record JoinStands (trace : List Event) (s : List ℕ) (p t : ℕ) : Type 0 where
   pub event : ℕ
   pub joins : op_at trace event ≡ Some (Join t)
   pub stands : StandsEarlier s p event
 
--- of each variable the latest write at a place before p, if there is one
+-- of each variable the latest write at an index before p, if there is one
 pub record AreLatestWrites (trace : List Event) (s : List ℕ) (p size : ℕ) (writes : List (Option ℕ)) : Type 0 where
   pub as_long : length writes ≡ size
   pub each : (x : ℕ) → x < size → Exactly (IsLatestWrite trace s p x) (slice_index_or writes x None)
 
--- what stands at places before p
+-- what stands at indices before p
 pub record IsWalked (trace : List Event) (sizes : Sizes) (s : List ℕ) (p : ℕ) (walked : Walked) : Type 0 where
   pub stands : AreFlags (StandsEarlier s p) (length trace) walked.stands.items
   pub joined : AreFlags (JoinStands trace s p) sizes.threads walked.joined.items
@@ -62,13 +62,13 @@ pub record IsWalked (trace : List Event) (sizes : Sizes) (s : List ℕ) (p : ℕ
 abbrev pub IsBlank : List Event → Sizes → Walked → Type 0
 IsBlank trace sizes walked = (s : List ℕ) → IsWalked trace sizes s 0 walked
 
--- some event at a place from m on and before p has the property
+-- some event at an index from m on and before p has the property
 pub record IsBetween (s : List ℕ) (m p : ℕ) (P : ℕ → Type 0) : Type 0 where
-  pub place : ℕ
-  pub from : m ≤ place
-  pub below : place < p
+  pub index : ℕ
+  pub from : m ≤ index
+  pub below : index < p
   pub event : ℕ
-  pub at : slice_get s place ≡ Some event
+  pub at : slice_get s index ≡ Some event
   pub holds : P event
 
 -- there are as many flags as the size, and those that are set have the property
@@ -81,18 +81,18 @@ pub record AreWritesOnly (P : ℕ → Type 0) (size : ℕ) (writes : List (Optio
   pub as_long : length writes ≡ size
   pub each : (x w : ℕ) → x < size → slice_index_or writes x None ≡ Some w → P x
 
--- what is still known comes from places from m on and before p
+-- what is still known comes from indices from m on and before p
 pub record IsLeft (trace : List Event) (sizes : Sizes) (s : List ℕ) (m p : ℕ) (walked : Walked) : Type 0 where
   pub stands : AreFlagsOnly (λ a. IsBetween s m p (λ b. b ≡ a)) (length trace) walked.stands.items
   pub joined : AreFlagsOnly (λ t. IsBetween s m p (λ b. op_at trace b ≡ Some (Join t))) sizes.threads walked.joined.items
   pub writes : AreWritesOnly (λ x. IsBetween s m p (λ b. op_at trace b ≡ Some (Write x))) sizes.variables walked.writes.items
 
--- how many places of the list were walked for an answer
+-- how many indices of the list were walked for an answer
 abbrev pub walked_to : List ℕ → Option Broken → ℕ
 walked_to s (Some broken) = broken.at
 walked_to s None = length s
 
--- where and why the list is no schedule of (i, j), or that it is one as far as its places and the two accesses tell
+-- where and why the list is no schedule of (i, j), or that it is one as far as its indices and the two accesses tell
 abbrev pub IsAnswer : List Event → List ℕ → ℕ → ℕ → Option Broken → Type 0
 IsAnswer trace s i j (Some broken) = IsBroken trace s i j broken.at broken.why
 IsAnswer trace s i j None = IsUnbroken trace s (length s) × IsNext trace s i × IsNext trace s j

@@ -1,7 +1,7 @@
 //! Why a list of events is no schedule of a pair.
 
-/// Why a list of events is no schedule. At each place of the list the event there is judged by the
-/// events at places before it, here called earlier; of several reasons at one place the first in
+/// Why a list of events is no schedule. At each index of the list the event there is judged by the
+/// events at indices before it, here called earlier; of several reasons at one index the first in
 /// this enum is answered. The reasons and their order are this project's own.
 #[derive(Clone, Copy, Debug, PartialEq, Eq)]
 pub enum Why {
@@ -21,14 +21,14 @@ pub enum Why {
     LockOrder,
     /// It reads a variable whose latest earlier write in the list isn't its last write in the trace.
     LastWrite,
-    /// No place has a reason above, but one of the two accesses isn't next after the list.
+    /// No index has a reason above, but one of the two accesses isn't next after the list.
     NotNext,
 }
 
-/// The first place of a list at which it stops to be a schedule, and why.
+/// The first index of a list at which it stops to be a schedule, and why.
 #[derive(Clone, Copy, Debug, PartialEq, Eq)]
 pub struct Broken {
-    /// The place in the list, from 0; the length of the list for [`Why::NotNext`].
+    /// The index in the list, from 0; the length of the list for [`Why::NotNext`].
     pub at: usize,
     /// The first reason that the event there has.
     pub why: Why,

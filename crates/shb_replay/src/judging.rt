@@ -16,7 +16,7 @@ use shb_links::{Linked, Links};
 use std::alloc::Global;
 use std::marker::Model;
 
-/// Walks over a list from its first place up to the first with a reason, and answers where and why it
+/// Walks over a list from its first index up to the first with a reason, and answers where and why it
 /// is no schedule of the pair.
 fn walk(walked: &mut Walked, rules: &Rules<'_>, list: &[u32], pair: Pair) -> Option<Broken>
     requires first { pair.first < length rules.now.linked.events.now }
@@ -44,8 +44,8 @@ fn walk(walked: &mut Walked, rules: &Rules<'_>, list: &[u32], pair: Pair) -> Opt
     None
 }
 
-/// How many places of a list were walked for this answer.
-fn places_walked(list: &[u32], answer: Option<Broken>) -> usize
+/// How many indices of a list were walked for this answer.
+fn walked_length(list: &[u32], answer: Option<Broken>) -> usize
     ensures { result ≡ walked_to list.now answer }
 {
     match answer {
@@ -100,7 +100,7 @@ impl<'a> Judge<'a> {
             b.at b.why) }
     {
         let answer = walk(&mut self.walked, &self.rules, list, pair);
-        let end = places_walked(list, answer);
+        let end = walked_length(list, answer);
         self.walked.clear(&self.rules.linked, list, end);
         answer
     }
@@ -109,7 +109,7 @@ impl<'a> Judge<'a> {
 /// Whether a list of events is a schedule of a pair: a correct reordering of the trace that keeps
 /// happens-before and after which both events of the pair are next. They need not conflict.
 ///
-/// `None` exactly where it is one. Else the first place with a reason, and the lowest reason there
+/// `None` exactly where it is one. Else the first index with a reason, and the lowest reason there
 /// (see [`Why`]). `NoMemory` where memory was refused.
 ///
 /// Two passes over the list and two over the trace; memory for the events, threads and names of the

@@ -1,4 +1,4 @@
-//! What stands at the places of a list that were walked, and whether an event may stand at the next.
+//! What stands at the indices of a list that were walked, and whether an event may stand at the next.
 
 ghost use Rattle.std.specs.Prelude.{◌≡◌, ◌+◌, ◌<◌, ◌≤◌, ℕ, List, IfOk, IfSome, Some, length, slice_get, vec_len, false, replicate};
 ghost use Rattle.shb_lines.specs.events.Schedule.{IsNext};
@@ -13,7 +13,7 @@ use shb_lines::{Event, Op};
 use shb_links::Linked;
 use std::alloc::Global;
 
-/// What stands at the places of a list that were walked.
+/// What stands at the indices of a list that were walked.
 #[derive(Drop)]
 pub(crate) struct Walked {
     /// Whether an event stands there.
@@ -32,7 +32,7 @@ fn unset_flags(alloc: Global, size: usize) -> Result<Vec<bool>, NoMemory>
 }
 
 impl Walked {
-    /// Before the first place: nothing stands.
+    /// Before the first index: nothing stands.
     pub(crate) fn new(alloc: Global, linked: &Linked<'_>) -> Result<Walked, NoMemory>
         ensures { IfOk result (IsBlank linked.now.events.now linked.now.sizes) }
     {
@@ -55,7 +55,7 @@ impl Walked {
         }
     }
 
-    /// The reason of thread order that the event at a place has, if it has one: its predecessor
+    /// The reason of thread order that the event at an index has, if it has one: its predecessor
     /// doesn't stand.
     fn order_reason(&self, linked: &Linked<'_>, list: &[u32], at: usize) -> Option<Why>
         requires at { at < length list.now }
@@ -79,7 +79,7 @@ impl Walked {
         }
     }
 
-    /// The reason that the event at a place has by its operation, if it has one.
+    /// The reason that the event at an index has by its operation, if it has one.
     fn operation_reason(&self, rules: &Rules<'_>, list: &[u32], at: usize) -> Option<Why>
         requires at { at < length list.now }
         requires in_trace { (e : ℕ) → slice_get list.now at ≡ Some e
@@ -125,7 +125,7 @@ impl Walked {
         }
     }
 
-    /// The reason of lowest number that the event at a place has, if it has one.
+    /// The reason of lowest number that the event at an index has, if it has one.
     pub(crate) fn reason(&self, rules: &Rules<'_>, list: &[u32], at: usize) -> Option<Why>
         requires at { at < length list.now }
         requires rules { AreRules rules.now.linked.events.now rules.now.handovers.items }
@@ -147,7 +147,7 @@ impl Walked {
         }
     }
 
-    /// Takes note of the event at a place, which has no reason.
+    /// Takes note of the event at an index, which has no reason.
     pub(crate) fn note(&mut self, linked: &Linked<'_>, list: &[u32], at: usize)
         requires at { at < length list.now }
         requires in_trace { (e : ℕ) → slice_get list.now at ≡ Some e
@@ -164,7 +164,7 @@ impl Walked {
         }
     }
 
-    /// Forgets the event at a place.
+    /// Forgets the event at an index.
     fn forget(&mut self, linked: &Linked<'_>, list: &[u32], at: usize, end: usize)
         requires at { at < length list.now }
         requires in_trace { (e : ℕ) → slice_get list.now at ≡ Some e
@@ -181,7 +181,7 @@ impl Walked {
         }
     }
 
-    /// Forgets the events at the first places of a list, which are all that it knows.
+    /// Forgets the events at the first indices of a list, which are all that it knows.
     pub(crate) fn clear(&mut self, linked: &Linked<'_>, list: &[u32], end: usize)
         requires end { end ≤ length list.now }
         requires walked { IsWalked linked.now.events.now linked.now.sizes list.now end self.old }

@@ -11,7 +11,7 @@
 //!
 //! [`read_report`] reads version 2 and version 1, which has no places, both with schedules. It
 //! reads the source whole and then line by line, by a list of the forms of the lines that are still
-//! expected (`specs/Forms.antt`); what was read is kept as places in the text, and numbers as they
+//! expected (`specs/Forms.antt`); what was read is kept as spans of the text, and numbers as they
 //! are. So the first bad line is the first at which no report goes on. [`check_report`] judges a
 //! report against a trace: counts, blocks with one judge, places. [`judge_report`] reads and judges
 //! a report a block at a time, and keeps the numbers of one schedule.

@@ -22,7 +22,7 @@ use Rattle.shb_run.specs.declared.settings.Choice.TheVariants.{All, Leading}
 use Rattle.shb_run.specs.declared.settings.Summary.{Summary}
 use Rattle.shb_check.specs.Judged.{IsAccepted}
 use Rattle.shb_check.specs.Outcomes.{Grows}
-use Rattle.shb_run.specs.Runs.{AreWords, HasTrace, IsReportedBy, ListsPlaces, ListsSchedulable}
+use Rattle.shb_run.specs.Runs.{FitsU64, HasTrace, IsReportedBy, ListsPlaces, ListsSchedulable}
 use Rattle.shb_write.specs.Written.{CutsBlocksOn, CutsReportOn, OnFailedSink, OnNoMemory, These, WritesReport}
 use Rattle.shb_run.specs.Written.{ListedBy, ReportsTrace, summary_of}
 use Rattle.shb_check.proofs.Endings.{Grows-same}
@@ -59,26 +59,26 @@ report_of_text Lists ws text bytes read stop trace accepted reading report = rec
 }
 
 pub reported_of : (choice : Choice) (ws : Bool) (text : List ℕ) (read : TraceData) (stop : Option LineFault) (events : List Event) (trace : TraceData) (summary : Summary) (old new : Option (List ℕ))
-    → IsDisciplined events → events ≡ trace.events → IsAccepted read stop trace → ReportsTrace (ListedBy choice) ws trace summary old new → AreWords summary → IsReadingOf standard_limits text read stop
+    → IsDisciplined events → events ≡ trace.events → IsAccepted read stop trace → ReportsTrace (ListedBy choice) ws trace summary old new → FitsU64 summary → IsReadingOf standard_limits text read stop
     → IsReportedBy choice ws text summary old new
-reported_of All ws text read stop events trace summary old new disciplined same accepted written words reading = record {
+reported_of All ws text read stop events trace summary old new disciplined same accepted written fits reading = record {
   faultless = accepted.faultless text reading;
   bytes = written.bytes;
   report = report_of_text AllRaces ws text written.bytes read stop trace accepted reading written.report;
   disciplined = subst IsDisciplined same disciplined;
   written = written.written;
   summary_is = written.summary_is;
-  words = words;
+  fits = fits;
   schedulable = schedulable_of trace.events written.report.races (subst IsDisciplined same disciplined) written.report.races_are;
 }
-reported_of Leading ws text read stop events trace summary old new disciplined same accepted written words reading = record {
+reported_of Leading ws text read stop events trace summary old new disciplined same accepted written fits reading = record {
   faultless = accepted.faultless text reading;
   bytes = written.bytes;
   report = report_of_text LeadingRaces ws text written.bytes read stop trace accepted reading written.report;
   disciplined = subst IsDisciplined same disciplined;
   written = written.written;
   summary_is = written.summary_is;
-  words = words;
+  fits = fits;
   places = places_of trace written.report.races (subst IsDisciplined same disciplined) written.report.races_are;
 }
 

@@ -7,7 +7,8 @@ use Rattle.shb_lines.specs.declared.event.Event.{Event}
 use Rattle.shb_lines.specs.declared.event.Pair.{Pair}
 use Rattle.shb_lines.specs.events.Race.{IsRaceList, ends}
 use Rattle.shb_lines.specs.events.Sizes.{IsNumberedByAccess}
-use Rattle.shb_pairs.specs.Listed.{AreOpen, Listed}
+use Rattle.shb_clocks.specs.Open.{OpenTrace}
+use Rattle.shb_pairs.specs.Open.{AreOpen}
 use Rattle.shb_pairs.specs.Pieces.{pieces_in}
 use Rattle.shb_pairs.specs.Races.{joined, races_at}
 use Rattle.shb_pairs.proofs.Joined.{values_are_race_list}
@@ -18,7 +19,7 @@ joined_ends items [] = refl
 joined_ends items (v ∷ lists) = map-append ends (items v) (flat_map items lists) ∙ ap (λ (l : List (ℕ × ℕ)). map ends (items v) ++ l) (joined_ends items lists)
 
 -- the values of all pieces joined
-pub listed_of : {V E : Type 0} (items : V → List Pair) (r : Result V E) (job : Listed) (events : List Event)
+pub listed_of : {V E : Type 0} (items : V → List Pair) (r : Result V E) (job : OpenTrace) (events : List Event)
     → IfOk r (λ v. AreJoined items (λ l. map ends (items l)) (values_of (races_at job) (length (pieces_in job))) (items v))
     → job.trace ≡ events → IsNumberedByAccess job.trace → AreOpen job.trace job.flags → IfOk r (λ v. IsRaceList events (map ends (items v)))
 listed_of items (Ok v) job events is same numbered open_ones =

@@ -26,7 +26,7 @@ use Rattle.shb_report.proofs.WrittenGood.{all_are_races, written_good}
 use Rattle.shb_run.specs.declared.settings.Summary.{Summary}
 use Rattle.shb_report.specs.Checks.{IsJudged, IsVerdictFor}
 use Rattle.shb_check.specs.Checks.{IsVerdictOf}
-use Rattle.shb_run.specs.Runs.{AreWords, IsPlacesReported, IsReported}
+use Rattle.shb_run.specs.Runs.{FitsU64, IsPlacesReported, IsReported}
 use Rattle.shb_run.specs.Written.{summary_of}
 use Rattle.shb_check.proofs.OneTrace.{one_whole_trace}
 
@@ -44,7 +44,7 @@ showable_of text trace none is counts =
 -- a report with schedules that lists races
 module _ (Lists : TraceData → List (ℕ × ℕ) → Type 0) (are_races : (trace : TraceData) (races : List (ℕ × ℕ)) → Lists trace races → (i j : ℕ) → Contains races (i, j) → Race trace.events i j)
     (text bytes : List ℕ) (summary : Summary) (faultless : HasNoFault standard_limits text) (report : IsReportOnText Lists true text bytes) (disciplined : IsDisciplined report.trace.events)
-    (summary_is : summary ≡ summary_of report.trace (length report.report.races)) (words : AreWords summary) where
+    (summary_is : summary ≡ summary_of report.trace (length report.report.races)) (fits : FitsU64 summary) where
   abbrev trace : TraceData
   trace = report.trace
 
@@ -56,13 +56,13 @@ module _ (Lists : TraceData → List (ℕ × ℕ) → Type 0) (are_races : (trac
   good_value =
       let is = summary_is in
       let counts : AreShown (counts_of trace) = record {
-        events = subst IsShown (ap (λ (s : Summary). s.events) is) words.events;
-        threads = subst IsShown (ap (λ (s : Summary). s.threads) is) words.threads;
-        locks = subst IsShown (ap (λ (s : Summary). s.locks) is) words.locks;
-        variables = subst IsShown (ap (λ (s : Summary). s.variables) is) words.variables;
+        events = subst IsShown (ap (λ (s : Summary). s.events) is) fits.events;
+        threads = subst IsShown (ap (λ (s : Summary). s.threads) is) fits.threads;
+        locks = subst IsShown (ap (λ (s : Summary). s.locks) is) fits.locks;
+        variables = subst IsShown (ap (λ (s : Summary). s.variables) is) fits.variables;
       } in
       let showable = showable_of text trace faultless report.trace_is counts in
-      let good = written_good Lists trace bytes (are_races trace) disciplined showable report.report (subst IsShown races_are words.races) in
+      let good = written_good Lists trace bytes (are_races trace) disciplined showable report.report (subst IsShown races_are fits.races) in
       (good.0, good.1, good.2, subst (λ (n : ℕ). IsVerdict trace good.0 (Good n)) (sym races_are) good.3)
 
   judged_good : (verdict : Verdict) → IsJudged trace bytes verdict → verdict ≡ Good summary.races
@@ -86,15 +86,15 @@ module _ (Lists : TraceData → List (ℕ × ℕ) → Type 0) (are_races : (trac
 -- a report of all races
 module _ (text : List ℕ) (summary : Summary) (old new : Option (List ℕ)) (reported : IsReported true text summary old new) where
   pub own_report : (value : ReportValue) × IsReportValue value × (reported.bytes ≡ report_text value) × IsVerdict reported.report.trace value (Good summary.races)
-  own_report = good_value AllRaces all_are_races text reported.bytes summary reported.faultless reported.report reported.disciplined reported.summary_is reported.words
+  own_report = good_value AllRaces all_are_races text reported.bytes summary reported.faultless reported.report reported.disciplined reported.summary_is reported.fits
 
   pub own_verdict : (verdict : Verdict) → length reported.bytes ≤ most_bytes → IsVerdictOf text reported.bytes verdict → verdict ≡ Good summary.races
-  own_verdict = good_verdict AllRaces all_are_races text reported.bytes summary reported.faultless reported.report reported.disciplined reported.summary_is reported.words
+  own_verdict = good_verdict AllRaces all_are_races text reported.bytes summary reported.faultless reported.report reported.disciplined reported.summary_is reported.fits
 
 -- and one of the leading races
 module _ (text : List ℕ) (summary : Summary) (old new : Option (List ℕ)) (reported : IsPlacesReported true text summary old new) where
   pub own_places_report : (value : ReportValue) × IsReportValue value × (reported.bytes ≡ report_text value) × IsVerdict reported.report.trace value (Good summary.races)
-  own_places_report = good_value LeadingRaces leading_are_races text reported.bytes summary reported.faultless reported.report reported.disciplined reported.summary_is reported.words
+  own_places_report = good_value LeadingRaces leading_are_races text reported.bytes summary reported.faultless reported.report reported.disciplined reported.summary_is reported.fits
 
   pub own_places_verdict : (verdict : Verdict) → length reported.bytes ≤ most_bytes → IsVerdictOf text reported.bytes verdict → verdict ≡ Good summary.races
-  own_places_verdict = good_verdict LeadingRaces leading_are_races text reported.bytes summary reported.faultless reported.report reported.disciplined reported.summary_is reported.words
+  own_places_verdict = good_verdict LeadingRaces leading_are_races text reported.bytes summary reported.faultless reported.report reported.disciplined reported.summary_is reported.fits

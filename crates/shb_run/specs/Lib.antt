@@ -1,3 +1,3 @@
-pub mod Words
+pub mod Statuses
 pub mod Written
 pub mod Runs

@@ -25,7 +25,7 @@ pub record ListsSchedulable (events : List Event) (races : List (ℕ × ℕ)) : 
   pub ordered : (i j : ℕ) → i < j → Conflict events i j → ¬ Contains races (i, j) → BelowPred events i j
 
 -- the numbers of a summary have 64 bits
-pub record AreWords (summary : Summary) : Type 0 where
+pub record FitsU64 (summary : Summary) : Type 0 where
   pub events : IsShown summary.events
   pub threads : IsShown summary.threads
   pub locks : IsShown summary.locks
@@ -40,7 +40,7 @@ pub record IsReported (with_schedules : Bool) (text : List ℕ) (summary : Summa
   pub disciplined : IsDisciplined report.trace.events
   pub written : Appends old new bytes
   pub summary_is : summary ≡ summary_of report.trace (length report.report.races)
-  pub words : AreWords summary
+  pub fits : FitsU64 summary
   pub schedulable : ListsSchedulable report.trace.events report.report.races
 
 -- each listed pair is a race and has a printed schedule, which is a schedule of it; each race of the trace has the place of exactly one listed pair
@@ -57,7 +57,7 @@ pub record IsPlacesReported (with_schedules : Bool) (text : List ℕ) (summary :
   pub disciplined : IsDisciplined report.trace.events
   pub written : Appends old new bytes
   pub summary_is : summary ≡ summary_of report.trace (length report.report.races)
-  pub words : AreWords summary
+  pub fits : FitsU64 summary
   pub places : ListsPlaces report.trace report.report.races
 
 -- what was written by a run of this choice

@@ -13,7 +13,7 @@ mod places;
 mod races;
 mod screened;
 mod settings;
-mod words;
+mod statuses;
 
 pub use pipeline::{run, run_gated};
 pub use places::run_places;
@@ -22,4 +22,4 @@ pub use shb_check::{
     RaceFault, RunError, Verdict, check, end_of_check, exit_status, fault_line, status_of_check,
 };
 pub use shb_fan::{FreeGate, Gate, Workers};
-pub use words::{end_of_run, status_of_run};
+pub use statuses::{end_of_run, status_of_run};

@@ -5,7 +5,7 @@ ghost use Rattle.shb_lines.specs.declared.fault.Fault.{Fault};
 ghost use Rattle.shb_lines.specs.text.Limits.{most_read, standard_limits};
 ghost use Rattle.shb_lines.specs.text.Taking.{ReadsText, TakesAtMost};
 ghost use Rattle.shb_check.specs.Outcomes.{CountsSink, CountsSource, Grows, OnJudged, OnMemory, OnNoTrace, OnSink, OnTrace};
-ghost use Rattle.shb_run.specs.Runs.{AreWords, HasTrace, IsReported, IsReportedBy};
+ghost use Rattle.shb_run.specs.Runs.{FitsU64, HasTrace, IsReported, IsReportedBy};
 ghost use Rattle.shb_write.specs.Written.{CutsBlocksOn, CutsReportOn, IsSinkCounted, OnFailedSink, OnNoMemory};
 ghost use Rattle.shb_run.specs.Written.{CutsBlocks, CutsReport, ListedBy, ReportsTrace, summary_of};
 
@@ -29,7 +29,7 @@ use std::thread::Threads;
 /// What a run says of a trace that has so many races.
 fn summary_of(trace: &Trace, races: u64) -> Summary
     ensures summary { result ≡ summary_of trace.now races }
-    ensures words { AreWords result }
+    ensures fits { FitsU64 result }
 {
     Summary {
         events: u64::from(trace.len()),
@@ -59,7 +59,7 @@ fn report_by<
     ensures report { IfOk result (λ summary.
         ReportsTrace (ListedBy task.choice) task.settings.schedules screened.now.ordered.now.trace.now.trace.now summary
         (K.taken sink.old) (K.taken sink.new)) }
-    ensures words { IfOk result AreWords }
+    ensures fits { IfOk result FitsU64 }
     ensures cut { OnFailedSink result (CutsReportOn (ListedBy task.choice) task.settings.schedules
         screened.now.ordered.now.trace.now.trace.now
         (K.taken sink.old) (K.taken sink.new)) }
@@ -108,7 +108,7 @@ fn report<R: Threads + Wait + Sync + RandomSource, K: Sink, P: Gate + Sync, W: G
     requires countable { K.failure_count sink.old < 2 ^ 64 - 1 }
     ensures report { IfOk result (λ summary. ReportsTrace (ListedBy task.choice) task.settings.schedules trace.now.trace.now summary
         (K.taken sink.old) (K.taken sink.new)) }
-    ensures words { IfOk result AreWords }
+    ensures fits { IfOk result FitsU64 }
     ensures cut { OnFailedSink result (CutsReportOn (ListedBy task.choice) task.settings.schedules trace.now.trace.now
         (K.taken sink.old) (K.taken sink.new)) }
     ensures memory { OnNoMemory result ((sink.new ≡ sink.old)
@@ -118,11 +118,9 @@ fn report<R: Threads + Wait + Sync + RandomSource, K: Sink, P: Gate + Sync, W: G
 {
     let links = links_for(alloc, &*trace, task.settings.schedules)?;
     let flags = open_variables(alloc, &*trace, &links)?;
-    let order = by_event(alloc, &*trace, &links)?;
-    let screened = Screened {
-        ordered: &Ordered::new(&order, &*trace, &links),
-        flags: &flags,
-    };
+    let order = by_event(alloc, &*trace, &links, &flags)?;
+    let ordered = Ordered::new(&order, &*trace, &links);
+    let screened = Screened::new(&ordered, &flags);
     report_by(rt, alloc, sink, &screened, task, gates)
 }
 

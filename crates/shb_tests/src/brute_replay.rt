@@ -150,7 +150,7 @@ fn all_before(alloc: Global, events: &[Event], b: u32) -> Result<Vec<u32>, Fail>
     Ok(found)
 }
 
-/// Whether an event at its place in a list meets the definition of a correct reordering that keeps
+/// Whether an event at its index in a list meets the definition of a correct reordering that keeps
 /// happens-before.
 fn is_in_place(alloc: Global, events: &[Event], list: &[u32], place: usize) -> Result<bool, Fail>
     requires few { length events.now ≤ 4194304 }

@@ -28,7 +28,7 @@ const LINES: [&str; 12] = [
     "end",
 ];
 
-/// The report with these lines in the place of as many, from this number on, counted from 1.
+/// The report with these lines instead of as many, from this number on, counted from 1.
 fn with_lines(alloc: Global, number: usize, text: &str) -> Result<String, NoMemory> {
     let mut report = String::new(alloc);
     let count = text.lines().count();
@@ -120,7 +120,7 @@ fn says_why_a_block_is_bad(rt: HostRuntime) -> Result<(), Fail> {
     Ok(())
 }
 
-/// Lines of a schedule, the first place at which it is none, and why.
+/// Lines of a schedule, the first index at which it is none, and why.
 const BAD_SCHEDULES: [(&str, usize, Why); 5] = [
     ("schedule 0:", 0, Why::NotNext),
     ("schedule 2: 1 1", 1, Why::Repeated),

@@ -5,7 +5,7 @@ use shb_fan::machine::*;
 use std::process::Abort;
 use std::test::Fail;
 
-/// The place of the first step that isn't allowed, or None where all are.
+/// The index of the first step that isn't allowed, or None where all are.
 fn refused<R: AllocGlobal>(
     rt: &R,
     actors: u32,

@@ -278,6 +278,6 @@ fn sources_without_end(rt: HostRuntime) -> Result<(), Fail> {
 fn words_of_faults(rt: HostRuntime) {
     same(&rt, &TextTooLong.number(), &1, "the first number");
     same(&rt, &Fault::JoinSelf.number(), &17, "the last number");
-    let words = MissingField.words();
+    let words = MissingField.message();
     same(&rt, &words, &"the line has no operation field", "words");
 }

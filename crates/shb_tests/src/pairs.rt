@@ -1,6 +1,6 @@
 //! The races of small traces, and that the search finds what a scan of all pairs finds.
 ghost use Rattle.std.specs.Prelude.{◌≡◌, ◌<◌, ◌≤◌, length};
-ghost use Rattle.shb_pairs.specs.Listed.{AsksOpen};
+ghost use Rattle.shb_pairs.specs.Open.{AsksOpen};
 
 use crate::asserting::{holds, same, same_in_row};
 use crate::fixtures::{Mixture, Question, asked, pair, push_mixed_lines};

@@ -4,7 +4,7 @@ use Rattle.std.specs.List.{range_with_len}
 use Rattle.std.proofs.lemmas.Bool.{cases_lt}
 use Rattle.shb_lines.specs.declared.event.Event.{Event}
 use Rattle.shb_lines.specs.events.Events.{thread_at}
-use Rattle.shb_lines.specs.events.Discipline.{place_in_thread}
+use Rattle.shb_lines.specs.events.Discipline.{local_time}
 use Rattle.shb_lines.proofs.events.Items.{thread_item}
 use Rattle.shb_lines.specs.declared.event.Op.TheVariants.{Read}
 use Rattle.shb_lines.proofs.events.Listed.{IsListed, listed_none, listed_more_yes}
@@ -23,35 +23,35 @@ all_listed P (suc n) all =
     subst (λ (m : ℕ). IsListed P m (range_with_len 0 m)) on (subst (λ (l : List ℕ). IsListed P (n + 1) l) (sym (range_more 0 n (n + 1) n (omega arith) refl)) more)
 
 -- no event comes before the first position
-pub reach_none : (trace : List Event) (places : List ℕ) → Reach trace 0 places
-reach_none trace places = λ k t lt of. absurd (omega (arith, lt))
+pub reach_none : (trace : List Event) (times : List ℕ) → Reach trace 0 times
+reach_none trace times = λ k t lt of. absurd (omega (arith, lt))
 
 some_is : (a b : ℕ) → Some a ≡ Some b → a ≡ b
 some_is a b e = cc
 
 -- one event more
-pub reach_more : (trace linked : List Event) (n place : ℕ) (old new : List ℕ) (d : Event) → linked ≡ trace → n < length trace → ((t : ℕ) → thread_at linked n ≡ Some t → place ≡ place_in_thread linked t n)
-    → place ≤ get_or new (get_or trace n d).thread 0 → ((t : ℕ) → get_or old t 0 ≤ get_or new t 0) → Reach trace n old → Reach trace (n + 1) new
-reach_more trace linked n place old new d same within is_place noted kept before k t lt of = go (cases_lt k n)
+pub reach_more : (trace linked : List Event) (n time : ℕ) (old new : List ℕ) (d : Event) → linked ≡ trace → n < length trace → ((t : ℕ) → thread_at linked n ≡ Some t → time ≡ local_time linked t n)
+    → time ≤ get_or new (get_or trace n d).thread 0 → ((t : ℕ) → get_or old t 0 ≤ get_or new t 0) → Reach trace n old → Reach trace (n + 1) new
+reach_more trace linked n time old new d same within is_time noted kept before k t lt of = go (cases_lt k n)
   where
-    placed : (u : ℕ) → thread_at trace n ≡ Some u → place ≡ place_in_thread trace u n
-    placed = subst (λ (tr : List Event). (u : ℕ) → thread_at tr n ≡ Some u → place ≡ place_in_thread tr u n) same is_place
+    known : (u : ℕ) → thread_at trace n ≡ Some u → time ≡ local_time trace u n
+    known = subst (λ (tr : List Event). (u : ℕ) → thread_at tr n ≡ Some u → time ≡ local_time tr u n) same is_time
 
-    go : (k < n) ⊎ (n ≤ k) → place_in_thread trace t k ≤ get_or new t 0
+    go : (k < n) ⊎ (n ≤ k) → local_time trace t k ≤ get_or new t 0
     go (inl earlier) = let le = before k t earlier of in let more = kept t in omega (arith, le, more)
     go (inr later) =
         let here : k ≡ n = omega (arith, lt, later) in
         let of_n : thread_at trace n ≡ Some t = subst (λ (j : ℕ). thread_at trace j ≡ Some t) here of in
         let is_t : (get_or trace n d).thread ≡ t = some_is (get_or trace n d).thread t (sym (thread_item trace n d within) ∙ of_n) in
-        let low : place ≤ get_or new t 0 = subst (λ (u : ℕ). place ≤ get_or new u 0) is_t noted in
-        let le : place_in_thread trace t n ≤ get_or new t 0 = subst (λ (p : ℕ). p ≤ get_or new t 0) (placed t of_n) low in
-        subst (λ (j : ℕ). place_in_thread trace t j ≤ get_or new t 0) (sym here) le
+        let low : time ≤ get_or new t 0 = subst (λ (u : ℕ). time ≤ get_or new u 0) is_t noted in
+        let le : local_time trace t n ≤ get_or new t 0 = subst (λ (p : ℕ). p ≤ get_or new t 0) (known t of_n) low in
+        subst (λ (j : ℕ). local_time trace t j ≤ get_or new t 0) (sym here) le
 
--- what is after the places has none
-pub covered : (places cuts : List ℕ) → ((t : ℕ) → t < length places → get_or places t 0 ≤ get_or cuts t 0) → (t : ℕ) → get_or places t 0 ≤ get_or cuts t 0
-covered places cuts all t = elim (cases_lt t (length places)) [
+-- what is after the times has none
+pub covered : (times cuts : List ℕ) → ((t : ℕ) → t < length times → get_or times t 0 ≤ get_or cuts t 0) → (t : ℕ) → get_or times t 0 ≤ get_or cuts t 0
+covered times cuts all t = elim (cases_lt t (length times)) [
   | inl lt ↦ all t lt
-  | inr le ↦ (let none : get_or places t 0 ≡ 0 = get_or_beyond places t le in omega (arith, none))
+  | inr le ↦ (let none : get_or times t 0 ≡ 0 = get_or_beyond times t le in omega (arith, none))
 ]
   where
     get_or_beyond : (xs : List ℕ) (i : ℕ) → length xs ≤ i → get_or xs i 0 ≡ 0
@@ -60,8 +60,8 @@ covered places cuts all t = elim (cases_lt t (length places)) [
     get_or_beyond (x ∷ xs) (suc i) le = get_or_beyond xs i (omega (arith, le))
 
 -- further cuts are reached as well
-pub reach_covered : (trace : List Event) (n : ℕ) (places cuts : List ℕ) → ((t : ℕ) → get_or places t 0 ≤ get_or cuts t 0) → Reach trace n places → Reach trace n cuts
-reach_covered trace n places cuts le reached k t lt of = let first = reached k t lt of in let more = le t in omega (arith, first, more)
+pub reach_covered : (trace : List Event) (n : ℕ) (times cuts : List ℕ) → ((t : ℕ) → get_or times t 0 ≤ get_or cuts t 0) → Reach trace n times → Reach trace n cuts
+reach_covered trace n times cuts le reached k t lt of = let first = reached k t lt of in let more = le t in omega (arith, first, more)
 
 -- the front of a printed schedule
 pub front_listed : (trace : List Event) (i j threads n : ℕ) (cuts s : List ℕ) → ((k : ℕ) (d : Event) → k < length trace → (get_or trace k d).thread < threads) → n ≤ length trace → HasCuts trace i j threads cuts → Reach trace n cuts → s ≡ range_with_len 0 n → IsListed (BelowEither trace i j) n s × (length s ≤ n)

@@ -6,7 +6,7 @@ use Rattle.std.proofs.lemmas.List.{get_or_push, get_or_read, length_push}
 use Rattle.std.proofs.Math.ListN.{get_or-append}
 use Rattle.shb_lines.specs.declared.event.Event.{Event}
 use Rattle.shb_lines.specs.events.Events.{thread_at}
-use Rattle.shb_lines.specs.events.Discipline.{IsDisciplined, place_in_thread}
+use Rattle.shb_lines.specs.events.Discipline.{IsDisciplined, local_time}
 use Rattle.shb_lines.specs.events.Order.{IsPred, BelowPred, IsBelowPredCount, here}
 use Rattle.shb_lines.proofs.events.Decide.{pred_unique}
 use Rattle.shb_lines.proofs.events.Items.{thread_item}
@@ -24,13 +24,13 @@ cut_is trace ordered i j t n m same first second k of_k = (below, within)
     second_count : IsBelowPredCount trace t j m
     second_count = subst (λ (tr : List Event). IsBelowPredCount tr t j m) same second
 
-    below : place_in_thread trace t k ≤ max n m → BelowEither trace i j k
-    below le = elim (cases_lt n (place_in_thread trace t k)) [
+    below : local_time trace t k ≤ max n m → BelowEither trace i j k
+    below le = elim (cases_lt n (local_time trace t k)) [
       | inl above ↦ inr (below_from_local trace t j m second_count k of_k (omega arith))
       | inr low ↦ inl (below_from_local trace t i n first_count k of_k low)
     ]
 
-    within : BelowEither trace i j k → place_in_thread trace t k ≤ max n m
+    within : BelowEither trace i j k → local_time trace t k ≤ max n m
     within (inl h) = let le = local_from_below trace t i n first_count k of_k h in omega (arith, le)
     within (inr h) = let le = local_from_below trace t j m second_count k of_k h in omega (arith, le)
 
@@ -68,20 +68,20 @@ none_below trace linked e o same is exact k below =
     let none : (q : ℕ) → IsPred linked q e → ⊥ = subst (λ (o : Option ℕ). Exactly (λ q. IsPred linked q e) o) is exact in
     none below.0 pred
 
--- an event's place in its thread against the cut of its thread
-pub cut_test : (trace linked : List Event) (i j threads k place cut : ℕ) (cuts : List ℕ) (d : Event) → linked ≡ trace → HasCuts trace i j threads cuts → (get_or trace k d).thread < threads → k < length trace → ((t : ℕ) → thread_at linked k ≡ Some t → place ≡ place_in_thread linked t k) → cut ≡ get_or cuts (get_or trace k d).thread cut → (place ≤ cut) ↔ BelowEither trace i j k
-cut_test trace linked i j threads k place cut cuts d same has low lt is_place is_cut = (
-  (λ le. member.0 (let at = placed in let is = read in omega (arith, le, at, is))),
-  (λ below. let le = member.1 below in let at = placed in let is = read in omega (arith, le, at, is)),
+-- an event's local time against the cut of its thread
+pub cut_test : (trace linked : List Event) (i j threads k time cut : ℕ) (cuts : List ℕ) (d : Event) → linked ≡ trace → HasCuts trace i j threads cuts → (get_or trace k d).thread < threads → k < length trace → ((t : ℕ) → thread_at linked k ≡ Some t → time ≡ local_time linked t k) → cut ≡ get_or cuts (get_or trace k d).thread cut → (time ≤ cut) ↔ BelowEither trace i j k
+cut_test trace linked i j threads k time cut cuts d same has low lt is_time is_cut = (
+  (λ le. member.0 (let at = known in let is = read in omega (arith, le, at, is))),
+  (λ below. let le = member.1 below in let at = known in let is = read in omega (arith, le, at, is)),
 )
   where
-    placed : place ≡ place_in_thread trace (get_or trace k d).thread k
-    placed =
-        let local : (t : ℕ) → thread_at trace k ≡ Some t → place ≡ place_in_thread trace t k = subst (λ (tr : List Event). (t : ℕ) → thread_at tr k ≡ Some t → place ≡ place_in_thread tr t k) same is_place in
+    known : time ≡ local_time trace (get_or trace k d).thread k
+    known =
+        let local : (t : ℕ) → thread_at trace k ≡ Some t → time ≡ local_time trace t k = subst (λ (tr : List Event). (t : ℕ) → thread_at tr k ≡ Some t → time ≡ local_time tr t k) same is_time in
         local (get_or trace k d).thread (thread_item trace k d lt)
 
     read : cut ≡ get_or cuts (get_or trace k d).thread 0
     read = get_or_read cuts (get_or trace k d).thread cut (let long = has.as_long in omega (arith, long, low)) is_cut 0
 
-    member : (place_in_thread trace (get_or trace k d).thread k ≤ get_or cuts (get_or trace k d).thread 0) ↔ BelowEither trace i j k
+    member : (local_time trace (get_or trace k d).thread k ≤ get_or cuts (get_or trace k d).thread 0) ↔ BelowEither trace i j k
     member = has.each (get_or trace k d).thread low k (thread_item trace k d lt)

@@ -13,8 +13,8 @@ use std::alloc::Global;
 #[derive(Drop)]
 pub struct Checkpoint {
     pub(crate) before: u32,
-    /// For each thread, the greatest place in it of an event before the position, or 0.
-    pub(crate) places: Vec<u32>,
+    /// For each thread, the greatest local time of an event before the position, or 0.
+    pub(crate) times: Vec<u32>,
 }
 
 /// Checkpoints of a trace, at least 64 events and 16 times the threads apart: about a byte of
@@ -22,7 +22,7 @@ pub struct Checkpoint {
 pub fn checkpoints_of(alloc: Global, linked: &Linked<'_>) -> Result<Vec<Checkpoint>, NoMemory>
     ensures { IfOk result (λ points. All (IsReached linked.now.events.now) points.items) }
 {
-    let mut places = vec![in alloc; 0u32; linked.sizes.threads as usize]?;
+    let mut times = vec![in alloc; 0u32; linked.sizes.threads as usize]?;
     let apart = linked.sizes.threads.saturating_mul(16).max(64);
     let mut next = apart;
     let mut points = Vec::new(alloc);
@@ -30,44 +30,44 @@ pub fn checkpoints_of(alloc: Global, linked: &Linked<'_>) -> Result<Vec<Checkpoi
         if k == next {
             points.push(Checkpoint {
                 before: k,
-                places: copy_of(alloc, &places)?,
+                times: copy_of(alloc, &times)?,
             })?;
             next = next.saturating_add(apart);
         }
         let thread = linked.events[k as usize].thread;
-        reach(&mut places, thread as usize, linked.links.local(k));
+        reach(&mut times, thread as usize, linked.links.local(k));
     }
     Ok(points)
 }
 
 /// The same numbers in memory of their own.
-fn copy_of(alloc: Global, places: &[u32]) -> Result<Vec<u32>, NoMemory>
-    ensures { IfOk result (λ copy. copy.items ≡ places.now) }
+fn copy_of(alloc: Global, times: &[u32]) -> Result<Vec<u32>, NoMemory>
+    ensures { IfOk result (λ copy. copy.items ≡ times.now) }
 {
-    let mut copy = Vec::with_capacity(alloc, places.len())?;
-    copy.extend_from_slice(places)?;
+    let mut copy = Vec::with_capacity(alloc, times.len())?;
+    copy.extend_from_slice(times)?;
     Ok(copy)
 }
 
-/// Notes the place of an event of a thread.
-fn reach(places: &mut Vec<u32>, thread: usize, place: u32)
-    requires { thread < length places.old.items }
-    ensures as_long { length places.new.items ≡ length places.old.items }
-    ensures noted { place ≤ slice_index_or places.new.items thread 0 }
-    ensures kept { (t : ℕ) → slice_index_or places.old.items t 0 ≤ slice_index_or places.new.items t 0 }
+/// Notes the local time of an event of a thread.
+fn reach(times: &mut Vec<u32>, thread: usize, time: u32)
+    requires { thread < length times.old.items }
+    ensures as_long { length times.new.items ≡ length times.old.items }
+    ensures noted { time ≤ slice_index_or times.new.items thread 0 }
+    ensures kept { (t : ℕ) → slice_index_or times.old.items t 0 ≤ slice_index_or times.new.items t 0 }
 {
-    places[thread] = places[thread].max(place);
+    times[thread] = times[thread].max(time);
 }
 
-/// Whether no place is above the cut of its thread.
-fn is_covered(places: &[u32], cuts: &[u32]) -> bool
-    ensures { IsTrue result → (t : ℕ) → slice_index_or places.now t 0 ≤ slice_index_or cuts.now t 0 }
+/// Whether no local time is above the cut of its thread.
+fn is_covered(times: &[u32], cuts: &[u32]) -> bool
+    ensures { IsTrue result → (t : ℕ) → slice_index_or times.now t 0 ≤ slice_index_or cuts.now t 0 }
 {
-    if places.len() > cuts.len() {
+    if times.len() > cuts.len() {
         return false;
     }
-    for t in 0..places.len() {
-        if places[t] > cuts[t] {
+    for t in 0..times.len() {
+        if times[t] > cuts[t] {
             return false;
         }
     }
@@ -83,7 +83,7 @@ fn last_covered(points: &[Checkpoint], cuts: &[u32]) -> u32
     let mut high = points.len();
     while low < high {
         let middle = low + (high - low) / 2;
-        if is_covered(&points[middle].places, cuts) {
+        if is_covered(&points[middle].times, cuts) {
             before = points[middle].before;
             low = middle + 1;
         } else {

@@ -10,7 +10,7 @@ use shb_io::NoMemory;
 use shb_lines::Pair;
 use std::alloc::Global;
 
-/// For each thread, the greatest place in it of an event that is below a predecessor of the pair,
+/// For each thread, the greatest local time of an event that is below a predecessor of the pair,
 /// or 0 where none is.
 pub fn cuts_of<O: Order>(
     alloc: Global,

@@ -87,7 +87,7 @@ pub record HasBlocks (ws : Bool) (trace : TraceData) (races : List (ℕ × ℕ))
 pub HasBlocks-nil : (ws : Bool) (trace : TraceData) (old : Option (List ℕ)) → HasBlocks ws trace [] old old
 HasBlocks-nil ws trace old = record { bytes = []; blocks = AreBlocks-nil ws trace; appended = Appends-nil old }
 
--- the races up to a place, and the one there
+-- the races up to an index, and the one there
 ends-take : (races : List Pair) (i : ℕ) (d : Pair) → i < length races → map ends (take (i + 1) races) ≡ map ends (take i races) ++ ends (get_or races i d) ∷ []
 ends-take races i d lt = ap (map ends) (take_more races i d lt) ∙ map-append ends (take i races) (get_or races i d ∷ [])
 

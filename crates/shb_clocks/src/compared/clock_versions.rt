@@ -2,7 +2,7 @@
 
 ghost use Rattle.std.specs.Prelude.{◌≡◌, ◌<◌, true, List, IfOk, length};
 ghost use Rattle.shb_lines.specs.declared.event.Event.{Event};
-ghost use Rattle.shb_clocks.specs.Learned.{AreKept, AreLearnedPlaces};
+ghost use Rattle.shb_clocks.specs.Learned.{AreKept, AreLearnedTimes};
 
 use crate::compared::kept_clocks::KeptClocks;
 use crate::compared::learned_past::sweep;
@@ -55,14 +55,14 @@ pub fn versions<'a>(
 }
 
 impl<'a> ClockVersions<'a> {
-    /// The places in thread `t`, from 1 and rising, of the events at which it may learn of other
+    /// The local times, from 1 and rising, of the events of thread `t` at which it may learn of other
     /// threads: its first event, and each acquire, each join and each read that has a last write.
     /// None for a number that names no thread.
     pub fn learned(&self, t: u32) -> &[u32]
-        ensures { AreLearnedPlaces self.now t result.now }
+        ensures { AreLearnedTimes self.now t result.now }
     {
         match self.clocks.threads.get(t as usize) {
-            Some(kept) => kept.places(),
+            Some(kept) => kept.times(),
             None => &[],
         }
     }

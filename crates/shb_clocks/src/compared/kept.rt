@@ -1,4 +1,4 @@
-//! The places of one thread at which a clock is kept.
+//! The local times of one thread at which a clock is kept.
 
 ghost use Rattle.std.specs.Prelude.{◌≡◌, ℕ, ◌-◌, ◌<◌, ◌≤◌, [], ◌∷◌, ◌++◌, OnOk, length, slice_index_or};
 ghost use Rattle.std.specs.List.Sorted.{IsStrictlyIncreasing};
@@ -8,17 +8,17 @@ use shb_io::NoMemory;
 use std::alloc::Global;
 use std::marker::Model;
 
-/// The places of a thread at which a clock is kept, rising, and the number of the row of each.
+/// The local times of a thread at which a clock is kept, rising, and the number of the row of each.
 #[derive(Drop)]
 pub struct Kept {
-    places: Vec<u32>,
+    times: Vec<u32>,
     rows: Vec<u32>,
 }
 
 impl Model for Kept {
     ghost Value = { KeptData };
 
-    ghost view = { λ k. record { places = k.places.items; rows = k.rows.items } };
+    ghost view = { λ k. record { times = k.times.items; rows = k.rows.items } };
 }
 
 impl Kept {
@@ -27,19 +27,19 @@ impl Kept {
         ensures { result ≡ nothing_kept }
     {
         Kept {
-            places: Vec::new(alloc),
+            times: Vec::new(alloc),
             rows: Vec::new(alloc),
         }
     }
 
-    /// The places.
-    pub fn places(&self) -> &[u32]
-        ensures { result.now ≡ self.now.places }
+    /// The local times.
+    pub fn times(&self) -> &[u32]
+        ensures { result.now ≡ self.now.times }
     {
-        self.places.as_slice()
+        self.times.as_slice()
     }
 
-    /// The row of the last place, or the first row of all.
+    /// The row of the last of these times, or the first row of all.
     pub fn last_row(&self) -> u32
         ensures { result ≡ slice_index_or self.now.rows (length self.now.rows - 1) 0 }
     {
@@ -49,37 +49,37 @@ impl Kept {
         }
     }
 
-    /// Adds a place and its row.
-    pub fn push(&mut self, place: u32, row: u32) -> Result<(), NoMemory>
-        ensures places { OnOk result (self.new.places ≡ self.old.places ++ place ∷ []) }
+    /// Adds a local time and its row.
+    pub fn push(&mut self, time: u32, row: u32) -> Result<(), NoMemory>
+        ensures times { OnOk result (self.new.times ≡ self.old.times ++ time ∷ []) }
         ensures rows { OnOk result (self.new.rows ≡ self.old.rows ++ row ∷ []) }
     {
-        self.places.push(place)?;
+        self.times.push(time)?;
         self.rows.push(row)?;
         Ok(())
     }
 
-    /// The row of the last place up to this one.
-    pub fn row_up_to(&self, place: u32) -> u32
-        requires as_many { length self.now.rows ≡ length self.now.places }
-        requires rising { IsStrictlyIncreasing self.now.places }
-        requires some { 0 < length self.now.places }
-        requires first { slice_index_or self.now.places 0 0 ≤ place }
-        ensures { IsRowUpTo self.now place result }
+    /// The row of the last of these times up to this one.
+    pub fn row_up_to(&self, time: u32) -> u32
+        requires as_many { length self.now.rows ≡ length self.now.times }
+        requires rising { IsStrictlyIncreasing self.now.times }
+        requires some { 0 < length self.now.times }
+        requires first { slice_index_or self.now.times 0 0 ≤ time }
+        ensures { IsRowUpTo self.now time result }
     {
-        self.rows[number_up_to(self.places.as_slice(), place) - 1]
+        self.rows[number_up_to(self.times.as_slice(), time) - 1]
     }
 }
 
-/// How many of the places are up to this one. In a sweep it is mostly all of them.
-fn number_up_to(places: &[u32], place: u32) -> usize
-    requires { IsStrictlyIncreasing places.now }
-    ensures bound { result ≤ length places.now }
-    ensures low { (k : ℕ) → k < result → slice_index_or places.now k 0 ≤ place }
-    ensures high { (k : ℕ) → result ≤ k → k < length places.now → place < slice_index_or places.now k 0 }
+/// How many of the local times are up to this one. In a sweep it is mostly all of them.
+fn number_up_to(times: &[u32], time: u32) -> usize
+    requires { IsStrictlyIncreasing times.now }
+    ensures bound { result ≤ length times.now }
+    ensures low { (k : ℕ) → k < result → slice_index_or times.now k 0 ≤ time }
+    ensures high { (k : ℕ) → result ≤ k → k < length times.now → time < slice_index_or times.now k 0 }
 {
-    match places.last() {
-        Some(last) if *last <= place => places.len(),
-        _ => places.partition_point(|kept| *kept <= place),
+    match times.last() {
+        Some(last) if *last <= time => times.len(),
+        _ => times.partition_point(|kept| *kept <= time),
     }
 }

@@ -1,7 +1,7 @@
 //! The clocks of the events so far, of which those are kept at which a thread may learn.
 
 ghost use Rattle.std.specs.Prelude.{◌≡◌, ℕ, ◌+◌, ◌<◌, ◌≤◌, IfOk, Some, length, replicate};
-ghost use Rattle.shb_lines.specs.events.Discipline.{place_in_thread};
+ghost use Rattle.shb_lines.specs.events.Discipline.{local_time};
 ghost use Rattle.shb_lines.specs.events.Events.{thread_at};
 ghost use Rattle.shb_lines.specs.events.Order.{IsBelowPredCount, ShbBelow};
 ghost use Rattle.shb_clocks.specs.Fronts.{IsFront};
@@ -22,7 +22,7 @@ pub struct KeptClocks {
 }
 
 /// Nothing kept of any thread.
-fn no_places(alloc: Global, threads: u32) -> Result<Vec<Kept>, NoMemory>
+fn no_times(alloc: Global, threads: u32) -> Result<Vec<Kept>, NoMemory>
     ensures { IfOk result (λ kept. kept.items ≡ replicate threads nothing_kept) }
 {
     let mut kept = Vec::new(alloc);
@@ -42,11 +42,11 @@ impl KeptClocks {
         rows.push(zeros.as_slice())?;
         Ok(KeptClocks {
             rows,
-            threads: no_places(alloc, linked.sizes.threads)?,
+            threads: no_times(alloc, linked.sizes.threads)?,
         })
     }
 
-    /// The clock of an event that was taken: the row of its thread's last kept place up to its own.
+    /// The clock of an event that was taken: the row of its thread's last kept local time up to its own.
     pub fn clock_of(&self, linked: &Linked<'_>, e: u32) -> EventClock<'_>
         requires in_range { e < length linked.now.events.now }
         requires taken { (n : ℕ) × (e < n) × AreKept linked.now.events.now n linked.now.sizes.threads self.now.rows self.now.threads.items }
@@ -54,9 +54,9 @@ impl KeptClocks {
         ensures front { IsFront linked.now.events.now (λ k. ShbBelow linked.now.events.now k e) result }
     {
         let thread = linked.events[e as usize].thread;
-        let place = linked.links.local(e);
-        let row = self.threads[thread as usize].row_up_to(place);
-        EventClock::new(self.rows.row(row), thread, place)
+        let time = linked.links.local(e);
+        let row = self.threads[thread as usize].row_up_to(time);
+        EventClock::new(self.rows.row(row), thread, time)
     }
 
     /// How many events of thread t are SHB-below the predecessor of e, where all events were taken.

@@ -1,4 +1,4 @@
--- Counts over the first events of a list, and over the list of chosen places.
+-- Counts over the first events of a list, and over the list of chosen indices.
 use Rattle.std.proofs.Common.{◌≡◌, ℕ, zero, suc, ◌+◌, ◌<◌, ◌≤◌, ◌⊎◌, inl, inr, Bool, true, false, List, [], ◌∷◌, Some, length, get_or, take, refl, sym, ◌∙◌, ap, arith, add-one}
 use Rattle.std.specs.Prelude.{slice_get, Contains, count_by, cond}
 use Rattle.std.specs.List.Sorted.{IsStrictlyIncreasing}
@@ -6,7 +6,7 @@ use Rattle.std.proofs.lemmas.Bool.{cases_Bool, cases_lt}
 use Rattle.std.proofs.lemmas.List.{take-take, take_all}
 use Rattle.std.proofs.lemmas.List.Sums.{count_by_more_yes, count_by_more_no, sum_by-take-le, sum_by-cons}
 use Rattle.std.proofs.lemmas.Option.{slice_get_within, get_or_from_slice_get, slice_get_cases, slice_get-get_or}
-use Rattle.shb_lines.proofs.events.Places.{place_of, increasing_places, smaller_before}
+use Rattle.shb_lines.proofs.events.Indices.{index_of, increasing_indices, smaller_before}
 
 pub count_more_yes : {X : Type 0} (f : X → Bool) (xs : List X) (k : ℕ) (e : X) → slice_get xs k ≡ Some e → f e ≡ true → count_by f (take (k + 1) xs) ≡ count_by f (take k xs) + 1
 count_more_yes f xs k e at passes = count_by_more_yes f xs k e (slice_get_within xs k e at) (ap f (get_or_from_slice_get xs k e e at) ∙ passes)
@@ -58,7 +58,7 @@ count_split {X} f g h parts (x ∷ xs) =
     let rest = count_split f g h parts xs in
     omega (arith, a, b, c, here, rest)
 
--- each place of ys holds what xs holds at the position that s has there
+-- each index of ys holds what xs holds at the position that s has there
 module _ {X : Type 0} (xs ys : List X) (s : List ℕ) (rising : IsStrictlyIncreasing s) (same : (p a : ℕ) → slice_get s p ≡ Some a → (e : X) × (slice_get ys p ≡ Some e) × (slice_get xs a ≡ Some e)) where
   before : (q b : ℕ) → slice_get s (suc q) ≡ Some b → (a : ℕ) × (slice_get s q ≡ Some a) × (a < b)
   before q b at =
@@ -89,34 +89,34 @@ module _ {X : Type 0} (xs ys : List X) (s : List ℕ) (rising : IsStrictlyIncrea
   step_ge f q a e at_ys at_xs ih (inl passes) = omega (arith, count_more_yes f ys q e at_ys passes, count_more_yes f xs a e at_xs passes)
   step_ge f q a e at_ys at_xs ih (inr fails) = omega (arith, count_more_no f ys q e at_ys fails, count_more_no f xs a e at_xs fails)
 
-  -- between a place's position and the next one nothing is counted
+  -- between an index's position and the next one nothing is counted
   nothing_between : (f : X → Bool) (q a b : ℕ) → ((k : ℕ) (e : X) → k < b → slice_get xs k ≡ Some e → f e ≡ true → Contains s k) → ((p k : ℕ) → slice_get s p ≡ Some k → k < b → k < a) → a ≤ b → count_by f (take b xs) ≡ count_by f (take a xs)
   nothing_between f q a b chosen low le = count_gap f xs a b le (λ k e ak kb at. go k e ak kb at (cases_Bool (f e)))
     where
       go : (k : ℕ) (e : X) → a ≤ k → k < b → slice_get xs k ≡ Some e → (f e ≡ true) ⊎ (f e ≡ false) → f e ≡ false
       go k e ak kb at (inr fails) = fails
       go k e ak kb at (inl passes) =
-          let place = place_of s k (chosen k e kb at passes) in
-          let small = low place.0 k place.1 kb in
+          let index = index_of s k (chosen k e kb at passes) in
+          let small = low index.0 k index.1 kb in
           absurd (omega arith)
 
   pub counts_ge : (f : X → Bool) (q b : ℕ) → slice_get s q ≡ Some b → ((k : ℕ) (e : X) → k < b → slice_get xs k ≡ Some e → f e ≡ true → Contains s k) → count_by f (take b xs) ≤ count_by f (take q ys)
   counts_ge f zero b at chosen =
-      let none = nothing_between f 0 0 b chosen (λ p k at_p kb. absurd (let lt = increasing_places s p 0 k b rising at_p at kb in omega arith)) (omega arith) in
+      let none = nothing_between f 0 0 b chosen (λ p k at_p kb. absurd (let lt = increasing_indices s p 0 k b rising at_p at kb in omega arith)) (omega arith) in
       omega (arith, none)
   counts_ge f (suc q) b at chosen =
       let prior = before q b at in
       let e = same q prior.0 prior.1 in
       let ih = counts_ge f q prior.0 prior.1 (λ k d ka at_k passes. chosen k d (let lt = prior.2 in omega arith) at_k passes) in
       let one = step_ge f q prior.0 e.0 e.1 e.2 ih (cases_Bool (f e.0)) in
-      let gap = nothing_between f q (prior.0 + 1) b chosen (λ p k at_p kb. low p k prior.0 prior.1 at_p (increasing_places s p (suc q) k b rising at_p at kb) (cases_lt p q)) (let lt = prior.2 in omega arith) in
+      let gap = nothing_between f q (prior.0 + 1) b chosen (λ p k at_p kb. low p k prior.0 prior.1 at_p (increasing_indices s p (suc q) k b rising at_p at kb) (cases_lt p q)) (let lt = prior.2 in omega arith) in
       let bound : count_by f (take b xs) ≤ count_by f (take (q + 1) ys) = omega (arith, one, gap) in
       rw add-one at bound
     where
       low : (p k a : ℕ) → slice_get s q ≡ Some a → slice_get s p ≡ Some k → p < suc q → (p < q) ⊎ (q ≤ p) → k < a + 1
       low p k a at_q at_p lt (inl h) = let small = smaller_before s p q k a rising h at_p at_q in omega arith
       low p k a at_q at_p lt (inr h) =
-          let same_place : p ≡ q = omega arith in
-          let value : Some k ≡ Some a = sym at_p ∙ (ap (slice_get s) same_place ∙ at_q) in
+          let same_index : p ≡ q = omega arith in
+          let value : Some k ≡ Some a = sym at_p ∙ (ap (slice_get s) same_index ∙ at_q) in
           let equal : k ≡ a = cc in
           omega (arith, equal)

@@ -6,12 +6,12 @@ use Rattle.std.proofs.lemmas.Bool.{cases_order, eqb-true, leb-true, le-leb}
 use Rattle.std.proofs.lemmas.Option.{slice_get_within, slice_get-get_or, slice_get_cases}
 use Rattle.shb_lines.specs.declared.event.Event.{Event}
 use Rattle.shb_lines.specs.events.Events.{thread_at, events_at}
-use Rattle.shb_lines.specs.events.Discipline.{is_of, place_in_thread}
+use Rattle.shb_lines.specs.events.Discipline.{is_of, local_time}
 use Rattle.shb_lines.specs.events.Order.{same_thread, happens_before, BelowPred, IsBelowPredCount}
 use Rattle.shb_lines.proofs.events.Counts.{count_more_yes, count_mono, counts_le, counts_ge}
 use Rattle.shb_lines.proofs.events.Events.{thread_is, event_of_thread, is_of_true}
-use Rattle.shb_lines.proofs.events.Places.{place_of, contains_at}
-use Rattle.shb_lines.proofs.events.Reordered.{event_at_place, length_events}
+use Rattle.shb_lines.proofs.events.Indices.{index_of, contains_at}
+use Rattle.shb_lines.proofs.events.Reordered.{event_at_index, length_events}
 use Rattle.shb_lines.proofs.events.Schedulable.{below_pred_in_range, below_pred_closed}
 
 -- where each of the first q passes, their count is q
@@ -44,7 +44,7 @@ module _ (trace : List Event) (t e n : ℕ) (count : IsBelowPredCount trace t e 
       (count.all k).1 (of_k, below_pred_closed trace k b e (happens_before (record { earlier = lt; rule = same_thread t of_k known.0 })) known.1)
 
   event_there : (p a : ℕ) → slice_get count.members p ≡ Some a → (d : Event) × (slice_get (events_at trace count.members) p ≡ Some d) × (slice_get trace a ≡ Some d)
-  event_there p a at_p = event_at_place trace count.members in_range p a at_p
+  event_there p a at_p = event_at_index trace count.members in_range p a at_p
 
   chosen_pass : (q k : ℕ) (d : Event) → q ≤ length count.members → k < q → slice_get (events_at trace count.members) k ≡ Some d → is_of t d ≡ true
   chosen_pass q k d le lt at_k =
@@ -54,9 +54,9 @@ module _ (trace : List Event) (t e n : ℕ) (count : IsBelowPredCount trace t e 
       let equal : there.0 ≡ d = cc in
       rw (← equal) (of_t (get_or count.members k 0) there.0 (contains_at count.members k (get_or count.members k 0) at_s) there.2)
 
-  -- the place of a member is the number of events of the thread before it
-  place_count : (q b : ℕ) → slice_get count.members q ≡ Some b → count_by (is_of t) (take b trace) ≡ q
-  place_count q b at_q =
+  -- the index of a member is the number of events of the thread before it
+  index_count : (q b : ℕ) → slice_get count.members q ≡ Some b → count_by (is_of t) (take b trace) ≡ q
+  index_count q b at_q =
       let within = slice_get_within count.members q b at_q in
       let total = length_events trace count.members in_range in
       let whole = all_counted (is_of t) (events_at trace count.members) q (omega (arith, within, total)) (λ k d lt at_k. chosen_pass q k d (omega arith) lt at_k) in
@@ -64,19 +64,19 @@ module _ (trace : List Event) (t e n : ℕ) (count : IsBelowPredCount trace t e 
       let high = counts_ge trace (events_at trace count.members) count.members count.rising event_there (is_of t) q b at_q (λ k d lt at_k passes. earlier_too k b d (contains_at count.members q b at_q) lt at_k passes) in
       omega (arith, whole, low, high)
 
-  own_place : (k : ℕ) → thread_at trace k ≡ Some t → place_in_thread trace t k ≡ count_by (is_of t) (take k trace) + 1
-  own_place k of_k = let d = event_of_thread trace k t of_k in count_more_yes (is_of t) trace k d.0 d.1 (is_of_true t d.0 d.2)
+  own_time : (k : ℕ) → thread_at trace k ≡ Some t → local_time trace t k ≡ count_by (is_of t) (take k trace) + 1
+  own_time k of_k = let d = event_of_thread trace k t of_k in count_more_yes (is_of t) trace k d.0 d.1 (is_of_true t d.0 d.2)
 
-  pub local_from_below : (i : ℕ) → thread_at trace i ≡ Some t → BelowPred trace i e → place_in_thread trace t i ≤ n
+  pub local_from_below : (i : ℕ) → thread_at trace i ≡ Some t → BelowPred trace i e → local_time trace t i ≤ n
   local_from_below i of_i below =
-      let place = place_of count.members i ((count.all i).1 (of_i, below)) in
-      let within = slice_get_within count.members place.0 i place.1 in
+      let index = index_of count.members i ((count.all i).1 (of_i, below)) in
+      let within = slice_get_within count.members index.0 i index.1 in
       let total = count.number in
-      let before = place_count place.0 i place.1 in
-      let own = own_place i of_i in
+      let before = index_count index.0 i index.1 in
+      let own = own_time i of_i in
       omega (arith, within, total, before, own)
 
-  pub below_from_local : (i : ℕ) → thread_at trace i ≡ Some t → place_in_thread trace t i ≤ n → BelowPred trace i e
+  pub below_from_local : (i : ℕ) → thread_at trace i ≡ Some t → local_time trace t i ≤ n → BelowPred trace i e
   below_from_local i of_i le = go (cases_order b i)
     where
       q : ℕ
@@ -86,31 +86,31 @@ module _ (trace : List Event) (t e n : ℕ) (count : IsBelowPredCount trace t e 
       b = get_or count.members q 0
 
       at_q : slice_get count.members q ≡ Some b
-      at_q = let own = own_place i of_i in let total = count.number in slice_get-get_or count.members q 0 (omega (arith, own, total, le))
+      at_q = let own = own_time i of_i in let total = count.number in slice_get-get_or count.members q 0 (omega (arith, own, total, le))
 
       known : (thread_at trace b ≡ Some t) × BelowPred trace b e
       known = (count.all b).0 (contains_at count.members q b at_q)
 
       before : count_by (is_of t) (take b trace) ≡ q
-      before = place_count q b at_q
+      before = index_count q b at_q
 
       go : (b ≡ i) ⊎ ((b < i) ⊎ (i < b)) → BelowPred trace i e
       go (inl same) = subst (λ k. BelowPred trace k e) same known.1
       go (inr (inl lt)) =
-          let own = own_place b known.0 in
+          let own = own_time b known.0 in
           let more = count_mono (is_of t) trace (b + 1) i (omega arith) in
           let is = before in
           absurd (omega (arith, own, more, is))
       go (inr (inr gt)) =
-          let own = own_place i of_i in
+          let own = own_time i of_i in
           let more = count_mono (is_of t) trace (i + 1) b (omega arith) in
           let is = before in
           absurd (omega (arith, own, more, is))
 
--- the test of an order's answer against an event's place in its thread
-pub below_pred_test : (trace ordered : List Event) (t k e n m : ℕ) → ordered ≡ trace → IsBelowPredCount ordered t e n → thread_at trace k ≡ Some t → m ≡ place_in_thread trace t k → IsTrue (leb m n) ↔ BelowPred trace k e
-below_pred_test trace ordered t k e n m same count of_k place =
+-- the test of an order's answer against an event's local time
+pub below_pred_test : (trace ordered : List Event) (t k e n m : ℕ) → ordered ≡ trace → IsBelowPredCount ordered t e n → thread_at trace k ≡ Some t → m ≡ local_time trace t k → IsTrue (leb m n) ↔ BelowPred trace k e
+below_pred_test trace ordered t k e n m same count of_k index =
     let counted : IsBelowPredCount trace t e n = subst (λ (tr : List Event). IsBelowPredCount tr t e n) same count in (
-      (λ h. below_from_local trace t e n counted k of_k (let le = leb-true m n h in omega (arith, le, place))),
-      (λ below. le-leb m n (let le = local_from_below trace t e n counted k of_k below in omega (arith, le, place))),
+      (λ h. below_from_local trace t e n counted k of_k (let le = leb-true m n h in omega (arith, le, index))),
+      (λ below. le-leb m n (let le = local_from_below trace t e n counted k of_k below in omega (arith, le, index))),
     )

@@ -13,7 +13,7 @@ use Rattle.shb_lines.specs.events.Order.{HbEdge, same_thread, lock_passed}
 use Rattle.shb_lines.proofs.events.Counts.{counts_le, counts_ge}
 use Rattle.shb_lines.proofs.events.Events.{thread_is, op_is, is_acquire_parts, is_release_parts}
 use Rattle.shb_lines.proofs.events.Locks.{DisciplinedBelow, releases_le}
-use Rattle.shb_lines.proofs.events.Places.{contains_at}
+use Rattle.shb_lines.proofs.events.Indices.{contains_at}
 
 pub event_in_range : (trace : List Event) (k : ℕ) → k < length trace → (e : Event) × (slice_get trace k ≡ Some e)
 event_in_range trace k within = elim (slice_get_cases trace k).1 [ inl c ↦ (c.0, c.2) | inr c ↦ (let past = c.0 in absurd (omega arith)) ]
@@ -24,16 +24,16 @@ in_range_rest trace x s in_range a c = in_range a (suc c.0, (let lt = c.1 in ome
 in_range_first : (trace : List Event) (x : ℕ) (s : List ℕ) → ((a : ℕ) → Contains (x ∷ s) a → a < length trace) → x < length trace
 in_range_first trace x s in_range = in_range x (contains_at (x ∷ s) 0 x refl)
 
--- the event at a place is that of the trace at the position there
-pub event_at_place : (trace : List Event) (s : List ℕ) → ((a : ℕ) → Contains s a → a < length trace) → (p a : ℕ) → slice_get s p ≡ Some a → (e : Event) × (slice_get (events_at trace s) p ≡ Some e) × (slice_get trace a ≡ Some e)
-event_at_place trace [] in_range p a h = absurd (let f : ⊥ = cc in f)
-event_at_place trace (x ∷ s) in_range zero a h =
+-- the event at an index is that of the trace at the position there
+pub event_at_index : (trace : List Event) (s : List ℕ) → ((a : ℕ) → Contains s a → a < length trace) → (p a : ℕ) → slice_get s p ≡ Some a → (e : Event) × (slice_get (events_at trace s) p ≡ Some e) × (slice_get trace a ≡ Some e)
+event_at_index trace [] in_range p a h = absurd (let f : ⊥ = cc in f)
+event_at_index trace (x ∷ s) in_range zero a h =
     let first = event_in_range trace x (in_range_first trace x s in_range) in
     let is : x ≡ a = cc in
     (first.0, rw first.1 refl, rw (← is) first.1)
-event_at_place trace (x ∷ s) in_range (suc q) a h =
+event_at_index trace (x ∷ s) in_range (suc q) a h =
     let first = event_in_range trace x (in_range_first trace x s in_range) in
-    let rest = event_at_place trace s (in_range_rest trace x s in_range) q a h in
+    let rest = event_at_index trace s (in_range_rest trace x s in_range) q a h in
     (rest.0, rw first.1 rest.1, rest.2)
 
 pub length_events : (trace : List Event) (s : List ℕ) → ((a : ℕ) → Contains s a → a < length trace) → length (events_at trace s) ≡ length s
@@ -44,10 +44,10 @@ length_events trace (x ∷ s) in_range =
 
 module _ (trace : List Event) (disciplined : IsDisciplined trace) (s : List ℕ) (rising : IsStrictlyIncreasing s) (in_range : (a : ℕ) → Contains s a → a < length trace) (closed : (a b : ℕ) → HbEdge trace a b → Contains s b → Contains s a) where
   count_le : (f : Event → Bool) (q b : ℕ) → slice_get s q ≡ Some b → count_by f (take q (events_at trace s)) ≤ count_by f (take b trace)
-  count_le f q b at_q = counts_le trace (events_at trace s) s rising (event_at_place trace s in_range) f q b at_q
+  count_le f q b at_q = counts_le trace (events_at trace s) s rising (event_at_index trace s in_range) f q b at_q
 
   count_ge : (f : Event → Bool) (q b : ℕ) → slice_get s q ≡ Some b → ((k : ℕ) (e : Event) → k < b → slice_get trace k ≡ Some e → f e ≡ true → Contains s k) → count_by f (take b trace) ≤ count_by f (take q (events_at trace s))
-  count_ge f q b at_q chosen = counts_ge trace (events_at trace s) s rising (event_at_place trace s in_range) f q b at_q chosen
+  count_ge f q b at_q chosen = counts_ge trace (events_at trace s) s rising (event_at_index trace s in_range) f q b at_q chosen
 
   none_too : (f : Event → Bool) (q b : ℕ) → slice_get s q ≡ Some b → count_by f (take b trace) ≡ 0 → count_by f (take q (events_at trace s)) ≡ 0
   none_too f q b at_q none = let le = count_le f q b at_q in omega arith
@@ -89,12 +89,12 @@ module _ (trace : List Event) (disciplined : IsDisciplined trace) (s : List ℕ)
         may_do = may_do q b e at_q at_b below e.op refl come.may_do;
       }
 
-  place_of_event : (q : ℕ) (e : Event) → slice_get (events_at trace s) q ≡ Some e → (b : ℕ) × (slice_get s q ≡ Some b) × (slice_get trace b ≡ Some e)
-  place_of_event q e at_q =
+  index_of_event : (q : ℕ) (e : Event) → slice_get (events_at trace s) q ≡ Some e → (b : ℕ) × (slice_get s q ≡ Some b) × (slice_get trace b ≡ Some e)
+  index_of_event q e at_q =
       let within = slice_get_within (events_at trace s) q e at_q in
       let same_length = length_events trace s in_range in
       let at_s = slice_get-get_or s q 0 (omega (arith, within, same_length)) in
-      let d = event_at_place trace s in_range q (get_or s q 0) at_s in
+      let d = event_at_index trace s in_range q (get_or s q 0) at_s in
       let same : Some d.0 ≡ Some e = sym d.1 ∙ at_q in
       let equal : d.0 ≡ e = cc in
       (get_or s q 0, at_s, d.2 ∙ ap (λ x. Some x) equal)
@@ -106,8 +106,8 @@ module _ (trace : List Event) (disciplined : IsDisciplined trace) (s : List ℕ)
       go : (k < n) ⊎ (n ≤ k) → DisciplinedBelow (events_at trace s) n → MayCome (take k (events_at trace s)) e
       go (inl h) below = below k e h at_k
       go (inr h) below =
-          let place = place_of_event k e at_k in
-          may_come k place.0 e place.1 place.2 (λ m d small at_m. below m d (omega arith) at_m)
+          let index = index_of_event k e at_k in
+          may_come k index.0 e index.1 index.2 (λ m d small at_m. below m d (omega arith) at_m)
 
   pub reordered_disciplined : IsDisciplined (events_at trace s)
   reordered_disciplined k e at_k = below_all (suc k) k e (omega arith) at_k

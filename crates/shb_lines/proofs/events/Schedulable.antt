@@ -13,7 +13,7 @@ use Rattle.shb_lines.specs.events.Order.{HbEdge, same_thread, forked, joined, La
 use Rattle.shb_lines.specs.events.Race.{Race}
 use Rattle.shb_lines.specs.events.Schedule.{StandsBefore, LastWriteIn, IsCorrectReordering, KeepsHb, IsSchedule, IsPrintedSchedule}
 use Rattle.shb_lines.proofs.events.Events.{event_of_thread, event_of_op, fork_earlier, join_later}
-use Rattle.shb_lines.proofs.events.Places.{contains_first, stands_in_order, smaller_stands_before}
+use Rattle.shb_lines.proofs.events.Indices.{contains_first, stands_in_order, smaller_stands_before}
 use Rattle.shb_lines.proofs.events.Reordered.{reordered_disciplined}
 use Rattle.shb_lines.specs.events.Reach.{of_thread, writes_at}
 use Rattle.shb_lines.proofs.events.Search.{IsLatest, latest_below, of_thread_true, of_thread_at, of_thread_false, writes_at_true, writes_at_is, writes_at_false}

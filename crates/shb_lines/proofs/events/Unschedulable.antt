@@ -5,7 +5,7 @@ use Rattle.shb_lines.specs.declared.event.Event.{Event}
 use Rattle.shb_lines.specs.events.Order.{ShbEdge, happens_before, read_from, here, step, ShbBelow, IsPred, in_thread, by_fork}
 use Rattle.shb_lines.specs.events.Race.{Conflict, Race}
 use Rattle.shb_lines.specs.events.Schedule.{IsCorrectReordering, KeepsHb, IsNext, IsSchedule, StandsBefore}
-use Rattle.shb_lines.proofs.events.Places.{contains_first}
+use Rattle.shb_lines.proofs.events.Indices.{contains_first}
 
 stands_in : (s : List ℕ) (a b : ℕ) → (a ≡ b) ⊎ StandsBefore s a b → Contains s b → Contains s a
 stands_in s a b (inl e) h = subst (λ x. Contains s x) (sym e) h

@@ -6,7 +6,7 @@ use Rattle.std.specs.Prelude.{slice_set}
 use Rattle.shb_lines.specs.declared.recent.Bucket.{Bucket}
 use Rattle.shb_lines.specs.text.Ends.{AreRemembered, HasEnds, IsKnown, end_len}
 
--- a list is what stands before a place and from it on
+-- a list is what stands before an index and from it on
 halves : (n : ℕ) (a b : List ℕ) → take n a ≡ take n b → drop n a ≡ drop n b → a ≡ b
 halves zero a b front back = back
 halves (suc n) [] [] front back = refl
@@ -53,9 +53,9 @@ slice_get-set (z ∷ xs) (suc i) zero x y h = inr h
 slice_get-set (z ∷ xs) (suc i) (suc k) x y h = slice_get-set xs i k x y h
 
 -- one bucket changed
-pub AreRemembered-set : (names : List (List ℕ)) (buckets : List Bucket) (place : ℕ) (bucket : Bucket) → IsKnown names bucket.newer → IsKnown names bucket.older
-    → AreRemembered names buckets → AreRemembered names (slice_set buckets place bucket)
-AreRemembered-set names buckets place bucket newer older all k other at = by (slice_get-set buckets place k bucket other at)
+pub AreRemembered-set : (names : List (List ℕ)) (buckets : List Bucket) (index : ℕ) (bucket : Bucket) → IsKnown names bucket.newer → IsKnown names bucket.older
+    → AreRemembered names buckets → AreRemembered names (slice_set buckets index bucket)
+AreRemembered-set names buckets index bucket newer older all k other at = by (slice_get-set buckets index k bucket other at)
   where
     by : (bucket ≡ other) ⊎ (slice_get buckets k ≡ Some other) → IsKnown names other.newer × IsKnown names other.older
     by (inl same) = subst (λ b. IsKnown names b.newer × IsKnown names b.older) same (newer, older)

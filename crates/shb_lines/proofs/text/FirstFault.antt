@@ -16,7 +16,7 @@ pub IsLowest-same : (Has Other : Fault → Type 0) → ((f : Fault) → Has f �
 IsLowest-same Has Other to from None h = λ f other. h f (from f other)
 IsLowest-same Has Other to from (Some g) h = (to g h.0, λ f other. h.1 f (from f other))
 
--- only the limit of the text is passed at a place
+-- only the limit of the text is passed at an offset
 pub with_past : (limits : Limits) (P Q : Type 0) (before : List NamedEvent) (line : List ℕ) → (P → Q) → (f : Fault) → HasLineFault limits P before line f → HasLineFault limits Q before line f
 with_past limits P Q before line to faults.TextTooLong h = to h
 with_past limits P Q before line to _ h = h
@@ -31,8 +31,8 @@ module _ (limits : Limits) (text : List ℕ) (i : ℕ) where
       let line : List ℕ = part text start end in
       let before : List NamedEvent = events_of (take i (lines_of text)) in
       let line_len : length (line_at limits text i) ≡ end - start = ap length next.at ∙ len in
-      let to : (limits.text ≤ end) × (limits.text < length text) → PassesLimit limits text i = λ p. (omega (arith, inside p.1, h.place), omega (arith, p.0, h.place), p.1) in
-      let from : PassesLimit limits text i → (limits.text ≤ end) × (limits.text < length text) = λ p. (omega (arith, p.1, h.place), p.2) in
+      let to : (limits.text ≤ end) × (limits.text < length text) → PassesLimit limits text i = λ p. (omega (arith, inside p.1, h.offset), omega (arith, p.0, h.offset), p.1) in
+      let from : PassesLimit limits text i → (limits.text ≤ end) × (limits.text < length text) = λ p. (omega (arith, p.1, h.offset), p.2) in
       IsLowest-same _ (HasFault limits text i)
       (λ f has. subst (λ l. HasLineFault limits (PassesLimit limits text i) before l f) (sym next.at) (with_past limits _ _ before line to f has))
       (λ f has. with_past limits _ _ before line from f (subst (λ l. HasLineFault limits (PassesLimit limits text i) before l f) next.at has))

@@ -143,8 +143,8 @@ mark_operand-closed inner =
 closed_of : (rest : List ℕ) → 0 < length rest → slice_index (40 ∷ rest) (length (40 ∷ rest) - 1) ≡ 41 → 40 ∷ rest ≡ closed (take (length rest - 1) rest)
 unfolding closed
 closed_of rest some ends =
-    let place : suc (length rest - 1) ≡ length (40 ∷ rest) - 1 = omega arith in
-    let at : get_or rest (length rest - 1) 0 ≡ 41 = ap (λ n. get_or (40 ∷ rest) n 0) place ∙ ends in
+    let index : suc (length rest - 1) ≡ length (40 ∷ rest) - 1 = omega arith in
+    let at : get_or rest (length rest - 1) 0 ≡ 41 = ap (λ n. get_or (40 ∷ rest) n 0) index ∙ ends in
     ap (λ ls. 40 ∷ ls) (last_of rest some ∙ ap (λ b. take (length rest - 1) rest ++ b ∷ []) at)
 
 lacks_of : (c : ℕ) (bytes : List ℕ) → position_or_len (is c) bytes ≡ length bytes → Lacks c bytes
@@ -222,9 +222,9 @@ no_bytes (x ∷ bytes) e = absurd (omega arith)
 
 with_rest : (thread operation rest : List ℕ) → thread ≢ [] → Lacks 124 thread → before_first is_bar rest ≡ operation → meaning (thread ++ 124 ∷ rest) ≡ operation_meaning thread operation
 with_rest thread operation rest named lacks operation_is =
-    let place : position_or_len is_bar (thread ++ 124 ∷ rest) ≡ length thread = position_at 124 thread rest lacks in
+    let index : position_or_len is_bar (thread ++ 124 ∷ rest) ≡ length thread = position_at 124 thread rest lacks in
     let len = length-append thread (124 ∷ rest) in
-    meaning_is (thread ++ 124 ∷ rest) (λ e. absurd (omega arith)) (λ e. absurd (omega arith)) (λ e. named (no_bytes thread (sym place ∙ e)))
+    meaning_is (thread ++ 124 ∷ rest) (λ e. absurd (omega arith)) (λ e. absurd (omega arith)) (λ e. named (no_bytes thread (sym index ∙ e)))
     ∙ ap (λ t. operation_meaning t (before_first is_bar (after_first is_bar (thread ++ 124 ∷ rest)))) (before_at 124 thread rest lacks)
     ∙ ap (λ r. operation_meaning thread (before_first is_bar r)) (after_at 124 thread rest lacks)
     ∙ ap (operation_meaning thread) operation_is
@@ -252,11 +252,11 @@ meaning-kind line thread operation k has word_has =
 
 meaning-bare : (line : List ℕ) → length line ≢ 0 → position_or_len is_bar line ≡ length line → meaning line ≡ Err faults.MissingField
 unfolding meaning
-meaning-bare line some place = grind (arith, nat_tests)
+meaning-bare line some index = grind (arith, nat_tests)
 
 meaning-unnamed : (line : List ℕ) → length line ≢ 0 → position_or_len is_bar line ≡ 0 → meaning line ≡ Err faults.EmptyThread
 unfolding meaning
-meaning-unnamed line some place = grind (arith, nat_tests)
+meaning-unnamed line some index = grind (arith, nat_tests)
 
 meaning-empty : meaning [] ≡ Ok None
 unfolding meaning

@@ -1,4 +1,4 @@
--- What places in a text stand for, where a reader has read the text's lines.
+-- What the parts of a trace stand for, where a reader has read the text's lines.
 use Rattle.std.proofs.Common.{◌≡◌, ◌+◌, ◌*◌, ◌≤◌, ℕ, List, [], ◌∷◌, length, map, Option, None, Some, refl, sym, ap, subst, ◌∙◌, arith}
 use Rattle.std.specs.List.{AllByRecursion, AllZip}
 use Rattle.std.proofs.lemmas.List.{length-map}
@@ -6,14 +6,14 @@ use Rattle.shb_lines.specs.declared.limits.Limits.{Limits}
 use Rattle.shb_lines.specs.declared.fault.LineFault.{LineFault}
 use Rattle.shb_lines.specs.declared.names.Span.{Span}
 use Rattle.shb_lines.specs.declared.reader.Reader.{Reader}
-use Rattle.shb_lines.specs.declared.trace.Places.{Places}
+use Rattle.shb_lines.specs.declared.trace.Parts.{Parts}
 use Rattle.shb_lines.specs.text.Limits.{most_bytes, most_events}
 use Rattle.shb_lines.specs.text.Spans.{IsLineFrom, line_from, NamesWithSpans, StandIn, names_in, spans_in}
 use Rattle.shb_lines.specs.text.Parsed.{HasRead}
 use Rattle.shb_lines.specs.text.Numbers.{IsEventOf}
 use Rattle.shb_lines.specs.text.Reader.{HasRoom, tables_of}
 use Rattle.shb_lines.specs.text.Text.{IsLineText, LocatedEvent, trace_of}
-use Rattle.shb_lines.specs.text.Places.{ArePlaces, AreSpans, names_at, trace_at}
+use Rattle.shb_lines.specs.text.Parts.{AreParts, AreSpans, names_at, trace_at}
 use Rattle.shb_lines.specs.text.TraceData.{IsReading, IsTraceOf, tables_in}
 use Rattle.shb_lines.proofs.text.LineLemmas.{length-starts}
 use Rattle.shb_lines.proofs.text.Numbers.{well_formed}
@@ -51,36 +51,36 @@ module _ (text : List ℕ) where
   lines_are (s ∷ starts) [] h = absurd h
   lines_are (s ∷ starts) (e ∷ events) h = λ i. h.0.reads i ∷ lines_are starts events h.1 i
 
--- the places are those that a reader has noted
-pub record AreNoted (reader : Reader) (places : Places) : Type 0 where
-  pub events : places.events ≡ reader.events
-  pub starts : places.starts ≡ reader.starts
-  pub threads : places.threads.items ≡ spans_in reader.threads.table.entries
-  pub locks : places.locks.items ≡ spans_in reader.locks.table.entries
-  pub variables : places.variables.items ≡ spans_in reader.variables.table.entries
+-- the parts are those that a reader has noted
+pub record AreNoted (reader : Reader) (parts : Parts) : Type 0 where
+  pub events : parts.events ≡ reader.events
+  pub starts : parts.starts ≡ reader.starts
+  pub threads : parts.threads.items ≡ spans_in reader.threads.table.entries
+  pub locks : parts.locks.items ≡ spans_in reader.locks.table.entries
+  pub variables : parts.variables.items ≡ spans_in reader.variables.table.entries
 
-module _ (text : List ℕ) (reader : Reader) (places : Places) (noted : AreNoted reader places) (lines : List (List ℕ)) (read : HasRead text reader lines) where
-  tables_same : tables_in (trace_at text places) ≡ tables_of reader
+module _ (text : List ℕ) (reader : Reader) (parts : Parts) (noted : AreNoted reader parts) (lines : List (List ℕ)) (read : HasRead text reader lines) where
+  tables_same : tables_in (trace_at text parts) ≡ tables_of reader
   tables_same = λ i. record {
-    threads = names_are text places.threads.items reader.threads.table.entries noted.threads read.stand.threads i;
-    locks = names_are text places.locks.items reader.locks.table.entries noted.locks read.stand.locks i;
-    variables = names_are text places.variables.items reader.variables.table.entries noted.variables read.stand.variables i;
+    threads = names_are text parts.threads.items reader.threads.table.entries noted.threads read.stand.threads i;
+    locks = names_are text parts.locks.items reader.locks.table.entries noted.locks read.stand.locks i;
+    variables = names_are text parts.variables.items reader.variables.table.entries noted.variables read.stand.variables i;
   }
 
-  pub trace_held : IsTraceOf lines (trace_at text places)
+  pub trace_held : IsTraceOf lines (trace_at text parts)
   trace_held = record {
     tables_are = tables_same ∙ read.tables_are;
-    events_are = subst (λ t. AllZip (IsEventOf t) places.events.items (trace_of lines)) (sym tables_same)
+    events_are = subst (λ t. AllZip (IsEventOf t) parts.events.items (trace_of lines)) (sym tables_same)
         (subst (λ events. AllZip (IsEventOf (tables_of reader)) events (trace_of lines)) (sym (ap (λ v. v.items) noted.events)) read.events_are);
     lines_are = ap (λ v. map (line_from text) v.items) noted.starts ∙ lines_are text reader.starts.items (trace_of lines) read.starts_are;
   }
 
-  pub places_held : length text ≤ most_bytes + 1 → length reader.events.items ≤ most_events → HasRoom reader → AllByRecursion IsLineText (map (λ e. e.text) (trace_of lines)) → ArePlaces text places
-  places_held short few room line_texts =
+  pub parts_held : length text ≤ most_bytes + 1 → length reader.events.items ≤ most_events → HasRoom reader → AllByRecursion IsLineText (map (λ e. e.text) (trace_of lines)) → AreParts text parts
+  parts_held short few room line_texts =
       let n = length reader.events.items in
       let len = reader.events.ok.0 in
-      let events_len : length places.events.items ≡ n = ap (λ v. length v.items) noted.events in
-      let starts_len : length places.starts.items ≡ n = ap (λ v. length v.items) noted.starts ∙ length-starts text reader lines read in
+      let events_len : length parts.events.items ≡ n = ap (λ v. length v.items) noted.events in
+      let starts_len : length parts.starts.items ≡ n = ap (λ v. length v.items) noted.starts ∙ length-starts text reader lines read in
       record {
         short = omega arith;
         a_line_each = starts_len ∙ sym events_len;
@@ -88,9 +88,9 @@ module _ (text : List ℕ) (reader : Reader) (places : Places) (noted : AreNoted
           few = omega (arith, starts_len, few);
           within = subst (AllByRecursion (λ (start : ℕ). start ≤ length text)) (sym (ap (λ v. v.items) noted.starts)) (starts_within text reader.starts.items (trace_of lines) read.starts_are);
         };
-        threads = spans_are text places.threads.items reader.threads.table.entries n noted.threads read.stand.threads (omega (arith, room.threads, len)) few;
-        locks = spans_are text places.locks.items reader.locks.table.entries n noted.locks read.stand.locks (omega (arith, room.locks, len)) few;
-        variables = spans_are text places.variables.items reader.variables.table.entries n noted.variables read.stand.variables (omega (arith, room.variables, len)) few;
-        well_formed = well_formed lines (trace_at text places) trace_held (omega (arith, events_len, few))
-            (length-map places.starts.items (line_from text) ∙ starts_len ∙ sym events_len) line_texts;
+        threads = spans_are text parts.threads.items reader.threads.table.entries n noted.threads read.stand.threads (omega (arith, room.threads, len)) few;
+        locks = spans_are text parts.locks.items reader.locks.table.entries n noted.locks read.stand.locks (omega (arith, room.locks, len)) few;
+        variables = spans_are text parts.variables.items reader.variables.table.entries n noted.variables read.stand.variables (omega (arith, room.variables, len)) few;
+        well_formed = well_formed lines (trace_at text parts) trace_held (omega (arith, events_len, few))
+            (length-map parts.starts.items (line_from text) ∙ starts_len ∙ sym events_len) line_texts;
       }

@@ -22,7 +22,7 @@ length_zip R [] (y ∷ ys) h = absurd h
 length_zip R (x ∷ xs) [] h = absurd h
 length_zip R (x ∷ xs) (y ∷ ys) h = ap (λ n. suc n) (length_zip R xs ys h.1)
 
--- there are as many events, and as many places, as the lines give
+-- there are as many events, and as many starts of lines, as the lines give
 pub length-events_of : (text : List ℕ) (reader : Reader) (lines : List (List ℕ)) → HasRead text reader lines → length (events_of lines) ≡ length reader.events.items
 length-events_of text reader lines h = length-map (trace_of lines) (λ e. e.event) ∙ length_zip (IsEventOf (tables_of reader)) reader.events.items (trace_of lines) h.events_are
 

@@ -94,7 +94,7 @@ module _ (limits : Limits) (text : List ℕ) (standard : limits.line ≤ most_li
       (lines_of text, h.1, line_texts_from 1 (lines_of text) few)
   held_texts Holds (Some stop) h = (take h.0 (lines_of text), h.3, line_texts_from 1 (take h.0 (lines_of text)) (faultless_lines h.0 h.2.earlier))
 
--- what begins at a place of a line is a line
+-- what begins at an offset of a line is a line
 pub start_text : (text : List ℕ) (starts : List ℕ) (e start default : ℕ) → AllByRecursion IsLineText (map (line_from text) starts) → e < length starts → start ≡ get_or starts e default → IsLineText (line_from text start)
 start_text text [] e start default all lt is = absurd (omega arith)
 start_text text (first ∷ starts) zero start default all lt is = subst (λ s. IsLineText (line_from text s)) (sym is) all.0

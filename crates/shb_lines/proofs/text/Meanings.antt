@@ -47,14 +47,14 @@ operand_within call operand (inl none) = omega (arith, ap length none)
 operand_within call operand (inr h) = let len = h.1 in omega arith
 
 -- where an operand stands in its line
-pub operand_placed : (line fields operation call operand : List ℕ) (t w p : ℕ) → t < length line → fields ≡ drop (t + 1) line → operation ≡ take p fields → w ≤ length operation → call ≡ drop w operation → IsInCall call operand
+pub operand_in_line : (line fields operation call operand : List ℕ) (t w p : ℕ) → t < length line → fields ≡ drop (t + 1) line → operation ≡ take p fields → w ≤ length operation → call ≡ drop w operation → IsInCall call operand
     → (t + length operation - length operand + length operand ≤ length line) × (operand ≡ take (length operand) (drop (t + length operation - length operand) line))
-operand_placed line fields operation call operand t w p bar fields_is operation_is word_within call_is (inl none) =
+operand_in_line line fields operation call operand t w p bar fields_is operation_is word_within call_is (inl none) =
     let operation_len : length operation ≤ length fields = omega (arith, ap length operation_is, length-take p fields) in
     let fields_len : length fields ≡ length line - (t + 1) = ap length fields_is ∙ length-drop (t + 1) line in
     let empty : length operand ≡ 0 = ap length none in
     (omega arith, none ∙ ap (λ n. take n (drop (t + length operation - length operand) line)) (sym empty))
-operand_placed line fields operation call operand t w p bar fields_is operation_is word_within call_is (inr h) =
+operand_in_line line fields operation call operand t w p bar fields_is operation_is word_within call_is (inr h) =
     let n : ℕ = length operand in
     let call_len : length call ≡ length operation - w = ap length call_is ∙ length-drop w operation in
     let operation_len : length operation ≤ length fields = omega (arith, ap length operation_is, length-take p fields) in

@@ -38,7 +38,7 @@ module _ (name : Name) (span : Span) where
       by true same rest = (subst (λ bytes. StandsAt text bytes span) (bytes_eq-same name.bytes.now e.0.bytes.now same) here, all.1)
       by false same rest = (all.0, rest)
 
--- a name's number is its place in the table
+-- a name's number is its index in the table
 pub with_name-at : (names : List (List ℕ)) (name : List ℕ) → slice_get (with_name names name) (position_or_len (bytes_eq name) names) ≡ Some name
 with_name-at [] name = refl
 with_name-at (known ∷ names) name = by (bytes_eq name known) refl (with_name-at names name)
@@ -48,7 +48,7 @@ with_name-at (known ∷ names) name = by (bytes_eq name known) refl (with_name-a
     by true same rest = ap Some (sym (bytes_eq-same name known same))
     by false same rest = rw (one-add (position_or_len (bytes_eq name) names)) rest
 
--- the keys' places are the names' places
+-- the keys' spans are the names' spans
 pub position-names_in : (name : Name) (entries : NamesWithSpans) → position_or_len (same_name name) (keys_of entries) ≡ position_or_len (bytes_eq name.bytes.now) (names_in entries)
 position-names_in name [] = refl
 position-names_in name (e ∷ entries) = ap (λ n. cond (not (bytes_eq name.bytes.now e.0.bytes.now)) (1 + n) 0) (position-names_in name entries)

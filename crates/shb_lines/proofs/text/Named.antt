@@ -7,7 +7,7 @@ use Rattle.std.proofs.lemmas.Option.{slice_get-map, slice_get_read}
 use Rattle.shb_lines.specs.declared.event.Event.{Event}
 use Rattle.shb_lines.specs.declared.names.Span.{Span}
 use Rattle.shb_lines.specs.text.Spans.{bytes_at, line_from}
-use Rattle.shb_lines.specs.text.Places.{names_at}
+use Rattle.shb_lines.specs.text.Parts.{names_at}
 use Rattle.shb_lines.proofs.text.Numbers.{one_number}
 
 pub event_at : (items events : List Event) (k : ℕ) (event : Event) → items ≡ events → k < length events → event ≡ get_or items k event → slice_get events k ≡ Some event

@@ -75,18 +75,18 @@ one_number (first ∷ names) name (suc a) zero h at_a at_b =
 one_number (first ∷ names) name (suc a) (suc b) h at_a at_b = ap (λ n. suc n) (one_number names name a b h.1 at_a at_b)
 
 -- where a table grows, the new name is after the others
-place-new : (names : List (List ℕ)) (name : List ℕ) → length names < length (with_name names name) → position_or_len (bytes_eq name) names ≡ length names
-place-new [] name h = refl
-place-new (known ∷ names) name h = by (bytes_eq name known) h (place-new names name)
+index-new : (names : List (List ℕ)) (name : List ℕ) → length names < length (with_name names name) → position_or_len (bytes_eq name) names ≡ length names
+index-new [] name h = refl
+index-new (known ∷ names) name h = by (bytes_eq name known) h (index-new names name)
   where
     by : (b : Bool) → length (known ∷ names) < length (cond b (known ∷ names) (known ∷ with_name names name)) → (length names < length (with_name names name) → position_or_len (bytes_eq name) names ≡ length names)
         → cond (not b) (1 + position_or_len (bytes_eq name) names) 0 ≡ length (known ∷ names)
     by true grows rest = absurd (omega arith)
     by false grows rest = omega (arith, rest (omega arith))
 
-place_within : (names : List (List ℕ)) (name : List ℕ) → position_or_len (bytes_eq name) names ≤ length names
-place_within [] name = omega arith
-place_within (known ∷ names) name = by (bytes_eq name known) (place_within names name)
+index_within : (names : List (List ℕ)) (name : List ℕ) → position_or_len (bytes_eq name) names ≤ length names
+index_within [] name = omega arith
+index_within (known ∷ names) name = by (bytes_eq name known) (index_within names name)
   where
     by : (b : Bool) → position_or_len (bytes_eq name) names ≤ length names → cond (not b) (1 + position_or_len (bytes_eq name) names) 0 ≤ length (known ∷ names)
     by true rest = omega arith
@@ -134,22 +134,22 @@ module _ (tables : Tables) (distinct : IsDistinct bytes_eq tables.variables) whe
   earlier_step names rest e events kind name (of_none variable named) table x y lt back (suc k) at_k =
       later (length names) e events k y (subst (λ more. HasEarlier (length (with_names names more)) events k y) named (back k at_k))
   earlier_step names rest e events kind name (of_one number variable named has) table x y lt back zero at_k =
-      let place = with_first names rest name number (table ∙ ap (λ more. with_names (with_names names more) rest) named) has in
+      let index = with_first names rest name number (table ∙ ap (λ more. with_names (with_names names more) rest) named) has in
       let same : number ≡ x = (let both : Some number ≡ Some x = sym variable ∙ at_k in cc) in
-      inl (omega (arith, place, same, lt, place_within names name))
+      inl (omega (arith, index, same, lt, index_within names name))
   earlier_step names rest e events kind name (of_one number variable named has) table x y lt back (suc k) at_k =
       go (cases_lt y (length names)) (subst (λ more. HasEarlier (length (with_names names more)) events k y) named (back k at_k))
     where
-      place : number ≡ position_or_len (bytes_eq name) names
-      place = with_first names rest name number (table ∙ ap (λ more. with_names (with_names names more) rest) named) has
+      index : number ≡ position_or_len (bytes_eq name) names
+      index = with_first names rest name number (table ∙ ap (λ more. with_names (with_names names more) rest) named) has
 
       go : (y < length names) ⊎ (length names ≤ y) → HasEarlier (length (with_name names name)) events k y → HasEarlier (length names) (e ∷ events) (suc k) y
       go (inl known) h = inl known
       go (inr new) (inr h) = later (length names) e events k y (inr h)
       go (inr new) (inl h) =
-          let after = place-new names name (omega arith) in
+          let after = index-new names name (omega arith) in
           let last : y ≡ length names = omega (arith, h, length-with_name_le names name) in
-          inr (zero, omega arith, variable ∙ ap (λ n. Some n) (place ∙ after ∙ sym last))
+          inr (zero, omega arith, variable ∙ ap (λ n. Some n) (index ∙ after ∙ sym last))
 
   earlier : (names : List (List ℕ)) (events : List Event) (located : List LocatedEvent) → AllZip (IsEventOf tables) events located → tables.variables ≡ with_names names (flat_map variables_on located)
       → (x y : ℕ) → y < x → (k : ℕ) → variable_at events k ≡ Some x → HasEarlier (length names) events k y

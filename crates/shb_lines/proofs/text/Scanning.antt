@@ -8,7 +8,7 @@ use Rattle.std.proofs.lemmas.List.Splits.{slice_split_first, slice_split_none}
 use Rattle.shb_lines.specs.text.Text.{lines_of}
 use Rattle.shb_lines.specs.text.Parsed.{part}
 
--- a list from a place on tells the element there
+-- a list from an index on tells the element there
 pub record IsNext (lines : List (List ℕ)) (i : ℕ) (line : List ℕ) (rest : List (List ℕ)) : Type 0 where
   pub within : i < length lines
   pub at : slice_index_or lines i [] ≡ line
@@ -30,13 +30,13 @@ next_of-drop (l ∷ lines) (suc i) line rest e =
       rest_is = ap (λ n. drop n (l ∷ lines)) (add-one (suc i)) ∙ ap (λ n. drop n lines) (sym (add-one i)) ∙ h.rest_is;
     }
 
--- the lines from a place of the text on, or none after its end
+-- the lines from an offset of the text on, or none after its end
 abbrev pub StartsAt : List ℕ → ℕ → List (List ℕ) → Type 0
 StartsAt text start lines = ((start ≤ length text) × (lines ≡ lines_of (drop start text))) ⊎ ((start ≡ length text + 1) × (lines ≡ []))
 
--- line i begins at a place
+-- line i begins at an offset
 pub record IsStart (text : List ℕ) (i start : ℕ) : Type 0 where
-  pub place : start ≡ sum_by (λ line. length line + 1) (take i (lines_of text))
+  pub offset : start ≡ sum_by (λ line. length line + 1) (take i (lines_of text))
   pub rest : StartsAt text start (drop i (lines_of text))
 
 lt_or_eq : (m n : ℕ) → m ≤ n → (m < n) ⊎ (m ≡ n)
@@ -46,7 +46,7 @@ lt_or_eq m n le = by (nat_lt m n) refl
     by true e = inl (grind (arith, nat_tests))
     by false e = inr (grind (arith, nat_tests))
 
--- the line that begins at a place, and those after it
+-- the line that begins at an offset, and those after it
 first_line : (text : List ℕ) (start end : ℕ) → start ≤ length text → end ≤ length text → end ≡ start + position_or_len (λ b. b == 10) (drop start text)
     → (rest : List (List ℕ)) × (lines_of (drop start text) ≡ part text start end ∷ rest) × StartsAt text (end + 1) rest × (length (part text start end) ≡ end - start)
 first_line text start end within end_within end_is = by (lt_or_eq _ _ (omega (arith, length-drop start text)))
@@ -81,7 +81,7 @@ start_next text i start end h within end_within end_is = elim h.rest [
       let next = next_of-drop (lines_of text) i (part text start end) first.0 (here.1 ∙ first.1) in (
         record { within = next.within; at = next.at; with_it = next.with_it; rest_is = refl },
         record {
-          place = omega (arith, h.place, first.3, ap (sum_by (λ (line : List ℕ). length line + 1)) next.with_it, sum_by-append (λ (line : List ℕ). length line + 1) (take i (lines_of text)) (part text start end ∷ []));
+          offset = omega (arith, h.offset, first.3, ap (sum_by (λ (line : List ℕ). length line + 1)) next.with_it, sum_by-append (λ (line : List ℕ). length line + 1) (take i (lines_of text)) (part text start end ∷ []));
           rest = subst (StartsAt text (end + 1)) (sym next.rest_is) first.2;
         },
         first.3,

@@ -89,7 +89,7 @@ HasRead-none text reader lines line none h =
       stand = h.stand;
     }
 
--- a line that gives an event adds it, its names and its place
+-- a line that gives an event adds it, its names and its start
 pub HasRead-some : (text : List ℕ) (old new : Reader) (lines : List (List ℕ)) (line : List ℕ) (e : NamedEvent) (start : ℕ)
     → meaning (strip_carriage_return line) ≡ Ok (Some e) → IsLineFrom text (strip_carriage_return line) start → AddsEvent old new (1 + length lines) e start → AllStand text new
     → HasRead text old lines → HasRead text new (lines ++ line ∷ [])

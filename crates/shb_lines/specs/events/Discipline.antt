@@ -55,9 +55,9 @@ acquires who l past = count_by (is_acquire who l) past
 abbrev pub releases : (ℕ → Bool) → ℕ → List Event → ℕ
 releases who l past = count_by (is_release who l) past
 
--- the place of the event at k in thread t, from 1
-abbrev pub place_in_thread : List Event → ℕ → ℕ → ℕ
-place_in_thread trace t k = count_by (is_of t) (take (k + 1) trace)
+-- the local time of the event at k, of thread t: how many events of the thread stand at k or before it
+abbrev pub local_time : List Event → ℕ → ℕ → ℕ
+local_time trace t k = count_by (is_of t) (take (k + 1) trace)
 
 -- a thread is forked by another, once, before its first event and before any join of it
 pub record MayFork (past : List Event) (t u : ℕ) : Type 0 where

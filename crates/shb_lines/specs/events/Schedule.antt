@@ -9,11 +9,11 @@ use Rattle.shb_lines.specs.events.Order.{LastWrite, HbBelow, BelowPred}
 
 -- a stands before b in the list
 pub record StandsBefore (s : List ℕ) (a b : ℕ) : Type 0 where
-  pub place : ℕ
-  pub later_place : ℕ
-  pub before : place < later_place
-  pub first : slice_get s place ≡ Some a
-  pub second : slice_get s later_place ≡ Some b
+  pub index : ℕ
+  pub later_index : ℕ
+  pub before : index < later_index
+  pub first : slice_get s index ≡ Some a
+  pub second : slice_get s later_index ≡ Some b
 
 -- the members are different positions of the trace
 pub record IsOfPositions (trace : List Event) (s : List ℕ) : Type 0 where

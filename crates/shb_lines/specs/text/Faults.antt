@@ -45,7 +45,7 @@ module _ (limits : Limits) (text : List ℕ) where
   abbrev pub line_at : ℕ → List ℕ
   line_at i = slice_index_or (lines_of text) i []
 
-  -- the place in the text at which the line begins; its line feed belongs to it
+  -- the offset in the text at which the line begins; its line feed belongs to it
   abbrev pub start_of : ℕ → ℕ
   start_of i = sum_by (λ line. length line + 1) (take i (lines_of text))
 

@@ -8,7 +8,7 @@ use Rattle.shb_lines.specs.declared.hashing.NameKeys.{NameKeys}
 unfoldable pub folded_product : ℕ → ℕ → ℕ
 folded_product a b = bit_xor (bit_and (a * b) (2 ^ 64 - 1)) (a * b / 2 ^ 64)
 
--- the eight bytes from a place on, as a word
+-- the eight bytes from an offset on, as a word
 unfoldable pub word_at : List ℕ → ℕ → ℕ
 word_at bytes at = from_le_bytes w64 (slice_range bytes at (at + 8))
 
@@ -27,7 +27,7 @@ last_word name =
     else (if nat_lt n 4 then from_le_bytes w16 (slice_range name (n - 2) n)
     else (if nat_lt n 8 then from_le_bytes w32 (slice_range name (n - 4) n) else from_le_bytes w64 (slice_range name (n - 8) n)))
 
--- the state after the two words at a place
+-- the state after the two words at an offset
 abbrev pub with_words : List ℕ → ℕ → ℕ → ℕ → ℕ
 with_words bytes key state at = folded_product (bit_xor state (word_at bytes at)) (bit_xor key (word_at bytes (at + 8)))
 

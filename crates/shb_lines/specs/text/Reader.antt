@@ -36,7 +36,7 @@ with_operand tables kind name = record {
   variables = with_names tables.variables (variables_among kind name);
 }
 
--- the reader has one event more, that of a line with these names that begins at this place
+-- the reader has one event more, that of a line with these names that begins at this offset
 pub record AddsEvent (old new : Reader) (line : ℕ) (named : NamedEvent) (start : ℕ) : Type 0 where
   pub event : Event
   pub numbered : IsNumbered (tables_of new) event named

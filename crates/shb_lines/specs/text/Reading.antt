@@ -13,7 +13,7 @@ meaning_of (Ok (Some e)) = Ok (Some (named e))
 meaning_of (Err f) = Err f
 
 -- the thread and the operand stand in the line
-pub record IsPlaced (line : List ℕ) (e : LineEvent) : Type 0 where
+pub record IsInLine (line : List ℕ) (e : LineEvent) : Type 0 where
   pub thread_within : length e.thread.now ≤ length line
   pub thread : e.thread.now ≡ take (length e.thread.now) line
   pub operand_within : e.operand_at + length e.operand.now ≤ length line

@@ -24,11 +24,11 @@ pub record StandsAt (text bytes : List ℕ) (span : Span) : Type 0 where
 abbrev pub StandIn : List ℕ → NamesWithSpans → Type 0
 StandIn text entries = AllByRecursion (λ e. StandsAt text e.0.bytes.now e.1) entries
 
--- the places of the names
+-- the spans of the names
 abbrev pub spans_in : NamesWithSpans → List Span
 spans_in entries = map (λ e. e.1) entries
 
--- the line that begins at a place of the text, without the carriage return at its end
+-- the line that begins at an offset of the text, without the carriage return at its end
 abbrev pub line_from : List ℕ → ℕ → List ℕ
 line_from text start = strip_carriage_return (before_first (λ b. b == 10) (drop start text))
 

@@ -11,7 +11,7 @@ use Rattle.shb_lines.specs.events.Discipline.{IsDisciplined}
 use Rattle.shb_lines.specs.events.Race.{Conflict}
 use Rattle.shb_lines.specs.events.Schedule.{IsSchedule}
 use Rattle.shb_lines.specs.text.TraceData.{TraceData}
-use Rattle.shb_lines.proofs.events.Places.{contains_at}
+use Rattle.shb_lines.proofs.events.Indices.{contains_at}
 use Rattle.shb_lines.specs.text.Limits.{most_events}
 use Rattle.shb_replay.proofs.Lowest.{answer_none}
 use Rattle.shb_replay.specs.declared.broken.Broken.{Broken}

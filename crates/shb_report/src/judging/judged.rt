@@ -27,7 +27,7 @@ pub(crate) struct JudgedBlocks {
     pub bad: Option<BadBlock>,
 }
 
-/// Puts the positions that the numbers of a schedule stand for in place of those of another.
+/// Puts the positions that the numbers of a schedule stand for instead of those of another.
 pub(crate) fn set_positions(
     positions: &mut Vec<u32>,
     count: u32,

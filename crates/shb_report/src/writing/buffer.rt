@@ -81,7 +81,7 @@ impl TextBuffer {
         self.len += 1;
     }
 
-    /// Adds the digits of a number, which are written in their place.
+    /// Adds the digits of a number, which are written where they belong.
     pub(crate) fn push_number(&mut self, number: u64)
         requires { length self.old + 20 ≤ ROOM }
         ensures text { self.new ≡ self.old ++ decimal number }

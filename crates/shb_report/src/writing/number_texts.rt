@@ -69,7 +69,7 @@ impl NumberTexts {
     }
 }
 
-/// The part of a text between two places.
+/// The part of a text between two offsets.
 fn part(text: &[u8], from: usize, to: usize) -> &[u8]
     requires rising { from ≤ to }
     requires within { to ≤ length text.now }

@@ -50,7 +50,7 @@ returns-clause-row c t of_t =
     let trace : List Event = c.args.linked.now.events.now in
     let u : ℕ = (get_or trace c.args.e no_event).thread in
     let same : u ≡ t = thread_same trace c.args.e u t (thread_item trace c.args.e no_event c.requires.in_range) of_t in
-    let unknown = λ (known : (c.args.source.thread ≡ t) ⊎ (c.args.source.place ≤ get_or (get_or c.args.rows.now.rows c.args.before []) c.args.source.thread 0)). (let passing = c.is_known-known.ensures.1 (known_read c.args.source t u (get_or c.args.rows.now.rows c.args.before []) c.row.result.now (sym same) (sym c.row.ensures.row) known) in let fails = c.if-known.false in (let f : ⊥ = cc in f)) in
+    let unknown = λ (known : (c.args.source.thread ≡ t) ⊎ (c.args.source.time ≤ get_or (get_or c.args.rows.now.rows c.args.before []) c.args.source.thread 0)). (let passing = c.is_known-known.ensures.1 (known_read c.args.source t u (get_or c.args.rows.now.rows c.args.before []) c.row.result.now (sym same) (sym c.row.ensures.row) known) in let fails = c.if-known.false in (let f : ⊥ = cc in f)) in
     let before = c.requires.before t of_t in
     let found = source_new trace c.args.linked.now.meets c.args.rows.now.rows c.args.e t c.args.before of_t before c.args.source c.requires.source unknown in
     let low = thread_low trace c.args.linked.now.sizes found.0 c.args.source.thread c.args.linked.now.within found.2.of_thread in

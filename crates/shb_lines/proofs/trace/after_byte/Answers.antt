@@ -1,4 +1,4 @@
--- What stands after the place that the search finds.
+-- What stands after the index that the search finds.
 use Rattle.std.proofs.Common.{◌+◌, ap, arith, drop, sym, ◌∙◌}
 use Rattle.std.proofs.Math.ListN.{drop_of_length-le}
 use Rattle.shb_lines.proofs.text.Bytes.{position-found, position-none}

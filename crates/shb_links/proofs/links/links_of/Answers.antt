@@ -12,7 +12,7 @@ invariant_of-result c =
     let entries = c.loop-e.entries in
     let latest = c.loop-e.latest in
     record {
-      places = subst (λ (n : ℕ). HasLocals trace.events.now n entries.locals.items) all c.loop-e.invariant.entries.locals;
+      times = subst (λ (n : ℕ). HasLocals trace.events.now n entries.locals.items) all c.loop-e.invariant.entries.locals;
       predecessors = (let has = c.loop-e.invariant.entries.preds in subst (λ (n : ℕ). HasPreds trace.events.now n entries.preds.items) (sym has.as_long) has);
       last_writes = (let has = c.loop-e.invariant.entries.last_writes in subst (λ (n : ℕ). HasLastWrites trace.events.now n entries.last_writes.items) (sym has.as_long) has);
       forks_of_threads = forks_whole trace.events.now trace.sizes latest.forks.items trace.within (subst (λ (n : ℕ). IsLatestTable (ForksThread trace.events.now) n trace.sizes.threads latest.forks.items) all c.loop-e.invariant.latest.forks);

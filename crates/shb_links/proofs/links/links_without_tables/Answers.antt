@@ -12,7 +12,7 @@ invariant_of-result c =
     let all : c.loop-e.e ≡ length trace.events.now = omega arith in
     let found = c.loop-e.found in
     record {
-      places = subst (λ (n : ℕ). HasLocals trace.events.now n found.locals.items) all c.loop-e.invariant.locals;
+      times = subst (λ (n : ℕ). HasLocals trace.events.now n found.locals.items) all c.loop-e.invariant.locals;
       predecessors = no_preds trace.events.now _ c.new-2.ensures.items;
       last_writes = no_writes trace.events.now _ c.new-3.ensures.items;
       forks_of_threads = forks_whole trace.events.now trace.sizes found.forks.items trace.within (subst (λ (n : ℕ). IsLatestTable (ForksThread trace.events.now) n trace.sizes.threads found.forks.items) all c.loop-e.invariant.forks);

@@ -1,21 +1,21 @@
 use Rattle.std.proofs.Common.{length, ap, arith, ◌∙◌}
 use Rattle.shb_pairs.proofs.ByThread.{listed_of_trace}
-use Rattle.shb_pairs.proofs.Settled.{seen_access}
+use Rattle.shb_pairs.proofs.FreeWrites.{seen_access}
 use Rattle.shb_pairs.proofs.races.add_races_at.Goals as goal
 
 pub ordered_write-requires-clause-asked : goal.ordered_write-requires-clause-asked
 ordered_write-requires-clause-asked g c =
-    let is = c.of-places.ensures.exact ∙ listed_of_trace c.args.search.now.accesses.now c.args.search.now.ordered.now.trace.now.events.now c.args.search.now.variable c.args.search.now.of_trace c.args.search.now.listed in
-    let access = seen_access c.args.search.now.ordered.now.trace.now.events.now c.args.search.now.variable c.of-places.result.now c.args.place is (let size = ap length is in let lt = c.requires.inside in omega (arith, size, lt)) in
+    let is = c.of-accesses.ensures.exact ∙ listed_of_trace c.args.search.now.accesses.now c.args.search.now.ordered.now.trace.now.events.now c.args.search.now.variable c.args.search.now.of_trace c.args.search.now.listed in
+    let access = seen_access c.args.search.now.ordered.now.trace.now.events.now c.args.search.now.variable c.of-accesses.result.now c.args.index is (let size = ap length is in let lt = c.requires.inside in omega (arith, size, lt)) in
     c.args.search.now.asked _ c.args.search.now.variable access.0 c.args.search.now.listed
 
 pub add_races_since-requires-clause-asked : goal.add_races_since-requires-clause-asked
 add_races_since-requires-clause-asked g c =
-    let is = c.of-places.ensures.exact ∙ listed_of_trace c.args.search.now.accesses.now c.args.search.now.ordered.now.trace.now.events.now c.args.search.now.variable c.args.search.now.of_trace c.args.search.now.listed in
-    let access = seen_access c.args.search.now.ordered.now.trace.now.events.now c.args.search.now.variable c.of-places.result.now c.args.place is (let size = ap length is in let lt = c.requires.inside in omega (arith, size, lt)) in
+    let is = c.of-accesses.ensures.exact ∙ listed_of_trace c.args.search.now.accesses.now c.args.search.now.ordered.now.trace.now.events.now c.args.search.now.variable c.args.search.now.of_trace c.args.search.now.listed in
+    let access = seen_access c.args.search.now.ordered.now.trace.now.events.now c.args.search.now.variable c.of-accesses.result.now c.args.index is (let size = ap length is in let lt = c.requires.inside in omega (arith, size, lt)) in
     c.args.search.now.asked _ c.args.search.now.variable access.0 c.args.search.now.listed
 
 pub add_races-requires : goal.add_races-requires
 add_races-requires g c =
-    let is = c.of-places.ensures.exact ∙ listed_of_trace c.args.search.now.accesses.now c.args.search.now.ordered.now.trace.now.events.now c.args.search.now.variable c.args.search.now.of_trace c.args.search.now.listed in
-    record { accessed = (seen_access c.args.search.now.ordered.now.trace.now.events.now c.args.search.now.variable c.of-places.result.now c.args.place is (let size = ap length is in let lt = c.requires.inside in omega (arith, size, lt))).0 }
+    let is = c.of-accesses.ensures.exact ∙ listed_of_trace c.args.search.now.accesses.now c.args.search.now.ordered.now.trace.now.events.now c.args.search.now.variable c.args.search.now.of_trace c.args.search.now.listed in
+    record { accessed = (seen_access c.args.search.now.ordered.now.trace.now.events.now c.args.search.now.variable c.of-accesses.result.now c.args.index is (let size = ap length is in let lt = c.requires.inside in omega (arith, size, lt))).0 }

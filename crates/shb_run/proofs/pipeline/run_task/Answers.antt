@@ -15,7 +15,7 @@ returns-in-Ok-clause-reported g c =
     let reading : ReadsText most_read known left (λ text. IsReadingOf standard_limits text parsed.trace parsed.stop) = rw c.standard.ensures at c.in_ok-parsed.ensures.reading in
     let trace = c.in_ok-trace.trace in
     reads_told most_read known left _ (reads_then most_read known left _ _ reading (λ text. reported_of c.args.task.choice c.args.task.settings.schedules text parsed.trace parsed.stop trace.events.now trace.trace.now _
-    (g.K.Sink.taken c.args.sink.now) (g.K.Sink.taken c.report.new.sink) trace.meets trace.of_trace c.in_ok-trace.ensures.accepted c.in-Ok.ensures.report c.in-Ok.ensures.words))
+    (g.K.Sink.taken c.args.sink.now) (g.K.Sink.taken c.report.new.sink) trace.meets trace.of_trace c.in_ok-trace.ensures.accepted c.in-Ok.ensures.report c.in-Ok.ensures.fits))
 
 pub returns-in-Ok-clause-read : goal.returns-in-Ok-clause-read
 returns-in-Ok-clause-read g c =
@@ -25,7 +25,7 @@ returns-in-Ok-clause-read g c =
     let reading : ReadsText most_read known left (λ text. IsReadingOf standard_limits text parsed.trace parsed.stop) = rw c.standard.ensures at c.in_ok-parsed.ensures.reading in
     let trace = c.in_ok-trace.trace in
     reads_then most_read known left _ _ reading (λ text. reported_of c.args.task.choice c.args.task.settings.schedules text parsed.trace parsed.stop trace.events.now trace.trace.now _
-    (g.K.Sink.taken c.args.sink.now) (g.K.Sink.taken c.report.new.sink) trace.meets trace.of_trace c.in_ok-trace.ensures.accepted c.in-Ok.ensures.report c.in-Ok.ensures.words)
+    (g.K.Sink.taken c.args.sink.now) (g.K.Sink.taken c.report.new.sink) trace.meets trace.of_trace c.in_ok-trace.ensures.accepted c.in-Ok.ensures.report c.in-Ok.ensures.fits)
 
 pub returns-in-Err-Sink-clause-cut : goal.returns-in-Err-Sink-clause-cut
 returns-in-Err-Sink-clause-cut g c =

@@ -9,7 +9,7 @@ use Rattle.shb_witness.proofs.checkpoints.checkpoints_of.Goals.{then-k-next+in_o
 pub loop-k-preserved : goal.loop-k-preserved
 loop-k-preserved c = record {
   as_long = omega (arith, c.reach.ensures.as_long, c.loop-k.invariant.as_long);
-  reached = reach_more c.args.linked.now.events.now c.args.linked.now.links.now c.loop-k.k _ c.loop-k.places.items _ _ c.args.linked.now.of_links c.loop-k-test.true c.local.ensures.place c.reach.ensures.noted c.reach.ensures.kept c.loop-k.invariant.reached;
+  reached = reach_more c.args.linked.now.events.now c.args.linked.now.links.now c.loop-k.k _ c.loop-k.times.items _ _ c.args.linked.now.of_links c.loop-k-test.true c.local.ensures.time c.reach.ensures.noted c.reach.ensures.kept c.loop-k.invariant.reached;
   points = elim c.if-k-next.branch [
     | then-k-next+in_ok-copy_of+in_ok-push w ↦
         (let copied = w.in_ok-copy_of.ensures ∙ w.deref.ensures.value in

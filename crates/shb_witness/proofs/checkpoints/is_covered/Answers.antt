@@ -3,4 +3,4 @@ use Rattle.shb_witness.proofs.CheckpointLemmas.{covered}
 use Rattle.shb_witness.proofs.checkpoints.is_covered.Goals as goal
 
 pub returns : goal.returns
-returns c = λ yes. covered c.args.places.now c.args.cuts.now (λ t lt. c.loop-t.invariant t (omega (arith, lt)))
+returns c = λ yes. covered c.args.times.now c.args.cuts.now (λ t lt. c.loop-t.invariant t (omega (arith, lt)))

@@ -47,7 +47,7 @@ loop-k-preserved g c =
     let pair = c.args.pair in
     let inside : c.loop-k.k < length trace = omega (arith, c.end_of-end.ensures.within) in
     let low = (c.args.ordered.now.trace.now.within c.loop-k.k _ (slice_get-get_or trace c.loop-k.k _ inside)).thread in
-    let test = cut_test trace c.args.ordered.now.links.now pair.first pair.second c.args.ordered.now.trace.now.sizes.threads c.loop-k.k _ _ c.in_ok-cuts.cuts.items _ c.args.ordered.now.linked c.in_ok-cuts.ensures low inside c.local.ensures.place c.index.ensures in
+    let test = cut_test trace c.args.ordered.now.links.now pair.first pair.second c.args.ordered.now.trace.now.sizes.threads c.loop-k.k _ _ c.in_ok-cuts.cuts.items _ c.args.ordered.now.linked c.in_ok-cuts.ensures low inside c.local.ensures.time c.index.ensures in
     elim c.if-below.branch [
       | then-below+in_ok-push w ↦
           (let e : c.if-below.positions ≡ c.loop-k.positions ++ c.loop-k.k ∷ [] = w.positions-is ∙ w.in_ok-push.ensures.pushed in

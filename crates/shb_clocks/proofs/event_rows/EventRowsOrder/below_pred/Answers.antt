@@ -4,7 +4,7 @@ use Rattle.shb_lines.specs.declared.event.Op.TheVariants.{Read}
 use Rattle.shb_lines.proofs.events.Items.{thread_item}
 use Rattle.shb_clocks.specs.Open.{OpenTrace, accesses_open}
 use Rattle.shb_clocks.proofs.LearnedLemmas.{local_is}
-use Rattle.shb_clocks.proofs.Locals.{place_at}
+use Rattle.shb_clocks.proofs.Locals.{time_at}
 use Rattle.shb_clocks.proofs.Counting.{count_other, count_own, row_read}
 use Rattle.shb_clocks.proofs.event_rows.EventRowsOrder.below_pred.Goals as goal
 
@@ -17,9 +17,9 @@ returns-then-t-self c =
     let lt : c.args.e < length trace = subst (λ (v : OpenTrace). c.args.e < length v.trace) (sym c.self.view_is) c.requires.in_range in
     let u : ℕ = (get_or trace c.args.e no_event).thread in
     let of_e = thread_item trace c.args.e no_event lt in
-    let place = local_is trace c.self.inside.linked.links.now c.args.e c.local.result u c.self.inside.linked.of_links c.local.ensures.place of_e in
-    let some = place_at trace u c.args.e of_e in
-    count_own trace c.args.self.now.trace c.self.inside.linked.meets (ap (λ (v : OpenTrace). v.trace) c.self.view_is) c.args.t u c.args.e _ of_e c.if-t-self.true (omega (arith, place, some))
+    let time = local_is trace c.self.inside.linked.links.now c.args.e c.local.result u c.self.inside.linked.of_links c.local.ensures.time of_e in
+    let some = time_at trace u c.args.e of_e in
+    count_own trace c.args.self.now.trace c.self.inside.linked.meets (ap (λ (v : OpenTrace). v.trace) c.self.view_is) c.args.t u c.args.e _ of_e c.if-t-self.true (omega (arith, time, some))
 
 pub row-requires : goal.row-requires
 row-requires c =

@@ -3,7 +3,7 @@ use Rattle.shb_lines.specs.declared.event.Event.{Event}
 use Rattle.shb_lines.specs.declared.event.Op.TheVariants.{Read}
 use Rattle.shb_lines.proofs.events.Items.{thread_item}
 use Rattle.shb_clocks.proofs.LearnedLemmas.{local_is}
-use Rattle.shb_clocks.proofs.Locals.{place_at}
+use Rattle.shb_clocks.proofs.Locals.{time_at}
 use Rattle.shb_clocks.proofs.Counting.{count_other, count_own}
 use Rattle.shb_clocks.proofs.stamps.Stamps.below_pred.Goals as goal
 
@@ -15,9 +15,9 @@ returns-then-t-linked c =
     let trace : List Event = c.args.linked.now.events.now in
     let u : ℕ = (get_or trace c.args.e no_event).thread in
     let of_e = thread_item trace c.args.e no_event c.requires.in_range in
-    let place = local_is trace c.args.linked.now.links.now c.args.e c.local.result u c.args.linked.now.of_links c.local.ensures.place of_e in
-    let some = place_at trace u c.args.e of_e in
-    count_own trace trace c.args.linked.now.meets refl c.args.t u c.args.e _ of_e c.if-t-linked.true (omega (arith, place, some))
+    let time = local_is trace c.args.linked.now.links.now c.args.e c.local.result u c.args.linked.now.of_links c.local.ensures.time of_e in
+    let some = time_at trace u c.args.e of_e in
+    count_own trace trace c.args.linked.now.meets refl c.args.t u c.args.e _ of_e c.if-t-linked.true (omega (arith, time, some))
 
 pub row-requires : goal.row-requires
 row-requires c = (c.row_before.ensures _ (thread_item c.args.linked.now.events.now c.args.e no_event c.requires.in_range)).in_range

@@ -18,5 +18,5 @@ returns-in-Some c =
     let low = op_low trace c.args.linked.now.sizes c.args.e _ c.args.linked.now.within c.requires.joins in
     let latest : IsLatestBefore (OfThread trace c.args.thread) (length trace) c.in-Some.last = subst (λ (tr : List Event). IsLatestBefore (OfThread tr c.args.thread) (length tr) c.in-Some.last) c.args.linked.now.of_links c.in-Some.ensures in
     source_join trace c.args.linked.now.meets c.args.self.now.rows.rows c.args.e c.args.thread c.in-Some.last _ c.requires.joins latest refl
-    (local_is trace c.args.linked.now.links.now c.in-Some.last c.local.result c.args.thread c.args.linked.now.of_links c.local.ensures.place latest.holds)
+    (local_is trace c.args.linked.now.links.now c.in-Some.last c.local.result c.args.thread c.args.linked.now.of_links c.local.ensures.time latest.holds)
     (current_item trace c.args.self.now.rows.rows c.args.e c.args.linked.now.sizes.threads c.args.thread c.index.result.now c.args.self.now.current.items c.requires.swept.current low c.index.ensures)

@@ -33,4 +33,4 @@ returns-in-Read c =
 pub returns-in_default : goal.returns-in_default
 returns-in_default c = from_none
     (λ k. learns_nothing c.args.linked.now.events.now c.args.linked.now.meets c.args.e _ k (op_item c.args.linked.now.events.now c.args.e no_event c.requires.in_range) c.in_default.not-Acquire c.in_default.not-Join c.in_default.not-Read)
-    (ap (λ (s : Stamp). s.place) c.empty.ensures)
+    (ap (λ (s : Stamp). s.time) c.empty.ensures)

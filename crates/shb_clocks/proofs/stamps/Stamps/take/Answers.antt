@@ -17,7 +17,7 @@ pass_on-requires-clause-stamp c =
     let trace : List Event = c.args.linked.now.events.now in
     let of_e = thread_item trace c.args.e no_event c.requires.in_range in
     let u : ℕ = (get_or trace c.args.e no_event).thread in
-    record { of_thread = of_e; place_is = local_is trace c.args.linked.now.links.now c.args.e c.local.result u c.args.linked.now.of_links c.local.ensures.place of_e; row_is = c.in_ok-row.ensures.row u of_e }
+    record { of_thread = of_e; time_is = local_is trace c.args.linked.now.links.now c.args.e c.local.result u c.args.linked.now.of_links c.local.ensures.time of_e; row_is = c.in_ok-row.ensures.row u of_e }
 
 pub returns-clause-swept : goal.returns-clause-swept
 returns-clause-swept c =
@@ -30,8 +30,8 @@ returns-clause-swept c =
     let grown = more_chain rows c.row_after.new.rows.rows c.pass_on.new.rows.rows first.more second.more in
     let of_e = thread_item trace c.args.e no_event c.requires.in_range in
     let u : ℕ = (get_or trace c.args.e no_event).thread in
-    let stamp : Stamp = record { row = c.in_ok-row.row; thread = u; place = c.local.result } in
-    let is : IsStampOf trace c.row_after.new.rows.rows c.args.e stamp = record { of_thread = of_e; place_is = local_is trace c.args.linked.now.links.now c.args.e c.local.result u c.args.linked.now.of_links c.local.ensures.place of_e; row_is = c.in_ok-row.ensures.row u of_e } in
+    let stamp : Stamp = record { row = c.in_ok-row.row; thread = u; time = c.local.result } in
+    let is : IsStampOf trace c.row_after.new.rows.rows c.args.e stamp = record { of_thread = of_e; time_is = local_is trace c.args.linked.now.links.now c.args.e c.local.result u c.args.linked.now.of_links c.local.ensures.time of_e; row_is = c.in_ok-row.ensures.row u of_e } in
     let kept = stamp_more trace c.row_after.new.rows.rows c.pass_on.new.rows.rows c.args.e stamp second.more is in
     record {
       width = second.width ∙ (first.width ∙ old.width);

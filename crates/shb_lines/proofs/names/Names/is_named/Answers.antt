@@ -1,4 +1,4 @@
--- What the table has at this place.
+-- What the table has at this index.
 use Rattle.std.proofs.Common.{Some, ap, option_map, sym, ◌∙◌}
 use Rattle.std.specs.Map.Iter.{deref_pair}
 use Rattle.std.proofs.lemmas.Option.{slice_get-map}

@@ -10,7 +10,7 @@ use Rattle.shb_lines.specs.text.Spans.{IsLineFrom, StandsAt}
 use Rattle.shb_lines.specs.text.Numbers.{events_of}
 use Rattle.shb_lines.specs.text.Parsed.{part}
 use Rattle.shb_lines.specs.text.Reader.{AddsEvent}
-use Rattle.shb_lines.specs.text.Reading.{IsPlaced, meaning_of, named}
+use Rattle.shb_lines.specs.text.Reading.{IsInLine, meaning_of, named}
 use Rattle.shb_lines.proofs.text.FaultLemmas.{accepted, refused, too_many_events, too_many_threads}
 use Rattle.shb_lines.proofs.text.LineLemmas.{StandsAt-front, StandsAt-inner, StandsAt-part, length-events_of, length-threads_of}
 use Rattle.shb_lines.proofs.text.TraceLemmas.{HasRead-none, HasRead-some}
@@ -78,9 +78,9 @@ returns-clause-read c = λ lines h line_is.
       reads = ap (λ n. strip_carriage_return (take n (drop start text))) ends;
     } in
     let here = subst (λ l. StandsAt text l span) (sym c.without_carriage_return-bytes.ensures.value) stands in
-    let placed = subst (λ o. IfSome o (IsPlaced bytes)) c.in-Ok-Some.field-0-is c.in-Ok-Some.ensures.placed in
+    let in_line = subst (λ o. IfSome o (IsInLine bytes)) c.in-Ok-Some.field-0-is c.in-Ok-Some.ensures.in_line in
     let stand = c.in_ok-add_event.ensures.stand text h.stand
-    (StandsAt-front text bytes start found.thread.now here placed.thread_within placed.thread)
-    (StandsAt-inner text bytes start found.operand_at found.operand.now here placed.operand_within placed.operand) in
+    (StandsAt-front text bytes start found.thread.now here in_line.thread_within in_line.thread)
+    (StandsAt-inner text bytes start found.operand_at found.operand.now here in_line.operand_within in_line.operand) in
     let adds = subst (λ n. AddsEvent c.args.self.now c.add_event.new.self n (named found) start) line_is c.in_ok-add_event.ensures.added in
     HasRead-some text c.args.self.now c.add_event.new.self lines (part text start c.args.end) (named found) start event from adds stand h

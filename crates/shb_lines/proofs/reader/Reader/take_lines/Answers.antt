@@ -17,7 +17,7 @@ returns-in-Some-clause-reading c =
     let text = c.args.text.now in
     let end = c.line_end-end.result in
     let lines = take loop.line (lines_of text) in
-    let line = taken limits text loop.line loop.start end loop.invariant.begins c.loop-start-test.true c.line_end-end.ensures.within c.line_end-end.ensures.place loop.invariant.inside in
+    let line = taken limits text loop.line loop.start end loop.invariant.begins c.loop-start-test.true c.line_end-end.ensures.within c.line_end-end.ensures.offset loop.invariant.inside in
     let lowest = subst (IsLowest number_of (HasLineFault limits ((limits.text ≤ end) × (limits.text < length text)) (events_of lines) (part text loop.start end))) c.in-Some.is (c.in_ok-fault.ensures.fault lines loop.invariant.read) in (
       loop.line,
       refl,
@@ -37,7 +37,7 @@ loop-start-preserved c =
     let end = c.line_end-end.result in
     let end_within : end ≤ length text = c.line_end-end.ensures.within in
     let lines = take loop.line (lines_of text) in
-    let line = taken limits text loop.line loop.start end loop.invariant.begins c.loop-start-test.true end_within c.line_end-end.ensures.place loop.invariant.inside in
+    let line = taken limits text loop.line loop.start end loop.invariant.begins c.loop-start-test.true end_within c.line_end-end.ensures.offset loop.invariant.inside in
     let lowest = subst (IsLowest number_of (HasLineFault limits ((limits.text ≤ end) × (limits.text < length text)) (events_of lines) (part text loop.start end))) c.in_default.is (c.in_ok-fault.ensures.fault lines loop.invariant.read) in
     record {
       counted = omega (arith, line.order, loop.invariant.counted);

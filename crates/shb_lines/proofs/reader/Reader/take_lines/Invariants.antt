@@ -1,4 +1,4 @@
--- The lines before the place where the next one begins are read, and have no fault.
+-- The lines before the offset at which the next one begins are read, and have no fault.
 use Rattle.std.proofs.Common.{◌+◌, ◌-◌, ◌<◌, ◌≤◌, length, take, vec_len}
 use Rattle.shb_lines.specs.text.Faults.{HasNoLineFaultBefore}
 use Rattle.shb_lines.specs.text.Parsed.{HasRead}

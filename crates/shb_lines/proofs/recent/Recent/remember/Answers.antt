@@ -10,9 +10,9 @@ returns c = record {
   remembered = λ names all here.
       let recent = c.make_room.new.self in
       let buckets = recent.buckets.items in
-      let place = c.place_of-place.result in
+      let slot = c.slot_of-slot.result in
       let kept = c.in_ok-make_room.ensures.kept names all in
       let old : Bucket = c.index.result.now in
-      let at = slice_get_read buckets c.len.result place old (omega (arith, c.len.ensures, recent.buckets.ok.0)) c.place_of-place.ensures c.index.ensures in
-      AreRemembered-set names buckets place _ here (kept place old at).0 kept;
+      let at = slice_get_read buckets c.len.result slot old (omega (arith, c.len.ensures, recent.buckets.ok.0)) c.slot_of-slot.ensures c.index.ensures in
+      AreRemembered-set names buckets slot _ here (kept slot old at).0 kept;
 }

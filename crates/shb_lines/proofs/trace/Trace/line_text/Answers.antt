@@ -9,7 +9,7 @@ use Rattle.shb_lines.proofs.trace.Trace.line_text.Goals as goal
 pub returns-clause-line : goal.returns-clause-line
 returns-clause-line c =
     let inside = c.self.inside in
-    line_at inside.text.items inside.places.starts.items c.args.self.now.lines c.args.e c.index.result.now c.as_slice.result.now c.line_from.result.now
+    line_at inside.text.items inside.parts.starts.items c.args.self.now.lines c.args.e c.index.result.now c.as_slice.result.now c.line_from.result.now
     (ap (λ trace. trace.lines) c.self.view_is) (omega (arith, c.requires, ap (λ t. length t.events) c.self.view_is, c.self.invariant.a_line_each)) c.index.ensures c.as_slice.ensures.value c.line_from.ensures
 
 pub returns-clause-bytes : goal.returns-clause-bytes
@@ -18,5 +18,5 @@ returns-clause-bytes c =
     let start = c.index.result.now in
     subst IsLineText (sym c.line_from.ensures)
     (subst (λ text. IsLineText (line_from text start)) (sym c.as_slice.ensures.value)
-    (start_text inside.text.items inside.places.starts.items c.args.e start _ c.self.invariant.well_formed.line_texts
+    (start_text inside.text.items inside.parts.starts.items c.args.e start _ c.self.invariant.well_formed.line_texts
     (omega (arith, c.requires, ap (λ t. length t.events) c.self.view_is, c.self.invariant.a_line_each)) c.index.ensures))

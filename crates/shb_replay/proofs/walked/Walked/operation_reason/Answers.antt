@@ -10,7 +10,7 @@ use Rattle.shb_links.specs.Links.{Exactly}
 use Rattle.shb_replay.specs.Reasons.{HasReason}
 use Rattle.shb_replay.specs.Walks.{IsLowestIn, JoinStands, TellsLack}
 use Rattle.shb_replay.specs.declared.broken.Why.TheVariants as whys
-use Rattle.shb_replay.proofs.OrderReasons.{at_place, flag_false, flag_true}
+use Rattle.shb_replay.proofs.OrderReasons.{at_index, flag_false, flag_true}
 use Rattle.shb_replay.proofs.OperationReasons.{fork_no_reason, fork_reason, handover_in_trace, handover_is, join_no_reason, join_reason, lock_no_reason, lock_reason, options_differ, options_same, other_operation, read_no_reason, read_reason, write_is}
 use Rattle.shb_replay.proofs.walked.Walked.operation_reason.Goals as goal
 
@@ -49,7 +49,7 @@ returns-then-lacks c =
     let joins = op_item trace.events.now x _ lt ∙ ap (λ o. Some o) c.in-Join.is in
     let latest = subst (λ (tr : List Event). Latest (OfThread tr c.in-Join.thread) (length tr) c.last_of.result) trace.of_links c.last_of.ensures in
     let lacks = subst (λ (b : Bool). TellsLack s p c.last_of.result b) c.if-lacks.true (c.lacks.ensures s p (length trace.events.now) c.requires.walked.stands) in
-    at_place (λ e. IsLowestIn 5 8 (HasReason trace.events.now s p e) (Some whys.JoinEarly)) s p (join_reason trace.events.now trace.meets s p c.requires.unbroken x c.in-Join.thread c.last_of.result joins latest lacks)
+    at_index (λ e. IsLowestIn 5 8 (HasReason trace.events.now s p e) (Some whys.JoinEarly)) s p (join_reason trace.events.now trace.meets s p c.requires.unbroken x c.in-Join.thread c.last_of.result joins latest lacks)
 
 pub returns-else-lacks : goal.returns-else-lacks
 returns-else-lacks c =
@@ -61,7 +61,7 @@ returns-else-lacks c =
     let joins = op_item trace.events.now x _ lt ∙ ap (λ o. Some o) c.in-Join.is in
     let latest = subst (λ (tr : List Event). Latest (OfThread tr c.in-Join.thread) (length tr) c.last_of.result) trace.of_links c.last_of.ensures in
     let all = subst (λ (b : Bool). TellsLack s p c.last_of.result b) c.if-lacks.false (c.lacks.ensures s p (length trace.events.now) c.requires.walked.stands) in
-    at_place (λ e. IsLowestIn 5 8 (HasReason trace.events.now s p e) None) s p (join_no_reason trace.events.now trace.meets s p c.requires.unbroken x c.in-Join.thread c.last_of.result joins latest all)
+    at_index (λ e. IsLowestIn 5 8 (HasReason trace.events.now s p e) None) s p (join_no_reason trace.events.now trace.meets s p c.requires.unbroken x c.in-Join.thread c.last_of.result joins latest all)
 
 pub returns-then-index : goal.returns-then-index
 returns-then-index c =
@@ -76,7 +76,7 @@ returns-then-index c =
     let long = c.requires.walked.joined.as_long in
     let flag = slice_get_read joined.items joined.len c.in-Fork.thread c.index.result.now joined.ok.0 (let len = joined.ok.0 in omega (arith, within, long, len)) c.index.ensures in
     let stands = flag_true (JoinStands trace.events.now s p) trace.sizes.threads c.in-Fork.thread joined.items c.index.result.now c.requires.walked.joined flag c.if-index.true in
-    at_place (λ e. IsLowestIn 5 8 (HasReason trace.events.now s p e) (Some whys.JoinEarly)) s p (fork_reason trace.events.now trace.meets s p c.requires.unbroken x c.in-Fork.thread forks stands)
+    at_index (λ e. IsLowestIn 5 8 (HasReason trace.events.now s p e) (Some whys.JoinEarly)) s p (fork_reason trace.events.now trace.meets s p c.requires.unbroken x c.in-Fork.thread forks stands)
 
 pub returns-else-index : goal.returns-else-index
 returns-else-index c =
@@ -91,7 +91,7 @@ returns-else-index c =
     let long = c.requires.walked.joined.as_long in
     let flag = slice_get_read joined.items joined.len c.in-Fork.thread c.index.result.now joined.ok.0 (let len = joined.ok.0 in omega (arith, within, long, len)) c.index.ensures in
     let none = flag_false (JoinStands trace.events.now s p) trace.sizes.threads c.in-Fork.thread joined.items c.index.result.now c.requires.walked.joined flag c.if-index.false in
-    at_place (λ e. IsLowestIn 5 8 (HasReason trace.events.now s p e) None) s p (fork_no_reason trace.events.now trace.meets s p c.requires.unbroken x c.in-Fork.thread forks none)
+    at_index (λ e. IsLowestIn 5 8 (HasReason trace.events.now s p e) None) s p (fork_no_reason trace.events.now trace.meets s p c.requires.unbroken x c.in-Fork.thread forks none)
 
 pub returns-then-lacks-2 : goal.returns-then-lacks-2
 returns-then-lacks-2 c =
@@ -103,7 +103,7 @@ returns-then-lacks-2 c =
     let takes = op_item trace.events.now x _ lt ∙ ap (λ o. Some o) c.in-Acquire.is in
     let latest = handover_is trace.events.now (length trace.events.now) x c.in-Acquire.field-0 c.args.rules.now.handovers.items c.index-in-Acquire.result.now c.requires.rules lt takes c.index-in-Acquire.ensures in
     let lacks = subst (λ (b : Bool). TellsLack s p c.index-in-Acquire.result.now b) c.if-lacks-2.true (c.lacks-in-Acquire.ensures s p (length trace.events.now) c.requires.walked.stands) in
-    at_place (λ e. IsLowestIn 5 8 (HasReason trace.events.now s p e) (Some whys.LockOrder)) s p (lock_reason trace.events.now trace.meets s p c.requires.unbroken x c.in-Acquire.field-0 c.index-in-Acquire.result.now takes latest lacks)
+    at_index (λ e. IsLowestIn 5 8 (HasReason trace.events.now s p e) (Some whys.LockOrder)) s p (lock_reason trace.events.now trace.meets s p c.requires.unbroken x c.in-Acquire.field-0 c.index-in-Acquire.result.now takes latest lacks)
 
 pub returns-else-lacks-2 : goal.returns-else-lacks-2
 returns-else-lacks-2 c =
@@ -115,7 +115,7 @@ returns-else-lacks-2 c =
     let takes = op_item trace.events.now x _ lt ∙ ap (λ o. Some o) c.in-Acquire.is in
     let latest = handover_is trace.events.now (length trace.events.now) x c.in-Acquire.field-0 c.args.rules.now.handovers.items c.index-in-Acquire.result.now c.requires.rules lt takes c.index-in-Acquire.ensures in
     let all = subst (λ (b : Bool). TellsLack s p c.index-in-Acquire.result.now b) c.if-lacks-2.false (c.lacks-in-Acquire.ensures s p (length trace.events.now) c.requires.walked.stands) in
-    at_place (λ e. IsLowestIn 5 8 (HasReason trace.events.now s p e) None) s p (lock_no_reason trace.events.now trace.meets s p c.requires.unbroken x c.in-Acquire.field-0 c.index-in-Acquire.result.now takes latest all)
+    at_index (λ e. IsLowestIn 5 8 (HasReason trace.events.now s p e) None) s p (lock_no_reason trace.events.now trace.meets s p c.requires.unbroken x c.in-Acquire.field-0 c.index-in-Acquire.result.now takes latest all)
 
 pub returns-then-eq : goal.returns-then-eq
 returns-then-eq c =
@@ -128,7 +128,7 @@ returns-then-eq c =
     let within : c.in-Read.variable < trace.sizes.variables = op_within trace.events.now trace.sizes x _ (Read c.in-Read.variable) trace.within lt c.in-Read.is in
     let latest = write_is trace.events.now s p trace.sizes.variables c.in-Read.variable c.args.self.now.writes.items c.index-in-Read.result.now c.requires.walked.writes within c.index-in-Read.ensures in
     let last = subst (λ (tr : List Event). Exactly (λ w. LastWrite tr w x) c.last_write.result) c.args.rules.now.linked.of_links c.last_write.ensures in
-    at_place (λ e. IsLowestIn 5 8 (HasReason trace.events.now s p e) None) s p (read_no_reason trace.events.now trace.meets s p c.requires.unbroken x c.in-Read.variable c.index-in-Read.result.now c.last_write.result reads latest last (options_same c.index-in-Read.result.now c.last_write.result c.if-eq.ensures))
+    at_index (λ e. IsLowestIn 5 8 (HasReason trace.events.now s p e) None) s p (read_no_reason trace.events.now trace.meets s p c.requires.unbroken x c.in-Read.variable c.index-in-Read.result.now c.last_write.result reads latest last (options_same c.index-in-Read.result.now c.last_write.result c.if-eq.ensures))
 
 pub returns-else-eq : goal.returns-else-eq
 returns-else-eq c =
@@ -141,7 +141,7 @@ returns-else-eq c =
     let within : c.in-Read.variable < trace.sizes.variables = op_within trace.events.now trace.sizes x _ (Read c.in-Read.variable) trace.within lt c.in-Read.is in
     let latest = write_is trace.events.now s p trace.sizes.variables c.in-Read.variable c.args.self.now.writes.items c.index-in-Read.result.now c.requires.walked.writes within c.index-in-Read.ensures in
     let last = subst (λ (tr : List Event). Exactly (λ w. LastWrite tr w x) c.last_write.result) c.args.rules.now.linked.of_links c.last_write.ensures in
-    at_place (λ e. IsLowestIn 5 8 (HasReason trace.events.now s p e) (Some whys.LastWrite)) s p (read_reason trace.events.now trace.meets s p c.requires.unbroken x c.in-Read.variable c.index-in-Read.result.now c.last_write.result reads latest last (options_differ c.index-in-Read.result.now c.last_write.result c.if-eq.ensures))
+    at_index (λ e. IsLowestIn 5 8 (HasReason trace.events.now s p e) (Some whys.LastWrite)) s p (read_reason trace.events.now trace.meets s p c.requires.unbroken x c.in-Read.variable c.index-in-Read.result.now c.last_write.result reads latest last (options_differ c.index-in-Read.result.now c.last_write.result c.if-eq.ensures))
 
 pub returns-in_default : goal.returns-in_default
 returns-in_default c =
@@ -150,4 +150,4 @@ returns-in_default c =
     let p = c.args.at in
     let x = slice_index_or s p 0 in
     let lt = c.requires.in_trace _ (slice_get-get_or s p 0 c.requires.at) in
-    at_place (λ e. IsLowestIn 5 8 (HasReason trace.events.now s p e) None) s p (other_operation trace.events.now trace.meets s p c.requires.unbroken x _ (op_item trace.events.now x _ lt) c.in_default.not-Join c.in_default.not-Fork c.in_default.not-Acquire c.in_default.not-Read)
+    at_index (λ e. IsLowestIn 5 8 (HasReason trace.events.now s p e) None) s p (other_operation trace.events.now trace.meets s p c.requires.unbroken x _ (op_item trace.events.now x _ lt) c.in_default.not-Join c.in_default.not-Fork c.in_default.not-Acquire c.in_default.not-Read)

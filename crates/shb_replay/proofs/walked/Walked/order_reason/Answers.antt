@@ -4,14 +4,14 @@ use Rattle.shb_lines.specs.events.Order.{IsPred}
 use Rattle.shb_replay.specs.Reasons.{HasReason, StandsEarlier}
 use Rattle.shb_replay.specs.Walks.{IsLowestIn}
 use Rattle.shb_replay.specs.declared.broken.Why.TheVariants as whys
-use Rattle.shb_replay.proofs.OrderReasons.{at_place, flag_false, flag_true, link_is, link_none, order_fork, order_none, order_standing, order_thread, pred_in_trace, threads_differ, threads_same}
+use Rattle.shb_replay.proofs.OrderReasons.{at_index, flag_false, flag_true, link_is, link_none, order_fork, order_none, order_standing, order_thread, pred_in_trace, threads_differ, threads_same}
 use Rattle.shb_replay.proofs.walked.Walked.order_reason.Goals as goal
 
 pub returns-in_default : goal.returns-in_default
 returns-in_default c =
     let trace = c.args.linked.now in
     let x = slice_index_or c.args.list.now c.args.at 0 in
-    at_place (λ e. IsLowestIn 3 4 (HasReason trace.events.now c.args.list.now c.args.at e) None) c.args.list.now c.args.at
+    at_index (λ e. IsLowestIn 3 4 (HasReason trace.events.now c.args.list.now c.args.at e) None) c.args.list.now c.args.at
     (order_none trace.events.now trace.meets c.args.list.now c.args.at x (λ a pred. absurd (link_none (λ events b. IsPred events b x) trace.events.now c.args.linked.now.links.now c.pred.result c.args.linked.now.of_links c.pred.ensures c.in_default.is a pred)))
 
 pub index-requires : goal.index-requires
@@ -33,7 +33,7 @@ returns-then-index c =
     let low = pred_in_trace trace.events.now c.in-Some.p x pred in
     let long = c.requires.walked.stands.as_long in
     let flag = slice_get_read stands.items stands.len c.in-Some.p c.index.result.now stands.ok.0 (let len = stands.ok.0 in omega (arith, low, long, len)) c.index.ensures in
-    at_place (λ e. IsLowestIn 3 4 (HasReason trace.events.now c.args.list.now c.args.at e) None) c.args.list.now c.args.at
+    at_index (λ e. IsLowestIn 3 4 (HasReason trace.events.now c.args.list.now c.args.at e) None) c.args.list.now c.args.at
     (order_standing trace.events.now trace.meets c.args.list.now c.args.at x c.in-Some.p pred (flag_true (StandsEarlier c.args.list.now c.args.at) (length trace.events.now) c.in-Some.p stands.items c.index.result.now c.requires.walked.stands flag c.if-index.true))
 
 pub bounds-linked-p : goal.bounds-linked-p
@@ -54,7 +54,7 @@ returns-then-linked-p c =
     let lt = c.requires.in_trace _ (slice_get-get_or c.args.list.now c.args.at 0 c.requires.at) in
     let long = c.requires.walked.stands.as_long in
     let flag = slice_get_read stands.items stands.len c.in-Some.p c.index.result.now stands.ok.0 (let len = stands.ok.0 in omega (arith, low, long, len)) c.index.ensures in
-    at_place (λ e. IsLowestIn 3 4 (HasReason trace.events.now c.args.list.now c.args.at e) (Some whys.ThreadOrder)) c.args.list.now c.args.at
+    at_index (λ e. IsLowestIn 3 4 (HasReason trace.events.now c.args.list.now c.args.at e) (Some whys.ThreadOrder)) c.args.list.now c.args.at
     (order_thread trace.events.now trace.meets c.args.list.now c.args.at x c.in-Some.p pred (flag_false (StandsEarlier c.args.list.now c.args.at) (length trace.events.now) c.in-Some.p stands.items c.index.result.now c.requires.walked.stands flag c.if-index.false) (threads_same trace.events.now c.in-Some.p x _ low lt c.if-linked-p.true))
 
 pub returns-else-linked-p : goal.returns-else-linked-p
@@ -67,5 +67,5 @@ returns-else-linked-p c =
     let lt = c.requires.in_trace _ (slice_get-get_or c.args.list.now c.args.at 0 c.requires.at) in
     let long = c.requires.walked.stands.as_long in
     let flag = slice_get_read stands.items stands.len c.in-Some.p c.index.result.now stands.ok.0 (let len = stands.ok.0 in omega (arith, low, long, len)) c.index.ensures in
-    at_place (λ e. IsLowestIn 3 4 (HasReason trace.events.now c.args.list.now c.args.at e) (Some whys.ForkMissing)) c.args.list.now c.args.at
+    at_index (λ e. IsLowestIn 3 4 (HasReason trace.events.now c.args.list.now c.args.at e) (Some whys.ForkMissing)) c.args.list.now c.args.at
     (order_fork trace.events.now trace.meets c.args.list.now c.args.at x c.in-Some.p pred (flag_false (StandsEarlier c.args.list.now c.args.at) (length trace.events.now) c.in-Some.p stands.items c.index.result.now c.requires.walked.stands flag c.if-index.false) (threads_differ trace.events.now c.in-Some.p x _ low lt c.if-linked-p.false))

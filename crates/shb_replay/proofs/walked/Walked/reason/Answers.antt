@@ -5,7 +5,7 @@ use Rattle.shb_replay.specs.Walks.{IsLowestIn}
 use Rattle.shb_replay.specs.declared.broken.Why.{Why}
 use Rattle.shb_replay.specs.declared.broken.Why.TheVariants as whys
 use Rattle.shb_replay.proofs.Lowest.{lowest_five, lowest_three, lowest_two}
-use Rattle.shb_replay.proofs.OrderReasons.{at_place, flag_false, flag_true}
+use Rattle.shb_replay.proofs.OrderReasons.{at_index, flag_false, flag_true}
 use Rattle.shb_replay.proofs.walked.Walked.reason.Goals as goal
 use Rattle.shb_lines.specs.Lowest.{IsLowest}
 
@@ -19,13 +19,13 @@ returns-then-index c =
     let lt : x < length trace.events.now = omega (arith, c.if-e-rules.false) in
     let long = c.requires.walked.stands.as_long in
     let flag = slice_get_read stands.items stands.len x c.index.result.now stands.ok.0 (let len = stands.ok.0 in omega (arith, lt, long, len)) c.index.ensures in
-    at_place (λ e. IsLowest number_of (HasReason trace.events.now s p e) (Some whys.Repeated)) s p (lowest_two (HasReason trace.events.now s p x) (λ h. omega (arith, lt, h)) (flag_true (StandsEarlier s p) (length trace.events.now) x stands.items c.index.result.now c.requires.walked.stands flag c.if-index.true))
+    at_index (λ e. IsLowest number_of (HasReason trace.events.now s p e) (Some whys.Repeated)) s p (lowest_two (HasReason trace.events.now s p x) (λ h. omega (arith, lt, h)) (flag_true (StandsEarlier s p) (length trace.events.now) x stands.items c.index.result.now c.requires.walked.stands flag c.if-index.true))
 
 pub order_reason-requires-clause-in_trace : goal.order_reason-requires-clause-in_trace
-order_reason-requires-clause-in_trace c = at_place (λ e. e < length c.args.rules.now.linked.events.now) c.args.list.now c.args.at (omega (arith, c.if-e-rules.false))
+order_reason-requires-clause-in_trace c = at_index (λ e. e < length c.args.rules.now.linked.events.now) c.args.list.now c.args.at (omega (arith, c.if-e-rules.false))
 
 pub operation_reason-requires-clause-in_trace : goal.operation_reason-requires-clause-in_trace
-operation_reason-requires-clause-in_trace c = at_place (λ e. e < length c.args.rules.now.linked.events.now) c.args.list.now c.args.at (omega (arith, c.if-e-rules.false))
+operation_reason-requires-clause-in_trace c = at_index (λ e. e < length c.args.rules.now.linked.events.now) c.args.list.now c.args.at (omega (arith, c.if-e-rules.false))
 
 pub returns-in-Some : goal.returns-in-Some
 returns-in-Some c = λ e at. go e at

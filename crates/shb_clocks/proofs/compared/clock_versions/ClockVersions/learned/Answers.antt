@@ -1,8 +1,8 @@
 use Rattle.std.proofs.Common.{List, [], length, get_or, ap, sym, subst, ◌∙◌, arith}
 use Rattle.shb_lines.specs.declared.event.Event.{Event}
-use Rattle.shb_clocks.specs.Learned.{AreLearnedPlaces, KeptData}
+use Rattle.shb_clocks.specs.Learned.{AreLearnedTimes, KeptData}
 use Rattle.shb_clocks.proofs.LearnedLemmas.{kept_item}
-use Rattle.shb_clocks.proofs.MayLearn.{learned_places, no_learned_places}
+use Rattle.shb_clocks.proofs.MayLearn.{learned_times, no_learned_times}
 use Rattle.shb_clocks.proofs.compared.clock_versions.ClockVersions.learned.Goals as goal
 
 pub returns-in-Some : goal.returns-in-Some
@@ -14,8 +14,8 @@ returns-in-Some c =
     let many = has.as_many in
     let is = c.in-Some.ensures.lookup.1 ∙ ap (λ (xs : List KeptData). get_or xs c.args.t c.in-Some.kept.now) c.deref.ensures.value in
     let kept = kept_item trace (length trace) c.args.t c.self.inside.linked.sizes.threads c.self.inside.clocks.rows c.self.inside.clocks.threads.items c.in-Some.kept.now has (omega (arith, size, low, many)) is in
-    let places = learned_places trace c.args.t c.self.inside.clocks.rows.rows c.in-Some.kept.now kept in
-    subst (λ (tr : List Event). AreLearnedPlaces tr c.args.t c.places.result.now) c.self.view_is (subst (AreLearnedPlaces trace c.args.t) (sym c.places.ensures) places)
+    let times = learned_times trace c.args.t c.self.inside.clocks.rows.rows c.in-Some.kept.now kept in
+    subst (λ (tr : List Event). AreLearnedTimes tr c.args.t c.times.result.now) c.self.view_is (subst (AreLearnedTimes trace c.args.t) (sym c.times.ensures) times)
 
 pub returns-in-None : goal.returns-in-None
 returns-in-None c =
@@ -23,4 +23,4 @@ returns-in-None c =
     let size = ap length c.deref.ensures.value in
     let past = c.in-None.ensures.lookup.3 in
     let many = c.self.invariant.as_many in
-    subst (λ (tr : List Event). AreLearnedPlaces tr c.args.t []) c.self.view_is (no_learned_places trace c.self.inside.linked.sizes c.args.t c.self.inside.linked.within (omega (arith, size, past, many)))
+    subst (λ (tr : List Event). AreLearnedTimes tr c.args.t []) c.self.view_is (no_learned_times trace c.self.inside.linked.sizes c.args.t c.self.inside.linked.within (omega (arith, size, past, many)))

@@ -23,16 +23,16 @@ row_up_to-row-requires-clause-first c =
     let of_e = thread_item c.args.linked.now.events.now c.args.e d c.requires.in_range in
     let low = (c.args.linked.now.within c.args.e _ (slice_get-get_or c.args.linked.now.events.now c.args.e d c.requires.in_range)).thread in
     let kept = kept_item c.args.linked.now.events.now c.requires.taken.0 _ c.args.linked.now.sizes.threads c.args.self.now.rows _ _ c.requires.taken.2 low c.index.ensures in
-    let place = local_is c.args.linked.now.events.now c.args.linked.now.links.now c.args.e c.local-place.result _ c.args.linked.now.of_links c.local-place.ensures.place of_e in
+    let time = local_is c.args.linked.now.events.now c.args.linked.now.links.now c.args.e c.local-time.result _ c.args.linked.now.of_links c.local-time.ensures.time of_e in
     let least = (kept.begun c.args.e c.requires.taken.1 of_e).1 in
-    omega (arith, place, least)
+    omega (arith, time, least)
 
 pub row-requires : goal.row-requires
 row-requires c =
     let d : Event = record { thread = 0; op = Read 0; line = 0 } in
     let low = (c.args.linked.now.within c.args.e _ (slice_get-get_or c.args.linked.now.events.now c.args.e d c.requires.in_range)).thread in
     let kept = kept_item c.args.linked.now.events.now c.requires.taken.0 _ c.args.linked.now.sizes.threads c.args.self.now.rows _ _ c.requires.taken.2 low c.index.ensures in
-    row_within c.args.linked.now.events.now c.requires.taken.0 _ c.local-place.result c.row_up_to-row.result c.args.self.now.rows.rows _ kept c.row_up_to-row.ensures
+    row_within c.args.linked.now.events.now c.requires.taken.0 _ c.local-time.result c.row_up_to-row.result c.args.self.now.rows.rows _ kept c.row_up_to-row.ensures
 
 pub new-requires : goal.new-requires
 new-requires c =
@@ -51,7 +51,7 @@ returns-clause-front c =
     let long = c.row.ensures.long in
     let width = c.requires.taken.2.width in
     let kept = kept_item c.args.linked.now.events.now c.requires.taken.0 u c.args.linked.now.sizes.threads c.args.self.now.rows _ _ c.requires.taken.2 low c.index.ensures in
-    let place = local_is c.args.linked.now.events.now c.args.linked.now.links.now c.args.e c.local-place.result u c.args.linked.now.of_links c.local-place.ensures.place of_e in
-    let but = kept.clocks c.args.e c.row_up_to-row.result c.requires.taken.1 of_e (subst (λ (m : ℕ). IsRowUpTo c.index.result.now m c.row_up_to-row.result) place c.row_up_to-row.ensures) in
+    let time = local_is c.args.linked.now.events.now c.args.linked.now.links.now c.args.e c.local-time.result u c.args.linked.now.of_links c.local-time.ensures.time of_e in
+    let but = kept.clocks c.args.e c.row_up_to-row.result c.requires.taken.1 of_e (subst (λ (m : ℕ). IsRowUpTo c.index.result.now m c.row_up_to-row.result) time c.row_up_to-row.ensures) in
     let whole = front_whole c.args.linked.now.events.now c.args.e u c.row.result.now of_e (omega (arith, low, long, width)) (subst (IsFrontBut c.args.linked.now.events.now u (λ k. ShbBelow c.args.linked.now.events.now k c.args.e)) (sym c.row.ensures.row) but) in
-    subst (IsFront c.args.linked.now.events.now (λ k. ShbBelow c.args.linked.now.events.now k c.args.e)) (sym (c.new.ensures ∙ ap (λ (m : ℕ). set c.row.result.now u m) place)) whole
+    subst (IsFront c.args.linked.now.events.now (λ k. ShbBelow c.args.linked.now.events.now k c.args.e)) (sym (c.new.ensures ∙ ap (λ (m : ℕ). set c.row.result.now u m) time)) whole

@@ -23,9 +23,9 @@ returns c =
     let of_e = thread_item c.args.linked.now.events.now c.args.e d c.requires.in_range in
     let low = (c.args.linked.now.within c.args.e _ (slice_get-get_or c.args.linked.now.events.now c.args.e d c.requires.in_range)).thread in
     let old = kept_item c.args.linked.now.events.now c.args.e u c.args.linked.now.sizes.threads c.args.self.now.rows _ _ c.requires.kept low c.index_mut.ensures.value in
-    let place = local_is c.args.linked.now.events.now c.args.linked.now.links.now c.args.e c.local.result u c.args.linked.now.of_links c.local.ensures.place of_e in
+    let time = local_is c.args.linked.now.events.now c.args.linked.now.links.now c.args.e c.local.result u c.args.linked.now.of_links c.local.ensures.time of_e in
     let more = c.in_ok-row.ensures.more in
     let grown : AreMore c.args.self.now.rows.rows c.number_like.new.self.rows = record { as_long = more.0; same = c.in_ok-row.ensures.kept } in
     let front = subst (IsFrontBut c.args.linked.now.events.now u (λ k. ShbBelow c.args.linked.now.events.now k c.args.e)) (sym (c.in_ok-row.ensures.row.1 ∙ c.as_slice.ensures)) (c.requires.front u of_e) in
-    let pushed = kept_push c.args.linked.now.events.now c.args.e u c.in_ok-row.row c.args.self.now.rows.rows c.number_like.new.self.rows c.index_mut.result.now c.push.new.self of_e c.requires.learning grown c.in_ok-row.ensures.row.0 front (c.in_ok-push.ensures.places ∙ ap (λ (m : ℕ). c.index_mut.result.now.places ++ m ∷ []) place) c.in_ok-push.ensures.rows old in
+    let pushed = kept_push c.args.linked.now.events.now c.args.e u c.in_ok-row.row c.args.self.now.rows.rows c.number_like.new.self.rows c.index_mut.result.now c.push.new.self of_e c.requires.learning grown c.in_ok-row.ensures.row.0 front (c.in_ok-push.ensures.times ∙ ap (λ (m : ℕ). c.index_mut.result.now.times ++ m ∷ []) time) c.in_ok-push.ensures.rows old in
     all_kept_push c.args.linked.now.events.now c.args.e u c.args.linked.now.sizes.threads c.args.self.now.rows c.number_like.new.self c.args.self.now.threads.items c.push.new.self of_e low c.in_ok-row.ensures.width grown more.1 pushed c.requires.kept

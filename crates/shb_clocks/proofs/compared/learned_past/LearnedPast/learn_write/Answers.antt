@@ -21,7 +21,7 @@ returns-else-entry-local-clause-front c =
     let earlier = c.requires.write.earlier in
     let range = c.requires.in_range in
     let of_w = thread_item c.args.linked.now.events.now c.args.write d (omega (arith, earlier, range)) in
-    let place = local_is c.args.linked.now.events.now c.args.linked.now.links.now c.args.write c.local.result u c.args.linked.now.of_links c.local.ensures.place of_w in
+    let time = local_is c.args.linked.now.events.now c.args.linked.now.links.now c.args.write c.local.result u c.args.linked.now.of_links c.local.ensures.time of_w in
     let fails = c.if-entry-local.false in
     let seen = c.entry.ensures ∙ ap (λ (xs : List ℕ). get_or xs u 0) c.as_slice.ensures in
-    front_known_write c.args.linked.now.events.now c.args.linked.now.meets c.args.e c.args.write u c.local.result c.args.clock.now c.requires.write of_w place (omega (arith, fails, seen)) c.requires.front
+    front_known_write c.args.linked.now.events.now c.args.linked.now.meets c.args.e c.args.write u c.local.result c.args.clock.now c.requires.write of_w time (omega (arith, fails, seen)) c.requires.front

@@ -1,16 +1,8 @@
--- The variables of a trace whose accesses are listed.
-use Rattle.std.specs.Prelude.{◌≡◌, ℕ, Bool, true, false, List, Some, slice_index_or}
+-- Which variables may have a race, and what an order must be asked about for them.
+use Rattle.std.specs.Prelude.{◌≡◌, ℕ, Bool, true, false, List, Some}
 use Rattle.shb_lines.specs.declared.event.Event.{Event}
 use Rattle.shb_lines.specs.events.Race.{Race, variable_at}
-
--- a trace, and a flag for each variable: the accesses of the open ones are listed
-pub record Listed : Type 0 where
-  pub trace : List Event
-  pub flags : List Bool
-
--- whether a variable is open by these flags: it is unless its flag is false
-abbrev pub is_open : List Bool → ℕ → Bool
-is_open flags x = slice_index_or flags x true
+use Rattle.shb_clocks.specs.Open.{is_open}
 
 -- no pair of accesses of x is a race
 abbrev pub IsRaceFree : List Event → ℕ → Type 0

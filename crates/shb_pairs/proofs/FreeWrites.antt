@@ -21,7 +21,7 @@ use Rattle.shb_pairs.specs.declared.buckets.Key.TheVariants.{Thread}
 use Rattle.shb_pairs.specs.Accesses.{accesses_at, accesses_in}
 use Rattle.shb_pairs.specs.Buckets.{key_at}
 use Rattle.shb_pairs.specs.Races.{races_with}
-use Rattle.shb_pairs.specs.Search.{IsSettled, racing}
+use Rattle.shb_pairs.specs.Search.{IsFreeWrite, racing}
 use Rattle.shb_pairs.proofs.Found.{accessed_within}
 use Rattle.shb_pairs.proofs.Listing.{race_contained}
 use Rattle.shb_pairs.proofs.Runs.{access_front, races_with_earlier}
@@ -40,8 +40,8 @@ pub chain_below : (trace : List Event) → IsDisciplined trace → (i w j : ℕ)
 chain_below trace disciplined i w j below after = path_below trace i below.0 j below.2 (pred_below trace disciplined below.0 w j below.1 after)
 
 -- nothing up to a write without a race, below the predecessor of j, races with j
-pub settled_free : (trace : List Event) → IsDisciplined trace → (x w j i : ℕ) → op_at trace w ≡ Some (Write x) → variable_at trace w ≡ Some x → variable_at trace j ≡ Some x → ((i : ℕ) → Race trace i w → ⊥) → BelowPred trace w j → i ≤ w → Race trace i j → ⊥
-settled_free trace disciplined x w j i writes accesses_w accesses_j free below le race = elim (cases_eq i w) [
+pub free_write_free : (trace : List Event) → IsDisciplined trace → (x w j i : ℕ) → op_at trace w ≡ Some (Write x) → variable_at trace w ≡ Some x → variable_at trace j ≡ Some x → ((i : ℕ) → Race trace i w → ⊥) → BelowPred trace w j → i ≤ w → Race trace i j → ⊥
+free_write_free trace disciplined x w j i writes accesses_w accesses_j free below le race = elim (cases_eq i w) [
   | inl e ↦ race.unordered (subst (λ (k : ℕ). BelowPred trace k j) (sym e) below)
   | inr ne ↦ earlier (omega arith)
 ]
@@ -65,8 +65,8 @@ settled_free trace disciplined x w j i writes accesses_w accesses_j free below l
       })
     ]
 
--- the races with the access at a place, by the accesses after the settled write
-module _ (trace : List Event) (disciplined : IsDisciplined trace) (x q s : ℕ) (inside : q < length (accesses_in trace x)) (settled : IsSettled trace x (accesses_in trace x) q s) (below : BelowPred trace (get_or (accesses_in trace x) s 0) (get_or (accesses_in trace x) q 0)) where
+-- the races with the access at an index, by the accesses after the write without a race
+module _ (trace : List Event) (disciplined : IsDisciplined trace) (x q s : ℕ) (inside : q < length (accesses_in trace x)) (free_write : IsFreeWrite trace x (accesses_in trace x) q s) (below : BelowPred trace (get_or (accesses_in trace x) s 0) (get_or (accesses_in trace x) q 0)) where
   access : (k : ℕ) → k < length (accesses_in trace x) → variable_at trace (get_or (accesses_in trace x) k 0) ≡ Some x
   access k lt = (access_front trace x k lt).0
 
@@ -79,14 +79,14 @@ module _ (trace : List Event) (disciplined : IsDisciplined trace) (x q s : ℕ) 
   front_free : filter (λ i. is_race trace i (get_or (accesses_in trace x) q 0)) (take (s + 1) (take q (accesses_in trace x))) ≡ []
   front_free = filter_none (λ i. is_race trace i (get_or (accesses_in trace x) q 0)) (take (s + 1) (take q (accesses_in trace x))) (λ k d lt.
       let long = size in
-      let early = settled.earlier in
+      let early = free_write.earlier in
       let short = length-take-le (s + 1) (take q (accesses_in trace x)) (omega (arith, long, early)) in
       let is : get_or (take (s + 1) (take q (accesses_in trace x))) k d ≡ get_or (accesses_in trace x) k 0 = get_or-take (s + 1) (take q (accesses_in trace x)) k d (omega (arith, lt, short)) ∙ (get_or-take q (accesses_in trace x) k d (omega (arith, lt, short, early)) ∙ get_or_default (accesses_in trace x) k d 0 (omega (arith, lt, short, early))) in
       let up : get_or (accesses_in trace x) k 0 ≤ get_or (accesses_in trace x) s 0 = elim (cases_lt k s) [ inl less ↦ (let rise = rises k s 0 less (omega (arith, early)) in omega (arith, rise)) | inr past ↦ (let e : k ≡ s = omega (arith, lt, short) in rw e (omega arith)) ] in
-      rw is (not_racing trace (get_or (accesses_in trace x) k 0) (get_or (accesses_in trace x) q 0) (settled_free trace disciplined x (get_or (accesses_in trace x) s 0) (get_or (accesses_in trace x) q 0) (get_or (accesses_in trace x) k 0) settled.writes (access s (omega (arith, early))) (access q inside) settled.free below up)))
+      rw is (not_racing trace (get_or (accesses_in trace x) k 0) (get_or (accesses_in trace x) q 0) (free_write_free trace disciplined x (get_or (accesses_in trace x) s 0) (get_or (accesses_in trace x) q 0) (get_or (accesses_in trace x) k 0) free_write.writes (access s (omega (arith, early))) (access q inside) free_write.free below up)))
 
-  pub settled_races : races_with trace (get_or (accesses_in trace x) q 0) ≡ map (λ i. (i, get_or (accesses_in trace x) q 0)) (racing trace (get_or (accesses_in trace x) q 0) (drop (s + 1) (take q (accesses_in trace x))))
-  settled_races =
+  pub free_write_races : races_with trace (get_or (accesses_in trace x) q 0) ≡ map (λ i. (i, get_or (accesses_in trace x) q 0)) (racing trace (get_or (accesses_in trace x) q 0) (drop (s + 1) (take q (accesses_in trace x))))
+  free_write_races =
       let front = access_front trace x q inside in
       let j : ℕ = get_or (accesses_in trace x) q 0 in
       sym (races_with_earlier trace x j front.0) ∙ ap (λ (ns : List ℕ). map (λ i. (i, j)) ns) (ap (λ (ns : List ℕ). filter (λ i. is_race trace i j) ns) (sym front.1 ∙ sym (take-append-drop (s + 1) (take q (accesses_in trace x)))) ∙ (filter-append (λ i. is_race trace i j) (take (s + 1) (take q (accesses_in trace x))) (drop (s + 1) (take q (accesses_in trace x))) ∙ ap (λ (ns : List ℕ). ns ++ racing trace j (drop (s + 1) (take q (accesses_in trace x)))) front_free))
@@ -98,9 +98,9 @@ module _ (trace : List Event) (disciplined : IsDisciplined trace) (x q s : ℕ) 
       let is : get_or (drop (s + 1) (take q (accesses_in trace x))) k d ≡ get_or (accesses_in trace x) ((s + 1) + k) 0 = get_or-drop (s + 1) (take q (accesses_in trace x)) k d ∙ (get_or-take q (accesses_in trace x) ((s + 1) + k) d (omega (arith, lt, long, rest)) ∙ get_or_default (accesses_in trace x) ((s + 1) + k) d 0 (omega (arith, lt, long, rest))) in
       rw is (rises ((s + 1) + k) q 0 (omega (arith, lt, long, rest)) inside)
 
-  -- a read has no race with the reads after the settled write
-  pub settled_read : op_at trace (get_or (accesses_in trace x) q 0) ≢ Some (Write x) → races_with trace (get_or (accesses_in trace x) q 0) ≡ []
-  settled_read reading = settled_races ∙ ap (λ (ns : List ℕ). map (λ i. (i, get_or (accesses_in trace x) q 0)) ns) (filter_none (λ i. is_race trace i (get_or (accesses_in trace x) q 0)) (drop (s + 1) (take q (accesses_in trace x))) (λ k d lt.
+  -- a read has no race with the reads after the write without a race
+  pub free_write_read : op_at trace (get_or (accesses_in trace x) q 0) ≢ Some (Write x) → races_with trace (get_or (accesses_in trace x) q 0) ≡ []
+  free_write_read reading = free_write_races ∙ ap (λ (ns : List ℕ). map (λ i. (i, get_or (accesses_in trace x) q 0)) ns) (filter_none (λ i. is_race trace i (get_or (accesses_in trace x) q 0)) (drop (s + 1) (take q (accesses_in trace x))) (λ k d lt.
       let long = size in
       let rest = length-drop (s + 1) (take q (accesses_in trace x)) in
       let is : get_or (drop (s + 1) (take q (accesses_in trace x))) k d ≡ get_or (accesses_in trace x) ((s + 1) + k) 0 = get_or-drop (s + 1) (take q (accesses_in trace x)) k d ∙ (get_or-take q (accesses_in trace x) ((s + 1) + k) d (omega (arith, lt, long, rest)) ∙ get_or_default (accesses_in trace x) ((s + 1) + k) d 0 (omega (arith, lt, long, rest))) in
@@ -109,7 +109,7 @@ module _ (trace : List Event) (disciplined : IsDisciplined trace) (x q s : ℕ) 
       let at = access q inside in
       let same : race.conflict.variable ≡ x = cc in
       elim race.conflict.one_writes [
-        | inl w ↦ settled.last ((s + 1) + k) (omega arith) (omega (arith, lt, long, rest)) (subst (λ (y : ℕ). op_at trace (get_or (accesses_in trace x) ((s + 1) + k) 0) ≡ Some (Write y)) same w)
+        | inl w ↦ free_write.last ((s + 1) + k) (omega arith) (omega (arith, lt, long, rest)) (subst (λ (y : ℕ). op_at trace (get_or (accesses_in trace x) ((s + 1) + k) 0) ≡ Some (Write y)) same w)
         | inr w ↦ reading (subst (λ (y : ℕ). op_at trace (get_or (accesses_in trace x) q 0) ≡ Some (Write y)) same w)
       ]))))
 
@@ -119,11 +119,11 @@ pub record AreSince (trace : List Event) (x : ℕ) (list : List ℕ) (q s : ℕ)
   pub earlier : All (λ i. i < get_or list q 0) (drop (s + 1) (take q list))
   pub of_read : op_at trace (get_or list q 0) ≢ Some (Write x) → races_with trace (get_or list q 0) ≡ []
 
-pub are_since : (trace : List Event) → IsDisciplined trace → (x : ℕ) (list : List ℕ) (q s : ℕ) → list ≡ accesses_in trace x → q < length list → IsSettled trace x list q s → BelowPred trace (get_or list s 0) (get_or list q 0) → AreSince trace x list q s
-are_since trace disciplined x list q s is = subst (λ (ks : List ℕ). q < length ks → IsSettled trace x ks q s → BelowPred trace (get_or ks s 0) (get_or ks q 0) → AreSince trace x ks q s) (sym is) (λ inside settled below. record {
-  races = settled_races trace disciplined x q s inside settled below;
-  earlier = since_earlier trace disciplined x q s inside settled below;
-  of_read = settled_read trace disciplined x q s inside settled below;
+pub are_since : (trace : List Event) → IsDisciplined trace → (x : ℕ) (list : List ℕ) (q s : ℕ) → list ≡ accesses_in trace x → q < length list → IsFreeWrite trace x list q s → BelowPred trace (get_or list s 0) (get_or list q 0) → AreSince trace x list q s
+are_since trace disciplined x list q s is = subst (λ (ks : List ℕ). q < length ks → IsFreeWrite trace x ks q s → BelowPred trace (get_or ks s 0) (get_or ks q 0) → AreSince trace x ks q s) (sym is) (λ inside free_write below. record {
+  races = free_write_races trace disciplined x q s inside free_write below;
+  earlier = since_earlier trace disciplined x q s inside free_write below;
+  of_read = free_write_read trace disciplined x q s inside free_write below;
 })
 
 pub seen_access : (trace : List Event) (x : ℕ) (list : List ℕ) (k : ℕ) → list ≡ accesses_in trace x → k < length list → (variable_at trace (get_or list k 0) ≡ Some x) × (get_or list k 0 < length trace)
@@ -139,17 +139,17 @@ not_write_at trace k x d lt reading writes =
     let g : is_write (get_or trace k d).op ≡ true = rw p refl in
     (let f : ⊥ = cc in f)
 
--- the settled write, one place on
-pub settled_same : (trace : List Event) (x : ℕ) (accesses : List ℕ) (q s : ℕ) → op_at trace (get_or accesses q 0) ≢ Some (Write x) → IsSettled trace x accesses q s → IsSettled trace x accesses (q + 1) s
-settled_same trace x accesses q s reading h = record {
+-- the write without a race, one index on
+pub free_write_same : (trace : List Event) (x : ℕ) (accesses : List ℕ) (q s : ℕ) → op_at trace (get_or accesses q 0) ≢ Some (Write x) → IsFreeWrite trace x accesses q s → IsFreeWrite trace x accesses (q + 1) s
+free_write_same trace x accesses q s reading h = record {
   earlier = (let lt = h.earlier in omega (arith, lt));
   writes = h.writes;
   free = h.free;
   last = λ k low high. elim (cases_lt k q) [ inl less ↦ h.last k low less | inr past ↦ (let e : k ≡ q = omega arith in rw e reading) ];
 }
 
-pub settled_next : (trace : List Event) (x : ℕ) (accesses : List ℕ) (q : ℕ) → op_at trace (get_or accesses q 0) ≡ Some (Write x) → ((i : ℕ) → Race trace i (get_or accesses q 0) → ⊥) → IsSettled trace x accesses (q + 1) q
-settled_next trace x accesses q writes free = record {
+pub free_write_next : (trace : List Event) (x : ℕ) (accesses : List ℕ) (q : ℕ) → op_at trace (get_or accesses q 0) ≡ Some (Write x) → ((i : ℕ) → Race trace i (get_or accesses q 0) → ⊥) → IsFreeWrite trace x accesses (q + 1) q
+free_write_next trace x accesses q writes free = record {
   earlier = omega arith;
   writes = writes;
   free = free;
@@ -164,5 +164,5 @@ none_added trace j old new is same i race =
     let lt = there.1 in
     omega (arith, size, same, lt)
 
-pub next_seen : (trace : List Event) (x : ℕ) (list : List ℕ) (q : ℕ) (settled next : Option ℕ) → list ≡ accesses_in trace x → ((x : ℕ) → list ≡ accesses_in trace x → IfSome settled (λ s. IsSettled trace x list q s) → IfSome next (λ s. IsSettled trace x list (q + 1) s)) → IfSome settled (λ s. IsSettled trace x (accesses_in trace x) q s) → IfSome next (λ s. IsSettled trace x (accesses_in trace x) (q + 1) s)
-next_seen trace x list q settled next is move h = subst (λ (ks : List ℕ). IfSome next (λ s. IsSettled trace x ks (q + 1) s)) is (move x is (subst (λ (ks : List ℕ). IfSome settled (λ s. IsSettled trace x ks q s)) (sym is) h))
+pub next_seen : (trace : List Event) (x : ℕ) (list : List ℕ) (q : ℕ) (free_write next : Option ℕ) → list ≡ accesses_in trace x → ((x : ℕ) → list ≡ accesses_in trace x → IfSome free_write (λ s. IsFreeWrite trace x list q s) → IfSome next (λ s. IsFreeWrite trace x list (q + 1) s)) → IfSome free_write (λ s. IsFreeWrite trace x (accesses_in trace x) q s) → IfSome next (λ s. IsFreeWrite trace x (accesses_in trace x) (q + 1) s)
+next_seen trace x list q free_write next is move h = subst (λ (ks : List ℕ). IfSome next (λ s. IsFreeWrite trace x ks (q + 1) s)) is (move x is (subst (λ (ks : List ℕ). IfSome free_write (λ s. IsFreeWrite trace x ks q s)) (sym is) h))

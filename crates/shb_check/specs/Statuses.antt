@@ -1,6 +1,6 @@
 -- What a program says of an error, and the status that it ends with.
 use Rattle.std.specs.Prelude.{ℕ, List, ◌++◌, codes, decimal, Result, Ok, Err}
-use Rattle.shb_lines.specs.text.Words.{words_of}
+use Rattle.shb_lines.specs.text.Messages.{message_of}
 use Rattle.shb_report.specs.declared.judging.verdict.Verdict.{Verdict}
 use Rattle.shb_report.specs.declared.judging.verdict.Verdict.TheVariants.{Good}
 use Rattle.shb_check.specs.declared.errors.RunError.{RunError}
@@ -19,9 +19,9 @@ check_status_of (Ok (Good races)) = 0
 check_status_of (Ok verdict) = 5
 check_status_of (Err error) = exit_status_of error
 
--- the line of the fault and its words, or the device
+-- the line of the fault and its message, or the device
 abbrev pub fault_line_of : RunError → List ℕ
-fault_line_of (Trace line fault) = codes "line " ++ (decimal line ++ (codes ": " ++ words_of fault))
+fault_line_of (Trace line fault) = codes "line " ++ (decimal line ++ (codes ": " ++ message_of fault))
 fault_line_of Source = codes "cannot read"
 fault_line_of Sink = codes "cannot write"
 fault_line_of Memory = codes "out of memory"

@@ -1,6 +1,6 @@
 //! What a program says of an error, and the status that it ends with.
 ghost use Rattle.std.specs.Prelude.{◌≡◌, IfOk, string_bytes};
-ghost use Rattle.shb_check.specs.Words.{check_status_of, exit_status_of, fault_line_of};
+ghost use Rattle.shb_check.specs.Statuses.{check_status_of, exit_status_of, fault_line_of};
 
 use crate::errors::RunError;
 use shb_io::NoMemory;
@@ -29,15 +29,15 @@ pub fn status_of_check(answer: &Result<Verdict, RunError>) -> u8
     }
 }
 
-/// The line that a program prints for an error, without its end: `line N: WORDS` for a refused
+/// The line that a program prints for an error, without its end: `line N: MESSAGE` for a refused
 /// trace.
 pub fn fault_line(alloc: Global, error: &RunError) -> Result<String, NoMemory>
     ensures { IfOk result (λ line. string_bytes line ≡ fault_line_of error.now) }
 {
     let line = match error {
         RunError::Trace { line, fault } => {
-            let words = fault.words();
-            format!(in alloc; "line {line}: {words}")?
+            let message = fault.message();
+            format!(in alloc; "line {line}: {message}")?
         }
         RunError::Source => String::from_str(alloc, "cannot read")?,
         RunError::Sink => String::from_str(alloc, "cannot write")?,
@@ -46,7 +46,7 @@ pub fn fault_line(alloc: Global, error: &RunError) -> Result<String, NoMemory>
     Ok(line)
 }
 
-/// Says on standard error why there is no answer, in the words of `fault_line`. Where there is no memory
+/// Says on standard error why there is no answer, by `fault_line`. Where there is no memory
 /// for the text nothing is said, and a failure of standard error is passed over.
 pub fn tell_error<R: Eprint + AllocGlobal>(rt: &R, error: &RunError) {
     if let Ok(line) = fault_line(rt.alloc(), error) {

@@ -1,7 +1,7 @@
 -- The status that a program ends with that ran over a trace.
 use Rattle.std.specs.Prelude.{ℕ, Result, Ok, Err}
 use Rattle.shb_check.specs.declared.errors.RunError.{RunError}
-use Rattle.shb_check.specs.Words.{exit_status_of}
+use Rattle.shb_check.specs.Statuses.{exit_status_of}
 use Rattle.shb_run.specs.declared.settings.Summary.{Summary}
 
 -- a report that was written ends with 0

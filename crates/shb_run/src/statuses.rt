@@ -1,6 +1,6 @@
 //! What a program says that ran over a trace, and the status that it ends with.
 ghost use Rattle.std.specs.Prelude.{◌≡◌};
-ghost use Rattle.shb_run.specs.Words.{run_status_of};
+ghost use Rattle.shb_run.specs.Statuses.{run_status_of};
 
 use crate::settings::Summary;
 use shb_check::{RunError, exit_status, tell_error};

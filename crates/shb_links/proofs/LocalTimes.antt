@@ -1,11 +1,11 @@
--- The place of an event in its thread, as a number of events.
+-- The local time of an event, as a number of events.
 use Rattle.std.proofs.Common.{◌≡◌, ℕ, zero, suc, ◌+◌, ◌<◌, ◌≤◌, ◌⊎◌, inl, inr, true, false, List, Some, length, take, arith, sym, ◌∙◌, ap, add-one}
 use Rattle.std.specs.Prelude.{count_by, slice_get}
 use Rattle.std.proofs.lemmas.Bool.{cases_Bool}
 use Rattle.std.proofs.lemmas.Option.{slice_get_cases}
 use Rattle.shb_lines.specs.declared.event.Event.{Event}
 use Rattle.shb_lines.specs.events.Events.{thread_at}
-use Rattle.shb_lines.specs.events.Discipline.{is_of, place_in_thread}
+use Rattle.shb_lines.specs.events.Discipline.{is_of, local_time}
 use Rattle.shb_lines.specs.events.Order.{IsNumberOf}
 use Rattle.shb_lines.proofs.events.Counts.{count_more_yes, count_more_no}
 use Rattle.shb_lines.proofs.events.Events.{thread_is, is_of_true}
@@ -27,9 +27,9 @@ count_is_number trace t (suc n) le = elim (slice_get_cases trace n).1 [
   | inr c ↦ (let past = c.0 in absurd (omega arith))
 ]
 
--- the place of an event in its thread is how many events of the thread stand at it or before it
-pub place_is_number : (trace : List Event) (e t : ℕ) → e < length trace → thread_at trace e ≡ Some t → IsLocal trace e (place_in_thread trace t e)
-place_is_number trace e t lt of_e = number_same _ _ _ (λ k. (
+-- the local time of an event is how many events of the thread stand at it or before it
+pub time_is_number : (trace : List Event) (e t : ℕ) → e < length trace → thread_at trace e ≡ Some t → IsLocal trace e (local_time trace t e)
+time_is_number trace e t lt of_e = number_same _ _ _ (λ k. (
   (λ h. ((let below = h.0 in omega arith), h.1 ∙ sym of_e)),
   (λ h. ((let le = h.0 in omega arith), h.1 ∙ of_e)),
 )) (count_is_number trace t (e + 1) (omega arith))
