@@ -118,11 +118,9 @@ fn report<R: Threads + Wait + Sync + RandomSource, K: Sink, P: Gate + Sync, W: G
 {
     let links = links_for(alloc, &*trace, task.settings.schedules)?;
     let flags = open_variables(alloc, &*trace, &links)?;
-    let order = by_event(alloc, &*trace, &links)?;
-    let screened = Screened {
-        ordered: &Ordered::new(&order, &*trace, &links),
-        flags: &flags,
-    };
+    let order = by_event(alloc, &*trace, &links, &flags)?;
+    let ordered = Ordered::new(&order, &*trace, &links);
+    let screened = Screened::new(&ordered, &flags);
     report_by(rt, alloc, sink, &screened, task, gates)
 }
 

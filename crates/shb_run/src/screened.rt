@@ -1,4 +1,5 @@
 //! An ordered trace whose variables are told apart.
+ghost use Rattle.std.specs.Prelude.{◌≡◌};
 ghost use Rattle.shb_pairs.specs.Listed.{AreOpen, AsksOpen};
 
 use shb_clocks::{Order, Ordered};
@@ -13,4 +14,15 @@ pub(crate) struct Screened<'s, 'a, 'f, O: Order> {
     pub(crate) flags: &'f [bool],
     pub(crate) ghost settled: { AreOpen ordered.now.trace.now.events.now flags.now },
     pub(crate) ghost asked: { AsksOpen (O.asks ordered.now.order.now) flags.now ordered.now.trace.now.events.now },
+}
+
+impl<'s, 'a, 'f, O: Order> Screened<'s, 'a, 'f, O> {
+    /// An ordered trace, and these flags of its variables.
+    pub(crate) fn new(ordered: &'s Ordered<'a, O>, flags: &'f [bool]) -> Screened<'s, 'a, 'f, O>
+        requires settled { AreOpen ordered.now.trace.now.events.now flags.now }
+        requires asked { AsksOpen (O.asks ordered.now.order.now) flags.now ordered.now.trace.now.events.now }
+        ensures { result.ordered.now.trace.now ≡ ordered.now.trace.now }
+    {
+        Screened { ordered, flags }
+    }
 }
