@@ -1,11 +1,13 @@
-//! What the orders answer on small traces, and that all four answer alike.
-ghost use Rattle.std.specs.Prelude.{◌≡◌, ℕ, true};
+//! What the orders answer on small traces, and that all five answer alike.
+ghost use Rattle.std.specs.Prelude.{◌≡◌, ℕ, true, []};
+ghost use Rattle.shb_clocks.specs.Open.{OpenTrace};
 
 use crate::asserting::{same, same_in_row};
 use crate::fixtures::{Mixture, Question, asked, push_line, push_mixed_lines};
-use shb_clocks::{Order, PlainOrder, by_event, full, plain, versions};
+use shb_clocks::{EventRows, Order, PlainOrder, Sweep, by_event, full, plain, versions};
 use shb_discipline::Disciplined;
 use shb_io::NoMemory;
+use shb_lines::variable;
 use shb_links::Links;
 use std::alloc::Global;
 use std::test::Fail;
@@ -22,8 +24,46 @@ fn answer<O: Order>(order: &O, trace: &Disciplined<'_>, e: u32, t: u32) -> u32
     }
 }
 
-/// What the plain order, the full clocks, the versions and the rows by event answer for an event and
-/// a thread.
+/// What the rows by event answer, or `other` for an event that they can't be asked about.
+fn answer_of_rows(
+    rows: &EventRows<'_>,
+    trace: &Disciplined<'_>,
+    e: u32,
+    t: u32,
+    other: u32,
+) -> u32
+    requires { rows.now ≡ record { trace = trace.now.events.now; flags = [] } }
+{
+    if e as usize >= trace.events.len() {
+        return other;
+    }
+    match variable(trace.events[e as usize].op) {
+        Some(_) => rows.below_pred(e, t),
+        None => other,
+    }
+}
+
+/// What a sweep answers when it comes to the event, 0 for an event that isn't there.
+fn answer_of_sweep(
+    alloc: Global,
+    trace: &Disciplined<'_>,
+    links: &Links<'_>,
+    at: At,
+) -> Result<u32, NoMemory>
+    requires of_trace { links.now ≡ trace.now.events.now }
+{
+    let mut sweep = Sweep::new(alloc, &*trace, &*links)?;
+    for e in 0..trace.events.len() as u32 {
+        if e == at.e {
+            return Ok(sweep.below_pred(e, at.t));
+        }
+        sweep.pass(alloc)?;
+    }
+    Ok(0)
+}
+
+/// What the plain order, the full clocks, the versions, the rows by event and a sweep answer for an
+/// event and a thread. What the rows can't be asked about the plain order answers for them.
 #[derive(Clone, Copy)]
 struct At {
     e: u32,
@@ -31,19 +71,21 @@ struct At {
 }
 
 impl Question for At {
-    type Answer = [u32; 4];
+    type Answer = [u32; 5];
 
     fn ask(
         &self,
         alloc: Global,
         trace: &Disciplined<'_>,
         links: &Links<'_>,
-    ) -> Result<[u32; 4], Fail> {
+    ) -> Result<[u32; 5], Fail> {
         let in_plain = answer(&plain(alloc, trace, links)?, trace, self.e, self.t);
         let in_full = answer(&full(alloc, trace, links)?, trace, self.e, self.t);
         let in_versions = answer(&versions(alloc, trace, links)?, trace, self.e, self.t);
-        let in_rows = answer(&by_event(alloc, trace, links)?, trace, self.e, self.t);
-        Ok([in_plain, in_full, in_versions, in_rows])
+        let rows = by_event(alloc, trace, links, &[])?;
+        let in_rows = answer_of_rows(&rows, trace, self.e, self.t, in_plain);
+        let in_sweep = answer_of_sweep(alloc, trace, links, *self)?;
+        Ok([in_plain, in_full, in_versions, in_rows, in_sweep])
     }
 }
 
@@ -58,8 +100,26 @@ fn differs<O: Order>(
     requires asked { (e : ℕ) → O.asks order.now e ≡ true }
 {
     for e in 0..trace.events.len() as u32 {
+        if let Some(found) = differs_at(plain, order, trace, e) {
+            return Some(found);
+        }
+    }
+    None
+}
+
+/// An event and a thread for which the rows by event don't answer as the plain order.
+fn rows_differ(
+    plain: &PlainOrder<'_>,
+    rows: &EventRows<'_>,
+    trace: &Disciplined<'_>,
+) -> Option<(u32, u32)>
+    requires plain { plain.now ≡ trace.now.events.now }
+    requires rows { rows.now ≡ record { trace = trace.now.events.now; flags = [] } }
+{
+    for e in 0..trace.events.len() as u32 {
         for t in 0..trace.sizes.threads {
-            if answer(order, trace, e, t) != answer(plain, trace, e, t) {
+            let wanted = answer(plain, trace, e, t);
+            if answer_of_rows(rows, trace, e, t, wanted) != wanted {
                 return Some((e, t));
             }
         }
@@ -67,7 +127,46 @@ fn differs<O: Order>(
     None
 }
 
-/// An event and a thread for which the four forms don't answer alike.
+/// A thread for which an order doesn't answer as the plain one at an event.
+fn differs_at<O: Order>(
+    plain: &PlainOrder<'_>,
+    order: &O,
+    trace: &Disciplined<'_>,
+    e: u32,
+) -> Option<(u32, u32)>
+    requires plain { plain.now ≡ trace.now.events.now }
+    requires order { O.trace order.now ≡ trace.now.events.now }
+    requires asked { O.asks order.now e ≡ true }
+{
+    for t in 0..trace.sizes.threads {
+        if answer(order, trace, e, t) != answer(plain, trace, e, t) {
+            return Some((e, t));
+        }
+    }
+    None
+}
+
+/// An event and a thread for which a sweep doesn't answer as the plain order.
+fn sweep_differs(
+    alloc: Global,
+    plain: &PlainOrder<'_>,
+    trace: &Disciplined<'_>,
+    links: &Links<'_>,
+) -> Result<Option<(u32, u32)>, NoMemory>
+    requires plain { plain.now ≡ trace.now.events.now }
+    requires of_trace { links.now ≡ trace.now.events.now }
+{
+    let mut sweep = Sweep::new(alloc, &*trace, &*links)?;
+    for e in 0..trace.events.len() as u32 {
+        if let Some(found) = differs_at(plain, &sweep, trace, e) {
+            return Ok(Some(found));
+        }
+        sweep.pass(alloc)?;
+    }
+    Ok(None)
+}
+
+/// An event and a thread for which the five forms don't answer alike.
 struct Difference;
 
 impl Question for Difference {
@@ -82,8 +181,9 @@ impl Question for Difference {
         let plain = plain(alloc, trace, links)?;
         let in_full = differs(&plain, &full(alloc, trace, links)?, trace);
         let in_versions = differs(&plain, &versions(alloc, trace, links)?, trace);
-        let in_rows = differs(&plain, &by_event(alloc, trace, links)?, trace);
-        Ok(in_full.or(in_versions).or(in_rows))
+        let in_rows = rows_differ(&plain, &by_event(alloc, trace, links, &[])?, trace);
+        let in_sweep = sweep_differs(alloc, &plain, trace, links)?;
+        Ok(in_full.or(in_versions).or(in_rows).or(in_sweep))
     }
 }
 
@@ -159,7 +259,7 @@ fn values(rt: HostRuntime) -> Result<(), Fail> {
         same_in_row(
             &rt,
             &asked(&rt, text, &At { e: *e, t: *t })?,
-            &[*wanted; 4],
+            &[*wanted; 5],
             row,
         );
     }
