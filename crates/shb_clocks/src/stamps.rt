@@ -33,12 +33,12 @@ pub struct Stamps {
     pub limit: u32,
 }
 
-/// The number of rows at which the next compaction is due: twice those in use, at least as many as
+/// The number of rows at which the next compaction is due: four times those in use, at least as many as
 /// take 1 MiB, and at least as many as take the bytes of all stamps, which a compaction looks at.
 fn row_limit(linked: &Linked<'_>, used: u32) -> u32 {
     let stamps = linked.sizes.locks.saturating_add(linked.sizes.variables);
     let entries = stamps.saturating_mul(4).max(262_144);
-    used.saturating_mul(2)
+    used.saturating_mul(4)
         .max(entries / linked.sizes.threads.max(1))
 }
 
