@@ -8,11 +8,11 @@
 mod errors;
 mod judging;
 pub mod laws;
-mod verdicts;
 mod statuses;
+mod verdicts;
 
 pub use errors::RunError;
 pub use judging::judge;
 pub use shb_report::{RaceFault, Verdict};
-pub use verdicts::check;
 pub use statuses::{end_of_check, exit_status, fault_line, status_of_check, tell_error};
+pub use verdicts::check;

@@ -54,10 +54,7 @@ struct Latest {
 fn nothing() -> Mark
     ensures { result.time ≡ 0 }
 {
-    Mark {
-        time: 0,
-        thread: 0,
-    }
+    Mark { time: 0, thread: 0 }
 }
 
 /// The mark after which no event is.

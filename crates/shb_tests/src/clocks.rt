@@ -25,13 +25,7 @@ fn answer<O: Order>(order: &O, trace: &Disciplined<'_>, e: u32, t: u32) -> u32
 }
 
 /// What the rows by event answer, or `other` for an event that they can't be asked about.
-fn answer_of_rows(
-    rows: &EventRows<'_>,
-    trace: &Disciplined<'_>,
-    e: u32,
-    t: u32,
-    other: u32,
-) -> u32
+fn answer_of_rows(rows: &EventRows<'_>, trace: &Disciplined<'_>, e: u32, t: u32, other: u32) -> u32
     requires { rows.now ≡ record { trace = trace.now.events.now; flags = [] } }
 {
     if e as usize >= trace.events.len() {

@@ -19,7 +19,8 @@ pub loop-e-preserved : goal.loop-e-preserved
 loop-e-preserved c =
     let low = c.loop-e-test.true in
     let high = c.loop-e.invariant.0 in
-    let inside : c.loop-e.e - 1 < length c.args.events.now = omega (arith, low, high, c.requires) in
-    (omega (arith, high),
-    none_there (OfThread c.args.events.now c.args.thread) c.loop-e.e c.args.end (omega (arith, low)) high c.loop-e.invariant.1
-    (λ of_thread. c.if-events-e.false (sym (thread_alone c.args.events.now (c.loop-e.e - 1) _ c.args.thread (thread_item c.args.events.now (c.loop-e.e - 1) _ inside) of_thread))))
+    let inside : c.loop-e.e - 1 < length c.args.events.now = omega (arith, low, high, c.requires) in (
+      omega (arith, high),
+      none_there (OfThread c.args.events.now c.args.thread) c.loop-e.e c.args.end (omega (arith, low)) high c.loop-e.invariant.1
+          (λ of_thread. c.if-events-e.false (sym (thread_alone c.args.events.now (c.loop-e.e - 1) _ c.args.thread (thread_item c.args.events.now (c.loop-e.e - 1) _ inside) of_thread))),
+    )

@@ -27,7 +27,8 @@ pub loop-e-preserved : goal.loop-e-preserved
 loop-e-preserved c =
     let low = c.loop-e-test.true in
     let high = c.loop-e.invariant.0 in
-    let inside : c.loop-e.e - 1 < length c.args.events.now = omega (arith, low, high, c.requires) in
-    (omega (arith, high),
-    none_there (WritesVariable c.args.events.now c.args.variable) c.loop-e.e c.args.end (omega (arith, low)) high c.loop-e.invariant.1
-    (denied c.is_write_of.result c.args.events.now (c.loop-e.e - 1) c.args.variable _ c.is_write_of.ensures.1 c.if-is_write_of.false inside))
+    let inside : c.loop-e.e - 1 < length c.args.events.now = omega (arith, low, high, c.requires) in (
+      omega (arith, high),
+      none_there (WritesVariable c.args.events.now c.args.variable) c.loop-e.e c.args.end (omega (arith, low)) high c.loop-e.invariant.1
+          (denied c.is_write_of.result c.args.events.now (c.loop-e.e - 1) c.args.variable _ c.is_write_of.ensures.1 c.if-is_write_of.false inside),
+    )
