@@ -140,7 +140,8 @@ module _ (trace : List Event) (disciplined : IsDisciplined trace) (e : ℕ) wher
   learns_join u k joins (by_join v h from) = let s : Some (Join v) ≡ Some (Join u) = sym h ∙ joins in subst (λ (x : ℕ). BelowThread trace x e k) (let g : v ≡ u = cc in g) from
   learns_join u k joins (by_read from) = let h = from.last.reads in absurd (let f : ⊥ = cc in f)
 
-  learns_read : (x k : ℕ) → op_at trace e ≡ Some (Read x) → Learns trace e k → BelowLastWrite trace e k
+  -- what a read learns is below its last write
+  pub learns_read : (x k : ℕ) → op_at trace e ≡ Some (Read x) → Learns trace e k → BelowLastWrite trace e k
   learns_read x k reads (by_acquire m h from) = absurd (let f : ⊥ = cc in f)
   learns_read x k reads (by_join v h from) = absurd (let f : ⊥ = cc in f)
   learns_read x k reads (by_read from) = from

@@ -1,29 +1,29 @@
 -- The sweep by stamps, an event at a time.
-use Rattle.std.proofs.Common.{◌≡◌, ◌≢◌, ℕ, ◌+◌, ◌<◌, ◌≤◌, ◌⊎◌, inl, inr, Bool, true, false, List, [], ◌∷◌, ◌++◌, Some, length, get_or, take, arith, subst, ap, sym, ◌∙◌, refl, get_or-set_same, get_or-set_other}
-use Rattle.std.specs.Prelude.{◌↔◌, ◌==◌, count_by, max, replicate, slice_get}
+use Rattle.std.proofs.Common.{◌≡◌, ◌≢◌, ℕ, ◌+◌, ◌<◌, ◌≤◌, ◌⊎◌, inl, inr, Bool, true, false, List, [], ◌∷◌, ◌++◌, Option, Some, length, get_or, take, arith, subst, ap, sym, ◌∙◌, refl, get_or-set_same, get_or-set_other}
+use Rattle.std.specs.Prelude.{◌↔◌, ◌==◌, count_by, max, option_and_then, replicate, slice_get}
 use Rattle.std.proofs.Math.ListN.{set, length-set, length-replicate, get_or-replicate}
 use Rattle.std.proofs.lemmas.Bool.{cases_lt, cases_eq, cases_order, cases_Bool, eqb-true, ne_eqb}
 use Rattle.std.proofs.lemmas.List.{get_or_append_left, get_or_push, length_push}
 use Rattle.shb_lines.specs.declared.event.Event.{Event}
 use Rattle.shb_lines.specs.declared.event.Op.{Op}
 use Rattle.shb_lines.specs.declared.event.Op.TheVariants.{Read, Write, Acquire, Release, Fork, Join}
-use Rattle.shb_lines.specs.events.Events.{thread_at, op_at}
+use Rattle.shb_lines.specs.events.Events.{thread_at, op_at, variable_of}
 use Rattle.shb_lines.specs.events.Discipline.{IsDisciplined, MayDo, acquires, releases, only, is_acquire, is_release, is_fork, is_of, local_time}
 use Rattle.shb_lines.specs.events.Order.{ShbBelow, here, step, same_thread, lock_passed, forked, happens_before, BelowPred, IsPred, in_thread, by_fork}
 use Rattle.shb_lines.proofs.events.Counts.{count_mono, counted_before}
 use Rattle.shb_lines.proofs.events.Events.{thread_is, op_is, event_of_op, fork_allowed, fork_earlier, is_fork_true, is_acquire_parts}
 use Rattle.shb_lines.proofs.events.Schedulable.{thread_below_pred, fork_below_pred, pred_earlier}
-use Rattle.shb_links.specs.Latest.{IsLatestBefore, OfThread, WritesVariable, ReleasesLock}
+use Rattle.shb_links.specs.Latest.{IsLatestBefore, OfThread, ReleasesLock}
 use Rattle.shb_links.proofs.Balance.{HasHolder, IsPassing, balanced, disciplined_below, holder_after, some_counted}
 use Rattle.shb_clocks.specs.Fronts.{IsFront, BelowRelease, Learns, StrictlyBelow}
 use Rattle.shb_clocks.specs.Learned.{IsFrontBut}
 use Rattle.shb_clocks.specs.Open.{accesses_open}
 use Rattle.shb_clocks.specs.Rows.{AreMore, RowsData}
-use Rattle.shb_clocks.specs.Stamps.{AreCurrent, AreStamps, HasGrown, HasRowsBefore, IsKnown, IsLatestStamp, of_event, of_none, IsRowFor, IsSource, from_event, from_none, IsStampOf, empty_stamp}
+use Rattle.shb_clocks.specs.Stamps.{AreCurrent, AreStamps, HasGrown, HasRowsBefore, IsKnown, IsLatestStamp, of_event, of_none, IsRowFor, IsSource, from_event, nothing_new, IsStampOf, WritesShared, empty_stamp}
 use Rattle.shb_clocks.specs.declared.stamp.Stamp.{Stamp}
 use Rattle.shb_clocks.proofs.Fronts.{thread_in_range}
 use Rattle.shb_clocks.proofs.LearnedLemmas.{front_but_same, front_whole, thread_same}
-use Rattle.shb_clocks.proofs.PastLemmas.{acquire_learns, join_learns, latest_join, join_learns_nothing, read_learns, read_learns_nothing}
+use Rattle.shb_clocks.proofs.PastLemmas.{acquire_learns, join_learns, latest_join, join_learns_nothing, learns_read, read_learns}
 use Rattle.shb_clocks.proofs.Sources.{path_append, edge_path, strictly_below_below, below_cases}
 
 -- rows that grow
@@ -237,11 +237,40 @@ module _ (trace : List Event) (disciplined : IsDisciplined trace) where
   -- the stamp of all that an event learns
   pub source_acquire : (rows : List (List ℕ)) (e l : ℕ) (stamp : Stamp) → op_at trace e ≡ Some (Acquire l) → IsLatestStamp trace rows (ReleasesLock trace l) e stamp → IsSource trace rows e stamp
   source_acquire rows e l stamp takes (of_event r latest is) = from_event r latest.earlier is (λ k. let one = below_last_release l e r k latest in let two = acquire_learns trace disciplined e l k takes in ((λ path. two.0 (one.0 path)), (λ learns. one.1 (two.1 learns))))
-  source_acquire rows e l stamp takes (of_none absent zero) = from_none (λ k learns. (let h = (acquire_learns trace disciplined e l k takes).1 learns in absent h.release h.earlier h.releases)) zero
+  source_acquire rows e l stamp takes (of_none absent zero) = nothing_new (λ k learns. absurd (let h = (acquire_learns trace disciplined e l k takes).1 learns in absent h.release h.earlier h.releases)) zero
 
-  pub source_read : (rows : List (List ℕ)) (e x : ℕ) (stamp : Stamp) → op_at trace e ≡ Some (Read x) → IsLatestStamp trace rows (WritesVariable trace x) e stamp → IsSource trace rows e stamp
-  source_read rows e x stamp reads (of_event w latest is) = from_event w latest.earlier is (λ k. read_learns trace disciplined e x w k reads (record { variable = x; reads = reads; writes = latest.holds; earlier = latest.earlier; latest = λ m low high. latest.last m low high }))
-  source_read rows e x stamp reads (of_none absent zero) = from_none (λ k learns. read_learns_nothing trace disciplined e x k reads (λ w last. absent w last.earlier (last.writes ∙ ap (λ (y : ℕ). Some (Write y)) (let h = last.reads in let s : Some (Read last.variable) ≡ Some (Read x) = sym h ∙ reads in cc))) learns) zero
+  -- a write of x that another thread reads is one of a shared variable
+  write_shared : (w e x : ℕ) → op_at trace w ≡ Some (Write x) → op_at trace e ≡ Some (Read x) → thread_at trace w ≢ thread_at trace e → WritesShared trace x w
+  write_shared w e x writes reads other = (
+    record {
+      first = w;
+      second = e;
+      first_accesses = ap (λ (o : Option Op). option_and_then variable_of o) writes;
+      second_accesses = ap (λ (o : Option Op). option_and_then variable_of o) reads;
+      other_thread = other;
+    },
+    writes,
+  )
+
+  -- a read of a variable of which no write is kept learns nothing that its thread doesn't know
+  read_known : (e x k : ℕ) → op_at trace e ≡ Some (Read x) → ((w : ℕ) → w < e → ¬ WritesShared trace x w) → Learns trace e k → BelowPred trace k e
+  read_known e x k reads absent learns =
+      let from = learns_read trace disciplined e x k reads learns in
+      let w = from.write in
+      let writes : op_at trace w ≡ Some (Write x) = from.last.writes ∙ ap (λ (y : ℕ). Some (Write y)) (let h = from.last.reads in let s : Some (Read from.last.variable) ≡ Some (Read x) = sym h ∙ reads in cc) in
+      let a = event_of_op trace w (Write x) writes in
+      let b = event_of_op trace e (Read x) reads in
+      let of_w = thread_is trace w a.0 a.1 in
+      let of_e = thread_is trace e b.0 b.1 in
+      let below : BelowPred trace w e = elim (cases_eq a.0.thread b.0.thread) [
+        | inl same ↦ thread_below_pred trace b.0.thread w e from.last.earlier (of_w ∙ ap (λ (n : ℕ). Some n) same) of_e
+        | inr ne ↦ absurd (absent w from.last.earlier (write_shared w e x writes reads (λ one. ne (let s : Some a.0.thread ≡ Some b.0.thread = sym of_w ∙ (one ∙ of_e) in cc))))
+      ] in
+      (below.0, below.1, path_append trace k w below.0 from.below below.2)
+
+  pub source_read : (rows : List (List ℕ)) (e x : ℕ) (stamp : Stamp) → op_at trace e ≡ Some (Read x) → IsLatestStamp trace rows (WritesShared trace x) e stamp → IsSource trace rows e stamp
+  source_read rows e x stamp reads (of_event w latest is) = from_event w latest.earlier is (λ k. read_learns trace disciplined e x w k reads (record { variable = x; reads = reads; writes = latest.holds.1; earlier = latest.earlier; latest = λ m low high writes. latest.last m low high (latest.holds.0, writes) }))
+  source_read rows e x stamp reads (of_none absent zero) = nothing_new (λ k learns. read_known e x k reads absent learns) zero
 
   pub source_join : (rows : List (List ℕ)) (e v last : ℕ) (stamp : Stamp) → op_at trace e ≡ Some (Join v) → IsLatestBefore (OfThread trace v) (length trace) last → stamp.thread ≡ v → stamp.time ≡ local_time trace v last → IsRowFor trace rows v (IsKnown trace v e) stamp.row → IsSource trace rows e stamp
   source_join rows e v last stamp joins latest thread time row =
@@ -253,7 +282,7 @@ module _ (trace : List Event) (disciplined : IsDisciplined trace) where
       }) (λ k. join_learns trace disciplined e v last k joins so_far)
 
   pub source_join_nothing : (rows : List (List ℕ)) (e v : ℕ) (stamp : Stamp) → op_at trace e ≡ Some (Join v) → ((k : ℕ) → k < length trace → thread_at trace k ≢ Some v) → stamp.time ≡ 0 → IsSource trace rows e stamp
-  source_join_nothing rows e v stamp joins none zero = from_none (λ k learns. join_learns_nothing trace disciplined e v k joins (λ m lt of_m. none m (thread_in_range trace m v of_m) of_m) learns) zero
+  source_join_nothing rows e v stamp joins none zero = nothing_new (λ k learns. absurd (join_learns_nothing trace disciplined e v k joins (λ m lt of_m. none m (thread_in_range trace m v of_m) of_m) learns)) zero
 
   -- the row after an event of thread u
   module _ (rows : List (List ℕ)) (e u before : ℕ) (of_e : thread_at trace e ≡ Some u) (row : IsRowFor trace rows u (λ k. BelowPred trace k e) before) where
@@ -278,7 +307,7 @@ module _ (trace : List Event) (disciplined : IsDisciplined trace) where
     source_known r source lt is (inr le) (inr ne) = (row.front.exact source.thread r is.of_thread ne).0 (let time = is.time_is in omega (arith, le, time))
 
     pub row_known : (source : Stamp) → IsSource trace rows e source → (source.thread ≡ u) ⊎ (source.time ≤ get_or (get_or rows before []) source.thread 0) → IsRowFor trace rows u (λ k. ShbBelow trace k e) before
-    row_known source (from_none nothing zero) known = row_nothing_new (λ k learns. absurd (nothing k learns))
+    row_known source (nothing_new known zero) is = row_nothing_new known
     row_known source (from_event r lt is same) known =
         let below = source_known r source lt is known (cases_eq source.thread u) in
         row_nothing_new (λ k learns. (below.0, below.1, path_append trace k r below.0 ((same k).1 learns) below.2))
@@ -286,7 +315,7 @@ module _ (trace : List Event) (disciplined : IsDisciplined trace) where
     -- the source, where it isn't known
     pub source_new : (source : Stamp) → IsSource trace rows e source → ((source.thread ≡ u) ⊎ (source.time ≤ get_or (get_or rows before []) source.thread 0) → ⊥) → (r : ℕ) × (r < e) × IsStampOf trace rows r source × ((k : ℕ) → ShbBelow trace k r ↔ Learns trace e k)
     source_new source (from_event r lt is same) unknown = (r, lt, is, same)
-    source_new source (from_none nothing zero) unknown = absurd (unknown (inr (omega (arith, zero))))
+    source_new source (nothing_new nothing zero) unknown = absurd (unknown (inr (omega (arith, zero))))
 
     pub row_joined : (source : Stamp) (joined : List ℕ) → IsSource trace rows e source → ((source.thread ≡ u) ⊎ (source.time ≤ get_or (get_or rows before []) source.thread 0) → ⊥) → source.thread < length (get_or rows source.row []) → ((t : ℕ) → get_or joined t 0 ≡ max (get_or (get_or rows before []) t 0) (get_or (set (get_or rows source.row []) source.thread source.time) t 0)) → IsFrontBut trace u (λ k. ShbBelow trace k e) joined
     row_joined source joined is unknown wide each = record { within = λ t ne. within t ne; exact = λ t k of_k ne. (down t k of_k ne, up t k of_k ne) }

@@ -1,12 +1,13 @@
 -- What the sweep by stamps keeps: rows of clocks, and stamps that name one and an event.
 use Rattle.std.specs.Prelude.{◌≡◌, ℕ, ◌+◌, ◌*◌, ◌<◌, ◌≤◌, ◌⊎◌, ◌↔◌, Bool, true, List, [], Some, length, slice_index_or}
 use Rattle.shb_lines.specs.declared.event.Event.{Event}
-use Rattle.shb_lines.specs.declared.event.Op.TheVariants.{Fork}
+use Rattle.shb_lines.specs.declared.event.Op.TheVariants.{Fork, Write}
 use Rattle.shb_lines.specs.declared.event.Sizes.{Sizes}
 use Rattle.shb_lines.specs.events.Events.{thread_at, op_at}
 use Rattle.shb_lines.specs.events.Discipline.{local_time}
 use Rattle.shb_lines.specs.events.Order.{ShbBelow, BelowPred}
-use Rattle.shb_links.specs.Latest.{IsLatestBefore, ReleasesLock, WritesVariable}
+use Rattle.shb_links.specs.Latest.{IsLatestBefore, ReleasesLock}
+use Rattle.shb_links.specs.Sharing.{IsShared}
 use Rattle.shb_clocks.specs.Fronts.{Learns}
 use Rattle.shb_clocks.specs.Learned.{IsFrontBut}
 use Rattle.shb_clocks.specs.Open.{accesses_open}
@@ -59,15 +60,19 @@ KnowsStamp row t stamp = (stamp.thread ≡ t) ⊎ (stamp.time ≤ slice_index_or
 abbrev pub empty_stamp : Stamp
 empty_stamp = record { row = 0; thread = 0; time = 0 }
 
+-- the event at k writes the variable x, which is shared
+abbrev pub WritesShared : List Event → ℕ → ℕ → Type 0
+WritesShared trace x k = IsShared trace x × (op_at trace k ≡ Some (Write x))
+
 -- for each number below the size the stamp of its latest event before n
 pub record AreStamps (trace : List Event) (rows : List (List ℕ)) (P : ℕ → ℕ → Type 0) (n size : ℕ) (stamps : List Stamp) : Type 0 where
   pub as_many : length stamps ≡ size
   pub each : (x : ℕ) → x < size → IsLatestStamp trace rows (P x) n (slice_index_or stamps x empty_stamp)
 
--- the stamp of all that e learns of other threads: an earlier event's, or an empty one where that is nothing
+-- the stamp of all that e learns of other threads: an earlier event's, or an empty one where its predecessor is after all of that
 pub data IsSource (trace : List Event) (rows : List (List ℕ)) (e : ℕ) (stamp : Stamp) : Type 0 where
   from_event : (r : ℕ) → r < e → IsStampOf trace rows r stamp → ((k : ℕ) → ShbBelow trace k r ↔ Learns trace e k) → IsSource trace rows e stamp
-  from_none : ((k : ℕ) → ¬ Learns trace e k) → stamp.time ≡ 0 → IsSource trace rows e stamp
+  nothing_new : ((k : ℕ) → Learns trace e k → BelowPred trace k e) → stamp.time ≡ 0 → IsSource trace rows e stamp
 
 -- rows with at most one more after them
 pub record HasGrown (old new : RowsData) : Type 0 where
@@ -82,4 +87,4 @@ pub record IsSwept (trace : List Event) (n : ℕ) (sizes : Sizes) (stamps : Stam
   pub few : length stamps.rows.rows ≤ 2 * n + 1
   pub current : AreCurrent trace stamps.rows.rows n sizes.threads stamps.current.items
   pub locks : AreStamps trace stamps.rows.rows (ReleasesLock trace) n sizes.locks stamps.locks.items
-  pub variables : AreStamps trace stamps.rows.rows (WritesVariable trace) n sizes.variables stamps.variables.items
+  pub variables : AreStamps trace stamps.rows.rows (WritesShared trace) n sizes.variables stamps.variables.items

@@ -1,4 +1,4 @@
-//! Compaction: the rows that are in use are moved to new ones, and the others are freed.
+//! Compaction: the rows that are in use are moved to new ones, and the memory of all old ones is used again.
 
 ghost use Rattle.std.specs.Prelude.{◌≡◌, ℕ, ◌<◌, ◌≤◌, ◌⊎◌, ◌^◌, IfOk, OnOk, length, slice_index_or};
 ghost use Rattle.shb_clocks.specs.Moved.{AreAlike, AreMoved, IsMovedRow, IsMovedStamp};
@@ -20,12 +20,12 @@ struct Moving {
 }
 
 impl Moving {
-    /// No row moved yet.
-    fn new(alloc: Global, old: &Rows) -> Result<Moving, NoMemory>
+    /// No row moved yet. New rows stand in the memory of rows that aren't used any more.
+    fn new(alloc: Global, old: &Rows, unused: Rows) -> Result<Moving, NoMemory>
         ensures { IfOk result (λ moving. AreMoved old.now moving.rows moving.moved.items) }
     {
         Ok(Moving {
-            rows: Rows::new(alloc, old.width()),
+            rows: unused.reused(old.width()),
             moved: zeros(alloc, old.count())?,
         })
     }
@@ -103,10 +103,12 @@ impl Moving {
     }
 }
 
-/// The rows that these tables name, and no others. The tables name each by its new number then.
+/// The rows that these tables name, and no others, in the memory of rows that aren't used any more. The
+/// tables name each by its new number then.
 pub fn compacted(
     alloc: Global,
     old: &Rows,
+    unused: Rows,
     current: &mut Vec<u32>,
     locks: &mut Vec<Stamp>,
     variables: &mut Vec<Stamp>,
@@ -124,7 +126,7 @@ pub fn compacted(
     ensures variables { IfOk result (λ rows. AreAlike empty_stamp (IsMovedStamp old.now.rows rows.rows)
         variables.old.items variables.new.items) }
 {
-    let mut moving = Moving::new(alloc, old)?;
+    let mut moving = Moving::new(alloc, old, unused)?;
     moving.numbers(old, current)?;
     moving.stamps(old, locks)?;
     moving.stamps(old, variables)?;

@@ -8,9 +8,8 @@ use crate::clock::entry;
 use crate::kept_rows::{KeptRows, kept_rows};
 use crate::order::Order;
 use crate::rows::Rows;
-use shb_discipline::Disciplined;
 use shb_io::NoMemory;
-use shb_links::{Linked, Links};
+use shb_links::Linked;
 use std::alloc::Global;
 use std::marker::Model;
 
@@ -48,14 +47,11 @@ impl<'a> Model for EventRows<'a> {
 /// `NoMemory` where memory is refused; nothing is kept then.
 pub fn by_event<'a>(
     alloc: Global,
-    trace: &'a Disciplined<'a>,
-    links: &'a Links<'a>,
+    linked: Linked<'a>,
     flags: &'a [bool],
 ) -> Result<EventRows<'a>, NoMemory>
-    requires of_trace { links.now ≡ trace.now.events.now }
-    ensures { IfOk result (λ order. order ≡ record { trace = trace.now.events.now; flags = flags.now }) }
+    ensures { IfOk result (λ order. order ≡ record { trace = linked.entry.events.now; flags = flags.now }) }
 {
-    let linked = Linked::new(trace, links);
     let kept = kept_rows(alloc, &linked, flags)?;
     let KeptRows { rows, before, .. } = kept;
     Ok(EventRows {

@@ -37,6 +37,20 @@ impl Rows {
         }
     }
 
+    /// No clocks yet, of this width, in the memory of these, which are gone then.
+    pub fn reused(self, width: u32) -> Self
+        ensures width { result.width ≡ width }
+        ensures rows { result.rows ≡ [] }
+    {
+        let Rows { mut entries, .. } = self;
+        entries.clear();
+        Rows {
+            width,
+            count: 0,
+            entries,
+        }
+    }
+
     /// How many entries each clock has.
     pub fn width(&self) -> u32
         ensures { result ≡ self.now.width }

@@ -4,9 +4,9 @@ ghost use Rattle.std.specs.Prelude.{◌≡◌, ℕ, ◌+◌, ◌<◌, ◌≤◌,
 ghost use Rattle.shb_lines.specs.declared.event.Op.TheVariants.{Join};
 ghost use Rattle.shb_lines.specs.events.Events.{op_at, thread_at};
 ghost use Rattle.shb_lines.specs.events.Order.{BelowPred, IsBelowPredCount, ShbBelow};
-ghost use Rattle.shb_links.specs.Latest.{ReleasesLock, WritesVariable};
+ghost use Rattle.shb_links.specs.Latest.{ReleasesLock};
 ghost use Rattle.shb_clocks.specs.Rows.{AreMore};
-ghost use Rattle.shb_clocks.specs.Stamps.{AreCurrent, AreStamps, HasGrown, IsRowFor, IsSource, IsStampOf, IsSwept, KnowsStamp, empty_stamp};
+ghost use Rattle.shb_clocks.specs.Stamps.{AreCurrent, AreStamps, HasGrown, IsRowFor, IsSource, IsStampOf, IsSwept, KnowsStamp, WritesShared, empty_stamp};
 
 use crate::clock::{Clock, entry, zeros};
 use crate::compact::compacted;
@@ -16,6 +16,7 @@ use shb_io::NoMemory;
 use shb_lines::Op;
 use shb_links::Linked;
 use std::alloc::Global;
+use std::mem;
 
 /// What the sweep keeps after some events.
 #[derive(Drop)]
@@ -25,20 +26,23 @@ pub struct Stamps {
     pub current: Vec<u32>,
     /// For each lock the stamp of its last release.
     pub locks: Vec<Stamp>,
-    /// For each variable the stamp of its last write.
+    /// For each variable the stamp of its last write, if it is shared. The writes of another are known
+    /// to the one thread that accesses it, and an empty stamp stands for them.
     pub variables: Vec<Stamp>,
     /// Space to make a row in.
     pub clock: Clock,
+    /// The memory of rows that were moved, for the next ones that are.
+    pub unused: Rows,
     /// The number of rows at which those that nothing names are freed.
     pub limit: u32,
 }
 
-/// The number of rows at which the next compaction is due: four times those in use, at least as many as
+/// The number of rows at which the next compaction is due: twice those in use, at least as many as
 /// take 1 MiB, and at least as many as take the bytes of all stamps, which a compaction looks at.
 fn row_limit(linked: &Linked<'_>, used: u32) -> u32 {
     let stamps = linked.sizes.locks.saturating_add(linked.sizes.variables);
     let entries = stamps.saturating_mul(4).max(262_144);
-    used.saturating_mul(4)
+    used.saturating_mul(2)
         .max(entries / linked.sizes.threads.max(1))
 }
 
@@ -135,17 +139,19 @@ fn note_release(linked: &Linked<'_>, e: u32, stamp: Stamp, locks: &mut Vec<Stamp
     }
 }
 
-/// Keeps the stamp of e, where it is a write, as that of the last write of its variable.
+/// Keeps the stamp of e, where it is a write of a shared variable, as that of the variable's last write.
 fn note_write(linked: &Linked<'_>, e: u32, stamp: Stamp, variables: &mut Vec<Stamp>)
     requires in_range { e < length linked.now.events.now }
     requires as_many { length variables.old.items ≡ linked.now.sizes.variables }
     ensures { (rows : List (List ℕ)) → IsStampOf linked.now.events.now rows e stamp
-        → AreStamps linked.now.events.now rows (WritesVariable linked.now.events.now) e linked.now.sizes.variables variables.old.items
-        → AreStamps linked.now.events.now rows (WritesVariable linked.now.events.now) (e + 1)
+        → AreStamps linked.now.events.now rows (WritesShared linked.now.events.now) e linked.now.sizes.variables variables.old.items
+        → AreStamps linked.now.events.now rows (WritesShared linked.now.events.now) (e + 1)
         linked.now.sizes.variables variables.new.items }
 {
     if let Op::Write(variable) = linked.events[e as usize].op {
-        variables[variable as usize] = stamp;
+        if linked.links.is_shared(variable) {
+            variables[variable as usize] = stamp;
+        }
     }
 }
 
@@ -161,6 +167,7 @@ impl Stamps {
             locks: no_stamps(alloc, linked.sizes.locks)?,
             variables: no_stamps(alloc, linked.sizes.variables)?,
             clock,
+            unused: Rows::new(alloc, linked.sizes.threads),
             limit: row_limit(linked, 0),
         })
     }
@@ -183,7 +190,8 @@ impl Stamps {
     }
 
     /// The stamp of what e learns of other threads: by an acquire that of the lock's last release, by
-    /// a read that of the variable's last write, and by a join that of the thread's last event.
+    /// a read that of the variable's last write, if the variable is shared, and by a join that of the
+    /// thread's last event.
     fn source(&self, linked: &Linked<'_>, e: u32) -> Stamp
         requires in_range { e < length linked.now.events.now }
         requires swept { IsSwept linked.now.events.now e linked.now.sizes self.now }
@@ -267,13 +275,16 @@ impl Stamps {
         requires swept { IsSwept linked.now.events.now n linked.now.sizes self.old }
         ensures { OnOk result (IsSwept linked.now.events.now n linked.now.sizes self.new) }
     {
-        self.rows = compacted(
+        let unused = mem::replace(&mut self.unused, Rows::new(alloc, linked.sizes.threads));
+        let rows = compacted(
             alloc,
             &self.rows,
+            unused,
             &mut self.current,
             &mut self.locks,
             &mut self.variables,
         )?;
+        self.unused = mem::replace(&mut self.rows, rows);
         self.limit = row_limit(linked, self.rows.count());
         Ok(())
     }

@@ -6,9 +6,8 @@ ghost use Rattle.shb_clocks.specs.SweepData.{SweepData};
 
 use crate::order::Order;
 use crate::stamps::Stamps;
-use shb_discipline::Disciplined;
 use shb_io::NoMemory;
-use shb_links::{Linked, Links};
+use shb_links::Linked;
 use std::alloc::Global;
 use std::marker::Model;
 
@@ -37,15 +36,9 @@ impl<'a> Sweep<'a> {
     /// # Errors
     ///
     /// `NoMemory` where memory is refused; nothing is kept then.
-    pub fn new(
-        alloc: Global,
-        trace: &'a Disciplined<'a>,
-        links: &'a Links<'a>,
-    ) -> Result<Sweep<'a>, NoMemory>
-        requires of_trace { links.now ≡ trace.now.events.now }
-        ensures { IfOk result (λ sweep. sweep ≡ record { trace = trace.now.events.now; next = 0 }) }
+    pub fn new(alloc: Global, linked: Linked<'a>) -> Result<Sweep<'a>, NoMemory>
+        ensures { IfOk result (λ sweep. sweep ≡ record { trace = linked.entry.events.now; next = 0 }) }
     {
-        let linked = Linked::new(trace, links);
         let stamps = Stamps::new(alloc, &linked)?;
         Ok(Sweep {
             linked,

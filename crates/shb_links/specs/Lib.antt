@@ -1,3 +1,4 @@
 pub mod Latest
 pub mod Links
 pub mod Pass
+pub mod Sharing

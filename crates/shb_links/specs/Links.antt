@@ -1,10 +1,11 @@
 -- What the tables of links hold.
-use Rattle.std.specs.Prelude.{◌≡◌, ℕ, zero, suc, ◌<◌, ◌≤◌, List, Option, Some, None, length, slice_index_or}
+use Rattle.std.specs.Prelude.{◌≡◌, ℕ, zero, suc, ◌<◌, ◌≤◌, Bool, List, Option, Some, None, length, slice_index_or}
 use Rattle.shb_lines.specs.declared.event.Event.{Event}
 use Rattle.shb_lines.specs.events.Events.{thread_at}
 use Rattle.shb_lines.specs.events.Discipline.{local_time}
 use Rattle.shb_lines.specs.events.Order.{IsPred, LastWrite, IsNumberOf}
 use Rattle.shb_links.specs.Latest.{ForksThread, Latest, OfThread}
+use Rattle.shb_links.specs.Sharing.{HasShared}
 
 -- the position that a number stands for: one less than it, and none for 0
 abbrev pub link_from : ℕ → Option ℕ
@@ -43,10 +44,11 @@ pub record HasForks (trace : List Event) (forks : List (Option ℕ)) : Type 0 wh
 pub record HasLastEvents (trace : List Event) (last : List (Option ℕ)) : Type 0 where
   pub each : (t : ℕ) → Latest (OfThread trace t) (length trace) (slice_index_or last t None)
 
--- the links of the whole trace; the tables of predecessors and last writes are those of its first events, or empty
-pub record HasLinks (trace : List Event) (locals : List ℕ) (preds writes forks last : List (Option ℕ)) : Type 0 where
+-- the links of the whole trace, with the flags of the shared variables; the tables of predecessors and last writes are those of its first events, or empty
+pub record HasLinks (trace : List Event) (locals : List ℕ) (preds writes forks last : List (Option ℕ)) (shared : List Bool) : Type 0 where
   pub times : HasLocals trace (length trace) locals
   pub predecessors : HasPreds trace (length preds) preds
   pub last_writes : HasLastWrites trace (length writes) writes
   pub forks_of_threads : HasForks trace forks
   pub last_events : HasLastEvents trace last
+  pub sharing : HasShared trace shared

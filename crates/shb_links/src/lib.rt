@@ -1,5 +1,5 @@
 //! The links of a disciplined trace: the local time of each event, its predecessor, the
-//! last write of each read, and the fork of each thread.
+//! last write of each read, the fork of each thread, and which variables more than one thread accesses.
 //!
 //! One forward pass with three tables: the last event of each thread, the last write of each
 //! variable, the fork of each thread. A predecessor and a last write are kept as one more than the
@@ -18,6 +18,7 @@ mod linked;
 mod links;
 mod pass;
 mod search;
+mod sharing;
 
 pub use linked::Linked;
 pub use links::{Links, links_of, links_without_tables};

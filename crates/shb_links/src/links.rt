@@ -1,24 +1,27 @@
 //! The links of a trace: local times, predecessors, last writes and forks.
 
-ghost use Rattle.std.specs.Prelude.{◌≡◌, ℕ, ◌<◌, List, Some, IfOk, length};
+ghost use Rattle.std.specs.Prelude.{◌≡◌, ℕ, ◌<◌, ◌↔◌, List, Some, IfOk, IsTrue, length};
 ghost use Rattle.shb_lines.specs.declared.event.Event.{Event};
 ghost use Rattle.shb_lines.specs.events.Discipline.{local_time};
 ghost use Rattle.shb_lines.specs.events.Order.{IsPred, LastWrite};
 ghost use Rattle.shb_lines.specs.events.Events.{thread_at};
 ghost use Rattle.shb_links.specs.Latest.{Latest, OfThread, ForksThread};
 ghost use Rattle.shb_links.specs.Links.{Exactly, IsLocal, HasLinks};
+ghost use Rattle.shb_links.specs.Sharing.{IsShared};
 
 use crate::link::Link;
 use crate::pass::{Entries, LatestEvents, LocalTimes};
 use crate::search::{latest_of_thread, latest_write};
+use crate::sharing::shared_variables;
 use shb_discipline::Disciplined;
 use shb_io::NoMemory;
 use shb_lines::Op;
 use std::alloc::Global;
 use std::marker::Model;
 
-/// The links of a trace. Contracts see it as the list of the trace's events, since that list fixes
-/// every link. Predecessors and last writes stand in tables, or are searched for where these have none.
+/// The links of a trace, and which of its variables are shared. Contracts see it as the list of the
+/// trace's events, since that list fixes both. Predecessors and last writes stand in tables, or are
+/// searched for where these have none.
 pub struct Links<'a> {
     trace: &'a Disciplined<'a>,
     locals: Vec<u32>,
@@ -26,6 +29,7 @@ pub struct Links<'a> {
     last_writes: Vec<Link>,
     forks: Vec<Option<u32>>,
     last: Vec<Option<u32>>,
+    shared: Vec<bool>,
 }
 
 // By hand: a derived one stands in each function that drops links, with a step for each vector.
@@ -38,6 +42,7 @@ impl<'a> Drop for Links<'a> {
             last_writes: _,
             forks: _,
             last: _,
+            shared: _,
         } = self;
     }
 }
@@ -48,7 +53,7 @@ impl<'a> Model for Links<'a> {
     ghost view = { λ l. l.trace.now.events.now };
 
     ghost invariant = { λ l. HasLinks l.trace.now.events.now l.locals.items l.preds.items
-        l.last_writes.items l.forks.items l.last.items };
+        l.last_writes.items l.forks.items l.last.items l.shared.items };
 }
 
 impl<'a> Links<'a> {
@@ -109,6 +114,17 @@ impl<'a> Links<'a> {
         }
     }
 
+    /// Whether variable `x` is shared: whether events of more than one thread access it. False for every
+    /// number that names no variable.
+    pub fn is_shared(&self, x: u32) -> bool
+        ensures { IsTrue result ↔ IsShared self.now x }
+    {
+        match self.shared.get(x as usize) {
+            Some(flag) => *flag,
+            None => false,
+        }
+    }
+
     /// The last write of event `e`: where `e` reads a variable, the latest earlier write of that
     /// variable, by any thread. `None` exactly where there is none, as for every event that is no
     /// read.
@@ -134,8 +150,8 @@ impl<'a> Links<'a> {
     }
 }
 
-/// The links of a trace, by one forward pass, in twelve bytes an event. `NoMemory` where memory was
-/// refused.
+/// The links of a trace, by two forward passes, in twelve bytes an event and one a variable. `NoMemory`
+/// where memory was refused.
 pub fn links_of<'a>(alloc: Global, trace: &'a Disciplined<'a>) -> Result<Links<'a>, NoMemory>
     ensures { IfOk result (λ links. links ≡ trace.now.events.now) }
 {
@@ -158,12 +174,13 @@ pub fn links_of<'a>(alloc: Global, trace: &'a Disciplined<'a>) -> Result<Links<'
         last_writes,
         forks,
         last,
+        shared: shared_variables(alloc, trace)?,
     })
 }
 
-/// The same links in four bytes an event, without tables of predecessors and last writes: these are searched
-/// for in the trace when they are asked for, which takes a step for each event between. It is for reports
-/// without schedules, which ask for none. `NoMemory` where memory was refused.
+/// The same links in four bytes an event and one a variable, without tables of predecessors and last
+/// writes: these are searched for in the trace when they are asked for, which takes a step for each event
+/// between. It is for reports without schedules, which ask for none. `NoMemory` where memory was refused.
 pub fn links_without_tables<'a>(
     alloc: Global,
     trace: &'a Disciplined<'a>,
@@ -187,5 +204,6 @@ pub fn links_without_tables<'a>(
         last_writes: Vec::new(alloc),
         forks,
         last,
+        shared: shared_variables(alloc, trace)?,
     })
 }

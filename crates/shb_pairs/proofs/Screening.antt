@@ -19,7 +19,7 @@ use Rattle.shb_lines.proofs.events.Events.{event_of_thread, is_of_true}
 use Rattle.shb_lines.proofs.events.Prefix.{below_from_local}
 use Rattle.shb_lines.proofs.events.Reach.{event_at_access}
 use Rattle.shb_lines.proofs.events.Schedulable.{thread_below_pred}
-use Rattle.shb_pairs.proofs.Counting.{variable_item}
+use Rattle.shb_links.specs.Sharing.{IsShared}
 use Rattle.shb_pairs.specs.declared.screen.Latest.{Latest}
 use Rattle.shb_pairs.specs.declared.screen.Mark.{Mark}
 use Rattle.shb_pairs.specs.declared.screen.KeptRead.{KeptRead}
@@ -201,24 +201,31 @@ module _ (trace : List Event) (disciplined : IsDisciplined trace) (reads : List 
 pub table_start : (trace : List Event) (reads : List KeptRead) (size : ℕ) (latest : Latest) (table : List Latest) → table ≡ replicate size latest → AreScreened trace reads 0 size table
 table_start trace reads size latest table is = record {
   as_many = ap length is ∙ length-replicate size latest;
-  each = λ x d lt. screened_none trace reads x (get_or table x d);
+  each = λ x d lt shared. screened_none trace reads x (get_or table x d);
 }
 
-pub table_other : (trace : List Event) (reads : List KeptRead) (n size : ℕ) (table : List Latest) → ((x : ℕ) → variable_at trace n ≢ Some x) → AreScreened trace reads n size table → AreScreened trace reads (n + 1) size table
+pub table_other : (trace : List Event) (reads : List KeptRead) (n size : ℕ) (table : List Latest) → ((x : ℕ) → IsShared trace x → variable_at trace n ≢ Some x) → AreScreened trace reads n size table → AreScreened trace reads (n + 1) size table
 table_other trace reads n size table other h = record {
   as_many = h.as_many;
-  each = λ x d lt. screened_other trace reads n x (get_or table x d) (other x) (h.each x d lt);
+  each = λ x d lt shared. screened_other trace reads n x (get_or table x d) (other x shared) (h.each x d lt shared);
 }
 
 pub table_access : (trace : List Event) (reads more : List KeptRead) (n size x : ℕ) (next : Latest) (table : List Latest) → ((mark : Mark) (read : KeptRead) → IsOf reads mark read → IsOf more mark read) → x < size → variable_at trace n ≡ Some x → IsScreened trace more (n + 1) x next → AreScreened trace reads n size table → AreScreened trace more (n + 1) size (set table x next)
 table_access trace reads more n size x next table kept within access screened h = record {
   as_many = length-set table x next ∙ h.as_many;
-  each = λ y d lt. go y d lt (cases_eq y x);
+  each = λ y d lt shared. go y d lt shared (cases_eq y x);
 }
   where
-    go : (y : ℕ) (d : Latest) → y < size → (y ≡ x) ⊎ (y ≢ x) → IsScreened trace more (n + 1) y (get_or (set table x next) y d)
-    go y d lt (inl e) = rw e (rw (get_or-set_same table x next d (let long = h.as_many in omega (arith, long, within))) screened)
-    go y d lt (inr ne) = rw (get_or-set_other table x y next d ne) (screened_other trace more n y (get_or table y d) (λ of_n. ne (let s : Some y ≡ Some x = sym of_n ∙ access in cc)) (screened_more trace reads more n y (get_or table y d) kept (h.each y d lt)))
+    go : (y : ℕ) (d : Latest) → y < size → IsShared trace y → (y ≡ x) ⊎ (y ≢ x) → IsScreened trace more (n + 1) y (get_or (set table x next) y d)
+    go y d lt shared (inl e) = rw e (rw (get_or-set_same table x next d (let long = h.as_many in omega (arith, long, within))) screened)
+    go y d lt shared (inr ne) = rw (get_or-set_other table x y next d ne) (screened_other trace more n y (get_or table y d) (λ of_n. ne (let s : Some y ≡ Some x = sym of_n ∙ access in cc)) (screened_more trace reads more n y (get_or table y d) kept (h.each y d lt shared)))
+
+-- a variable that has a race is shared
+race_shared : (trace : List Event) (i j x : ℕ) → variable_at trace j ≡ Some x → Race trace i j → IsShared trace x
+race_shared trace i j x of_j race =
+    let conflict = race.conflict in
+    let same : conflict.variable ≡ x = (let s : Some conflict.variable ≡ Some x = sym conflict.second_accesses ∙ of_j in cc) in
+    record { first = i; second = j; first_accesses = conflict.first_accesses ∙ ap (λ (n : ℕ). Some n) same; second_accesses = of_j; other_thread = conflict.other_thread }
 
 -- the flags
 pub flags_open : (trace : List Event) (reads : List KeptRead) (size : ℕ) (table : List Latest) (flags : List Bool) → ((k x : ℕ) → variable_at trace k ≡ Some x → (k < length trace) × (x < size)) → flags ≡ map (λ (latest : Latest). latest.write.time == no_time) table → AreScreened trace reads (length trace) size table → AreOpen trace flags
@@ -228,22 +235,7 @@ flags_open trace reads size table flags within is h x shut i j of_j race =
     let d : Latest = record { write = none; read = record { mark = none; before = 0 } } in
     let lt : x < length table = (let long = h.as_many in let low = range.1 in omega (arith, long, low)) in
     let flag : get_or flags x true ≡ (get_or table x d).write.time == no_time = ap (λ (bs : List Bool). get_or bs x true) is ∙ get_or-map (λ (latest : Latest). latest.write.time == no_time) table x d true lt in
-    (h.each x d range.1).free i j range.0 of_j (λ e. (let yes_it = eq-eqb (get_or table x d).write.time no_time e in let f : true ≡ false = sym yes_it ∙ (sym flag ∙ shut) in (let g : ⊥ = cc in g))) race
-
-pub apart : (x : ℕ) → Some x ≡ None → ⊥
-apart x h = let f : ⊥ = cc in f
-
--- an access and its variable are in range
-sized : (sizes : Sizes) (op : Op) (x : ℕ) → IsOpWithin sizes op → variable_of op ≡ Some x → x < sizes.variables
-sized sizes (Read y) x low is = let same : y ≡ x = cc in rw (← same) low
-sized sizes (Write y) x low is = let same : y ≡ x = cc in rw (← same) low
-sized sizes _ x low is = absurd (let f : ⊥ = cc in f)
-
-pub variable_sized : (trace : List Event) (sizes : Sizes) (k x : ℕ) → IsWithin trace sizes → variable_at trace k ≡ Some x → (k < length trace) × (x < sizes.variables)
-variable_sized trace sizes k x within access =
-    let e = event_at_access trace k x access in
-    let lt = slice_get_within trace k e.0 e.1 in
-    (lt, sized sizes (get_or trace k e.0).op x (within k (get_or trace k e.0) (slice_get-get_or trace k e.0 lt)).operation (sym (variable_item trace k e.0 lt) ∙ access))
+    (h.each x d range.1 (race_shared trace i j x of_j race)).free i j range.0 of_j (λ e. (let yes_it = eq-eqb (get_or table x d).write.time no_time e in let f : true ≡ false = sym yes_it ∙ (sym flag ∙ shut) in (let g : ⊥ = cc in g))) race
 
 -- the same reads under another name
 pub screened_same : (trace : List Event) (seen reads : List KeptRead) (e x : ℕ) (latest next : Latest) → seen ≡ reads → (IsScreened trace seen e x latest → IsScreened trace seen (e + 1) x next) → IsScreened trace reads e x latest → IsScreened trace reads (e + 1) x next

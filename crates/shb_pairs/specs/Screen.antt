@@ -6,6 +6,7 @@ use Rattle.shb_lines.specs.events.Discipline.{local_time}
 use Rattle.shb_lines.specs.events.Events.{thread_at, op_at}
 use Rattle.shb_lines.specs.events.Order.{BelowPred, IsBelowPredCount}
 use Rattle.shb_lines.specs.events.Race.{Race, variable_at}
+use Rattle.shb_links.specs.Sharing.{IsShared}
 use Rattle.shb_pairs.specs.declared.screen.Latest.{Latest}
 use Rattle.shb_pairs.specs.declared.screen.Mark.{Mark}
 use Rattle.shb_pairs.specs.declared.screen.KeptRead.{KeptRead}
@@ -39,7 +40,7 @@ pub record IsScreened (trace : List Event) (reads : List KeptRead) (n x : ℕ) (
   pub accesses : (k : ℕ) → k < n → variable_at trace k ≡ Some x → (mark : Mark) × IsOf reads mark latest.read × Covers trace n latest.write mark k
   pub free : (i j : ℕ) → j < n → variable_at trace j ≡ Some x → latest.write.time ≢ no_time → ¬ Race trace i j
 
--- the same of each variable
+-- the same of each shared variable
 pub record AreScreened (trace : List Event) (reads : List KeptRead) (n size : ℕ) (table : List Latest) : Type 0 where
   pub as_many : length table ≡ size
-  pub each : (x : ℕ) (d : Latest) → x < size → IsScreened trace reads n x (slice_index_or table x d)
+  pub each : (x : ℕ) (d : Latest) → x < size → IsShared trace x → IsScreened trace reads n x (slice_index_or table x d)

@@ -13,7 +13,7 @@ use shb_clocks::{Order, Ordered, Sweep};
 use shb_discipline::Disciplined;
 use shb_io::NoMemory;
 use shb_lines::variable;
-use shb_links::Links;
+use shb_links::{Linked, Links};
 use std::alloc::Global;
 
 /// The local time of an event that isn't known any more, above that of each event.
@@ -218,7 +218,7 @@ fn after_access<O: Order>(
     }
 }
 
-/// Takes the event at e into what is kept of its variable, if it is an access.
+/// Takes the event at e into what is kept of its variable, if it accesses a shared one.
 fn screen<O: Order>(
     ordered: &Ordered<'_, O>,
     reads: &mut Vec<KeptRead>,
@@ -233,8 +233,10 @@ fn screen<O: Order>(
         ordered.now.trace.now.sizes.variables table.new.items) }
 {
     if let Some(x) = variable(ordered.trace.events[e as usize].op) {
-        let latest = table[x as usize];
-        table[x as usize] = after_access(ordered, reads, latest, e)?;
+        if ordered.links.is_shared(x) {
+            let latest = table[x as usize];
+            table[x as usize] = after_access(ordered, reads, latest, e)?;
+        }
     }
     Ok(())
 }
@@ -251,14 +253,14 @@ fn flags_of(alloc: Global, table: &[Latest]) -> Result<Vec<bool>, NoMemory>
 }
 
 /// Which variables may have a race, a flag for each: where it is false, no pair of accesses of the
-/// variable is a race. One pass over the trace with a [`Sweep`], which is asked twice for each access
-/// and once more for each read that isn't ordered after the read before it. Beside what the sweep
-/// keeps, 20 bytes a variable and 12 such a read.
+/// variable is a race. One pass over the trace with a [`Sweep`], which is asked twice for each access of
+/// a shared variable and once more for each read that isn't ordered after the read before it. Beside what
+/// the sweep keeps, 20 bytes a variable and 12 such a read.
 ///
-/// A variable is settled where, of each access, the last write before it is SHB-below its
-/// predecessor and, where the access writes, so are the reads since that write. A flag may be true
-/// though no pair races: where there are more than 1,048,576 reads that aren't ordered after the one
-/// before.
+/// A variable is settled where one thread alone accesses it, or where, of each access, the last write
+/// before it is SHB-below its predecessor and, where the access writes, so are the reads since that write.
+/// A flag may be true though no pair races: where there are more than 1,048,576 reads that aren't ordered
+/// after the one before.
 ///
 /// # Errors
 ///
@@ -277,7 +279,7 @@ pub fn open_variables(
     };
     let mut reads = Vec::new(alloc);
     let mut table = vec![in alloc; none; trace.sizes.variables as usize]?;
-    let mut sweep = Sweep::new(alloc, &*trace, &*links)?;
+    let mut sweep = Sweep::new(alloc, Linked::new(&*trace, &*links))?;
     for e in 0..trace.events.len() as u32 {
         let ordered = Ordered::new(&sweep, &*trace, &*links);
         screen(&ordered, &mut reads, &mut table, e)?;

@@ -18,7 +18,7 @@ use shb_discipline::Disciplined;
 use shb_fan::{FreeGate, Gate};
 use shb_io::{NoMemory, Sink, Source};
 use shb_lines::{Limits, Trace, parse};
-use shb_links::{Links, links_of, links_without_tables};
+use shb_links::{Linked, Links, links_of, links_without_tables};
 use shb_pairs::open_variables;
 use shb_write::{BlockPlan, WriteError, write_report};
 use std::alloc::Global;
@@ -118,7 +118,7 @@ fn report<R: Threads + Wait + Sync + RandomSource, K: Sink, P: Gate + Sync, W: G
 {
     let links = links_for(alloc, &*trace, task.settings.schedules)?;
     let flags = open_variables(alloc, &*trace, &links)?;
-    let order = by_event(alloc, &*trace, &links, &flags)?;
+    let order = by_event(alloc, Linked::new(&*trace, &links), &flags)?;
     let ordered = Ordered::new(&order, &*trace, &links);
     let screened = Screened::new(&ordered, &flags);
     report_by(rt, alloc, sink, &screened, task, gates)

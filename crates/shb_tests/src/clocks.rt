@@ -8,7 +8,7 @@ use shb_clocks::{EventRows, Order, PlainOrder, Sweep, by_event, full, plain, ver
 use shb_discipline::Disciplined;
 use shb_io::NoMemory;
 use shb_lines::variable;
-use shb_links::Links;
+use shb_links::{Linked, Links};
 use std::alloc::Global;
 use std::test::Fail;
 
@@ -38,16 +38,9 @@ fn answer_of_rows(rows: &EventRows<'_>, trace: &Disciplined<'_>, e: u32, t: u32,
 }
 
 /// What a sweep answers when it comes to the event, 0 for an event that isn't there.
-fn answer_of_sweep(
-    alloc: Global,
-    trace: &Disciplined<'_>,
-    links: &Links<'_>,
-    at: At,
-) -> Result<u32, NoMemory>
-    requires of_trace { links.now ≡ trace.now.events.now }
-{
-    let mut sweep = Sweep::new(alloc, &*trace, &*links)?;
-    for e in 0..trace.events.len() as u32 {
+fn answer_of_sweep(alloc: Global, linked: Linked<'_>, at: At) -> Result<u32, NoMemory> {
+    let mut sweep = Sweep::new(alloc, linked)?;
+    for e in 0..linked.events.len() as u32 {
         if e == at.e {
             return Ok(sweep.below_pred(e, at.t));
         }
@@ -76,9 +69,9 @@ impl Question for At {
         let in_plain = answer(&plain(alloc, trace, links)?, trace, self.e, self.t);
         let in_full = answer(&full(alloc, trace, links)?, trace, self.e, self.t);
         let in_versions = answer(&versions(alloc, trace, links)?, trace, self.e, self.t);
-        let rows = by_event(alloc, trace, links, &[])?;
+        let rows = by_event(alloc, Linked::new(trace, links), &[])?;
         let in_rows = answer_of_rows(&rows, trace, self.e, self.t, in_plain);
-        let in_sweep = answer_of_sweep(alloc, trace, links, *self)?;
+        let in_sweep = answer_of_sweep(alloc, Linked::new(trace, links), *self)?;
         Ok([in_plain, in_full, in_versions, in_rows, in_sweep])
     }
 }
@@ -150,7 +143,7 @@ fn sweep_differs(
     requires plain { plain.now ≡ trace.now.events.now }
     requires of_trace { links.now ≡ trace.now.events.now }
 {
-    let mut sweep = Sweep::new(alloc, &*trace, &*links)?;
+    let mut sweep = Sweep::new(alloc, Linked::new(&*trace, &*links))?;
     for e in 0..trace.events.len() as u32 {
         if let Some(found) = differs_at(plain, &sweep, trace, e) {
             return Ok(Some(found));
@@ -175,7 +168,11 @@ impl Question for Difference {
         let plain = plain(alloc, trace, links)?;
         let in_full = differs(&plain, &full(alloc, trace, links)?, trace);
         let in_versions = differs(&plain, &versions(alloc, trace, links)?, trace);
-        let in_rows = rows_differ(&plain, &by_event(alloc, trace, links, &[])?, trace);
+        let in_rows = rows_differ(
+            &plain,
+            &by_event(alloc, Linked::new(trace, links), &[])?,
+            trace,
+        );
         let in_sweep = sweep_differs(alloc, &plain, trace, links)?;
         Ok(in_full.or(in_versions).or(in_rows).or(in_sweep))
     }

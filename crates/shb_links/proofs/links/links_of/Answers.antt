@@ -17,4 +17,5 @@ invariant_of-result c =
       last_writes = (let has = c.loop-e.invariant.entries.last_writes in subst (λ (n : ℕ). HasLastWrites trace.events.now n entries.last_writes.items) (sym has.as_long) has);
       forks_of_threads = forks_whole trace.events.now trace.sizes latest.forks.items trace.within (subst (λ (n : ℕ). IsLatestTable (ForksThread trace.events.now) n trace.sizes.threads latest.forks.items) all c.loop-e.invariant.latest.forks);
       last_events = last_whole trace.events.now trace.sizes latest.last.items trace.within (subst (λ (n : ℕ). IsLatestTable (OfThread trace.events.now) n trace.sizes.threads latest.last.items) all c.loop-e.invariant.latest.last);
+      sharing = c.in_ok-shared_variables.ensures;
     }

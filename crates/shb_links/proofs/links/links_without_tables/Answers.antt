@@ -17,4 +17,5 @@ invariant_of-result c =
       last_writes = no_writes trace.events.now _ c.new-3.ensures.items;
       forks_of_threads = forks_whole trace.events.now trace.sizes found.forks.items trace.within (subst (λ (n : ℕ). IsLatestTable (ForksThread trace.events.now) n trace.sizes.threads found.forks.items) all c.loop-e.invariant.forks);
       last_events = last_whole trace.events.now trace.sizes found.last.items trace.within (subst (λ (n : ℕ). IsLatestTable (OfThread trace.events.now) n trace.sizes.threads found.last.items) all c.loop-e.invariant.last);
+      sharing = c.in_ok-shared_variables.ensures;
     }

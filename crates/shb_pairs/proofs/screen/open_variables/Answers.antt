@@ -2,7 +2,8 @@ use Rattle.std.proofs.Common.{◌≡◌, ◌==◌, ℕ, List, length, map, arith
 use Rattle.std.proofs.lemmas.Result.{IfOk-weaker}
 use Rattle.shb_pairs.specs.declared.screen.Latest.{Latest}
 use Rattle.shb_pairs.specs.Screen.{AreScreened, no_time}
-use Rattle.shb_pairs.proofs.Screening.{flags_open, variable_sized}
+use Rattle.shb_links.proofs.Owners.{variable_sized}
+use Rattle.shb_pairs.proofs.Screening.{flags_open}
 use Rattle.shb_pairs.proofs.screen.open_variables.Goals as goal
 
 pub returns : goal.returns

@@ -1,6 +1,7 @@
 use Rattle.std.proofs.Common.{ℕ, List, [], length, get_or, ap, ◌∙◌, arith}
 use Rattle.std.proofs.Math.ListN.{length-replicate}
-use Rattle.shb_links.specs.Latest.{WritesVariable, ReleasesLock}
+use Rattle.shb_links.specs.Latest.{ReleasesLock}
+use Rattle.shb_clocks.specs.Stamps.{WritesShared}
 use Rattle.shb_clocks.proofs.StampItems.{current_start}
 use Rattle.shb_clocks.proofs.Stamping.{stamps_start}
 use Rattle.shb_clocks.proofs.stamps.Stamps.new.Goals as goal
@@ -17,5 +18,5 @@ returns c =
       few = omega (arith, one);
       current = current_start trace c.in_ok-first_row.field-0.rows sizes.threads c.in_ok-zeros.field-0.items (omega (arith, one)) (ap (λ (rs : List (List ℕ)). get_or rs 0 []) rows) c.in_ok-zeros.ensures;
       locks = stamps_start trace c.in_ok-first_row.field-0.rows (ReleasesLock trace) sizes.locks c.in_ok-no_stamps.field-0.items c.in_ok-no_stamps.ensures;
-      variables = stamps_start trace c.in_ok-first_row.field-0.rows (WritesVariable trace) sizes.variables c.in_ok-no_stamps-2.field-0.items c.in_ok-no_stamps-2.ensures;
+      variables = stamps_start trace c.in_ok-first_row.field-0.rows (WritesShared trace) sizes.variables c.in_ok-no_stamps-2.field-0.items c.in_ok-no_stamps-2.ensures;
     }

@@ -1,9 +1,10 @@
 use Rattle.std.proofs.Common.{List, ap}
 use Rattle.shb_lines.specs.declared.event.Event.{Event}
 use Rattle.shb_lines.specs.declared.event.Op.TheVariants.{Read}
-use Rattle.shb_links.specs.Latest.{WritesVariable, ReleasesLock}
+use Rattle.shb_links.specs.Latest.{ReleasesLock}
+use Rattle.shb_clocks.specs.Stamps.{WritesShared}
 use Rattle.shb_lines.proofs.events.Items.{op_item}
-use Rattle.shb_clocks.specs.Stamps.{from_none}
+use Rattle.shb_clocks.specs.Stamps.{nothing_new}
 use Rattle.shb_clocks.specs.declared.stamp.Stamp.{Stamp}
 use Rattle.shb_clocks.proofs.PastLemmas.{learns_nothing}
 use Rattle.shb_clocks.proofs.StampItems.{op_is, op_low, stamp_item}
@@ -28,9 +29,9 @@ returns-in-Read c =
     let trace : List Event = c.args.linked.now.events.now in
     let there = op_is trace c.args.e no_event _ c.requires.in_range c.in-Read.is in
     source_read trace c.args.linked.now.meets c.args.self.now.rows.rows c.args.e c.in-Read.variable c.index-in-Read.result.now there
-    (stamp_item trace c.args.self.now.rows.rows (WritesVariable trace) c.args.e c.args.linked.now.sizes.variables c.in-Read.variable c.args.self.now.variables.items c.index-in-Read.result.now c.requires.swept.variables (op_low trace c.args.linked.now.sizes c.args.e _ c.args.linked.now.within there) c.index-in-Read.ensures)
+    (stamp_item trace c.args.self.now.rows.rows (WritesShared trace) c.args.e c.args.linked.now.sizes.variables c.in-Read.variable c.args.self.now.variables.items c.index-in-Read.result.now c.requires.swept.variables (op_low trace c.args.linked.now.sizes c.args.e _ c.args.linked.now.within there) c.index-in-Read.ensures)
 
 pub returns-in_default : goal.returns-in_default
-returns-in_default c = from_none
-    (λ k. learns_nothing c.args.linked.now.events.now c.args.linked.now.meets c.args.e _ k (op_item c.args.linked.now.events.now c.args.e no_event c.requires.in_range) c.in_default.not-Acquire c.in_default.not-Join c.in_default.not-Read)
+returns-in_default c = nothing_new
+    (λ k learns. absurd (learns_nothing c.args.linked.now.events.now c.args.linked.now.meets c.args.e _ k (op_item c.args.linked.now.events.now c.args.e no_event c.requires.in_range) c.in_default.not-Acquire c.in_default.not-Join c.in_default.not-Read learns))
     (ap (λ (s : Stamp). s.time) c.empty.ensures)

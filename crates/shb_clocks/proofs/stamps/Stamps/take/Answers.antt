@@ -2,7 +2,8 @@ use Rattle.std.proofs.Common.{ℕ, List, get_or, ◌∙◌, arith}
 use Rattle.shb_lines.specs.declared.event.Event.{Event}
 use Rattle.shb_lines.specs.declared.event.Op.TheVariants.{Read}
 use Rattle.shb_lines.proofs.events.Items.{thread_item}
-use Rattle.shb_links.specs.Latest.{WritesVariable, ReleasesLock}
+use Rattle.shb_links.specs.Latest.{ReleasesLock}
+use Rattle.shb_clocks.specs.Stamps.{WritesShared}
 use Rattle.shb_clocks.specs.Stamps.{IsStampOf}
 use Rattle.shb_clocks.specs.declared.stamp.Stamp.{Stamp}
 use Rattle.shb_clocks.proofs.LearnedLemmas.{local_is}
@@ -39,7 +40,7 @@ returns-clause-swept c =
       few = (let a = first.few in let b = second.few in let prior = old.few in omega (arith, a, b, prior));
       current = c.in_ok-pass_on.ensures.current;
       locks = c.note_release.ensures c.pass_on.new.rows.rows kept (stamps_more trace rows c.pass_on.new.rows.rows (ReleasesLock trace) c.args.e sizes.locks c.args.self.now.locks.items grown old.locks);
-      variables = c.note_write.ensures c.pass_on.new.rows.rows kept (stamps_more trace rows c.pass_on.new.rows.rows (WritesVariable trace) c.args.e sizes.variables c.args.self.now.variables.items grown old.variables);
+      variables = c.note_write.ensures c.pass_on.new.rows.rows kept (stamps_more trace rows c.pass_on.new.rows.rows (WritesShared trace) c.args.e sizes.variables c.args.self.now.variables.items grown old.variables);
     }
 
 pub returns-clause-more : goal.returns-clause-more
