@@ -20,7 +20,7 @@ pub(crate) fn check_report<R: Print + Eprint + Input + AllocGlobal + Files + Ran
         return complain(rt, "cannot open", FAILED);
     };
     let mut trace = FromRead::new(file);
-    // One more than it may have.
+    // One byte more than a report may have.
     let mut given = rt.reader().take(MOST_BYTES + 1);
     let mut report = FromRead::new(&mut given);
     let mut sink = ToWrite::new(writer(rt));
