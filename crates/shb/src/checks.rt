@@ -2,14 +2,12 @@
 use crate::complaints::{FAILED, complain};
 use crate::output::flushed;
 use shb_io::{FromRead, ToWrite};
+use shb_lines::MOST_BYTES;
 use shb_run::{check, end_of_check};
 use std::fs::File;
 use std::io::{Read, writer};
 use std::random::RandomSource;
 use std::rt::Files;
-
-/// How many bytes of a report are read: one more than it may have.
-const MOST_READ: u64 = 1_073_741_825;
 
 /// Judges the report on standard input against the trace of a file, writes the verdict to standard
 /// output, and gives the program's status. Of a report that is longer than a check reads, standard error
@@ -22,7 +20,8 @@ pub(crate) fn check_report<R: Print + Eprint + Input + AllocGlobal + Files + Ran
         return complain(rt, "cannot open", FAILED);
     };
     let mut trace = FromRead::new(file);
-    let mut given = rt.reader().take(MOST_READ);
+    // One byte more than a report may have.
+    let mut given = rt.reader().take(MOST_BYTES + 1);
     let mut report = FromRead::new(&mut given);
     let mut sink = ToWrite::new(writer(rt));
     let answer = flushed(
@@ -30,7 +29,7 @@ pub(crate) fn check_report<R: Print + Eprint + Input + AllocGlobal + Files + Ran
         sink,
     );
     if answer.is_ok() && given.limit() == 0 {
-        let _ = rt.eprintln("the report is longer than 1073741824 bytes");
+        let _ = eprintln!(rt; "the report is longer than {MOST_BYTES} bytes");
     }
     end_of_check(rt, &answer)
 }

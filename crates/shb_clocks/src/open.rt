@@ -3,7 +3,6 @@
 ghost use Rattle.std.specs.Prelude.{◌≡◌, ℕ, ◌<◌, ◌≤◌, true, length};
 ghost use Rattle.shb_clocks.specs.Open.{accesses_open, is_open as is_open_in};
 
-use shb_lines::variable;
 use shb_links::Linked;
 
 /// Whether a variable is open by these flags: it is unless its flag is false.
@@ -21,7 +20,7 @@ pub fn is_asked(linked: &Linked<'_>, flags: &[bool], e: u32) -> bool
     requires { e < length linked.now.events.now }
     ensures { result ≡ accesses_open flags.now linked.now.events.now e }
 {
-    match variable(linked.events[e as usize].op) {
+    match linked.events[e as usize].op.variable() {
         Some(x) => is_open(flags, x),
         None => false,
     }

@@ -1,22 +1,10 @@
 //! Which events conflict: accesses of one variable by different threads, at least one a write.
 ghost use Rattle.std.specs.Prelude.{◌≡◌, ◌<◌, ◌↔◌, IsTrue, length};
-ghost use Rattle.shb_lines.specs.events.Events.{variable_of};
 ghost use Rattle.shb_lines.specs.events.Race.{Conflict};
 ghost use Rattle.shb_lines.specs.events.Tests.{is_conflict, same_variable};
 
-use crate::event::{Event, Op};
+use crate::event::Event;
 use crate::trace::Trace;
-
-/// The variable that an operation reads or writes, if it is an access.
-pub fn variable(op: Op) -> Option<u32>
-    ensures { result ≡ variable_of op }
-{
-    match op {
-        Op::Read(x) => Some(x),
-        Op::Write(x) => Some(x),
-        _ => None,
-    }
-}
 
 /// Whether both are variables, and the same one.
 fn equal_variables(first: Option<u32>, second: Option<u32>) -> bool
@@ -33,7 +21,7 @@ fn equal_variables(first: Option<u32>, second: Option<u32>) -> bool
 pub fn events_conflict(first: Event, second: Event) -> bool
     ensures { result ≡ is_conflict first second }
 {
-    equal_variables(variable(first.op), variable(second.op))
+    equal_variables(first.op.variable(), second.op.variable())
         && (first.op.is_write() || second.op.is_write())
         && !(first.thread == second.thread)
 }

@@ -8,7 +8,6 @@ ghost use Rattle.shb_links.specs.Sharing.{AreOwners, HasShared, IsOwner, is_seve
 
 use shb_discipline::Disciplined;
 use shb_io::NoMemory;
-use shb_lines::variable;
 use std::alloc::Global;
 
 /// Which threads access a variable.
@@ -49,7 +48,7 @@ fn note_access(trace: &Disciplined<'_>, owners: &mut Vec<Owner>, e: u32)
     ensures { AreOwners trace.now.events.now (e + 1) trace.now.sizes.variables owners.new.items }
 {
     let event = trace.events[e as usize];
-    if let Some(x) = variable(event.op) {
+    if let Some(x) = event.op.variable() {
         let owner = owners[x as usize];
         owners[x as usize] = owner.with(event.thread);
     }

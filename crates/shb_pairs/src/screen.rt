@@ -12,7 +12,6 @@ ghost use Rattle.shb_pairs.specs.declared.screen.KeptRead.{KeptRead};
 use shb_clocks::{Order, Ordered, Sweep};
 use shb_discipline::Disciplined;
 use shb_io::NoMemory;
-use shb_lines::variable;
 use shb_links::{Linked, Links};
 use std::alloc::Global;
 
@@ -232,7 +231,7 @@ fn screen<O: Order>(
     ensures { OnOk result (AreScreened ordered.now.trace.now.events.now reads.new.items (e + 1)
         ordered.now.trace.now.sizes.variables table.new.items) }
 {
-    if let Some(x) = variable(ordered.trace.events[e as usize].op) {
+    if let Some(x) = ordered.trace.events[e as usize].op.variable() {
         if ordered.links.is_shared(x) {
             let latest = table[x as usize];
             table[x as usize] = after_access(ordered, reads, latest, e)?;

@@ -7,9 +7,9 @@ use Rattle.shb_lines.specs.declared.event.Event.{Event}
 use Rattle.shb_lines.specs.declared.event.Op.{Op}
 use Rattle.shb_lines.specs.declared.event.Op.TheVariants.{Acquire, Release, Fork, Join}
 use Rattle.shb_lines.specs.events.Events.{thread_at, op_at, events_at}
-use Rattle.shb_lines.specs.events.Discipline.{IsDisciplined, MayCome, MayDo, MayFork, acquires, releases, other_than, only, is_acquire, is_release, is_of, is_fork, is_join, op_is_acquire, op_is_release, op_is_fork, op_is_join}
+use Rattle.shb_lines.specs.events.Discipline.{IsDisciplined, MayCome, MayDo, MayFork, acquires, releases, other_than, only, is_acquire, is_release, is_of, is_fork, is_join, op_is_acquire, op_is_release}
 use Rattle.shb_lines.proofs.events.Counts.{count_mono, counted_before}
-use Rattle.shb_lines.proofs.events.Events.{thread_is, op_is, event_of_op, fork_allowed, is_fork_true, is_acquire_parts, is_release_parts}
+use Rattle.shb_lines.proofs.events.Events.{thread_is, op_is, event_of_op, fork_allowed, fork_op, is_fork_true, is_acquire_parts, is_release_parts, join_op}
 use Rattle.shb_lines.proofs.events.Locks.{DisciplinedBelow, releases_le}
 use Rattle.shb_lines.proofs.events.Prefix.{is_of_thread}
 use Rattle.shb_replay.specs.declared.broken.Why.TheVariants as whys
@@ -18,14 +18,6 @@ use Rattle.shb_replay.proofs.Standing.{widen}
 use Rattle.shb_replay.proofs.Closed.{once, thread_stands, fork_stands, joined_stands, release_stands}
 use Rattle.shb_links.proofs.Balance.{HasHolder, IsPassing, acquires_yes, releases_no, holder_after, disciplined_below, some_counted, others_balanced}
 use Rattle.shb_replay.proofs.Cuts.{IsCut, IsEventAt, index_of_event, own_count, cut_of}
-
-fork_op : (u : ℕ) (op : Op) → op_is_fork u op ≡ true → op ≡ Fork u
-fork_op u (Fork v) h = ap (λ n. Fork n) (sym (eqb-true u v h))
-fork_op u _ h = absurd (let f : ⊥ = cc in f)
-
-join_op : (u : ℕ) (op : Op) → op_is_join u op ≡ true → op ≡ Join u
-join_op u (Join v) h = ap (λ n. Join n) (sym (eqb-true u v h))
-join_op u _ h = absurd (let f : ⊥ = cc in f)
 
 is_fork_op : (u : ℕ) (e : Event) → is_fork u e ≡ true → e.op ≡ Fork u
 unfolding is_fork

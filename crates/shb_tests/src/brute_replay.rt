@@ -1,6 +1,7 @@
 //! Every short list of events of some small traces, by the definition of a schedule written out plainly.
 
 ghost use Rattle.std.specs.Prelude.{◌≡◌, ◌<◌, ◌≤◌, length};
+ghost use Rattle.shb_lines.specs.text.Limits.{most_events};
 
 use crate::asserting::same;
 use crate::fixtures::{Question, asked, pair};
@@ -153,7 +154,7 @@ fn all_before(alloc: Global, events: &[Event], b: u32) -> Result<Vec<u32>, Fail>
 /// Whether an event at its index in a list meets the definition of a correct reordering that keeps
 /// happens-before.
 fn is_in_place(alloc: Global, events: &[Event], list: &[u32], place: usize) -> Result<bool, Fail>
-    requires few { length events.now ≤ 4194304 }
+    requires few { length events.now ≤ most_events }
     requires place { place < length list.now }
 {
     let past = list.split_at(place).0;
@@ -188,7 +189,7 @@ fn is_in_place(alloc: Global, events: &[Event], list: &[u32], place: usize) -> R
 
 /// Whether a list is a correct reordering that keeps happens-before.
 fn is_reordering(alloc: Global, events: &[Event], list: &[u32]) -> Result<bool, Fail>
-    requires { length events.now ≤ 4194304 }
+    requires { length events.now ≤ most_events }
 {
     if !has_different_events(events, list) {
         return Ok(false);
@@ -203,7 +204,7 @@ fn is_reordering(alloc: Global, events: &[Event], list: &[u32]) -> Result<bool, 
 
 /// Whether an event is next after a list.
 fn is_next(events: &[Event], list: &[u32], e: u32) -> bool
-    requires { length events.now ≤ 4194304 }
+    requires { length events.now ≤ most_events }
 {
     let Some(event) = event_at(events, e) else {
         return false;

@@ -7,7 +7,6 @@ use crate::fixtures::{Mixture, Question, asked, push_line, push_mixed_lines};
 use shb_clocks::{EventRows, Order, PlainOrder, Sweep, by_event, full, plain, versions};
 use shb_discipline::Disciplined;
 use shb_io::NoMemory;
-use shb_lines::variable;
 use shb_links::{Linked, Links};
 use std::alloc::Global;
 use std::test::Fail;
@@ -31,7 +30,7 @@ fn answer_of_rows(rows: &EventRows<'_>, trace: &Disciplined<'_>, e: u32, t: u32,
     if e as usize >= trace.events.len() {
         return other;
     }
-    match variable(trace.events[e as usize].op) {
+    match trace.events[e as usize].op.variable() {
         Some(_) => rows.below_pred(e, t),
         None => other,
     }

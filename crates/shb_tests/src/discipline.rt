@@ -11,9 +11,10 @@ use std::test::Fail;
 fn limits(threads: u32) -> Limits
     ensures { AreStandard result }
 {
+    let most = Limits::standard();
     Limits {
-        threads: threads.min(1024),
-        ..Limits::standard()
+        threads: threads.min(most.threads),
+        ..most
     }
 }
 

@@ -15,35 +15,36 @@ use std::test::Fail;
 /// The limits of a text's bytes, a line's bytes, events and threads.
 type Numbers = (u64, u32, u32, u32);
 
-const STANDARD: Numbers = (1_073_741_824, 4096, 4_194_304, 1024);
+const STANDARD: Numbers = (MOST_BYTES, 4096, 4_194_304, 1024);
 
 /// The line of a fault, and the fault.
 type Stop = Option<(u32, Fault)>;
 
 /// The standard limits but for one of them.
-const TWO_THREADS: Numbers = (1_073_741_824, 4096, 4_194_304, 2);
+const TWO_THREADS: Numbers = (MOST_BYTES, 4096, 4_194_304, 2);
 
-const ONE_THREAD: Numbers = (1_073_741_824, 4096, 4_194_304, 1);
+const ONE_THREAD: Numbers = (MOST_BYTES, 4096, 4_194_304, 1);
 
-const ONE_EVENT: Numbers = (1_073_741_824, 4096, 1, 1024);
+const ONE_EVENT: Numbers = (MOST_BYTES, 4096, 1, 1024);
 
 const EIGHT_BYTES: Numbers = (8, 4096, 4_194_304, 1024);
 
 const THOUSAND_BYTES: Numbers = (1000, 4096, 4_194_304, 1024);
 
-const LINES_OF_EIGHT_BYTES: Numbers = (1_073_741_824, 8, 4_194_304, 1024);
+const LINES_OF_EIGHT_BYTES: Numbers = (MOST_BYTES, 8, 4_194_304, 1024);
 
-const EMPTY_LINES: Numbers = (1_073_741_824, 0, 4_194_304, 1024);
+const EMPTY_LINES: Numbers = (MOST_BYTES, 0, 4_194_304, 1024);
 
 fn limits_of(numbers: Numbers) -> Limits
     ensures { AreStandard result }
 {
     let (text, line, events, threads) = numbers;
+    let most = Limits::standard();
     Limits {
-        text: text.min(1_073_741_824),
-        line: line.min(4096),
-        events: events.min(4_194_304),
-        threads: threads.min(1024),
+        text: text.min(most.text),
+        line: line.min(most.line),
+        events: events.min(most.events),
+        threads: threads.min(most.threads),
     }
 }
 

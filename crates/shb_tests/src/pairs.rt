@@ -8,7 +8,7 @@ use shb_clocks::{FullClocks, Order, Ordered, full, versions};
 use shb_discipline::Disciplined;
 use shb_fan::Job;
 use shb_io::NoMemory;
-use shb_lines::{Pair, variable};
+use shb_lines::Pair;
 use shb_links::Links;
 use shb_pairs::{
     Accesses, PairJob, Piece, accesses_of, accesses_of_open, is_race, open_variables, pieces,
@@ -154,7 +154,7 @@ impl Question for PlainRaces {
         let mut races = Vec::new(alloc);
         for x in 0..trace.sizes.variables {
             for second in 0..trace.events.len() as u32 {
-                if variable(trace.events[second as usize].op) == Some(x) {
+                if trace.events[second as usize].op.variable() == Some(x) {
                     push_races(&mut races, &ordered, second)?;
                 }
             }

@@ -1,6 +1,7 @@
 //! That reports worked by hand are read, and which lines of broken ones are bad.
 use crate::asserting::{has_length, same, same_bytes, same_in_row};
 use shb_io::{Source, Text};
+use shb_lines::MOST_BYTES;
 use shb_report::{Report, ReportError, read_report_within};
 use std::test::Fail;
 
@@ -29,7 +30,7 @@ fn read<S: Source>(
     source: &mut S,
     limit: u64,
 ) -> Option<Result<Report, ReportError>> {
-    if source.failures() < 9 && limit <= 1_073_741_824 {
+    if source.failures() < 9 && limit <= MOST_BYTES {
         Some(read_report_within(rt.alloc(), source, limit))
     } else {
         None
@@ -261,7 +262,7 @@ const BAD_LINES: [(&[u8], u64); 30] = [
 fn names_the_first_bad_line(rt: HostRuntime) {
     for (row, (text, wanted)) in BAD_LINES.iter().enumerate() {
         for step in [1, 4096] {
-            let found = bad_line(&rt, text, step, 1_073_741_824);
+            let found = bad_line(&rt, text, step, MOST_BYTES);
             same_in_row(&rt, &found, &Some(*wanted), row);
         }
     }
@@ -294,7 +295,7 @@ fn keeps_within_the_limit(rt: HostRuntime) {
 #[test]
 fn gives_what_it_read(rt: HostRuntime) -> Result<(), Fail> {
     let mut source = Text::new(ROW_2, 5, None);
-    let report = read_report_within(rt.alloc(), &mut source, 1_073_741_824)?;
+    let report = read_report_within(rt.alloc(), &mut source, MOST_BYTES)?;
     same(&rt, &report.version(), &1, "the version");
     same(&rt, &report.counts().events, &4, "events");
     same(&rt, &report.counts().variables, &2, "variables");
@@ -311,6 +312,6 @@ fn gives_what_it_read(rt: HostRuntime) -> Result<(), Fail> {
 #[test]
 fn says_that_the_source_failed(rt: HostRuntime) {
     let mut source = Text::new(b"shb-report 3\n", 5, Some(2));
-    let answer = read_report_within(rt.alloc(), &mut source, 1_073_741_824);
+    let answer = read_report_within(rt.alloc(), &mut source, MOST_BYTES);
     same(&rt, &answer.err(), &Some(ReportError::Source), "the error");
 }

@@ -1,26 +1,27 @@
 //! Edges between events, by their operations and threads.
 
 ghost use Rattle.std.specs.Prelude.{◌≡◌, ◌<◌, ◌↔◌, IsTrue, length};
+ghost use Rattle.shb_lines.specs.events.Discipline.{op_is_fork, op_is_join};
 ghost use Rattle.shb_lines.specs.events.Order.{ShbEdge};
-ghost use Rattle.shb_lines.specs.events.Tests.{is_hb_rule, passes_lock, forks_thread, joins_thread};
+ghost use Rattle.shb_lines.specs.events.Tests.{is_hb_rule, passes_lock};
 
 use shb_lines::{Event, Op};
 use shb_links::Linked;
 
 fn forks(op: Op, thread: u32) -> bool
-    ensures { result ≡ forks_thread op thread }
+    ensures { result ≡ op_is_fork thread op }
 {
     match op {
-        Op::Fork(forked) => forked == thread,
+        Op::Fork(forked) => thread == forked,
         _ => false,
     }
 }
 
 fn joins(op: Op, thread: u32) -> bool
-    ensures { result ≡ joins_thread op thread }
+    ensures { result ≡ op_is_join thread op }
 {
     match op {
-        Op::Join(joined) => joined == thread,
+        Op::Join(joined) => thread == joined,
         _ => false,
     }
 }

@@ -7,13 +7,13 @@ use Rattle.shb_lines.specs.declared.event.Event.{Event}
 use Rattle.shb_lines.specs.declared.event.Op.{Op}
 use Rattle.shb_lines.specs.declared.event.Op.TheVariants.{Read, Acquire, Release, Fork, Join}
 use Rattle.shb_lines.specs.events.Events.{thread_at, op_at}
-use Rattle.shb_lines.specs.events.Discipline.{IsDisciplined, is_fork}
+use Rattle.shb_lines.specs.events.Discipline.{IsDisciplined, is_fork, op_is_fork, op_is_join}
 use Rattle.shb_lines.specs.events.Order.{HbEdge, HbRule, same_thread, lock_passed, forked, joined, LastWrite, ShbEdge, happens_before, read_from, here, step, ShbBelow, IsPred, in_thread, by_fork, BelowPred}
 use Rattle.shb_lines.specs.events.Race.{Conflict, Race}
 use Rattle.shb_lines.specs.events.Schedule.{IsSchedule, IsPrintedSchedule}
-use Rattle.shb_lines.specs.events.Tests.{passes_lock, forks_thread, joins_thread, is_hb_rule}
+use Rattle.shb_lines.specs.events.Tests.{passes_lock, is_hb_rule}
 use Rattle.shb_lines.proofs.events.Counts.{counted_before}
-use Rattle.shb_lines.proofs.events.Events.{thread_is, op_is, event_of_thread, event_of_op, fork_allowed, fork_earlier, is_fork_true}
+use Rattle.shb_lines.proofs.events.Events.{thread_is, op_is, event_of_thread, event_of_op, fork_allowed, fork_earlier, fork_op, is_fork_true, join_op}
 use Rattle.shb_lines.proofs.events.Listed.{Decided, some_below, IsListed, listed}
 use Rattle.shb_lines.proofs.events.Schedulable.{path_forward, edge_earlier, below_pred_in_range, printed_is_schedule}
 use Rattle.shb_lines.proofs.events.Unschedulable.{race_of_schedule}
@@ -24,14 +24,6 @@ use Rattle.shb_lines.proofs.events.Search.{IsLatest, latest_below, of_thread_tru
 passes_lock_true : (a b : Op) → passes_lock a b ≡ true → (l : ℕ) × (a ≡ Release l) × (b ≡ Acquire l)
 passes_lock_true (Release l) (Acquire m) h = (l, refl, ap (λ n. Acquire n) (sym (eqb-true l m h)))
 passes_lock_true _ _ h = absurd (let f : ⊥ = cc in f)
-
-pub forks_thread_true : (a : Op) (t : ℕ) → forks_thread a t ≡ true → a ≡ Fork t
-forks_thread_true (Fork u) t h = ap (λ n. Fork n) (eqb-true u t h)
-forks_thread_true _ t h = absurd (let f : ⊥ = cc in f)
-
-joins_thread_true : (a : Op) (t : ℕ) → joins_thread a t ≡ true → a ≡ Join t
-joins_thread_true (Join u) t h = ap (λ n. Join n) (eqb-true u t h)
-joins_thread_true _ t h = absurd (let f : ⊥ = cc in f)
 
 or_left : (a b : Bool) → a ≡ true → (a || b) ≡ true
 or_left true b h = refl
@@ -44,15 +36,15 @@ or_right false b h = h
 pub rule_from_test : (trace : List Event) (a b : ℕ) (e d : Event) → slice_get trace a ≡ Some e → slice_get trace b ≡ Some d → is_hb_rule e d ≡ true → HbRule trace a b
 rule_from_test trace a b e d at_a at_b h = first (or_cases _ _ h)
   where
-    last : (forks_thread e.op d.thread ≡ true) ⊎ (joins_thread d.op e.thread ≡ true) → HbRule trace a b
-    last (inl g) = forked d.thread (op_is trace a e at_a ∙ ap (λ o. Some o) (forks_thread_true e.op d.thread g)) (thread_is trace b d at_b)
-    last (inr g) = joined e.thread (thread_is trace a e at_a) (op_is trace b d at_b ∙ ap (λ o. Some o) (joins_thread_true d.op e.thread g))
+    last : (op_is_fork d.thread e.op ≡ true) ⊎ (op_is_join e.thread d.op ≡ true) → HbRule trace a b
+    last (inl g) = forked d.thread (op_is trace a e at_a ∙ ap (λ o. Some o) (fork_op d.thread e.op g)) (thread_is trace b d at_b)
+    last (inr g) = joined e.thread (thread_is trace a e at_a) (op_is trace b d at_b ∙ ap (λ o. Some o) (join_op e.thread d.op g))
 
-    second : (passes_lock e.op d.op ≡ true) ⊎ ((forks_thread e.op d.thread || joins_thread d.op e.thread) ≡ true) → HbRule trace a b
+    second : (passes_lock e.op d.op ≡ true) ⊎ ((op_is_fork d.thread e.op || op_is_join e.thread d.op) ≡ true) → HbRule trace a b
     second (inl g) = let l = passes_lock_true e.op d.op g in lock_passed l.0 (op_is trace a e at_a ∙ ap (λ o. Some o) l.1) (op_is trace b d at_b ∙ ap (λ o. Some o) l.2)
     second (inr g) = last (or_cases _ _ g)
 
-    first : ((e.thread == d.thread) ≡ true) ⊎ ((passes_lock e.op d.op || (forks_thread e.op d.thread || joins_thread d.op e.thread)) ≡ true) → HbRule trace a b
+    first : ((e.thread == d.thread) ≡ true) ⊎ ((passes_lock e.op d.op || (op_is_fork d.thread e.op || op_is_join e.thread d.op)) ≡ true) → HbRule trace a b
     first (inl g) = same_thread e.thread (thread_is trace a e at_a) (thread_is trace b d at_b ∙ ap (λ t. Some t) (sym (eqb-true e.thread d.thread g)))
     first (inr g) = second (or_cases _ _ g)
 
@@ -63,23 +55,23 @@ pub test_from_rule : (trace : List Event) (a b : ℕ) (e d : Event) → slice_ge
 test_from_rule trace a b e d at_a at_b (same_thread t of_a of_b) =
     let x : Some e.thread ≡ Some t = sym (thread_is trace a e at_a) ∙ of_a in
     let y : Some d.thread ≡ Some t = sym (thread_is trace b d at_b) ∙ of_b in
-    or_left _ (passes_lock e.op d.op || (forks_thread e.op d.thread || joins_thread d.op e.thread)) (eq-eqb e.thread d.thread (let g : e.thread ≡ d.thread = cc in g))
+    or_left _ (passes_lock e.op d.op || (op_is_fork d.thread e.op || op_is_join e.thread d.op)) (eq-eqb e.thread d.thread (let g : e.thread ≡ d.thread = cc in g))
 test_from_rule trace a b e d at_a at_b (lock_passed l op_a op_b) =
     let x : Some e.op ≡ Some (Release l) = sym (op_is trace a e at_a) ∙ op_a in
     let y : Some d.op ≡ Some (Acquire l) = sym (op_is trace b d at_b) ∙ op_b in
-    or_right (e.thread == d.thread) _ (or_left _ (forks_thread e.op d.thread || joins_thread d.op e.thread) (passes_lock_is e.op d.op l (let g : e.op ≡ Release l = cc in g) (let g : d.op ≡ Acquire l = cc in g)))
+    or_right (e.thread == d.thread) _ (or_left _ (op_is_fork d.thread e.op || op_is_join e.thread d.op) (passes_lock_is e.op d.op l (let g : e.op ≡ Release l = cc in g) (let g : d.op ≡ Acquire l = cc in g)))
 test_from_rule trace a b e d at_a at_b (forked u op_a of_b) =
     let x : Some e.op ≡ Some (Fork u) = sym (op_is trace a e at_a) ∙ op_a in
     let y : Some d.thread ≡ Some u = sym (thread_is trace b d at_b) ∙ of_b in
     let p : e.op ≡ Fork u = cc in
-    let q : u ≡ d.thread = cc in
-    or_right (e.thread == d.thread) _ (or_right (passes_lock e.op d.op) _ (or_left _ (joins_thread d.op e.thread) (let g : forks_thread e.op d.thread ≡ true = rw p (eq-eqb u d.thread q) in g)))
+    let q : d.thread ≡ u = cc in
+    or_right (e.thread == d.thread) _ (or_right (passes_lock e.op d.op) _ (or_left _ (op_is_join e.thread d.op) (let g : op_is_fork d.thread e.op ≡ true = rw p (eq-eqb d.thread u q) in g)))
 test_from_rule trace a b e d at_a at_b (joined u of_a op_b) =
     let x : Some e.thread ≡ Some u = sym (thread_is trace a e at_a) ∙ of_a in
     let y : Some d.op ≡ Some (Join u) = sym (op_is trace b d at_b) ∙ op_b in
     let p : d.op ≡ Join u = cc in
-    let q : u ≡ e.thread = cc in
-    or_right (e.thread == d.thread) _ (or_right (passes_lock e.op d.op) _ (or_right (forks_thread e.op d.thread) _ (let g : joins_thread d.op e.thread ≡ true = rw p (eq-eqb u e.thread q) in g)))
+    let q : e.thread ≡ u = cc in
+    or_right (e.thread == d.thread) _ (or_right (passes_lock e.op d.op) _ (or_right (op_is_fork d.thread e.op) _ (let g : op_is_join e.thread d.op ≡ true = rw p (eq-eqb e.thread u q) in g)))
 
 -- the ends of a rule are events
 pub rule_ends : (trace : List Event) (a b : ℕ) → HbRule trace a b → ((e : Event) × (slice_get trace a ≡ Some e)) × ((d : Event) × (slice_get trace b ≡ Some d))

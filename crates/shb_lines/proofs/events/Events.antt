@@ -45,6 +45,14 @@ pub is_fork_true : (u : ℕ) (e : Event) → e.op ≡ Fork u → is_fork u e ≡
 unfolding is_fork
 is_fork_true u e h = ap (op_is_fork u) h ∙ eq-eqb u u refl
 
+pub fork_op : (u : ℕ) (op : Op) → op_is_fork u op ≡ true → op ≡ Fork u
+fork_op u (Fork v) h = ap (λ n. Fork n) (sym (eqb-true u v h))
+fork_op u _ h = absurd (let f : ⊥ = cc in f)
+
+pub join_op : (u : ℕ) (op : Op) → op_is_join u op ≡ true → op ≡ Join u
+join_op u (Join v) h = ap (λ n. Join n) (sym (eqb-true u v h))
+join_op u _ h = absurd (let f : ⊥ = cc in f)
+
 acquire_op : (l : ℕ) (op : Op) → op_is_acquire l op ≡ true → op ≡ Acquire l
 acquire_op l (Acquire m) h = ap (λ n. Acquire n) (sym (eqb-true l m h))
 acquire_op l _ h = absurd (let f : ⊥ = cc in f)

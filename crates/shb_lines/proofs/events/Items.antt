@@ -1,16 +1,14 @@
 -- Events read at an index of a slice, as the code reads them.
-use Rattle.std.proofs.Common.{◌≡◌, ◌≢◌, ℕ, ◌-◌, ◌<◌, ◌≤◌, inl, inr, true, false, List, Option, Some, None, length, get_or, refl, sym, ◌∙◌, ap, arith, subst}
+use Rattle.std.proofs.Common.{◌≡◌, ◌≢◌, ℕ, ◌<◌, true, false, List, Option, Some, None, length, get_or, sym, ◌∙◌, ap, arith}
 use Rattle.std.specs.Prelude.{IfSome, IfNone}
-use Rattle.std.proofs.lemmas.Bool.{cases_lt, eqb-true, eq-eqb}
 use Rattle.std.proofs.lemmas.Option.{slice_get-get_or}
 use Rattle.shb_lines.specs.declared.event.Event.{Event}
-use Rattle.shb_lines.specs.declared.event.Op.{Op}
 use Rattle.shb_lines.specs.declared.event.Op.TheVariants.{Read, Write, Fork}
 use Rattle.shb_lines.specs.events.Events.{thread_at, op_at}
-use Rattle.shb_lines.specs.events.Tests.{forks_thread, writes_variable, is_hb_rule}
+use Rattle.shb_lines.specs.events.Tests.{is_hb_rule}
 use Rattle.shb_lines.specs.events.Discipline.{IsDisciplined}
 use Rattle.shb_lines.specs.events.Order.{IsPred, in_thread, by_fork, LastWrite, ShbEdge, happens_before, read_from}
-use Rattle.shb_lines.proofs.events.Decide.{forks_thread_true, last_write_unique, rule_from_test, test_from_rule}
+use Rattle.shb_lines.proofs.events.Decide.{last_write_unique, rule_from_test, test_from_rule}
 use Rattle.shb_lines.proofs.events.Events.{thread_is, op_is, fork_earlier}
 
 pub thread_item : (trace : List Event) (k : ℕ) (d : Event) → k < length trace → thread_at trace k ≡ Some (get_or trace k d).thread
@@ -24,38 +22,6 @@ thread_item_is trace k t d lt h = thread_item trace k d lt ∙ ap (λ n. Some n)
 
 pub thread_item_not : (trace : List Event) (k t : ℕ) (d : Event) → k < length trace → ((get_or trace k d).thread ≡ t → ⊥) → thread_at trace k ≢ Some t
 thread_item_not trace k t d lt h is = h (let s : Some (get_or trace k d).thread ≡ Some t = sym (thread_item trace k d lt) ∙ is in cc)
-
-pub fork_item_is : (trace : List Event) (k t : ℕ) (d : Event) → k < length trace → forks_thread (get_or trace k d).op t ≡ true → op_at trace k ≡ Some (Fork t)
-fork_item_is trace k t d lt h = op_item trace k d lt ∙ ap (λ o. Some o) (forks_thread_true (get_or trace k d).op t h)
-
-fork_passes : (o : Op) (t : ℕ) → o ≡ Fork t → forks_thread o t ≡ true
-fork_passes o t h = rw h (eq-eqb t t refl)
-
-pub fork_item_not : (trace : List Event) (k t : ℕ) (d : Event) → k < length trace → forks_thread (get_or trace k d).op t ≡ false → op_at trace k ≢ Some (Fork t)
-fork_item_not trace k t d lt h is =
-    let s : Some (get_or trace k d).op ≡ Some (Fork t) = sym (op_item trace k d lt) ∙ is in
-    let passing = fork_passes (get_or trace k d).op t (let g : (get_or trace k d).op ≡ Fork t = cc in g) in
-    (let f : ⊥ = cc in f)
-
-writes_true : (o : Op) (x : ℕ) → writes_variable o x ≡ true → o ≡ Write x
-writes_true (Write y) x h = ap (λ n. Write n) (eqb-true y x h)
-writes_true _ x h = absurd (let f : ⊥ = cc in f)
-
-writes_passes : (o : Op) (x : ℕ) → o ≡ Write x → writes_variable o x ≡ true
-writes_passes o x h = rw h (eq-eqb x x refl)
-
-pub write_item_is : (trace : List Event) (k x : ℕ) (d : Event) → k < length trace → writes_variable (get_or trace k d).op x ≡ true → op_at trace k ≡ Some (Write x)
-write_item_is trace k x d lt h = op_item trace k d lt ∙ ap (λ o. Some o) (writes_true (get_or trace k d).op x h)
-
-pub write_item_not : (trace : List Event) (k x : ℕ) (d : Event) → k < length trace → writes_variable (get_or trace k d).op x ≡ false → op_at trace k ≢ Some (Write x)
-write_item_not trace k x d lt h is =
-    let s : Some (get_or trace k d).op ≡ Some (Write x) = sym (op_item trace k d lt) ∙ is in
-    let passing = writes_passes (get_or trace k d).op x (let g : (get_or trace k d).op ≡ Write x = cc in g) in
-    (let f : ⊥ = cc in f)
-
--- a loop that counts down: what holds of none from k on, and not of k - 1, holds of none from k - 1 on
-pub none_above : (P : ℕ → Type 0) (k end : ℕ) → 0 < k → ((m : ℕ) → k ≤ m → m < end → P m → ⊥) → (P (k - 1) → ⊥) → (m : ℕ) → k - 1 ≤ m → m < end → P m → ⊥
-none_above P k end pos above here m low high h = elim (cases_lt m k) [ inl lt ↦ here (subst P (let e : m ≡ k - 1 = omega arith in e) h) | inr le ↦ above m le high h ]
 
 -- the answers of the scans are predecessors and last writes
 pub pred_in_thread : (trace : List Event) (e p t : ℕ) → thread_at trace e ≡ Some t → (p < e) × (thread_at trace p ≡ Some t) × ((k : ℕ) → p < k → k < e → thread_at trace k ≢ Some t) → IsPred trace p e

@@ -8,13 +8,14 @@ use Rattle.shb_lines.specs.declared.event.Event.{Event}
 use Rattle.shb_lines.specs.declared.event.Op.{Op}
 use Rattle.shb_lines.specs.declared.event.Op.TheVariants.{Read, Write, Fork}
 use Rattle.shb_lines.specs.events.Events.{thread_at, op_at, variable_of}
-use Rattle.shb_lines.specs.events.Tests.{is_hb_rule, is_conflict, forks_thread}
+use Rattle.shb_lines.specs.events.Discipline.{op_is_fork}
+use Rattle.shb_lines.specs.events.Tests.{is_hb_rule, is_conflict}
 use Rattle.shb_lines.specs.events.Reach.{any_below, numbers_where, of_thread, writes_at, forks_at, both_events, is_last_write, is_shb_edge, is_shb_below, is_pred, is_below_pred, is_race}
 use Rattle.shb_lines.specs.events.Order.{HbRule, LastWrite, ShbEdge, happens_before, read_from, here, step, ShbBelow, IsPred, in_thread, by_fork, BelowPred}
 use Rattle.shb_lines.specs.events.Race.{Conflict, Race, variable_at}
 use Rattle.shb_lines.proofs.events.ConflictTests.{conflict_from_test, test_from_conflict}
-use Rattle.shb_lines.proofs.events.Decide.{rule_from_test, test_from_rule, rule_ends, path_cases, forks_thread_true}
-use Rattle.shb_lines.proofs.events.Events.{event_of_thread, event_of_op}
+use Rattle.shb_lines.proofs.events.Decide.{rule_from_test, test_from_rule, rule_ends, path_cases}
+use Rattle.shb_lines.proofs.events.Events.{event_of_thread, event_of_op, fork_op}
 use Rattle.shb_lines.proofs.events.Listed.{IsListed, listed_none, listed_more_yes, listed_more_no}
 use Rattle.shb_lines.proofs.events.Schedulable.{path_forward, edge_earlier}
 use Rattle.shb_lines.proofs.events.Search.{of_thread_true, of_thread_at, writes_at_true, writes_at_is}
@@ -89,8 +90,8 @@ reflect_of_thread trace t k = (of_thread_true trace t k, of_thread_at trace t k)
 reflect_writes : (trace : List Event) (x k : ℕ) → Reflects (writes_at trace x k) (op_at trace k ≡ Some (Write x))
 reflect_writes trace x k = (writes_at_true trace x k, writes_at_is trace x k)
 
-some_fork : (t : ℕ) (o : Option Op) → (elim o [ Some op ↦ forks_thread op t | None ↦ false ]) ≡ true → o ≡ Some (Fork t)
-some_fork t (Some op) h = ap (λ p. Some p) (forks_thread_true op t h)
+some_fork : (t : ℕ) (o : Option Op) → (elim o [ Some op ↦ op_is_fork t op | None ↦ false ]) ≡ true → o ≡ Some (Fork t)
+some_fork t (Some op) h = ap (λ p. Some p) (fork_op t op h)
 some_fork t None h = absurd (let f : ⊥ = cc in f)
 
 reflect_forks : (trace : List Event) (t k : ℕ) → Reflects (forks_at trace t k) (op_at trace k ≡ Some (Fork t))

@@ -16,6 +16,7 @@ other_than t u = not (t == u)
 abbrev pub only : ℕ → ℕ → Bool
 only t u = t == u
 
+-- whether an operation acquires or releases this lock, forks or joins this thread
 abbrev pub op_is_acquire : ℕ → Op → Bool
 op_is_acquire l (Acquire m) = l == m
 op_is_acquire l _ = false

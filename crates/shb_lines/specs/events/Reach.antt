@@ -4,7 +4,8 @@ use Rattle.shb_lines.specs.declared.event.Event.{Event}
 use Rattle.shb_lines.specs.declared.event.Op.{Op}
 use Rattle.shb_lines.specs.declared.event.Op.TheVariants.{Read}
 use Rattle.shb_lines.specs.events.Events.{thread_at, op_at}
-use Rattle.shb_lines.specs.events.Tests.{forks_thread, is_hb_rule, writes_variable, is_conflict}
+use Rattle.shb_lines.specs.events.Discipline.{op_is_fork}
+use Rattle.shb_lines.specs.events.Tests.{is_hb_rule, writes_variable, is_conflict}
 
 -- whether a number below n passes
 unfoldable pub any_below : (ℕ → Bool) → ℕ → Bool
@@ -26,7 +27,7 @@ writes_at trace x k = elim (op_at trace k) [ Some op ↦ writes_variable op x | 
 
 -- whether the event at a position forks t
 unfoldable pub forks_at : List Event → ℕ → ℕ → Bool
-forks_at trace t k = elim (op_at trace k) [ Some op ↦ forks_thread op t | None ↦ false ]
+forks_at trace t k = elim (op_at trace k) [ Some op ↦ op_is_fork t op | None ↦ false ]
 
 -- a test of the events at two positions
 unfoldable pub both_events : (Event → Event → Bool) → Option Event → Option Event → Bool

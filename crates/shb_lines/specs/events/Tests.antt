@@ -1,28 +1,19 @@
 -- Bool tests of single events and of pairs of events: those that the functions compute and those that proofs and the tests of Reach.antt decide relations with. The contracts of the crates above speak of the relations.
 use Rattle.std.specs.Prelude.{◌==◌, ℕ, Bool, true, false, not, ◌&&◌, ◌||◌, Option, Some}
 use Rattle.shb_lines.specs.events.Events.{variable_of}
+use Rattle.shb_lines.specs.events.Discipline.{op_is_fork, op_is_join}
 use Rattle.shb_lines.specs.declared.event.Event.{Event}
 use Rattle.shb_lines.specs.declared.event.Op.{Op}
-use Rattle.shb_lines.specs.declared.event.Op.TheVariants.{Write, Acquire, Release, Fork, Join}
+use Rattle.shb_lines.specs.declared.event.Op.TheVariants.{Write, Acquire, Release}
 
 -- whether the first operation releases the lock that the second acquires
 abbrev pub passes_lock : Op → Op → Bool
 passes_lock (Release l) (Acquire m) = l == m
 passes_lock _ _ = false
 
--- whether the operation forks the thread
-abbrev pub forks_thread : Op → ℕ → Bool
-forks_thread (Fork u) t = u == t
-forks_thread _ t = false
-
--- whether the operation joins the thread
-abbrev pub joins_thread : Op → ℕ → Bool
-joins_thread (Join u) t = u == t
-joins_thread _ t = false
-
 -- whether an earlier event e happens before a later event d by an edge
 abbrev pub is_hb_rule : Event → Event → Bool
-is_hb_rule e d = (e.thread == d.thread) || (passes_lock e.op d.op || (forks_thread e.op d.thread || joins_thread d.op e.thread))
+is_hb_rule e d = (e.thread == d.thread) || (passes_lock e.op d.op || (op_is_fork d.thread e.op || op_is_join e.thread d.op))
 
 -- whether the operation writes the variable
 abbrev pub writes_variable : Op → ℕ → Bool

@@ -1,7 +1,7 @@
 use Rattle.std.proofs.Common.{◌<◌, List, Some, None, length, arith, slice_index_or, ap, subst, ◌∙◌, Bool}
 use Rattle.std.proofs.lemmas.Option.{slice_get-get_or, slice_get_read}
 use Rattle.shb_lines.specs.declared.event.Event.{Event}
-use Rattle.shb_lines.specs.declared.event.Op.TheVariants.{Read, Fork, Join}
+use Rattle.shb_lines.specs.declared.event.Op.TheVariants.{Read, Fork}
 use Rattle.shb_lines.specs.events.Order.{LastWrite}
 use Rattle.shb_lines.proofs.events.Items.{op_item}
 use Rattle.shb_links.proofs.Tables.{op_within}
