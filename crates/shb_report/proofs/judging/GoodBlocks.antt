@@ -2,7 +2,7 @@
 use Rattle.std.proofs.Common.{◌≡◌, ℕ, zero, suc, ◌+◌, ◌-◌, ◌<◌, ◌≤◌, ◌⊎◌, inl, inr, List, [], ◌∷◌, ◌++◌, length, map, take, Option, None, Some, refl, sym, ap, subst, ◌∙◌, arith, min}
 use Rattle.std.specs.Prelude.{slice_get, Contains}
 use Rattle.std.specs.List.{AllByRecursion}
-use Rattle.std.proofs.lemmas.List.{take_more}
+use Rattle.std.proofs.lemmas.List.{take-map, take_all, take_min, take_more}
 use Rattle.std.proofs.lemmas.Option.{get_or_from_slice_get, slice_get_within}
 use Rattle.std.proofs.Math.Nat.{min-eq_left}
 use Rattle.shb_lines.specs.declared.event.Event.{Event}
@@ -28,6 +28,10 @@ use Rattle.shb_report.proofs.judging.LongSchedules.{broken_by_front, schedule_by
 -- lists
 pub take_push : {A : Type 0} (xs : List A) (k : ℕ) (x : A) → slice_get xs k ≡ Some x → take (k + 1) xs ≡ take k xs ++ x ∷ []
 take_push xs k x at = take_more xs k x (slice_get_within xs k x at) ∙ ap (λ y. take k xs ++ y ∷ []) (get_or_from_slice_get xs k x x at)
+
+pub take_mapped : (f : ℕ → ℕ) (most m index : ℕ) (numbers first items : List ℕ) → m ≡ min most (length numbers) → first ≡ take m numbers → items ≡ map f (take index first) → length first ≤ index → items ≡ take most (map f numbers)
+take_mapped f most m index numbers first items m_is first_is items_are whole =
+    items_are ∙ ap (map f) (take_all index first whole ∙ first_is ∙ ap (λ n. take n numbers) m_is ∙ take_min most numbers) ∙ sym (take-map f most numbers)
 
 pub each_at : {A : Type 0} (P : A → Type 0) (xs : List A) (k : ℕ) (x : A) → slice_get xs k ≡ Some x → AllByRecursion P xs → P x
 each_at P [] k x at h = absurd (let f : ⊥ = cc in f)

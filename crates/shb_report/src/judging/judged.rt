@@ -37,7 +37,7 @@ pub(crate) fn set_positions(
     ensures { OnOk result (positions.new.items ≡ take (count + 1) (map (position_of count) numbers.now)) }
 {
     positions.clear();
-    let (first, _) = numbers.split_at(numbers.len().min(count as usize + 1));
+    let (first, _) = numbers.split_at((count as usize + 1).min(numbers.len()));
     for number in first {
         positions.push(position_of(count, *number))?;
     }
