@@ -51,8 +51,8 @@ pub(crate) fn position_of(count: u32, number: u64) -> u32
 }
 
 /// Keeps the positions that numbers stand for, in a trace of so many events: of one number more than there
-/// are events. A list with more numbers is no schedule, and these positions tell where it isn't one, since
-/// one of them is that of no event or stands there before.
+/// are events. Of a list with more numbers, which is no schedule, they tell where it isn't one: one of them
+/// is no event, or stands there twice.
 #[derive(Clone, Copy)]
 pub(crate) struct AsPositions {
     pub count: u32,
