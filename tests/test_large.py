@@ -1,5 +1,6 @@
 """Sizes that small traces never reach: more than 65,536 races, names, kept clocks and events of a schedule; as many
-locks, names and events of a schedule as a trace of the most events has; and clocks of 1,024 threads in little memory."""
+locks, names and events of a schedule as a trace of the most events has; and clocks of 1,024 threads, and a report with a
+schedule that is far longer than its trace, in little memory."""
 
 import resource
 
@@ -76,6 +77,21 @@ def random_locks(threads, rounds):
     return b"".join(lines), b"".join(report)
 
 
+def long_schedule(numbers, last):
+    """Two writes, and a report of their race with so many numbers in its schedule and one more."""
+    report = [
+        b"shb-report 1\nevents 2 threads 2 locks 0 variables 1\nraces 1\n",
+        b"race 1: 1 2\nfirst T1|w(x)\nsecond T2|w(x)\n",
+        b"schedule %d:" % (numbers + 1) + b" 1" * numbers + b" %s\nend\n" % last,
+    ]
+    return b"T1|w(x)\nT2|w(x)\n", b"".join(report)
+
+
+def within(room):
+    """How to run the program with so many bytes of memory."""
+    return {"preexec_fn": lambda: resource.setrlimit(resource.RLIMIT_AS, (room, room))}
+
+
 class Large(program.Case):
     def compare(self, text, report, races):
         trace = self.file(text)
@@ -121,5 +137,13 @@ class Large(program.Case):
         text, report = random_locks(threads, rounds)
         room = len(text) + 200 * 2**20
         self.assertGreater(4 * threads * rounds, room)
-        limited = {"preexec_fn": lambda: resource.setrlimit(resource.RLIMIT_AS, (room, room))}
-        self.expect(program.run(["races", "--list"], text, **limited), 0, report)
+        self.expect(program.run(["races", "--list"], text, **within(room)), 0, report)
+
+    def test_a_long_schedule_in_little_memory(self):
+        """A position takes 4 bytes: those of all numbers don't fit. The last number is read all the same."""
+        numbers = 30_000_000
+        for last, said in ((b"1", b"bad race 1\n"), (b"3", b"bad race 1\n"), (b"01", b"bad line 7\n")):
+            text, report = long_schedule(numbers, last)
+            room = len(report) + 32 * 2**20
+            self.assertGreater(4 * numbers, room)
+            self.expect(program.run(["check", self.file(text)], report, **within(room)), 5, said)

@@ -1,7 +1,8 @@
 -- One block or place more.
-use Rattle.std.proofs.Common.{◌≡◌, Result, Ok, Err, IsErrAnd, ℕ, suc, ◌+◌, ◌-◌, ◌<◌, ◌≤◌, List, [], ◌∷◌, ◌++◌, length, map, codes, take, drop, refl, sym, ap, subst, ◌∙◌, arith, append_assoc, length-append, length-drop}
+use Rattle.std.proofs.Common.{◌≡◌, Result, Ok, Err, IsErrAnd, ℕ, suc, ◌+◌, ◌-◌, ◌<◌, ◌≤◌, ◌^◌, List, [], ◌∷◌, ◌++◌, length, map, codes, take, drop, refl, sym, ap, subst, ◌∙◌, arith, append_assoc, length-append, length-drop}
 use Rattle.std.proofs.lemmas.List.{drop-append-le, length-map, map-append, map-id, take-append-le, take_all}
 use Rattle.std.proofs.Math.Seq.{drop-append_seam}
+use Rattle.std.specs.Prelude.{Some, slice_get}
 use Rattle.std.specs.List.{AllByRecursion}
 use Rattle.shb_report.specs.declared.reading.lines.Position.{Position}
 use Rattle.shb_report.specs.declared.reading.lines.Stop.{Stop}
@@ -42,6 +43,10 @@ each-push P (y ∷ xs) x h p = (h.0, each-push P xs x h.1 p)
 pub each-weaker : {A : Type 0} (P Q : A → Type 0) (xs : List A) → ((x : A) → P x → Q x) → AllByRecursion P xs → AllByRecursion Q xs
 each-weaker P Q [] weaker h = tt
 each-weaker P Q (x ∷ xs) weaker h = (weaker x h.0, each-weaker P Q xs weaker h.1)
+
+pub each_of : (P : ℕ → Type 0) (xs : List ℕ) → ((k a : ℕ) → slice_get xs k ≡ Some a → P a) → AllByRecursion P xs
+each_of P [] h = tt
+each_of P (x ∷ xs) h = (h 0 x refl, each_of P xs (λ k a at. h (suc k) a at))
 
 pub lines_text-append : (front last : List (List ℕ)) → lines_text (front ++ last) ≡ lines_text front ++ lines_text last
 lines_text-append [] last = refl
@@ -113,17 +118,21 @@ taken_more text old mid new k blocks block h in_grammar bytes lines =
     }
 
 -- an entry of numbers that are kept as they are written
-entry_in : (text : List ℕ) (mid new : Position) (k : ℕ) (numbers all_numbers : List ℕ) (entry : RaceEntry) → ReadsBlock (λ n. n) text mid new k numbers all_numbers entry → IsRaceIn text all_numbers entry
+entry_in : (text : List ℕ) (mid new : Position) (k : ℕ) (numbers all_numbers : List ℕ) (entry : RaceEntry) → ReadsBlock (λ n. n) (2 ^ 64 - 1) text mid new k numbers all_numbers entry → IsRaceIn text all_numbers entry
 entry_in text mid new k numbers all_numbers entry g = record { first = g.first_in; second = g.second_in; schedule = g.part_in }
 
+all_kept : (most : ℕ) (ns : List ℕ) → length ns ≤ most → take most (map (λ n. n) ns) ≡ ns
+all_kept most ns few = ap (take most) (map-id ns) ∙ take_all most ns few
+
 pub blocks_more : (text : List ℕ) (old mid new : Position) (k : ℕ) (numbers all_numbers : List ℕ) (entries : List RaceEntry) (entry : RaceEntry) (all : List RaceEntry) → all ≡ entries ++ entry ∷ []
-    → ReadsBlocks text old mid k numbers entries → ReadsBlock (λ n. n) text mid new (k + 1) numbers all_numbers entry → ReadsBlocks text old new (k + 1) all_numbers all
+    → ReadsBlocks text old mid k numbers entries → ReadsBlock (λ n. n) (2 ^ 64 - 1) text mid new (k + 1) numbers all_numbers entry → ReadsBlocks text old new (k + 1) all_numbers all
 blocks_more text old mid new k numbers all_numbers entries entry all is h g =
     let blocks = blocks_at text numbers entries in
     let block = g.block in
-    let added : all_numbers ≡ numbers ++ block.schedule = g.numbers ∙ ap (λ l. numbers ++ l) (map-id block.schedule) in
+    let whole : take (2 ^ 64 - 1) (map (λ n. n) block.schedule) ≡ block.schedule = all_kept (2 ^ 64 - 1) block.schedule (let few = g.in_grammar.few in omega (arith, few)) in
+    let added : all_numbers ≡ numbers ++ block.schedule = g.numbers ∙ ap (λ l. numbers ++ l) whole in
     let unchanged : blocks_at text all_numbers entries ≡ blocks = ap (λ (n : List ℕ). blocks_at text n entries) added ∙ grown text numbers block.schedule entries h.entries_in in
-    let block_is : block_at text all_numbers entry ≡ block = ap (block_from text entry) (g.part_is ∙ map-id block.schedule) ∙ g.entry_is in
+    let block_is : block_at text all_numbers entry ≡ block = ap (block_from text entry) (g.part_is ∙ whole) ∙ g.entry_is in
     let same : blocks ++ block ∷ [] ≡ blocks_at text all_numbers all =
     sym (ap (blocks_at text all_numbers) is ∙ map-append (block_at text all_numbers) entries (entry ∷ []) ∙ ap (λ b. b ++ block_at text all_numbers entry ∷ []) unchanged ∙ ap (λ b. blocks ++ b ∷ []) block_is) in
     let still_in : AllByRecursion (IsRaceIn text all_numbers) entries =
@@ -136,25 +145,26 @@ blocks_more text old mid new k numbers all_numbers entries entry all is h g =
 one_line : (text : List ℕ) (old new : Position) (line : List ℕ) → TakesLine text old new line → bytes_from text old ≡ lines_text (line ∷ []) ++ bytes_from text new
 one_line text old new line taken = taken.begins.bytes_are ∙ sym (append_assoc line (10 ∷ []) (bytes_from text new))
 
-pub block_grows : {T : Type 0} (kept : ℕ → T) (old new : List T) (ns : List ℕ) → AddsShown kept old new ns → length old ≤ length new
-block_grows kept old new ns added = omega (arith, ap length added.grown, length-append old (map kept ns))
+pub block_grows : {T : Type 0} (kept : ℕ → T) (most : ℕ) (old new : List T) (ns : List ℕ) → AddsShown kept most old new ns → length old ≤ length new
+block_grows kept most old new ns added = omega (arith, ap length added.grown, length-append old (take most (map kept ns)))
 
-pub block_read : {T : Type 0} (kept : ℕ → T) (text : List ℕ) (a b c d e : Position) (number first second : ℕ) (first_line second_line : Span) (old new : List T) (ns : List ℕ) (start len : ℕ)
+pub block_read : {T : Type 0} (kept : ℕ → T) (most : ℕ) (text : List ℕ) (a b c d e : Position) (number first second : ℕ) (first_line second_line : Span) (old new : List T) (ns : List ℕ) (start len : ℕ)
     → TakesLine text a b (race_numbers_line number first second) → IsShown first → IsShown second
     → TakesLine text b c (codes "first " ++ bytes_at text first_line) → IsRest 1 (bytes_at text first_line) → IsSpanIn text first_line
     → TakesLine text c d (codes "second " ++ bytes_at text second_line) → IsRest 1 (bytes_at text second_line) → IsSpanIn text second_line
-    → AddsShown kept old new ns → IsShown (length ns) → TakesLine text d e (numbers_line ns)
+    → AddsShown kept most old new ns → IsShown (length ns) → TakesLine text d e (numbers_line ns)
     → start ≡ length old → start + len ≡ length new
-    → ReadsBlock kept text a e number old new (record { first = first; second = second; first_line = first_line; second_line = second_line; schedule_start = start; schedule_len = len })
-block_read kept text a b c d e number first second first_line second_line old new ns start len race shown_first shown_second named rest_first in_first named_second rest_second in_second added few listed start_is len_is =
+    → ReadsBlock kept most text a e number old new (record { first = first; second = second; first_line = first_line; second_line = second_line; schedule_start = start; schedule_len = len })
+block_read kept most text a b c d e number first second first_line second_line old new ns start len race shown_first shown_second named rest_first in_first named_second rest_second in_second added few listed start_is len_is =
     let block : Block = record { first = first; second = second; first_line = bytes_at text first_line; second_line = bytes_at text second_line; schedule = ns } in
     let line_1 = race_numbers_line number first second in
     let line_2 = codes "first " ++ bytes_at text first_line in
     let line_3 = codes "second " ++ bytes_at text second_line in
     let line_4 = numbers_line ns in
-    let grown = length-append old (map kept ns) in
+    let front = take most (map kept ns) in
+    let grown = length-append old front in
     let lengths = ap length added.grown in
-    let all : length (map kept ns) ≤ len = omega (arith, grown, lengths, start_is, len_is) in record {
+    let all : length front ≤ len = omega (arith, grown, lengths, start_is, len_is) in record {
       block = block;
       in_grammar = record { first = shown_first; second = shown_second; first_line = rest_first; second_line = rest_second; numbers = added.shown; few = few };
       bytes = joined (line_1 ∷ []) (line_2 ∷ (line_3 ∷ (line_4 ∷ []))) _ _ _ (one_line text a b line_1 race)
@@ -164,6 +174,6 @@ block_read kept text a b c d e number first second first_line second_line old ne
       second_in = in_second;
       part_in = omega (arith, len_is);
       entry_is = refl;
-      part_is = ap (λ s. take len (drop s new)) start_is ∙ ap (λ l. take len (drop (length old) l)) added.grown ∙ ap (take len) (drop-append_seam old (map kept ns)) ∙ take_all len (map kept ns) all;
+      part_is = ap (λ s. take len (drop s new)) start_is ∙ ap (λ l. take len (drop (length old) l)) added.grown ∙ ap (take len) (drop-append_seam old front) ∙ take_all len front all;
       lines = omega (arith, race.counted, named.counted, named_second.counted, listed.counted);
     }

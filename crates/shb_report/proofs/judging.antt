@@ -2,4 +2,5 @@ pub mod GoodBlocks
 pub mod GoodRaces
 mod ShownPlaces
 mod JudgedBlocks
+pub mod LongSchedules
 mod TextVerdicts

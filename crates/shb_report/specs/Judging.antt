@@ -1,5 +1,5 @@
 -- What the parts of a judgement find.
-use Rattle.std.specs.Prelude.{◌≡◌, ◌-◌, ◌<◌, ◌≤◌, ℕ, All, IfSome, List, length, map, Option, Some, None}
+use Rattle.std.specs.Prelude.{◌≡◌, ◌+◌, ◌-◌, ◌<◌, ◌≤◌, ℕ, All, IfSome, List, length, map, take, Option, Some, None}
 use Rattle.std.specs.List.{AllByRecursion}
 use Rattle.shb_lines.specs.events.Race.{Conflict}
 use Rattle.shb_lines.specs.text.TraceData.{TraceData}
@@ -16,7 +16,7 @@ use Rattle.shb_report.specs.Parts.{IsTextOf, TakesBlocks}
 use Rattle.shb_report.specs.Places.{IsPairOf, counts_in, places_of_pairs, shown_places}
 use Rattle.shb_report.specs.Report.{line_at}
 use Rattle.shb_report.specs.Value.{Block, Place, ReportValue}
-use Rattle.shb_report.specs.Verdicts.{IsFirstBadBlock, IsGoodBlock, IsLowestFault, IsVerdict, pair_in}
+use Rattle.shb_report.specs.Verdicts.{IsFirstBadBlock, IsGoodBlock, IsLowestFault, IsVerdict, pair_in, positions_of}
 
 -- the block of these lines, with this schedule
 abbrev pub block_with : BlockLines → List ℕ → Block
@@ -40,6 +40,10 @@ pub record HasGoodPair (trace : TraceData) (block : Block) : Type 0 where
   pub conflict : Conflict trace.events (block.first - 1) (block.second - 1)
   pub first_line : block.first_line ≡ line_at trace (block.first - 1)
   pub second_line : block.second_line ≡ line_at trace (block.second - 1)
+
+-- the positions that are kept of a schedule: the first ones, at most one more than the trace has events
+abbrev pub first_positions : TraceData → List ℕ → List ℕ
+first_positions trace numbers = take (length trace.events + 1) (positions_of trace numbers)
 
 -- the lowest of the faults 1 to 4, or none of them
 abbrev pub IsPairFault : TraceData → Block → Option RaceFault → Type 0

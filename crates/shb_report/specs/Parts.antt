@@ -54,17 +54,17 @@ block_before number forms = Race number ∷ (Named First ∷ (Named Second ∷ (
 abbrev pub place_before : ℕ → List Form → List Form
 place_before number forms = PlaceForm number ∷ (Named At ∷ (Named And ∷ forms))
 
--- a block was read: its lines stand between the positions, what is kept of its numbers was added, and this entry says where it stands
-pub record ReadsBlock {T : Type 0} (kept : ℕ → T) (text : List ℕ) (old new : Position) (number : ℕ) (old_numbers new_numbers : List T) (entry : RaceEntry) : Type 0 where
+-- a block was read: its lines stand between the positions, what is kept of its first numbers, at most so many, was added, and this entry says where it stands
+pub record ReadsBlock {T : Type 0} (kept : ℕ → T) (most : ℕ) (text : List ℕ) (old new : Position) (number : ℕ) (old_numbers new_numbers : List T) (entry : RaceEntry) : Type 0 where
   pub block : Block
   pub in_grammar : IsBlock block
   pub bytes : bytes_from text old ≡ lines_text (block_lines number (block ∷ [])) ++ bytes_from text new
-  pub numbers : new_numbers ≡ old_numbers ++ map kept block.schedule
+  pub numbers : new_numbers ≡ old_numbers ++ take most (map kept block.schedule)
   pub first_in : IsSpanIn text entry.first_line
   pub second_in : IsSpanIn text entry.second_line
   pub part_in : entry.schedule_start + entry.schedule_len ≤ length new_numbers
   pub entry_is : block_from text entry block.schedule ≡ block
-  pub part_is : part_of new_numbers entry ≡ map kept block.schedule
+  pub part_is : part_of new_numbers entry ≡ take most (map kept block.schedule)
   pub lines : new.lines ≡ old.lines + 4
 
 -- a place was read

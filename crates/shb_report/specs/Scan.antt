@@ -1,5 +1,5 @@
 -- Where a label and a number stand at the front of a text.
-use Rattle.std.specs.Prelude.{◌≡◌, ℕ, Bool, false, List, [], ◌∷◌, ◌++◌, decimal, map, ⊤}
+use Rattle.std.specs.Prelude.{◌≡◌, ℕ, Bool, false, List, [], ◌∷◌, ◌++◌, decimal, map, take, ⊤}
 use Rattle.std.specs.Char.{is_ascii_digit}
 use Rattle.std.specs.List.{AllByRecursion}
 use Rattle.shb_report.specs.Value.{IsShown}
@@ -17,7 +17,7 @@ pub record IsLabelled (label text : List ℕ) (n : ℕ) (rest : List ℕ) : Type
   pub text_is : text ≡ label ++ (decimal n ++ rest)
   pub ends : EndsNumber rest
 
--- a list grew by what is kept of these numbers, which can be shown
-pub record AddsShown {T : Type 0} (kept : ℕ → T) (old new : List T) (ns : List ℕ) : Type 0 where
-  pub grown : new ≡ old ++ map kept ns
+-- a list grew by what is kept of these numbers, which can be shown: at most so many are kept, the first ones
+pub record AddsShown {T : Type 0} (kept : ℕ → T) (most : ℕ) (old new : List T) (ns : List ℕ) : Type 0 where
+  pub grown : new ≡ old ++ take most (map kept ns)
   pub shown : AllByRecursion IsShown ns

@@ -14,7 +14,8 @@
 //! expected (`specs/Forms.antt`); what was read is kept as spans of the text, and numbers as they
 //! are. So the first bad line is the first at which no report goes on. [`check_report`] judges a
 //! report against a trace: counts, blocks with one judge, places. [`judge_report`] reads and judges
-//! a report a block at a time, and keeps the numbers of one schedule.
+//! a report a block at a time, and keeps the positions of one schedule, at most one more than the trace
+//! has events.
 #![tactic(auto)]
 
 mod counts;

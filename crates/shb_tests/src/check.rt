@@ -74,7 +74,7 @@ fn expect_written<R: Abort + RandomSource + AllocGlobal>(
 }
 
 /// The number of a line, other lines there, and what is written.
-const WRITTEN: [(usize, &str, &str); 11] = [
+const WRITTEN: [(usize, &str, &str); 13] = [
     (12, "end", "ok 1\n"),
     (2, "events 5 threads 2 locks 0 variables 2", "bad counts\n"),
     (3, "races 18446744073709551615", "bad line 12\n"),
@@ -82,6 +82,8 @@ const WRITTEN: [(usize, &str, &str); 11] = [
     (11, "schedule 01: 1", "bad line 11\n"),
     (11, "schedule 1: 18446744073709551616", "bad line 11\n"),
     (11, "schedule 18446744073709551615: 1", "bad line 11\n"),
+    (11, "schedule 7: 1 1 1 1 1 1 01", "bad line 11\n"),
+    (11, "schedule 7: 1 1 1 1 1 1", "bad line 11\n"),
     (1, "shb-report 3", "bad line 1\n"),
     (12, "end\nx", "bad line 13\n"),
     (5, "place 1: 2", "bad places\n"),
@@ -121,12 +123,14 @@ fn says_why_a_block_is_bad(rt: HostRuntime) -> Result<(), Fail> {
 }
 
 /// Lines of a schedule, the first index at which it is none, and why.
-const BAD_SCHEDULES: [(&str, usize, Why); 5] = [
+const BAD_SCHEDULES: [(&str, usize, Why); 7] = [
     ("schedule 0:", 0, Why::NotNext),
     ("schedule 2: 1 1", 1, Why::Repeated),
     ("schedule 1: 9", 0, Why::NoSuchEvent),
     ("schedule 2: 1 0", 1, Why::NoSuchEvent),
     ("schedule 1: 18446744073709551615", 0, Why::NoSuchEvent),
+    ("schedule 5: 1 2 3 4 1", 4, Why::Repeated),
+    ("schedule 9: 1 2 3 4 9 1 1 1 1", 4, Why::NoSuchEvent),
 ];
 
 #[test]

@@ -2,7 +2,7 @@
 use Rattle.std.proofs.Common.{◌≡◌, ℕ, zero, suc, ◌+◌, ◌-◌, ◌<◌, ◌≤◌, ◌⊎◌, inl, inr, List, [], ◌∷◌, ◌++◌, length, map, take, Option, None, Some, refl, sym, ap, subst, ◌∙◌, arith, min}
 use Rattle.std.specs.Prelude.{slice_get, Contains}
 use Rattle.std.specs.List.{AllByRecursion}
-use Rattle.std.proofs.lemmas.List.{take_more}
+use Rattle.std.proofs.lemmas.List.{take-map, take_all, take_min, take_more}
 use Rattle.std.proofs.lemmas.Option.{get_or_from_slice_get, slice_get_within}
 use Rattle.std.proofs.Math.Nat.{min-eq_left}
 use Rattle.shb_lines.specs.declared.event.Event.{Event}
@@ -18,24 +18,25 @@ use Rattle.shb_replay.specs.declared.broken.Broken.{Broken}
 use Rattle.shb_replay.specs.Reasons.{IsBroken}
 use Rattle.shb_report.specs.declared.judging.verdict.RaceFault.{RaceFault}
 use Rattle.shb_report.specs.declared.judging.verdict.RaceFault.TheVariants.{Absent, NoConflict, FirstLine, SecondLine, Schedule}
-use Rattle.shb_report.specs.Judging.{HasGoodPair}
+use Rattle.shb_report.specs.Judging.{HasGoodPair, first_positions}
 use Rattle.shb_report.specs.Report.{line_at}
 use Rattle.shb_report.specs.Value.{Block}
 use Rattle.shb_report.specs.Verdicts.{HasRaceFault, IsGoodBlock, IsLowestFault, IsNoEvent, fault_number, pair_in, position_of, positions_of}
-use Rattle.shb_report.proofs.EntryLemmas.{each-push}
+use Rattle.shb_report.proofs.EntryLemmas.{each-push, each_of}
+use Rattle.shb_report.proofs.judging.LongSchedules.{broken_by_front, schedule_by_front}
 
 -- lists
 pub take_push : {A : Type 0} (xs : List A) (k : ℕ) (x : A) → slice_get xs k ≡ Some x → take (k + 1) xs ≡ take k xs ++ x ∷ []
 take_push xs k x at = take_more xs k x (slice_get_within xs k x at) ∙ ap (λ y. take k xs ++ y ∷ []) (get_or_from_slice_get xs k x x at)
 
+pub take_mapped : (f : ℕ → ℕ) (most m index : ℕ) (numbers first items : List ℕ) → m ≡ min most (length numbers) → first ≡ take m numbers → items ≡ map f (take index first) → length first ≤ index → items ≡ take most (map f numbers)
+take_mapped f most m index numbers first items m_is first_is items_are whole =
+    items_are ∙ ap (map f) (take_all index first whole ∙ first_is ∙ ap (λ n. take n numbers) m_is ∙ take_min most numbers) ∙ sym (take-map f most numbers)
+
 pub each_at : {A : Type 0} (P : A → Type 0) (xs : List A) (k : ℕ) (x : A) → slice_get xs k ≡ Some x → AllByRecursion P xs → P x
 each_at P [] k x at h = absurd (let f : ⊥ = cc in f)
 each_at P (y ∷ xs) zero x at h = let same : y ≡ x = cc in subst P same h.0
 each_at P (y ∷ xs) (suc k) x at h = each_at P xs k x at h.1
-
-each_of : (P : ℕ → Type 0) (xs : List ℕ) → ((k a : ℕ) → slice_get xs k ≡ Some a → P a) → AllByRecursion P xs
-each_of P [] h = tt
-each_of P (x ∷ xs) h = (h 0 x refl, each_of P xs (λ k a at. h (suc k) a at))
 
 pub in_range : (n : ℕ) (s : List ℕ) → ((a : ℕ) → Contains s a → a < n) → AllByRecursion (λ a. a < n) s
 in_range n s h = each_of (λ a. a < n) s (λ k a at. h a (contains_at s k a at))
@@ -67,11 +68,12 @@ numbers_forth count (a ∷ s) h =
     ap (λ b. b ∷ map (position_of count) (map (λ e. e + 1) s)) (position_back count a h.0) ∙ ap (λ rest. a ∷ rest) (numbers_forth count s h.1)
 
 -- a block whose pair is good, with a schedule of the pair
-pub good_by : (trace : TraceData) (block : Block) (events : List Event) (s : List ℕ) (pair : Pair) → events ≡ trace.events → s ≡ positions_of trace block.schedule → pair ≡ pair_in block
+pub good_by : (trace : TraceData) (block : Block) (events : List Event) (s : List ℕ) (pair : Pair) → events ≡ trace.events → s ≡ first_positions trace block.schedule → pair ≡ pair_in block
     → HasGoodPair trace block → IsSchedule events s pair.first pair.second → IsGoodBlock trace block
 good_by trace block events s pair events_are s_is pair_is good schedule =
     let of_trace = subst (λ (ev : List Event). IsSchedule ev s pair.first pair.second) events_are schedule in
-    let of_list = subst (λ (l : List ℕ). IsSchedule trace.events l pair.first pair.second) s_is of_trace in
+    let of_front = subst (λ (l : List ℕ). IsSchedule trace.events l pair.first pair.second) s_is of_trace in
+    let of_list = schedule_by_front trace.events (positions_of trace block.schedule) pair.first pair.second of_front in
     let of_pair : IsSchedule trace.events (positions_of trace block.schedule) (block.first - 1) (block.second - 1)
     = subst (λ (p : Pair). IsSchedule trace.events (positions_of trace block.schedule) p.first p.second) pair_is of_list in
     let counts = good.first_counts in
@@ -97,11 +99,12 @@ pub good_more : (trace : TraceData) (blocks : List Block) (k : ℕ) (block : Blo
 good_more trace blocks k block at before good = subst (AllByRecursion (IsGoodBlock trace)) (sym (take_push blocks k block at)) (each-push (IsGoodBlock trace) (take k blocks) block before good)
 
 -- a block whose pair is good has no lower fault than that of its schedule
-pub broken_lowest : (trace : TraceData) (block : Block) (events : List Event) (s : List ℕ) (pair : Pair) (broken : Broken) → events ≡ trace.events → s ≡ positions_of trace block.schedule → pair ≡ pair_in block
+pub broken_lowest : (trace : TraceData) (block : Block) (events : List Event) (s : List ℕ) (pair : Pair) (broken : Broken) → events ≡ trace.events → s ≡ first_positions trace block.schedule → pair ≡ pair_in block
     → HasGoodPair trace block → IsBroken events s pair.first pair.second broken.at broken.why → IsLowestFault trace block (Schedule broken)
 broken_lowest trace block events s pair broken events_are s_is pair_is good is =
     let of_trace = subst (λ (ev : List Event). IsBroken ev s pair.first pair.second broken.at broken.why) events_are is in
-    let of_list = subst (λ (l : List ℕ). IsBroken trace.events l pair.first pair.second broken.at broken.why) s_is of_trace in
+    let of_front = subst (λ (l : List ℕ). IsBroken trace.events l pair.first pair.second broken.at broken.why) s_is of_trace in
+    let of_list = broken_by_front trace.events (positions_of trace block.schedule) pair.first pair.second broken.at broken.why of_front in
     (subst (λ (p : Pair). IsBroken trace.events (positions_of trace block.schedule) p.first p.second broken.at broken.why) pair_is of_list, by)
   where
     none : (number : ℕ) → 1 ≤ number → number ≤ length trace.events → IsNoEvent trace number → ⊥

@@ -1,8 +1,8 @@
 //! Judges the blocks of a report one after another.
-ghost use Rattle.std.specs.Prelude.{◌≡◌, ◌+◌, ◌-◌, ◌<◌, ◌≤◌, ◌↔◌, ◌^◌, ◌++◌, ◌∷◌, [], ℕ, List, None, IfErr, IfOk, IsTrue, OnOk, map};
-ghost use Rattle.shb_report.specs.Judging.{AreJudged, IsPairFault, block_with};
+ghost use Rattle.std.specs.Prelude.{◌≡◌, ◌+◌, ◌-◌, ◌<◌, ◌≤◌, ◌↔◌, ◌^◌, ◌++◌, ◌∷◌, [], ℕ, List, None, IfErr, IfOk, IsTrue, OnOk, map, take};
+ghost use Rattle.shb_report.specs.Judging.{AreJudged, IsPairFault, block_with, first_positions};
 ghost use Rattle.shb_report.specs.Value.{Block};
-ghost use Rattle.shb_report.specs.Verdicts.{IsGoodBlock, IsLowestFault, pair_in, position_of, positions_of};
+ghost use Rattle.shb_report.specs.Verdicts.{IsGoodBlock, IsLowestFault, pair_in, position_of};
 
 use super::verdict::RaceFault;
 use crate::reading::{BlockLines, position_of, same_bytes};
@@ -27,16 +27,18 @@ pub(crate) struct JudgedBlocks {
     pub bad: Option<BadBlock>,
 }
 
-/// Puts the positions that the numbers of a schedule stand for instead of those of another.
+/// Puts the positions that the numbers of a schedule stand for, of one number more than there are events,
+/// instead of those of another.
 pub(crate) fn set_positions(
     positions: &mut Vec<u32>,
     count: u32,
     numbers: &[u64],
 ) -> Result<(), NoMemory>
-    ensures { OnOk result (positions.new.items ≡ map (position_of count) numbers.now) }
+    ensures { OnOk result (positions.new.items ≡ take (count + 1) (map (position_of count) numbers.now)) }
 {
     positions.clear();
-    for number in numbers {
+    let (first, _) = numbers.split_at((count as usize + 1).min(numbers.len()));
+    for number in first {
         positions.push(position_of(count, *number))?;
     }
     Ok(())
@@ -77,8 +79,8 @@ fn pair_fault(trace: &Trace, listed: BlockLines<'_>) -> Option<RaceFault>
     None
 }
 
-/// The two events of a good block with these positions, or with the numbers that stand for them; else
-/// its lowest fault.
+/// The two events of a good block with numbers of which these are the first positions; else its lowest
+/// fault.
 fn judge_lines(
     judge: &mut Judge<'_>,
     trace: &Disciplined<'_>,
@@ -88,9 +90,9 @@ fn judge_lines(
     requires { judge.old ≡ trace.now.trace.now.events }
     ensures kept { judge.new ≡ judge.old }
     ensures pair { IfOk result (λ pair. pair ≡ pair_in (block_with listed.entry [])) }
-    ensures good { (numbers : List ℕ) → positions.now ≡ positions_of trace.now.trace.now numbers
+    ensures good { (numbers : List ℕ) → positions.now ≡ first_positions trace.now.trace.now numbers
         → OnOk result (IsGoodBlock trace.now.trace.now (block_with listed.entry numbers)) }
-    ensures fault { (numbers : List ℕ) → positions.now ≡ positions_of trace.now.trace.now numbers
+    ensures fault { (numbers : List ℕ) → positions.now ≡ first_positions trace.now.trace.now numbers
         → IfErr result (IsLowestFault trace.now.trace.now (block_with listed.entry numbers)) }
 {
     if let Some(why) = pair_fault(trace.trace, listed) {
@@ -116,8 +118,8 @@ impl JudgedBlocks {
     }
 }
 
-/// Judges the next block, unless one before it is bad. The positions are those that the numbers of
-/// its schedule stand for.
+/// Judges the next block, unless one before it is bad. The positions are those that the first numbers of
+/// its schedule stand for, one more than there are events.
 pub(crate) fn judge_block(
     judged: &mut JudgedBlocks,
     judge: &mut Judge<'_>,
@@ -127,7 +129,7 @@ pub(crate) fn judge_block(
 ) -> Result<(), NoMemory>
     requires { judge.old ≡ trace.now.trace.now.events }
     ensures kept { judge.new ≡ judge.old }
-    ensures judged { (blocks : List Block) (numbers : List ℕ) → positions.now ≡ positions_of trace.now.trace.now numbers
+    ensures judged { (blocks : List Block) (numbers : List ℕ) → positions.now ≡ first_positions trace.now.trace.now numbers
         → AreJudged trace.now.trace.now blocks judged.old
         → OnOk result (AreJudged trace.now.trace.now (blocks ++ block_with listed.entry numbers ∷ []) judged.new) }
 {

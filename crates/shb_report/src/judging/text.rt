@@ -23,8 +23,8 @@ use shb_replay::Judge;
 use std::alloc::Global;
 use std::random::RandomSource;
 
-/// Reads so many blocks, and judges each once it is read. The room for the positions of a schedule is
-/// used again for each block.
+/// Reads so many blocks, and judges each once it is read. The room for the positions of a schedule, one for
+/// each event and one more, is made once and used again for each block.
 fn judge_blocks(
     judge: &mut Judge<'_>,
     alloc: Global,
@@ -44,7 +44,9 @@ fn judge_blocks(
     let keeping = AsPositions {
         count: trace.trace.len(),
     };
-    let mut positions = Vec::new(alloc);
+    let Ok(mut positions) = Vec::with_capacity(alloc, keeping.count as usize + 1) else {
+        return Err(Stop::Memory);
+    };
     let mut judged = JudgedBlocks::new(alloc);
     let mut number = 0;
     while number < count {
@@ -136,10 +138,10 @@ fn verdict_of<R: RandomSource>(
 /// end all the same, since a bad line anywhere comes before a bad block.
 ///
 /// The text is kept, and of each race its pair and of each place where it stands. Of a schedule the
-/// positions that its numbers stand for are kept until the next block is read, in 4 bytes each. So a
-/// report of many blocks takes little more than its size; one made of a single block of numbers of one
-/// digit takes three times its size, and more while its list grows. The time is linear in the trace
-/// and in the report.
+/// positions that its numbers stand for are kept until the next block is read, in 4 bytes each, and at most
+/// one more than the trace has events: where a list has more numbers, it is no schedule, and these tell
+/// where it isn't one. So a report takes little more than its size, also where it is a single block of
+/// numbers of one digit. The time is linear in the trace and in the report.
 ///
 /// # Errors
 ///

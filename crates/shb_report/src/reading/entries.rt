@@ -23,7 +23,7 @@ pub(crate) fn read_block<K: Keeping>(
     requires at { IsAt text.now at.old }
     ensures at { OnOk result (IsAt text.now at.new) }
     ensures read { IfOk result (λ entry.
-        ReadsBlock (K.kept keeping.now) text.now at.old at.new number numbers.old.items numbers.new.items entry) }
+        ReadsBlock (K.kept keeping.now) (K.most_kept keeping.now) text.now at.old at.new number numbers.old.items numbers.new.items entry) }
     ensures passes { OnOk result ((forms : List Form) → Passes text.now at.old at.new (block_before number forms) forms) }
     ensures bad { (forms : List Form) → IfBad result (IsBadAt text.now at.old (block_before number forms)) }
 {

@@ -130,8 +130,8 @@ pub(crate) fn read_schedule<K: Keeping>(
     requires short { length text.now ≤ most_bytes }
     requires at { IsAt text.now at.old }
     ensures { IfOk result (λ found. MatchBool found
-        ((ns : List ℕ) × AddsShown (K.kept keeping.now) numbers.old.items numbers.new.items ns × IsShown (length ns)
-        × TakesLine text.now at.old at.new (numbers_line ns))
+        ((ns : List ℕ) × AddsShown (K.kept keeping.now) (K.most_kept keeping.now) numbers.old.items numbers.new.items ns
+        × IsShown (length ns) × TakesLine text.now at.old at.new (numbers_line ns))
         ((at.new ≡ at.old) × Lacks Schedule (bytes_from text.now at.old))) }
 {
     let Some(line) = line_at(text, *at) else {

@@ -1,5 +1,5 @@
 //! Reads the line of a schedule.
-ghost use Rattle.std.specs.Prelude.{◌≡◌, ◌≢◌, ◌+◌, ◌-◌, ◌<◌, ◌≤◌, ◌++◌, ℕ, List, length, IfOk, MatchBool, vec_len};
+ghost use Rattle.std.specs.Prelude.{◌≡◌, ◌≢◌, ◌+◌, ◌<◌, ◌≤◌, ◌++◌, ◌∷◌, [], ℕ, List, length, IfOk, MatchBool, MatchOption, OnOk, map, take};
 ghost use Rattle.std.specs.List.{AllByRecursion};
 ghost use Rattle.shb_report.specs.Scan.{AddsShown};
 ghost use Rattle.shb_report.specs.Value.{IsShown, listed, numbers_line};
@@ -8,26 +8,46 @@ use super::keeping::Keeping;
 use super::scan::{after_label, labelled};
 use shb_io::NoMemory;
 
-/// Adds what is kept of the numbers of a text, each of which stands after a space, and says whether the text has
-/// nothing else.
+/// Adds what is kept of a number that stands after so many others.
+fn add_number<K: Keeping>(
+    keeping: &K,
+    before: u64,
+    number: u64,
+    numbers: &mut Vec<K::Kept>,
+) -> Result<(), NoMemory>
+    ensures { (old : List K.Kept) (ns : List ℕ) → length ns ≡ before
+        → numbers.old.items ≡ old ++ take (K.most_kept keeping.now) (map (K.kept keeping.now) ns)
+        → OnOk result (numbers.new.items ≡ old ++ take (K.most_kept keeping.now) (map (K.kept keeping.now) (ns ++ number ∷ []))) }
+{
+    if before < keeping.most() {
+        numbers.push(keeping.keep(number))?;
+    }
+    Ok(())
+}
+
+/// Adds what is kept of the numbers of a text, each of which stands after a space, and answers how many they
+/// are, or nothing where the text has something else.
 fn add_numbers<K: Keeping>(
     text: &[u8],
     keeping: &K,
     numbers: &mut Vec<K::Kept>,
-) -> Result<bool, NoMemory>
-    ensures { IfOk result (λ good. MatchBool good
-        ((ns : List ℕ) × AddsShown (K.kept keeping.now) numbers.old.items numbers.new.items ns × (text.now ≡ listed ns))
-        ((ns : List ℕ) → AllByRecursion IsShown ns → text.now ≢ listed ns)) }
+) -> Result<Option<u64>, NoMemory>
+    ensures { IfOk result (λ found. MatchOption found
+        ((ns : List ℕ) → AllByRecursion IsShown ns → text.now ≢ listed ns)
+        (λ count. (ns : List ℕ) × AddsShown (K.kept keeping.now) (K.most_kept keeping.now) numbers.old.items numbers.new.items ns
+        × (text.now ≡ listed ns) × (length ns ≡ count))) }
 {
     let mut rest = text;
+    let mut count: u64 = 0;
     while !rest.is_empty() {
         let Some((number, after)) = labelled(rest, b" ") else {
-            return Ok(false);
+            return Ok(None);
         };
-        numbers.push(keeping.keep(number))?;
+        add_number(keeping, count, number, numbers)?;
+        count += 1;
         rest = after;
     }
-    Ok(true)
+    Ok(Some(count))
 }
 
 /// Adds what is kept of the numbers of a schedule's line, and says whether the line is one.
@@ -37,8 +57,8 @@ pub(crate) fn add_schedule<K: Keeping>(
     numbers: &mut Vec<K::Kept>,
 ) -> Result<bool, NoMemory>
     ensures { IfOk result (λ good. MatchBool good
-        ((ns : List ℕ) × AddsShown (K.kept keeping.now) numbers.old.items numbers.new.items ns × IsShown (length ns)
-        × (line.now ≡ numbers_line ns))
+        ((ns : List ℕ) × AddsShown (K.kept keeping.now) (K.most_kept keeping.now) numbers.old.items numbers.new.items ns
+        × IsShown (length ns) × (line.now ≡ numbers_line ns))
         ((ns : List ℕ) → AllByRecursion IsShown ns → IsShown (length ns) → line.now ≢ numbers_line ns)) }
 {
     let Some((count, after_count)) = labelled(line, b"schedule ") else {
@@ -47,9 +67,8 @@ pub(crate) fn add_schedule<K: Keeping>(
     let Some(text) = after_label(after_count, b":") else {
         return Ok(false);
     };
-    let before = numbers.len();
-    if !add_numbers(text, keeping, numbers)? {
+    let Some(read) = add_numbers(text, keeping, numbers)? else {
         return Ok(false);
-    }
-    Ok((numbers.len() - before) as u64 == count)
+    };
+    Ok(read == count)
 }

@@ -1,10 +1,10 @@
 -- Each block is the next one, and is judged.
-use Rattle.std.proofs.Common.{◌≡◌, ℕ, List, [], ◌∷◌, ◌+◌, ◌-◌, ◌++◌, ap, arith, map, sym, subst, ◌∙◌}
+use Rattle.std.proofs.Common.{◌≡◌, ℕ, List, [], ◌∷◌, ◌+◌, ◌-◌, ◌++◌, ap, arith, map, take, sym, subst, ◌∙◌}
 use Rattle.shb_report.specs.Forms.{Form, IsBadFrom, block_forms}
-use Rattle.shb_report.specs.Judging.{AreJudged, block_with}
+use Rattle.shb_report.specs.Judging.{AreJudged, block_with, first_positions}
 use Rattle.shb_report.specs.Lines.{bytes_from}
 use Rattle.shb_report.specs.Value.{Block}
-use Rattle.shb_report.specs.Verdicts.{position_of, positions_of}
+use Rattle.shb_report.specs.Verdicts.{position_of}
 use Rattle.shb_report.proofs.EntryLemmas.{blocks_left, bad_weaker, taken_more}
 use Rattle.shb_report.proofs.judging.text.judge_blocks.Goals as goal
 
@@ -24,9 +24,9 @@ loop-number-preserved c =
     let trace = c.args.trace.now.trace.now in
     let before = loop.invariant.read in
     let read = c.in_ok-entry.ensures.read in
-    let kept : c.read_block.new.numbers.items ≡ map (position_of c.len.result) read.block.schedule = read.numbers ∙ ap (λ front. front ++ map (position_of c.len.result) read.block.schedule) c.clear.ensures.items in
-    let positions : c.as_slice.result.now ≡ positions_of trace read.block.schedule =
-    c.as_slice.ensures.value ∙ kept ∙ ap (λ count. map (position_of count) read.block.schedule) c.len.ensures in
+    let first : ℕ → List ℕ = λ count. take (count + 1) (map (position_of count) read.block.schedule) in
+    let kept : c.read_block.new.numbers.items ≡ first c.len.result = read.numbers ∙ ap (λ front. front ++ first c.len.result) c.clear.ensures.items in
+    let positions : c.as_slice.result.now ≡ first_positions trace read.block.schedule = c.as_slice.ensures.value ∙ kept ∙ ap first c.len.ensures in
     let same : block_with c.lines_at-lines.result read.block.schedule ≡ read.block = c.lines_at-lines.ensures read.block.schedule ∙ read.entry_is in record {
       within = omega arith;
       judge = c.judge_block.ensures.kept ∙ loop.invariant.judge;
@@ -34,7 +34,7 @@ loop-number-preserved c =
       read = record {
         blocks = before.blocks ++ read.block ∷ [];
         taken = taken_more text c.args.at.now loop.at c.read_block.new.at loop.number before.blocks read.block before.taken read.in_grammar read.bytes read.lines;
-        are_judged = subst (λ (block : Block). AreJudged trace (before.blocks ++ block ∷ []) c.judge_block.new.judged) same (c.in-Ok.ensures.judged before.blocks read.block.schedule positions before.are_judged);
+        are_judged = subst (λ (block : Block). AreJudged trace (before.blocks ++ block ∷ []) c.judge_block.new.judged) same (c.in-Ok-judge_block.ensures.judged before.blocks read.block.schedule positions before.are_judged);
       };
       passes = λ forms n b.
           loop.invariant.passes forms n (subst (λ (f : List Form). IsBadFrom f loop.at.lines (bytes_from text loop.at) n) (sym (blocks_left loop.number c.args.count forms c.loop-number-test.true))

@@ -48,7 +48,7 @@ returns-clause-read g c =
     let old = c.args.numbers.now in
     let new = c.read_schedule.new.numbers in
     let start : c.len-schedule_start.result ≡ length old.items = omega (arith, c.len-schedule_start.ensures, old.ok.0) in
-    let grown : length old.items ≤ length new.items = block_grows _ _ _ _ schedule.1 in
+    let grown : length old.items ≤ length new.items = block_grows _ _ _ _ _ schedule.1 in
     let whole : c.len-schedule_start.result + (c.len.result - c.len-schedule_start.result) ≡ length new.items = omega (arith, start, grown, c.len.ensures, new.ok.0) in
-    block_read (g.K.Keeping.kept c.args.keeping.now) c.args.text.now _ _ _ _ _ c.args.number c.in-Some.first c.in-Some.second c.in-Some-read_named.first_line c.in-Some-read_named-2.second_line old.items new.items schedule.0 _ _
+    block_read (g.K.Keeping.kept c.args.keeping.now) (g.K.Keeping.most_kept c.args.keeping.now) c.args.text.now _ _ _ _ _ c.args.number c.in-Some.first c.in-Some.second c.in-Some-read_named.first_line c.in-Some-read_named-2.second_line old.items new.items schedule.0 _ _
     race.0 race.1 race.2 first.0 first.1 first.2 second.0 second.1 second.2 schedule.1 schedule.2 schedule.3 start whole
