@@ -2,4 +2,4 @@ use Rattle.std.proofs.Common.{◌≡◌}
 use Rattle.shb_tests.proofs.clocks.answer_of_sweep.Given as goal
 
 abbrev pub invariant-loop-e : goal.invariant-loop-e
-invariant-loop-e l = (l.sweep.trace ≡ l.trace.events.now) × (l.sweep.next ≡ l.e)
+invariant-loop-e l = (l.sweep.trace ≡ l.linked.events.now) × (l.sweep.next ≡ l.e)
