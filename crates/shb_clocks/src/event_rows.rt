@@ -39,8 +39,7 @@ impl<'a> Model for EventRows<'a> {
 /// The order of a trace at the accesses of open variables, those whose flag isn't false, found by one
 /// forward pass up to the last of them. Memory: four bytes for each event up to there, and four bytes
 /// a thread for each row that is kept: one for such an access where its thread knows something new
-/// since its last one. While it runs, twelve bytes for each lock and variable, and four bytes a thread
-/// for each row in use.
+/// since its last one. While it runs, also what a [`Sweep`](crate::Sweep) takes.
 ///
 /// # Errors
 ///

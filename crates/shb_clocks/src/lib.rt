@@ -16,13 +16,13 @@
 //! thread learns nothing new shares the row before.
 //!
 //! `stamps` makes the rows in one forward pass. A stamp is a row, a thread and a local time, which together
-//! are an event's clock; one is kept for the last release of each lock and the last write of each variable,
-//! and for each thread the row of what it knows. An acquire, a read or a join asks whether its thread's row
-//! has the stamp's local time already, and adds a row only where it hasn't. A fork adds the forked thread's
-//! first row. Rows are never changed. When there are many, `compact` moves those that these tables name to
-//! new ones, and the memory of the old ones is used the next time. `kept_rows` copies the row before each
-//! access of an open variable to rows that stay, one for all accesses of a thread between which it learns
-//! nothing.
+//! are an event's clock; one is kept for the last release of each lock and the last write of each shared
+//! variable, and for each thread the row of what it knows. An acquire, a read or a join asks whether its
+//! thread's row has the stamp's local time already, and adds a row only where it hasn't. A fork adds the
+//! forked thread's first row. Rows are never changed. When there are many, `compact` moves those that these
+//! tables name to new ones, and the memory of the old ones is used the next time. `kept_rows` copies the
+//! row before each access of an open variable to rows that stay, one for all accesses of a thread between
+//! which it learns nothing.
 #![tactic(auto)]
 
 mod clock;

@@ -13,7 +13,8 @@ use std::marker::Model;
 
 /// An order that is asked event by event, in trace order: it can be asked about the next event alone.
 /// Contracts see it as the trace and the number of the next event. Memory: twelve bytes for each lock
-/// and variable, and four bytes a thread for each row.
+/// and variable, and four bytes a thread for each row. When there are twice as many rows as were in use
+/// the last time, those in use are moved to a second memory, and the two are used in turn.
 #[derive(Drop)]
 pub struct Sweep<'a> {
     linked: Linked<'a>,

@@ -17,19 +17,19 @@ use Rattle.shb_replay.proofs.Cuts.{members_in_trace}
 use Rattle.shb_report.proofs.EntryLemmas.{each_of}
 
 -- the lists have the same at each index before n
-AreAlike : List ℕ → List ℕ → ℕ → Type 0
-AreAlike s r n = (q : ℕ) → q < n → slice_get s q ≡ slice_get r q
+AgreeBelow : List ℕ → List ℕ → ℕ → Type 0
+AgreeBelow s r n = (q : ℕ) → q < n → slice_get s q ≡ slice_get r q
 
-turned : (s r : List ℕ) (n : ℕ) → AreAlike s r n → AreAlike r s n
-unfolding AreAlike
+turned : (s r : List ℕ) (n : ℕ) → AgreeBelow s r n → AgreeBelow r s n
+unfolding AgreeBelow
 turned s r n alike = λ q lt. sym (alike q lt)
 
-at_same : (s r : List ℕ) (n : ℕ) → AreAlike s r n → (q e : ℕ) → q < n → slice_get s q ≡ Some e → slice_get r q ≡ Some e
-unfolding AreAlike
+at_same : (s r : List ℕ) (n : ℕ) → AgreeBelow s r n → (q e : ℕ) → q < n → slice_get s q ≡ Some e → slice_get r q ≡ Some e
+unfolding AgreeBelow
 at_same s r n alike q e lt at = sym (alike q lt) ∙ at
 
-take_alike : (n : ℕ) (s : List ℕ) → AreAlike (take n s) s n
-unfolding AreAlike
+take_alike : (n : ℕ) (s : List ℕ) → AgreeBelow (take n s) s n
+unfolding AgreeBelow
 take_alike zero s = λ q lt. absurd (omega (arith, lt))
 take_alike (suc n) [] = λ q lt. refl
 take_alike (suc n) (x ∷ s) = by (take_alike n s)
@@ -39,12 +39,12 @@ take_alike (suc n) (x ∷ s) = by (take_alike n s)
     by rest (suc q) lt = rest q (omega (arith, lt))
 
 -- what an index has for a reason is the same in both lists
-stands_same : (s r : List ℕ) (n : ℕ) → AreAlike s r n → (p a : ℕ) → p ≤ n → StandsEarlier s p a → StandsEarlier r p a
+stands_same : (s r : List ℕ) (n : ℕ) → AgreeBelow s r n → (p a : ℕ) → p ≤ n → StandsEarlier s p a → StandsEarlier r p a
 stands_same s r n alike p a le h =
     let lt = h.earlier in
     record { index = h.index; earlier = lt; at = at_same s r n alike h.index a (omega (arith, lt, le)) h.at }
 
-latest_same : (trace : List Event) (s r : List ℕ) (n : ℕ) → AreAlike s r n → (p x w : ℕ) → p ≤ n → IsLatestWrite trace s p x w → IsLatestWrite trace r p x w
+latest_same : (trace : List Event) (s r : List ℕ) (n : ℕ) → AgreeBelow s r n → (p x w : ℕ) → p ≤ n → IsLatestWrite trace s p x w → IsLatestWrite trace r p x w
 latest_same trace s r n alike p x w le h =
     let lt = h.earlier in
     record {
@@ -55,7 +55,7 @@ latest_same trace s r n alike p x w le h =
       latest = λ q k low high at. h.latest q k low high (at_same r s n (turned s r n alike) q k (omega (arith, high, le)) at);
     }
 
-reason_same : (trace : List Event) (s r : List ℕ) (n : ℕ) → AreAlike s r n → (p e : ℕ) → p ≤ n → (why : Why) → HasReason trace s p e why → HasReason trace r p e why
+reason_same : (trace : List Event) (s r : List ℕ) (n : ℕ) → AgreeBelow s r n → (p e : ℕ) → p ≤ n → (why : Why) → HasReason trace s p e why → HasReason trace r p e why
 reason_same trace s r n alike p e le whys.NoSuchEvent h = h
 reason_same trace s r n alike p e le whys.Repeated h = stands_same s r n alike p e le h
 reason_same trace s r n alike p e le whys.ThreadOrder (a, before, absent) = (a, before, λ stands. absent (stands_same r s n (turned s r n alike) p a le stands))
@@ -77,11 +77,11 @@ reason_same trace s r n alike p e le whys.LastWrite (x, h) = (
 )
 reason_same trace s r n alike p e le whys.NotNext h = h
 
-unbroken_same : (trace : List Event) (s r : List ℕ) (n : ℕ) → AreAlike s r n → (m : ℕ) → m ≤ n → IsUnbroken trace s m → IsUnbroken trace r m
+unbroken_same : (trace : List Event) (s r : List ℕ) (n : ℕ) → AgreeBelow s r n → (m : ℕ) → m ≤ n → IsUnbroken trace s m → IsUnbroken trace r m
 unbroken_same trace s r n alike m le unbroken = λ p e why lt at h.
     unbroken p e why lt (at_same r s n (turned s r n alike) p e (omega (arith, lt, le)) at) (reason_same trace r s n (turned s r n alike) p e (omega (arith, lt, le)) why h)
 
-first_same : (trace : List Event) (s r : List ℕ) (n : ℕ) → AreAlike s r n → (p : ℕ) (why : Why) → p < n → IsFirstReason trace s p why → IsFirstReason trace r p why
+first_same : (trace : List Event) (s r : List ℕ) (n : ℕ) → AgreeBelow s r n → (p : ℕ) (why : Why) → p < n → IsFirstReason trace s p why → IsFirstReason trace r p why
 first_same trace s r n alike p why lt h = record {
   event = h.event;
   there = at_same s r n alike p h.event lt h.there;

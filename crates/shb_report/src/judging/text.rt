@@ -141,7 +141,8 @@ fn verdict_of<R: RandomSource>(
 /// positions that its numbers stand for are kept until the next block is read, in 4 bytes each, and at most
 /// one more than the trace has events: where a list has more numbers, it is no schedule, and these tell
 /// where it isn't one. So a report takes little more than its size, also where it is a single block of
-/// numbers of one digit. The time is linear in the trace and in the report.
+/// numbers of one digit; one of places alone, in 24 bytes each, takes about twice its size. The time is
+/// linear in the trace and in the report.
 ///
 /// # Errors
 ///
