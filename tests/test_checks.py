@@ -95,6 +95,11 @@ LINES = [
     (b"end\n", b"end\nx", b"bad line 9"),
 ]
 
+
+def places(count):
+    return b"places %d\n" % count + b"".join(b"place %d: 1\nat \nand \n" % number for number in range(1, count + 1))
+
+
 # Changes of the places.
 PLACES = [
     (b"place 1: 1", b"place 1: 2", b"bad places"),
@@ -106,7 +111,14 @@ PLACES = [
     (b"at \n", b"at\n", b"bad line 6"),
     (b"at \n", b"at " + b"a" * 4096 + b"\n", b"bad places"),
     (b"at \n", b"at " + b"a" * 4097 + b"\n", b"bad line 6"),
-    (b"places 1\nplace 1: 1\nat \nand \n", b"places 0\n", b"bad places"),
+    (places(1), places(0), b"bad places"),
+    # more places than races
+    (places(1), places(2), b"bad places"),
+    (places(1), places(9), b"bad places"),
+    (places(1), places(9).replace(b"place 9: 1", b"place 9: 01"), b"bad line 29"),
+    (places(1) + b"race 1: 2 3", places(9) + b"race 1: 3 2", b"bad race 1"),
+    (b"races 1\n" + places(1) + ONE_BLOCK, b"races 0\n" + places(0), b"ok 0"),
+    (b"races 1\n" + places(1) + ONE_BLOCK, b"races 0\n" + places(1), b"bad places"),
     (b"places 1", b"places 2", b"bad line 8"),
     (b"places 1", b"places %d" % GREATEST, b"bad line 8"),
     (b"places 1\n", b"", b"bad line 4"),

@@ -1,6 +1,6 @@
 """Sizes that small traces never reach: more than 65,536 races, names, kept clocks and events of a schedule; as many
-locks, names and events of a schedule as a trace of the most events has; and clocks of 1,024 threads, and a report with a
-schedule that is far longer than its trace, in little memory."""
+locks, names and events of a schedule as a trace of the most events has; and clocks of 1,024 threads, a report with a
+schedule that is far longer than its trace, and one with far more places than races, in little memory."""
 
 import resource
 
@@ -87,6 +87,17 @@ def long_schedule(numbers, last):
     return b"T1|w(x)\nT2|w(x)\n", b"".join(report)
 
 
+def many_places(count, last):
+    """Two writes, and a report of their race with so many places, the last of which has this count."""
+    report = [
+        b"shb-report 2\nevents 2 threads 2 locks 0 variables 1\nraces 1\nplaces %d\n" % count,
+        *(b"place %d: 1\nat \nand \n" % number for number in range(1, count)),
+        b"place %d: %s\nat \nand \n" % (count, last),
+        b"race 1: 1 2\nfirst T1|w(x)\nsecond T2|w(x)\nschedule 0:\nend\n",
+    ]
+    return b"T1|w(x)\nT2|w(x)\n", b"".join(report)
+
+
 def within(room):
     """How to run the program with so many bytes of memory."""
     return {"preexec_fn": lambda: resource.setrlimit(resource.RLIMIT_AS, (room, room))}
@@ -146,4 +157,13 @@ class Large(program.Case):
             text, report = long_schedule(numbers, last)
             room = len(report) + 32 * 2**20
             self.assertGreater(4 * numbers, room)
+            self.expect(program.run(["check", self.file(text)], report, **within(room)), 5, said)
+
+    def test_many_places_in_little_memory(self):
+        """A place takes 24 bytes: those of all places don't fit. The last place is read all the same."""
+        count = 2_300_000
+        for last, said in ((b"1", b"bad places\n"), (b"01", b"bad line %d\n" % (3 * count + 2))):
+            text, report = many_places(count, last)
+            room = len(report) + 32 * 2**20
+            self.assertGreater(len(report) + 24 * count, room)
             self.expect(program.run(["check", self.file(text)], report, **within(room)), 5, said)

@@ -1,5 +1,5 @@
 -- One block or place more.
-use Rattle.std.proofs.Common.{◌≡◌, Result, Ok, Err, IsErrAnd, ℕ, suc, ◌+◌, ◌-◌, ◌<◌, ◌≤◌, ◌^◌, List, [], ◌∷◌, ◌++◌, length, map, codes, take, drop, refl, sym, ap, subst, ◌∙◌, arith, append_assoc, length-append, length-drop}
+use Rattle.std.proofs.Common.{◌≡◌, Result, Ok, Err, IsErrAnd, ℕ, zero, suc, ◌+◌, ◌-◌, ◌<◌, ◌≤◌, ◌^◌, List, [], ◌∷◌, ◌++◌, length, map, codes, take, drop, refl, sym, ap, subst, ◌∙◌, arith, append_assoc, length-append, length-drop}
 use Rattle.std.proofs.lemmas.List.{drop-append-le, length-map, map-append, map-id, take-append-le, take_all}
 use Rattle.std.proofs.Math.Seq.{drop-append_seam}
 use Rattle.std.specs.Prelude.{Some, slice_get}
@@ -44,6 +44,11 @@ pub each-weaker : {A : Type 0} (P Q : A → Type 0) (xs : List A) → ((x : A) �
 each-weaker P Q [] weaker h = tt
 each-weaker P Q (x ∷ xs) weaker h = (weaker x h.0, each-weaker P Q xs weaker h.1)
 
+pub each-take : {A : Type 0} (P : A → Type 0) (n : ℕ) (xs : List A) → AllByRecursion P xs → AllByRecursion P (take n xs)
+each-take P zero xs h = tt
+each-take P (suc n) [] h = tt
+each-take P (suc n) (x ∷ xs) h = (h.0, each-take P n xs h.1)
+
 pub each_of : (P : ℕ → Type 0) (xs : List ℕ) → ((k a : ℕ) → slice_get xs k ≡ Some a → P a) → AllByRecursion P xs
 each_of P [] h = tt
 each_of P (x ∷ xs) h = (h 0 x refl, each_of P xs (λ k a at. h (suc k) a at))
@@ -69,19 +74,20 @@ block_lines-append number (b ∷ blocks) more =
     ap (λ l. take 4 (block_lines number (b ∷ blocks)) ++ l) (block_lines-append (number + 1) blocks more ∙ ap (λ n. block_lines (number + 1) blocks ++ block_lines n more) count)
 
 -- places
-pub places_more : (text : List ℕ) (old mid new : Position) (k : ℕ) (entries : List PlaceEntry) (entry : PlaceEntry) (all : List PlaceEntry) → all ≡ entries ++ entry ∷ []
-    → ReadsPlaces text old mid k entries → ReadsPlace text mid new (k + 1) entry → ReadsPlaces text old new (k + 1) all
-places_more text old mid new k entries entry all is h g =
+pub places_more : (text : List ℕ) (old mid new : Position) (k : ℕ) (entries : List PlaceEntry) (entry : PlaceEntry)
+    → ReadsPlaces text old mid k entries → ReadsPlace text mid new (k + 1) entry → ReadsPlaces text old new (k + 1) (entries ++ entry ∷ [])
+places_more text old mid new k entries entry h g =
     let places = places_at text entries in
     let place = place_at text entry in
-    let same : places ++ place ∷ [] ≡ places_at text all = sym (ap (places_at text) is ∙ map-append (place_at text) entries (entry ∷ [])) in
+    let all : List PlaceEntry = entries ++ entry ∷ [] in
+    let same : places ++ place ∷ [] ≡ places_at text all = sym (map-append (place_at text) entries (entry ∷ [])) in
     let count : 1 + length places ≡ k + 1 = omega (arith, length-map entries (place_at text), h.count_is) in
     let lines : place_lines 1 places ++ place_lines (k + 1) (place ∷ []) ≡ place_lines 1 (places_at text all) =
     ap (λ n. place_lines 1 places ++ place_lines n (place ∷ [])) (sym count) ∙ sym (place_lines-append 1 places (place ∷ [])) ∙ ap (place_lines 1) same in record {
-      count_is = omega (arith, ap (λ (l : List PlaceEntry). length l) is, length-append entries (entry ∷ []), h.count_is);
+      count_is = omega (arith, length-append entries (entry ∷ []), h.count_is);
       in_grammar = subst (AllByRecursion IsPlace) same (each-push IsPlace places place h.in_grammar g.in_grammar);
       bytes = joined (place_lines 1 places) (place_lines (k + 1) (place ∷ [])) _ _ _ h.bytes g.bytes ∙ ap (λ l. lines_text l ++ bytes_from text new) lines;
-      entries_in = subst (AllByRecursion (IsPlaceIn text)) (sym is) (each-push (IsPlaceIn text) entries entry h.entries_in g.entry_in);
+      entries_in = each-push (IsPlaceIn text) entries entry h.entries_in g.entry_in;
       lines = omega (arith, h.lines, g.lines);
     }
 

@@ -181,7 +181,7 @@ few_from trace (pair ∷ pairs) places n few =
     (let e : n + 1 + length pairs ≡ n + length (pair ∷ pairs) = omega arith in e)
     (few_from trace pairs (with_pair places first second pair) (n + 1) next)
 
-places_few : (trace : TraceData) (pairs : List Pair) → AreFew (places_of_pairs trace pairs) (length pairs)
+pub places_few : (trace : TraceData) (pairs : List Pair) → AreFew (places_of_pairs trace pairs) (length pairs)
 places_few trace pairs = subst (AreFew (places_of_pairs trace pairs)) (let e : 0 + length pairs ≡ length pairs = omega arith in e) (few_from trace pairs [] 0 (record { long = omega arith; counts = tt }))
 
 each_place : (trace : TraceData) (places : List PlaceOf) (n : ℕ) → IsShowable trace → IsShown n → AllByRecursion (λ place. place.counted.count ≤ n) places → AllByRecursion IsPlace (shown_places trace (counts_in places))
@@ -192,7 +192,7 @@ each_place trace (place ∷ places) n showable few h =
       each_place trace places n showable few h.1,
     )
 
-length-shown : (trace : TraceData) (places : List PlaceOf) → length (shown_places trace (counts_in places)) ≡ length places
+pub length-shown : (trace : TraceData) (places : List PlaceOf) → length (shown_places trace (counts_in places)) ≡ length places
 length-shown trace places = length-map (counts_in places) (shown_place trace) ∙ length-map places (λ place. place.counted)
 
 report_in_grammar : (trace : TraceData) (shown : List ShownRace) → IsDisciplined trace.events → IsShowable trace → IsShown (length shown) → AllByRecursion (IsRace trace) shown → All (HasSchedule true trace) shown

@@ -3,4 +3,5 @@ pub mod GoodRaces
 mod ShownPlaces
 mod JudgedBlocks
 pub mod LongSchedules
+mod MorePlaces
 mod TextVerdicts

@@ -100,6 +100,12 @@ pub record ReadsPlaces (text : List ℕ) (old new : Position) (count : ℕ) (ent
   pub entries_in : AllByRecursion (IsPlaceIn text) entries
   pub lines : new.lines ≡ old.lines + 3 * count
 
+-- of a list of which this holds the first elements are kept, at most so many
+pub record KeepsFirst {T : Type 0} (most : ℕ) (Holds : List T → Type 0) (kept : List T) : Type 0 where
+  pub all : List T
+  pub holds : Holds all
+  pub kept_is : kept ≡ take most all
+
 -- the parts of a whole report
 abbrev pub section_at : List ℕ → Bool → List PlaceEntry → Option (List Place)
 section_at text with_places entries = if with_places then Some (places_at text entries) else None
@@ -147,6 +153,7 @@ pub record ReadsHead (text : List ℕ) (old new : Position) (head : Head) : Type
 -- the places were read, if there are any
 pub record ReadsSection (text : List ℕ) (old new : Position) (with_places : Bool) (entries : List PlaceEntry) : Type 0 where
   pub in_grammar : IfSome (section_at text with_places entries) ArePlaces
+  pub few : IsShown (length entries)
   pub bytes : bytes_from text old ≡ lines_text (places_section (section_at text with_places entries)) ++ bytes_from text new
   pub entries_in : AllByRecursion (IsPlaceIn text) entries
   pub lines : new.lines ≡ old.lines + length (places_section (section_at text with_places entries))

@@ -15,7 +15,7 @@
 //! are. So the first bad line is the first at which no report goes on. [`check_report`] judges a
 //! report against a trace: counts, blocks with one judge, places. [`judge_report`] reads and judges
 //! a report a block at a time, and keeps the positions of one schedule, at most one more than the trace
-//! has events.
+//! has events, and of its places at most one more than it has races.
 #![tactic(auto)]
 
 mod counts;

@@ -1,6 +1,6 @@
 -- The parts of a report, one after another.
-use Rattle.std.proofs.Common.{◌≡◌, inl, inr, ℕ, ◌+◌, ◌*◌, ◌<◌, ◌≤◌, Bool, true, false, List, [], ◌∷◌, ◌++◌, length, codes, refl, sym, ap, subst, ◌∙◌, arith, append_assoc, append-nil, length-append, length-drop}
-use Rattle.std.proofs.lemmas.List.{length-map}
+use Rattle.std.proofs.Common.{◌≡◌, inl, inr, ℕ, zero, suc, ◌+◌, ◌-◌, ◌*◌, ◌^◌, ◌<◌, ◌≤◌, Bool, true, false, List, [], ◌∷◌, ◌++◌, length, codes, take, refl, sym, ap, subst, ◌∙◌, arith, append_assoc, append-nil, length-append, length-drop}
+use Rattle.std.proofs.lemmas.List.{length-map, take_all}
 use Rattle.std.specs.List.{AllByRecursion}
 use Rattle.shb_lines.specs.text.Limits.{most_bytes}
 use Rattle.shb_report.specs.declared.reading.lines.Position.{Position}
@@ -9,11 +9,11 @@ use Rattle.shb_report.specs.declared.reading.parts.Parts.{Parts}
 use Rattle.shb_report.specs.declared.counts.Counts.{Counts}
 use Rattle.shb_report.specs.Forms.{Form, Version, CountsForm, Races, RacesBeforePlaces, Places, block_forms}
 use Rattle.shb_report.specs.Lines.{IsBadAt, Lacks, Passes, TakesLine, bytes_from}
-use Rattle.shb_report.specs.Parts.{IsPlaceIn, IsScanned, IsTextOf, ReadsBlocks, ReadsPlaces, ReadsSection, TakesBlocks, blocks_at, places_at, places_form, races_form, section_at, version_text}
+use Rattle.shb_report.specs.Parts.{IsPlaceIn, IsScanned, IsTextOf, KeepsFirst, ReadsBlocks, ReadsPlaces, ReadsSection, TakesBlocks, blocks_at, places_at, places_form, races_form, section_at, version_text}
 use Rattle.shb_report.specs.Value.{AreShown, Block, IsShown, Place, block_lines, counts_line, lines_text, place_lines, places_line, places_section, races_line, version_line}
 use Rattle.shb_report.proofs.reading.Machine.{bad_after}
 use Rattle.shb_report.proofs.reading.Passing.{bad_at, passes_by, passes_races, passes_races_before}
-use Rattle.shb_report.proofs.EntryLemmas.{joined}
+use Rattle.shb_report.proofs.EntryLemmas.{each-take, joined}
 
 -- the version decides which forms follow
 
@@ -32,9 +32,14 @@ bad_race_count forms text old new false same races before = bad_at Races forms t
 
 -- the places, or none
 
-pub none_read : (text : List ℕ) (at : Position) (with_places : Bool) (entries : List PlaceEntry) → with_places ≡ false → entries ≡ [] → ReadsSection text at at with_places entries
-none_read text at true entries e f = absurd (cc)
-none_read text at false entries e f = record { in_grammar = tt; bytes = refl; entries_in = subst (AllByRecursion (IsPlaceIn text)) (sym f) tt; lines = omega arith }
+none_of_none : {A : Type 0} (most : ℕ) (kept : List A) → kept ≡ [] → kept ≡ take most []
+none_of_none zero kept none = none
+none_of_none (suc most) kept none = none
+
+pub none_read : (most : ℕ) (text : List ℕ) (at : Position) (with_places : Bool) (kept : List PlaceEntry) → with_places ≡ false → kept ≡ [] → KeepsFirst most (ReadsSection text at at with_places) kept
+none_read most text at true kept e none = absurd (cc)
+none_read most text at false kept e none =
+    record { all = []; holds = record { in_grammar = tt; few = omega arith; bytes = refl; entries_in = tt; lines = omega arith }; kept_is = none_of_none most kept none }
 
 length-place_lines : (number : ℕ) (places : List Place) → length (place_lines number places) ≡ 3 * length places
 length-place_lines number [] = refl
@@ -44,18 +49,34 @@ pub length-block_lines : (number : ℕ) (blocks : List Block) → length (block_
 length-block_lines number [] = refl
 length-block_lines number (b ∷ blocks) = omega (arith, length-block_lines (number + 1) blocks)
 
-pub section_read : (text : List ℕ) (old mid new : Position) (with_places : Bool) (count : ℕ) (entries : List PlaceEntry) → with_places ≡ true → TakesLine text old mid (places_line count) → IsShown count → ReadsPlaces text mid new count entries
+section_of : (text : List ℕ) (old mid new : Position) (with_places : Bool) (count : ℕ) (entries : List PlaceEntry) → with_places ≡ true → TakesLine text old mid (places_line count) → IsShown count → ReadsPlaces text mid new count entries
     → ReadsSection text old new with_places entries
-section_read text old mid new false count entries e taken shown h = absurd (cc)
-section_read text old mid new true count entries e taken shown h =
+section_of text old mid new false count entries e taken shown h = absurd (cc)
+section_of text old mid new true count entries e taken shown h =
     let places = places_at text entries in
     let counted : length places ≡ count = length-map entries _ ∙ h.count_is in
     let first : bytes_from text old ≡ lines_text (places_line count ∷ []) ++ bytes_from text mid = taken.begins.bytes_are ∙ sym (append_assoc (places_line count) (10 ∷ []) (bytes_from text mid)) in record {
       in_grammar = record { each = h.in_grammar; few = subst IsShown (sym counted) shown };
+      few = subst IsShown (sym h.count_is) shown;
       bytes = joined (places_line count ∷ []) (place_lines 1 places) _ _ _ first h.bytes ∙ ap (λ n. lines_text (places_line n ∷ place_lines 1 places) ++ bytes_from text new) (sym counted);
       entries_in = h.entries_in;
       lines = omega (arith, taken.counted, h.lines, length-place_lines 1 places, counted);
     }
+
+pub section_read : (most : ℕ) (text : List ℕ) (old mid new : Position) (with_places : Bool) (count : ℕ) (kept : List PlaceEntry) → with_places ≡ true → TakesLine text old mid (places_line count) → IsShown count
+    → KeepsFirst most (ReadsPlaces text mid new count) kept → KeepsFirst most (ReadsSection text old new with_places) kept
+section_read most text old mid new with_places count kept e taken shown h =
+    record { all = h.all; holds = section_of text old mid new with_places count h.all e taken shown h.holds; kept_is = h.kept_is }
+
+-- where as many are kept as can be shown, all are
+pub whole_section : (text : List ℕ) (old new : Position) (with_places : Bool) (kept : List PlaceEntry) → KeepsFirst (2 ^ 64 - 1) (ReadsSection text old new with_places) kept → ReadsSection text old new with_places kept
+whole_section text old new with_places kept h =
+    let few = h.holds.few in
+    subst (ReadsSection text old new with_places) (sym (h.kept_is ∙ take_all (2 ^ 64 - 1) h.all (omega (arith, few)))) h.holds
+
+-- the entries that are kept lie in the text
+pub kept_in : (most : ℕ) (text : List ℕ) (old new : Position) (with_places : Bool) (kept : List PlaceEntry) → KeepsFirst most (ReadsSection text old new with_places) kept → AllByRecursion (IsPlaceIn text) kept
+kept_in most text old new with_places kept h = subst (AllByRecursion (IsPlaceIn text)) (sym h.kept_is) (each-take (IsPlaceIn text) most h.all h.holds.entries_in)
 
 pub passes_none : (text : List ℕ) (at : Position) (with_places : Bool) (forms : List Form) → with_places ≡ false → Passes text at at (places_form with_places ++ forms) forms
 passes_none text at true forms e = absurd (cc)

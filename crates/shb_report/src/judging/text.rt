@@ -68,7 +68,9 @@ struct JudgedText {
     lines: u64,
 }
 
-/// Reads the text of a report to its end, and judges it.
+/// Reads the text of a report to its end, and judges it. Of its places the first ones are kept, at most one
+/// more than there are races: since the races have at most as many places as they are, these tell whether the
+/// places are theirs.
 fn judge_text<R: RandomSource>(
     rt: &R,
     alloc: Global,
@@ -84,7 +86,8 @@ fn judge_text<R: RandomSource>(
     let mut judge = Judge::new(alloc, Linked::new(&*trace, &links))?;
     let mut at = Position { start: 0, lines: 0 };
     let head = read_head(text, &mut at)?;
-    let places = read_places(alloc, text, &mut at, head.with_places)?;
+    let most = head.races.saturating_add(1);
+    let places = read_places(alloc, text, &mut at, head.with_places, most)?;
     let judged = judge_blocks(&mut judge, alloc, trace, text, &mut at, head.races)?;
     read_tail(text, &mut at)?;
     let section = section_of(text, head.with_places, places.as_slice());
@@ -137,12 +140,14 @@ fn verdict_of<R: RandomSource>(
 /// each block is judged when it is read. The first bad block is remembered, and the text is read to its
 /// end all the same, since a bad line anywhere comes before a bad block.
 ///
-/// The text is kept, and of each race its pair and of each place where it stands. Of a schedule the
-/// positions that its numbers stand for are kept until the next block is read, in 4 bytes each, and at most
-/// one more than the trace has events: where a list has more numbers, it is no schedule, and these tell
-/// where it isn't one. So a report takes little more than its size, also where it is a single block of
-/// numbers of one digit; one of places alone, in 24 bytes each, takes about twice its size. The time is
-/// linear in the trace and in the report.
+/// The text is kept, and of each race its pair, in 8 bytes. Of the places at most one more than there are
+/// races is kept, in 24 bytes each: where a report has more places, they aren't those of its races. Of a
+/// schedule the positions that its numbers stand for are kept until the next block is read, in 4 bytes each,
+/// and at most one more than the trace has events: where a list has more numbers, it is no schedule, and these
+/// tell where it isn't one. So a report takes little more than its size, also where it is a single block of
+/// numbers of one digit, or has places alone. Where all blocks are good, a table of their places is made, in
+/// some 80 bytes for each; so one of short blocks, each with a place of its own, takes about twice its size.
+/// The time is linear in the trace and in the report.
 ///
 /// # Errors
 ///

@@ -1,14 +1,15 @@
 //! Reads the blocks of the races and the places.
-ghost use Rattle.std.specs.Prelude.{◌≡◌, ◌+◌, ◌-◌, ◌<◌, ◌≤◌, ◌++◌, ◌∷◌, [], ℕ, List, length, IfOk, OnOk, vec_len};
+ghost use Rattle.std.specs.Prelude.{◌≡◌, ◌+◌, ◌-◌, ◌<◌, ◌≤◌, ◌++◌, ◌∷◌, [], ℕ, List, length, take, IfOk, OnOk, vec_len};
 ghost use Rattle.shb_lines.specs.text.Limits.{most_bytes};
 ghost use Rattle.shb_report.specs.Forms.{Form, block_forms, place_forms};
 ghost use Rattle.shb_report.specs.Lines.{IfBad, IsAt, IsBadAt, Passes, bytes_from};
-ghost use Rattle.shb_report.specs.Parts.{IsPlaceIn, IsRaceIn, ReadsBlock, ReadsBlocks, ReadsPlace, ReadsPlaces, block_at, block_before, place_at, place_before};
+ghost use Rattle.shb_report.specs.Parts.{IsPlaceIn, IsRaceIn, KeepsFirst, ReadsBlock, ReadsBlocks, ReadsPlace, ReadsPlaces, block_at, block_before, place_at, place_before};
 
 use super::keeping::{AsWritten, Keeping};
 use super::lines::{Position, Stop};
 use super::parts::{PlaceEntry, RaceEntry};
 use super::reader::{read_named, read_place_line, read_race_line, read_schedule};
+use shb_io::NoMemory;
 use std::alloc::Global;
 
 /// Reads the block of this number, and adds what is kept of the numbers of its schedule.
@@ -109,17 +110,34 @@ pub(crate) fn read_blocks(
     Ok(BlockEntries { races, numbers })
 }
 
-/// Reads so many places.
+/// Adds the entry of the place of this number, if it is one of the first that are kept.
+fn add_place(
+    places: &mut Vec<PlaceEntry>,
+    most: u64,
+    number: u64,
+    entry: PlaceEntry,
+) -> Result<(), NoMemory>
+    ensures { (all : List PlaceEntry) → length all + 1 ≡ number → places.old.items ≡ take most all
+        → OnOk result (places.new.items ≡ take most (all ++ entry ∷ [])) }
+{
+    if number <= most {
+        places.push(entry)?;
+    }
+    Ok(())
+}
+
+/// Reads so many places, and keeps the entries of the first of them, at most so many.
 pub(crate) fn read_place_entries(
     alloc: Global,
     text: &[u8],
     at: &mut Position,
     count: u64,
+    most: u64,
 ) -> Result<Vec<PlaceEntry>, Stop>
     requires short { length text.now ≤ most_bytes }
     requires at { IsAt text.now at.old }
     ensures at { OnOk result (IsAt text.now at.new) }
-    ensures read { IfOk result (λ places. ReadsPlaces text.now at.old at.new count places.items) }
+    ensures read { IfOk result (λ places. KeepsFirst most (ReadsPlaces text.now at.old at.new count) places.items) }
     ensures passes { OnOk result ((forms : List Form) → Passes text.now at.old at.new (place_forms 1 count ++ forms) forms) }
     ensures bad { (forms : List Form) → IfBad result (IsBadAt text.now at.old (place_forms 1 count ++ forms)) }
 {
@@ -128,7 +146,7 @@ pub(crate) fn read_place_entries(
     while number < count {
         number += 1;
         let entry = read_place(text, at, number)?;
-        let Ok(()) = places.push(entry) else {
+        let Ok(()) = add_place(&mut places, most, number, entry) else {
             return Err(Stop::Memory);
         };
     }

@@ -3,7 +3,7 @@ ghost use Rattle.std.specs.Prelude.{◌≡◌, ◌+◌, ◌<◌, ◌≤◌, ◌+
 ghost use Rattle.shb_lines.specs.text.Limits.{most_bytes};
 ghost use Rattle.shb_report.specs.Forms.{Form, End, Version, IsBadFrom, block_forms};
 ghost use Rattle.shb_report.specs.Lines.{IfBad, IsAt, IsBadAt, Passes, bytes_from};
-ghost use Rattle.shb_report.specs.Parts.{IsScanned, ReadsHead, ReadsSection, places_form};
+ghost use Rattle.shb_report.specs.Parts.{IsScanned, KeepsFirst, ReadsHead, ReadsSection, places_form};
 ghost use Rattle.shb_report.specs.Value.{lines_text};
 
 use super::entries::{BlockEntries, read_blocks, read_place_entries};
@@ -47,17 +47,19 @@ pub(crate) fn read_head(text: &[u8], at: &mut Position) -> Result<Head, Stop>
     })
 }
 
-/// Reads the lines of the places, where the report has them.
+/// Reads the lines of the places, where the report has them, and keeps the entries of the first places, at
+/// most so many.
 pub(crate) fn read_places(
     alloc: Global,
     text: &[u8],
     at: &mut Position,
     with_places: bool,
+    most: u64,
 ) -> Result<Vec<PlaceEntry>, Stop>
     requires short { length text.now ≤ most_bytes }
     requires at { IsAt text.now at.old }
     ensures at { OnOk result (IsAt text.now at.new) }
-    ensures read { IfOk result (λ places. ReadsSection text.now at.old at.new with_places places.items) }
+    ensures read { IfOk result (λ places. KeepsFirst most (ReadsSection text.now at.old at.new with_places) places.items) }
     ensures passes { OnOk result ((forms : List Form) → Passes text.now at.old at.new (places_form with_places ++ forms) forms) }
     ensures bad { (forms : List Form) → IfBad result (IsBadAt text.now at.old (places_form with_places ++ forms)) }
 {
@@ -67,7 +69,7 @@ pub(crate) fn read_places(
     let Some(count) = read_place_count(text, at) else {
         return Err(Stop::BadLine(at.lines + 1));
     };
-    let places = read_place_entries(alloc, text, at, count)?;
+    let places = read_place_entries(alloc, text, at, count, most)?;
     Ok(places)
 }
 
@@ -105,7 +107,7 @@ pub(crate) fn scan(alloc: Global, text: &[u8]) -> Result<Scanned, Stop>
 {
     let mut at = Position { start: 0, lines: 0 };
     let head = read_head(text, &mut at)?;
-    let places = read_places(alloc, text, &mut at, head.with_places)?;
+    let places = read_places(alloc, text, &mut at, head.with_places, u64::MAX)?;
     let BlockEntries { races, numbers } = read_blocks(alloc, text, &mut at, head.races)?;
     read_tail(text, &mut at)?;
     Ok(Scanned {

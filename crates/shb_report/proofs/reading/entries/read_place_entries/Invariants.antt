@@ -1,14 +1,14 @@
 use Rattle.std.proofs.Common.{◌≤◌, ◌+◌, ◌-◌, ◌++◌, List}
 use Rattle.shb_report.specs.Forms.{Form, place_forms}
 use Rattle.shb_report.specs.Lines.{IsAt, Passes}
-use Rattle.shb_report.specs.Parts.{ReadsPlaces}
+use Rattle.shb_report.specs.Parts.{KeepsFirst, ReadsPlaces}
 use Rattle.shb_report.proofs.reading.entries.read_place_entries.Given as goal
 
 abbrev pub invariant-loop-number : goal.invariant-loop-number
 invariant-loop-number l = record {
   within : l.number ≤ l.count;
   at : IsAt l.text l.at;
-  read : ReadsPlaces l.text l.fn.at l.at l.number l.places.items;
+  read : KeepsFirst l.most (ReadsPlaces l.text l.fn.at l.at l.number) l.places.items;
   passes : (forms : List Form) → Passes l.text l.fn.at l.at (place_forms 1 l.count ++ forms) (place_forms (l.number + 1) (l.count - l.number) ++ forms);
 }
 

@@ -11,7 +11,7 @@ returns-in_default-clause-bad c = λ forms.
 
 pub returns-clause-read : goal.returns-clause-read
 returns-clause-read c =
-    section_read c.args.text.now c.args.at.now c.read_place_count.new.at _ c.args.with_places c.in-Some.count _ c.if-not-with_places.false c.in-Some.ensures.0 c.in-Some.ensures.1 c.in_ok-places.ensures.read
+    section_read _ c.args.text.now c.args.at.now c.read_place_count.new.at _ c.args.with_places c.in-Some.count _ c.if-not-with_places.false c.in-Some.ensures.0 c.in-Some.ensures.1 c.in_ok-places.ensures.read
 
 pub returns-clause-passes : goal.returns-clause-passes
 returns-clause-passes c = λ forms n b.
