@@ -6,7 +6,6 @@ use Rattle.std.proofs.Math.Nat.{mul-le-mul_right, suc-mul}
 use Rattle.std.proofs.lemmas.Bool.{cases_lt, cases_eq}
 use Rattle.std.proofs.lemmas.List.{take-append-le, drop-append-le, length-take-le, take_all, get_or_past, get_or_read}
 use Rattle.std.proofs.Math.Seq.{drop-append_seam}
-use Rattle.std.proofs.lemmas.Option.{slice_get-get_or}
 use Rattle.shb_lines.specs.declared.event.Event.{Event}
 use Rattle.shb_lines.specs.declared.event.Op.{Op}
 use Rattle.shb_lines.specs.declared.event.Op.TheVariants.{Read, Acquire, Release, Join}
@@ -17,9 +16,9 @@ use Rattle.shb_lines.proofs.events.Decide.{pred_unique, last_write_unique}
 use Rattle.shb_lines.proofs.events.Schedulable.{pred_earlier}
 use Rattle.shb_links.specs.Latest.{IsLatestBefore, Latest, IsLatestTable, OfThread}
 use Rattle.shb_links.specs.Links.{Exactly}
-use Rattle.shb_lines.specs.events.Sizes.{IsOpWithin, IsWithin}
+use Rattle.shb_lines.specs.events.Sizes.{IsWithin}
 use Rattle.shb_lines.specs.declared.event.Sizes.{Sizes}
-use Rattle.shb_lines.proofs.events.Items.{thread_item, op_item}
+use Rattle.shb_lines.proofs.events.Items.{thread_within}
 use Rattle.shb_clocks.specs.Fronts.{IsFront, BelowRelease, BelowThread, BelowLastWrite, Learns, by_acquire, by_join, by_read, StrictlyBelow}
 use Rattle.shb_clocks.specs.Rows.{row_at}
 use Rattle.shb_clocks.specs.Past.{HasClocks, HasLockClocks}
@@ -237,6 +236,9 @@ module _ (trace : List Event) (n threads time : ℕ) (clocks seen row : List ℕ
 pub lock_front : (trace : List Event) (n threads locks l : ℕ) (clocks : List (List ℕ)) (item seen : List ℕ) → HasLockClocks trace n threads locks clocks → l < locks → item ≡ get_or clocks l item → seen ≡ item → IsFront trace (BelowRelease trace l n) seen
 lock_front trace n threads locks l clocks item seen has lt is same = subst (IsFront trace (BelowRelease trace l n)) (sym (same ∙ get_or_read clocks l item (let many = has.as_many in omega (arith, many, lt)) is [])) (has.each l lt)
 
+pub lock_wide : (trace : List Event) (n threads locks l : ℕ) (clocks : List (List ℕ)) (item seen : List ℕ) → HasLockClocks trace n threads locks clocks → l < locks → item ≡ get_or clocks l item → seen ≡ item → length seen ≡ threads
+lock_wide trace n threads locks l clocks item seen has lt is same = ap length (same ∙ get_or_read clocks l item (let many = has.as_many in omega (arith, many, lt)) is []) ∙ has.as_long l lt
+
 pub lock_step : (trace : List Event) (n threads locks l : ℕ) (clocks : List (List ℕ)) (clock item seen joined : List ℕ) → op_at trace n ≡ Some (Release l) → l < locks → item ≡ get_or clocks l item → seen ≡ clock → length joined ≡ length item → ((t : ℕ) → get_or joined t 0 ≡ max (get_or item t 0) (get_or seen t 0)) → IsFront trace (λ k. ShbBelow trace k n) clock → HasLockClocks trace n threads locks clocks → HasLockClocks trace (n + 1) threads locks (set clocks l joined)
 lock_step trace n threads locks l clocks clock item seen joined releases lt is same long each front has =
     let there : item ≡ get_or clocks l [] = get_or_read clocks l item (let many = has.as_many in omega (arith, many, lt)) is [] in
@@ -257,21 +259,12 @@ pub exactly_none : (P : ℕ → Type 0) (o : Option ℕ) → Exactly P o → ((b
 exactly_none P None h other = h
 exactly_none P (Some b) h other = absurd (other b refl)
 
--- the operation of an event is within the sizes
-pub op_within : (trace : List Event) (sizes : Sizes) (e : ℕ) (d : Event) (op : Op) → IsWithin trace sizes → e < length trace → (get_or trace e d).op ≡ op → IsOpWithin sizes op
-op_within trace sizes e d op within lt is = subst (IsOpWithin sizes) is (within e (get_or trace e d) (slice_get-get_or trace e d lt)).operation
-
 -- the own entry
-pub tick_front : (trace links : List Event) (sizes : Sizes) (e x : ℕ) (d : Event) (clock put : List ℕ) → IsDisciplined trace → links ≡ trace → IsWithin trace sizes → e < length trace → ((t : ℕ) → thread_at links e ≡ Some t → x ≡ local_time links t e) → length clock ≡ sizes.threads → IsFront trace (StrictlyBelow trace e) clock → put ≡ set clock (get_or trace e d).thread x → IsFront trace (λ k. ShbBelow trace k e) put
-tick_front trace links sizes e x d clock put disciplined same within lt time long front is =
-    let u : ℕ = (get_or trace e d).thread in
-    let of_e : thread_at trace e ≡ Some u = thread_item trace e d lt in
+pub tick_front : (trace links : List Event) (sizes : Sizes) (e x u : ℕ) (clock put : List ℕ) → IsDisciplined trace → links ≡ trace → IsWithin trace sizes → thread_at trace e ≡ Some u → ((t : ℕ) → thread_at links e ≡ Some t → x ≡ local_time links t e) → length clock ≡ sizes.threads → IsFront trace (StrictlyBelow trace e) clock → put ≡ set clock u x → IsFront trace (λ k. ShbBelow trace k e) put
+tick_front trace links sizes e x u clock put disciplined same within of_e time long front is =
     let own : x ≡ local_time trace u e = subst (λ (tr : List Event). (t : ℕ) → thread_at tr e ≡ Some t → x ≡ local_time tr t e) same time u of_e in
-    let low = (within e (get_or trace e d) (slice_get-get_or trace e d lt)).thread in
+    let low = thread_within trace sizes e u within of_e in
     subst (IsFront trace (λ k. ShbBelow trace k e)) (sym (is ∙ ap (λ (n : ℕ). set clock u n) own)) (front_event trace disciplined e u clock of_e (omega (arith, low, long)) front)
-
-pub op_other : (trace : List Event) (e : ℕ) (d : Event) (op : Op) → e < length trace → ((get_or trace e d).op ≡ op → ⊥) → op_at trace e ≢ Some op
-op_other trace e d op lt other is = other (let s : Some (get_or trace e d).op ≡ Some op = sym (op_item trace e d lt) ∙ is in cc)
 
 pub clock_pred_range : (trace seen : List Event) (p e : ℕ) → IsDisciplined trace → trace ≡ seen → e < length seen → IsPred trace p e → p < length trace
 clock_pred_range trace seen p e disciplined same lt pred = let size = ap length same in let earlier = pred_earlier trace disciplined p e pred in omega (arith, size, lt, earlier)

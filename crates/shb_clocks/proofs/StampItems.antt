@@ -1,29 +1,13 @@
 -- What the code of the sweep by stamps reads, and the parts of its state, an event more.
-use Rattle.std.proofs.Common.{◌≡◌, ℕ, ◌<◌, ◌≤◌, ◌⊎◌, inl, inr, List, [], Some, length, get_or, arith, subst, ap, sym, ◌∙◌}
+use Rattle.std.proofs.Common.{◌≡◌, ℕ, ◌<◌, ◌≤◌, ◌⊎◌, inl, inr, List, [], length, get_or, arith, subst, ap, sym, ◌∙◌}
 use Rattle.std.specs.Prelude.{replicate}
 use Rattle.std.proofs.Math.ListN.{length-replicate, get_or-replicate}
 use Rattle.std.proofs.lemmas.List.{get_or_read}
 use Rattle.shb_lines.specs.declared.event.Event.{Event}
-use Rattle.shb_lines.specs.declared.event.Op.{Op}
-use Rattle.shb_lines.specs.declared.event.Sizes.{Sizes}
-use Rattle.shb_lines.specs.events.Events.{thread_at, op_at}
-use Rattle.shb_lines.specs.events.Sizes.{IsOpWithin, IsWithin}
-use Rattle.shb_lines.proofs.events.Events.{event_of_thread, event_of_op}
-use Rattle.shb_lines.proofs.events.Items.{op_item}
 use Rattle.shb_clocks.specs.Stamps.{AreCurrent, AreStamps, IsKnown, IsLatestStamp, IsRowFor, empty_stamp}
 use Rattle.shb_clocks.specs.declared.stamp.Stamp.{Stamp}
 use Rattle.shb_clocks.proofs.Locals.{time_at}
 use Rattle.shb_clocks.proofs.PastLemmas.{zero_entry}
-
--- numbers within the sizes
-pub thread_low : (trace : List Event) (sizes : Sizes) (e t : ℕ) → IsWithin trace sizes → thread_at trace e ≡ Some t → t < sizes.threads
-thread_low trace sizes e t within of_t = let x = event_of_thread trace e t of_t in let low = (within e x.0 x.1).thread in let is = x.2 in omega (arith, low, is)
-
-pub op_low : (trace : List Event) (sizes : Sizes) (e : ℕ) (op : Op) → IsWithin trace sizes → op_at trace e ≡ Some op → IsOpWithin sizes op
-op_low trace sizes e op within is = let x = event_of_op trace e op is in subst (IsOpWithin sizes) x.2 (within e x.0 x.1).operation
-
-pub op_is : (trace : List Event) (e : ℕ) (d : Event) (op : Op) → e < length trace → (get_or trace e d).op ≡ op → op_at trace e ≡ Some op
-op_is trace e d op lt is = op_item trace e d lt ∙ ap (λ (o : Op). Some o) is
 
 -- whether a stamp is known, as the code tests it
 pub known_read : (stamp : Stamp) (u t : ℕ) (seen row : List ℕ) → u ≡ t → seen ≡ row → (stamp.thread ≡ u) ⊎ (stamp.time ≤ get_or seen stamp.thread 0) → (stamp.thread ≡ t) ⊎ (stamp.time ≤ get_or row stamp.thread 0)

@@ -67,7 +67,7 @@ impl<'a> Order for EventRows<'a> {
     ghost asks = { λ o e. accesses_open o.flags o.trace e };
 
     fn below_pred(&self, e: u32, t: u32) -> u32 {
-        if t == self.linked.events[e as usize].thread {
+        if t == self.linked.events.thread(e) {
             return self.linked.links.local(e) - 1;
         }
         entry(self.rows.row(self.before[e as usize]), t)

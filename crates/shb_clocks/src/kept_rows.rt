@@ -44,7 +44,7 @@ fn keep(
     ensures row { (t : ℕ) → thread_at linked.now.events.now e ≡ Some t
         → IfOk result (IsRowFor linked.now.events.now rows.new.rows t (λ k. BelowPred linked.now.events.now k e)) }
 {
-    let thread = linked.events[e as usize].thread;
+    let thread = linked.events.thread(e);
     let before = stamps.row_before(linked, e);
     let number = rows.number_like(last[thread as usize], stamps.rows.row(before))?;
     last[thread as usize] = number;

@@ -20,7 +20,7 @@ pub fn is_asked(linked: &Linked<'_>, flags: &[bool], e: u32) -> bool
     requires { e < length linked.now.events.now }
     ensures { result ≡ accesses_open flags.now linked.now.events.now e }
 {
-    match linked.events[e as usize].op.variable() {
+    match linked.events.op(e).variable() {
         Some(x) => is_open(flags, x),
         None => false,
     }

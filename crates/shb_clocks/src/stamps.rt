@@ -89,7 +89,7 @@ fn row_after(
     ensures shared { (t : ℕ) → thread_at linked.now.events.now e ≡ Some t
         → KnowsStamp (slice_index_or rows.old.rows before []) t source → OnOk result (rows.new ≡ rows.old) }
 {
-    let thread = linked.events[e as usize].thread;
+    let thread = linked.events.thread(e);
     let known = source.is_known(thread, rows.row(before));
     if known {
         return Ok(before);
@@ -119,7 +119,7 @@ fn pass_on(
     ensures current { OnOk result (AreCurrent linked.now.events.now rows.new.rows (e + 1) linked.now.sizes.threads current.new.items) }
 {
     current[stamp.thread as usize] = stamp.row;
-    if let Op::Fork(child) = linked.events[e as usize].op {
+    if let Op::Fork(child) = linked.events.op(e) {
         let row = push_stamp(rows, clock, stamp)?;
         current[child as usize] = row;
     }
@@ -134,7 +134,7 @@ fn note_release(linked: &Linked<'_>, e: u32, stamp: Stamp, locks: &mut Vec<Stamp
         → AreStamps linked.now.events.now rows (ReleasesLock linked.now.events.now) e linked.now.sizes.locks locks.old.items
         → AreStamps linked.now.events.now rows (ReleasesLock linked.now.events.now) (e + 1) linked.now.sizes.locks locks.new.items }
 {
-    if let Op::Release(lock) = linked.events[e as usize].op {
+    if let Op::Release(lock) = linked.events.op(e) {
         locks[lock as usize] = stamp;
     }
 }
@@ -148,7 +148,7 @@ fn note_write(linked: &Linked<'_>, e: u32, stamp: Stamp, variables: &mut Vec<Sta
         → AreStamps linked.now.events.now rows (WritesShared linked.now.events.now) (e + 1)
         linked.now.sizes.variables variables.new.items }
 {
-    if let Op::Write(variable) = linked.events[e as usize].op {
+    if let Op::Write(variable) = linked.events.op(e) {
         if linked.links.is_shared(variable) {
             variables[variable as usize] = stamp;
         }
@@ -197,7 +197,7 @@ impl Stamps {
         requires swept { IsSwept linked.now.events.now e linked.now.sizes self.now }
         ensures { IsSource linked.now.events.now self.now.rows.rows e result }
     {
-        match linked.events[e as usize].op {
+        match linked.events.op(e) {
             Op::Acquire(lock) => self.locks[lock as usize],
             Op::Read(variable) => self.variables[variable as usize],
             Op::Join(thread) => self.join_source(linked, e, thread),
@@ -212,7 +212,7 @@ impl Stamps {
         ensures { (t : ℕ) → thread_at linked.now.events.now e ≡ Some t
             → IsRowFor linked.now.events.now self.now.rows.rows t (λ k. BelowPred linked.now.events.now k e) result }
     {
-        self.current[linked.events[e as usize].thread as usize]
+        self.current[linked.events.thread(e) as usize]
     }
 
     /// The number of events of thread t that are SHB-below the predecessor of e, the next event.
@@ -221,7 +221,7 @@ impl Stamps {
         requires swept { IsSwept linked.now.events.now e linked.now.sizes self.now }
         ensures { IsBelowPredCount linked.now.events.now t e result }
     {
-        if t == linked.events[e as usize].thread {
+        if t == linked.events.thread(e) {
             return linked.links.local(e) - 1;
         }
         entry(self.rows.row(self.row_before(linked, e)), t)
@@ -234,7 +234,7 @@ impl Stamps {
         ensures swept { OnOk result (IsSwept linked.now.events.now (e + 1) linked.now.sizes self.new) }
         ensures more { OnOk result (AreMore self.old.rows.rows self.new.rows.rows) }
     {
-        let thread = linked.events[e as usize].thread;
+        let thread = linked.events.thread(e);
         let before = self.row_before(linked, e);
         let source = self.source(linked, e);
         let row = row_after(&mut self.rows, &mut self.clock, linked, e, before, source)?;

@@ -8,7 +8,7 @@ ghost use Rattle.shb_discipline.specs.Faults.{IsFirstIfAny, IsRefusal};
 use crate::disciplined::Disciplined;
 use crate::state::State;
 use shb_io::NoMemory;
-use shb_lines::{Event, Fault, LineFault, Sizes, Trace};
+use shb_lines::{Events, Fault, LineFault, Sizes, Trace};
 use std::alloc::Global;
 
 /// Why a trace is not known to meet the discipline.
@@ -33,14 +33,14 @@ impl From<NoMemory> for CheckError {
 
 /// The first event that may not come after those before it: its line and its fault of lowest
 /// number.
-fn first_fault(alloc: Global, events: &[Event], sizes: Sizes) -> Result<Option<LineFault>, NoMemory>
+fn first_fault(alloc: Global, events: &Events, sizes: Sizes) -> Result<Option<LineFault>, NoMemory>
     requires few { length events.now ≤ most_events }
     requires within { IsWithin events.now sizes }
     ensures { IfOk result (IsFirstIfAny events.now) }
 {
     let mut state = State::new(alloc, sizes)?;
     for e in 0..events.len() as u32 {
-        let event = events[e as usize];
+        let event = events.event(e);
         if let Some(fault) = state.fault(event) {
             let line = event.line;
             return Ok(Some(LineFault { line, fault }));

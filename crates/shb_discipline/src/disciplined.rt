@@ -5,7 +5,7 @@ ghost use Rattle.shb_lines.specs.events.Sizes.{IsNumberedByAccess, IsNumberedByA
 ghost use Rattle.shb_lines.specs.text.Limits.{most_events};
 ghost use Rattle.shb_lines.specs.text.TraceData.{sizes_of};
 
-use shb_lines::{Event, Sizes, Trace};
+use shb_lines::{Events, Sizes, Trace};
 
 /// A trace that meets the discipline of locks, forks and joins, and what else is known of it: it
 /// has few events, its sizes are exactly the counts of its threads, locks and variables, its numbers
@@ -23,7 +23,7 @@ pub struct Disciplined<'a> {
     /// The trace.
     pub trace: &'a Trace,
     /// Its events, in the order of the text.
-    pub events: &'a [Event],
+    pub events: &'a Events,
     /// How many threads, locks and variables it names, exactly.
     pub sizes: Sizes,
     pub ghost of_trace: { events.now ≡ trace.now.events },

@@ -10,7 +10,7 @@ ghost use Rattle.shb_lines.specs.Lowest.{IsLowest};
 ghost use Rattle.shb_lines.specs.text.Faults.{number_of};
 
 use shb_io::NoMemory;
-use shb_lines::{Event, Fault, Op, Sizes};
+use shb_lines::{Event, Events, Fault, Op, Sizes};
 use std::alloc::Global;
 
 /// A lock after some events: its holder, and how many of the holder's acquires are not yet
@@ -204,7 +204,7 @@ impl State {
     }
 
     /// Takes note of the event at `e`, which has no fault.
-    pub(crate) fn note(&mut self, events: &[Event], e: u32)
+    pub(crate) fn note(&mut self, events: &Events, e: u32)
         requires in_range { e < length events.now }
         requires few { length events.now < 2 ^ 32 }
         requires covers { All (Covers self.old) events.now }
@@ -213,7 +213,7 @@ impl State {
         ensures covers { All (Covers self.new) events.now }
         ensures state { IsStateAfter (take (e + 1) events.now) self.new }
     {
-        let Event { thread, op, .. } = events[e as usize];
+        let Event { thread, op, .. } = events.event(e);
         self.started[thread as usize] = true;
         match op {
             Op::Acquire(lock) => {

@@ -16,3 +16,4 @@ pub mod Numbers
 pub mod Named
 pub mod CutText
 pub mod GrammarLaw
+pub mod StoredEvents

@@ -17,3 +17,4 @@ pub mod Spans
 pub mod Reader
 pub mod Parsed
 pub mod Parts
+pub mod Stored

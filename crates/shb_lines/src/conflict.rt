@@ -4,6 +4,7 @@ ghost use Rattle.shb_lines.specs.events.Race.{Conflict};
 ghost use Rattle.shb_lines.specs.events.Tests.{is_conflict, same_variable};
 
 use crate::event::Event;
+use crate::stored::Events;
 use crate::trace::Trace;
 
 /// Whether both are variables, and the same one.
@@ -26,13 +27,13 @@ pub fn events_conflict(first: Event, second: Event) -> bool
         && !(first.thread == second.thread)
 }
 
-/// Whether two events of a list conflict, by their positions from 0.
-pub fn events_conflict_at(events: &[Event], first: u32, second: u32) -> bool
+/// Whether two events of a trace's events conflict, by their numbers from 0.
+pub fn events_conflict_at(events: &Events, first: u32, second: u32) -> bool
     requires first { first < length events.now }
     requires second { second < length events.now }
     ensures { IsTrue result ↔ Conflict events.now first second }
 {
-    events_conflict(events[first as usize], events[second as usize])
+    events_conflict(events.event(first), events.event(second))
 }
 
 /// Whether two events of a trace conflict, by their numbers from 0.

@@ -4,7 +4,7 @@ ghost use Rattle.std.specs.List.{list_any, position_or_len};
 ghost use Rattle.std.specs.Str.{bytes_eq};
 ghost use Rattle.indexmap.specs.IndexMap.{index_map_len};
 ghost use Rattle.shb_lines.specs.text.Faults.{HasLineFault, number_of};
-ghost use Rattle.shb_lines.specs.text.Limits.{AreStandard};
+ghost use Rattle.shb_lines.specs.text.Limits.{AreStandard, most_threads};
 ghost use Rattle.shb_lines.specs.text.Spans.{StandsAt, spans_in};
 ghost use Rattle.shb_lines.specs.text.Parsed.{HasRead, lines_read, part};
 ghost use Rattle.shb_lines.specs.text.Numbers.{IsOperation, events_of, op_for};
@@ -14,12 +14,13 @@ ghost use Rattle.shb_lines.specs.text.Text.{threads_among};
 ghost use Rattle.shb_lines.specs.text.TraceData.{IsReading};
 ghost use Rattle.shb_lines.specs.Lowest.{IsLowest};
 
-use crate::event::{Event, Kind, Op};
+use crate::event::Kind;
 use crate::fault::{Fault, LineFault};
 use crate::grammar::{LineEvent, read_line};
 use crate::limits::Limits;
 use crate::line::without_carriage_return;
 use crate::names::{Names, Span};
+use crate::stored::Events;
 use crate::trace::Parts;
 use memchr::memchr;
 use shb_io::NoMemory;
@@ -47,25 +48,9 @@ fn line_end(text: &[u8], start: usize) -> usize
     }
 }
 
-/// The operation of this kind with this number, which a mark lacks.
-fn op_with(kind: Kind, number: u32) -> Op
-    ensures { result ≡ op_for kind number }
-{
-    match kind {
-        Kind::Read => Op::Read(number),
-        Kind::Write => Op::Write(number),
-        Kind::Acquire => Op::Acquire(number),
-        Kind::Release => Op::Release(number),
-        Kind::Fork => Op::Fork(number),
-        Kind::Join => Op::Join(number),
-        Kind::BeginMark => Op::BeginMark,
-        Kind::EndMark => Op::EndMark,
-    }
-}
-
 /// What was read of a text so far.
 pub struct Reader<'t> {
-    events: Vec<Event>,
+    events: Events,
     starts: Vec<u32>,
     threads: Names<'t>,
     locks: Names<'t>,
@@ -88,14 +73,14 @@ impl<'t> Reader<'t> {
     /// Nothing read yet.
     pub fn new<R: RandomSource>(rt: &R, alloc: Global) -> Result<Reader<'t>, NoMemory>
         ensures room { IfOk result HasRoom }
-        ensures empty { IfOk result (λ reader. vec_len reader.events ≡ 0) }
+        ensures empty { IfOk result (λ reader. reader.events ≡ []) }
         ensures begun { (text : List ℕ) → IfOk result (λ reader. HasRead text reader []) }
     {
         Ok(Reader {
             threads: Names::new(rt, alloc)?,
             locks: Names::new(rt, alloc)?,
             variables: Names::new(rt, alloc)?,
-            events: Vec::new(alloc),
+            events: Events::new(alloc),
             starts: Vec::new(alloc),
         })
     }
@@ -165,10 +150,12 @@ impl<'t> Reader<'t> {
     /// Adds the event of a line that begins at `start`.
     fn add_event(&mut self, found: &LineEvent<'t>, line: u32, start: u32) -> Result<(), NoMemory>
         requires room { HasNames self.old (2 ^ 23) }
+        requires few { length (with_names (tables_of self.old).threads (found.now.thread.now ∷ threads_among found.now.kind found.now.operand.now)) ≤ most_threads }
+        requires line { length self.old.events < line }
         requires thread { start + length found.now.thread.now < 2 ^ 31 }
         requires operand { start + found.now.operand_at + length found.now.operand.now < 2 ^ 31 }
         ensures room { (n : ℕ) → HasNames self.old n → OnOk result (HasNames self.new (n + 2)) }
-        ensures len { OnOk result (vec_len self.new.events ≡ vec_len self.old.events + 1) }
+        ensures len { OnOk result (length self.new.events ≡ length self.old.events + 1) }
         ensures added { OnOk result (AddsEvent self.old self.new line (named found.now) start) }
         ensures stand { (bytes : List ℕ) → AllStand bytes self.old
             → StandsAt bytes found.now.thread.now (record { start = start; len = length found.now.thread.now })
@@ -185,8 +172,7 @@ impl<'t> Reader<'t> {
         };
         let thread = self.threads.number_of(found.thread, thread_span)?;
         let number = self.operand_number(found.kind, found.operand, operand_span)?;
-        let op = op_with(found.kind, number);
-        self.events.push(Event { thread, op, line })?;
+        self.events.push(thread, found.kind, number, line)?;
         self.starts.push(start)?;
         Ok(())
     }
@@ -206,8 +192,10 @@ impl<'t> Reader<'t> {
         requires within { end ≤ length text.now }
         requires short { length text.now < 2 ^ 31 }
         requires room { HasRoom self.old }
+        requires line { length self.old.events < line }
         ensures room { OnOk result (HasRoom self.new) }
-        ensures few { vec_len self.old.events ≤ limits.now.events → OnOk result (vec_len self.new.events ≤ limits.now.events) }
+        ensures few { length self.old.events ≤ limits.now.events → OnOk result (length self.new.events ≤ limits.now.events) }
+        ensures each { OnOk result (length self.new.events ≤ line) }
         // After the events of some lines, the fault is the lowest that the line has.
         ensures fault { (lines : List (List ℕ)) → HasRead text.now self.old lines
             → IfOk result (IsLowest number_of (HasLineFault limits.now
@@ -249,11 +237,11 @@ impl<'t> Reader<'t> {
     ) -> Result<Option<LineFault>, NoMemory>
         requires standard { AreStandard limits.now }
         requires short { length text.now ≤ limits.now.text + 1 }
-        requires empty { vec_len self.old.events ≡ 0 }
+        requires empty { self.old.events ≡ [] }
         requires room { HasRoom self.old }
         requires begun { HasRead text.now self.old [] }
         ensures room { OnOk result (HasRoom self.new) }
-        ensures few { OnOk result (vec_len self.new.events ≤ limits.now.events) }
+        ensures few { OnOk result (length self.new.events ≤ limits.now.events) }
         ensures reading { IfOk result (IsReading limits.now text.now (HasRead text.now self.new)) }
     {
         let mut start = 0;

@@ -4,7 +4,7 @@ use Rattle.std.specs.Prelude.{◌↔◌, IsTrue, map, replicate, option_and_then
 use Rattle.std.proofs.Math.ListN.{set, length-set, length-replicate, get_or-replicate}
 use Rattle.std.proofs.lemmas.Bool.{cases_lt, cases_eq}
 use Rattle.std.proofs.lemmas.List.{get_or-map, get_or_past, length-map}
-use Rattle.std.proofs.lemmas.Option.{slice_get-get_or, slice_get_within}
+use Rattle.std.proofs.lemmas.Option.{slice_get_within}
 use Rattle.shb_lines.specs.declared.event.Event.{Event}
 use Rattle.shb_lines.specs.declared.event.Op.{Op}
 use Rattle.shb_lines.specs.declared.event.Op.TheVariants.{Read, Write}
@@ -12,18 +12,15 @@ use Rattle.shb_lines.specs.declared.event.Sizes.{Sizes}
 use Rattle.shb_lines.specs.events.Events.{op_at, thread_at, variable_of}
 use Rattle.shb_lines.specs.events.Race.{variable_at}
 use Rattle.shb_lines.specs.events.Sizes.{IsOpWithin, IsWithin}
-use Rattle.shb_lines.proofs.events.Items.{op_item, thread_item}
+use Rattle.shb_lines.proofs.events.Events.{op_is}
 use Rattle.shb_lines.proofs.events.Reach.{event_at_access}
 use Rattle.shb_links.specs.Sharing.{AreOwners, HasShared, IsOwner, IsShared, IsSole, is_several}
 use Rattle.shb_links.specs.declared.sharing.Owner.{Owner}
 use Rattle.shb_links.specs.declared.sharing.Owner.TheVariants.{Nobody, One, Several}
 
--- the variable of an event that is read at an index
-pub variable_item : (trace : List Event) (k : ℕ) (d : Event) → k < length trace → variable_at trace k ≡ variable_of (get_or trace k d).op
-variable_item trace k d lt = ap (λ (o : Option _). option_and_then variable_of o) (op_item trace k d lt)
-
-pub access_item : (trace : List Event) (k x : ℕ) (d : Event) → k < length trace → Some x ≡ variable_of (get_or trace k d).op → variable_at trace k ≡ Some x
-access_item trace k x d lt is = variable_item trace k d lt ∙ sym is
+-- the variable of an event whose operation is known
+pub variable_known : (trace : List Event) (k : ℕ) (op : Op) → op_at trace k ≡ Some op → variable_at trace k ≡ variable_of op
+variable_known trace k op does = ap (λ (o : Option _). option_and_then variable_of o) does
 
 pub apart : (x : ℕ) → Some x ≡ None → ⊥
 apart x h = let f : ⊥ = cc in f
@@ -37,8 +34,7 @@ sized sizes _ x low is = absurd (let f : ⊥ = cc in f)
 pub variable_sized : (trace : List Event) (sizes : Sizes) (k x : ℕ) → IsWithin trace sizes → variable_at trace k ≡ Some x → (k < length trace) × (x < sizes.variables)
 variable_sized trace sizes k x within access =
     let e = event_at_access trace k x access in
-    let lt = slice_get_within trace k e.0 e.1 in
-    (lt, sized sizes (get_or trace k e.0).op x (within k (get_or trace k e.0) (slice_get-get_or trace k e.0 lt)).operation (sym (variable_item trace k e.0 lt) ∙ access))
+    (slice_get_within trace k e.0 e.1, sized sizes e.0.op x (within k e.0 e.1).operation (sym (variable_known trace k e.0.op (op_is trace k e.0 e.1)) ∙ access))
 
 -- one event more, which doesn't access x
 sole_more : (trace : List Event) (x n t : ℕ) → (variable_at trace n ≡ Some x → thread_at trace n ≡ Some t) → IsSole trace x n t → IsSole trace x (n + 1) t

@@ -5,8 +5,8 @@ use Rattle.std.specs.Option.{option_or}
 use Rattle.std.proofs.lemmas.Bool.{cases_Bool}
 use Rattle.std.proofs.lemmas.List.{length-take}
 use Rattle.std.proofs.lemmas.List.Sums.{count_by-le-length}
-use Rattle.std.proofs.lemmas.Option.{slice_get-get_or}
 use Rattle.shb_lines.specs.declared.event.Event.{Event}
+use Rattle.shb_lines.specs.declared.event.Op.{Op}
 use Rattle.shb_lines.specs.declared.event.Op.TheVariants.{Read, Fork}
 use Rattle.shb_lines.specs.events.Events.{thread_at, op_at}
 use Rattle.shb_lines.specs.events.Discipline.{IsDisciplined, is_of, local_time}
@@ -14,8 +14,8 @@ use Rattle.shb_lines.specs.events.Order.{IsPred, in_thread, by_fork, LastWrite}
 use Rattle.shb_lines.proofs.events.Counts.{count_more_yes, count_gap}
 use Rattle.shb_lines.proofs.events.Events.{thread_is, event_of_thread, is_of_true, fork_earlier}
 use Rattle.shb_lines.proofs.events.Prefix.{is_of_thread}
-use Rattle.shb_lines.proofs.events.Items.{thread_item, op_item}
-use Rattle.shb_links.proofs.Tables.{thread_alone, op_within}
+use Rattle.shb_lines.proofs.events.Items.{op_other_at, op_within_at, thread_within}
+use Rattle.shb_links.proofs.Tables.{thread_alone}
 use Rattle.shb_links.specs.Latest.{IsLatestBefore, Latest, IsLatestTable, OfThread, WritesVariable, ForksThread}
 use Rattle.shb_links.specs.Links.{Exactly, HasLocals}
 use Rattle.shb_lines.specs.events.Sizes.{IsWithin}
@@ -69,35 +69,44 @@ write_link trace e x reads (Some w) latest = record { variable = x; reads = read
 write_link trace e x reads None none = λ w last. (let a = last.reads in let same : last.variable ≡ x = cc in none w last.earlier (rw (← same) last.writes))
 
 -- the entry of an event's thread in a table of latest positions
-pub thread_entry : (P : ℕ → ℕ → Type 0) (trace : List Event) (sizes : Sizes) (table : List (Option ℕ)) (e t : ℕ) (d : Event) → IsWithin trace sizes → e < length trace → IsLatestTable P e sizes.threads table → thread_at trace e ≡ Some t → Latest (P t) e (get_or table (get_or trace e d).thread None)
-thread_entry P trace sizes table e t d within lt has of_e =
-    let same : (get_or trace e d).thread ≡ t = thread_alone trace e t (get_or trace e d).thread of_e (thread_item trace e d lt) in
-    subst (λ (u : ℕ). Latest (P u) e (get_or table (get_or trace e d).thread None)) same (has.each (get_or trace e d).thread (within e (get_or trace e d) (slice_get-get_or trace e d lt)).thread)
+pub thread_entry : (P : ℕ → ℕ → Type 0) (trace : List Event) (sizes : Sizes) (table : List (Option ℕ)) (e t : ℕ) → IsWithin trace sizes → IsLatestTable P e sizes.threads table → thread_at trace e ≡ Some t → Latest (P t) e (get_or table t None)
+thread_entry P trace sizes table e t within has of_e = has.each t (thread_within trace sizes e t within of_e)
 
--- what the pass finds of the event at e, from the tables of what stands before it
-module _ (trace : List Event) (sizes : Sizes) (e : ℕ) (d : Event) (within : IsWithin trace sizes) (lt : e < length trace) where
-  pub time_next : (locals : List ℕ) (last : List (Option ℕ)) (p : ℕ) → HasLocals trace e locals → IsLatestTable (OfThread trace) e sizes.threads last → get_or last (get_or trace e d).thread None ≡ Some p → (t : ℕ) → thread_at trace e ≡ Some t → get_or locals p 0 + 1 ≡ local_time trace t e
-  time_next locals last p times has is t of_e =
-      let latest : IsLatestBefore (OfThread trace t) e p = subst (λ (o : Option ℕ). Latest (OfThread trace t) e o) is (thread_entry (OfThread trace) trace sizes last e t d within lt has of_e) in
+-- what the pass finds of the event at e of thread t, from the tables of what stands before it
+module _ (trace : List Event) (sizes : Sizes) (e t : ℕ) (within : IsWithin trace sizes) (of_e : thread_at trace e ≡ Some t) where
+  of_same : (u : ℕ) → thread_at trace e ≡ Some u → t ≡ u
+  of_same u of_u = thread_alone trace e u t of_u of_e
+
+  next_here : (locals : List ℕ) (last : List (Option ℕ)) (p : ℕ) → HasLocals trace e locals → IsLatestTable (OfThread trace) e sizes.threads last → get_or last t None ≡ Some p → get_or locals p 0 + 1 ≡ local_time trace t e
+  next_here locals last p times has is =
+      let latest : IsLatestBefore (OfThread trace t) e p = subst (λ (o : Option ℕ). Latest (OfThread trace t) e o) is (thread_entry (OfThread trace) trace sizes last e t within has of_e) in
       let known = times.each p t latest.earlier latest.holds in
       let after = time_after trace e t of_e p latest in
       omega (arith, known, after)
 
-  pub time_start : (last : List (Option ℕ)) → IsLatestTable (OfThread trace) e sizes.threads last → get_or last (get_or trace e d).thread None ≡ None → (t : ℕ) → thread_at trace e ≡ Some t → 1 ≡ local_time trace t e
-  time_start last has is t of_e = sym (time_first trace e t of_e (subst (λ (o : Option ℕ). Latest (OfThread trace t) e o) is (thread_entry (OfThread trace) trace sizes last e t d within lt has of_e)))
+  pub time_next : (locals : List ℕ) (last : List (Option ℕ)) (p : ℕ) → HasLocals trace e locals → IsLatestTable (OfThread trace) e sizes.threads last → get_or last t None ≡ Some p → (u : ℕ) → thread_at trace e ≡ Some u → get_or locals p 0 + 1 ≡ local_time trace u e
+  time_next locals last p times has is u of_u = next_here locals last p times has is ∙ ap (λ v. local_time trace v e) (of_same u of_u)
 
-  pub time_small : (locals : List ℕ) (last : List (Option ℕ)) (p : ℕ) → HasLocals trace e locals → IsLatestTable (OfThread trace) e sizes.threads last → get_or last (get_or trace e d).thread None ≡ Some p → get_or locals p 0 < length trace
-  time_small locals last p times has is =
-      let next = time_next locals last p times has is (get_or trace e d).thread (thread_item trace e d lt) in
-      let low = time_bound trace (get_or trace e d).thread e in
+  pub time_start : (last : List (Option ℕ)) → IsLatestTable (OfThread trace) e sizes.threads last → get_or last t None ≡ None → (u : ℕ) → thread_at trace e ≡ Some u → 1 ≡ local_time trace u e
+  time_start last has is u of_u =
+      sym (time_first trace e t of_e (subst (λ (o : Option ℕ). Latest (OfThread trace t) e o) is (thread_entry (OfThread trace) trace sizes last e t within has of_e)))
+      ∙ ap (λ v. local_time trace v e) (of_same u of_u)
+
+  pub time_small : (locals : List ℕ) (last : List (Option ℕ)) (p : ℕ) → e < length trace → HasLocals trace e locals → IsLatestTable (OfThread trace) e sizes.threads last → get_or last t None ≡ Some p → get_or locals p 0 < length trace
+  time_small locals last p lt times has is =
+      let next = next_here locals last p times has is in
+      let low = time_bound trace t e in
       omega (arith, next, low, lt)
 
-  pub pred_found : (last forks : List (Option ℕ)) → IsDisciplined trace → IsLatestTable (OfThread trace) e sizes.threads last → IsLatestTable (ForksThread trace) e sizes.threads forks → Exactly (λ p. IsPred trace p e) (option_or (get_or last (get_or trace e d).thread None) (get_or forks (get_or trace e d).thread None))
+  pub pred_found : (last forks : List (Option ℕ)) → IsDisciplined trace → IsLatestTable (OfThread trace) e sizes.threads last → IsLatestTable (ForksThread trace) e sizes.threads forks → Exactly (λ p. IsPred trace p e) (option_or (get_or last t None) (get_or forks t None))
   pred_found last forks disciplined has has_forks =
-      let of_e = thread_item trace e d lt in
-      pred_link trace e (get_or trace e d).thread of_e disciplined _ _ (thread_entry (OfThread trace) trace sizes last e _ d within lt has of_e) (thread_entry (ForksThread trace) trace sizes forks e _ d within lt has_forks of_e)
+      pred_link trace e t of_e disciplined _ _ (thread_entry (OfThread trace) trace sizes last e t within has of_e) (thread_entry (ForksThread trace) trace sizes forks e t within has_forks of_e)
 
-  pub write_found : (writes : List (Option ℕ)) (x : ℕ) → IsLatestTable (WritesVariable trace) e sizes.variables writes → (get_or trace e d).op ≡ Read x → Exactly (λ w. LastWrite trace w e) (get_or writes x None)
-  write_found writes x has is =
-      let low : x < sizes.variables = op_within trace sizes e d (Read x) within lt is in
-      write_link trace e x (op_item trace e d lt ∙ ap (λ o. Some o) is) (get_or writes x None) (has.each x low)
+pub write_found : (trace : List Event) (sizes : Sizes) (e : ℕ) (within : IsWithin trace sizes) (writes : List (Option ℕ)) (x : ℕ) → IsLatestTable (WritesVariable trace) e sizes.variables writes → op_at trace e ≡ Some (Read x) → Exactly (λ w. LastWrite trace w e) (get_or writes x None)
+write_found trace sizes e within writes x has reads =
+    let low : x < sizes.variables = op_within_at trace sizes e (Read x) within reads in
+    write_link trace e x reads (get_or writes x None) (has.each x low)
+
+-- what is no read reads from no write
+pub no_read_at : (trace : List Event) (e : ℕ) (op : Op) → op_at trace e ≡ Some op → ((x : ℕ) → op ≡ Read x → ⊥) → (w : ℕ) → LastWrite trace w e → ⊥
+no_read_at trace e op does other w last = op_other_at trace e op (Read last.variable) does (other last.variable) last.reads

@@ -1,16 +1,16 @@
 -- Tables of latest positions, an event at a time.
-use Rattle.std.proofs.Common.{◌≡◌, ◌≢◌, ℕ, ◌+◌, ◌<◌, ◌≤◌, ◌⊎◌, inl, inr, List, Option, Some, None, length, get_or, arith, subst, ap, sym, ◌∙◌, get_or-set_same, get_or-set_other}
+use Rattle.std.proofs.Common.{◌≡◌, ℕ, ◌+◌, ◌<◌, ◌≤◌, ◌⊎◌, inl, inr, List, Option, Some, None, length, get_or, arith, subst, ap, sym, ◌∙◌, get_or-set_same, get_or-set_other}
 use Rattle.std.specs.Prelude.{replicate}
 use Rattle.std.proofs.Math.ListN.{set, length-set, length-replicate, get_or-replicate}
 use Rattle.std.proofs.lemmas.Bool.{cases_lt, cases_eq}
 use Rattle.std.proofs.lemmas.List.{get_or_past}
-use Rattle.std.proofs.lemmas.Option.{slice_get-get_or, slice_get_within}
+use Rattle.std.proofs.lemmas.Option.{slice_get_within}
 use Rattle.shb_lines.specs.declared.event.Event.{Event}
 use Rattle.shb_lines.specs.declared.event.Op.{Op}
 use Rattle.shb_lines.specs.declared.event.Op.TheVariants.{Write, Fork}
-use Rattle.shb_lines.specs.events.Events.{op_at}
+use Rattle.shb_lines.specs.events.Events.{op_at, thread_at}
 use Rattle.shb_lines.proofs.events.Events.{event_of_op, event_of_thread}
-use Rattle.shb_lines.proofs.events.Items.{op_item, thread_item}
+use Rattle.shb_lines.proofs.events.Items.{op_other_at, op_within_at, thread_within}
 use Rattle.shb_links.specs.Latest.{Latest, IsLatestTable, OfThread, WritesVariable, ForksThread}
 use Rattle.shb_links.specs.Links.{Exactly, HasForks, HasLastEvents}
 use Rattle.shb_lines.specs.events.Sizes.{IsOpWithin, IsWithin}
@@ -55,12 +55,6 @@ table_skip P n size table none old = record {
 pub thread_alone : (trace : List Event) (e t u : ℕ) → OfThread trace t e → OfThread trace u e → u ≡ t
 thread_alone trace e t u h g = let s : Some t ≡ Some u = sym h ∙ g in cc
 
-pub op_within : (trace : List Event) (sizes : Sizes) (e : ℕ) (d : Event) (op : Op) → IsWithin trace sizes → e < length trace → (get_or trace e d).op ≡ op → IsOpWithin sizes op
-op_within trace sizes e d op within lt is = subst (IsOpWithin sizes) is (within e (get_or trace e d) (slice_get-get_or trace e d lt)).operation
-
-pub op_other : (trace : List Event) (e : ℕ) (d : Event) (op : Op) → e < length trace → ((get_or trace e d).op ≡ op → ⊥) → op_at trace e ≢ Some op
-op_other trace e d op lt other is = other (let s : Some (get_or trace e d).op ≡ Some op = sym (op_item trace e d lt) ∙ is in cc)
-
 pub write_alone : (trace : List Event) (e x y : ℕ) → op_at trace e ≡ Some (Write x) → op_at trace e ≡ Some (Write y) → y ≡ x
 write_alone trace e x y h g = let s : Some (Write x) ≡ Some (Write y) = sym h ∙ g in cc
 
@@ -68,31 +62,25 @@ pub fork_alone : (trace : List Event) (e t u : ℕ) → op_at trace e ≡ Some (
 fork_alone trace e t u h g = let s : Some (Fork t) ≡ Some (Fork u) = sym h ∙ g in cc
 
 -- the event at e is noted as the last of its thread, as the last write of its variable, and as the fork of a thread
-module _ (trace : List Event) (sizes : Sizes) (e : ℕ) (d : Event) (within : IsWithin trace sizes) (lt : e < length trace) where
-  op_is : (op : Op) → (get_or trace e d).op ≡ op → op_at trace e ≡ Some op
-  op_is op is = op_item trace e d lt ∙ ap (λ o. Some o) is
+module _ (trace : List Event) (sizes : Sizes) (e : ℕ) (within : IsWithin trace sizes) where
+  pub thread_noted : (t : ℕ) (table : List (Option ℕ)) → thread_at trace e ≡ Some t → IsLatestTable (OfThread trace) e sizes.threads table → IsLatestTable (OfThread trace) (e + 1) sizes.threads (set table t (Some e))
+  thread_noted t table of_e old = table_mark (OfThread trace) e sizes.threads t table (thread_within trace sizes e t within of_e) of_e (λ u. thread_alone trace e t u of_e) old
 
-  pub thread_noted : (table : List (Option ℕ)) → IsLatestTable (OfThread trace) e sizes.threads table → IsLatestTable (OfThread trace) (e + 1) sizes.threads (set table (get_or trace e d).thread (Some e))
-  thread_noted table old =
-      let of_e = thread_item trace e d lt in
-      let low = (within e (get_or trace e d) (slice_get-get_or trace e d lt)).thread in
-      table_mark (OfThread trace) e sizes.threads (get_or trace e d).thread table low of_e (λ u. thread_alone trace e (get_or trace e d).thread u of_e) old
+  pub write_noted : (table : List (Option ℕ)) (x : ℕ) → op_at trace e ≡ Some (Write x) → IsLatestTable (WritesVariable trace) e sizes.variables table → IsLatestTable (WritesVariable trace) (e + 1) sizes.variables (set table x (Some e))
+  write_noted table x writes old =
+      let low : x < sizes.variables = op_within_at trace sizes e (Write x) within writes in
+      table_mark (WritesVariable trace) e sizes.variables x table low writes (λ y. write_alone trace e x y writes) old
 
-  pub write_noted : (table : List (Option ℕ)) (x : ℕ) → (get_or trace e d).op ≡ Write x → IsLatestTable (WritesVariable trace) e sizes.variables table → IsLatestTable (WritesVariable trace) (e + 1) sizes.variables (set table x (Some e))
-  write_noted table x is old =
-      let low : x < sizes.variables = op_within trace sizes e d (Write x) within lt is in
-      table_mark (WritesVariable trace) e sizes.variables x table low (op_is (Write x) is) (λ y. write_alone trace e x y (op_is (Write x) is)) old
+  pub no_write_noted : (table : List (Option ℕ)) (op : Op) → op_at trace e ≡ Some op → ((x : ℕ) → op ≡ Write x → ⊥) → IsLatestTable (WritesVariable trace) e sizes.variables table → IsLatestTable (WritesVariable trace) (e + 1) sizes.variables table
+  no_write_noted table op does other old = table_skip (WritesVariable trace) e sizes.variables table (λ x. op_other_at trace e op (Write x) does (other x)) old
 
-  pub no_write_noted : (table : List (Option ℕ)) → ((x : ℕ) → (get_or trace e d).op ≡ Write x → ⊥) → IsLatestTable (WritesVariable trace) e sizes.variables table → IsLatestTable (WritesVariable trace) (e + 1) sizes.variables table
-  no_write_noted table other old = table_skip (WritesVariable trace) e sizes.variables table (λ x. op_other trace e d (Write x) lt (other x)) old
+  pub fork_noted : (table : List (Option ℕ)) (t : ℕ) → op_at trace e ≡ Some (Fork t) → IsLatestTable (ForksThread trace) e sizes.threads table → IsLatestTable (ForksThread trace) (e + 1) sizes.threads (set table t (Some e))
+  fork_noted table t forks old =
+      let low : t < sizes.threads = op_within_at trace sizes e (Fork t) within forks in
+      table_mark (ForksThread trace) e sizes.threads t table low forks (λ u. fork_alone trace e t u forks) old
 
-  pub fork_noted : (table : List (Option ℕ)) (t : ℕ) → (get_or trace e d).op ≡ Fork t → IsLatestTable (ForksThread trace) e sizes.threads table → IsLatestTable (ForksThread trace) (e + 1) sizes.threads (set table t (Some e))
-  fork_noted table t is old =
-      let low : t < sizes.threads = op_within trace sizes e d (Fork t) within lt is in
-      table_mark (ForksThread trace) e sizes.threads t table low (op_is (Fork t) is) (λ u. fork_alone trace e t u (op_is (Fork t) is)) old
-
-  pub no_fork_noted : (table : List (Option ℕ)) → ((t : ℕ) → (get_or trace e d).op ≡ Fork t → ⊥) → IsLatestTable (ForksThread trace) e sizes.threads table → IsLatestTable (ForksThread trace) (e + 1) sizes.threads table
-  no_fork_noted table other old = table_skip (ForksThread trace) e sizes.threads table (λ t. op_other trace e d (Fork t) lt (other t)) old
+  pub no_fork_noted : (table : List (Option ℕ)) (op : Op) → op_at trace e ≡ Some op → ((t : ℕ) → op ≡ Fork t → ⊥) → IsLatestTable (ForksThread trace) e sizes.threads table → IsLatestTable (ForksThread trace) (e + 1) sizes.threads table
+  no_fork_noted table op does other old = table_skip (ForksThread trace) e sizes.threads table (λ t. op_other_at trace e op (Fork t) does (other t)) old
 
 -- a table of forks over the whole trace
 pub forks_whole : (trace : List Event) (sizes : Sizes) (table : List (Option ℕ)) → IsWithin trace sizes → IsLatestTable (ForksThread trace) (length trace) sizes.threads table → HasForks trace table

@@ -7,7 +7,7 @@ ghost use Rattle.shb_lines.specs.text.Limits.{most_events};
 
 use crate::links::Links;
 use shb_discipline::Disciplined;
-use shb_lines::{Event, Sizes};
+use shb_lines::{Events, Sizes};
 
 /// The events of a disciplined trace with their links. What a [`Disciplined`] says of its events is
 /// part of the type, and so is that the links are those of these events: a function that takes one
@@ -15,7 +15,7 @@ use shb_lines::{Event, Sizes};
 #[derive(Clone, Copy)]
 pub struct Linked<'a> {
     /// The events, in the order of the trace.
-    pub events: &'a [Event],
+    pub events: &'a Events,
     /// How many threads, locks and variables the trace names.
     pub sizes: Sizes,
     /// The links of the events: local time, predecessor, last write.

@@ -86,7 +86,7 @@ impl<'a> Links<'a> {
         requires { e < length self.now }
         ensures { Exactly (λ p. IsPred self.now p e) result }
     {
-        let thread = self.trace.events[e as usize].thread;
+        let thread = self.trace.events.thread(e);
         let last = latest_of_thread(self.trace.events, thread, e);
         last.or(self.forked_by(thread))
     }
@@ -143,7 +143,7 @@ impl<'a> Links<'a> {
         requires { e < length self.now }
         ensures { Exactly (λ w. LastWrite self.now w e) result }
     {
-        match self.trace.events[e as usize].op {
+        match self.trace.events.op(e) {
             Op::Read(variable) => latest_write(self.trace.events, variable, e),
             _ => None,
         }

@@ -13,7 +13,7 @@ use crate::latest::empty_table;
 use crate::link::Link;
 use shb_discipline::Disciplined;
 use shb_io::NoMemory;
-use shb_lines::{Event, Op, Sizes};
+use shb_lines::{Events, Op, Sizes};
 use std::alloc::Global;
 
 /// The events that the pass has met last: the last event and the fork of each thread, and the last write
@@ -138,7 +138,7 @@ fn next_local(trace: &Disciplined<'_>, locals: &[u32], last: &[Option<u32>], e: 
     ensures { (t : ℕ) → thread_at trace.now.events.now e ≡ Some t
         → result ≡ local_time trace.now.events.now t e }
 {
-    match last[trace.events[e as usize].thread as usize] {
+    match last[trace.events.thread(e) as usize] {
         Some(p) => locals[p as usize] + 1,
         None => 1,
     }
@@ -153,7 +153,7 @@ fn pred_of(trace: &Disciplined<'_>, last: &[Option<u32>], forks: &[Option<u32>],
         forks.now }
     ensures { Exactly (λ p. IsPred trace.now.events.now p e) result }
 {
-    let thread = trace.events[e as usize].thread as usize;
+    let thread = trace.events.thread(e) as usize;
     Link::new(last[thread].or(forks[thread]))
 }
 
@@ -163,7 +163,7 @@ fn last_write_of(trace: &Disciplined<'_>, writes: &[Option<u32>], e: u32) -> Lin
     requires writes { IsLatestTable (WritesVariable trace.now.events.now) e trace.now.sizes.variables writes.now }
     ensures { Exactly (λ w. LastWrite trace.now.events.now w e) result }
 {
-    match trace.events[e as usize].op {
+    match trace.events.op(e) {
         Op::Read(variable) => Link::new(writes[variable as usize]),
         _ => Link::new(None),
     }
@@ -171,13 +171,13 @@ fn last_write_of(trace: &Disciplined<'_>, writes: &[Option<u32>], e: u32) -> Lin
 
 /// Notes event `e` as the last of its thread, in a table of the last event of each thread before
 /// `e`.
-fn note_thread(events: &[Event], sizes: Sizes, last: &mut Vec<Option<u32>>, e: u32)
+fn note_thread(events: &Events, sizes: Sizes, last: &mut Vec<Option<u32>>, e: u32)
     requires in_range { e < length events.now }
     requires within { IsWithin events.now sizes }
     requires last { IsLatestTable (OfThread events.now) e sizes.threads last.old.items }
     ensures { IsLatestTable (OfThread events.now) (e + 1) sizes.threads last.new.items }
 {
-    last[events[e as usize].thread as usize] = Some(e);
+    last[events.thread(e) as usize] = Some(e);
 }
 
 /// Notes the event, where it is a write, as the last of its variable.
@@ -186,7 +186,7 @@ fn note_write(trace: &Disciplined<'_>, writes: &mut Vec<Option<u32>>, e: u32)
     requires writes { IsLatestTable (WritesVariable trace.now.events.now) e trace.now.sizes.variables writes.old.items }
     ensures { IsLatestTable (WritesVariable trace.now.events.now) (e + 1) trace.now.sizes.variables writes.new.items }
 {
-    if let Op::Write(variable) = trace.events[e as usize].op {
+    if let Op::Write(variable) = trace.events.op(e) {
         writes[variable as usize] = Some(e);
     }
 }
@@ -197,7 +197,7 @@ fn note_fork(trace: &Disciplined<'_>, forks: &mut Vec<Option<u32>>, e: u32)
     requires forks { IsLatestTable (ForksThread trace.now.events.now) e trace.now.sizes.threads forks.old.items }
     ensures { IsLatestTable (ForksThread trace.now.events.now) (e + 1) trace.now.sizes.threads forks.new.items }
 {
-    if let Op::Fork(thread) = trace.events[e as usize].op {
+    if let Op::Fork(thread) = trace.events.op(e) {
         forks[thread as usize] = Some(e);
     }
 }

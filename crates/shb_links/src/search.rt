@@ -4,17 +4,17 @@ ghost use Rattle.std.specs.Prelude.{◌≡◌, ◌≤◌, ◌↔◌, IsTrue, len
 ghost use Rattle.shb_lines.specs.declared.event.Op.TheVariants.{Write};
 ghost use Rattle.shb_links.specs.Latest.{Latest, OfThread, WritesVariable};
 
-use shb_lines::{Event, Op};
+use shb_lines::{Events, Op};
 
 /// The latest event of a thread before `end`, if there is one.
-pub(crate) fn latest_of_thread(events: &[Event], thread: u32, end: u32) -> Option<u32>
+pub(crate) fn latest_of_thread(events: &Events, thread: u32, end: u32) -> Option<u32>
     requires { end ≤ length events.now }
     ensures { Latest (OfThread events.now thread) end result }
 {
     let mut e = end;
     while e > 0 {
         e -= 1;
-        if events[e as usize].thread == thread {
+        if events.thread(e) == thread {
             return Some(e);
         }
     }
@@ -29,14 +29,14 @@ fn is_write_of(op: Op, variable: u32) -> bool
 }
 
 /// The latest write of a variable before `end`, if there is one.
-pub(crate) fn latest_write(events: &[Event], variable: u32, end: u32) -> Option<u32>
+pub(crate) fn latest_write(events: &Events, variable: u32, end: u32) -> Option<u32>
     requires { end ≤ length events.now }
     ensures { Latest (WritesVariable events.now variable) end result }
 {
     let mut e = end;
     while e > 0 {
         e -= 1;
-        if is_write_of(events[e as usize].op, variable) {
+        if is_write_of(events.op(e), variable) {
             return Some(e);
         }
     }

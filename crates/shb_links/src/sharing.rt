@@ -47,10 +47,9 @@ fn note_access(trace: &Disciplined<'_>, owners: &mut Vec<Owner>, e: u32)
     requires owners { AreOwners trace.now.events.now e trace.now.sizes.variables owners.old.items }
     ensures { AreOwners trace.now.events.now (e + 1) trace.now.sizes.variables owners.new.items }
 {
-    let event = trace.events[e as usize];
-    if let Some(x) = event.op.variable() {
+    if let Some(x) = trace.events.op(e).variable() {
         let owner = owners[x as usize];
-        owners[x as usize] = owner.with(event.thread);
+        owners[x as usize] = owner.with(trace.events.thread(e));
     }
 }
 

@@ -1,9 +1,8 @@
 -- What the search finds, sorted, are the numbers below j that race with j.
-use Rattle.std.proofs.Common.{◌≡◌, ℕ, zero, suc, ◌<◌, ◌≤◌, ◌⊎◌, inl, inr, Bool, true, false, List, [], ◌∷◌, ◌++◌, Option, Some, length, get_or, refl, arith, subst, ap, sym, ◌∙◌, IsPermutation}
-use Rattle.std.specs.Prelude.{◌==◌, ◌&&◌, cond, option_and_then, All, Contains}
+use Rattle.std.proofs.Common.{◌≡◌, ℕ, zero, suc, ◌<◌, ◌≤◌, ◌⊎◌, inl, inr, Bool, true, false, List, [], ◌∷◌, ◌++◌, Some, length, get_or, refl, arith, subst, ap, sym, ◌∙◌, IsPermutation}
+use Rattle.std.specs.Prelude.{◌==◌, ◌&&◌, cond, All, Contains}
 use Rattle.std.specs.List.Sorted.{IsNonDecreasing}
 use Rattle.std.proofs.lemmas.Bool.{cases_Bool, cases_lt, eqb-true, eq-eqb}
-use Rattle.std.proofs.lemmas.List.{get_or_default}
 use Rattle.std.proofs.lemmas.List.Elements.{Contains-get_or}
 use Rattle.std.proofs.lemmas.List.Kept.{AllPairs-from_increasing}
 use Rattle.std.proofs.lemmas.List.Sorted.{sum_by-IsPermutation}
@@ -16,13 +15,14 @@ use Rattle.shb_lines.specs.events.Race.{variable_at}
 use Rattle.shb_lines.specs.events.Reach.{numbers_where, is_race}
 use Rattle.shb_lines.specs.events.Tests.{is_write}
 use Rattle.shb_lines.proofs.events.Events.{and_parts}
-use Rattle.shb_lines.proofs.events.Items.{op_item}
+use Rattle.shb_lines.proofs.events.Items.{op_of_item}
 use Rattle.shb_lines.proofs.events.Reach.{event_at_access, numbers_listed, reflect_race}
+use Rattle.shb_links.proofs.Owners.{variable_known}
 use Rattle.shb_pairs.specs.declared.accesses.Which.{Which}
 use Rattle.shb_pairs.specs.declared.accesses.Which.TheVariants.{Reads, Writes}
 use Rattle.shb_pairs.specs.Accesses.{accesses_at, is_selected, selected_at, occurs, IsByThread}
 use Rattle.shb_pairs.specs.Search.{AreRivals, racing}
-use Rattle.shb_pairs.proofs.ByThread.{op_in, occurs_append, occurs_cons, occurs_filter, occurs_none, occurs_once, selected_item, variable_in}
+use Rattle.shb_pairs.proofs.ByThread.{op_in, op_in_at, occurs_append, occurs_cons, occurs_filter, occurs_none, occurs_once, selected_item, variable_in}
 use Rattle.shb_pairs.proofs.Counting.{access_from_test, test_from_access}
 use Rattle.shb_lines.proofs.events.Increasing.{contains_cases, contains_head, contains_none, contains_tail}
 use Rattle.shb_pairs.proofs.Runs.{race_accesses}
@@ -93,15 +93,12 @@ pub range_by_thread : (trace : List Event) (which : Which) (x : ℕ) (list : Lis
 range_by_thread trace which x list h = λ k d lt. (member_by_thread trace which x list h k d lt).0
 
 -- an access that writes
-variable_read : (trace : List Event) (k : ℕ) (d : Event) → k < length trace → variable_at trace k ≡ variable_of (get_or trace k d).op
-variable_read trace k d lt = ap (λ (o : Option Op). option_and_then variable_of o) (op_item trace k d lt)
-
 write_is : (op : Op) (x : ℕ) → is_write op ≡ true → variable_of op ≡ Some x → op ≡ Write x
 write_is (Write y) x h is = ap (λ (n : ℕ). Write n) (let e : y ≡ x = cc in e)
 write_is _ x h is = absurd (let f : ⊥ = cc in f)
 
-pub write_at : (trace : List Event) (k x : ℕ) (d : Event) → k < length trace → is_write (get_or trace k d).op ≡ true → variable_at trace k ≡ Some x → op_at trace k ≡ Some (Write x)
-write_at trace k x d lt h is = op_item trace k d lt ∙ ap (λ (o : Op). Some o) (write_is (get_or trace k d).op x h (sym (variable_read trace k d lt) ∙ is))
+pub write_at : (trace : List Event) (k x : ℕ) (op : Op) → op_at trace k ≡ Some op → is_write op ≡ true → variable_at trace k ≡ Some x → op_at trace k ≡ Some (Write x)
+write_at trace k x op is_op h is = is_op ∙ ap (λ (o : Op). Some o) (write_is op x h (sym (variable_known trace k op is_op) ∙ is))
 
 selected_write : (op : Op) → is_selected Writes op ≡ true → is_write op ≡ true
 selected_write (Write y) h = refl
@@ -116,8 +113,8 @@ writes_are_rivals trace x j list accessed h = record {
   each_accesses = λ k d lt. (member_by_thread trace Writes x list h k d lt).2;
   one_writes = inr (λ k d lt.
       let m = member_by_thread trace Writes x list h k d lt in
-      let e : Event = record { thread = 0; op = Read 0; line = 0 } in
-      write_at trace (get_or list k d) x e m.0 (selected_write (op_in trace (get_or list k d)) (sym (selected_item trace Writes (get_or list k d) e m.0) ∙ m.1)) m.2);
+      let is_op = op_in_at trace (get_or list k d) m.0 in
+      write_at trace (get_or list k d) x (op_in trace (get_or list k d)) is_op (selected_write (op_in trace (get_or list k d)) (sym (selected_item trace Writes (get_or list k d) _ is_op) ∙ m.1)) m.2);
 }
 
 pub reads_are_rivals : (trace : List Event) (x j : ℕ) (list : List ℕ) → variable_at trace j ≡ Some x → op_at trace j ≡ Some (Write x) → IsByThread trace Reads x list → AreRivals trace j list
@@ -136,10 +133,10 @@ kinds _ x h = absurd (let f : ⊥ = cc in f)
 
 kinds_at : (trace : List Event) (k x : ℕ) → k < length trace → variable_at trace k ≡ Some x → ((selected_at trace Reads k ≡ true) × (selected_at trace Writes k ≡ false)) ⊎ ((selected_at trace Reads k ≡ false) × (selected_at trace Writes k ≡ true))
 kinds_at trace k x lt accessed =
-    let e : Event = record { thread = 0; op = Read 0; line = 0 } in
+    let is_op = op_in_at trace k lt in
     elim (kinds (op_in trace k) x (sym (variable_in trace k lt) ∙ accessed)) [
-      | inl h ↦ inl (selected_item trace Reads k e lt ∙ h.0, selected_item trace Writes k e lt ∙ h.1)
-      | inr h ↦ inr (selected_item trace Reads k e lt ∙ h.0, selected_item trace Writes k e lt ∙ h.1)
+      | inl h ↦ inl (selected_item trace Reads k _ is_op ∙ h.0, selected_item trace Writes k _ is_op ∙ h.1)
+      | inr h ↦ inr (selected_item trace Reads k _ is_op ∙ h.0, selected_item trace Writes k _ is_op ∙ h.1)
     ]
 
 -- how often an access of x stands among those by thread
@@ -189,8 +186,8 @@ module _ (trace : List Event) (x j : ℕ) (writes : List ℕ) (accessed : variab
       let first = earlier_accessed v h in
       let race = (reflect_race trace v j).0 h in
       let written : selected_at trace Writes v ≡ true = elim race.conflict.one_writes [
-        | inl w ↦ (let e : Event = record { thread = 0; op = Read 0; line = 0 } in selected_item trace Writes v e first.0 ∙ (let o : Some (op_in trace v) ≡ Some (Write race.conflict.variable) = sym (op_item trace v e first.0) ∙ w in let p : op_in trace v ≡ Write race.conflict.variable = cc in rw p refl))
-        | inr w ↦ absurd (let e : Event = record { thread = 0; op = Read 0; line = 0 } in let o : Some (op_in trace j) ≡ Some (Write race.conflict.variable) = sym (op_item trace j e (accessed_within trace j x accessed)) ∙ w in let p : op_in trace j ≡ Write race.conflict.variable = cc in let g : is_write (op_in trace j) ≡ true = rw p refl in (let f : ⊥ = cc in f))
+        | inl w ↦ selected_item trace Writes v _ w
+        | inr w ↦ absurd (let o : Some (op_in trace j) ≡ Some (Write race.conflict.variable) = sym (op_in_at trace j (accessed_within trace j x accessed)) ∙ w in let p : op_in trace j ≡ Write race.conflict.variable = cc in let g : is_write (op_in trace j) ≡ true = rw p refl in (let f : ⊥ = cc in f))
       ] in
       let one = occurs_selected trace Writes x v writes of_writes first.0 first.1 written in
       omega (arith, a, one)
@@ -224,5 +221,5 @@ module _ (trace : List Event) (x j : ℕ) (writes : List ℕ) (accessed : variab
 pub found_of_write : (trace : List Event) (x j : ℕ) (writes reads start first found : List ℕ) → start ≡ [] → first ≡ start ++ racing trace j writes → found ≡ first ++ racing trace j reads → IsByThread trace Reads x reads → HasFound trace x j writes found
 found_of_write trace x j writes reads start first found none one two of_reads = of_write reads of_reads (two ∙ ap (λ (ks : List ℕ). ks ++ racing trace j reads) (one ∙ ap (λ (ks : List ℕ). ks ++ racing trace j writes) none))
 
-pub found_of_read : (trace : List Event) (x j : ℕ) (d : Event) (writes start first found : List ℕ) → j < length trace → is_write (get_or trace j d).op ≡ false → start ≡ [] → first ≡ start ++ racing trace j writes → found ≡ first → HasFound trace x j writes found
-found_of_read trace x j d writes start first found lt reading none one same = of_read (ap (λ (e : Event). is_write e.op) (get_or_default trace j _ d lt) ∙ reading) (same ∙ (one ∙ ap (λ (ks : List ℕ). ks ++ racing trace j writes) none))
+pub found_of_read : (trace : List Event) (x j : ℕ) (op : Op) (writes start first found : List ℕ) → j < length trace → op_at trace j ≡ Some op → is_write op ≡ false → start ≡ [] → first ≡ start ++ racing trace j writes → found ≡ first → HasFound trace x j writes found
+found_of_read trace x j op writes start first found lt is_op reading none one same = of_read (ap is_write (op_of_item trace j _ op lt is_op) ∙ reading) (same ∙ (one ∙ ap (λ (ks : List ℕ). ks ++ racing trace j writes) none))

@@ -6,6 +6,7 @@ use Rattle.std.proofs.lemmas.List.{get_or-drop, get_or-take, get_or_default, len
 use Rattle.std.proofs.lemmas.List.Elements.{filter-append}
 use Rattle.std.proofs.lemmas.List.Kept.{AllPairs-from_increasing}
 use Rattle.shb_lines.specs.declared.event.Event.{Event}
+use Rattle.shb_lines.specs.declared.event.Op.{Op}
 use Rattle.shb_lines.specs.declared.event.Op.TheVariants.{Write}
 use Rattle.shb_lines.specs.events.Events.{op_at}
 use Rattle.shb_lines.specs.events.Discipline.{IsDisciplined}
@@ -14,7 +15,6 @@ use Rattle.shb_lines.specs.events.Race.{Race, variable_at}
 use Rattle.shb_lines.specs.events.Reach.{is_race}
 use Rattle.shb_lines.specs.events.Tests.{is_write}
 use Rattle.shb_lines.proofs.events.Events.{fork_earlier}
-use Rattle.shb_lines.proofs.events.Items.{op_item}
 use Rattle.shb_lines.proofs.events.Reach.{numbers_listed}
 use Rattle.shb_lines.proofs.events.Schedulable.{below_pred_closed, thread_below_pred}
 use Rattle.shb_pairs.specs.declared.buckets.Key.TheVariants.{Thread}
@@ -132,11 +132,11 @@ seen_access trace x list k is = subst (λ (ks : List ℕ). k < length ks → (va
 pub seen_rises : (trace : List Event) (x : ℕ) (list : List ℕ) (a b : ℕ) → list ≡ accesses_in trace x → a < b → b < length list → get_or list a 0 < get_or list b 0
 seen_rises trace x list a b is = subst (λ (ks : List ℕ). a < b → b < length ks → get_or ks a 0 < get_or ks b 0) (sym is) (λ lt within. AllPairs-from_increasing (accesses_in trace x) (numbers_listed (accesses_at trace x) (length trace)).rising a b 0 lt within)
 
-pub not_write_at : (trace : List Event) (k x : ℕ) (d : Event) → k < length trace → is_write (get_or trace k d).op ≡ false → op_at trace k ≢ Some (Write x)
-not_write_at trace k x d lt reading writes =
-    let s : Some (get_or trace k d).op ≡ Some (Write x) = sym (op_item trace k d lt) ∙ writes in
-    let p : (get_or trace k d).op ≡ Write x = cc in
-    let g : is_write (get_or trace k d).op ≡ true = rw p refl in
+pub not_write_at : (trace : List Event) (k x : ℕ) (op : Op) → op_at trace k ≡ Some op → is_write op ≡ false → op_at trace k ≢ Some (Write x)
+not_write_at trace k x op is_op reading writes =
+    let s : Some op ≡ Some (Write x) = sym is_op ∙ writes in
+    let p : op ≡ Write x = cc in
+    let g : is_write op ≡ true = rw p refl in
     (let f : ⊥ = cc in f)
 
 -- the write without a race, one index on

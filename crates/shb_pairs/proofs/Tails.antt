@@ -21,8 +21,9 @@ use Rattle.shb_lines.proofs.events.Prefix.{local_from_below, below_from_local}
 use Rattle.shb_lines.proofs.events.Reach.{reflect_race}
 use Rattle.shb_pairs.specs.declared.buckets.Key.TheVariants.{Thread}
 use Rattle.shb_pairs.specs.Accesses.{IsBeforeByThread}
-use Rattle.shb_pairs.specs.Buckets.{key_at, key_of}
+use Rattle.shb_pairs.specs.Buckets.{key_at}
 use Rattle.shb_pairs.specs.Search.{AreRivals, IsOfOneThread, racing}
+use Rattle.shb_pairs.proofs.Sorting.{thread_read}
 
 -- i conflicts with the later j and is of thread t
 pub record IsRival (trace : List Event) (t j i : ℕ) : Type 0 where
@@ -76,14 +77,11 @@ filter_between {X} f xs from to le within low middle high =
     rest = filter_none f (drop to xs) (λ k d lt. let long = length-drop to xs in rw (get_or-drop to xs k d) (high (to + k) d (omega arith) (omega (arith, long))))
 
 -- the thread of a position
-pub thread_read : (trace : List Event) (k : ℕ) (d : Event) → k < length trace → key_at trace Thread k ≡ (get_or trace k d).thread
-unfolding key_of
-thread_read trace k d lt = ap (λ (e : Event). e.thread) (get_or_default trace k _ d lt)
-
 pub thread_key : (trace : List Event) (k : ℕ) → k < length trace → thread_at trace k ≡ Some (key_at trace Thread k)
 thread_key trace k lt =
     let d : Event = record { thread = 0; op = Read 0; line = 0 } in
-    thread_item trace k d lt ∙ ap (λ (n : ℕ). Some n) (sym (thread_read trace k d lt))
+    let of_k = thread_item trace k d lt in
+    of_k ∙ ap (λ (n : ℕ). Some n) (sym (thread_read trace k _ of_k))
 
 -- positions between two of one thread are of that thread
 thread_rises : (trace : List Event) (ks : List ℕ) (a b : ℕ) → AllPairs (IsBeforeByThread trace) ks → a ≤ b → b < length ks → key_at trace Thread (get_or ks a 0) ≤ key_at trace Thread (get_or ks b 0)

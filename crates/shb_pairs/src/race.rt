@@ -18,7 +18,7 @@ pub(crate) fn is_below_pred<O: Order>(ordered: &Ordered<'_, O>, first: u32, seco
     requires asked { O.asks ordered.now.order.now second ≡ true }
     ensures { IsTrue result ↔ BelowPred ordered.now.trace.now.events.now first second }
 {
-    let thread = ordered.trace.events[first as usize].thread;
+    let thread = ordered.trace.events.thread(first);
     ordered.links.local(first) <= ordered.order.below_pred(second, thread)
 }
 

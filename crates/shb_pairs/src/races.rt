@@ -79,7 +79,7 @@ fn is_ordered<O: Order>(ordered: &Ordered<'_, O>, first: u32, second: u32) -> bo
     ensures { IsTrue result ↔ BelowPred ordered.now.trace.now.events.now first second }
 {
     // Of two events of one thread the order isn't asked.
-    ordered.trace.events[first as usize].thread == ordered.trace.events[second as usize].thread
+    ordered.trace.events.thread(first) == ordered.trace.events.thread(second)
         || is_below_pred(ordered, first, second)
 }
 
@@ -102,7 +102,7 @@ fn add_races_since<O: Order>(
         ++ races_with ordered.now.trace.now.events.now (slice_index_or accesses.now index 0)) }
 {
     let second = accesses[index];
-    if ordered.trace.events[second as usize].op.is_write() {
+    if ordered.trace.events.op(second).is_write() {
         let (earlier, _) = accesses.split_at(index);
         let (_, since) = earlier.split_at(write + 1);
         add_races_among(races, ordered, since, second)?;
@@ -154,7 +154,7 @@ fn next_free_write(
     ensures fresh { IsTrue free → (x : ℕ)
         → op_at trace.now.events.now (slice_index_or accesses.now index 0) ≡ Some (Write x) → result ≡ Some index }
 {
-    if !trace.events[accesses[index] as usize].op.is_write() {
+    if !trace.events.op(accesses[index]).is_write() {
         free_write
     } else if free {
         Some(index)

@@ -15,12 +15,12 @@ use crate::buckets::part;
 use crate::search::Search;
 use shb_clocks::{Order, Ordered};
 use shb_io::NoMemory;
-use shb_lines::Event;
+use shb_lines::Events;
 use shb_links::Links;
 use std::alloc::Global;
 
 /// Where the positions of one thread end that start at an index, among positions by thread.
-fn run_end(events: &[Event], positions: &[u32], start: usize) -> usize
+fn run_end(events: &Events, positions: &[u32], start: usize) -> usize
     requires in_range { All (λ k. k < length events.now) positions.now }
     requires sorted { AllPairs (IsBeforeByThread events.now) positions.now }
     requires inside { start < length positions.now }
@@ -30,14 +30,14 @@ fn run_end(events: &[Event], positions: &[u32], start: usize) -> usize
         → key_at events.now Thread (slice_index_or positions.now k 0)
         ≡ key_at events.now Thread (slice_index_or positions.now start 0) }
 {
-    let thread = events[positions[start] as usize].thread;
+    let thread = events.thread(positions[start]);
     let mut end = start + 1;
     let mut limit = positions.len();
 
     // By halving: one thread may have most of the accesses, and each later access asks again.
     while end < limit {
         let middle = end + (limit - end) / 2;
-        if events[positions[middle] as usize].thread == thread {
+        if events.thread(positions[middle]) == thread {
             end = middle + 1;
         } else {
             limit = middle;
@@ -82,9 +82,9 @@ fn add_tail<O: Order>(
     requires one_thread { IsOfOneThread ordered.now.trace.now.events.now positions.now }
     ensures { IfOk result (λ _. found.new.items ≡ found.old.items ++ racing ordered.now.trace.now.events.now second positions.now) }
 {
-    let thread = ordered.trace.events[positions[0] as usize].thread;
+    let thread = ordered.trace.events.thread(positions[0]);
     // The accesses of its own thread are ordered before it: the order isn't asked.
-    if thread == ordered.trace.events[second as usize].thread {
+    if thread == ordered.trace.events.thread(second) {
         return Ok(());
     }
     let end = positions.partition_point(|first| *first < second);
@@ -130,7 +130,7 @@ pub(crate) fn rivals_of<O: Order>(
     let writes = search.accesses.writes_by_thread(search.variable);
     add_rivals(&mut found, search.ordered, writes, second)?;
     // A read conflicts with no read.
-    if search.ordered.trace.events[second as usize].op.is_write() {
+    if search.ordered.trace.events.op(second).is_write() {
         let reads = search.accesses.reads_by_thread(search.variable);
         add_rivals(&mut found, search.ordered, reads, second)?;
     }

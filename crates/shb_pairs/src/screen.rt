@@ -81,7 +81,7 @@ fn mark_of<O: Order>(ordered: &Ordered<'_, O>, e: u32) -> Mark
 {
     Mark {
         time: ordered.links.local(e),
-        thread: ordered.trace.events[e as usize].thread,
+        thread: ordered.trace.events.thread(e),
     }
 }
 
@@ -96,7 +96,7 @@ fn is_past<O: Order>(ordered: &Ordered<'_, O>, mark: Mark, e: u32) -> bool
     } else {
         // What asks the order nothing comes first.
         mark.time == 0
-            || mark.thread == ordered.trace.events[e as usize].thread
+            || mark.thread == ordered.trace.events.thread(e)
             || mark.time <= ordered.order.below_pred(e, mark.thread)
     }
 }
@@ -210,7 +210,7 @@ fn after_access<O: Order>(
 {
     if !is_past(ordered, latest.write, e) {
         Ok(opened())
-    } else if ordered.trace.events[e as usize].op.is_write() {
+    } else if ordered.trace.events.op(e).is_write() {
         Ok(after_write(ordered, reads.as_slice(), latest, e))
     } else {
         after_read(ordered, reads, latest, e)
@@ -231,7 +231,7 @@ fn screen<O: Order>(
     ensures { OnOk result (AreScreened ordered.now.trace.now.events.now reads.new.items (e + 1)
         ordered.now.trace.now.sizes.variables table.new.items) }
 {
-    if let Some(x) = ordered.trace.events[e as usize].op.variable() {
+    if let Some(x) = ordered.trace.events.op(e).variable() {
         if ordered.links.is_shared(x) {
             let latest = table[x as usize];
             table[x as usize] = after_access(ordered, reads, latest, e)?;

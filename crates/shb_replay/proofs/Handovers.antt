@@ -5,31 +5,31 @@ use Rattle.std.proofs.lemmas.Bool.{cases_lt}
 use Rattle.std.proofs.lemmas.List.{get_or_push, length_push}
 use Rattle.shb_lines.specs.declared.event.Event.{Event}
 use Rattle.shb_lines.specs.declared.event.Sizes.{Sizes}
+use Rattle.shb_lines.specs.declared.event.Op.{Op}
 use Rattle.shb_lines.specs.declared.event.Op.TheVariants.{Acquire, Release}
 use Rattle.shb_lines.specs.events.Events.{op_at}
 use Rattle.shb_lines.specs.events.Sizes.{IsWithin}
-use Rattle.shb_lines.proofs.events.Items.{op_item}
+use Rattle.shb_lines.proofs.events.Items.{op_other_at, op_within_at}
 use Rattle.shb_links.specs.Latest.{Latest, IsLatestTable, ReleasesLock}
-use Rattle.shb_links.proofs.Tables.{table_mark, table_skip, op_within, op_other}
+use Rattle.shb_links.proofs.Tables.{table_mark, table_skip}
 use Rattle.shb_replay.specs.Walks.{HasHandovers}
 
 release_alone : (trace : List Event) (e l m : ℕ) → op_at trace e ≡ Some (Release l) → op_at trace e ≡ Some (Release m) → m ≡ l
 release_alone trace e l m h g = let s : Some (Release l) ≡ Some (Release m) = sym h ∙ g in cc
 
-module _ (trace : List Event) (sizes : Sizes) (e : ℕ) (d : Event) (within : IsWithin trace sizes) (lt : e < length trace) where
-  pub release_noted : (table : List (Option ℕ)) (l : ℕ) → (get_or trace e d).op ≡ Release l → IsLatestTable (ReleasesLock trace) e sizes.locks table → IsLatestTable (ReleasesLock trace) (e + 1) sizes.locks (set table l (Some e))
-  release_noted table l is old =
-      let low : l < sizes.locks = op_within trace sizes e d (Release l) within lt is in
-      let releases : op_at trace e ≡ Some (Release l) = op_item trace e d lt ∙ ap (λ o. Some o) is in
+module _ (trace : List Event) (sizes : Sizes) (e : ℕ) (within : IsWithin trace sizes) where
+  pub release_noted : (table : List (Option ℕ)) (l : ℕ) → op_at trace e ≡ Some (Release l) → IsLatestTable (ReleasesLock trace) e sizes.locks table → IsLatestTable (ReleasesLock trace) (e + 1) sizes.locks (set table l (Some e))
+  release_noted table l releases old =
+      let low : l < sizes.locks = op_within_at trace sizes e (Release l) within releases in
       table_mark (ReleasesLock trace) e sizes.locks l table low releases (λ m. release_alone trace e l m releases) old
 
-  pub no_release_noted : (table : List (Option ℕ)) → ((l : ℕ) → (get_or trace e d).op ≡ Release l → ⊥) → IsLatestTable (ReleasesLock trace) e sizes.locks table → IsLatestTable (ReleasesLock trace) (e + 1) sizes.locks table
-  no_release_noted table other old = table_skip (ReleasesLock trace) e sizes.locks table (λ l. op_other trace e d (Release l) lt (other l)) old
+  pub no_release_noted : (table : List (Option ℕ)) (op : Op) → op_at trace e ≡ Some op → ((l : ℕ) → op ≡ Release l → ⊥) → IsLatestTable (ReleasesLock trace) e sizes.locks table → IsLatestTable (ReleasesLock trace) (e + 1) sizes.locks table
+  no_release_noted table op does other old = table_skip (ReleasesLock trace) e sizes.locks table (λ l. op_other_at trace e op (Release l) does (other l)) old
 
-  pub handover_found : (table : List (Option ℕ)) (l m : ℕ) → (get_or trace e d).op ≡ Acquire l → IsLatestTable (ReleasesLock trace) e sizes.locks table → op_at trace e ≡ Some (Acquire m) → Latest (ReleasesLock trace m) e (get_or table l None)
-  handover_found table l m is has acquires =
-      let low : l < sizes.locks = op_within trace sizes e d (Acquire l) within lt is in
-      let both : Some (Acquire l) ≡ Some (Acquire m) = sym (op_item trace e d lt ∙ ap (λ o. Some o) is) ∙ acquires in
+  pub handover_found : (table : List (Option ℕ)) (l m : ℕ) → op_at trace e ≡ Some (Acquire l) → IsLatestTable (ReleasesLock trace) e sizes.locks table → op_at trace e ≡ Some (Acquire m) → Latest (ReleasesLock trace m) e (get_or table l None)
+  handover_found table l m acquires has others =
+      let low : l < sizes.locks = op_within_at trace sizes e (Acquire l) within acquires in
+      let both : Some (Acquire l) ≡ Some (Acquire m) = sym acquires ∙ others in
       let same : l ≡ m = cc in
       subst (λ (k : ℕ). Latest (ReleasesLock trace k) e (get_or table l None)) same (has.each l low)
 

@@ -12,7 +12,6 @@ use Rattle.shb_lines.specs.events.Schedule.{IsNext}
 use Rattle.shb_lines.proofs.events.Decide.{pred_unique}
 use Rattle.shb_lines.proofs.events.Events.{thread_is, event_of_op, fork_allowed}
 use Rattle.shb_lines.proofs.events.Schedulable.{below_pred_in_range, thread_below_pred, fork_below_pred}
-use Rattle.shb_lines.proofs.events.Items.{thread_item}
 use Rattle.shb_links.specs.Links.{Exactly}
 use Rattle.shb_replay.specs.declared.broken.Why.{Why}
 use Rattle.shb_replay.specs.declared.broken.Why.TheVariants as whys
@@ -43,13 +42,13 @@ link_is P trace seen o a same known is = subst (λ (tr : List Event). P tr a) sa
 pub link_none : (P : List Event → ℕ → Type 0) (trace seen : List Event) (o : Option ℕ) → seen ≡ trace → Exactly (P seen) o → o ≡ None → (a : ℕ) → ¬ P trace a
 link_none P trace seen o same known is a = subst (λ (tr : List Event). ¬ P tr a) same (subst (λ (q : Option ℕ). Exactly (P seen) q) is known a)
 
-pub threads_same : (trace : List Event) (a x : ℕ) (d : Event) → a < length trace → x < length trace → (get_or trace a d).thread ≡ (get_or trace x d).thread → thread_at trace a ≡ thread_at trace x
-threads_same trace a x d in_a in_x h = thread_item trace a d in_a ∙ (ap (λ (n : ℕ). Some n) h ∙ sym (thread_item trace x d in_x))
+pub threads_same : (trace : List Event) (a x t u : ℕ) → thread_at trace a ≡ Some t → thread_at trace x ≡ Some u → t ≡ u → thread_at trace a ≡ thread_at trace x
+threads_same trace a x t u of_a of_x h = of_a ∙ (ap (λ (n : ℕ). Some n) h ∙ sym of_x)
 
-pub threads_differ : (trace : List Event) (a x : ℕ) (d : Event) → a < length trace → x < length trace → ((get_or trace a d).thread ≡ (get_or trace x d).thread → ⊥) → thread_at trace a ≢ thread_at trace x
-threads_differ trace a x d in_a in_x h same =
-    let both : Some (get_or trace a d).thread ≡ Some (get_or trace x d).thread = sym (thread_item trace a d in_a) ∙ (same ∙ thread_item trace x d in_x) in
-    h (let equal : (get_or trace a d).thread ≡ (get_or trace x d).thread = cc in equal)
+pub threads_differ : (trace : List Event) (a x t u : ℕ) → thread_at trace a ≡ Some t → thread_at trace x ≡ Some u → (t ≡ u → ⊥) → thread_at trace a ≢ thread_at trace x
+threads_differ trace a x t u of_a of_x h same =
+    let both : Some t ≡ Some u = sym of_a ∙ (same ∙ of_x) in
+    h (let equal : t ≡ u = cc in equal)
 
 pub lacks_true : (s : List ℕ) (p e n : ℕ) (flags : List Bool) (flag : Bool) → AreFlags (StandsEarlier s p) n flags → slice_get flags e ≡ Some flag → TellsLack s p (Some e) (not flag)
 lacks_true s p e n flags true h at = λ a is. (let same : e ≡ a = cc in subst (λ (k : ℕ). StandsEarlier s p k) same (h.each e true at))

@@ -35,7 +35,7 @@ fn handover_of(linked: &Linked<'_>, releases: &[Option<u32>], e: u32) -> Option<
     ensures { (l : ℕ) → op_at linked.now.events.now e ≡ Some (Acquire l)
         → Latest (ReleasesLock linked.now.events.now l) e result }
 {
-    match linked.events[e as usize].op {
+    match linked.events.op(e) {
         Op::Acquire(lock) => releases[lock as usize],
         _ => None,
     }
@@ -49,7 +49,7 @@ fn note_release(linked: &Linked<'_>, releases: &mut Vec<Option<u32>>, e: u32)
     ensures { IsLatestTable (ReleasesLock linked.now.events.now) (e + 1) linked.now.sizes.locks
         releases.new.items }
 {
-    if let Op::Release(lock) = linked.events[e as usize].op {
+    if let Op::Release(lock) = linked.events.op(e) {
         releases[lock as usize] = Some(e);
     }
 }

@@ -9,7 +9,7 @@ ghost use Rattle.shb_lines.specs.Lowest.{IsLowest};
 use crate::broken::Why;
 use crate::rules::{Rules, no_positions};
 use shb_io::NoMemory;
-use shb_lines::{Event, Op};
+use shb_lines::Op;
 use shb_links::Linked;
 use std::alloc::Global;
 
@@ -72,7 +72,7 @@ impl Walked {
         if self.stands[p as usize] {
             return None;
         }
-        if linked.events[p as usize].thread == linked.events[e as usize].thread {
+        if linked.events.thread(p) == linked.events.thread(e) {
             Some(Why::ThreadOrder)
         } else {
             Some(Why::ForkMissing)
@@ -91,8 +91,7 @@ impl Walked {
             → IsLowestIn 5 8 (HasReason rules.now.linked.events.now list.now at e) result }
     {
         let e = list[at];
-        let Event { op, .. } = rules.linked.events[e as usize];
-        match op {
+        match rules.linked.events.op(e) {
             Op::Join(thread) => {
                 if self.lacks(rules.linked.links.last_of(thread)) {
                     Some(Why::JoinEarly)
@@ -157,7 +156,7 @@ impl Walked {
     {
         let e = list[at];
         self.stands[e as usize] = true;
-        match linked.events[e as usize].op {
+        match linked.events.op(e) {
             Op::Join(thread) => self.joined[thread as usize] = true,
             Op::Write(variable) => self.writes[variable as usize] = Some(e),
             _ => {}
@@ -174,7 +173,7 @@ impl Walked {
     {
         let e = list[at];
         self.stands[e as usize] = false;
-        match linked.events[e as usize].op {
+        match linked.events.op(e) {
             Op::Join(thread) => self.joined[thread as usize] = false,
             Op::Write(variable) => self.writes[variable as usize] = None,
             _ => {}

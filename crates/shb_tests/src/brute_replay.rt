@@ -6,7 +6,7 @@ ghost use Rattle.shb_lines.specs.text.Limits.{most_events};
 use crate::asserting::same;
 use crate::fixtures::{Question, asked, pair};
 use shb_discipline::Disciplined;
-use shb_lines::{Event, Op};
+use shb_lines::{Event, Events, Op};
 use shb_links::Links;
 use shb_replay::replay;
 use std::alloc::Global;
@@ -16,12 +16,16 @@ use std::test::Fail;
 const LONGEST: u32 = 5;
 
 /// The event of a number, if there is one.
-fn event_at(events: &[Event], e: u32) -> Option<Event> {
-    events.get(e as usize).copied()
+fn event_at(events: &Events, e: u32) -> Option<Event> {
+    if (e as usize) < events.len() {
+        Some(events.event(e))
+    } else {
+        None
+    }
 }
 
 /// Whether an event is of a thread.
-fn is_of(events: &[Event], e: u32, thread: u32) -> bool {
+fn is_of(events: &Events, e: u32, thread: u32) -> bool {
     match event_at(events, e) {
         Some(event) => event.thread == thread,
         None => false,
@@ -29,7 +33,7 @@ fn is_of(events: &[Event], e: u32, thread: u32) -> bool {
 }
 
 /// Whether an event does this.
-fn does(events: &[Event], e: u32, op: Op) -> bool {
+fn does(events: &Events, e: u32, op: Op) -> bool {
     match event_at(events, e) {
         Some(event) => event.op == op,
         None => false,
@@ -51,7 +55,7 @@ fn stands_before(list: &[u32], a: u32, b: u32) -> bool {
 }
 
 /// Whether a list has different events of the trace alone.
-fn has_different_events(events: &[Event], list: &[u32]) -> bool {
+fn has_different_events(events: &Events, list: &[u32]) -> bool {
     for (place, e) in list.iter().enumerate() {
         if *e as usize >= events.len() || list.iter().take(place).any(|a| *a == *e) {
             return false;
@@ -61,7 +65,7 @@ fn has_different_events(events: &[Event], list: &[u32]) -> bool {
 }
 
 /// How many of the events in a list do this, of the thread or, where `others` is set, of all but it.
-fn count(events: &[Event], past: &[u32], thread: u32, others: bool, op: Op) -> u32 {
+fn count(events: &Events, past: &[u32], thread: u32, others: bool, op: Op) -> u32 {
     let mut times = 0u32;
     for e in past {
         if does(events, *e, op) && is_of(events, *e, thread) != others {
@@ -72,12 +76,12 @@ fn count(events: &[Event], past: &[u32], thread: u32, others: bool, op: Op) -> u
 }
 
 /// How many of the events in a list do this.
-fn count_all(events: &[Event], past: &[u32], op: Op) -> u32 {
+fn count_all(events: &Events, past: &[u32], op: Op) -> u32 {
     count(events, past, u32::MAX, true, op)
 }
 
 /// Whether an event may come after those of a list.
-fn may_come(events: &[Event], past: &[u32], event: Event) -> bool {
+fn may_come(events: &Events, past: &[u32], event: Event) -> bool {
     let Event { thread, op, .. } = event;
     if count_all(events, past, Op::Join(thread)) > 0 {
         return false;
@@ -103,7 +107,7 @@ fn may_come(events: &[Event], past: &[u32], event: Event) -> bool {
 }
 
 /// The latest write of a variable among the first events of the trace.
-fn last_write(events: &[Event], r: u32, variable: u32) -> Option<u32> {
+fn last_write(events: &Events, r: u32, variable: u32) -> Option<u32> {
     let mut last = None;
     for e in 0..r {
         if does(events, e, Op::Write(variable)) {
@@ -114,7 +118,7 @@ fn last_write(events: &[Event], r: u32, variable: u32) -> Option<u32> {
 }
 
 /// The latest write of a variable in a list.
-fn last_write_in(events: &[Event], past: &[u32], variable: u32) -> Option<u32> {
+fn last_write_in(events: &Events, past: &[u32], variable: u32) -> Option<u32> {
     let mut last = None;
     for e in past {
         if does(events, *e, Op::Write(variable)) {
@@ -125,7 +129,7 @@ fn last_write_in(events: &[Event], past: &[u32], variable: u32) -> Option<u32> {
 }
 
 /// Whether an edge of happens-before leads from a to b, which comes later in the trace.
-fn is_edge(events: &[Event], a: u32, b: u32) -> bool {
+fn is_edge(events: &Events, a: u32, b: u32) -> bool {
     let (Some(first), Some(second)) = (event_at(events, a), event_at(events, b)) else {
         return false;
     };
@@ -140,7 +144,7 @@ fn is_edge(events: &[Event], a: u32, b: u32) -> bool {
 }
 
 /// The events from which a path of edges leads to b, the latest first.
-fn all_before(alloc: Global, events: &[Event], b: u32) -> Result<Vec<u32>, Fail> {
+fn all_before(alloc: Global, events: &Events, b: u32) -> Result<Vec<u32>, Fail> {
     let mut found = vec![in alloc; b]?;
     for step in 0..b {
         let a = b - 1 - step;
@@ -153,7 +157,7 @@ fn all_before(alloc: Global, events: &[Event], b: u32) -> Result<Vec<u32>, Fail>
 
 /// Whether an event at its index in a list meets the definition of a correct reordering that keeps
 /// happens-before.
-fn is_in_place(alloc: Global, events: &[Event], list: &[u32], place: usize) -> Result<bool, Fail>
+fn is_in_place(alloc: Global, events: &Events, list: &[u32], place: usize) -> Result<bool, Fail>
     requires few { length events.now ≤ most_events }
     requires place { place < length list.now }
 {
@@ -188,7 +192,7 @@ fn is_in_place(alloc: Global, events: &[Event], list: &[u32], place: usize) -> R
 }
 
 /// Whether a list is a correct reordering that keeps happens-before.
-fn is_reordering(alloc: Global, events: &[Event], list: &[u32]) -> Result<bool, Fail>
+fn is_reordering(alloc: Global, events: &Events, list: &[u32]) -> Result<bool, Fail>
     requires { length events.now ≤ most_events }
 {
     if !has_different_events(events, list) {
@@ -203,7 +207,7 @@ fn is_reordering(alloc: Global, events: &[Event], list: &[u32]) -> Result<bool, 
 }
 
 /// Whether an event is next after a list.
-fn is_next(events: &[Event], list: &[u32], e: u32) -> bool
+fn is_next(events: &Events, list: &[u32], e: u32) -> bool
     requires { length events.now ≤ most_events }
 {
     let Some(event) = event_at(events, e) else {

@@ -30,7 +30,7 @@ fn answer_of_rows(rows: &EventRows<'_>, trace: &Disciplined<'_>, e: u32, t: u32,
     if e as usize >= trace.events.len() {
         return other;
     }
-    match trace.events[e as usize].op.variable() {
+    match trace.events.op(e).variable() {
         Some(_) => rows.below_pred(e, t),
         None => other,
     }

@@ -80,21 +80,24 @@ fn made_text(rt: &HostRuntime) -> Result<Vec<u8>, Fail> {
 fn plain_local(trace: &Disciplined<'_>, e: u32) -> usize
     requires { e < length trace.now.events.now }
 {
-    let thread = trace.events[e as usize].thread;
-    trace.events[..e as usize + 1]
-        .iter()
-        .filter(|event| event.thread == thread)
-        .count()
+    let thread = trace.events.thread(e);
+    let mut times = 1usize;
+    for k in 0..e {
+        if trace.events.thread(k) == thread {
+            times = times.saturating_add(1);
+        }
+    }
+    times
 }
 
 /// The latest earlier event of its thread, or else the fork of its thread.
 fn plain_pred(trace: &Disciplined<'_>, e: u32) -> Option<u32>
     requires { e < length trace.now.events.now }
 {
-    let thread = trace.events[e as usize].thread;
+    let thread = trace.events.thread(e);
     let mut latest = None;
     for k in 0..e {
-        if trace.events[k as usize].thread == thread {
+        if trace.events.thread(k) == thread {
             latest = Some(k);
         }
     }
@@ -105,7 +108,7 @@ fn plain_pred(trace: &Disciplined<'_>, e: u32) -> Option<u32>
 fn plain_last(trace: &Disciplined<'_>, thread: u32) -> Option<u32> {
     let mut last = None;
     for k in 0..trace.events.len() as u32 {
-        if trace.events[k as usize].thread == thread {
+        if trace.events.thread(k) == thread {
             last = Some(k);
         }
     }
@@ -115,7 +118,7 @@ fn plain_last(trace: &Disciplined<'_>, thread: u32) -> Option<u32> {
 /// The event that forks a thread.
 fn plain_fork(trace: &Disciplined<'_>, thread: u32) -> Option<u32> {
     for k in 0..trace.events.len() as u32 {
-        if trace.events[k as usize].op == Op::Fork(thread) {
+        if trace.events.op(k) == Op::Fork(thread) {
             return Some(k);
         }
     }
@@ -127,9 +130,9 @@ fn plain_last_write(trace: &Disciplined<'_>, e: u32) -> Option<u32>
     requires { e < length trace.now.events.now }
 {
     let mut latest = None;
-    if let Op::Read(variable) = trace.events[e as usize].op {
+    if let Op::Read(variable) = trace.events.op(e) {
         for k in 0..e {
-            if trace.events[k as usize].op == Op::Write(variable) {
+            if trace.events.op(k) == Op::Write(variable) {
                 latest = Some(k);
             }
         }

@@ -154,7 +154,7 @@ impl Question for PlainRaces {
         let mut races = Vec::new(alloc);
         for x in 0..trace.sizes.variables {
             for second in 0..trace.events.len() as u32 {
-                if trace.events[second as usize].op.variable() == Some(x) {
+                if trace.events.op(second).variable() == Some(x) {
                     push_races(&mut races, &ordered, second)?;
                 }
             }

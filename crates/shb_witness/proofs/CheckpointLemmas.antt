@@ -30,20 +30,20 @@ some_is : (a b : ℕ) → Some a ≡ Some b → a ≡ b
 some_is a b e = cc
 
 -- one event more
-pub reach_more : (trace linked : List Event) (n time : ℕ) (old new : List ℕ) (d : Event) → linked ≡ trace → n < length trace → ((t : ℕ) → thread_at linked n ≡ Some t → time ≡ local_time linked t n)
-    → time ≤ get_or new (get_or trace n d).thread 0 → ((t : ℕ) → get_or old t 0 ≤ get_or new t 0) → Reach trace n old → Reach trace (n + 1) new
-reach_more trace linked n time old new d same within is_time noted kept before k t lt of = go (cases_lt k n)
+pub reach_more : (trace linked : List Event) (n time : ℕ) (old new : List ℕ) (u : ℕ) → linked ≡ trace → thread_at trace n ≡ Some u → ((t : ℕ) → thread_at linked n ≡ Some t → time ≡ local_time linked t n)
+    → time ≤ get_or new u 0 → ((t : ℕ) → get_or old t 0 ≤ get_or new t 0) → Reach trace n old → Reach trace (n + 1) new
+reach_more trace linked n time old new u same of_u is_time noted kept before k t lt of = go (cases_lt k n)
   where
-    known : (u : ℕ) → thread_at trace n ≡ Some u → time ≡ local_time trace u n
-    known = subst (λ (tr : List Event). (u : ℕ) → thread_at tr n ≡ Some u → time ≡ local_time tr u n) same is_time
+    known : (v : ℕ) → thread_at trace n ≡ Some v → time ≡ local_time trace v n
+    known = subst (λ (tr : List Event). (v : ℕ) → thread_at tr n ≡ Some v → time ≡ local_time tr v n) same is_time
 
     go : (k < n) ⊎ (n ≤ k) → local_time trace t k ≤ get_or new t 0
     go (inl earlier) = let le = before k t earlier of in let more = kept t in omega (arith, le, more)
     go (inr later) =
         let here : k ≡ n = omega (arith, lt, later) in
         let of_n : thread_at trace n ≡ Some t = subst (λ (j : ℕ). thread_at trace j ≡ Some t) here of in
-        let is_t : (get_or trace n d).thread ≡ t = some_is (get_or trace n d).thread t (sym (thread_item trace n d within) ∙ of_n) in
-        let low : time ≤ get_or new t 0 = subst (λ (u : ℕ). time ≤ get_or new u 0) is_t noted in
+        let is_t : u ≡ t = some_is u t (sym of_u ∙ of_n) in
+        let low : time ≤ get_or new t 0 = subst (λ (v : ℕ). time ≤ get_or new v 0) is_t noted in
         let le : local_time trace t n ≤ get_or new t 0 = subst (λ (p : ℕ). p ≤ get_or new t 0) (known t of_n) low in
         subst (λ (j : ℕ). local_time trace t j ≤ get_or new t 0) (sym here) le
 
@@ -64,7 +64,7 @@ pub reach_covered : (trace : List Event) (n : ℕ) (times cuts : List ℕ) → (
 reach_covered trace n times cuts le reached k t lt of = let first = reached k t lt of in let more = le t in omega (arith, first, more)
 
 -- the front of a printed schedule
-pub front_listed : (trace : List Event) (i j threads n : ℕ) (cuts s : List ℕ) → ((k : ℕ) (d : Event) → k < length trace → (get_or trace k d).thread < threads) → n ≤ length trace → HasCuts trace i j threads cuts → Reach trace n cuts → s ≡ range_with_len 0 n → IsListed (BelowEither trace i j) n s × (length s ≤ n)
+pub front_listed : (trace : List Event) (i j threads n : ℕ) (cuts s : List ℕ) → ((k t : ℕ) → thread_at trace k ≡ Some t → t < threads) → n ≤ length trace → HasCuts trace i j threads cuts → Reach trace n cuts → s ≡ range_with_len 0 n → IsListed (BelowEither trace i j) n s × (length s ≤ n)
 front_listed trace i j threads n cuts s low within has reached is =
     (subst (λ (l : List ℕ). IsListed (BelowEither trace i j) n l) (sym is) (all_listed (BelowEither trace i j) n inside), (let long = length-range_with_len 0 n in omega (arith, ap length is, long)))
   where
@@ -73,4 +73,4 @@ front_listed trace i j threads n cuts s low within has reached is =
         let d : Event = record { thread = 0; op = Read 0; line = 0 } in
         let inner : k < length trace = omega (arith, lt, within) in
         let of = thread_item trace k d inner in
-        (has.each (get_or trace k d).thread (low k d inner) k of).0 (reached k (get_or trace k d).thread lt of)
+        (has.each (get_or trace k d).thread (low k (get_or trace k d).thread of) k of).0 (reached k (get_or trace k d).thread lt of)

@@ -9,7 +9,6 @@ use Rattle.shb_lines.specs.events.Events.{thread_at}
 use Rattle.shb_lines.specs.events.Discipline.{IsDisciplined, local_time}
 use Rattle.shb_lines.specs.events.Order.{IsPred, BelowPred, IsBelowPredCount, here}
 use Rattle.shb_lines.proofs.events.Decide.{pred_unique}
-use Rattle.shb_lines.proofs.events.Items.{thread_item}
 use Rattle.shb_lines.proofs.events.Prefix.{local_from_below, below_from_local}
 use Rattle.shb_lines.proofs.events.Schedulable.{below_pred_in_range, path_forward}
 use Rattle.shb_links.specs.Links.{Exactly}
@@ -69,19 +68,19 @@ none_below trace linked e o same is exact k below =
     none below.0 pred
 
 -- an event's local time against the cut of its thread
-pub cut_test : (trace linked : List Event) (i j threads k time cut : ℕ) (cuts : List ℕ) (d : Event) → linked ≡ trace → HasCuts trace i j threads cuts → (get_or trace k d).thread < threads → k < length trace → ((t : ℕ) → thread_at linked k ≡ Some t → time ≡ local_time linked t k) → cut ≡ get_or cuts (get_or trace k d).thread cut → (time ≤ cut) ↔ BelowEither trace i j k
-cut_test trace linked i j threads k time cut cuts d same has low lt is_time is_cut = (
+pub cut_test : (trace linked : List Event) (i j threads k time cut : ℕ) (cuts : List ℕ) (t : ℕ) → linked ≡ trace → HasCuts trace i j threads cuts → t < threads → thread_at trace k ≡ Some t → ((u : ℕ) → thread_at linked k ≡ Some u → time ≡ local_time linked u k) → cut ≡ get_or cuts t cut → (time ≤ cut) ↔ BelowEither trace i j k
+cut_test trace linked i j threads k time cut cuts t same has low of_k is_time is_cut = (
   (λ le. member.0 (let at = known in let is = read in omega (arith, le, at, is))),
   (λ below. let le = member.1 below in let at = known in let is = read in omega (arith, le, at, is)),
 )
   where
-    known : time ≡ local_time trace (get_or trace k d).thread k
+    known : time ≡ local_time trace t k
     known =
-        let local : (t : ℕ) → thread_at trace k ≡ Some t → time ≡ local_time trace t k = subst (λ (tr : List Event). (t : ℕ) → thread_at tr k ≡ Some t → time ≡ local_time tr t k) same is_time in
-        local (get_or trace k d).thread (thread_item trace k d lt)
+        let local : (u : ℕ) → thread_at trace k ≡ Some u → time ≡ local_time trace u k = subst (λ (tr : List Event). (u : ℕ) → thread_at tr k ≡ Some u → time ≡ local_time tr u k) same is_time in
+        local t of_k
 
-    read : cut ≡ get_or cuts (get_or trace k d).thread 0
-    read = get_or_read cuts (get_or trace k d).thread cut (let long = has.as_long in omega (arith, long, low)) is_cut 0
+    read : cut ≡ get_or cuts t 0
+    read = get_or_read cuts t cut (let long = has.as_long in omega (arith, long, low)) is_cut 0
 
-    member : (local_time trace (get_or trace k d).thread k ≤ get_or cuts (get_or trace k d).thread 0) ↔ BelowEither trace i j k
-    member = has.each (get_or trace k d).thread low k (thread_item trace k d lt)
+    member : (local_time trace t k ≤ get_or cuts t 0) ↔ BelowEither trace i j k
+    member = has.each t low k of_k

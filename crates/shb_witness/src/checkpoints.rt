@@ -34,7 +34,7 @@ pub fn checkpoints_of(alloc: Global, linked: &Linked<'_>) -> Result<Vec<Checkpoi
             })?;
             next = next.saturating_add(apart);
         }
-        let thread = linked.events[k as usize].thread;
+        let thread = linked.events.thread(k);
         reach(&mut times, thread as usize, linked.links.local(k));
     }
     Ok(points)

@@ -65,7 +65,7 @@ pub(crate) fn schedule_runs<O: Order>(
     let front = front_of(points, &cuts).min(end);
     let mut positions = Positions::first(alloc, front)?;
     for k in front..end {
-        let thread = ordered.trace.events[k as usize].thread;
+        let thread = ordered.trace.events.thread(k);
         let below = ordered.links.local(k) <= cuts[thread as usize];
         if below {
             positions.push(k)?;

@@ -48,7 +48,7 @@ pub fn is_edge(linked: &Linked<'_>, a: u32, b: u32) -> bool
     requires in_range { b < length linked.now.events.now }
     ensures { IsTrue result ↔ ShbEdge linked.now.events.now a b }
 {
-    if happens_first(linked.events[a as usize], linked.events[b as usize]) {
+    if happens_first(linked.events.event(a), linked.events.event(b)) {
         return true;
     }
     match linked.links.last_write(b) {

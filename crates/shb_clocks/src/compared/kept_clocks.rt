@@ -53,7 +53,7 @@ impl KeptClocks {
         ensures long { length result ≡ linked.now.sizes.threads }
         ensures front { IsFront linked.now.events.now (λ k. ShbBelow linked.now.events.now k e) result }
     {
-        let thread = linked.events[e as usize].thread;
+        let thread = linked.events.thread(e);
         let time = linked.links.local(e);
         let row = self.threads[thread as usize].row_up_to(time);
         EventClock::new(self.rows.row(row), thread, time)
@@ -83,7 +83,7 @@ impl KeptClocks {
         requires kept { AreKept linked.now.events.now e linked.now.sizes.threads self.old.rows self.old.threads.items }
         ensures { IfOk result (λ _. AreKept linked.now.events.now (e + 1) linked.now.sizes.threads self.new.rows self.new.threads.items) }
     {
-        let thread = linked.events[e as usize].thread as usize;
+        let thread = linked.events.thread(e) as usize;
         let given = self.threads[thread].last_row();
         let row = self.rows.number_like(given, clock.as_slice())?;
         self.threads[thread].push(linked.links.local(e), row)?;

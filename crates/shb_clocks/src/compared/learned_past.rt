@@ -31,7 +31,7 @@ fn may_learn(linked: &Linked<'_>, e: u32) -> bool
     if linked.links.local(e) == 1 {
         return true;
     }
-    match linked.events[e as usize].op {
+    match linked.events.op(e) {
         Op::Acquire(_) => true,
         Op::Join(_) => true,
         Op::Read(_) => linked.links.last_write(e).is_some(),
@@ -75,7 +75,7 @@ impl LearnedPast {
         ensures long { length clock.new ≡ linked.now.sizes.threads }
         ensures front { IsFront linked.now.events.now (StrictlyBelow linked.now.events.now e) clock.new }
     {
-        let thread = linked.events[write as usize].thread;
+        let thread = linked.events.thread(write);
         if entry(clock.as_slice(), thread) < linked.links.local(write) {
             clock.join_event(&self.clocks.clock_of(linked, write));
         }
@@ -90,7 +90,7 @@ impl LearnedPast {
         ensures long { length clock.new ≡ linked.now.sizes.threads }
         ensures front { IsFront linked.now.events.now (StrictlyBelow linked.now.events.now e) clock.new }
     {
-        match linked.events[e as usize].op {
+        match linked.events.op(e) {
             Op::Acquire(lock) => clock.join(self.locks[lock as usize].as_slice()),
             Op::Join(thread) => {
                 if let Some(last) = linked.links.last_of(thread) {
@@ -117,7 +117,7 @@ impl LearnedPast {
     {
         self.start(linked, e, clock);
         self.learn(linked, e, clock);
-        clock.put(linked.events[e as usize].thread as usize, 0);
+        clock.put(linked.events.thread(e) as usize, 0);
     }
 
     /// Keeps the clock of e where its thread may learn.
@@ -173,7 +173,7 @@ fn release(linked: &Linked<'_>, clocks: &KeptClocks, e: u32, locks: &mut Vec<Clo
     requires locks { HasLockClocks linked.now.events.now e linked.now.sizes.threads linked.now.sizes.locks locks.old.items }
     ensures { HasLockClocks linked.now.events.now (e + 1) linked.now.sizes.threads linked.now.sizes.locks locks.new.items }
 {
-    if let Op::Release(lock) = linked.events[e as usize].op {
+    if let Op::Release(lock) = linked.events.op(e) {
         locks[lock as usize].join_event(&clocks.clock_of(linked, e));
     }
 }

@@ -37,7 +37,7 @@ fn release(linked: &Linked<'_>, e: u32, clock: &Clock, locks: &mut Vec<Clock>)
     requires locks { HasLockClocks linked.now.events.now e linked.now.sizes.threads linked.now.sizes.locks locks.old.items }
     ensures { HasLockClocks linked.now.events.now (e + 1) linked.now.sizes.threads linked.now.sizes.locks locks.new.items }
 {
-    if let Op::Release(lock) = linked.events[e as usize].op {
+    if let Op::Release(lock) = linked.events.op(e) {
         locks[lock as usize].join(clock.as_slice());
     }
 }
@@ -80,7 +80,7 @@ impl Past {
         ensures long { length clock.new ≡ linked.now.sizes.threads }
         ensures front { IsFront linked.now.events.now (StrictlyBelow linked.now.events.now e) clock.new }
     {
-        match linked.events[e as usize].op {
+        match linked.events.op(e) {
             Op::Acquire(lock) => clock.join(self.locks[lock as usize].as_slice()),
             Op::Join(thread) => {
                 if let Some(last) = linked.links.last_of(thread) {
@@ -114,10 +114,7 @@ impl Past {
     {
         self.start(linked, e, clock);
         self.learn(linked, e, clock);
-        clock.put(
-            linked.events[e as usize].thread as usize,
-            linked.links.local(e),
-        );
+        clock.put(linked.events.thread(e) as usize, linked.links.local(e));
     }
 
     /// Adds the event e, which has this clock.

@@ -11,7 +11,7 @@ use crate::compared::marks::Marks;
 use crate::order::Order;
 use shb_discipline::Disciplined;
 use shb_io::NoMemory;
-use shb_lines::Event;
+use shb_lines::Events;
 use shb_links::{Linked, Links};
 use std::alloc::Global;
 use std::marker::Model;
@@ -106,14 +106,14 @@ pub fn plain<'a>(
 }
 
 /// How many events of a thread are marked.
-fn count_marked(events: &[Event], row: &Marks, t: u32) -> u32
+fn count_marked(events: &Events, row: &Marks, t: u32) -> u32
     requires as_long { length row.now ≡ length events.now }
     requires small { length events.now < 2 ^ 32 }
     ensures { IsNumberOf (λ k. (thread_at events.now k ≡ Some t) × (slice_index_or row.now k false ≡ true)) result }
 {
     let mut count = 0;
     for k in 0..events.len() as u32 {
-        if events[k as usize].thread == t && row.is_marked(k as usize) {
+        if events.thread(k) == t && row.is_marked(k as usize) {
             count += 1;
         }
     }

@@ -1,21 +1,49 @@
 -- Events read at an index of a slice, as the code reads them.
-use Rattle.std.proofs.Common.{◌≡◌, ◌≢◌, ℕ, ◌<◌, true, false, List, Option, Some, None, length, get_or, sym, ◌∙◌, ap, arith}
+use Rattle.std.proofs.Common.{◌≡◌, ◌≢◌, ℕ, ◌<◌, true, false, List, Option, Some, None, length, get_or, subst, sym, ◌∙◌, ap, arith}
 use Rattle.std.specs.Prelude.{IfSome, IfNone}
 use Rattle.std.proofs.lemmas.Option.{slice_get-get_or}
 use Rattle.shb_lines.specs.declared.event.Event.{Event}
+use Rattle.shb_lines.specs.declared.event.Op.{Op}
 use Rattle.shb_lines.specs.declared.event.Op.TheVariants.{Read, Write, Fork}
 use Rattle.shb_lines.specs.events.Events.{thread_at, op_at}
 use Rattle.shb_lines.specs.events.Tests.{is_hb_rule}
 use Rattle.shb_lines.specs.events.Discipline.{IsDisciplined}
+use Rattle.shb_lines.specs.declared.event.Sizes.{Sizes}
+use Rattle.shb_lines.specs.events.Sizes.{IsOpWithin, IsWithin}
 use Rattle.shb_lines.specs.events.Order.{IsPred, in_thread, by_fork, LastWrite, ShbEdge, happens_before, read_from}
 use Rattle.shb_lines.proofs.events.Decide.{last_write_unique, rule_from_test, test_from_rule}
-use Rattle.shb_lines.proofs.events.Events.{thread_is, op_is, fork_earlier}
+use Rattle.shb_lines.proofs.events.Events.{event_of_op, event_of_thread, thread_is, op_is, fork_earlier}
 
 pub thread_item : (trace : List Event) (k : ℕ) (d : Event) → k < length trace → thread_at trace k ≡ Some (get_or trace k d).thread
 thread_item trace k d lt = thread_is trace k (get_or trace k d) (slice_get-get_or trace k d lt)
 
 pub op_item : (trace : List Event) (k : ℕ) (d : Event) → k < length trace → op_at trace k ≡ Some (get_or trace k d).op
 op_item trace k d lt = op_is trace k (get_or trace k d) (slice_get-get_or trace k d lt)
+
+-- the thread and the operation of an event are within the sizes
+pub thread_within : (trace : List Event) (sizes : Sizes) (k t : ℕ) → IsWithin trace sizes → thread_at trace k ≡ Some t → t < sizes.threads
+thread_within trace sizes k t within of_k =
+    let event = event_of_thread trace k t of_k in
+    subst (λ n. n < sizes.threads) event.2 (within k event.0 event.1).thread
+
+pub op_within_at : (trace : List Event) (sizes : Sizes) (k : ℕ) (op : Op) → IsWithin trace sizes → op_at trace k ≡ Some op → IsOpWithin sizes op
+op_within_at trace sizes k op within is =
+    let event = event_of_op trace k op is in
+    subst (IsOpWithin sizes) event.2 (within k event.0 event.1).operation
+
+-- the same of an operation that is known
+pub op_known : (trace : List Event) (k : ℕ) (op known : Op) → op_at trace k ≡ Some op → op ≡ known → op_at trace k ≡ Some known
+op_known trace k op known at is = at ∙ ap (λ o. Some o) is
+
+pub op_other_at : (trace : List Event) (k : ℕ) (op other : Op) → op_at trace k ≡ Some op → (op ≡ other → ⊥) → op_at trace k ≢ Some other
+op_other_at trace k op other at differs is = differs (let s : Some op ≡ Some other = sym at ∙ is in cc)
+
+-- what the event at an index does, and its thread
+pub op_of_item : (trace : List Event) (k : ℕ) (d : Event) (op : Op) → k < length trace → op_at trace k ≡ Some op → (get_or trace k d).op ≡ op
+op_of_item trace k d op lt h = let s : Some (get_or trace k d).op ≡ Some op = sym (op_item trace k d lt) ∙ h in cc
+
+pub thread_of_item : (trace : List Event) (k : ℕ) (d : Event) (t : ℕ) → k < length trace → thread_at trace k ≡ Some t → (get_or trace k d).thread ≡ t
+thread_of_item trace k d t lt h = let s : Some (get_or trace k d).thread ≡ Some t = sym (thread_item trace k d lt) ∙ h in cc
 
 pub thread_item_is : (trace : List Event) (k t : ℕ) (d : Event) → k < length trace → (get_or trace k d).thread ≡ t → thread_at trace k ≡ Some t
 thread_item_is trace k t d lt h = thread_item trace k d lt ∙ ap (λ n. Some n) h

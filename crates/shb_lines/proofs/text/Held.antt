@@ -70,16 +70,15 @@ module _ (text : List ℕ) (reader : Reader) (parts : Parts) (noted : AreNoted r
   pub trace_held : IsTraceOf lines (trace_at text parts)
   trace_held = record {
     tables_are = tables_same ∙ read.tables_are;
-    events_are = subst (λ t. AllZip (IsEventOf t) parts.events.items (trace_of lines)) (sym tables_same)
-        (subst (λ events. AllZip (IsEventOf (tables_of reader)) events (trace_of lines)) (sym (ap (λ v. v.items) noted.events)) read.events_are);
+    events_are = subst (λ t. AllZip (IsEventOf t) parts.events (trace_of lines)) (sym tables_same)
+        (subst (λ events. AllZip (IsEventOf (tables_of reader)) events (trace_of lines)) (sym noted.events) read.events_are);
     lines_are = ap (λ v. map (line_from text) v.items) noted.starts ∙ lines_are text reader.starts.items (trace_of lines) read.starts_are;
   }
 
-  pub parts_held : length text ≤ most_bytes + 1 → length reader.events.items ≤ most_events → HasRoom reader → AllByRecursion IsLineText (map (λ e. e.text) (trace_of lines)) → AreParts text parts
+  pub parts_held : length text ≤ most_bytes + 1 → length reader.events ≤ most_events → HasRoom reader → AllByRecursion IsLineText (map (λ e. e.text) (trace_of lines)) → AreParts text parts
   parts_held short few room line_texts =
-      let n = length reader.events.items in
-      let len = reader.events.ok.0 in
-      let events_len : length parts.events.items ≡ n = ap (λ v. length v.items) noted.events in
+      let n = length reader.events in
+      let events_len : length parts.events ≡ n = ap length noted.events in
       let starts_len : length parts.starts.items ≡ n = ap (λ v. length v.items) noted.starts ∙ length-starts text reader lines read in
       record {
         short = omega arith;
@@ -88,9 +87,9 @@ module _ (text : List ℕ) (reader : Reader) (parts : Parts) (noted : AreNoted r
           few = omega (arith, starts_len, few);
           within = subst (AllByRecursion (λ (start : ℕ). start ≤ length text)) (sym (ap (λ v. v.items) noted.starts)) (starts_within text reader.starts.items (trace_of lines) read.starts_are);
         };
-        threads = spans_are text parts.threads.items reader.threads.table.entries n noted.threads read.stand.threads (omega (arith, room.threads, len)) few;
-        locks = spans_are text parts.locks.items reader.locks.table.entries n noted.locks read.stand.locks (omega (arith, room.locks, len)) few;
-        variables = spans_are text parts.variables.items reader.variables.table.entries n noted.variables read.stand.variables (omega (arith, room.variables, len)) few;
+        threads = spans_are text parts.threads.items reader.threads.table.entries n noted.threads read.stand.threads (omega (arith, room.threads)) few;
+        locks = spans_are text parts.locks.items reader.locks.table.entries n noted.locks read.stand.locks (omega (arith, room.locks)) few;
+        variables = spans_are text parts.variables.items reader.variables.table.entries n noted.variables read.stand.variables (omega (arith, room.variables)) few;
         well_formed = well_formed lines (trace_at text parts) trace_held (omega (arith, events_len, few))
             (length-map parts.starts.items (line_from text) ∙ starts_len ∙ sym events_len) line_texts;
       }

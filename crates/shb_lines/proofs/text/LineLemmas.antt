@@ -23,11 +23,11 @@ length_zip R (x ∷ xs) [] h = absurd h
 length_zip R (x ∷ xs) (y ∷ ys) h = ap (λ n. suc n) (length_zip R xs ys h.1)
 
 -- there are as many events, and as many starts of lines, as the lines give
-pub length-events_of : (text : List ℕ) (reader : Reader) (lines : List (List ℕ)) → HasRead text reader lines → length (events_of lines) ≡ length reader.events.items
-length-events_of text reader lines h = length-map (trace_of lines) (λ e. e.event) ∙ length_zip (IsEventOf (tables_of reader)) reader.events.items (trace_of lines) h.events_are
+pub length-events_of : (text : List ℕ) (reader : Reader) (lines : List (List ℕ)) → HasRead text reader lines → length (events_of lines) ≡ length reader.events
+length-events_of text reader lines h = length-map (trace_of lines) (λ e. e.event) ∙ length_zip (IsEventOf (tables_of reader)) reader.events (trace_of lines) h.events_are
 
-pub length-starts : (text : List ℕ) (reader : Reader) (lines : List (List ℕ)) → HasRead text reader lines → length reader.starts.items ≡ length reader.events.items
-length-starts text reader lines h = sym (length_zip (λ s e. IsLineFrom text e.text s) reader.starts.items (trace_of lines) h.starts_are) ∙ length_zip (IsEventOf (tables_of reader)) reader.events.items (trace_of lines) h.events_are
+pub length-starts : (text : List ℕ) (reader : Reader) (lines : List (List ℕ)) → HasRead text reader lines → length reader.starts.items ≡ length reader.events
+length-starts text reader lines h = sym (length_zip (λ s e. IsLineFrom text e.text s) reader.starts.items (trace_of lines) h.starts_are) ∙ length_zip (IsEventOf (tables_of reader)) reader.events (trace_of lines) h.events_are
 
 -- how many threads there are with those of one event more
 pub length-threads_of : (text : List ℕ) (reader : Reader) (lines : List (List ℕ)) (e : NamedEvent) → HasRead text reader lines

@@ -21,7 +21,7 @@ use Rattle.shb_lines.specs.text.Text.{LocatedEvent, event_on, located, locks_amo
 use Rattle.shb_lines.specs.text.Parsed.{HasRead}
 use Rattle.shb_lines.proofs.text.NameLemmas.{slice_get-with_name, slice_get-with_names}
 
-enumerate_from-push : {X : Type 0} (n : ℕ) (xs : List X) (x : X) → enumerate_from n (xs ++ x ∷ []) ≡ enumerate_from n xs ++ (n + length xs, x) ∷ []
+pub enumerate_from-push : {X : Type 0} (n : ℕ) (xs : List X) (x : X) → enumerate_from n (xs ++ x ∷ []) ≡ enumerate_from n xs ++ (n + length xs, x) ∷ []
 enumerate_from-push n [] x = ap (λ k. (k, x) ∷ []) (sym (add-zero n))
 enumerate_from-push n (y ∷ xs) x =
     ap (λ rest. (n, y) ∷ rest) (enumerate_from-push (n + 1) xs x ∙ ap (λ k. enumerate_from (n + 1) xs ++ (k, x) ∷ []) (omega arith))
@@ -84,7 +84,7 @@ HasRead-none text reader lines line none h =
     let same = sym (trace_of-none lines line none) in
     record {
       tables_are = h.tables_are ∙ ap (λ t. tables_of_events (map (λ e. e.event) t)) same;
-      events_are = subst (AllZip (IsEventOf (tables_of reader)) reader.events.items) same h.events_are;
+      events_are = subst (AllZip (IsEventOf (tables_of reader)) reader.events) same h.events_are;
       starts_are = subst (AllZip (λ start e. IsLineFrom text e.text start) reader.starts.items) same h.starts_are;
       stand = h.stand;
     }
@@ -98,16 +98,16 @@ HasRead-some text old new lines line e start some stands adds stand h =
     let trace_is = trace_of-some lines line e some in
     let grown = with_operand (with_thread (tables_of old) e.thread) e.kind e.operand in
     let numbered : IsNumbered grown adds.event e = subst (λ t. IsNumbered t adds.event e) adds.tables_are adds.numbered in
-    let events : AllZip (IsEventOf grown) (old.events.items ++ adds.event ∷ []) (trace_of lines ++ last ∷ []) =
-    AllZip-push (IsEventOf (tables_of old)) (IsEventOf grown) (IsEventOf-more (tables_of old) e.thread e.kind e.operand) old.events.items (trace_of lines) adds.event last h.events_are (record { numbered = numbered; line_is = adds.line_is }) in
+    let events : AllZip (IsEventOf grown) (old.events ++ adds.event ∷ []) (trace_of lines ++ last ∷ []) =
+    AllZip-push (IsEventOf (tables_of old)) (IsEventOf grown) (IsEventOf-more (tables_of old) e.thread e.kind e.operand) old.events (trace_of lines) adds.event last h.events_are (record { numbered = numbered; line_is = adds.line_is }) in
     let starts : AllZip (λ s l. IsLineFrom text l.text s) (old.starts.items ++ start ∷ []) (trace_of lines ++ last ∷ []) =
     AllZip-push (λ s l. IsLineFrom text l.text s) (λ s l. IsLineFrom text l.text s) (λ s l here. here) old.starts.items (trace_of lines) start last h.starts_are stands in
     record {
       tables_are = adds.tables_are ∙ ap (λ t. with_operand (with_thread t e.thread) e.kind e.operand) h.tables_are ∙ sym (tables-push (events_of lines) e)
           ∙ ap tables_of_events (sym (map-append (λ (x : LocatedEvent). x.event) (trace_of lines) (last ∷ []))) ∙ ap (λ t. tables_of_events (map (λ x. x.event) t)) (sym trace_is);
-      events_are = subst (λ t. AllZip (IsEventOf t) new.events.items (trace_of (lines ++ line ∷ []))) (sym adds.tables_are)
+      events_are = subst (λ t. AllZip (IsEventOf t) new.events (trace_of (lines ++ line ∷ []))) (sym adds.tables_are)
           (subst (λ es. AllZip (IsEventOf grown) es (trace_of (lines ++ line ∷ []))) (sym adds.events_are)
-          (subst (AllZip (IsEventOf grown) (old.events.items ++ adds.event ∷ [])) (sym trace_is) events));
+          (subst (AllZip (IsEventOf grown) (old.events ++ adds.event ∷ [])) (sym trace_is) events));
       starts_are = subst (λ ps. AllZip (λ s l. IsLineFrom text l.text s) ps (trace_of (lines ++ line ∷ []))) (sym adds.starts_are)
           (subst (AllZip (λ s l. IsLineFrom text l.text s) (old.starts.items ++ start ∷ [])) (sym trace_is) starts);
       stand = stand;

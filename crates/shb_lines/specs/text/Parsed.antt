@@ -11,7 +11,7 @@ use Rattle.shb_lines.specs.text.Text.{trace_of}
 -- the tables and the events are those of the lines; each event's line and each name stand in the text
 pub record HasRead (text : List ℕ) (reader : Reader) (lines : List (List ℕ)) : Type 0 where
   pub tables_are : tables_of reader ≡ tables_of_events (events_of lines)
-  pub events_are : AllZip (IsEventOf (tables_of reader)) reader.events.items (trace_of lines)
+  pub events_are : AllZip (IsEventOf (tables_of reader)) reader.events (trace_of lines)
   pub starts_are : AllZip (λ start e. IsLineFrom text e.text start) reader.starts.items (trace_of lines)
   pub stand : AllStand text reader
 

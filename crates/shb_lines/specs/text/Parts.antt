@@ -13,7 +13,7 @@ names_at text spans = map (bytes_at text) spans
 -- the trace that these parts stand for over the text
 abbrev pub trace_at : List ℕ → Parts → TraceData
 trace_at text parts = record {
-  events = parts.events.items;
+  events = parts.events;
   lines = map (line_from text) parts.starts.items;
   threads = names_at text parts.threads.items;
   locks = names_at text parts.locks.items;
@@ -33,7 +33,7 @@ pub record AreStarts (text : List ℕ) (starts : List ℕ) : Type 0 where
 -- each event has a line, and the parts lie in the text and stand for a well-formed trace
 pub record AreParts (text : List ℕ) (parts : Parts) : Type 0 where
   pub short : length text < 2 ^ 31
-  pub a_line_each : length parts.starts.items ≡ length parts.events.items
+  pub a_line_each : length parts.starts.items ≡ length parts.events
   pub starts : AreStarts text parts.starts.items
   pub threads : AreSpans text parts.threads.items
   pub locks : AreSpans text parts.locks.items

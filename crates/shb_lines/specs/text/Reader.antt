@@ -1,5 +1,5 @@
 -- What a reader holds.
-use Rattle.std.specs.Prelude.{◌≡◌, ◌*◌, ◌≤◌, ℕ, List, [], ◌∷◌, ◌++◌, fold, vec_len}
+use Rattle.std.specs.Prelude.{◌≡◌, ◌*◌, ◌≤◌, ℕ, List, [], ◌∷◌, ◌++◌, fold, length}
 use Rattle.indexmap.specs.IndexMap.{index_map_len}
 use Rattle.shb_lines.specs.declared.event.Event.{Event}
 use Rattle.shb_lines.specs.declared.event.Kind.{Kind}
@@ -18,7 +18,7 @@ pub record HasNames (reader : Reader) (n : ℕ) : Type 0 where
 
 -- at most twice as many names in each name space as there are events
 abbrev pub HasRoom : Reader → Type 0
-HasRoom reader = HasNames reader (2 * vec_len reader.events)
+HasRoom reader = HasNames reader (2 * length reader.events)
 
 abbrev pub tables_of : Reader → Tables
 tables_of reader = record { threads = names_in reader.threads.table.entries; locks = names_in reader.locks.table.entries; variables = names_in reader.variables.table.entries }
@@ -42,7 +42,7 @@ pub record AddsEvent (old new : Reader) (line : ℕ) (named : NamedEvent) (start
   pub numbered : IsNumbered (tables_of new) event named
   pub line_is : event.line ≡ line
   pub tables_are : tables_of new ≡ with_operand (with_thread (tables_of old) named.thread) named.kind named.operand
-  pub events_are : new.events.items ≡ old.events.items ++ event ∷ []
+  pub events_are : new.events ≡ old.events ++ event ∷ []
   pub starts_are : new.starts.items ≡ old.starts.items ++ start ∷ []
 
 -- each name stands in the text

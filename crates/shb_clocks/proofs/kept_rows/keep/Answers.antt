@@ -1,22 +1,23 @@
-use Rattle.std.proofs.Common.{List, get_or, ◌∙◌, arith}
+use Rattle.std.proofs.Common.{List, ◌∙◌, arith}
 use Rattle.shb_lines.specs.declared.event.Event.{Event}
-use Rattle.shb_lines.specs.declared.event.Op.TheVariants.{Read}
 use Rattle.shb_lines.specs.events.Order.{BelowPred}
-use Rattle.shb_lines.proofs.events.Items.{thread_item}
+use Rattle.shb_lines.proofs.events.Items.{thread_within}
 use Rattle.shb_clocks.proofs.MovedLemmas.{row_moved}
-use Rattle.shb_clocks.proofs.StampItems.{thread_low}
 use Rattle.shb_clocks.proofs.kept_rows.keep.Goals as goal
 
-abbrev no_event : Event
-no_event = record { thread = 0; op = Read 0; line = 0 }
+pub index-requires : goal.index-requires
+index-requires c =
+    let low = thread_within c.args.linked.now.events.now c.args.linked.now.sizes c.args.e _ c.args.linked.now.within c.thread-thread.ensures in
+    let many = c.requires.as_many in
+    omega (arith, low, many)
 
 pub row-requires : goal.row-requires
-row-requires c = (c.row_before-before.ensures _ (thread_item c.args.linked.now.events.now c.args.e no_event c.requires.in_range)).in_range
+row-requires c = (c.row_before-before.ensures _ c.thread-thread.ensures).in_range
 
 pub index_mut-requires : goal.index_mut-requires
 index_mut-requires c =
     let trace : List Event = c.args.linked.now.events.now in
-    let low = thread_low trace c.args.linked.now.sizes c.args.e (get_or trace c.args.e no_event).thread c.args.linked.now.within (thread_item trace c.args.e no_event c.requires.in_range) in
+    let low = thread_within trace c.args.linked.now.sizes c.args.e c.thread-thread.result c.args.linked.now.within c.thread-thread.ensures in
     let many = c.requires.as_many in
     omega (arith, low, many)
 

@@ -1,9 +1,9 @@
-use Rattle.std.proofs.Common.{◌-◌, arith}
+use Rattle.std.proofs.Common.{◌<◌, ◌-◌, arith, subst, sym}
 use Rattle.shb_clocks.proofs.OpenItems.{asked_below}
 use Rattle.shb_clocks.proofs.open.asked_end.Goals as goal
 
 pub loop-e-init : goal.loop-e-init
-loop-e-init c k lt asked = lt
+loop-e-init c k lt asked = subst (λ n. k < n) (sym c.len-e.ensures) lt
 
 pub returns-then-is_asked-clause-all : goal.returns-then-is_asked-clause-all
 returns-then-is_asked-clause-all c k lt asked = let below = c.loop-e.invariant k lt asked in let some = c.loop-e-test.true in omega (arith, below, some)

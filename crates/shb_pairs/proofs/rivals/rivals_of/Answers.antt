@@ -27,16 +27,18 @@ add_rivals-requires-clause-each_in_range g c = range_by_thread c.args.search.now
 pub add_rivals-requires-clause-sorted : goal.add_rivals-requires-clause-sorted
 add_rivals-requires-clause-sorted g c = (subst (λ (tr : List Event). IsByThread tr Writes c.args.search.now.variable c.writes_by_thread-writes.result.now) c.args.search.now.of_trace c.writes_by_thread-writes.ensures).sorted
 
-pub bounds-search-second : goal.bounds-search-second
-bounds-search-second g c = accessed_within c.args.search.now.ordered.now.trace.now.events.now c.args.second c.args.search.now.variable c.requires.accessed
+pub op-requires : goal.op-requires
+op-requires g c = accessed_within c.args.search.now.ordered.now.trace.now.events.now c.args.second c.args.search.now.variable c.requires.accessed
 
 pub reads_by_thread-reads-requires-clause-accessed : goal.reads_by_thread-reads-requires-clause-accessed
 reads_by_thread-reads-requires-clause-accessed g c = variable_seen c.args.search.now.ordered.now.trace.now.events.now c.args.search.now.accesses.now.trace c.args.second c.args.search.now.variable c.args.search.now.of_trace c.requires.accessed
 
+pub add_rivals-requires-then-is_write-clause-in_range : goal.add_rivals-requires-then-is_write-clause-in_range
+add_rivals-requires-then-is_write-clause-in_range g c = accessed_within c.args.search.now.ordered.now.trace.now.events.now c.args.second c.args.search.now.variable c.requires.accessed
+
 pub add_rivals-requires-then-is_write-clause-rivals : goal.add_rivals-requires-then-is_write-clause-rivals
 add_rivals-requires-then-is_write-clause-rivals g c =
-    let within = accessed_within c.args.search.now.ordered.now.trace.now.events.now c.args.second c.args.search.now.variable c.requires.accessed in
-    let writes = write_at c.args.search.now.ordered.now.trace.now.events.now c.args.second c.args.search.now.variable _ within (sym c.is_write.ensures ∙ c.if-is_write.true) c.requires.accessed in
+    let writes = write_at c.args.search.now.ordered.now.trace.now.events.now c.args.second c.args.search.now.variable _ c.op.ensures (sym c.is_write.ensures ∙ c.if-is_write.true) c.requires.accessed in
     reads_are_rivals c.args.search.now.ordered.now.trace.now.events.now c.args.search.now.variable c.args.second c.reads_by_thread-reads.result.now c.requires.accessed writes (subst (λ (tr : List Event). IsByThread tr Reads c.args.search.now.variable c.reads_by_thread-reads.result.now) c.args.search.now.of_trace c.reads_by_thread-reads.ensures)
 
 pub add_rivals-requires-then-is_write-clause-each_in_range : goal.add_rivals-requires-then-is_write-clause-each_in_range
@@ -53,6 +55,6 @@ returns g c =
       | then-is_write+in_ok-add_rivals-2 w ↦
           found_of_write c.args.search.now.ordered.now.trace.now.events.now c.args.search.now.variable c.args.second c.writes_by_thread-writes.result.now w.reads_by_thread-reads.result.now _ _ c.if-is_write.found.items c.new-found.ensures.items c.in_ok-add_rivals.ensures (ap (λ (v : Vec ℕ Global). v.items) w.found-is ∙ w.in_ok-add_rivals-2.ensures) (subst (λ (tr : List Event). IsByThread tr Reads c.args.search.now.variable w.reads_by_thread-reads.result.now) c.args.search.now.of_trace w.reads_by_thread-reads.ensures)
       | else-is_write w ↦
-          found_of_read c.args.search.now.ordered.now.trace.now.events.now c.args.search.now.variable c.args.second _ c.writes_by_thread-writes.result.now _ _ c.if-is_write.found.items within (sym c.is_write.ensures ∙ w.if-is_write.false) c.new-found.ensures.items c.in_ok-add_rivals.ensures (ap (λ (v : Vec ℕ Global). v.items) w.found-is)
+          found_of_read c.args.search.now.ordered.now.trace.now.events.now c.args.search.now.variable c.args.second _ c.writes_by_thread-writes.result.now _ _ c.if-is_write.found.items within c.op.ensures (sym c.is_write.ensures ∙ w.if-is_write.false) c.new-found.ensures.items c.in_ok-add_rivals.ensures (ap (λ (v : Vec ℕ Global). v.items) w.found-is)
     ] in
     found_all c.args.search.now.ordered.now.trace.now.events.now c.args.search.now.variable c.args.second c.writes_by_thread-writes.result.now c.requires.accessed of_writes c.if-is_write.found.items c.sort_unstable.new.self.items found c.sort_unstable.ensures.permutation (IsNonDecreasingBy-from_sort (λ (n : ℕ). n) c.sort_unstable.new.self.items c.sort_unstable.ensures.sorted)

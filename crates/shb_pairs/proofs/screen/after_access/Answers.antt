@@ -18,4 +18,4 @@ returns-else-is_write-clause-kept g c = c.after_read.ensures.kept
 
 pub returns-else-is_write-clause-screened : goal.returns-else-is_write-clause-screened
 returns-else-is_write-clause-screened g c x access h =
-    c.after_read.ensures.screened x access (not_write_at c.args.ordered.now.trace.now.events.now c.args.e x _ c.requires.in_range (sym c.is_write.ensures ∙ c.if-is_write.false)) (c.is_past.ensures c.if-not-is_past.false) h
+    c.after_read.ensures.screened x access (not_write_at c.args.ordered.now.trace.now.events.now c.args.e x _ c.op.ensures (sym c.is_write.ensures ∙ c.if-is_write.false)) (c.is_past.ensures c.if-not-is_past.false) h

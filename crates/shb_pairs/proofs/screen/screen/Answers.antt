@@ -1,8 +1,20 @@
-use Rattle.std.proofs.Common.{◌≡◌, true, false, Some, subst, sym, ◌∙◌}
-use Rattle.shb_links.proofs.Owners.{access_item, apart, shared_same, variable_item, variable_sized}
+use Rattle.std.proofs.Common.{◌≡◌, true, false, Some, arith, subst, sym, ◌∙◌}
+use Rattle.shb_links.proofs.Owners.{apart, shared_same, variable_known, variable_sized}
 use Rattle.shb_pairs.specs.Screen.{IsScreened}
 use Rattle.shb_pairs.proofs.Screening.{table_access, table_other}
 use Rattle.shb_pairs.proofs.screen.screen.Goals as goal
+
+pub index-latest-requires : goal.index-latest-requires
+index-latest-requires g c =
+    let trace = c.args.ordered.now.trace.now in
+    let low = variable_sized trace.events.now trace.sizes c.args.e c.in-Some.x trace.within (variable_known trace.events.now c.args.e _ c.op.ensures ∙ sym c.in-Some.ensures) in
+    omega (arith, low.1, c.requires.screened.as_many, c.args.table.now.ok.0)
+
+pub index_mut-requires : goal.index_mut-requires
+index_mut-requires g c =
+    let trace = c.args.ordered.now.trace.now in
+    let low = variable_sized trace.events.now trace.sizes c.args.e c.in-Some.x trace.within (variable_known trace.events.now c.args.e _ c.op.ensures ∙ sym c.in-Some.ensures) in
+    omega (arith, low.1, c.requires.screened.as_many, c.args.table.now.ok.0)
 
 pub returns-in_ok-table : goal.returns-in_ok-table
 returns-in_ok-table g c =
@@ -10,7 +22,7 @@ returns-in_ok-table g c =
     let events = trace.events.now in
     let x = c.in-Some.x in
     let reads = c.args.reads.now.items in
-    let access = access_item events c.args.e x _ c.requires.in_range c.in-Some.ensures in
+    let access = variable_known events c.args.e _ c.op.ensures ∙ sym c.in-Some.ensures in
     let low = variable_sized events trace.sizes c.args.e x trace.within access in
     let shared = (shared_same events c.args.ordered.now.links.now x _ c.args.ordered.now.linked c.is_shared.ensures).0 c.if-is_shared.true in
     table_access events reads c.after_access.new.reads.items c.args.e trace.sizes.variables x _ c.args.table.now.items c.in_ok-table.ensures.kept low.1 access (c.in_ok-table.ensures.screened x access (subst (IsScreened events reads c.args.e x) (sym c.index-latest.ensures) (c.requires.screened.each x _ low.1 shared))) c.requires.screened
@@ -20,7 +32,7 @@ returns-else-is_shared g c =
     let trace = c.args.ordered.now.trace.now in
     let events = trace.events.now in
     let x = c.in-Some.x in
-    let access = access_item events c.args.e x _ c.requires.in_range c.in-Some.ensures in
+    let access = variable_known events c.args.e _ c.op.ensures ∙ sym c.in-Some.ensures in
     let same = shared_same events c.args.ordered.now.links.now x _ c.args.ordered.now.linked c.is_shared.ensures in
     table_other events c.args.reads.now.items c.args.e trace.sizes.variables c.args.table.now.items
     (λ y shared of_e. (let s : Some y ≡ Some x = sym of_e ∙ access in let g : y ≡ x = cc in let f : true ≡ false = sym (same.1 (rw (← g) shared)) ∙ c.if-is_shared.false in let none : ⊥ = cc in none))
@@ -28,5 +40,5 @@ returns-else-is_shared g c =
 
 pub returns-in_default : goal.returns-in_default
 returns-in_default g c = table_other c.args.ordered.now.trace.now.events.now c.args.reads.now.items c.args.e c.args.ordered.now.trace.now.sizes.variables c.args.table.now.items
-    (λ x shared access. apart x (sym access ∙ (variable_item c.args.ordered.now.trace.now.events.now c.args.e _ c.requires.in_range ∙ (sym c.variable.ensures ∙ c.in_default.is))))
+    (λ x shared access. apart x (sym access ∙ (variable_known c.args.ordered.now.trace.now.events.now c.args.e _ c.op.ensures ∙ (sym c.variable.ensures ∙ c.in_default.is))))
     c.requires.screened

@@ -1,7 +1,6 @@
-use Rattle.std.proofs.Common.{◌≡◌, ℕ, [], ◌∷◌, ◌++◌, ◌<◌, ◌≤◌, length, List, subst, ap, ◌∙◌, arith}
+use Rattle.std.proofs.Common.{◌≡◌, ℕ, [], ◌∷◌, ◌++◌, ◌≤◌, length, List, subst, ap, ◌∙◌, arith}
 use Rattle.std.proofs.lemmas.List.{length_push}
-use Rattle.std.proofs.lemmas.Option.{slice_get-get_or}
-use Rattle.shb_lines.specs.declared.event.Op.TheVariants.{Read}
+use Rattle.shb_lines.proofs.events.Items.{thread_within}
 use Rattle.shb_lines.proofs.events.Listed.{listed_more_yes, listed_more_no}
 use Rattle.shb_witness.specs.Cuts.{BelowEither}
 use Rattle.shb_witness.specs.Checkpoints.{Reach}
@@ -25,7 +24,7 @@ end_of-end-requires-clause-second g c = (race_ends _ _ _ c.requires.race).1
 
 pub index-requires : goal.index-requires
 index-requires g c =
-    let low = (c.args.ordered.now.trace.now.within c.loop-k.k _ (slice_get-get_or c.args.ordered.now.trace.now.events.now c.loop-k.k record { thread = 0; op = Read 0; line = 0 } (omega arith))).thread in
+    let low = thread_within c.args.ordered.now.trace.now.events.now c.args.ordered.now.trace.now.sizes c.loop-k.k _ c.args.ordered.now.trace.now.within c.thread-thread.ensures in
     let long = c.in_ok-cuts.ensures.as_long in
     omega (arith, low, long, c.in_ok-cuts.cuts.ok.0)
 
@@ -37,7 +36,7 @@ loop-k-init g c =
     let reached = subst (λ (l : List ℕ). Reach trace c.front_of.result l) c.deref.ensures.value (c.front_of.ensures trace c.requires.points) in
     let listed =
     front_listed trace c.args.pair.first c.args.pair.second c.args.ordered.now.trace.now.sizes.threads front c.in_ok-cuts.cuts.items c.in_ok-positions.positions
-    (λ k d lt. (c.args.ordered.now.trace.now.within k _ (slice_get-get_or trace k d lt)).thread) small c.in_ok-cuts.ensures
+    (λ k t of_k. thread_within trace c.args.ordered.now.trace.now.sizes k t c.args.ordered.now.trace.now.within of_k) small c.in_ok-cuts.ensures
     (λ k t lt of. reached k t (omega (arith, lt, c.min-front.ensures)) of) c.in_ok-positions.ensures in
     record { found = listed.0; few = listed.1 }
 
@@ -45,9 +44,8 @@ pub loop-k-preserved : goal.loop-k-preserved
 loop-k-preserved g c =
     let trace = c.args.ordered.now.trace.now.events.now in
     let pair = c.args.pair in
-    let inside : c.loop-k.k < length trace = omega (arith, c.end_of-end.ensures.within) in
-    let low = (c.args.ordered.now.trace.now.within c.loop-k.k _ (slice_get-get_or trace c.loop-k.k _ inside)).thread in
-    let test = cut_test trace c.args.ordered.now.links.now pair.first pair.second c.args.ordered.now.trace.now.sizes.threads c.loop-k.k _ _ c.in_ok-cuts.cuts.items _ c.args.ordered.now.linked c.in_ok-cuts.ensures low inside c.local.ensures.time c.index.ensures in
+    let low = thread_within trace c.args.ordered.now.trace.now.sizes c.loop-k.k _ c.args.ordered.now.trace.now.within c.thread-thread.ensures in
+    let test = cut_test trace c.args.ordered.now.links.now pair.first pair.second c.args.ordered.now.trace.now.sizes.threads c.loop-k.k _ _ c.in_ok-cuts.cuts.items _ c.args.ordered.now.linked c.in_ok-cuts.ensures low c.thread-thread.ensures c.local.ensures.time c.index.ensures in
     elim c.if-below.branch [
       | then-below+in_ok-push w ↦
           (let e : c.if-below.positions ≡ c.loop-k.positions ++ c.loop-k.k ∷ [] = w.positions-is ∙ w.in_ok-push.ensures.pushed in

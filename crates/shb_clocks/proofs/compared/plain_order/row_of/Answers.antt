@@ -1,4 +1,5 @@
-use Rattle.std.proofs.Common.{List, sym, subst, arith}
+use Rattle.std.proofs.Common.{List, false, ap, sym, ◌∙◌, subst, arith}
+use Rattle.std.specs.Prelude.{replicate}
 use Rattle.shb_lines.specs.declared.event.Event.{Event}
 use Rattle.shb_lines.specs.events.Order.{IsPred}
 use Rattle.shb_lines.proofs.events.Schedulable.{pred_earlier}
@@ -18,4 +19,4 @@ returns-in_ok-marks_below-in-Some c =
     row_from_marks c.args.linked.now.events.now c.args.linked.now.meets c.args.e c.in-Some.p _ _ pred c.in_ok-marks_below-in-Some.ensures c.new.ensures
 
 pub returns-in_ok-unmarked-in-None : goal.returns-in_ok-unmarked-in-None
-returns-in_ok-unmarked-in-None c = row_without_pred c.args.linked.now.events.now c.args.e _ _ (λ p pred. c.in-None.ensures p (subst (λ (tr : List Event). IsPred tr p c.args.e) (sym c.args.linked.now.of_links) pred)) c.in_ok-unmarked-in-None.ensures c.new-in-None.ensures
+returns-in_ok-unmarked-in-None c = row_without_pred c.args.linked.now.events.now c.args.e _ _ (λ p pred. c.in-None.ensures p (subst (λ (tr : List Event). IsPred tr p c.args.e) (sym c.args.linked.now.of_links) pred)) (c.in_ok-unmarked-in-None.ensures ∙ ap (λ n. replicate n false) c.len.ensures) c.new-in-None.ensures

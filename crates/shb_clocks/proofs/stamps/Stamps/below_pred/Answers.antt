@@ -1,30 +1,25 @@
-use Rattle.std.proofs.Common.{ℕ, List, get_or, refl, arith}
+use Rattle.std.proofs.Common.{ℕ, List, refl, arith}
 use Rattle.shb_lines.specs.declared.event.Event.{Event}
-use Rattle.shb_lines.specs.declared.event.Op.TheVariants.{Read}
-use Rattle.shb_lines.proofs.events.Items.{thread_item}
 use Rattle.shb_clocks.proofs.LearnedLemmas.{local_is}
 use Rattle.shb_clocks.proofs.Locals.{time_at}
 use Rattle.shb_clocks.proofs.Counting.{count_other, count_own}
 use Rattle.shb_clocks.proofs.stamps.Stamps.below_pred.Goals as goal
 
-abbrev no_event : Event
-no_event = record { thread = 0; op = Read 0; line = 0 }
-
-pub returns-then-t-linked : goal.returns-then-t-linked
-returns-then-t-linked c =
+pub returns-then-t-thread : goal.returns-then-t-thread
+returns-then-t-thread c =
     let trace : List Event = c.args.linked.now.events.now in
-    let u : ℕ = (get_or trace c.args.e no_event).thread in
-    let of_e = thread_item trace c.args.e no_event c.requires.in_range in
+    let u : ℕ = c.thread.result in
+    let of_e = c.thread.ensures in
     let time = local_is trace c.args.linked.now.links.now c.args.e c.local.result u c.args.linked.now.of_links c.local.ensures.time of_e in
     let some = time_at trace u c.args.e of_e in
-    count_own trace trace c.args.linked.now.meets refl c.args.t u c.args.e _ of_e c.if-t-linked.true (omega (arith, time, some))
+    count_own trace trace c.args.linked.now.meets refl c.args.t u c.args.e _ of_e c.if-t-thread.true (omega (arith, time, some))
 
 pub row-requires : goal.row-requires
-row-requires c = (c.row_before.ensures _ (thread_item c.args.linked.now.events.now c.args.e no_event c.requires.in_range)).in_range
+row-requires c = (c.row_before.ensures _ c.thread.ensures).in_range
 
 pub returns : goal.returns
 returns c =
     let trace : List Event = c.args.linked.now.events.now in
-    let u : ℕ = (get_or trace c.args.e no_event).thread in
-    let before = c.row_before.ensures u (thread_item trace c.args.e no_event c.requires.in_range) in
-    count_other trace trace c.args.self.now.rows.rows c.args.e u c.args.t c.row_before.result c.entry.result c.row.result.now refl before c.row.ensures.row c.if-t-linked.false c.entry.ensures
+    let u : ℕ = c.thread.result in
+    let before = c.row_before.ensures u c.thread.ensures in
+    count_other trace trace c.args.self.now.rows.rows c.args.e u c.args.t c.row_before.result c.entry.result c.row.result.now refl before c.row.ensures.row c.if-t-thread.false c.entry.ensures

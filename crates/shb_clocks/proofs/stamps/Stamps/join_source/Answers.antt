@@ -1,21 +1,22 @@
 use Rattle.std.proofs.Common.{List, length, refl, subst, arith}
 use Rattle.shb_lines.specs.declared.event.Event.{Event}
+use Rattle.shb_lines.proofs.events.Items.{op_within_at}
 use Rattle.shb_links.specs.Latest.{IsLatestBefore, OfThread}
 use Rattle.shb_clocks.proofs.LearnedLemmas.{local_is}
-use Rattle.shb_clocks.proofs.StampItems.{current_item, op_low}
+use Rattle.shb_clocks.proofs.StampItems.{current_item}
 use Rattle.shb_clocks.proofs.Stamping.{source_join}
 use Rattle.shb_clocks.proofs.stamps.Stamps.join_source.Goals as goal
 
 pub index-requires : goal.index-requires
 index-requires c =
-    let low = op_low c.args.linked.now.events.now c.args.linked.now.sizes c.args.e _ c.args.linked.now.within c.requires.joins in
+    let low = op_within_at c.args.linked.now.events.now c.args.linked.now.sizes c.args.e _ c.args.linked.now.within c.requires.joins in
     let many = c.requires.swept.current.as_many in
     omega (arith, low, many)
 
 pub returns-in-Some : goal.returns-in-Some
 returns-in-Some c =
     let trace : List Event = c.args.linked.now.events.now in
-    let low = op_low trace c.args.linked.now.sizes c.args.e _ c.args.linked.now.within c.requires.joins in
+    let low = op_within_at trace c.args.linked.now.sizes c.args.e _ c.args.linked.now.within c.requires.joins in
     let latest : IsLatestBefore (OfThread trace c.args.thread) (length trace) c.in-Some.last = subst (λ (tr : List Event). IsLatestBefore (OfThread tr c.args.thread) (length tr) c.in-Some.last) c.args.linked.now.of_links c.in-Some.ensures in
     source_join trace c.args.linked.now.meets c.args.self.now.rows.rows c.args.e c.args.thread c.in-Some.last _ c.requires.joins latest refl
     (local_is trace c.args.linked.now.links.now c.in-Some.last c.local.result c.args.thread c.args.linked.now.of_links c.local.ensures.time latest.holds)

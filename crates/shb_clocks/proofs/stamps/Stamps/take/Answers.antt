@@ -1,7 +1,5 @@
-use Rattle.std.proofs.Common.{ℕ, List, get_or, ◌∙◌, arith}
+use Rattle.std.proofs.Common.{ℕ, List, ◌∙◌, arith}
 use Rattle.shb_lines.specs.declared.event.Event.{Event}
-use Rattle.shb_lines.specs.declared.event.Op.TheVariants.{Read}
-use Rattle.shb_lines.proofs.events.Items.{thread_item}
 use Rattle.shb_links.specs.Latest.{ReleasesLock}
 use Rattle.shb_clocks.specs.Stamps.{WritesShared}
 use Rattle.shb_clocks.specs.Stamps.{IsStampOf}
@@ -10,14 +8,11 @@ use Rattle.shb_clocks.proofs.LearnedLemmas.{local_is}
 use Rattle.shb_clocks.proofs.Stamping.{more_chain, stamp_more, stamps_more}
 use Rattle.shb_clocks.proofs.stamps.Stamps.take.Goals as goal
 
-abbrev no_event : Event
-no_event = record { thread = 0; op = Read 0; line = 0 }
-
 pub pass_on-requires-clause-stamp : goal.pass_on-requires-clause-stamp
 pass_on-requires-clause-stamp c =
     let trace : List Event = c.args.linked.now.events.now in
-    let of_e = thread_item trace c.args.e no_event c.requires.in_range in
-    let u : ℕ = (get_or trace c.args.e no_event).thread in
+    let of_e = c.thread-thread.ensures in
+    let u : ℕ = c.thread-thread.result in
     record { of_thread = of_e; time_is = local_is trace c.args.linked.now.links.now c.args.e c.local.result u c.args.linked.now.of_links c.local.ensures.time of_e; row_is = c.in_ok-row.ensures.row u of_e }
 
 pub returns-clause-swept : goal.returns-clause-swept
@@ -29,8 +24,8 @@ returns-clause-swept c =
     let second = c.in_ok-pass_on.ensures.grown in
     let rows = c.args.self.now.rows.rows in
     let grown = more_chain rows c.row_after.new.rows.rows c.pass_on.new.rows.rows first.more second.more in
-    let of_e = thread_item trace c.args.e no_event c.requires.in_range in
-    let u : ℕ = (get_or trace c.args.e no_event).thread in
+    let of_e = c.thread-thread.ensures in
+    let u : ℕ = c.thread-thread.result in
     let stamp : Stamp = record { row = c.in_ok-row.row; thread = u; time = c.local.result } in
     let is : IsStampOf trace c.row_after.new.rows.rows c.args.e stamp = record { of_thread = of_e; time_is = local_is trace c.args.linked.now.links.now c.args.e c.local.result u c.args.linked.now.of_links c.local.ensures.time of_e; row_is = c.in_ok-row.ensures.row u of_e } in
     let kept = stamp_more trace c.row_after.new.rows.rows c.pass_on.new.rows.rows c.args.e stamp second.more is in

@@ -45,14 +45,14 @@ returns-then-len-limits-clause-fault c = λ lines h.
     let event = gives (part c.args.text.now c.args.start c.args.end) c.without_carriage_return-bytes.result.now _ (Ok (Some (named c.in-Ok-Some.found))) c.without_carriage_return-bytes.ensures.value c.in-Ok-Some.ensures.meaning (ap (λ o. meaning_of (Ok o)) c.in-Ok-Some.field-0-is) in
     let self = c.args.self.now in
     too_many_events c.args.limits.now _ (events_of lines) _ (denied _ _ c.passes_limit.ensures.1 c.if-passes_limit.false)
-    c.if-raw-limits.false _ event (omega (arith, length-events_of _ _ lines h, self.events.ok.0, c.len.ensures, c.if-len-limits.true))
+    c.if-raw-limits.false _ event (omega (arith, length-events_of _ _ lines h, c.len.ensures, c.if-len-limits.true))
 
 pub returns-then-has_too_many_threads-clause-fault : goal.returns-then-has_too_many_threads-clause-fault
 returns-then-has_too_many_threads-clause-fault c = λ lines h.
     let event = gives (part c.args.text.now c.args.start c.args.end) c.without_carriage_return-bytes.result.now _ (Ok (Some (named c.in-Ok-Some.found))) c.without_carriage_return-bytes.ensures.value c.in-Ok-Some.ensures.meaning (ap (λ o. meaning_of (Ok o)) c.in-Ok-Some.field-0-is) in
     let self = c.args.self.now in
     too_many_threads c.args.limits.now _ (events_of lines) _ (denied _ _ c.passes_limit.ensures.1 c.if-passes_limit.false)
-    c.if-raw-limits.false _ event (omega (arith, length-events_of _ _ lines h, self.events.ok.0, c.len.ensures, c.if-len-limits.false))
+    c.if-raw-limits.false _ event (omega (arith, length-events_of _ _ lines h, c.len.ensures, c.if-len-limits.false))
     (more_threads _ _ _ (length-threads_of _ _ lines (named c.in-Ok-Some.found) h) (sym c.has_too_many_threads.ensures ∙ c.if-has_too_many_threads.true))
 
 pub returns-clause-fault : goal.returns-clause-fault
@@ -60,7 +60,7 @@ returns-clause-fault c = λ lines h.
     let event = gives (part c.args.text.now c.args.start c.args.end) c.without_carriage_return-bytes.result.now _ (Ok (Some (named c.in-Ok-Some.found))) c.without_carriage_return-bytes.ensures.value c.in-Ok-Some.ensures.meaning (ap (λ o. meaning_of (Ok o)) c.in-Ok-Some.field-0-is) in
     let self = c.args.self.now in
     accepted c.args.limits.now _ (events_of lines) _ (denied _ _ c.passes_limit.ensures.1 c.if-passes_limit.false)
-    c.if-raw-limits.false _ event (omega (arith, length-events_of _ _ lines h, self.events.ok.0, c.len.ensures, c.if-len-limits.false))
+    c.if-raw-limits.false _ event (omega (arith, length-events_of _ _ lines h, c.len.ensures, c.if-len-limits.false))
     (few_threads _ _ _ (length-threads_of _ _ lines (named c.in-Ok-Some.found) h) (sym c.has_too_many_threads.ensures ∙ c.if-has_too_many_threads.false))
 
 pub returns-clause-read : goal.returns-clause-read

@@ -1,5 +1,5 @@
 -- The lines before the offset at which the next one begins are read, and have no fault.
-use Rattle.std.proofs.Common.{◌+◌, ◌-◌, ◌<◌, ◌≤◌, length, take, vec_len}
+use Rattle.std.proofs.Common.{◌+◌, ◌-◌, ◌<◌, ◌≤◌, length, take}
 use Rattle.shb_lines.specs.text.Faults.{HasNoLineFaultBefore}
 use Rattle.shb_lines.specs.text.Parsed.{HasRead}
 use Rattle.shb_lines.specs.text.Reader.{HasRoom}
@@ -12,7 +12,8 @@ invariant-loop-start l = record {
   counted : l.line ≤ l.start;
   within : l.start ≤ length l.text + 1;
   room : HasRoom l.self;
-  few : vec_len l.self.events ≤ l.limits.events;
+  each : length l.self.events ≤ l.line;
+  few : length l.self.events ≤ l.limits.events;
   begins : IsStart l.text l.line l.start;
   read : HasRead l.text l.self (take l.line (lines_of l.text));
   faultless : HasNoLineFaultBefore l.limits l.text l.line;

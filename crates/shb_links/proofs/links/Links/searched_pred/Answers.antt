@@ -1,8 +1,6 @@
-use Rattle.std.proofs.Common.{ℕ, ◌<◌, List, Option, ap, get_or, length, subst, sym, arith}
+use Rattle.std.proofs.Common.{List, subst, sym}
 use Rattle.shb_lines.specs.declared.event.Event.{Event}
-use Rattle.shb_lines.specs.declared.event.Op.TheVariants.{Read}
 use Rattle.shb_lines.specs.events.Order.{IsPred}
-use Rattle.shb_lines.proofs.events.Items.{thread_item}
 use Rattle.shb_links.specs.Latest.{ForksThread}
 use Rattle.shb_links.specs.Links.{Exactly}
 use Rattle.std.specs.Option.{option_or}
@@ -13,10 +11,7 @@ pub returns : goal.returns
 returns c =
     let trace = c.self.inside.trace.now in
     let same = c.self.view_is in
-    let size = ap length same in
-    let inside : c.args.e < length trace.events.now = omega (arith, size, c.requires) in
-    let d : Event = record { thread = 0; op = Read 0; line = 0 } in
-    let t = (get_or trace.events.now c.args.e d).thread in
+    let t = c.thread-thread.result in
     let forked = subst (λ (tr : List Event). Exactly (ForksThread tr t) c.forked_by.result) (sym same) c.forked_by.ensures in
     rw c.or.ensures (subst (λ (tr : List Event). Exactly (λ p. IsPred tr p c.args.e) (option_or c.latest_of_thread-last.result c.forked_by.result)) same
-    (pred_by_fork trace.events.now c.args.e t (thread_item trace.events.now c.args.e d inside) trace.meets c.latest_of_thread-last.result c.forked_by.result c.latest_of_thread-last.ensures forked))
+    (pred_by_fork trace.events.now c.args.e t c.thread-thread.ensures trace.meets c.latest_of_thread-last.result c.forked_by.result c.latest_of_thread-last.ensures forked))

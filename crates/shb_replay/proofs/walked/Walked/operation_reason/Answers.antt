@@ -3,8 +3,7 @@ use Rattle.std.proofs.lemmas.Option.{slice_get-get_or, slice_get_read}
 use Rattle.shb_lines.specs.declared.event.Event.{Event}
 use Rattle.shb_lines.specs.declared.event.Op.TheVariants.{Read, Fork}
 use Rattle.shb_lines.specs.events.Order.{LastWrite}
-use Rattle.shb_lines.proofs.events.Items.{op_item}
-use Rattle.shb_links.proofs.Tables.{op_within}
+use Rattle.shb_lines.proofs.events.Items.{op_within_at}
 use Rattle.shb_links.specs.Latest.{Latest, OfThread}
 use Rattle.shb_links.specs.Links.{Exactly}
 use Rattle.shb_replay.specs.Reasons.{HasReason}
@@ -14,12 +13,23 @@ use Rattle.shb_replay.proofs.OrderReasons.{at_index, flag_false, flag_true}
 use Rattle.shb_replay.proofs.OperationReasons.{fork_no_reason, fork_reason, handover_in_trace, handover_is, join_no_reason, join_reason, lock_no_reason, lock_reason, options_differ, options_same, other_operation, read_no_reason, read_reason, write_is}
 use Rattle.shb_replay.proofs.walked.Walked.operation_reason.Goals as goal
 
+pub index-requires : goal.index-requires
+index-requires c =
+    let trace = c.args.rules.now.linked in
+    let low : c.in-Fork.thread < trace.sizes.threads = op_within_at trace.events.now trace.sizes _ (Fork c.in-Fork.thread) trace.within (c.op.ensures ∙ ap (λ o. Some o) c.in-Fork.is) in
+    omega (arith, low, c.requires.walked.joined.as_long, c.args.self.now.joined.ok.0)
+
+pub index-requires-in-Acquire : goal.index-requires-in-Acquire
+index-requires-in-Acquire c =
+    let lt = c.requires.in_trace _ (slice_get-get_or c.args.list.now c.args.at 0 c.requires.at) in
+    omega (arith, lt, c.requires.rules.as_long, c.args.rules.now.handovers.ok.0)
+
 pub lacks-requires-in-Acquire : goal.lacks-requires-in-Acquire
 lacks-requires-in-Acquire c =
     let trace = c.args.rules.now.linked in
     let x = slice_index_or c.args.list.now c.args.at 0 in
     let lt = c.requires.in_trace _ (slice_get-get_or c.args.list.now c.args.at 0 c.requires.at) in
-    let takes = op_item trace.events.now x _ lt ∙ ap (λ o. Some o) c.in-Acquire.is in
+    let takes = c.op.ensures ∙ ap (λ o. Some o) c.in-Acquire.is in
     let long = c.requires.walked.stands.as_long in
     let len = c.args.self.now.stands.ok.0 in
     handover_in_trace trace.events.now c.in-Acquire.field-0 x c.args.self.now.stands.len c.index-in-Acquire.result.now (handover_is trace.events.now (length trace.events.now) x c.in-Acquire.field-0 c.args.rules.now.handovers.items c.index-in-Acquire.result.now c.requires.rules lt takes c.index-in-Acquire.ensures) (omega (arith, lt, long, len))
@@ -28,7 +38,7 @@ pub index-requires-in-Read : goal.index-requires-in-Read
 index-requires-in-Read c =
     let trace = c.args.rules.now.linked in
     let lt = c.requires.in_trace _ (slice_get-get_or c.args.list.now c.args.at 0 c.requires.at) in
-    let low : c.in-Read.variable < trace.sizes.variables = op_within trace.events.now trace.sizes _ _ (Read c.in-Read.variable) trace.within lt c.in-Read.is in
+    let low : c.in-Read.variable < trace.sizes.variables = op_within_at trace.events.now trace.sizes _ (Read c.in-Read.variable) trace.within (c.op.ensures ∙ ap (λ o. Some o) c.in-Read.is) in
     let long = c.requires.walked.writes.as_long in
     let len = c.args.self.now.writes.ok.0 in
     omega (arith, low, long, len)
@@ -46,7 +56,7 @@ returns-then-lacks c =
     let p = c.args.at in
     let x = slice_index_or s p 0 in
     let lt = c.requires.in_trace _ (slice_get-get_or s p 0 c.requires.at) in
-    let joins = op_item trace.events.now x _ lt ∙ ap (λ o. Some o) c.in-Join.is in
+    let joins = c.op.ensures ∙ ap (λ o. Some o) c.in-Join.is in
     let latest = subst (λ (tr : List Event). Latest (OfThread tr c.in-Join.thread) (length tr) c.last_of.result) trace.of_links c.last_of.ensures in
     let lacks = subst (λ (b : Bool). TellsLack s p c.last_of.result b) c.if-lacks.true (c.lacks.ensures s p (length trace.events.now) c.requires.walked.stands) in
     at_index (λ e. IsLowestIn 5 8 (HasReason trace.events.now s p e) (Some whys.JoinEarly)) s p (join_reason trace.events.now trace.meets s p c.requires.unbroken x c.in-Join.thread c.last_of.result joins latest lacks)
@@ -58,7 +68,7 @@ returns-else-lacks c =
     let p = c.args.at in
     let x = slice_index_or s p 0 in
     let lt = c.requires.in_trace _ (slice_get-get_or s p 0 c.requires.at) in
-    let joins = op_item trace.events.now x _ lt ∙ ap (λ o. Some o) c.in-Join.is in
+    let joins = c.op.ensures ∙ ap (λ o. Some o) c.in-Join.is in
     let latest = subst (λ (tr : List Event). Latest (OfThread tr c.in-Join.thread) (length tr) c.last_of.result) trace.of_links c.last_of.ensures in
     let all = subst (λ (b : Bool). TellsLack s p c.last_of.result b) c.if-lacks.false (c.lacks.ensures s p (length trace.events.now) c.requires.walked.stands) in
     at_index (λ e. IsLowestIn 5 8 (HasReason trace.events.now s p e) None) s p (join_no_reason trace.events.now trace.meets s p c.requires.unbroken x c.in-Join.thread c.last_of.result joins latest all)
@@ -71,8 +81,8 @@ returns-then-index c =
     let p = c.args.at in
     let x = slice_index_or s p 0 in
     let lt = c.requires.in_trace _ (slice_get-get_or s p 0 c.requires.at) in
-    let forks = op_item trace.events.now x _ lt ∙ ap (λ o. Some o) c.in-Fork.is in
-    let within : c.in-Fork.thread < trace.sizes.threads = op_within trace.events.now trace.sizes x _ (Fork c.in-Fork.thread) trace.within lt c.in-Fork.is in
+    let forks = c.op.ensures ∙ ap (λ o. Some o) c.in-Fork.is in
+    let within : c.in-Fork.thread < trace.sizes.threads = op_within_at trace.events.now trace.sizes _ (Fork c.in-Fork.thread) trace.within (c.op.ensures ∙ ap (λ o. Some o) c.in-Fork.is) in
     let long = c.requires.walked.joined.as_long in
     let flag = slice_get_read joined.items joined.len c.in-Fork.thread c.index.result.now joined.ok.0 (let len = joined.ok.0 in omega (arith, within, long, len)) c.index.ensures in
     let stands = flag_true (JoinStands trace.events.now s p) trace.sizes.threads c.in-Fork.thread joined.items c.index.result.now c.requires.walked.joined flag c.if-index.true in
@@ -86,8 +96,8 @@ returns-else-index c =
     let p = c.args.at in
     let x = slice_index_or s p 0 in
     let lt = c.requires.in_trace _ (slice_get-get_or s p 0 c.requires.at) in
-    let forks = op_item trace.events.now x _ lt ∙ ap (λ o. Some o) c.in-Fork.is in
-    let within : c.in-Fork.thread < trace.sizes.threads = op_within trace.events.now trace.sizes x _ (Fork c.in-Fork.thread) trace.within lt c.in-Fork.is in
+    let forks = c.op.ensures ∙ ap (λ o. Some o) c.in-Fork.is in
+    let within : c.in-Fork.thread < trace.sizes.threads = op_within_at trace.events.now trace.sizes _ (Fork c.in-Fork.thread) trace.within (c.op.ensures ∙ ap (λ o. Some o) c.in-Fork.is) in
     let long = c.requires.walked.joined.as_long in
     let flag = slice_get_read joined.items joined.len c.in-Fork.thread c.index.result.now joined.ok.0 (let len = joined.ok.0 in omega (arith, within, long, len)) c.index.ensures in
     let none = flag_false (JoinStands trace.events.now s p) trace.sizes.threads c.in-Fork.thread joined.items c.index.result.now c.requires.walked.joined flag c.if-index.false in
@@ -100,7 +110,7 @@ returns-then-lacks-2 c =
     let p = c.args.at in
     let x = slice_index_or s p 0 in
     let lt = c.requires.in_trace _ (slice_get-get_or s p 0 c.requires.at) in
-    let takes = op_item trace.events.now x _ lt ∙ ap (λ o. Some o) c.in-Acquire.is in
+    let takes = c.op.ensures ∙ ap (λ o. Some o) c.in-Acquire.is in
     let latest = handover_is trace.events.now (length trace.events.now) x c.in-Acquire.field-0 c.args.rules.now.handovers.items c.index-in-Acquire.result.now c.requires.rules lt takes c.index-in-Acquire.ensures in
     let lacks = subst (λ (b : Bool). TellsLack s p c.index-in-Acquire.result.now b) c.if-lacks-2.true (c.lacks-in-Acquire.ensures s p (length trace.events.now) c.requires.walked.stands) in
     at_index (λ e. IsLowestIn 5 8 (HasReason trace.events.now s p e) (Some whys.LockOrder)) s p (lock_reason trace.events.now trace.meets s p c.requires.unbroken x c.in-Acquire.field-0 c.index-in-Acquire.result.now takes latest lacks)
@@ -112,7 +122,7 @@ returns-else-lacks-2 c =
     let p = c.args.at in
     let x = slice_index_or s p 0 in
     let lt = c.requires.in_trace _ (slice_get-get_or s p 0 c.requires.at) in
-    let takes = op_item trace.events.now x _ lt ∙ ap (λ o. Some o) c.in-Acquire.is in
+    let takes = c.op.ensures ∙ ap (λ o. Some o) c.in-Acquire.is in
     let latest = handover_is trace.events.now (length trace.events.now) x c.in-Acquire.field-0 c.args.rules.now.handovers.items c.index-in-Acquire.result.now c.requires.rules lt takes c.index-in-Acquire.ensures in
     let all = subst (λ (b : Bool). TellsLack s p c.index-in-Acquire.result.now b) c.if-lacks-2.false (c.lacks-in-Acquire.ensures s p (length trace.events.now) c.requires.walked.stands) in
     at_index (λ e. IsLowestIn 5 8 (HasReason trace.events.now s p e) None) s p (lock_no_reason trace.events.now trace.meets s p c.requires.unbroken x c.in-Acquire.field-0 c.index-in-Acquire.result.now takes latest all)
@@ -124,8 +134,8 @@ returns-then-eq c =
     let p = c.args.at in
     let x = slice_index_or s p 0 in
     let lt = c.requires.in_trace _ (slice_get-get_or s p 0 c.requires.at) in
-    let reads = op_item trace.events.now x _ lt ∙ ap (λ o. Some o) c.in-Read.is in
-    let within : c.in-Read.variable < trace.sizes.variables = op_within trace.events.now trace.sizes x _ (Read c.in-Read.variable) trace.within lt c.in-Read.is in
+    let reads = c.op.ensures ∙ ap (λ o. Some o) c.in-Read.is in
+    let within : c.in-Read.variable < trace.sizes.variables = op_within_at trace.events.now trace.sizes _ (Read c.in-Read.variable) trace.within (c.op.ensures ∙ ap (λ o. Some o) c.in-Read.is) in
     let latest = write_is trace.events.now s p trace.sizes.variables c.in-Read.variable c.args.self.now.writes.items c.index-in-Read.result.now c.requires.walked.writes within c.index-in-Read.ensures in
     let last = subst (λ (tr : List Event). Exactly (λ w. LastWrite tr w x) c.last_write.result) c.args.rules.now.linked.of_links c.last_write.ensures in
     at_index (λ e. IsLowestIn 5 8 (HasReason trace.events.now s p e) None) s p (read_no_reason trace.events.now trace.meets s p c.requires.unbroken x c.in-Read.variable c.index-in-Read.result.now c.last_write.result reads latest last (options_same c.index-in-Read.result.now c.last_write.result c.if-eq.ensures))
@@ -137,8 +147,8 @@ returns-else-eq c =
     let p = c.args.at in
     let x = slice_index_or s p 0 in
     let lt = c.requires.in_trace _ (slice_get-get_or s p 0 c.requires.at) in
-    let reads = op_item trace.events.now x _ lt ∙ ap (λ o. Some o) c.in-Read.is in
-    let within : c.in-Read.variable < trace.sizes.variables = op_within trace.events.now trace.sizes x _ (Read c.in-Read.variable) trace.within lt c.in-Read.is in
+    let reads = c.op.ensures ∙ ap (λ o. Some o) c.in-Read.is in
+    let within : c.in-Read.variable < trace.sizes.variables = op_within_at trace.events.now trace.sizes _ (Read c.in-Read.variable) trace.within (c.op.ensures ∙ ap (λ o. Some o) c.in-Read.is) in
     let latest = write_is trace.events.now s p trace.sizes.variables c.in-Read.variable c.args.self.now.writes.items c.index-in-Read.result.now c.requires.walked.writes within c.index-in-Read.ensures in
     let last = subst (λ (tr : List Event). Exactly (λ w. LastWrite tr w x) c.last_write.result) c.args.rules.now.linked.of_links c.last_write.ensures in
     at_index (λ e. IsLowestIn 5 8 (HasReason trace.events.now s p e) (Some whys.LastWrite)) s p (read_reason trace.events.now trace.meets s p c.requires.unbroken x c.in-Read.variable c.index-in-Read.result.now c.last_write.result reads latest last (options_differ c.index-in-Read.result.now c.last_write.result c.if-eq.ensures))
@@ -150,4 +160,4 @@ returns-in_default c =
     let p = c.args.at in
     let x = slice_index_or s p 0 in
     let lt = c.requires.in_trace _ (slice_get-get_or s p 0 c.requires.at) in
-    at_index (λ e. IsLowestIn 5 8 (HasReason trace.events.now s p e) None) s p (other_operation trace.events.now trace.meets s p c.requires.unbroken x _ (op_item trace.events.now x _ lt) c.in_default.not-Join c.in_default.not-Fork c.in_default.not-Acquire c.in_default.not-Read)
+    at_index (λ e. IsLowestIn 5 8 (HasReason trace.events.now s p e) None) s p (other_operation trace.events.now trace.meets s p c.requires.unbroken x _ c.op.ensures c.in_default.not-Join c.in_default.not-Fork c.in_default.not-Acquire c.in_default.not-Read)

@@ -36,36 +36,34 @@ returns-then-index c =
     at_index (λ e. IsLowestIn 3 4 (HasReason trace.events.now c.args.list.now c.args.at e) None) c.args.list.now c.args.at
     (order_standing trace.events.now trace.meets c.args.list.now c.args.at x c.in-Some.p pred (flag_true (StandsEarlier c.args.list.now c.args.at) (length trace.events.now) c.in-Some.p stands.items c.index.result.now c.requires.walked.stands flag c.if-index.true))
 
-pub bounds-linked-p : goal.bounds-linked-p
-bounds-linked-p c =
+pub thread-requires : goal.thread-requires
+thread-requires c =
     let x = slice_index_or c.args.list.now c.args.at 0 in
     pred_in_trace c.args.linked.now.events.now c.in-Some.p x (link_is (λ events b. IsPred events b x) c.args.linked.now.events.now c.args.linked.now.links.now c.pred.result c.in-Some.p c.args.linked.now.of_links c.pred.ensures c.in-Some.is)
 
-pub bounds-linked-e : goal.bounds-linked-e
-bounds-linked-e c = c.requires.in_trace _ (slice_get-get_or c.args.list.now c.args.at 0 c.requires.at)
+pub thread-requires-2 : goal.thread-requires-2
+thread-requires-2 c = c.requires.in_trace _ (slice_get-get_or c.args.list.now c.args.at 0 c.requires.at)
 
-pub returns-then-linked-p : goal.returns-then-linked-p
-returns-then-linked-p c =
+pub returns-then-thread : goal.returns-then-thread
+returns-then-thread c =
     let trace = c.args.linked.now in
     let stands = c.args.self.now.stands in
     let x = slice_index_or c.args.list.now c.args.at 0 in
     let pred = link_is (λ events b. IsPred events b x) trace.events.now c.args.linked.now.links.now c.pred.result c.in-Some.p c.args.linked.now.of_links c.pred.ensures c.in-Some.is in
     let low = pred_in_trace trace.events.now c.in-Some.p x pred in
-    let lt = c.requires.in_trace _ (slice_get-get_or c.args.list.now c.args.at 0 c.requires.at) in
     let long = c.requires.walked.stands.as_long in
     let flag = slice_get_read stands.items stands.len c.in-Some.p c.index.result.now stands.ok.0 (let len = stands.ok.0 in omega (arith, low, long, len)) c.index.ensures in
     at_index (λ e. IsLowestIn 3 4 (HasReason trace.events.now c.args.list.now c.args.at e) (Some whys.ThreadOrder)) c.args.list.now c.args.at
-    (order_thread trace.events.now trace.meets c.args.list.now c.args.at x c.in-Some.p pred (flag_false (StandsEarlier c.args.list.now c.args.at) (length trace.events.now) c.in-Some.p stands.items c.index.result.now c.requires.walked.stands flag c.if-index.false) (threads_same trace.events.now c.in-Some.p x _ low lt c.if-linked-p.true))
+    (order_thread trace.events.now trace.meets c.args.list.now c.args.at x c.in-Some.p pred (flag_false (StandsEarlier c.args.list.now c.args.at) (length trace.events.now) c.in-Some.p stands.items c.index.result.now c.requires.walked.stands flag c.if-index.false) (threads_same trace.events.now c.in-Some.p x _ _ c.thread.ensures c.thread-2.ensures c.if-thread.true))
 
-pub returns-else-linked-p : goal.returns-else-linked-p
-returns-else-linked-p c =
+pub returns-else-thread : goal.returns-else-thread
+returns-else-thread c =
     let trace = c.args.linked.now in
     let stands = c.args.self.now.stands in
     let x = slice_index_or c.args.list.now c.args.at 0 in
     let pred = link_is (λ events b. IsPred events b x) trace.events.now c.args.linked.now.links.now c.pred.result c.in-Some.p c.args.linked.now.of_links c.pred.ensures c.in-Some.is in
     let low = pred_in_trace trace.events.now c.in-Some.p x pred in
-    let lt = c.requires.in_trace _ (slice_get-get_or c.args.list.now c.args.at 0 c.requires.at) in
     let long = c.requires.walked.stands.as_long in
     let flag = slice_get_read stands.items stands.len c.in-Some.p c.index.result.now stands.ok.0 (let len = stands.ok.0 in omega (arith, low, long, len)) c.index.ensures in
     at_index (λ e. IsLowestIn 3 4 (HasReason trace.events.now c.args.list.now c.args.at e) (Some whys.ForkMissing)) c.args.list.now c.args.at
-    (order_fork trace.events.now trace.meets c.args.list.now c.args.at x c.in-Some.p pred (flag_false (StandsEarlier c.args.list.now c.args.at) (length trace.events.now) c.in-Some.p stands.items c.index.result.now c.requires.walked.stands flag c.if-index.false) (threads_differ trace.events.now c.in-Some.p x _ low lt c.if-linked-p.false))
+    (order_fork trace.events.now trace.meets c.args.list.now c.args.at x c.in-Some.p pred (flag_false (StandsEarlier c.args.list.now c.args.at) (length trace.events.now) c.in-Some.p stands.items c.index.result.now c.requires.walked.stands flag c.if-index.false) (threads_differ trace.events.now c.in-Some.p x _ _ c.thread.ensures c.thread-2.ensures c.if-thread.false))

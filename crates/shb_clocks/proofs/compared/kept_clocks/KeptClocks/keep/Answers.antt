@@ -1,27 +1,28 @@
-use Rattle.std.proofs.Common.{ℕ, [], ◌∷◌, ◌++◌, get_or, ap, subst, sym, ◌∙◌, arith}
-use Rattle.std.proofs.lemmas.Option.{slice_get-get_or}
-use Rattle.shb_lines.specs.declared.event.Event.{Event}
-use Rattle.shb_lines.specs.declared.event.Op.TheVariants.{Read}
+use Rattle.std.proofs.Common.{ℕ, [], ◌∷◌, ◌++◌, ap, subst, sym, ◌∙◌, arith}
 use Rattle.shb_lines.specs.events.Order.{ShbBelow}
-use Rattle.shb_lines.proofs.events.Items.{thread_item}
+use Rattle.shb_lines.proofs.events.Items.{thread_within}
 use Rattle.shb_clocks.specs.Learned.{IsFrontBut}
 use Rattle.shb_clocks.specs.Rows.{AreMore}
 use Rattle.shb_clocks.proofs.LearnedLemmas.{kept_item, kept_push, all_kept_push, local_is}
 use Rattle.shb_clocks.proofs.compared.kept_clocks.KeptClocks.keep.Goals as goal
 
+pub index-requires : goal.index-requires
+index-requires c =
+    let low = thread_within c.args.linked.now.events.now c.args.linked.now.sizes c.args.e _ c.args.linked.now.within c.thread-thread.ensures in
+    let many = c.requires.kept.as_many in
+    omega (arith, low, many)
+
 pub index_mut-requires : goal.index_mut-requires
 index_mut-requires c =
-    let d : Event = record { thread = 0; op = Read 0; line = 0 } in
-    let low = (c.args.linked.now.within c.args.e _ (slice_get-get_or c.args.linked.now.events.now c.args.e d c.requires.in_range)).thread in
+    let low = thread_within c.args.linked.now.events.now c.args.linked.now.sizes c.args.e _ c.args.linked.now.within c.thread-thread.ensures in
     let many = c.requires.kept.as_many in
     omega (arith, low, many)
 
 pub returns : goal.returns
 returns c =
-    let d : Event = record { thread = 0; op = Read 0; line = 0 } in
-    let u = (get_or c.args.linked.now.events.now c.args.e d).thread in
-    let of_e = thread_item c.args.linked.now.events.now c.args.e d c.requires.in_range in
-    let low = (c.args.linked.now.within c.args.e _ (slice_get-get_or c.args.linked.now.events.now c.args.e d c.requires.in_range)).thread in
+    let u = c.thread-thread.result in
+    let of_e = c.thread-thread.ensures in
+    let low = thread_within c.args.linked.now.events.now c.args.linked.now.sizes c.args.e _ c.args.linked.now.within c.thread-thread.ensures in
     let old = kept_item c.args.linked.now.events.now c.args.e u c.args.linked.now.sizes.threads c.args.self.now.rows _ _ c.requires.kept low c.index_mut.ensures.value in
     let time = local_is c.args.linked.now.events.now c.args.linked.now.links.now c.args.e c.local.result u c.args.linked.now.of_links c.local.ensures.time of_e in
     let more = c.in_ok-row.ensures.more in

@@ -1,8 +1,5 @@
 use Rattle.std.proofs.Common.{ℕ, List, get_or, ap, ◌∙◌, arith}
-use Rattle.shb_lines.specs.declared.event.Event.{Event}
-use Rattle.shb_lines.specs.declared.event.Op.TheVariants.{Read}
 use Rattle.shb_lines.specs.events.Order.{ShbBelow}
-use Rattle.shb_lines.proofs.events.Items.{thread_item}
 use Rattle.shb_clocks.proofs.LearnedLemmas.{local_is}
 use Rattle.shb_clocks.proofs.PastLemmas.{front_learns, front_known_write, read_learns}
 use Rattle.shb_clocks.proofs.compared.learned_past.LearnedPast.learn_write.Goals as goal
@@ -16,11 +13,10 @@ returns-then-entry-local-clause-front c =
 
 pub returns-else-entry-local-clause-front : goal.returns-else-entry-local-clause-front
 returns-else-entry-local-clause-front c =
-    let d : Event = record { thread = 0; op = Read 0; line = 0 } in
-    let u : ℕ = (get_or c.args.linked.now.events.now c.args.write d).thread in
+    let u : ℕ = c.thread-thread.result in
     let earlier = c.requires.write.earlier in
     let range = c.requires.in_range in
-    let of_w = thread_item c.args.linked.now.events.now c.args.write d (omega (arith, earlier, range)) in
+    let of_w = c.thread-thread.ensures in
     let time = local_is c.args.linked.now.events.now c.args.linked.now.links.now c.args.write c.local.result u c.args.linked.now.of_links c.local.ensures.time of_w in
     let fails = c.if-entry-local.false in
     let seen = c.entry.ensures ∙ ap (λ (xs : List ℕ). get_or xs u 0) c.as_slice.ensures in

@@ -1,0 +1,16 @@
+-- The thread is that of the stored event.
+use Rattle.std.proofs.Common.{Some, ap, arith, length, option_and_then, sym, ◌∙◌}
+use Rattle.shb_lines.specs.declared.event.Event.{Event}
+use Rattle.shb_lines.specs.events.Events.{thread_at}
+use Rattle.shb_lines.proofs.text.StoredEvents.{event_at, length-events_in}
+use Rattle.shb_lines.proofs.stored.Events.thread.Goals as goal
+
+pub index-requires : goal.index-requires
+index-requires c = omega (arith, c.requires, ap length c.self.view_is, length-events_in c.self.inside.skipped.items c.self.inside.stored.items, c.self.inside.stored.ok.0)
+
+pub returns : goal.returns
+unfolding thread_at
+returns c =
+    ap (option_and_then (λ (event : Event). Some event.thread))
+    (event_at c.self.inside.skipped.items c.self.inside.stored.items c.args.self.now c.args.e c.index.result.now c.self.view_is c.requires c.index.ensures)
+    ∙ ap Some (sym c.from.ensures)
