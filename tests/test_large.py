@@ -1,6 +1,7 @@
 """Sizes that small traces never reach: more than 65,536 races, names, kept clocks and events of a schedule; as many
-locks, names and events of a schedule as a trace of the most events has; and clocks of 1,024 threads, a report with a
-schedule that is far longer than its trace, and one with far more places than races, in little memory."""
+locks, names and events of a schedule as a trace of the most events has; an empty line before each of a million events; and
+clocks of 1,024 threads, a report with a schedule that is far longer than its trace, and one with far more places than
+races, in little memory."""
 
 import resource
 
@@ -136,6 +137,16 @@ class Large(program.Case):
         self.expect(program.run(["races"], text + b"T|r(x)\n"), 2, b"", said)
         said = b"line %d: the line has no operation field\n" % (MOST_EVENTS + 1)
         self.expect(program.run(["races"], text + b"oops\n"), 2, b"", said)
+
+    def test_an_empty_line_before_each_event(self):
+        """The number of a line is searched for among all empty lines: to do so for each event would take minutes."""
+        events = 1_000_000
+        text = b"\nT1|r(x)\n\nT2|w(y)\n" * (events // 2)
+        report = b"shb-report 2\nevents %d threads 2 locks 0 variables 2\nraces 0\nplaces 0\nend\n" % events
+        self.expect(program.run(["races"], text), 0, report)
+        self.expect(program.run(["check", self.file(text)], report), 0, b"ok 0\n")
+        said = b"line %d: the lock is not held by this thread\n" % (2 * events + 2)
+        self.expect(program.run(["races"], text + b"\nT1|rel(l)\n"), 2, b"", said)
 
     def test_the_most_locks_variables_and_events_of_a_schedule(self):
         text, report, races = the_most()

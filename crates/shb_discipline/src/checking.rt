@@ -40,9 +40,8 @@ fn first_fault(alloc: Global, events: &Events, sizes: Sizes) -> Result<Option<Li
 {
     let mut state = State::new(alloc, sizes)?;
     for e in 0..events.len() as u32 {
-        let event = events.event(e);
-        if let Some(fault) = state.fault(event) {
-            let line = event.line;
+        if let Some(fault) = state.fault(events.thread(e), events.op(e)) {
+            let line = events.event(e).line;
             return Ok(Some(LineFault { line, fault }));
         }
         state.note(events, e);

@@ -5,12 +5,12 @@ ghost use Rattle.shb_lines.specs.declared.event.Op.TheVariants.{Acquire, Release
 ghost use Rattle.shb_lines.specs.events.Discipline.{MayCome, acquires, is_fork, is_join, is_of, only, other_than, releases};
 ghost use Rattle.shb_lines.specs.events.Sizes.{IsWithin};
 ghost use Rattle.shb_discipline.specs.Faults.{HasDisciplineFault};
-ghost use Rattle.shb_discipline.specs.State.{Covers, IsLockAfter, IsStateAfter, Tells};
+ghost use Rattle.shb_discipline.specs.State.{Covers, CoversOp, IsLockAfter, IsStateAfter, Tells};
 ghost use Rattle.shb_lines.specs.Lowest.{IsLowest};
 ghost use Rattle.shb_lines.specs.text.Faults.{number_of};
 
 use shb_io::NoMemory;
-use shb_lines::{Event, Events, Fault, Op, Sizes};
+use shb_lines::{Events, Fault, Op, Sizes};
 use std::alloc::Global;
 
 /// A lock after some events: its holder, and how many of the holder's acquires are not yet
@@ -175,13 +175,12 @@ impl State {
         }
     }
 
-    /// The fault of lowest number of what a thread does that was not joined, if it has one.
-    fn operation_fault(&self, event: Event) -> Option<Fault>
-        requires covers { Covers self.now event }
-        ensures { (past : List Event) → count_by (is_join event.thread) past ≡ 0
-            → IsStateAfter past self.now → IsLowest number_of (HasDisciplineFault past event) result }
+    /// The fault of lowest number of an operation by this thread, which was not joined, if it has one.
+    fn operation_fault(&self, thread: u32, op: Op) -> Option<Fault>
+        requires covers { CoversOp self.now op }
+        ensures { (past : List Event) (e : Event) → e.thread ≡ thread → e.op ≡ op → count_by (is_join thread) past ≡ 0
+            → IsStateAfter past self.now → IsLowest number_of (HasDisciplineFault past e) result }
     {
-        let Event { thread, op, .. } = event;
         match op {
             Op::Acquire(lock) => self.lock(lock).acquire_fault(thread, lock),
             Op::Release(lock) => self.lock(lock).release_fault(thread, lock),
@@ -191,15 +190,17 @@ impl State {
         }
     }
 
-    /// The fault of lowest number of an event, if it has one.
-    pub(crate) fn fault(&self, event: Event) -> Option<Fault>
-        requires covers { Covers self.now event }
-        ensures { (past : List Event) → IsStateAfter past self.now → IsLowest number_of (HasDisciplineFault past event) result }
+    /// The fault of lowest number of an operation by this thread, if it has one.
+    pub(crate) fn fault(&self, thread: u32, op: Op) -> Option<Fault>
+        requires thread { thread < vec_len self.now.joined }
+        requires operation { CoversOp self.now op }
+        ensures { (past : List Event) (e : Event) → e.thread ≡ thread → e.op ≡ op → IsStateAfter past self.now
+            → IsLowest number_of (HasDisciplineFault past e) result }
     {
-        if self.is_joined(event.thread) {
+        if self.is_joined(thread) {
             Some(Fault::AfterJoin)
         } else {
-            self.operation_fault(event)
+            self.operation_fault(thread, op)
         }
     }
 
@@ -213,9 +214,9 @@ impl State {
         ensures covers { All (Covers self.new) events.now }
         ensures state { IsStateAfter (take (e + 1) events.now) self.new }
     {
-        let Event { thread, op, .. } = events.event(e);
+        let thread = events.thread(e);
         self.started[thread as usize] = true;
-        match op {
+        match events.op(e) {
             Op::Acquire(lock) => {
                 let known = &mut self.locks[lock as usize];
                 known.holder = thread;

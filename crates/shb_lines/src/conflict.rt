@@ -1,9 +1,9 @@
 //! Which events conflict: accesses of one variable by different threads, at least one a write.
 ghost use Rattle.std.specs.Prelude.{◌≡◌, ◌<◌, ◌↔◌, IsTrue, length};
 ghost use Rattle.shb_lines.specs.events.Race.{Conflict};
-ghost use Rattle.shb_lines.specs.events.Tests.{is_conflict, same_variable};
+ghost use Rattle.shb_lines.specs.events.Tests.{is_conflict_of, same_variable};
 
-use crate::event::Event;
+use crate::event::Op;
 use crate::stored::Events;
 use crate::trace::Trace;
 
@@ -17,23 +17,23 @@ fn equal_variables(first: Option<u32>, second: Option<u32>) -> bool
     }
 }
 
-/// Whether two events conflict: they access one variable, their threads differ, and at least one of
-/// them writes (conflicting events as in the OOPSLA 2018 paper of Mathur, Kini and Viswanathan).
-pub fn events_conflict(first: Event, second: Event) -> bool
-    ensures { result ≡ is_conflict first second }
+/// Whether two operations access one variable, and at least one of them writes it.
+fn operations_conflict(first: Op, second: Op) -> bool
+    ensures { result ≡ is_conflict_of first second }
 {
-    equal_variables(first.op.variable(), second.op.variable())
-        && (first.op.is_write() || second.op.is_write())
-        && !(first.thread == second.thread)
+    equal_variables(first.variable(), second.variable()) && (first.is_write() || second.is_write())
 }
 
-/// Whether two events of a trace's events conflict, by their numbers from 0.
+/// Whether two events of a trace's events conflict, by their numbers from 0: they access one variable,
+/// their threads differ, and at least one of them writes (conflicting events as in the OOPSLA 2018 paper
+/// of Mathur, Kini and Viswanathan).
 pub fn events_conflict_at(events: &Events, first: u32, second: u32) -> bool
     requires first { first < length events.now }
     requires second { second < length events.now }
     ensures { IsTrue result ↔ Conflict events.now first second }
 {
-    events_conflict(events.event(first), events.event(second))
+    operations_conflict(events.op(first), events.op(second))
+        && events.thread(first) != events.thread(second)
 }
 
 /// Whether two events of a trace conflict, by their numbers from 0.

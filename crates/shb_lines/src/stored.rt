@@ -154,7 +154,8 @@ impl Events {
         op_with(stored.kind, stored.operand)
     }
 
-    /// Event `e`, with the number of its line, which is searched for among the lines without an event.
+    /// Event `e`, with the number of its line, which is searched for among the lines without an event, from
+    /// the last one on: for one event, and not for each.
     pub fn event(&self, e: u32) -> Event
         requires { e < length self.now }
         ensures { slice_get self.now e ≡ Some result }

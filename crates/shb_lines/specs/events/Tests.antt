@@ -28,6 +28,10 @@ abbrev pub same_variable : Option ℕ → Option ℕ → Bool
 same_variable (Some x) (Some y) = x == y
 same_variable _ _ = false
 
+-- whether two operations access one variable, and at least one of them writes it
+abbrev pub is_conflict_of : Op → Op → Bool
+is_conflict_of o p = same_variable (variable_of o) (variable_of p) && (is_write o || is_write p)
+
 -- whether two events conflict
 abbrev pub is_conflict : Event → Event → Bool
-is_conflict e d = same_variable (variable_of e.op) (variable_of d.op) && ((is_write e.op || is_write d.op) && not (e.thread == d.thread))
+is_conflict e d = is_conflict_of e.op d.op && not (e.thread == d.thread)

@@ -1,14 +1,14 @@
-use Rattle.std.proofs.Common.{refl}
+use Rattle.std.proofs.Common.{◌∙◌}
 use Rattle.shb_discipline.proofs.state.State.operation_fault.Goals as goal
 
 pub returns-in-Acquire : goal.returns-in-Acquire
-returns-in-Acquire c = λ past not_joined state. c.acquire_fault.ensures past c.args.event refl c.in-Acquire.is not_joined (c.lock.ensures past state)
+returns-in-Acquire c = λ past e of_thread of_op not_joined state. c.acquire_fault.ensures past e of_thread (of_op ∙ c.in-Acquire.is) not_joined (c.lock.ensures past state)
 
 pub returns-in-Release : goal.returns-in-Release
-returns-in-Release c = λ past not_joined state. c.release_fault.ensures past c.args.event refl c.in-Release.is not_joined (c.lock-in-Release.ensures past state)
+returns-in-Release c = λ past e of_thread of_op not_joined state. c.release_fault.ensures past e of_thread (of_op ∙ c.in-Release.is) not_joined (c.lock-in-Release.ensures past state)
 
 pub returns-in-Fork : goal.returns-in-Fork
-returns-in-Fork c = λ past not_joined state. c.fork_fault.ensures past c.args.event refl c.in-Fork.is not_joined state
+returns-in-Fork c = λ past e of_thread of_op not_joined state. c.fork_fault.ensures past e of_thread (of_op ∙ c.in-Fork.is) not_joined state
 
 pub returns-in-Join : goal.returns-in-Join
-returns-in-Join c = λ past not_joined state. c.join_fault.ensures past c.args.event refl c.in-Join.is not_joined
+returns-in-Join c = λ past e of_thread of_op not_joined state. c.join_fault.ensures past e of_thread (of_op ∙ c.in-Join.is) not_joined
