@@ -11,7 +11,7 @@ ghost use Rattle.shb_pairs.specs.Races.{races_with};
 ghost use Rattle.shb_pairs.specs.Search.{IsFreeWrite, racing};
 
 use crate::race::{is_below_pred, is_race_by};
-use crate::rivals::rivals_of;
+use crate::rivals::{Cursors, rivals_of};
 use crate::search::Search;
 use shb_clocks::{Order, Ordered};
 use shb_discipline::Disciplined;
@@ -37,13 +37,14 @@ fn add_races<O: Order>(
     alloc: Global,
     races: &mut Vec<Pair>,
     search: &Search<'_, '_, O>,
+    cursors: &mut Cursors,
     second: u32,
 ) -> Result<(), NoMemory>
     requires accessed { variable_at search.now.ordered.now.trace.now.events.now second ≡ Some search.now.variable }
     ensures { IfOk result (λ _. map ends races.new.items ≡ map ends races.old.items
         ++ races_with search.now.ordered.now.trace.now.events.now second) }
 {
-    let firsts = rivals_of(alloc, search, second)?;
+    let firsts = rivals_of(alloc, search, cursors, second)?;
     add_pairs(races, firsts.as_slice(), second)
 }
 
@@ -169,6 +170,7 @@ fn add_races_at<O: Order>(
     alloc: Global,
     races: &mut Vec<Pair>,
     search: &Search<'_, '_, O>,
+    cursors: &mut Cursors,
     free_write: Option<usize>,
     index: usize,
 ) -> Result<(), NoMemory>
@@ -185,7 +187,7 @@ fn add_races_at<O: Order>(
         Some(write) => add_races_since(races, search.ordered, accesses, write, index),
         None => {
             let second = accesses[index];
-            add_races(alloc, races, search, second)
+            add_races(alloc, races, search, cursors, second)
         }
     }
 }
@@ -210,10 +212,11 @@ pub(crate) fn races_in<O: Order>(
 {
     let accesses = search.accesses.of(search.variable);
     let mut races = Vec::new(alloc);
+    let mut cursors = Cursors::new(alloc);
     let mut free_write = None;
     for index in from..to {
         let count = races.len();
-        add_races_at(alloc, &mut races, search, free_write, index)?;
+        add_races_at(alloc, &mut races, search, &mut cursors, free_write, index)?;
         let free = races.len() == count;
         free_write = next_free_write(search.ordered.trace, accesses, free_write, index, free);
     }

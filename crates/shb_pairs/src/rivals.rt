@@ -19,8 +19,45 @@ use shb_lines::Events;
 use shb_links::Links;
 use std::alloc::Global;
 
-/// Where the positions of one thread end that start at an index, among positions by thread.
-fn run_end(events: &Events, positions: &[u32], start: usize) -> usize
+/// What a search found of one thread's accesses: where they end among the positions by thread, and how
+/// many of them stand before the later access. The search for the next access tries these first. They say
+/// where to look, and not what is there: nothing is known of them, and each is checked before it is used.
+#[derive(Clone, Copy)]
+struct Cursor {
+    end: usize,
+    before: usize,
+}
+
+/// The cursors of a search for the races of one variable, by threads in order: for its writes, and for its
+/// reads.
+pub(crate) struct Cursors {
+    writes: Vec<Cursor>,
+    reads: Vec<Cursor>,
+}
+
+// By hand: a derived one stands in each function that drops cursors, with a step for each vector.
+impl Drop for Cursors {
+    fn drop(self) {
+        let Cursors {
+            writes: _,
+            reads: _,
+        } = self;
+    }
+}
+
+impl Cursors {
+    /// No cursors yet.
+    pub(crate) fn new(alloc: Global) -> Cursors {
+        Cursors {
+            writes: Vec::new(alloc),
+            reads: Vec::new(alloc),
+        }
+    }
+}
+
+/// Where the positions of one thread end that start at an index, among positions by thread. The guess is
+/// tried first.
+fn run_end(events: &Events, positions: &[u32], start: usize, guess: usize) -> usize
     requires in_range { All (λ k. k < length events.now) positions.now }
     requires sorted { AllPairs (IsBeforeByThread events.now) positions.now }
     requires inside { start < length positions.now }
@@ -31,10 +68,13 @@ fn run_end(events: &Events, positions: &[u32], start: usize) -> usize
         ≡ key_at events.now Thread (slice_index_or positions.now start 0) }
 {
     let thread = events.thread(positions[start]);
+    if start < guess && guess <= positions.len() && events.thread(positions[guess - 1]) == thread {
+        return guess;
+    }
     let mut end = start + 1;
     let mut limit = positions.len();
 
-    // By halving: one thread may have most of the accesses, and each later access asks again.
+    // By halving: one thread may have most of the accesses.
     while end < limit {
         let middle = end + (limit - end) / 2;
         if events.thread(positions[middle]) == thread {
@@ -44,6 +84,24 @@ fn run_end(events: &Events, positions: &[u32], start: usize) -> usize
         }
     }
     end
+}
+
+/// How many of some rising positions stand before a later one. The guess is tried first, and then those
+/// after it.
+fn count_before(positions: &[u32], guess: usize, second: u32) -> usize
+    requires rising { AllPairs (λ a b. a < b) positions.now }
+    ensures within { result ≤ length positions.now }
+    ensures before { (k : ℕ) → k < result → slice_index_or positions.now k 0 < second }
+    ensures rest { (k : ℕ) → result ≤ k → k < length positions.now → second ≤ slice_index_or positions.now k 0 }
+{
+    if guess > positions.len() || guess > 0 && positions[guess - 1] >= second {
+        return positions.partition_point(|first| *first < second);
+    }
+    let mut count = guess;
+    while count < positions.len() && positions[count] < second {
+        count += 1;
+    }
+    count
 }
 
 /// Where the positions start, among the first `end` of one thread, that are not among the first
@@ -73,6 +131,7 @@ fn add_tail<O: Order>(
     found: &mut Vec<u32>,
     ordered: &Ordered<'_, O>,
     positions: &[u32],
+    before: &mut usize,
     second: u32,
 ) -> Result<(), NoMemory>
     requires in_range { second < length ordered.now.trace.now.events.now }
@@ -87,7 +146,8 @@ fn add_tail<O: Order>(
     if thread == ordered.trace.events.thread(second) {
         return Ok(());
     }
-    let end = positions.partition_point(|first| *first < second);
+    let end = count_before(positions, *before, second);
+    *before = end;
     let below = ordered.order.below_pred(second, thread);
     let start = tail_start(ordered.links, positions, end, below);
     found.extend_from_slice(part(positions, start, end))?;
@@ -99,6 +159,7 @@ fn add_rivals<O: Order>(
     found: &mut Vec<u32>,
     ordered: &Ordered<'_, O>,
     positions: &[u32],
+    cursors: &mut Vec<Cursor>,
     second: u32,
 ) -> Result<(), NoMemory>
     requires in_range { second < length ordered.now.trace.now.events.now }
@@ -109,18 +170,31 @@ fn add_rivals<O: Order>(
     ensures { IfOk result (λ _. found.new.items ≡ found.old.items ++ racing ordered.now.trace.now.events.now second positions.now) }
 {
     let mut start = 0;
+    let mut run = 0;
     while start < positions.len() {
-        let end = run_end(ordered.trace.events, positions, start);
-        add_tail(found, ordered, part(positions, start, end), second)?;
+        if run == cursors.len() {
+            cursors.push(Cursor {
+                end: 0,
+                before: usize::MAX,
+            })?;
+        }
+        let cursor = &mut cursors[run];
+        let end = run_end(ordered.trace.events, positions, start, cursor.end);
+        cursor.end = end;
+        let of_thread = part(positions, start, end);
+        add_tail(found, ordered, of_thread, &mut cursor.before, second)?;
         start = end;
+        run += 1;
     }
     Ok(())
 }
 
-/// The accesses that race with a later access of a variable, in trace order.
+/// The accesses that race with a later access of a variable, in trace order. The cursors are those of
+/// earlier searches for this variable.
 pub(crate) fn rivals_of<O: Order>(
     alloc: Global,
     search: &Search<'_, '_, O>,
+    cursors: &mut Cursors,
     second: u32,
 ) -> Result<Vec<u32>, NoMemory>
     requires accessed { variable_at search.now.ordered.now.trace.now.events.now second ≡ Some search.now.variable }
@@ -128,11 +202,23 @@ pub(crate) fn rivals_of<O: Order>(
 {
     let mut found = Vec::new(alloc);
     let writes = search.accesses.writes_by_thread(search.variable);
-    add_rivals(&mut found, search.ordered, writes, second)?;
+    add_rivals(
+        &mut found,
+        search.ordered,
+        writes,
+        &mut cursors.writes,
+        second,
+    )?;
     // A read conflicts with no read.
     if search.ordered.trace.events.op(second).is_write() {
         let reads = search.accesses.reads_by_thread(search.variable);
-        add_rivals(&mut found, search.ordered, reads, second)?;
+        add_rivals(
+            &mut found,
+            search.ordered,
+            reads,
+            &mut cursors.reads,
+            second,
+        )?;
     }
     found.sort_unstable();
     Ok(found)

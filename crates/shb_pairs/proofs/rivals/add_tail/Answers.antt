@@ -1,10 +1,9 @@
-use Rattle.std.proofs.Common.{◌≡◌, ◌++◌, ◌+◌, ◌<◌, ◌≤◌, ℕ, List, Some, get_or, ltb, ltb-true, arith, rules, subst, sym, ap, ◌∙◌}
+use Rattle.std.proofs.Common.{◌≡◌, ◌++◌, ◌+◌, ◌<◌, ◌≤◌, ℕ, List, Some, get_or, subst, sym, ap, ◌∙◌}
 use Rattle.std.proofs.lemmas.List.{append-nil}
-use Rattle.std.proofs.lemmas.List.Sorted.{IsPartitionPoint-from_clause}
 use Rattle.shb_lines.specs.declared.event.Event.{Event}
 use Rattle.shb_lines.specs.events.Discipline.{local_time}
 use Rattle.shb_lines.specs.events.Events.{thread_at}
-use Rattle.shb_pairs.proofs.Tails.{at_or_past, count_seen, other_thread_races, own_thread_races, rising_partitioned}
+use Rattle.shb_pairs.proofs.Tails.{count_seen, other_thread_races, own_thread_races}
 use Rattle.shb_pairs.proofs.Sorting.{thread_read}
 use Rattle.shb_pairs.proofs.rivals.add_tail.Goals as goal
 
@@ -18,14 +17,12 @@ pub returns : goal.returns
 returns g c =
     let head = thread_read c.args.ordered.now.trace.now.events.now (get_or c.args.positions.now 0 0) _ c.thread-thread.ensures in
     let own = thread_read c.args.ordered.now.trace.now.events.now c.args.second _ c.thread.ensures in
-    let parted = rising_partitioned c.args.positions.now c.args.second c.requires.one_thread.rising in
-    let point = IsPartitionPoint-from_clause (λ k. ltb k c.args.second) c.args.positions.now c.partition_point-end.result c.partition_point-end.ensures.partitioned parted (λ a r q k. search rules) in
     let count = count_seen _ _ _ _ _ _ c.args.ordered.now.of_trace head c.below_pred-below.ensures in
-    let above = subst (λ (tr : List Event). (t k : ℕ) → c.tail_start-start.result ≤ k → k < c.partition_point-end.result → thread_at tr (get_or c.args.positions.now k 0) ≡ Some t → c.below_pred-below.result < local_time tr t (get_or c.args.positions.now k 0)) c.args.ordered.now.linked c.tail_start-start.ensures.above in
+    let above = subst (λ (tr : List Event). (t k : ℕ) → c.tail_start-start.result ≤ k → k < c.count_before-end.result → thread_at tr (get_or c.args.positions.now k 0) ≡ Some t → c.below_pred-below.result < local_time tr t (get_or c.args.positions.now k 0)) c.args.ordered.now.linked c.tail_start-start.ensures.above in
     let under = subst (λ (tr : List Event). (t k : ℕ) → k + 1 ≡ c.tail_start-start.result → thread_at tr (get_or c.args.positions.now k 0) ≡ Some t → local_time tr t (get_or c.args.positions.now k 0) ≤ c.below_pred-below.result) c.args.ordered.now.linked c.tail_start-start.ensures.under in
-    let tail = other_thread_races c.args.ordered.now.trace.now.events.now c.args.second c.below_pred-below.result c.tail_start-start.result c.partition_point-end.result c.args.positions.now c.requires.in_range c.requires.rivals c.requires.one_thread c.requires.some (λ same. c.if-thread.false (sym head ∙ (same ∙ own))) count c.tail_start-start.ensures.start c.partition_point-end.ensures.bound
-    (λ k lt. ltb-true _ _ (point.0 k 0 (omega arith) lt))
-    (λ k past lt. at_or_past _ _ (point.1 k 0 past lt))
+    let tail = other_thread_races c.args.ordered.now.trace.now.events.now c.args.second c.below_pred-below.result c.tail_start-start.result c.count_before-end.result c.args.positions.now c.requires.in_range c.requires.rivals c.requires.one_thread c.requires.some (λ same. c.if-thread.false (sym head ∙ (same ∙ own))) count c.tail_start-start.ensures.start c.count_before-end.ensures.within
+    c.count_before-end.ensures.before
+    c.count_before-end.ensures.rest
     above
     under in
     c.in_ok-extend_from_slice.ensures.items ∙ ap (λ (ks : List ℕ). c.args.found.now.items ++ ks) (c.part.ensures ∙ sym tail)
