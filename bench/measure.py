@@ -61,11 +61,12 @@ def timed(command, output, given=os.devnull, wanted=(0,)):
     """What the command takes, with this file as its input. It has to end with one of the wanted statuses."""
     with open(given, "rb") as text, open(output, "wb") as out:
         start = time.perf_counter()
-        process = subprocess.Popen(command, stdin=text, stdout=out, stderr=subprocess.DEVNULL)
+        process = subprocess.Popen(command, stdin=text, stdout=out, stderr=subprocess.PIPE)
+        said = process.stderr.read().decode(errors="replace")
         _, status, usage = os.wait4(process.pid, 0)
         wall = time.perf_counter() - start
-    if os.waitstatus_to_exitcode(status) not in wanted:
-        sys.exit(f"{command}: status {status}")
+    if not os.WIFEXITED(status) or os.WEXITSTATUS(status) not in wanted:
+        sys.exit(f"{command}: status {status}\n{said}")
     return Timed(wall, usage.ru_utime + usage.ru_stime, usage.ru_maxrss / 1024)
 
 

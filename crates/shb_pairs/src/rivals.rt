@@ -55,8 +55,8 @@ impl Cursors {
     }
 }
 
-/// Where the positions of one thread end that start at an index, among positions by thread. The guess is
-/// tried first.
+/// Where positions of one thread end that start at an index, among positions by thread. A guess up to which
+/// all are of that thread is taken as it is; without one the end of all its positions is found.
 fn run_end(events: &Events, positions: &[u32], start: usize, guess: usize) -> usize
     requires in_range { All (λ k. k < length events.now) positions.now }
     requires sorted { AllPairs (IsBeforeByThread events.now) positions.now }
@@ -173,6 +173,7 @@ fn add_rivals<O: Order>(
     let mut run = 0;
     while start < positions.len() {
         if run == cursors.len() {
+            // Neither can be right, so both are searched for.
             cursors.push(Cursor {
                 end: 0,
                 before: usize::MAX,
