@@ -26,6 +26,8 @@ typedef struct thread {
     void *(*function)(void *);         /* what it runs; or of a C11 thread the next */
     int (*c11_function)(void *);
     void *argument;
+    void *stack;
+    size_t stack_size;
     sigset_t mask;                     /* before a signal was deferred */
 } thread;
 
@@ -34,6 +36,7 @@ enum yields { NEVER_YIELD, MAY_YIELD };
 extern __thread thread *self __attribute__((tls_model("initial-exec")));
 extern volatile int recording;
 void begin_turns(int slice, uint64_t seed);
+void restart_turns(thread *t);         /* in a process made by fork, where there is t alone; it has the turn */
 int end_turns(void);                   /* all threads run free from here on; gives whether they took turns before */
 thread *new_thread(void);
 int number_thread(thread *t);
@@ -58,6 +61,9 @@ void note_spin(thread *t, uint64_t read);
 /* recording.c: the file. */
 extern int stall_seconds;
 int open_recording(const char *path, uint64_t most_records);
+int has_number(void);                  /* is there a record for each process? */
+int leave_recording(void);             /* in a process made by fork; does it go on in memory? */
+int move_to_file(void);
 void close_recording(void);
 void stop_recording(const char *reason);
 void note_text(const char *line);      /* adds a line to the header */
@@ -70,7 +76,7 @@ int read_task_file(pid_t system_id, const char *leaf, char *text, int size);
 /* modules.c */
 int instrumented(uint64_t caller);     /* lies the code in a module compiled with -fsanitize=thread? */
 void *next_symbol(const char *name);
-void __tsan_init(void);
+void note_modules(void);
 #define REAL(f) ({ \
     static __typeof__(&f) real_; \
     if (!real_) real_ = (__typeof__(&f))next_symbol(#f); \

@@ -26,14 +26,14 @@ static uint64_t setting(const char *name, uint64_t otherwise) {
 /* The thread's stack is new variables.  The main thread's is noted for its name alone. */
 static void note_stack(thread *t, uint64_t function) {
     pthread_attr_t attributes;
-    size_t size = 8 << 20;
-    void *low = (char *)__libc_stack_end - size;
+    t->stack_size = 8 << 20;
+    t->stack = (char *)__libc_stack_end - t->stack_size;
     if (t->number) {
         if (pthread_getattr_np(pthread_self(), &attributes)) return;
-        pthread_attr_getstack(&attributes, &low, &size);
+        pthread_attr_getstack(&attributes, &t->stack, &t->stack_size);
         pthread_attr_destroy(&attributes);
     }
-    put(t, OP_START, low, size, function);
+    put(t, OP_START, t->stack, t->stack_size, function);
 }
 
 static void begin_thread(thread *t, uint64_t function) {
@@ -53,9 +53,31 @@ static void thread_exits(void *t_) {   /* runs again in each round of destructor
     give_turn(t);
 }
 
-static void in_child(void) {           /* a forked process is not recorded */
+/* ---- a process made by fork: one thread, and a record of its own from here on ---- */
+static int is_unrecorded_child;
+
+static void in_child(void) {
+    int was = recording;
     recording = 0;
-    self = 0;
+    others = 0;
+    is_unrecorded_child = was && !has_number();
+    if (!was || !leave_recording() || !self) {
+        self = 0;
+        return;
+    }
+    process = getpid();
+    restart_turns(self);
+    self->inside = 1;
+    put(self, OP_START, self->stack, self->stack_size, 0);
+    leave(self);
+}
+
+/* It starts threads and nobody records them: it says so, once. */
+static void tell_of_child(void) {
+    static const char text[] = "shb recorder: a process made by fork starts threads and runs unrecorded (%p in SHB_RECORD "
+        "gives each process a record of its own)\n";
+    if (is_unrecorded_child) syscall(SYS_write, 2, text, sizeof text - 1);
+    is_unrecorded_child = 0;
 }
 
 __attribute__((constructor(101))) static void begin(void) {
@@ -64,8 +86,8 @@ __attribute__((constructor(101))) static void begin(void) {
     process = getpid();
     stall_seconds = setting("SHB_STALL", 60);
     if (!open_recording(path, setting("SHB_RECORDS", 64000000))) return;
-    unsetenv("SHB_RECORD");            /* a program started by this one would write over it */
-    __tsan_init();
+    if (!has_number()) unsetenv("SHB_RECORD");               /* a program started by this one would write over it */
+    note_modules();
     thread *t = new_thread();
     if (!t || !number_thread(t) || pthread_key_create(&at_exit, thread_exits) || pthread_atfork(0, 0, in_child)) return;
     begin_turns(setting("SHB_SLICE", 200), setting("SHB_SEED", 0));
@@ -89,6 +111,7 @@ static void *run(void *t_) {
    new_thread, and then the turn may be taken over: so it is asked for after that, before the child gets its number. */
 static int create(thread *t, thread start, pthread_t *handle, const pthread_attr_t *attributes, uint64_t caller) {
     thread *child = new_thread();
+    move_to_file();
     if (!keep_turn(t)) take_turn(t);
     if (!child || !number_thread(child)) {
         stop_recording("too many threads");
@@ -109,7 +132,10 @@ static int create(thread *t, thread start, pthread_t *handle, const pthread_attr
 
 PUBLIC int pthread_create(pthread_t *handle, const pthread_attr_t *attributes, void *(*function)(void *), void *argument) {
     thread *t = enter(MAY_YIELD);
-    if (!t) return REAL(pthread_create)(handle, attributes, function, argument);
+    if (!t) {
+        tell_of_child();
+        return REAL(pthread_create)(handle, attributes, function, argument);
+    }
     int error = create(t, (thread){.function = function, .argument = argument}, handle, attributes, CALLER);
     leave(t);
     return error;
@@ -117,7 +143,10 @@ PUBLIC int pthread_create(pthread_t *handle, const pthread_attr_t *attributes, v
 
 PUBLIC int thrd_create(thrd_t *handle, thrd_start_t function, void *argument) {
     thread *t = enter(MAY_YIELD);
-    if (!t) return REAL(thrd_create)(handle, function, argument);
+    if (!t) {
+        tell_of_child();
+        return REAL(thrd_create)(handle, function, argument);
+    }
     int error = create(t, (thread){.c11_function = function, .argument = argument}, handle, 0, CALLER);
     leave(t);
     return !error ? thrd_success : error == EAGAIN || error == ENOMEM ? thrd_nomem : thrd_error;
