@@ -19,6 +19,7 @@ u64 mix(u64 a, u64 b);
 
 /* records.c: the record. */
 extern u64 record_count;
+extern const char *recording_cut;      /* why the record is not that of the whole run; or null */
 void open_record(const char *path);
 enum operation operation_of(u64 i);
 u64 address_of(u64 i), caller_of(u64 i), size_of(u64 i);

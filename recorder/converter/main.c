@@ -11,7 +11,7 @@
 #include <unistd.h>
 #include "converter.h"
 
-enum { SHB_THREADS = 1024 };
+enum { SHB_THREADS = 1024, NOT_WHOLE = 3 };                  /* the status where the trace is a part of the run */
 #define MAX_RANGE_STEPS (1ull << 27)   /* in a pass: seconds */
 
 static u32 thread_count = 1;
@@ -74,6 +74,7 @@ int main(int count, char **words) {
     if (fflush(stdout) || ferror(stdout)) die("cannot write the trace: %s", strerror(errno));
     fprintf(stderr, "shb-std: %lu records, %u threads, %lu events\n", record_count, thread_count, events);
     if (!cut_reason) cut_reason = shortened;
+    if (recording_cut) fprintf(stderr, "shb-std: the recording is not the whole run: %s\n", recording_cut);
     if (cut_reason) fprintf(stderr, "shb-std: the trace is cut %s\n", cut_reason);
-    return 0;
+    return cut_reason || recording_cut ? NOT_WHOLE : 0;
 }

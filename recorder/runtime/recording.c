@@ -87,10 +87,17 @@ void note(enum operation operation, const volatile void *object, uint64_t caller
 }
 
 /* ---- begin and end ---- */
+/* How the recording ended, for the converter; "" takes it back. */
+void note_end(const char *how) {
+    if (header) snprintf(header + ENDED_AT, ENDED_BYTES, "%s", how);
+}
+
 void stop_recording(const char *reason) {
     char text[240];
     int n = snprintf(text, sizeof text, "shb recorder: %s; the recording ends here, the program goes on\n", reason);
-    if (end_turns()) syscall(SYS_write, 2, text, n);
+    if (!end_turns()) return;
+    note_end(reason);
+    syscall(SYS_write, 2, text, n);
 }
 
 /* The calls of the C library would be points where a thread may be cancelled. */
@@ -245,11 +252,12 @@ void close_recording(void) {
     if (!t) return;
     int failed = file >= 0 && ftruncate(file, HEADER_BYTES + written * sizeof *records);
     (void)failed;                                            /* then the zeros stay too */
+    note_end(ENDED_WHOLE);
     leave(t);
 }
 
 void note_text(const char *line) {
     if (!header) return;
     size_t at = strlen(header), n = strlen(line);
-    if (at + n < HEADER_BYTES && !strstr(header, line)) memcpy(header + at, line, n);
+    if (at + n < ENDED_AT && !strstr(header, line)) memcpy(header + at, line, n);
 }

@@ -66,6 +66,7 @@ int leave_recording(void);             /* in a process made by fork; does it go 
 int move_to_file(void);
 void close_recording(void);
 void stop_recording(const char *reason);
+void note_end(const char *how);
 void note_text(const char *line);      /* adds a line to the header */
 enum { ROOM = 2, ROOM_OF_COPY = 4 };   /* records of one access, each with its size; of a copy's read and write */
 int make_room(thread *t, int count);

@@ -2,6 +2,7 @@
 #define _GNU_SOURCE
 #include <errno.h>
 #include <limits.h>
+#include <stdarg.h>
 #include <stdlib.h>
 #include <sys/syscall.h>
 #include <threads.h>
@@ -96,6 +97,62 @@ __attribute__((constructor(101))) static void begin(void) {
 
 __attribute__((destructor(101))) static void end(void) {
     if (process && getpid() == process) close_recording();
+}
+
+/* Ways out that run no destructor.  A process made by vfork uses its parent's memory and says nothing. */
+static int is_own(void) { return process && getpid() == process; }
+
+#define LEAVES(name) \
+    PUBLIC void name(int status) { \
+        if (is_own()) close_recording(); \
+        REAL(name)(status); \
+        __builtin_unreachable(); \
+    }
+LEAVES(_exit)
+LEAVES(_Exit)
+
+#define EXECS(name, parameters, arguments) \
+    PUBLIC int name parameters { \
+        int own = is_own() && recording; \
+        if (own) note_end(ENDED_WHOLE); \
+        int r = REAL(name) arguments; \
+        if (own) note_end(""); \
+        return r; \
+    }
+typedef char *const words[];
+EXECS(execve, (const char *path, words v, words e), (path, v, e))
+EXECS(execv, (const char *path, words v), (path, v))
+EXECS(execvp, (const char *path, words v), (path, v))
+EXECS(execvpe, (const char *path, words v, words e), (path, v, e))
+EXECS(fexecve, (int f, words v, words e), (f, v, e))
+
+/* The words of a list up to its null pointer, as an array; `more` stands behind that. */
+#define LISTED(first, array, more) \
+    va_list more; \
+    va_start(more, first); \
+    int count = 1; \
+    while (va_arg(more, char *)) count++; \
+    va_end(more); \
+    char *array[count + 1]; \
+    array[0] = (char *)first; \
+    va_start(more, first); \
+    for (int i = 1; i <= count; i++) array[i] = va_arg(more, char *);
+
+PUBLIC int execl(const char *path, const char *first, ...) {
+    LISTED(first, array, more)
+    va_end(more);
+    return execv(path, array);
+}
+PUBLIC int execlp(const char *path, const char *first, ...) {
+    LISTED(first, array, more)
+    va_end(more);
+    return execvp(path, array);
+}
+PUBLIC int execle(const char *path, const char *first, ...) {
+    LISTED(first, array, more)
+    char **environment = va_arg(more, char **);
+    va_end(more);
+    return execve(path, array, environment);
 }
 
 /* ---- threads ---- */

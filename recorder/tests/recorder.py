@@ -57,6 +57,13 @@ def convert(path, *options):
     return call(BUILT / "shb-std", *options, path)
 
 
+def part(answer):
+    """The answer of the converter where the trace is a part of the run."""
+    if answer.returncode != 3:
+        raise AssertionError(f"{answer.args}: status {answer.returncode}\n{answer.stderr.decode(errors='replace')}")
+    return answer
+
+
 def places(trace):
     """The pairs of places that the analyser lists for a trace, without order."""
     listed = must(call(SHB, "races", "--list", input=trace)).stdout.decode()

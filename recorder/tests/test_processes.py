@@ -18,8 +18,8 @@ def marked(name, word="RACE"):
     return {f"{name}:{number}" for number, line in lines if word in line}
 
 
-def racing_lines(record):
-    trace = recorder.must(recorder.convert(record)).stdout
+def racing_lines(record, must=recorder.must):
+    trace = must(recorder.convert(record)).stdout
     return {line for pair in recorder.places(trace) for line in pair}
 
 
@@ -77,7 +77,7 @@ class Processes(recorder.Case):
             running.send_signal(signal.SIGKILL)
         self.assertIn(b"another process records to " + os.fsencode(self.folder / "one.rec"), ran.stderr)
         self.assertEqual(command_of(self.folder / "one.rec"), [os.fsencode(program)])
-        self.assertEqual(racing_lines(self.folder / "one.rec"), {"deadlock.c:9"})
+        self.assertEqual(racing_lines(self.folder / "one.rec", recorder.part), {"deadlock.c:9"})
 
     def test_a_library_in_cxx_loaded_by_a_program_in_c(self):
         library = self.program("plugin.cc", "-shared", "-fPIC", compiler="g++")

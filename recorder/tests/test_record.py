@@ -7,7 +7,7 @@ import struct
 
 import recorder
 
-HEADER = b"shb-record 2\n".ljust(65536, b"\0")
+HEADER = b"shb-record 3\n".ljust(65536 - 256, b"\0") + b"whole".ljust(256, b"\0")
 DEFINED = re.search(r"enum operation \{(.*?)\n\};", (recorder.SOURCES / "record.h").read_text(), re.S)[1]
 OPERATIONS = re.findall(r"OP_\w+", re.sub(r"/\*.*?\*/", "", DEFINED))
 SIZE_FOLLOWS = 1023
@@ -70,10 +70,17 @@ class Canned(recorder.Case):
                 recorder.places(lines.encode())  # is accepted
 
     def test_a_limit_of_events_is_said(self):
-        answer = recorder.convert(self.record, "-n", "5")
+        answer = recorder.part(recorder.convert(self.record, "-n", "5"))
         self.assertEqual(answer.stdout.decode().splitlines(), TRACE[:5])
         self.assertIn(b"the trace is cut at the limit of events", answer.stderr)
         self.assertNotIn(b"cut", recorder.convert(self.record, "-n", str(len(TRACE))).stderr)
+
+    def test_a_recording_that_ended_early_is_said(self):
+        for how, said in ((b"", b"the program was killed"), (b"the disk is\nfull", b"the disk is!full")):
+            self.record.write_bytes(HEADER[:65536 - 256] + how.ljust(256, b"\0") + ENTRIES)
+            answer = recorder.part(recorder.convert(self.record))
+            self.assertEqual(answer.stdout.decode().splitlines(), TRACE)
+            self.assertIn(b"shb-std: the recording is not the whole run: " + said + b"\n", answer.stderr)
 
     def test_a_trace_that_cannot_be_written(self):
         with open("/dev/full", "wb") as full:
@@ -84,7 +91,7 @@ class Canned(recorder.Case):
     def test_long_ranges_without_end_are_cut(self):
         ranges = b"".join(entry(k % 2, "WRITE", RANGE, 0x300 + k, (1 << 36) - 1) for k in range(2000))
         self.record.write_bytes(HEADER + ENTRIES[:64] + ranges)
-        answer = recorder.must(recorder.convert(self.record))
+        answer = recorder.part(recorder.convert(self.record))
         self.assertIn(b"the trace is cut where its accesses of long ranges take too much work", answer.stderr)
 
 
@@ -103,7 +110,7 @@ def damaged_records():
         yield bytes(record)
     yield from (HEADER + random_bytes(draw, 16 * entries) for entries in range(20))
     yield random_bytes(draw, 70000)
-    yield b"shb-record 2\nffff 1 2 \n1 2\nx y z\n0 fff 0 --help\n0 ffffffffffff 0 /\n".ljust(65536, b"1") + ENTRIES
+    yield b"shb-record 3\nffff 1 2 \n1 2\nx y z\n0 fff 0 --help\n0 ffffffffffff 0 /\n".ljust(65536, b"1") + ENTRIES
 
 
 class Damaged(recorder.Case):
@@ -117,7 +124,7 @@ class Damaged(recorder.Case):
             record.write_bytes(damaged)
             answer = recorder.call(converter, record, env={**os.environ, "ASAN_OPTIONS": "detect_leaks=0"})
             with self.subTest(number):
-                self.assertIn(answer.returncode, (0, 2), answer.stderr[-2000:])
+                self.assertIn(answer.returncode, (0, 2, 3), answer.stderr[-2000:])
                 self.assertIn(b"shb-std: ", answer.stderr)
                 self.assertNotRegex(answer.stderr, b"Sanitizer|runtime error")
             statuses.append(answer.returncode)
