@@ -37,6 +37,8 @@ def build_recorder(folder, *settings):
     copy = folder / "recorder"
     shutil.copytree(SOURCES, copy, ignore=shutil.ignore_patterns("lib", "shb-std", "tests"))
     must(call("make", "-C", copy, *settings))
+    if not (folder / "view").exists():
+        (folder / "view").symlink_to(SOURCES.parent / "view")
     BUILT = BUILT or copy
     return copy
 
