@@ -109,7 +109,7 @@ static void note_copy(void *to, const void *from, size_t n, uint64_t caller) {
     make_room(t, ROOM_OF_COPY);        /* nobody comes between the two */
     if (from) put(t, OP_READ, from, n, caller);
     put(t, OP_WRITE, to, n, caller);
-    t->wrote = 0;
+    t->written = 0;
     leave(t);
 }
 

@@ -19,7 +19,7 @@ typedef struct thread {
     int spins;                         /* how often in a row it made that one */
     volatile char inside;              /* the recorder: hooks met now are not recorded */
     volatile char deferred;            /* a signal came meanwhile and waits for the end of the hook */
-    char wrote;                        /* its last hook was of a write */
+    uint64_t written, write_caller;    /* if its last hook was of a write: the size, and who called it; else size 0 */
     char joined;
     int exit_rounds;                   /* of destructors of thread-specific data */
     uint64_t new_caller;               /* who called operator new */
