@@ -68,17 +68,18 @@ void share_pieces(u64 i) {
 }
 
 /* ---- 4: events ---- */
-/* The same read, by the same thread at the same place, with no write of the variable since, and nothing since by which
-   the thread could order another: all that it conflicts with, and all that it orders, the first does too. */
+/* The same read, by the same thread at the same place under the same locks, with no write of the variable since, and
+   nothing since by which the thread could order another: all that it conflicts with, and all that it orders, the first
+   does too. */
 static int repeats(u64 i, const piece *p) {
     enum { RECENT = 1 << 18 };
-    typedef struct { u64 caller, epoch; u32 piece, thread, writes; } read;
+    typedef struct { u64 caller, epoch, locks; u32 piece, thread, writes; } read;
     static read recent[RECENT];
     u32 t = thread_of(i), number = piece_number(p);
-    read this = {caller_of(i), thread_epoch(t) + 1, number, t, p->writes};
+    read this = {caller_of(i), thread_epoch(t) + 1, held_locks(t), number, t, p->writes};
     read *last = &recent[mix(number, this.caller ^ (u64)t << 48) & (RECENT - 1)];
     int same = last->caller == this.caller && last->epoch == this.epoch && last->piece == number && last->thread == t
-        && last->writes == this.writes;
+        && last->writes == this.writes && last->locks == this.locks;
     *last = this;
     return same && !whole_trace;
 }

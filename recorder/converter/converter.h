@@ -29,7 +29,7 @@ int is_for_object(u64 i);
 u64 accessed_bytes(u64 i);
 
 /* names.c: modules, symbols, lines of code. */
-enum { NAME_BYTES = 1400, PLACE_BYTES = 1000 };              /* shb takes lines of 4,096 bytes */
+enum { NAME_BYTES = 1400, PLACE_BYTES = 1000, THREAD_BYTES = 80 };   /* shb takes lines of 4,096 bytes */
 extern int whole_paths;
 void read_modules(char *header);
 void note_caller(u64 caller);
@@ -51,6 +51,7 @@ void begin_memory_pass(void);
 void meet_block(u64 i);                /* each pass calls it for each record: the newest block holds its addresses */
 block *block_at(u64 address);          /* or null */
 u32 block_number(const block *b);      /* from 1; of null 0 */
+block *block_of(u32 number);
 void cut(u64 address);
 u64 next_cut(u64 from, u64 end);       /* the first cut after `from`, or the end */
 piece *piece_at(u64 address);          /* makes it */
@@ -63,6 +64,9 @@ void find_cuts(u64 i);
 void share_pieces(u64 i);
 void share_object(u64 i);
 void forget_states(void);              /* of objects, between the passes */
+int holds_unwritten(u32 t);            /* does it hold a lock whose acquire isn't in the trace? */
+void write_holds(u32 t);               /* writes these */
+u64 held_locks(u32 t);                 /* equal where it holds the same locks by which it orders no other thread */
 void access_events(u64 i);
 void object_events(u64 i);
 
@@ -79,3 +83,4 @@ const char *thread_name(u32 t);
 u64 thread_epoch(u32 t);               /* it grows with each event of the thread that could order another */
 const char *variable_name(u64 address, const block *b);
 void event(u32 t, const char *operation, const char *name, const char *tail, u64 caller);
+void hold_event(u32 t, const char *operation, const char *name, const char *tail, u64 caller);   /* orders no thread */

@@ -8,7 +8,7 @@ enum { SHB_EVENTS = 4194304, SHB_LINE = 4096, SHB_BYTES = 1 << 30 };
 u64 event_limit = SHB_EVENTS, events;
 const char *cut_reason;
 static u64 bytes;
-static struct { char name[80]; u64 epoch; } threads[THREADS];
+static struct { char name[THREAD_BYTES]; u64 epoch; } threads[THREADS];
 
 void name_thread(u32 t, u64 function) {
     char of_function[60];
@@ -36,7 +36,7 @@ const char *variable_name(u64 address, const block *b) {
     return name;
 }
 
-void event(u32 t, const char *operation, const char *name, const char *tail, u64 caller) {
+void hold_event(u32 t, const char *operation, const char *name, const char *tail, u64 caller) {
     char line[SHB_LINE];
     u64 length = snprintf(line, sizeof line, "%s|%s(%s%s)|%s\n", thread_name(t), operation, name, tail, place_of(caller));
     if (events == event_limit) cut_reason = "at the limit of events";
@@ -45,5 +45,16 @@ void event(u32 t, const char *operation, const char *name, const char *tail, u64
     events++;
     bytes += length;
     fputs(line, stdout);
+}
+
+/* `name` and `tail` may lie in buffers that the writing of another event uses. */
+void event(u32 t, const char *operation, const char *name, const char *tail, u64 caller) {
+    if (holds_unwritten(t)) {
+        char own_name[NAME_BYTES], own_tail[THREAD_BYTES + 20];
+        snprintf(own_name, sizeof own_name, "%s", name);
+        snprintf(own_tail, sizeof own_tail, "%s", tail);
+        write_holds(t);
+        hold_event(t, operation, own_name, own_tail, caller);
+    } else hold_event(t, operation, name, tail, caller);
     if (strcmp(operation, "r")) threads[t].epoch++;
 }

@@ -63,6 +63,7 @@ block *block_at(u64 address) {
 }
 
 u32 block_number(const block *b) { return b ? b - blocks + 1 : 0; }
+block *block_of(u32 number) { return number ? &blocks[number - 1] : 0; }
 
 void begin_memory_pass(void) {
     met = range_steps = 0;

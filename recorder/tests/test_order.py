@@ -103,9 +103,11 @@ class Order(recorder.Case):
 
     def test_threads_change_places_after_reads_and_after_writes(self):
         """In a loop of count++, of which a read follows each write."""
-        text, _ = self.record("loop.c", "-O1", 1)
-        steps = re.findall(r"^(T\d)\.work\|(w|r)\(count\)", text, re.M)
-        last = [kind for (thread, kind), (next, _) in zip(steps, steps[1:]) if thread != next]
+        last = []
+        for seed in range(4):
+            text, _ = self.record("loop.c", "-O1", seed)
+            steps = re.findall(r"^(T\d)\.work\|(w|r)\(count\)", text, re.M)
+            last += [kind for (thread, kind), (next, _) in zip(steps, steps[1:]) if thread != next]
         self.assertGreater(len(last), 50)
         for kind in "rw":
             self.assertGreater(last.count(kind), len(last) / 5)

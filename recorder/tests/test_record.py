@@ -95,6 +95,49 @@ class Canned(recorder.Case):
         self.assertIn(b"the trace is cut where its accesses of long ranges take too much work", answer.stderr)
 
 
+OWN, RW, CELL = 0x10000040, 0x10000050, 0x10000060
+HELD = [  # locks of one thread alone, and reader-writer locks: in the trace where something happens under them
+    (entry(0, "FORK", 1, 0x101), ["main|fork(T1)|0x101"]),
+    (entry(0, "LOCK", OWN, 0x102), []),
+    (entry(0, "UNLOCK", OWN, 0x103), []),
+    (entry(0, "LOCK", OWN, 0x104), []),
+    (entry(0, "LOCK", OWN, 0x105), []),
+    (entry(0, "WRITE", CELL, 0x106, 4), ["main|acq(0x10000040)|0x104", "main|acq(0x10000040)|0x105", "main|w(0x10000060)|0x106"]),
+    (entry(0, "UNLOCK", OWN, 0x107), ["main|rel(0x10000040)|0x107"]),
+    (entry(0, "READ", CELL, 0x108, 4), ["main|r(0x10000060)|0x108"]),
+    (entry(0, "READ", CELL, 0x108, 4), []),  # the same read again
+    (entry(0, "UNLOCK", OWN, 0x109), ["main|rel(0x10000040)|0x109"]),
+    (entry(0, "READ", CELL, 0x108, 4), ["main|r(0x10000060)|0x108"]),  # under other locks it isn't the same
+    (entry(1, "READ_LOCK", RW, 0x201), []),
+    (entry(1, "READ", CELL, 0x202, 4), ["T1|acq(0x10000050@reader.T1)|0x201", "T1|r(0x10000060)|0x202"]),
+    (entry(1, "RW_UNLOCK", RW, 0x203), ["T1|rel(0x10000050@reader.T1)|0x203", "T1|acq(0x10000050@0<T1)|0x203",
+                                        "T1|rel(0x10000050@0<T1)|0x203"]),
+    (entry(0, "WRITE_LOCK", RW, 0x10a), ["main|acq(0x10000050@0)|0x10a", "main|rel(0x10000050@0)|0x10a",
+                                         "main|acq(0x10000050@0<T1)|0x10a", "main|rel(0x10000050@0<T1)|0x10a"]),
+    (entry(0, "WRITE", CELL, 0x10b, 4), ["main|acq(0x10000050)|0x10a", "main|w(0x10000060)|0x10b"]),
+    (entry(0, "RW_UNLOCK", RW, 0x10c), ["main|rel(0x10000050)|0x10c", "main|acq(0x10000050@1)|0x10c",
+                                        "main|rel(0x10000050@1)|0x10c"]),
+    (entry(1, "WRITE", CELL, 0x204, 4), ["T1|w(0x10000060)|0x204"]),
+]
+
+
+class Held(recorder.Case):
+    def test_locks_that_are_held_at_an_access_are_in_the_trace(self):
+        record = self.folder / "app.rec"
+        record.write_bytes(HEADER + b"".join(entries for entries, _ in HELD))
+        trace = recorder.must(recorder.convert(record)).stdout
+        self.assertEqual(trace.decode().splitlines(), [line for _, lines in HELD for line in lines])
+        self.assertEqual(recorder.places(trace), {("0x106", "0x202"), ("0x108", "0x204"), ("0x10b", "0x204")})
+
+    def test_a_writer_that_never_releases_its_lock(self):
+        entries = [entry(0, "FORK", 1, 0x101), entry(0, "WRITE_LOCK", RW, 0x102), entry(0, "WRITE", CELL, 0x103, 4),
+                   entry(1, "WRITE_LOCK", RW, 0x201), entry(1, "WRITE", CELL, 0x202, 4), entry(1, "RW_UNLOCK", RW, 0x203)]
+        record = self.folder / "app.rec"
+        record.write_bytes(HEADER + b"".join(entries))
+        trace = recorder.must(recorder.convert(record)).stdout
+        self.assertEqual(recorder.places(trace), {("0x103", "0x202")})  # a trace that is taken
+
+
 def random_bytes(draw, count):
     return bytes(draw.randrange(256) for _ in range(count))
 
