@@ -8,7 +8,10 @@ typedef uint32_t u32;
 enum { THREADS = 65536 };
 
 /* tables.c: arrays that grow, and maps from two words to a number from 1, in the order of asking. */
-typedef struct { u64 *keys; u32 *values; u64 count, capacity; } map;
+typedef struct { u64 a, b; u32 value; } map_entry;
+typedef struct { map_entry *entries; u64 count, capacity; } map;
+extern const char *program_name;       /* as messages begin */
+extern int failed_status;
 void die(const char *format, ...) __attribute__((noreturn, format(printf, 1, 2)));
 void *zeroed(size_t count, size_t size);
 void *grown(void *array, u64 count, u64 *capacity, size_t size);
@@ -35,6 +38,7 @@ void read_modules(char *header);
 void note_caller(u64 caller);
 void find_places(void);                /* of all callers that were noted */
 const char *place_of(u64 caller);
+u64 place_length(u64 caller);
 const char *function_name(u64 address, char *buffer, size_t size);       /* "" where it is not known */
 void symbol_name(u64 address, char *buffer, size_t size);
 
@@ -54,8 +58,10 @@ u32 block_number(const block *b);      /* from 1; of null 0 */
 block *block_of(u32 number);
 void cut(u64 address);
 u64 next_cut(u64 from, u64 end);       /* the first cut after `from`, or the end */
-piece *piece_at(u64 address);          /* makes it */
-u32 piece_number(const piece *p);
+int in_one_grain(u64 address, u64 end);                      /* then it lies in one block */
+piece *piece_at(u64 cut);              /* the one that begins at this cut; in the third pass; makes it */
+u32 piece_number(const piece *p);      /* from 1 */
+piece *piece_of(u32 number);
 
 /* accesses.c, objects.c: what the passes do with a record. */
 extern int whole_trace;                /* also what cannot conflict */
@@ -77,6 +83,7 @@ void add_to_list(u32 *list, u32 thread);
 
 /* events.c: the events of the trace. */
 extern u64 event_limit, events;
+extern int into_windows;               /* the events go to windows, and no limit cuts them */
 extern const char *cut_reason;         /* null while the trace goes on */
 void name_thread(u32 t, u64 function);
 const char *thread_name(u32 t);

@@ -35,7 +35,7 @@ def build_recorder(folder, *settings):
     """Builds the recorder from its sources in a new folder."""
     global BUILT
     copy = folder / "recorder"
-    shutil.copytree(SOURCES, copy, ignore=shutil.ignore_patterns("lib", "shb-std", "tests"))
+    shutil.copytree(SOURCES, copy, ignore=shutil.ignore_patterns("lib", "shb-std", "shb-windows", "tests"))
     must(call("make", "-C", copy, *settings))
     if not (folder / "view").exists():
         (folder / "view").symlink_to(SOURCES.parent / "view")
