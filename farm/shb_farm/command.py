@@ -13,30 +13,40 @@ from shb_farm import engines, files, limits, merging, passes, tables
 from shb_farm.known import BadLine, Known
 
 ABOUT = """\
-Analyses all traces (NAME.std) in a folder and below, and joins what was found: a row for
-each pair of locations with a race, with the number of traces that have it. Each trace ends
-as a file in OUT/outcomes, put in place whole and last. To resume, or when traces or the
-program have changed, run the same command again: it makes what isn't there yet."""
-FILES = """\
-OUT gets:
-  places.txt, places.tsv, places.sarif
-                  the places, as text (also printed), as a table, and for code review tools
-  unknown.places  the places that aren't known, as a file of known places has them
-  traces.tsv      how each trace ended: a report, refused, out of memory, time or size, missing
-  reports/        for each unknown place the full report of the smallest trace that has it
+Analyses all traces (NAME.std) in a folder and below, and joins what was found:
+a row for each pair of locations with a race, with the number of traces that
+have it. Each trace ends as a file in OUT/outcomes, put in place whole and last.
+To resume, or when traces or the program have changed, run the same command
+again: it makes what isn't there yet."""
+NOTES = """\
+Files in OUT:
+  places.txt      the places as text, which is also printed; then the traces
+                  without a report
+  places.tsv      the places as a table, with an example and its report
+  places.sarif    the places for code review tools, in SARIF 2.1.0
+  unknown.places  the places that aren't known, as a file of known places
+  traces.tsv      how each trace ended: a report, refused, out of memory, time
+                  or size, or missing
+  reports/        for each unknown place the full report of the smallest trace
+                  that has it
 
-Known places: two locations a line with a tab between them, in either order. * stands for
-any text. Empty lines, and lines that begin with #, are passed over.
+Known places:
+  Two locations a line with a tab between them, in either order; * stands for
+  any text. Empty lines, and lines that begin with #, are passed over.
 
-Exit status, the first that applies:
-  4  the words are refused, or a folder, a file or an engine fails; the reason is on standard error
+Exit status:
+  The first that applies:
+  4  the words are refused, or a folder, a file or an engine fails; the reason
+     is on standard error
   3  a trace has no outcome: it is missing
   1  there is a place that isn't known
   2  a trace was refused, or memory, time or size didn't suffice
   0  none of these
 
 Environment:
-  SHB  the program to run (else the one that this command was installed with)"""
+  SHB          the program to run, if not the one that came with this command
+  SHB_WINDOWS  the same of shb-windows, which cuts traces that are too long
+"""
 TEMPORARY_SECONDS = 86_400      # what a killed run has left is deleted after a day
 
 
@@ -57,11 +67,11 @@ class Parser(argparse.ArgumentParser):
 
 
 def arguments(words):
-    parser = Parser(prog="shb-farm", description=ABOUT, epilog=FILES, formatter_class=argparse.RawDescriptionHelpFormatter)
+    parser = Parser(prog="shb-farm", description=ABOUT, epilog=NOTES, formatter_class=argparse.RawDescriptionHelpFormatter)
     parser.add_argument("--known", metavar="FILE", help="places to pass over")
     parser.add_argument("--engine", choices=sorted(engines.ENGINES), default="xargs",
                         help="xargs: this machine (the default); slurm: a job array on a cluster whose nodes see the same folders")
-    parser.add_argument("--jobs", metavar="N", type=number, default=os.cpu_count(), help="with xargs: traces at once (%(default)s)")
+    parser.add_argument("--jobs", metavar="N", type=number, default=os.cpu_count(), help="with xargs: traces at once (as many as processors)")
     parser.add_argument("--memory", metavar="MIB,..", type=numbers, help="memory of each pass; a trace that needs more goes on to "
                         "the next (256,1024,4096, then with xargs what the machine has, with slurm 16384)")
     parser.add_argument("--seconds", metavar="N", type=number, default=3600, help="processor time of a trace (%(default)s)")

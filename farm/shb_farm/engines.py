@@ -13,7 +13,7 @@ import sys
 
 from shb_farm import limits, passes
 
-JOB = pathlib.Path(__file__).resolve().with_name("job.py")
+JOB = [sys.executable or "python3", str(pathlib.Path(__file__).resolve().with_name("job.py"))]    # no name without a PATH
 TRACES_A_JOB = 50       # at most: so Python's start is a small part of a job
 MOST_TASKS = 1000       # of an array, below Slurm's own bound of 1,001
 BESIDE_MIB = 64         # what a job needs beside the program, where a cluster counts memory
@@ -30,7 +30,7 @@ def run_xargs(work, path, farm):
     jobs = min(count, max(8 * at_once, count // TRACES_A_JOB))
     say(f"{counted(count, 'trace')} with {work.memory} MiB each, {at_once} at once")
     numbers = "".join(f"{number}\n" for number in range(jobs))
-    words = ["xargs", "-n", "1", "-P", str(at_once), sys.executable, str(JOB), path, str(jobs)]
+    words = ["xargs", "-n", "1", "-P", str(at_once), *JOB, path, str(jobs)]
     return run_group(words, numbers)
 
 
@@ -41,7 +41,7 @@ def run_slurm(work, path, farm):
     say(f"{counted(count, 'trace')} with {work.memory} MiB each, in {counted(tasks, 'task')}")
     log = pathlib.Path(work.out) / "log"
     log.mkdir(exist_ok=True)
-    job = shlex.join([sys.executable, str(JOB), path, str(tasks)])
+    job = shlex.join([*JOB, path, str(tasks)])
     words = ["sbatch", "--wait", "--requeue", f"--job-name=shb-farm-{work.memory}", f"--array=0-{tasks - 1}", "--ntasks=1",
              "--cpus-per-task=1", f"--mem={work.memory + BESIDE_MIB}", "--open-mode=append", f"--output={log}/%A_%a",
              *shlex.split(farm.sbatch), "--wrap", f"exec {job}"]
