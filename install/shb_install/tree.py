@@ -45,7 +45,8 @@ def put_documents(folder):
 def built(room, library):
     """The folders with commands, the recorder built in a copy."""
     copy = room / "recorder"
-    shutil.copytree(TOP / "recorder", copy, ignore=shutil.ignore_patterns("lib", "tests", "shb-std", "__pycache__"))
+    shutil.copytree(TOP / "recorder", copy, ignore=shutil.ignore_patterns("tests", "__pycache__"))
+    subprocess.run(["make", "-s", "-C", copy, "clean"], check=True)
     subprocess.run(["make", "-s", "-C", copy, f"CFLAGS={RECORDER_FLAGS}", f"SONAME={library}"], check=True)
     return [copy, TOP / "view", TOP / "farm"]
 
