@@ -271,6 +271,7 @@ def main(words):
         print(f"{__doc__}\nmissing: {', '.join(missing) or 'nothing'}" + ("" if not os.getuid() else "; it isn't run as root"))
         return 2
     shb, work, names = pathlib.Path(words[0]).resolve(), pathlib.Path(words[1]).resolve(), words[2:] or [*SCENES, "many"]
+    signal.signal(signal.SIGTERM, lambda number, frame: sys.exit(1))      # so that the daemons are ended
     work.mkdir()
     cluster, good = Cluster(work / "run"), []
     try:
