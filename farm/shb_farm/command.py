@@ -194,7 +194,7 @@ def main(words):
         signal.signal(name, lambda number, frame: sys.exit(128 + number))
     try:
         return run(arguments(words))
-    except (Refused, engines.Missing) as refused:
+    except (Refused, engines.NotInstalled) as refused:
         said = str(refused)
     except OSError as fault:
         said = f"{fault.filename}: {fault.strerror}" if fault.filename else str(fault)

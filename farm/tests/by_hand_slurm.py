@@ -82,6 +82,7 @@ class Cluster:
             self.start(name)
             time.sleep(1)
         for _ in range(120):
+            subprocess.run(["scontrol", "update", "nodename=n1,n2", "state=resume"], stderr=subprocess.DEVNULL)
             shown = subprocess.run(["scontrol", "-o", "show", "nodes"], stdout=subprocess.PIPE, stderr=subprocess.DEVNULL).stdout.decode()
             if len(re.findall(r"State=(?:IDLE|MIXED|ALLOCATED)(?![*+])", shown)) == 2:
                 return
@@ -106,7 +107,7 @@ class Farm:
     """A folder of traces, and the tables that xargs makes of it."""
 
     def __init__(self, shb, work, traces):
-        self.shb, self.work, self.traces = shb, work, traces
+        self.shb, self.work, self.traces, self.started = shb, work, traces, []
         self.plain = work / f"xargs-{traces.name}"
         self.took("xargs, two at once", self.start("--jobs", "2", out=self.plain))
         self.count = len(list((self.plain / "outcomes").rglob("*.outcome")))
@@ -114,7 +115,14 @@ class Farm:
     def start(self, *words, out):
         words = [sys.executable, COMMAND, "--memory", MEMORY, *words, self.traces, out]
         log = open(self.work / f"{out.name}.said", "ab")
-        return time.monotonic(), subprocess.Popen(words, env={**os.environ, "SHB": str(self.shb)}, stdout=log, stderr=log)
+        self.started.append(subprocess.Popen(words, env={**os.environ, "SHB": str(self.shb)}, stdout=log, stderr=log))
+        return time.monotonic(), self.started[-1]
+
+    def end(self):
+        for started in self.started:
+            if started.poll() is None:
+                started.terminate()
+                started.wait()
 
     def slurm(self, out):
         return self.start("--engine", "slurm", out=out)
@@ -155,7 +163,7 @@ class Farm:
 def make_traces(folder, events=100_000):
     """Traces as a farm meets them: ordinary ones, malformed ones, one that runs out of memory, one that isn't there."""
     folder.mkdir()
-    for number in range(24):
+    for number in range(12):
         with open(folder / f"made-{number:02}.std", "wb") as made:
             subprocess.run([sys.executable, TOP / "bench" / "generate.py", "--events", str(events), "--threads", "8",
                             "--races", str(200 * (number % 4)), "--seed", str(number)], stdout=made, check=True)
@@ -273,10 +281,11 @@ def main(words):
     shb, work, names = pathlib.Path(words[0]).resolve(), pathlib.Path(words[1]).resolve(), words[2:] or [*SCENES, "many"]
     signal.signal(signal.SIGTERM, lambda number, frame: sys.exit(1))      # so that the daemons are ended
     work.mkdir()
-    cluster, good = Cluster(work / "run"), []
+    cluster, farm, good = Cluster(work / "run"), None, []
     try:
         cluster.up()
-        farm = Farm(shb, work, make_traces(work / "traces")) if set(names) & set(SCENES) else None
+        if set(names) & set(SCENES):
+            farm = Farm(shb, work, make_traces(work / "traces"))
         for name in (name for name in names if name in SCENES):
             print(f"{name}: {SCENES[name].__doc__}", flush=True)
             status = SCENES[name](cluster, farm, work / name)
@@ -291,6 +300,8 @@ def main(words):
             farm.took("slurm again", farm.slurm(work / "many"))
             good.append(farm.finish("many", work / "many", status))
     finally:
+        if farm:
+            farm.end()
         cluster.end()
     print(f"{good.count(True)} passed, {good.count(False)} failed")
     return 0 if good and all(good) else 1

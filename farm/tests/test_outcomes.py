@@ -151,6 +151,56 @@ class Engines(farm.Case):
         self.assertEqual(self.farm().status, 1)
 
 
+class Slurm(farm.Case):
+    """Stand-ins of Slurm's commands; by_hand_slurm.py has the real ones."""
+
+    def setUp(self):
+        super().setUp()
+        for number in range(3):
+            self.trace(f"{number}.std", RACE)
+        # Runs the tasks but the last one, whose number is in the words as --array=0-LAST.
+        self.sbatch = f"""
+echo "$@" >> {self.folder}/submitted
+for word; do case $word in --array=0-*) last=${{word#--array=0-}} ;; esac; job=$word; done
+k=0
+while [ $k -lt ${{LOST:-$last}} ]; do SLURM_ARRAY_TASK_ID=$k sh -c "$job"; k=$((k + 1)); done
+echo '17;loop'
+"""
+
+    def slurm(self, squeue, sbatch=None, *words, **settings):
+        self.script("bin/sbatch", sbatch or self.sbatch)
+        self.script("bin/squeue", squeue)
+        self.script("bin/scancel", f"echo $1 >> {self.folder}/cancelled\n")
+        return self.farm("--engine", "slurm", "--memory", "256", *words, PATH=f"{self.folder}/bin:{os.environ['PATH']}", **settings)
+
+    def test_all_tasks_run(self):
+        plain = self.farm(out=self.folder / "plain")
+        answer = self.slurm("exit 0\n", None, "--sbatch", "--partition='a b'", LOST=3)
+        self.assertEqual((answer.status, answer.out), (1, plain.out))
+        submitted = (self.folder / "submitted").read_text().splitlines()
+        self.assertEqual(len(submitted), 2)         # the lists, and the full report of one trace
+        for wanted in ("--array=0-2 ", "--array=0-0 "):
+            self.assertIn(wanted, submitted[wanted == "--array=0-0 "])
+        for wanted in ("--mem=320 ", "--requeue ", "--partition=a b ", f"--output={self.out}/log/%A_%a "):
+            self.assertIn(wanted, submitted[0])
+
+    def test_a_held_task_is_given_up_and_missing(self):
+        held = "[ \"$1 $2 $3\" = '--noheader --jobs=17 --format=%T %r' ] && echo 'PENDING launch failed requeued held'\n"
+        answer = self.slurm(held)
+        self.assertEqual(answer.status, 3)
+        self.assertEqual([end[0] for end in self.ends().values()], ["report", "report", "missing"])
+        self.assertEqual(set((self.folder / "cancelled").read_text().split()), {"17"})
+        self.assertEqual(self.slurm("exit 0\n", LOST=1).status, 1)
+
+    def test_an_array_that_is_forgotten_has_ended(self):
+        self.assertEqual(self.slurm("echo 'slurm_load_jobs error: Invalid job id specified' >&2; exit 1\n", LOST=3).status, 1)
+
+    def test_a_refusal_is_said_and_the_traces_are_missing(self):
+        answer = self.slurm("exit 0\n", "echo 'no such partition' >&2; exit 1\n")
+        self.assertEqual(answer.status, 3)
+        self.assertIn("shb-farm: sbatch ended with status 1: no such partition\n", answer.err)
+
+
 class Killed(farm.Case):
     def setUp(self):
         super().setUp()
