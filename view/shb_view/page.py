@@ -2,13 +2,12 @@
 
 import base64
 import hashlib
-import os
 import pathlib
 
 from shb_view.groups import common_name
 from shb_view.issue import issue_lines, order_text
 from shb_view.markup import Markup, code, element, joined, marked
-from shb_view.names import code_line, short, shown
+from shb_view.names import code_line, short
 from shb_view.picture import picture
 from shb_view.source import excerpt
 from shb_view.words import (KINDS, MOST_SITES, MOST_THREADS, MOST_VARIABLES, NO_LOCK, Code, accesses_text, counted, listed, lock_words,
@@ -55,10 +54,8 @@ def header(view):
     races, size = summary(view)
     notes = [element("p", note, class_="verdict good" if view.verdict.is_good and not number else "faint")
              for number, note in enumerate(notes_of(view))]
-    folders = ", ".join(shown(os.fsencode(folder)) for folder in view.source.folders)
-    source = [element("p", f"This page has source lines of {folders}.", class_="faint")] if folders else []
     return element("header", *verdict, element("h1", view.title), element("p", races, class_="sum"), element("p", size, class_="faint"),
-                   *notes, *source)
+                   *notes)
 
 
 def group_name(group):

@@ -28,6 +28,7 @@ class Place(typing.NamedTuple):
     number: int
     lines: typing.List[bytes]
     fault: str
+    is_newer: bool
 
     def line(self):
         """The line, or None where it isn't there."""
@@ -40,6 +41,7 @@ class Source:
     def __init__(self, folders, written):
         """`written` is when the trace was."""
         self.folders, self.written = folders, written
+        self.read = functools.lru_cache(maxsize=64)(read_lines)
         self.paths = {}  # by base name: the paths in their folders, each with its file
         self.files = 0
         for folder in folders:
@@ -71,17 +73,26 @@ class Source:
             return None
         if len(candidates) > 1:
             base = shown(path.split(b"/")[-1])
-            return Place(path, number, [], f"{len(candidates)} files are named {base}; record with `shb-std -p`")
+            return Place(path, number, [], f"{len(candidates)} files are named {base}; record with `shb-std -p`", False)
         [(name, file)] = candidates
-        lines, modified, fault = read_lines(file)
+        lines, modified, fault = self.read(file)
+        is_newer = modified > self.written
         if not fault and not 0 < number <= len(lines):
             fault = f"the file has {counted(len(lines), 'line')}"
-        elif modified > self.written:
+        elif is_newer:
             fault = "the file is newer than the trace; its lines may have moved"
-        return Place(name, number, lines, fault)
+        return Place(name, number, lines, fault, is_newer)
+
+    def summary(self, locations):
+        """How many files of these locations are found and how many are newer than the trace, in words."""
+        places = {match[1]: self.place(location) for location in locations for match in [LOCATION.fullmatch(location)] if match}
+        found = [place for place in places.values() if place and place.lines]
+        newer = sum(place.is_newer for place in found)
+        folders = ", ".join(shown(os.fsencode(folder)) for folder in self.folders)
+        return (f"Source lines of {folders}: {len(found)} of {counted(len(places), 'file')} found, "
+                f"{newer or 'none'} newer than the trace.")
 
 
-@functools.lru_cache(maxsize=64)
 def read_lines(file):
     """A file's lines, when it was changed, and why it can't be shown."""
     try:
@@ -123,7 +134,7 @@ def function_head(place):
 
 
 class Excerpt(typing.NamedTuple):
-    """Lines around a place. `head` is the first line of its function; `held` are the numbers of the lines from the acquire of a
+    """Lines around a place. `head` is the first line of its function, nothing if that is the place; `held` are the numbers of the lines from the acquire of a
     lock to the place, if both are in one function."""
 
     place: Place
@@ -142,4 +153,4 @@ def excerpt(place, acquire):
         if acquire.number >= place.number - REACH:
             top = min(top, acquire.number)
     numbers = range(max(top, 1), min(place.number + AFTER, len(place.lines)) + 1)
-    return Excerpt(place, place.lines[head - 1] if head else b"", numbers, held)
+    return Excerpt(place, place.lines[head - 1] if 0 < head < place.number else b"", numbers, held)

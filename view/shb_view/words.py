@@ -87,6 +87,9 @@ def notes_of(view):
         yield view.verdict.words
     if view.is_sample and view.races > view.pairs:
         yield "One race of each place is listed. What is said of a group holds for the variables of its listed races."
+    if view.source.folders and view.sections:
+        shown = [site.location for section in view.sections for site in section.sites[:MOST_SITES] if site.location]
+        yield view.source.summary(shown)
 
 
 def races_text(group):
