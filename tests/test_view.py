@@ -358,7 +358,7 @@ class Groups(program.Case):
     def test_lines_that_race_on_two_variables_are_one_group(self):
         text = trace_of("A w x 1", "A w y 1", "B w x 2", "B w y 2")
         [section] = sections(text, shb.report(text, True))
-        self.assertEqual(([pair.races for pair in section.group.pairs], section.group.variables), ([2], [b"x", b"y"]))
+        self.assertEqual(([pair.races for pair in section.group.pairs], section.group.variables), ([2], (b"x", b"y")))
 
     def test_a_pair_has_no_order(self):
         text = trace_of("A w x 1", "B w x 2", "A w x 1")

@@ -26,7 +26,7 @@ MADE = 150  # traces
 QUIET = progress.Progress(io.StringIO())
 
 
-def sections(text, report, is_good=True, places=None):
+def sections(text, report, is_good=True):
     """The groups of a trace and its report, with what comes before their closest races."""
     options = argparse.Namespace(html="page", all=False)
     with tempfile.TemporaryFile() as file, tempfile.TemporaryFile() as given:
@@ -35,8 +35,9 @@ def sections(text, report, is_good=True, places=None):
         file.flush()
         given.seek(0)
         counts = Counts(*shb.counts_of(shb.read_trace(text)[0]))
-        _, gathered = view.read_report(view.Given(given, Verdict(is_good, ""), places), counts, QUIET)
-        return view.make_sections(options, Trace(file, QUIET), given, gathered, gathered.groups(), counts, Verdict(is_good, ""))
+        verdict = Verdict(is_good, "")
+        _, _, groups, lines = view.read_report(view.Given(given, verdict, None), counts, QUIET)
+        return view.make_sections(options, Trace(file, QUIET), given, groups, lines, counts, verdict)
 
 
 def windows(text, report, is_good=True):

@@ -34,10 +34,12 @@ class Counting:
         self.held = collections.defaultdict(Held)  # by thread
         self.recent = collections.defaultdict(lambda: collections.deque(maxlen=BEFORE))  # by thread: its last events
         self.forks = {}  # by thread
+        self.names = {}  # each thread's name once
 
     def read(self, trace, events):
         """Takes all events of the trace; there have to be so many."""
         self.take_all(trace)
+        self.held.clear()
         if trace.count() != events:
             raise Refused(CHANGED)
         if self.found != len(self.lines):
@@ -77,7 +79,7 @@ class Counting:
         held = self.held[thread]
         if number in self.wanted:
             self.noted[number] = Noted(array.array("I", self.recent[thread]), *held.newest())
-        counts, kind = self.counts[group], (location[0] if location else b"", thread, word, held.names())
+        counts, kind = self.counts[group], (location[0] if location else b"", self.names.setdefault(thread, thread), word, held.names())
         if kind not in counts:
             if self.kinds == MOST_KINDS:
                 kind = (None, b"", word, None)

@@ -19,8 +19,8 @@ class Pair:
 class Group(typing.NamedTuple):
     """`pairs` have most races first. `variables` are those of the listed races, in the order of these."""
 
-    pairs: typing.List[Pair]
-    variables: typing.List[bytes]
+    pairs: typing.Tuple[Pair, ...]
+    variables: typing.Tuple[bytes, ...]
 
     def races(self):
         return sum(pair.races for pair in self.pairs)
@@ -32,6 +32,10 @@ class Group(typing.NamedTuple):
     def closest(self):
         """The listed race whose events are closest in the trace, the first of these."""
         return min((pair.closest for pair in self.pairs), key=distance)
+
+    def accesses(self):
+        race = self.closest()
+        return race.first, race.second
 
 
 def distance(race):
@@ -77,7 +81,7 @@ class Gathered:
         for name in self.above:
             if isinstance(name, bytes):
                 found[self.top(name)][1].append(name)
-        return [Group(sorted(pairs, key=lambda pair: -pair.races), variables) for pairs, variables in found.values()]
+        return [Group(tuple(sorted(pairs, key=lambda pair: -pair.races)), tuple(variables)) for pairs, variables in found.values()]
 
 
 def common_name(variables):

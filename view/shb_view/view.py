@@ -66,14 +66,13 @@ def make_view(options, progress):
         analyser = Analyser(options.shb, options.trace)
         head = analyser.head()
         given = given_report(options, analyser, stack) if options.report else own_report(analyser, head, stack)
-        report, gathered = read_report(given, head.counts, progress)
-        verdict = given.verdict if report.has_schedules or given.verdict is TOO_LONG else NO_SCHEDULES
-        groups = gathered.groups()
-        sections = make_sections(options, Trace(file, progress), given.file, gathered, groups, head.counts, verdict)
+        races, has_schedules, groups, lines = read_report(given, head.counts, progress)
+        verdict = given.verdict if has_schedules or given.verdict is TOO_LONG else NO_SCHEDULES
+        sections = make_sections(options, Trace(file, progress), given.file, groups, lines, head.counts, verdict)
         title = shown(os.fsencode(os.path.basename(options.trace)))
-        races = report.head.races if given.places is None else head.races
-        return View(title, head.counts, races, len(gathered.pairs), len(groups), sections, verdict, given.places is not None,
-                    Source(options.source, os.fstat(file.fileno()).st_mtime))
+        pairs = sum(len(group.pairs) for group in groups)
+        return View(title, head.counts, races if given.places is None else head.races, pairs, len(groups), sections, verdict,
+                    given.places is not None, Source(options.source, os.fstat(file.fileno()).st_mtime))
 
 
 def open_regular(path):
@@ -86,10 +85,9 @@ def open_regular(path):
 def own_report(analyser, head, stack):
     """A report of one race of each place, with schedules that are checked if it isn't too long."""
     file = stack.enter_context(tempfile.TemporaryFile())
-    places = dict(head.places or {})
-    with_schedules = len(places) * head.counts.events * NUMBER <= MOST_REPORT
+    with_schedules = len(head.places) * head.counts.events * NUMBER <= MOST_REPORT
     analyser.write_places(with_schedules, file)
-    return Given(file, analyser.check(file) if with_schedules else TOO_LONG, places)
+    return Given(file, analyser.check(file) if with_schedules else TOO_LONG, head.places)
 
 
 def given_report(options, analyser, stack):
@@ -105,7 +103,8 @@ def given_report(options, analyser, stack):
 
 
 def read_report(given, counts, progress):
-    """The report with its races. Where it can't be read, its verdict is said too."""
+    """How many races a report has, whether with schedules, its groups, and the lines that it names by event. Where it can't be
+    read, its verdict is said too."""
     size = os.fstat(given.file.fileno()).st_size
     try:
         report = Report(given.file)
@@ -116,25 +115,19 @@ def read_report(given, counts, progress):
     except BadReport as fault:
         said = f"; `shb check` says `{given.verdict.words}`" if given.verdict.is_good is False else ""
         raise BadReport(f"{fault}{said}") from None
-    return report, gathered
+    return report.head.races, report.has_schedules, gathered.groups(), gathered.lines
 
 
-def make_sections(options, trace, report, gathered, groups, counts, verdict):
+def make_sections(options, trace, report, groups, lines, counts, verdict):
     """The groups that are shown, in the order of their facts and then most races first."""
     if not groups:
         return []
-    closest = [group.closest() for group in groups]
-    wanted = {access for race in closest for access in (race.first, race.second)}
+    wanted = {access for group in groups for access in group.accesses()}
     variables = {variable: number for number, group in enumerate(groups) for variable in group.variables}
-    counting = Counting(variables, gathered.lines, wanted)
+    counting = Counting(variables, lines, wanted)
     try:
         counting.read(trace, counts.events)
-        sections = []
-        for number, group in enumerate(groups):
-            sites = sites_of(group, counting.counts.pop(number))
-            sections.append(Section(group, sites, fact_of(sites), None))
-        sections.sort(key=lambda section: (section.fact.rank, -section.group.races()))
-        sections = sections[:MOST_GROUPS]
+        sections = [make_section(groups[number], counting.counts[number]) for number in first_groups(groups, counting.counts)]
         if not (options.html or options.all):
             return sections
         order = (lambda race, events: in_order(report, race, events)) if verdict.is_good else (lambda race, events: (events, None))
@@ -142,3 +135,14 @@ def make_sections(options, trace, report, gathered, groups, counts, verdict):
     except (IndexError, KeyError):
         raise Refused(CHANGED) from None
     return [section._replace(window=window) for section, window in zip(sections, windows)]
+
+
+def first_groups(groups, counts):
+    """The numbers of the groups that are shown. Of the others nothing is kept."""
+    order = [(make_section(group, counts[number]).fact.rank, -group.races(), number) for number, group in enumerate(groups)]
+    return [number for _, _, number in sorted(order)[:MOST_GROUPS]]
+
+
+def make_section(group, counts):
+    sites = sites_of(group, counts)
+    return Section(group, sites, fact_of(sites), None)

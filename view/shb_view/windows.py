@@ -1,5 +1,6 @@
 """The second pass over a trace: what is shown before two racing accesses, and what orders it."""
 
+import collections
 import typing
 
 from shb_view.held import Held
@@ -55,7 +56,8 @@ class Moments:
         self.latest = {}  # of a tracked operation: its last event, its thread and its moment
         self.moments = {}
         self.found = {}  # by event: its source, where that is an event of another thread
-        self.held, self.last = {}, {}  # by thread
+        self.held = collections.defaultdict(Held)  # by thread
+        self.last = {}  # by thread
 
     def read(self, trace):
         wanted, tracked, last, end = self.wanted, self.tracked, self.last, max(self.wanted, default=0)
@@ -74,7 +76,7 @@ class Moments:
                 break
 
     def note(self, number, thread, operation):
-        held = self.held.get(thread) or Held()
+        held = self.held[thread]
         frees = operation.startswith(b"rel(") and held.is_last_release(operation[4:-1])
         moment = Moment(self.last.get(thread, 0), *held.newest(), frees)
         if number in self.wanted:
@@ -90,7 +92,7 @@ class Moments:
         """Keeps the locks that the thread holds."""
         word, _, lock = operation[:-1].partition(b"(")
         if word == b"acq":
-            self.held.setdefault(thread, Held()).acquire(lock, number)
+            self.held[thread].acquire(lock, number)
         elif word == b"rel":
             self.held[thread].release(lock)
 
