@@ -47,6 +47,7 @@ exec REAL "$@"
         self.assertEqual((status, err), (0, ""))
         self.assertEqual(out.splitlines()[0],
                          "fork-join.std: 900,000,000 races at 1 pair of lines, in 1 group (7 events, 2 threads, 0 locks, 2 variables)")
+        self.assertIn("\n1. count and perhaps others: 2 threads write (900,000,000 races, 1 pair of lines)\n", out)
         self.assertIn("     races with worker.c:3 (900,000,000 races)", out)
 
     def test_no_schedules_where_they_would_be_long(self):

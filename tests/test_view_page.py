@@ -204,7 +204,7 @@ class Pages(program.Case):
     def test_no_races(self):
         page = self.page(self.example("hidden-by-lock"))
         self.assertEqual((page.all("section"), page.all("table")), ([], []))
-        self.assertEqual([text for _, text in page.all("p", "sum")], ["no races"])
+        self.assertEqual([text for _, text in page.all("p", "sum")], ["0 races"])
 
 
 class Pictures(program.Case):

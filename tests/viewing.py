@@ -19,6 +19,7 @@ sys.path.insert(0, str(VIEW))
 
 from shb_view import command, progress, view
 from shb_view.analyser import Verdict
+from shb_view.groups import Gathered
 from shb_view.report import Counts
 from shb_view.trace import Trace
 
@@ -36,8 +37,9 @@ def sections(text, report, is_good=True):
         given.seek(0)
         counts = Counts(*shb.counts_of(shb.read_trace(text)[0]))
         verdict = Verdict(is_good, "")
-        _, _, groups, lines = view.read_report(view.Given(given, verdict, None), counts, QUIET)
-        return view.make_sections(options, Trace(file, QUIET), given, groups, lines, counts, verdict)
+        gathered = Gathered()
+        view.read_report(view.Given(given, verdict, None), counts, gathered, QUIET)
+        return view.make_sections(options, Trace(file, QUIET), given, gathered.groups(), gathered.lines, counts, verdict)
 
 
 def windows(text, report, is_good=True):

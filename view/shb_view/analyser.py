@@ -7,10 +7,11 @@ import typing
 
 from shb_view.faults import BadReport, Refused
 from shb_view.names import short
-from shb_view.report import Head, Lines
+from shb_view.report import Report
 
 MOST_BYTES = 4_096  # of the program's words that are looked at
 MOST_SAID = 200  # columns of the program's words that are shown
+MOST_LISTED = 100_000  # races of a list that is read to its end
 BAD = 5  # the status of `shb check` for a bad report
 REFUSED = 2  # the status of `shb` for a refused trace
 
@@ -36,12 +37,17 @@ class Analyser:
             name = short(os.fsencode(self.program), MOST_SAID)
             raise Refused(f"`{name}` can't be run ({fault.strerror}); SHB=PROGRAM names another `shb`") from None
 
-    def head(self):
-        """What `races --list` begins with. The rest of it isn't read."""
+    def head(self, take):
+        """What `races --list` begins with. Its races are given to `take`, if that isn't None and they are few; else the
+        rest isn't read."""
         words = ["races", "--list"]
         with self.started(words, stdin=subprocess.DEVNULL, stdout=subprocess.PIPE) as process:
             try:
-                return Head(Lines(process.stdout))
+                report = Report(process.stdout)
+                if take and report.head.races <= MOST_LISTED:
+                    for race in report.races(lambda done: None):
+                        take(race)
+                return report.head
             except BadReport as fault:
                 self.end(words, process, (0,))
                 raise Refused(f"`shb races --list` wrote no report: {fault}") from None

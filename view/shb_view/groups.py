@@ -3,27 +3,32 @@
 import re
 import typing
 
+from shb_view.words import Code
+
 NAME = re.compile(rb"(?P<base>.*?)(?P<block>#[0-9]+)?(?P<offset>[+-](?:0x[0-9a-f]+|[0-9]+))?", re.S)  # as the recorder writes them
 
 
 class Pair:
-    """Two lines that race. A pair has no order. `races` is how many there are, `closest` the listed one whose events are closest
-    in the trace."""
+    """Two lines that race. A pair has no order. `races` is how many there are, `listed` how many of these the report has, and
+    `closest` the one of these whose events are closest in the trace."""
 
-    __slots__ = ("locations", "races", "closest")
+    __slots__ = ("locations", "races", "listed", "closest")
 
     def __init__(self, locations, race):
-        self.locations, self.races, self.closest = locations, 0, race
+        self.locations, self.races, self.listed, self.closest = locations, 0, 0, race
 
 
 class Group(typing.NamedTuple):
-    """`pairs` have most races first. `variables` are those of the listed races, in the order of these."""
+    """`pairs` have most races first. `variables` are those of the races that were read, in the order of these."""
 
     pairs: typing.Tuple[Pair, ...]
     variables: typing.Tuple[bytes, ...]
 
     def races(self):
         return sum(pair.races for pair in self.pairs)
+
+    def listed(self):
+        return sum(pair.listed for pair in self.pairs)
 
     def locations(self):
         """The racing lines."""
@@ -51,6 +56,11 @@ class Gathered:
         self.lines = {}  # the line of each event that is named
         self.texts = {}  # each line once
 
+    def share(self, race):
+        """Takes the variable of a race that isn't shown itself."""
+        (_, first), (_, second) = race.events()
+        self.join(tuple(sorted((first.location, second.location))), first.name)
+
     def add(self, race, places):
         """Takes a race; `places` has how many races each place has, if that is known."""
         (_, first), (_, second) = race.events()
@@ -58,6 +68,7 @@ class Gathered:
         locations = tuple(sorted(place))
         pair = self.pairs.setdefault(locations, Pair(locations, race))
         pair.races += places.pop(place, 0) if places is not None else 1
+        pair.listed += 1
         pair.closest = min(pair.closest, race, key=distance)
         self.join(locations, first.name)
         for number, line in ((race.first, race.first_line), (race.second, race.second_line)):
@@ -82,6 +93,13 @@ class Gathered:
             if isinstance(name, bytes):
                 found[self.top(name)][1].append(name)
         return [Group(tuple(sorted(pairs, key=lambda pair: -pair.races)), tuple(variables)) for pairs, variables in found.values()]
+
+
+def group_name(view, group):
+    """What a group is about, as parts. Of a sample the other races may be of further variables."""
+    name, more = common_name(group.variables)
+    others = "and perhaps others" if view.is_sample and group.listed() < group.races() else ""
+    return [Code(name), *(f" {words}" for words in (more, others) if words)]
 
 
 def common_name(variables):

@@ -1,6 +1,5 @@
 """A race as a text that can be pasted into an issue."""
 
-from shb_view.groups import common_name
 from shb_view.names import code_line, short
 from shb_view.words import KINDS, NO_LOCK, Code, counted, listed, place
 

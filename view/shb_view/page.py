@@ -4,7 +4,7 @@ import base64
 import hashlib
 import pathlib
 
-from shb_view.groups import common_name
+from shb_view.groups import group_name
 from shb_view.issue import issue_lines, order_text
 from shb_view.markup import Markup, code, element, joined, marked
 from shb_view.names import code_line, short
@@ -58,16 +58,11 @@ def header(view):
                    *notes)
 
 
-def group_name(group):
-    name, more = common_name(group.variables)
-    return joined([code(name, NAME), f" {more}" if more else ""])
-
-
 def group_list(view):
     """A row for each group, with its fact."""
     rows = []
     for number, section in enumerate(view.sections, 1):
-        link = element("a", f"{number}. ", group_name(section.group), href=f"#g{number}")
+        link = element("a", f"{number}. ", marked(group_name(view, section.group), NAME), href=f"#g{number}")
         tag = element("span", marked(section.fact.tag, NAME), class_="tag")
         races = element("span", races_text(section.group), class_="faint")
         rows.append(element("li", link, " ", tag, " ", races, element("p", marked(section.fact.sentence, NAME)),
@@ -80,7 +75,7 @@ def group_list(view):
 def section_part(view, number, section):
     """All that is said of a group."""
     anchor = f"g{number}e"
-    parts = [element("h2", element("a", number, href=f"#g{number}"), " ", group_name(section.group), ": ",
+    parts = [element("h2", element("a", number, href=f"#g{number}"), " ", marked(group_name(view, section.group), NAME), ": ",
                      marked(section.fact.tag, NAME)),
              element("p", marked(section.fact.sentence, NAME), " ", races_text(section.group), ". ",
                      element("a", "All groups", href="#groups", class_="back"))]

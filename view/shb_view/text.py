@@ -1,6 +1,6 @@
 """The text form: the groups, each with its fact and the lines that use its variables."""
 
-from shb_view.groups import common_name
+from shb_view.groups import group_name
 from shb_view.issue import issue_lines
 from shb_view.names import code_line, padded, short
 from shb_view.words import (MOST_SITES, MOST_THREADS, MOST_VARIABLES, Code, accesses_text, counted, listed, lock_words, notes_of,
@@ -55,10 +55,10 @@ def text_lines(view, colours, is_whole):
 
 
 def section_lines(view, number, section, colours):
-    name, more = common_name(section.group.variables)
-    yield colours.bold(f"{number}. {' '.join(filter(None, [short(name, NAME), more]))}: {flat(section.fact.tag)}") + f" ({races_text(section.group)})"
+    name = flat(group_name(view, section.group))
+    yield colours.bold(f"{number}. {name}: {flat(section.fact.tag)}") + f" ({races_text(section.group)})"
     yield f"   {flat(section.fact.sentence)}"
-    if more:
+    if len(section.group.variables) > 1:
         yield f"   Variables: {flat(listed([[Code(name)] for name in section.group.variables], MOST_VARIABLES))}"
     for site in section.sites[:MOST_SITES]:
         yield from site_lines(view, section, site, colours)

@@ -8,7 +8,7 @@ import sys
 import tempfile
 import typing
 
-from shb_view.analyser import Analyser, Verdict
+from shb_view.analyser import MOST_LISTED, Analyser, Verdict
 from shb_view.counting import Counting
 from shb_view.facts import Fact, Site, fact_of, sites_of
 from shb_view.faults import BadReport, Refused
@@ -37,12 +37,13 @@ class Section(typing.NamedTuple):
 
 
 class View(typing.NamedTuple):
-    """All that is shown. `pairs` and `groups` are how many there are, `sections` those that are shown. `is_sample` says that the
-    report lists one race of each place."""
+    """All that is shown. `races` is how many the trace has, `listed` how many of these a given report has. `pairs` and `groups` are
+    how many there are, `sections` those that are shown. `is_sample` says that of each place one race is known."""
 
     title: str
     counts: Counts
     races: int
+    listed: int
     pairs: int
     groups: int
     sections: typing.List[Section]
@@ -64,15 +65,19 @@ def make_view(options, progress):
     with contextlib.ExitStack() as stack:
         file = stack.enter_context(open_regular(options.trace))
         analyser = Analyser(options.shb, options.trace)
-        head = analyser.head()
+        gathered = Gathered()
+        head = analyser.head(None if options.report else gathered.share)
         given = given_report(options, analyser, stack) if options.report else own_report(analyser, head, stack)
-        races, has_schedules, groups, lines = read_report(given, head.counts, progress)
+        listed, has_schedules = read_report(given, head.counts, gathered, progress)
+        groups, lines = gathered.groups(), gathered.lines
+        del gathered
         verdict = given.verdict if has_schedules or given.verdict is TOO_LONG else NO_SCHEDULES
         sections = make_sections(options, Trace(file, progress), given.file, groups, lines, head.counts, verdict)
         title = shown(os.fsencode(os.path.basename(options.trace)))
         pairs = sum(len(group.pairs) for group in groups)
-        return View(title, head.counts, races if given.places is None else head.races, pairs, len(groups), sections, verdict,
-                    given.places is not None, Source(options.source, os.fstat(file.fileno()).st_mtime))
+        source = Source(options.source, os.fstat(file.fileno()).st_mtime)
+        return View(title, head.counts, head.races, listed if options.report else head.races, pairs, len(groups), sections, verdict,
+                    not options.report and head.races > MOST_LISTED, source)
 
 
 def open_regular(path):
@@ -102,20 +107,19 @@ def given_report(options, analyser, stack):
     return Given(file, analyser.check(file) if options.check else NOT_ASKED, None)
 
 
-def read_report(given, counts, progress):
-    """How many races a report has, whether with schedules, its groups, and the lines that it names by event. Where it can't be
-    read, its verdict is said too."""
+def read_report(given, counts, gathered, progress):
+    """Gathers the races of a report, and gives how many there are and whether they have schedules. Where it can't be read, its
+    verdict is said too."""
     size = os.fstat(given.file.fileno()).st_size
     try:
         report = Report(given.file)
         report.check_counts(counts)
-        gathered = Gathered()
         for race in report.races(lambda done: progress.step("reading the report", done, size)):
             gathered.add(race, given.places)
     except BadReport as fault:
         said = f"; `shb check` says `{given.verdict.words}`" if given.verdict.is_good is False else ""
         raise BadReport(f"{fault}{said}") from None
-    return report.head.races, report.has_schedules, gathered.groups(), gathered.lines
+    return report.head.races, report.has_schedules
 
 
 def make_sections(options, trace, report, groups, lines, counts, verdict):

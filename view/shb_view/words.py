@@ -75,8 +75,9 @@ def partner_parts(site):
 def summary(view):
     """How much the report and the trace have."""
     size = ", ".join(counted(count, name[:-1]) for name, count in view.counts._asdict().items())
-    pairs, groups = counted(view.pairs, "pair"), counted(view.groups, "group")
-    return f"{counted(view.races, 'race')} at {pairs} of lines, in {groups}" if view.races else "no races", size
+    races = counted(view.races, "race") if view.listed == view.races else f"{view.listed:,} of {counted(view.races, 'race')}"
+    lines = f" at {counted(view.pairs, 'pair')} of lines, in {counted(view.groups, 'group')}" if view.groups else ""
+    return f"{races}{lines}", size
 
 
 def notes_of(view):
@@ -85,8 +86,11 @@ def notes_of(view):
         yield f"shb check: {view.verdict.words}"
     elif view.verdict.is_good is None and view.races:
         yield view.verdict.words
-    if view.is_sample and view.races > view.pairs:
-        yield "One race of each place is listed. What is said of a group holds for the variables of its listed races."
+    if view.listed < view.races:
+        yield "The report has not all races of the trace; the counts are the report's."
+    if view.is_sample:
+        yield ("The trace has too many races to look at each. Of each place one is known, and what is said of a group holds for the "
+               "variables of these.")
     if view.source.folders and view.sections:
         shown = [site.location for section in view.sections for site in section.sites[:MOST_SITES] if site.location]
         yield view.source.summary(shown)
