@@ -38,15 +38,15 @@ class Analyser:
             raise Refused(f"`{name}` can't be run ({fault.strerror}); SHB=PROGRAM names another `shb`") from None
 
     def head(self, take):
-        """What `races --list` begins with. Its races are given to `take`, if that isn't None and they are few; else the
-        rest isn't read."""
+        """What `races --list` begins with. The accesses of its races are given to `take`, if there is one and the races
+        are few; else the rest isn't read."""
         words = ["races", "--list"]
         with self.started(words, stdin=subprocess.DEVNULL, stdout=subprocess.PIPE) as process:
             try:
                 report = Report(process.stdout)
                 if take and report.head.races <= MOST_LISTED:
-                    for race in report.races(lambda done: None):
-                        take(race)
+                    for _, accesses in report.races(lambda done: None):
+                        take(*accesses)
                 return report.head
             except BadReport as fault:
                 self.end(words, process, (0,))

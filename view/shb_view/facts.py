@@ -66,7 +66,9 @@ def sites_of(group, counts):
 
 def fact_of(sites):
     """The first fact that applies. Locks that more accesses hold come first."""
-    locks = sum((site.locks for site in sites), collections.Counter())
+    locks = collections.Counter()
+    for site in sites:
+        locks.update(site.locks)
     names = [] if any(site.unknown for site in sites) else sorted(locks, key=lambda lock: (-locks[lock], lock))
     for fact in (held_at_all, held_at_writes, held_at_some):
         for lock in names:

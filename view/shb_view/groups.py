@@ -56,14 +56,12 @@ class Gathered:
         self.lines = {}  # the line of each event that is named
         self.texts = {}  # each line once
 
-    def share(self, race):
-        """Takes the variable of a race that isn't shown itself."""
-        (_, first), (_, second) = race.events()
+    def share(self, first, second):
+        """Takes the variable of two racing accesses that aren't shown themselves."""
         self.join(tuple(sorted((first.location, second.location))), first.name)
 
-    def add(self, race, places):
-        """Takes a race; `places` has how many races each place has, if that is known."""
-        (_, first), (_, second) = race.events()
+    def add(self, race, first, second, places):
+        """Takes a race and its accesses; `places` has how many races each place has, if that is known."""
         place = first.location, second.location
         locations = tuple(sorted(place))
         pair = self.pairs.setdefault(locations, Pair(locations, race))

@@ -44,10 +44,6 @@ class Race(typing.NamedTuple):
     second_line: bytes
     schedule: typing.Optional[int]
 
-    def events(self):
-        """The two accesses with their fields."""
-        return (self.first, event_of(self.first_line)), (self.second, event_of(self.second_line))
-
 
 class Lines:
     """The lines of a report, one after the other."""
@@ -147,13 +143,13 @@ class Report:
             raise BadReport(f"the report is of another trace: this one has {'; '.join(wrong)}")
 
     def races(self, progress):
-        """The races, one after the other; the rest of the report is read with the last."""
+        """The races, one after the other, each with its two accesses; the rest of the report is read with the last."""
         places = {}
         for number in range(1, self.head.races + 1):
-            race = self.read_race(number)
-            place = tuple(event.location for _, event in race.events())
+            race, accesses = self.read_race(number)
+            place = accesses[0].location, accesses[1].location
             places[place] = places.get(place, 0) + 1
-            yield race
+            yield race, accesses
             progress(self.lines.bytes)
         self.lines.next(END, "end")
         if self.lines.line:
@@ -165,19 +161,19 @@ class Report:
         first, second = self.lines.numbered(RACE, f"race {number}: I J", number)
         [first_line] = self.lines.next(FIRST, "first ACCESS")
         [second_line] = self.lines.next(SECOND, "second ACCESS")
-        self.check_pair(number, (first, event_of(first_line)), (second, event_of(second_line)))
+        accesses = event_of(first_line), event_of(second_line)
+        self.check_pair(number, first, second, *accesses)
         if number == 1:
             self.has_schedules = self.lines.line.startswith(b"schedule ")
         schedule = self.lines.pass_schedule() if self.has_schedules else None
-        return Race(number, first, second, first_line, second_line, schedule)
+        return Race(number, first, second, first_line, second_line, schedule), accesses
 
-    def check_pair(self, number, first, second):
-        """Refuses a pair that isn't one of conflicting accesses."""
-        (one, a), (other, b) = first, second
-        if not 0 < one < other <= self.head.counts.events:
-            raise BadReport(f"race {number} of the report: {one} and {other} aren't two events of the trace, the earlier first")
-        if a.name != b.name or a.thread == b.thread or b"w" not in (a.word, b.word):
-            raise BadReport(f"race {number} of the report: the events {one} and {other} don't conflict")
+    def check_pair(self, number, first, second, one, other):
+        """Refuses a pair of events that aren't conflicting accesses, as the report has them."""
+        if not 0 < first < second <= self.head.counts.events:
+            raise BadReport(f"race {number} of the report: {first} and {second} aren't two events of the trace, the earlier first")
+        if one.name != other.name or one.thread == other.thread or b"w" not in (one.word, other.word):
+            raise BadReport(f"race {number} of the report: the events {first} and {second} don't conflict")
 
 
 def in_order(file, race, events):

@@ -2,7 +2,7 @@
 
 from shb_view.groups import group_name
 from shb_view.issue import issue_lines
-from shb_view.names import code_line, padded, short
+from shb_view.names import code_line, columns, padded, short
 from shb_view.words import (MOST_SITES, MOST_THREADS, MOST_VARIABLES, Code, accesses_text, counted, listed, lock_words, notes_of,
                             operation_text, partner_parts, place, races_text, summary)
 
@@ -87,6 +87,6 @@ def window_lines(window, verdict):
     yield f"   Before the accesses: {'nothing' if not window.before else ''}".rstrip()
     rows = [window.events[event] for event in window.before]
     texts = [(str(row.number), short(row.event.thread, NAME), operation_text(row.event, NAME)) for row in rows]
-    widths = [max(map(len, column), default=0) for column in zip(*texts)]
+    widths = [max(map(columns, column)) for column in zip(*texts)]
     for row, (number, thread, operation) in zip(rows, texts):
         yield f"     {number:>{widths[0]}}  {padded(thread, widths[1])}  {padded(operation, widths[2])}  {flat([place(row.event.location)])}"

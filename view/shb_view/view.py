@@ -114,8 +114,8 @@ def read_report(given, counts, gathered, progress):
     try:
         report = Report(given.file)
         report.check_counts(counts)
-        for race in report.races(lambda done: progress.step("reading the report", done, size)):
-            gathered.add(race, given.places)
+        for race, accesses in report.races(lambda done: progress.step("reading the report", done, size)):
+            gathered.add(race, *accesses, given.places)
     except BadReport as fault:
         said = f"; `shb check` says `{given.verdict.words}`" if given.verdict.is_good is False else ""
         raise BadReport(f"{fault}{said}") from None
