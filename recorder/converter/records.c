@@ -73,6 +73,11 @@ void open_record(const char *path) {
 int is_atomic(u64 i) { return operation_of(i) >= OP_ATOMIC_LOAD && operation_of(i) <= OP_ATOMIC_UPDATE; }
 int writes_atomically(u64 i) { return is_atomic(i) && operation_of(i) != OP_ATOMIC_LOAD; }
 
+/* The memory order of an atomic access or a fence: does it take over what a release gave, does it give on? */
+static u64 order_of(u64 i) { return operation_of(i) == OP_FENCE ? size_of(i) : size_of(i) >> ATOMIC_SIZE_BITS; }
+int acquires(u64 i) { return order_of(i) != __ATOMIC_RELAXED && order_of(i) != __ATOMIC_RELEASE; }
+int releases(u64 i) { return order_of(i) >= __ATOMIC_RELEASE; }
+
 int writes_plainly(u64 i) {
     enum operation operation = operation_of(i);
     return operation == OP_WRITE || operation == OP_FREE || operation == OP_DESTROY;
@@ -97,8 +102,8 @@ static u64 freed_bytes(u64 address) {
 
 u64 accessed_bytes(u64 i) {
     switch (operation_of(i)) {
-    case OP_READ: case OP_WRITE:
-    case OP_ATOMIC_LOAD: case OP_ATOMIC_STORE: case OP_ATOMIC_UPDATE: return size_of(i);
+    case OP_READ: case OP_WRITE: return size_of(i);
+    case OP_ATOMIC_LOAD: case OP_ATOMIC_STORE: case OP_ATOMIC_UPDATE: return size_of(i) & ((1 << ATOMIC_SIZE_BITS) - 1);
     case OP_FREE: return freed_bytes(address_of(i));
     case OP_DESTROY: return 1;
     default: return uses_object(i);
