@@ -47,7 +47,7 @@ typedef const struct timespec *deadline;
 #define BEGINS(name, operation, object, size, parameters, arguments) \
     PUBLIC int name parameters { \
         thread *t = enter(MAY_YIELD); \
-        if (t && others) put(t, OP_DESTROY, object, 0, CALLER); \
+        if (t && others && !tells_its_own_order(CALLER)) put(t, OP_DESTROY, object, 0, CALLER); \
         if (t) put(t, operation, object, size, CALLER); \
         int r = REAL(name) arguments; \
         if (t) leave(t); \
@@ -58,7 +58,7 @@ typedef const struct timespec *deadline;
     PUBLIC type name(parameter *object) { \
         thread *t = others ? enter(MAY_YIELD) : 0; \
         if (t) { \
-            put(t, OP_DESTROY, object, 0, CALLER); \
+            if (!tells_its_own_order(CALLER)) put(t, OP_DESTROY, object, 0, CALLER); \
             give_turn(t); \
             leave(t); \
         } \

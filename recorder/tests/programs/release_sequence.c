@@ -22,8 +22,9 @@ static void *second(void *unused) {
     return (void *)(long)seen;
 }
 static void *third(void *unused) {
-    while (atomic_load_explicit(&by_other, memory_order_acquire) != 2) ;
-    int sum = ended; /* RACE */
+    while (atomic_load_explicit(&by_other, memory_order_relaxed) != 2) ;
+    int sum = atomic_load_explicit(&by_other, memory_order_acquire);
+    sum += ended; /* RACE */
     while (atomic_load_explicit(&by_updates, memory_order_acquire) != 2) ;
     sum += updated;
     while (atomic_load_explicit(&by_own, memory_order_acquire) != 2) ;
