@@ -24,6 +24,8 @@ u64 mix(u64 a, u64 b);
 extern u64 record_count;
 extern const char *recording_cut;      /* why the record is not that of the whole run; or null */
 void open_record(const char *path);
+enum { RECORDS_AT_ONCE = 1 << 20 };    /* a multiple of a page's; so many are in memory at a time */
+void forget_records(u64 from, u64 end);
 enum operation operation_of(u64 i);
 u64 address_of(u64 i), caller_of(u64 i), size_of(u64 i);
 u32 thread_of(u64 i);

@@ -48,6 +48,7 @@ static const char *shortened;
 static void pass(void (*step)(u64)) {
     begin_memory_pass();
     for (u64 i = 0; i < record_count && !cut_reason; i++) {
+        if (i && i % RECORDS_AT_ONCE == 0) forget_records(i - RECORDS_AT_ONCE, i);
         if (operation_of(i) == OP_SIZE) continue;
         meet_block(i);
         step(i);
