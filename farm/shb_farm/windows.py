@@ -8,10 +8,8 @@ import os
 import shutil
 
 from shb_farm import files, passes, reports, running
-from shb_farm.limits import MIB, MOST_BYTES
+from shb_farm.limits import MIB, MOST_BYTES, MOST_EVENTS
 from shb_farm.running import End
-
-EVENTS = 4_000_000      # of the 4,194,304 that a trace may have: a window begins with the locks that are held
 
 
 def analysed(work, name, trace, folder):
@@ -37,7 +35,7 @@ def cut(work, trace, folder):
     """Cuts an open trace into windows, each of which may be as long as the program takes."""
     with files.temporary_file(passes.room_in(work.out)) as (out, _):
         wide = work._replace(size=max(work.size, MOST_BYTES // MIB))
-        status, said = running.run(wide, [work.windows, "-n", str(EVENTS), "-o", str(folder)], trace, out)
+        status, said = running.run(wide, [work.windows, "-n", str(MOST_EVENTS), "-o", str(folder)], trace, out)
     return running.end_of(wide, status, said, 0)
 
 

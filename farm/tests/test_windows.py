@@ -29,7 +29,7 @@ class Windows(farm.Case):
 
     def test_its_windows_are_joined(self):
         self.assertEqual(self.farm(SHB_WINDOWS=self.cutter(WINDOWS)).status, 1)
-        self.assertEqual((self.folder / "words").read_text(), "-n 4000000 -o\n")
+        self.assertEqual((self.folder / "words").read_text(), "-n 4194304 -o\n")
         self.assertEqual(int((self.folder / "given").read_text()), len(LONG))
         self.assertEqual(self.ends()["long.std"], ("report", "3 windows"))
         self.assertEqual(self.table("places.tsv"), [["2", "unknown", "a.c:1", "b.c:2", "race.std", "reports/race.std.report"],
