@@ -234,21 +234,23 @@ def memory(cluster, farm, out):
         print(f"  {kills[1] if kills else '?'} processes were killed for memory, {farm.made(out)} of {farm.count} outcomes", flush=True)
         restart_in(cluster, group.parent)
     finally:
-        for name in ("n1", "n2"):
-            cluster.kill(name)
+        restart_nodes(cluster)
         time.sleep(2)
         group.rmdir()
-        cluster.up()
     return status
+
+
+def restart_nodes(cluster):
+    for name in ("n1", "n2"):
+        cluster.kill(name)
+    cluster.up()
 
 
 def restart_in(cluster, group):
     """Starts both nodes anew in a group of processes: a child joins the group of its parent."""
-    for name in ("n1", "n2"):
-        cluster.kill(name)
     home = (group.parent if group.name == "shb-farm-nodes" else group) / "cgroup.procs"
     (group / "cgroup.procs").write_text(str(os.getpid()))
-    cluster.up()
+    restart_nodes(cluster)
     home.write_text(str(os.getpid()))
 
 
@@ -256,6 +258,7 @@ def disk(cluster, farm, out):
     """The folder of the outcomes is on a disk that is full at once; then it has room."""
     out.mkdir()
     subprocess.run(["mount", "-t", "tmpfs", "-o", "size=64k", "none", out], check=True)
+    restart_nodes(cluster)      # a node sees what was mounted before it began
     try:
         status = farm.took("slurm on a disk of 64 KiB", farm.slurm(out))
         print(f"  {farm.made(out)} of {farm.count} outcomes", flush=True)
@@ -265,6 +268,7 @@ def disk(cluster, farm, out):
         shutil.copytree(out, kept)
     finally:
         subprocess.run(["umount", out], check=True)
+        restart_nodes(cluster)
     out.rmdir()
     kept.rename(out)
     return status
