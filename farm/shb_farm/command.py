@@ -71,7 +71,8 @@ def arguments(words):
     parser.add_argument("--known", metavar="FILE", help="places to pass over")
     parser.add_argument("--engine", choices=sorted(engines.ENGINES), default="xargs",
                         help="xargs: this machine (the default); slurm: a job array on a cluster whose nodes see the same folders")
-    parser.add_argument("--jobs", metavar="N", type=number, default=os.cpu_count(), help="with xargs: traces at once (as many as processors)")
+    parser.add_argument("--jobs", metavar="N", type=number, default=os.cpu_count(),
+                        help="with xargs: traces at once (as many as processors)")
     parser.add_argument("--memory", metavar="MIB,..", type=numbers, help="memory of each pass; a trace that needs more goes on to "
                         "the next (256,1024,4096, then with xargs what the machine has, with slurm 16384)")
     parser.add_argument("--seconds", metavar="N", type=number, default=3600, help="processor time of a trace (%(default)s)")

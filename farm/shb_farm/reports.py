@@ -21,7 +21,7 @@ def analysed(work, name, trace):
             return end, places
         trace.seek(0)
     with tempfile.TemporaryDirectory(dir=passes.room_in(work.out)) as folder:
-        return windows.analysed(work, name, trace, pathlib.Path(folder))
+        return windows.analysed(work, name, trace, pathlib.Path(folder) / "windows")
 
 
 def report_of(work, trace, path):

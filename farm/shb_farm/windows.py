@@ -13,7 +13,9 @@ from shb_farm.running import End
 
 
 def analysed(work, name, trace, folder):
-    """How the program ended on the windows of an open trace, and the places that it found. `folder` is empty, for the windows."""
+    """How the program ended on the windows of an open trace, and the places that it found. `folder` is for the windows, and isn't
+    there yet."""
+    folder.mkdir()
     end = cut(work, trace, folder)
     places, found = {}, sorted(folder.glob("window-*.std"))
     if not found and end.kind == "report":
@@ -58,6 +60,5 @@ def put_reports(folder, place):
         if not window.with_suffix(".report").exists():
             window.unlink()
     place.parent.mkdir(parents=True, exist_ok=True)
-    os.chmod(folder, 0o755)
     shutil.rmtree(place, ignore_errors=True)
-    shutil.copytree(folder, place)
+    os.rename(folder, place)
