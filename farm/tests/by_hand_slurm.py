@@ -67,7 +67,7 @@ class Cluster:
         os.environ["SLURM_CONF"] = str(run / "slurm.conf")
 
     def start(self, name):
-        """Starts what doesn't run."""
+        """Starts a daemon if it doesn't run."""
         if name in self.started and self.started[name].poll() is None:
             return
         words = {"munged": ["munged", "--foreground", "--force", f"--socket={self.run}/munge.socket", f"--key-file={self.run}/munge.key",
@@ -75,13 +75,13 @@ class Cluster:
                  "slurmctld": ["slurmctld", "-D"]}.get(name, ["unshare", "--pid", "--fork", "--kill-child", "--mount-proc", "slurmd", "-D", "-N", name])
         with open(self.run / f"{name}.said", "ab") as said:
             self.started[name] = subprocess.Popen(words, stdin=subprocess.DEVNULL, stdout=said, stderr=said)
+        time.sleep(1)
 
     def up(self):
         """Starts all that doesn't run, and waits until both nodes are ready."""
-        for name in ("munged", "slurmctld", "n1", "n2"):
-            self.start(name)
-            time.sleep(1)
         for _ in range(120):
+            for name in ("munged", "slurmctld", "n1", "n2"):
+                self.start(name)
             subprocess.run(["scontrol", "update", "nodename=n1,n2", "state=resume"], stderr=subprocess.DEVNULL)
             shown = subprocess.run(["scontrol", "-o", "show", "nodes"], stdout=subprocess.PIPE, stderr=subprocess.DEVNULL).stdout.decode()
             if len(re.findall(r"State=(?:IDLE|MIXED|ALLOCATED)(?![*+])", shown)) == 2:

@@ -54,6 +54,7 @@ class Tree(installing.Case):
 
     def test_commands_find_their_parts_without_an_environment(self):
         """Also through links from another folder, and with nothing of the checkout."""
+        self.need("python3", os.defpath)
         trace = self.folder / "traces" / "race.std"
         trace.parent.mkdir()
         trace.write_text(RACE)
@@ -73,6 +74,7 @@ class Tree(installing.Case):
         self.assertEqual((results / "unknown.places").read_text(), "account.c:10\taccount.c:8\n")
 
     def test_a_farm_cuts_a_long_trace(self):
+        self.need("python3", os.defpath)
         trace = self.folder / "traces" / "long.std"
         trace.parent.mkdir()
         with open(trace, "w") as file:
