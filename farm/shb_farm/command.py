@@ -198,7 +198,7 @@ def main(words):
     except (Refused, engines.NotInstalled) as refused:
         said = str(refused)
     except OSError as fault:
-        said = f"{fault.filename}: {fault.strerror}" if fault.filename else str(fault)
+        said = files.words_of(fault)
     except KeyboardInterrupt:
         return 130
     print(f"shb-farm: {said}", file=sys.stderr)

@@ -49,7 +49,8 @@ def main(words):
             kind = make_outcome(work, name)
         except (OSError, running.NotHere) as fault:
             kind = "failed"
-            print(f"shb-farm: {name}: {fault}", file=sys.stderr)
+            said = files.words_of(fault) if isinstance(fault, OSError) else str(fault)
+            print(f"shb-farm: {name}: {said}", file=sys.stderr)
         if kind == "failed":
             status = 1
     return status

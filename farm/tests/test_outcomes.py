@@ -146,7 +146,7 @@ class Engines(farm.Case):
         answer = self.farm()
         self.assertEqual(answer.status, 3)
         self.assertEqual(self.ends()["bad.std"], ("missing", "its job didn't end"))
-        self.assertIn("shb-farm: bad.std: ", answer.err)
+        self.assertRegex(answer.err, r"(?m)^shb-farm: bad\.std: .*: Is a directory$")
         place.rmdir()
         self.assertEqual(self.farm().status, 1)
 
