@@ -1,6 +1,7 @@
 """The words of the command, its passes and its statuses."""
 
 import argparse
+import contextlib
 import os
 import pathlib
 import shutil
@@ -47,7 +48,7 @@ Environment:
   SHB          the program to run, if not the one that came with this command
   SHB_WINDOWS  the same of shb-windows, which cuts traces that are too long
 """
-TEMPORARY_SECONDS = 86_400      # what a killed run has left is deleted after a day
+TEMPORARY_SECONDS = 86_400      # a day: no run takes longer to write a file or to cut a trace
 
 
 class Farm(typing.NamedTuple):
@@ -71,7 +72,7 @@ def arguments(words):
     parser.add_argument("--known", metavar="FILE", help="places to pass over")
     parser.add_argument("--engine", choices=sorted(engines.ENGINES), default="xargs",
                         help="xargs: this machine (the default); slurm: a job array on a cluster whose nodes see the same folders")
-    parser.add_argument("--jobs", metavar="N", type=number, default=os.cpu_count(),
+    parser.add_argument("--jobs", metavar="N", type=number, default=len(os.sched_getaffinity(0)),
                         help="with xargs: traces at once (as many as processors)")
     parser.add_argument("--memory", metavar="MIB,..", type=numbers, help="memory of each pass; a trace that needs more goes on to "
                         "the next (256,1024,4096, then with xargs what the machine has, with slurm 16384)")
@@ -138,9 +139,11 @@ def known_in(path):
 
 
 def clean(room):
+    """Deletes what killed runs have left. Other farms may work in the same folder: what they delete meanwhile is passed over."""
     for path in room.iterdir():
-        if path.stat().st_mtime < time.time() - TEMPORARY_SECONDS:
-            shutil.rmtree(path) if path.is_dir() else path.unlink()
+        with contextlib.suppress(FileNotFoundError):
+            if path.stat().st_mtime < time.time() - TEMPORARY_SECONDS:
+                shutil.rmtree(path) if path.is_dir() else path.unlink()
 
 
 def run_passes(farm, work, names):
