@@ -41,6 +41,13 @@ class Windows(farm.Case):
         self.assertIn(b"\nschedule 0:\n", (kept / "window-0002.report").read_bytes())
         self.assertEqual(list((self.out / "tmp").iterdir()), [])
 
+    def test_a_trace_with_too_many_threads_is_cut_once_the_command_is_there(self):
+        self.trace("long.std", b"".join(b"T%d|w(x%d)|q\n" % (number, number) for number in range(1025)))
+        self.assertEqual(self.farm().status, 1)
+        self.assertEqual(self.ends()["long.std"], ("refused", "line 1025: there are more than 1024 threads"))
+        self.assertEqual(self.farm(SHB_WINDOWS=self.cutter(WINDOWS)).status, 1)
+        self.assertEqual(self.ends()["long.std"], ("report", "3 windows"))
+
     def test_a_window_that_is_refused(self):
         self.assertEqual(self.farm(SHB_WINDOWS=self.cutter((RACE, BAD))).status, 1)
         self.assertEqual(self.ends()["long.std"], ("refused", "window-0002: " + farm.BAD_WORDS))
