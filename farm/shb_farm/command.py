@@ -153,14 +153,19 @@ def run_passes(farm, work, names):
     endings = {name: merging.ending_of(last, name) for name in names}
     for memory in farm.memory:
         now = work._replace(memory=memory)
-        waiting = [name for name in names if endings[name].kind == "missing" and endings[name].size is not None
-                   and (limits.memory_for(endings[name].size) <= memory or memory == last.memory)]
-        waiting = [name for name in waiting if merging.ending_of(now, name).kind == "missing"]
+        waiting = waiting_for(now, endings, memory == last.memory)
         if waiting:
-            waiting.sort(key=lambda name: -endings[name].size)      # the longest first
             engines.run_pass(now._replace(names=waiting), farm)
             endings.update((name, merging.ending_of(last, name)) for name in waiting)
     return endings
+
+
+def waiting_for(work, endings, is_last):
+    """The traces that this pass has to run, the longest first."""
+    found = [name for name, ending in endings.items() if ending.kind == "missing" and ending.size is not None
+             and (is_last or limits.memory_for(ending.size) <= work.memory)]
+    found = [name for name in found if merging.ending_of(work, name).kind == "missing"]     # not those that it didn't suffice for
+    return sorted(found, key=lambda name: -endings[name].size)
 
 
 def with_reports(farm, work, rows):
