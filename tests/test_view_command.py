@@ -141,6 +141,7 @@ class Files(Fake):
         self.assertEqual(self.said([TRACE, none]), f"{shown}: No such file or directory")
         self.assertEqual(self.said([self.folder]), f"{self.folder} isn't a regular file: the trace is read more than once")
         self.assertEqual(self.said([TRACE, self.folder]), f"{self.folder}: Is a directory")
+        self.assertEqual(self.said([TRACE, "/proc/self/mem"]), "/proc/self/mem: Input/output error")
         self.assertEqual(self.said(["--source", none, TRACE]), f"--source: {shown} isn't a folder")
 
     def test_a_pipe_is_no_trace(self):
@@ -155,6 +156,10 @@ class Files(Fake):
         status, out, _ = run_here(["--check", TRACE, pipe])
         writer.join()
         self.assertEqual((status, out.splitlines()[1]), (0, "shb check: ok 1"))
+
+    def test_what_has_no_end_is_no_report(self):
+        said = self.said([TRACE, "/dev/zero"], 1)
+        self.assertTrue(said.startswith("line 1 of the report is too long: `\\x00\\x00"), said)
 
     def test_places_that_cannot_be_written(self):
         self.assertEqual(self.said(["--html", self.folder, TRACE]), f"{self.folder} isn't a regular file")

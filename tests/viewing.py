@@ -38,7 +38,7 @@ def sections(text, report, is_good=True):
         counts = Counts(*shb.counts_of(shb.read_trace(text)[0]))
         verdict = Verdict(is_good, "")
         gathered = Gathered()
-        view.read_report(view.Given(given, verdict, None), counts, gathered, QUIET)
+        view.read_report(view.Given("report", given, verdict, None), counts, gathered, QUIET)
         return view.make_sections(options, Trace(file, QUIET), given, gathered.groups(), gathered.lines, counts, verdict)
 
 

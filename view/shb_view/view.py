@@ -2,7 +2,6 @@
 
 import contextlib
 import os
-import shutil
 import stat
 import sys
 import tempfile
@@ -14,7 +13,7 @@ from shb_view.facts import Fact, Site, fact_of, sites_of
 from shb_view.faults import BadReport, Refused
 from shb_view.groups import Gathered, Group
 from shb_view.names import shown
-from shb_view.report import Counts, Report, in_order
+from shb_view.report import BLOCK, MOST_BYTES, Counts, Report, in_order
 from shb_view.source import Source
 from shb_view.trace import CHANGED, Trace
 from shb_view.windows import Window, make_windows
@@ -55,6 +54,7 @@ class View(typing.NamedTuple):
 class Given(typing.NamedTuple):
     """A report to be shown. `places` has how many races each place has, where the report lists one race of each place."""
 
+    name: str
     file: typing.BinaryIO
     verdict: Verdict
     places: typing.Optional[dict]
@@ -92,19 +92,32 @@ def own_report(analyser, head, stack):
     file = stack.enter_context(tempfile.TemporaryFile())
     with_schedules = len(head.places) * head.counts.events * NUMBER <= MOST_REPORT
     analyser.write_places(with_schedules, file)
-    return Given(file, analyser.check(file) if with_schedules else TOO_LONG, head.places)
+    return Given("a file for the report of `shb`", file, analyser.check(file) if with_schedules else TOO_LONG, head.places)
 
 
 def given_report(options, analyser, stack):
     """The report that the options name. What can't be read twice is copied."""
-    source = sys.stdin.buffer if options.report == "-" else stack.enter_context(open(options.report, "rb"))
-    if stat.S_ISREG(os.fstat(source.fileno()).st_mode) and source.tell() == 0:
-        file = source
-    else:
-        file = stack.enter_context(tempfile.TemporaryFile())
-        shutil.copyfileobj(source, file)
-        file.seek(0)
-    return Given(file, analyser.check(file) if options.check else NOT_ASKED, None)
+    file = sys.stdin.buffer if options.report == "-" else stack.enter_context(open(options.report, "rb"))
+    if not stat.S_ISREG(os.fstat(file.fileno()).st_mode) or file.tell():
+        try:
+            file = copy_of(file, stack)
+        except OSError as fault:
+            raise OSError(fault.errno, fault.strerror, options.report) from None
+    return Given(options.report, file, analyser.check(file) if options.check else NOT_ASKED, None)
+
+
+def copy_of(source, stack):
+    """A file with all that a source has. Of what doesn't begin like a report the front is enough."""
+    file = stack.enter_context(tempfile.TemporaryFile())
+    block = source.read(BLOCK)
+    is_report = block.startswith(b"shb-report ")
+    while block:
+        file.write(block)
+        if file.tell() > MOST_BYTES:
+            raise BadReport(f"the report is longer than {MOST_BYTES} bytes")
+        block = source.read(BLOCK) if is_report else b""
+    file.seek(0)
+    return file
 
 
 def read_report(given, counts, gathered, progress):
@@ -119,6 +132,8 @@ def read_report(given, counts, gathered, progress):
     except BadReport as fault:
         said = f"; `shb check` says `{given.verdict.words}`" if given.verdict.is_good is False else ""
         raise BadReport(f"{fault}{said}") from None
+    except OSError as fault:
+        raise OSError(fault.errno, fault.strerror, given.name) from None
     return report.head.races, report.has_schedules
 
 
