@@ -257,11 +257,11 @@ class Statuses(Fake):
         self.assertEqual(closed('"$@" <&-', TRACE, "-").returncode, 1)  # an empty report
 
     def test_stopped(self):
-        """By the signal of a terminal, while `shb` runs."""
+        """By the signal of a terminal, while `shb` runs. A test that runs in the background may have been told to ignore it."""
         started = self.folder / "started"
         fake = self.fake(f"touch {started}; exec sleep 20\n")
         ran = subprocess.Popen([sys.executable, "-B", VIEW / "shb-view", "--shb", fake, TRACE], stdout=subprocess.PIPE,
-                               stderr=subprocess.PIPE)
+                               stderr=subprocess.PIPE, preexec_fn=lambda: signal.signal(signal.SIGINT, signal.SIG_DFL))
         while not started.exists():
             self.assertIsNone(ran.poll())
         ran.send_signal(signal.SIGINT)
