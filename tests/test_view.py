@@ -13,7 +13,7 @@ import program
 import shb
 from viewing import EXAMPLES, MADE, made, run, run_here, sections, settings, windows
 
-from shb_view import counting, groups, names, progress
+from shb_view import command, counting, groups, names, progress
 
 FORK_JOIN = """\
 fork-join.std: 1 race at 1 pair of lines, in 1 group (7 events, 2 threads, 0 locks, 2 variables)
@@ -582,6 +582,17 @@ class Waiting(program.Case):
         said.step("reading", 1, 4)
         said.clear()
         self.assertEqual(said.out.getvalue(), "\r\x1b[Kshb-view: reading 25%\r\x1b[K")
+
+    def test_words_go_away_before_a_refusal(self):
+        report = (EXAMPLES / "places.report").read_bytes().replace(b"end\n", b"")
+        wait, progress.WAIT = progress.WAIT, 0.0
+        self.addCleanup(setattr, progress, "WAIT", wait)
+        terminal = self.terminal()
+        with contextlib.redirect_stderr(terminal):
+            status = command.main([str(EXAMPLES / "places.std"), str(self.file(report, "t.report"))], program.PATH)
+        self.assertEqual(status, 1)
+        self.assertRegex(terminal.getvalue(), r"\A\r\x1b\[Kshb-view: reading the report \d+%.*\r\x1b\[Kshb-view: line 38 of the report is "
+                                              r"missing; it should be `end`\n\Z")
 
     def test_nothing_is_said_in_the_first_second(self):
         said = progress.Progress(self.terminal())

@@ -89,6 +89,8 @@ exec REAL "$@"
     def test_a_program_that_fails(self):
         script = "[ $1 = places ] && { echo 'out of memory' >&2; exit 4; }; exec REAL \"$@\"\n"
         self.assertEqual(self.said(["--shb", self.fake(script), TRACE]), "`shb places` ended with status 4: out of memory")
+        script = "[ $1 = check ] && { echo 'out of memory' >&2; exit 4; }; exec REAL \"$@\"\n"
+        self.assertEqual(self.said(["--shb", self.fake(script), TRACE]), "`shb check` ended with status 4: out of memory")
         self.assertEqual(self.said(["--shb", self.fake("exit 4\n"), TRACE]), "`shb races --list` ended with status 4")
         self.assertEqual(self.said(["--shb", self.fake("echo hello\n"), TRACE]),
                          "`shb races --list` wrote no report: line 1 of the report is `hello`; it should be `shb-report 2`")

@@ -160,6 +160,18 @@ class Pages(program.Case):
         self.assertNotIn("v" * 121, whole)
         self.assertIn("v" * 40, whole)
 
+    def test_the_longest_page(self):
+        """250 groups of 30 lines with names that are long in HTML: the list is whole, and the parts end after 3.5 MB."""
+        quotes = '"' * 80
+        events = [f"T{i}.{quotes}|{'w' if i % 10 == 0 else 'r'}({k}{quotes})|{k}.{i}{quotes}" for k in range(250) for i in range(30)]
+        page = self.page("\n".join(events).encode())
+        size = (self.folder / "page.html").stat().st_size
+        self.assertTrue(3_500_000 < size < 5_000_000, size)
+        self.assertEqual(len(page.all("li")), 201)
+        parts = len(page.all("section"))
+        self.assertIn(f"The page would be too long: the last {200 - parts} groups of the list have no part of their own.",
+                      [text for _, text in page.all("p")])
+
     def test_a_hostile_name_of_the_file(self):
         path = self.folder / "page.html"
         self.assertEqual(run_here(["--html", path, self.file(b"A|w(x)\nB|w(x)\n", "<b>&\"\x1b.std")])[0], 0)

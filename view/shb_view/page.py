@@ -16,6 +16,7 @@ from shb_view.words import (KINDS, MOST_SITES, MOST_THREADS, MOST_VARIABLES, NO_
 HERE = pathlib.Path(__file__).resolve().parent
 NAME = 80  # columns
 LINE = 240
+MOST_BYTES = 3_500_000  # of the groups' parts; the last of them may go beyond
 ARROW = Markup('<svg class="defs" width="0" height="0" aria-hidden="true"><defs><marker id="to" viewBox="0 0 8 8" refX="7" refY="4" '
                'markerWidth="7" markerHeight="7" orient="auto"><path d="M0 0L8 4L0 8z"></path></marker></defs></svg>')
 LEGEND = """\
@@ -34,8 +35,15 @@ def page_parts(view):
     yield element("head", joined(head, "\n")) + "\n<body>\n" + ARROW + "\n" + header(view) + "\n<main>\n"
     if view.sections:
         yield group_list(view) + "\n"
+    size = 0
     for number, section in enumerate(view.sections, 1):
-        yield section_part(view, number, section) + "\n"
+        if size > MOST_BYTES:
+            left = counted(len(view.sections) - number + 1, "group")
+            yield element("p", f"The page would be too long: the last {left} of the list have no part of their own.") + "\n"
+            break
+        part = section_part(view, number, section) + "\n"
+        size += len(part.encode())
+        yield part
     yield "</main>\n" + element("script", Markup(script)) + "\n</body>\n</html>\n"
 
 
