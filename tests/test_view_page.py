@@ -302,6 +302,9 @@ class Pictures(program.Case):
         page = Page(picture.picture(window, "e"))
         self.assertEqual([attributes["class"] for attributes, _ in page.all("path")], ["edge", "edge seen"])
         self.assertEqual([attributes["class"] for attributes, _ in page.all("line", "lane")], ["lane"] * 5)
+        [window, _] = windows(*((EXAMPLES / f"unlocked-read.{end}").read_bytes() for end in ("std", "report")))
+        page = Page(picture.picture(window, "e"))  # of a fork, a release and a write
+        self.assertEqual([attributes["class"] for attributes, _ in page.all("path")], ["edge", "edge", "edge seen"])
 
     def test_a_lane_is_dashed_where_events_are_left_out(self):
         trace = b"main|fork(A)\nmain|r(z)\nA|r(y)\n" + b"B|r(y)\n" * 8 + b"A|w(x)\nB|w(x)\n"
