@@ -1,7 +1,6 @@
 """view/shb-view as a command: its files, its statuses, and the `shb` that it runs."""
 
 import os
-import pathlib
 import shutil
 import signal
 import subprocess

@@ -134,8 +134,8 @@ def function_head(place):
 
 
 class Excerpt(typing.NamedTuple):
-    """Lines around a place. `head` is the first line of its function, nothing if that is the place; `held` are the numbers of the lines from the acquire of a
-    lock to the place, if both are in one function."""
+    """Lines around a place. `head` is the first line of its function, nothing if that is the place; `held` are the numbers of the
+    lines from the acquire of a lock to the place, if both are in one function."""
 
     place: Place
     head: bytes

@@ -59,6 +59,11 @@ class Given(typing.NamedTuple):
     verdict: Verdict
     places: typing.Optional[dict]
 
+    def order(self, race, events):
+        """Some events in the order of a race's schedule, with the schedule's length, if `check` found the report good; else as
+        they are."""
+        return in_order(self.file, race, events) if self.verdict.is_good else (events, None)
+
 
 def make_view(options, progress):
     """The view of what the options name."""
@@ -71,13 +76,16 @@ def make_view(options, progress):
         listed, has_schedules = read_report(given, head.counts, gathered, progress)
         groups, lines = gathered.groups(), gathered.lines
         del gathered
-        verdict = given.verdict if has_schedules or given.verdict is TOO_LONG else NO_SCHEDULES
-        sections = make_sections(options, Trace(file, progress), given.file, groups, lines, head.counts, verdict)
+        if not has_schedules and given.verdict is not TOO_LONG:
+            given = given._replace(verdict=NO_SCHEDULES)
+        is_whole = bool(options.html or options.all)
+        sections = make_sections(is_whole, Trace(file, progress), given, groups, lines, head.counts.events)
         title = shown(os.fsencode(os.path.basename(options.trace)))
         pairs = sum(len(group.pairs) for group in groups)
         source = Source(options.source, os.fstat(file.fileno()).st_mtime)
-        return View(title, head.counts, head.races, listed if options.report else head.races, pairs, len(groups), sections, verdict,
-                    not options.report and head.races > MOST_LISTED, source)
+        is_sample = not options.report and head.races > MOST_LISTED
+        return View(title, head.counts, head.races, listed if options.report else head.races, pairs, len(groups), sections,
+                    given.verdict, is_sample, source)
 
 
 def open_regular(path):
@@ -137,20 +145,19 @@ def read_report(given, counts, gathered, progress):
     return report.head.races, report.has_schedules
 
 
-def make_sections(options, trace, report, groups, lines, counts, verdict):
-    """The groups that are shown, in the order of their facts and then most races first."""
+def make_sections(is_whole, trace, given, groups, lines, events):
+    """The groups that are shown, in the order of their facts and then most races first; with their windows if `is_whole`."""
     if not groups:
         return []
     wanted = {access for group in groups for access in group.accesses()}
     variables = {variable: number for number, group in enumerate(groups) for variable in group.variables}
     counting = Counting(variables, lines, wanted)
     try:
-        counting.read(trace, counts.events)
+        counting.read(trace, events)
         sections = [make_section(groups[number], counting.counts[number]) for number in first_groups(groups, counting.counts)]
-        if not (options.html or options.all):
+        if not is_whole:
             return sections
-        order = (lambda race, events: in_order(report, race, events)) if verdict.is_good else (lambda race, events: (events, None))
-        windows = make_windows(trace, [section.group.closest() for section in sections], counting, order)
+        windows = make_windows(trace, [section.group.closest() for section in sections], counting, given.order)
     except (IndexError, KeyError):
         raise Refused(CHANGED) from None
     return [section._replace(window=window) for section, window in zip(sections, windows)]
