@@ -24,12 +24,10 @@ for (const button of table.querySelectorAll("th button")) {
 }
 found.sorted = table.querySelectorAll("[aria-sort]").length;
 found.before = [...document.querySelectorAll("details")].map((details) => details.open).join();
-location.hash = "#g1e12";
-addEventListener("hashchange", () => {
-  found.after = [...document.querySelectorAll("details")].map((details) => details.open).join();
-  found.wide = document.documentElement.scrollWidth - innerWidth;
-  document.body.textContent = "FOUND" + JSON.stringify(found) + "END";
-});
+history.replaceState(null, "", "#g1e12");  // opens nothing by itself
+dispatchEvent(new HashChangeEvent("hashchange"));
+found.after = [...document.querySelectorAll("details")].map((details) => details.open).join();
+document.body.textContent = "FOUND" + JSON.stringify(found) + "END";
 </script>
 </body>"""
 

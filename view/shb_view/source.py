@@ -102,9 +102,15 @@ def read_lines(file):
                 return [], 0, "it isn't a regular file"
             if status.st_size > MOST_BYTES:
                 return [], 0, f"the file is longer than {MOST_BYTES:,} bytes"
-            return opened.read(MOST_BYTES).splitlines(), status.st_mtime, ""
+            return lines_of(opened.read(MOST_BYTES)), status.st_mtime, ""
     except OSError as fault:
         return [], 0, f"the file can't be read ({fault.strerror})"
+
+
+def lines_of(text):
+    """The lines of a text, as compilers count them."""
+    lines = text.split(b"\n")
+    return lines if lines[-1] else lines[:-1]
 
 
 def best(path, candidates):
