@@ -6,6 +6,7 @@ import program
 from test_view_page import Page
 from viewing import run_here
 
+from shb_view import source as source_lines
 from shb_view.source import Source, excerpt
 
 CODE = b"""\
@@ -114,7 +115,14 @@ class Found(program.Case):
         source = Source([self.folder / "src"], 2000)
         said = f"Source lines of {self.folder}/src: "
         self.assertEqual(source.summary([b"a.c:1", b"a.c:2", b"b.c:1", b"c.c:1", b"?"]), said + "2 of 3 files found, 1 newer than the trace.")
-        self.assertEqual(source.summary([b"b.c:1"]), said + "1 of 1 file found, none newer than the trace.")
+        kept, source_lines.MOST_FILES = source_lines.MOST_FILES, 2
+        self.addCleanup(setattr, source_lines, "MOST_FILES", kept)
+        self.put("src/c.c")
+        source = Source([self.folder / "src"], 2000)
+        self.assertEqual(source.files, 2)
+        self.assertTrue(source.summary([b"b.c:1"]).endswith(" Only 2 files were looked at."))
+        source_lines.MOST_FILES = kept
+        self.assertEqual(Source([self.folder / "src"], 2000).summary([b"b.c:1"]), said + "1 of 1 file found, none newer than the trace.")
 
 
 class Excerpts(program.Case):

@@ -57,7 +57,7 @@ class Source:
                 for entry in entries:
                     if entry.is_dir(follow_symlinks=False) and not entry.name.startswith(b"."):
                         pending.append(entry.path)
-                    elif entry.is_file(follow_symlinks=False):
+                    elif entry.is_file(follow_symlinks=False) and self.files < MOST_FILES:
                         self.files += 1
                         paths = self.paths.setdefault(entry.name, {})
                         paths.setdefault(os.path.relpath(entry.path, top), entry.path)
@@ -89,8 +89,9 @@ class Source:
         found = [place for place in places.values() if place and place.lines]
         newer = sum(place.is_newer for place in found)
         folders = ", ".join(shown(os.fsencode(folder)) for folder in self.folders)
+        some = f" Only {MOST_FILES:,} files were looked at." if self.files >= MOST_FILES else ""
         return (f"Source lines of {folders}: {len(found)} of {counted(len(places), 'file')} found, "
-                f"{newer or 'none'} newer than the trace.")
+                f"{newer or 'none'} newer than the trace.{some}")
 
 
 def read_lines(file):
