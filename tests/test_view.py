@@ -277,6 +277,14 @@ class Sites(program.Case):
         self.assertIn("   In this run 2 threads write, and the locks held at 1 access aren't counted.", said)
         self.assertIn("   In this run l0 is held at f.c:2, and not at f.c:3.", self.lines(*locks[:64], "A w x 2", "B w x 3"))
 
+    def test_no_fact_of_a_lock_where_some_locks_are_not_counted(self):
+        """Both writes hold l0, and the first one too many others."""
+        locks = [f"l{k}" for k in range(65)]
+        said = self.lines(*(f"A acq {lock} 1" for lock in locks), "A w x 2", *(f"A rel {lock} 3" for lock in locks),
+                          "C acq l0 4", "C w x 5", "C rel l0 6", "B r x 7")
+        self.assertEqual([line for line in said if "In this run" in line],
+                         ["   In this run 2 threads write, and the locks held at 1 access aren't counted."])
+
     def test_nested_acquires_of_a_lock(self):
         said = self.lines("A acq l 1", "A acq l 1", "A rel l 1", "A w x 2", "A rel l 3", "B r x 4")
         self.assertIn("   In this run every write holds l, and f.c:4 reads without it.", said)
