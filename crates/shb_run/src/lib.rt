@@ -8,6 +8,7 @@
 #![tactic(auto)]
 
 pub mod laws;
+mod list;
 mod pipeline;
 mod places;
 mod races;

@@ -4,11 +4,13 @@ ghost use Rattle.shb_discipline.specs.FirstFault.{IsFirstFault};
 ghost use Rattle.shb_lines.specs.declared.fault.Fault.{Fault};
 ghost use Rattle.shb_lines.specs.text.Limits.{most_read, standard_limits};
 ghost use Rattle.shb_lines.specs.text.Taking.{ReadsText, TakesAtMost};
+ghost use Rattle.shb_report.specs.Report.{AllRaces};
 ghost use Rattle.shb_check.specs.Outcomes.{CountsSink, CountsSource, Grows, OnJudged, OnMemory, OnNoTrace, OnSink, OnTrace};
 ghost use Rattle.shb_run.specs.Runs.{FitsU64, HasTrace, IsReported, IsReportedBy};
 ghost use Rattle.shb_write.specs.Written.{CutsBlocksOn, CutsReportOn, IsSinkCounted, OnFailedSink, OnNoMemory};
 ghost use Rattle.shb_run.specs.Written.{CutsBlocks, CutsReport, ListedBy, ReportsTrace, summary_of};
 
+use crate::list::report_list;
 use crate::races::{chosen_of, races_of};
 use crate::screened::Screened;
 use crate::settings::{Choice, Gates, Settings, Summary, Task};
@@ -27,7 +29,7 @@ use std::sync::Wait;
 use std::thread::Threads;
 
 /// What a run says of a trace that has so many races.
-fn summary_of(trace: &Trace, races: u64) -> Summary
+pub(crate) fn summary_of(trace: &Trace, races: u64) -> Summary
     ensures summary { result ≡ summary_of trace.now races }
     ensures fits { FitsU64 result }
 {
@@ -81,6 +83,41 @@ fn report_by<
     Ok(summary_of(ordered.trace.trace, chosen.len() as u64))
 }
 
+/// Finds all races of an ordered trace, and writes their report. Without schedules no list of them is made.
+fn report_found<
+    R: Threads + Wait + Sync + RandomSource,
+    K: Sink,
+    O: Order + Sync,
+    P: Gate + Sync,
+    W: Gate + Sync,
+>(
+    rt: &R,
+    alloc: Global,
+    sink: &mut K,
+    screened: &Screened<'_, '_, '_, O>,
+    settings: Settings,
+    gates: &Gates<'_, '_, P, W>,
+) -> Result<Summary, WriteError>
+    requires countable { K.failure_count sink.old < 2 ^ 64 - 1 }
+    ensures report { IfOk result (λ summary.
+        ReportsTrace AllRaces settings.schedules screened.now.ordered.now.trace.now.trace.now summary
+        (K.taken sink.old) (K.taken sink.new)) }
+    ensures fits { IfOk result FitsU64 }
+    ensures cut { OnFailedSink result (CutsReport settings.schedules screened.now.ordered.now.trace.now.trace.now
+        (K.taken sink.old) (K.taken sink.new)) }
+    ensures memory { OnNoMemory result ((sink.new ≡ sink.old)
+        ⊎ CutsBlocks settings.schedules screened.now.ordered.now.trace.now.trace.now
+        (K.taken sink.old) (K.taken sink.new)) }
+    ensures counted { IsSinkCounted (K.failure_count sink.old) (K.failure_count sink.new) result }
+{
+    if !settings.schedules {
+        return report_list(rt, alloc, sink, screened, gates.pair, settings.workers);
+    }
+    let choice = Choice::All;
+    let task = Task { settings, choice };
+    report_by(rt, alloc, sink, screened, task, gates)
+}
+
 /// The links that a report needs: one without schedules asks for no predecessors and no last writes.
 fn links_for<'a>(
     alloc: Global,
@@ -121,7 +158,10 @@ fn report<R: Threads + Wait + Sync + RandomSource, K: Sink, P: Gate + Sync, W: G
     let order = by_event(alloc, Linked::new(&*trace, &links), &flags)?;
     let ordered = Ordered::new(&order, &*trace, &links);
     let screened = Screened::new(&ordered, &flags);
-    report_by(rt, alloc, sink, &screened, task, gates)
+    match task.choice {
+        Choice::All => report_found(rt, alloc, sink, &screened, task.settings, gates),
+        Choice::Leading => report_by(rt, alloc, sink, &screened, task, gates),
+    }
 }
 
 /// Reads a trace, finds its races, and writes its report.
