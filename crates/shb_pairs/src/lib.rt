@@ -23,12 +23,14 @@ pub mod laws;
 mod piece;
 mod race;
 mod races;
+mod ranges;
 mod rivals;
 mod screen;
 mod search;
 
 pub use accesses::{Accesses, accesses_of, accesses_of_open};
-pub use job::PairJob;
+pub use job::{PairJob, RangeJob};
 pub use piece::{Piece, pieces};
 pub use race::is_race;
+pub use ranges::RaceRanges;
 pub use screen::open_variables;

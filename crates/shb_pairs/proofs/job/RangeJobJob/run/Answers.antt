@@ -2,7 +2,7 @@ use Rattle.std.proofs.Common.{sym, ap, ◌∙◌, arith}
 use Rattle.std.proofs.lemmas.Result.{IfOk-weaker}
 use Rattle.shb_clocks.specs.Open.{OpenTrace}
 use Rattle.shb_pairs.proofs.Runs.{piece_value, run_small, run_value}
-use Rattle.shb_pairs.proofs.job.PairJobJob.run.Goals as goal
+use Rattle.shb_pairs.proofs.job.RangeJobJob.run.Goals as goal
 
 pub overflow_cast-piece : goal.overflow_cast-piece
 overflow_cast-piece g c =

@@ -1,6 +1,6 @@
 use Rattle.std.proofs.Common.{◌≡◌, ◌++◌, map}
 use Rattle.std.specs.Prelude.{take}
-use Rattle.shb_pairs.proofs.races.add_pairs.Given as goal
+use Rattle.shb_pairs.proofs.ranges.add_pairs.Given as goal
 use Rattle.shb_lines.specs.events.Race.{ends}
 
 abbrev pub invariant-loop-first : goal.invariant-loop-first

@@ -3,7 +3,7 @@ use Rattle.std.specs.Prelude.{map}
 use Rattle.std.proofs.lemmas.List.{append-nil, take_all}
 use Rattle.shb_lines.specs.declared.event.Pair.{Pair}
 use Rattle.shb_pairs.proofs.Runs.{pairs_pushed}
-use Rattle.shb_pairs.proofs.races.add_pairs.Goals as goal
+use Rattle.shb_pairs.proofs.ranges.add_pairs.Goals as goal
 use Rattle.shb_lines.specs.events.Race.{ends}
 
 pub loop-first-init : goal.loop-first-init
