@@ -1,6 +1,10 @@
 # Two commands: `make run` builds the program and runs it, `make test` runs what the gate runs.
 
-.PHONY: build run test end-to-end recorder bench
+.PHONY: build run test end-to-end recorder install uninstall dist bench
+
+PREFIX = /usr/local
+DESTDIR =
+SHB = bin/shb
 
 # What the program is made of.
 SOURCES = crates.txt HANDLES $(shell find crates -path '*/out' -prune -o -path '*/must-fail' -prune \
@@ -25,6 +29,17 @@ end-to-end: build
 # Builds what makes traces of C and C++ programs (recorder/README.md).
 recorder:
 	$(MAKE) -C recorder
+
+# Puts the commands, manual pages, completions and examples below PREFIX, and takes them away again. SHB is the built program.
+install: $(SHB)
+	install/install --shb "$(SHB)" --prefix "$(PREFIX)" --destdir "$(DESTDIR)" install
+
+uninstall:
+	install/install --prefix "$(PREFIX)" --destdir "$(DESTDIR)" uninstall
+
+# Makes shb-VERSION-x86_64-linux.tar.xz for machines without the kit.
+dist: $(SHB)
+	install/install --shb "$(SHB)" dist
 
 # Run by hand: it times the built program and prints ratios.
 bench: build

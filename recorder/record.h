@@ -1,11 +1,16 @@
 /* The record: a file that the run-time library writes and the converter reads.
 
-   HEADER_BYTES of text: the magic line, then a line "LOW HIGH BASE PATH" (hexadecimal numbers) for each module of code.
+   HEADER_BYTES of text: the magic line, "command WORD WORD..", and a line "LOW HIGH BASE PATH" (hexadecimal numbers) for
+   each module of code; at ENDED_AT how the recording ended: "whole", or the reason why it stopped before the program,
+   or nothing where the program was killed.
    Then records of 16 bytes in the order in which things happened, until one of zeros or the file's end. */
 #include <stdint.h>
 
-#define RECORD_MAGIC "shb-record 2\n"
+#define RECORD_MAGIC "shb-record 3\n"
 #define HEADER_BYTES 65536
+#define ENDED_BYTES 256
+#define ENDED_AT (HEADER_BYTES - ENDED_BYTES)
+#define ENDED_WHOLE "whole"
 #define LOW_48_BITS 0xffffffffffffull
 #define FIRST_DESCRIPTOR (1ul << 47)   /* no program's address: descriptor D is at 16 D above it, its data 8 further */
 #define SIZE_FOLLOWS 1023              /* such a size or a greater one stands in a record OP_SIZE after this one */

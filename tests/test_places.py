@@ -2,7 +2,6 @@
 
 import random
 import re
-import shutil
 import subprocess
 
 import judge
@@ -68,13 +67,6 @@ MADE = 100
 SEED = 23
 
 EXAMPLES = program.HERE.parent / "examples"
-FARM_TRACES = ("fork-join.std", "places.std")
-FARM_PLACES = (
-    "Counter.java:12\tCounter.java:12\n"
-    "Counter.java:12\tReport.java:30\n"
-    "Report.java:30\tCounter.java:12\n"
-    "worker.c:3\tstart.c:6\n"
-)
 
 
 def listed(wanted):
@@ -146,40 +138,3 @@ class Places(program.Case):
         for words in (["places", "a", "b"], ["places", "--workers", "0"], ["places", "--workers", "65"], ["places", "--all"]):
             answer = program.run(words)
             self.assertEqual((answer.status, answer.out, answer.err[:7]), (3, b"", b"error: "))
-
-
-class Farm(program.Case):
-    """The script of the examples for many traces."""
-
-    def setUp(self):
-        super().setUp()
-        for name in FARM_TRACES:
-            shutil.copy(EXAMPLES / name, self.folder)
-        self.known = self.file(b"", "known")
-
-    def farm(self):
-        words = ["sh", EXAMPLES / "farm.sh", program.PATH, self.folder, self.known]
-        ran = subprocess.run(words, capture_output=True, timeout=program.SECONDS)
-        return program.Answer(ran.returncode, ran.stdout, ran.stderr)
-
-    def test_places_that_are_not_known_fail(self):
-        self.expect(self.farm(), 1, FARM_PLACES.encode())
-        for trace in self.folder.glob("*.std"):
-            self.assertEqual(trace.with_suffix(".report").read_bytes(), shb.report(trace.read_bytes(), True, leading=True))
-
-    def test_known_places_are_passed_over(self):
-        lines = FARM_PLACES.splitlines(keepends=True)
-        self.file("".join(lines[1:]).encode(), "known")
-        self.expect(self.farm(), 1, lines[0].encode())
-        self.file(FARM_PLACES.encode(), "known")
-        self.expect(self.farm(), 0)
-
-    def test_a_refused_trace_fails(self):
-        self.file(FARM_PLACES.encode(), "known")
-        self.file(b"oops\n", "broken.std")
-        self.expect(self.farm(), 123, b"", b"line 1: the line has no operation field\n")
-
-    def test_the_readme_shows_it(self):
-        text = (program.HERE.parent / "README.md").read_text()
-        shown = "".join("    " + line for line in FARM_PLACES.splitlines(keepends=True))
-        self.assertIn("examples/farm.sh bin/shb traces known.places\n" + shown, text)

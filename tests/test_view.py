@@ -1,5 +1,6 @@
-"""view/shb-view: its text by hand, what it shows against plain definitions, and what it refuses."""
+"""view/shb-view: its text by hand, and what it counts and shows against plain definitions."""
 
+import collections
 import contextlib
 import io
 import os
@@ -8,233 +9,164 @@ import random
 import re
 
 import judge
-import made_traces
 import program
 import shb
-from viewing import MADE, QUIET, made, read, run, run_here
+from viewing import EXAMPLES, MADE, made, run, run_here, sections, settings, windows
 
-from shb_view import explain, names, progress
-from shb_view.refused import Refused
-from shb_view.trace import read_trace
-
-EXAMPLES = program.HERE.parent / "examples"
+from shb_view import counting, groups, names, progress
 
 FORK_JOIN = """\
-fork-join.std: 1 race at 1 place (7 events, 2 threads, 0 locks, 2 variables)
+fork-join.std: 1 race at 1 pair of lines, in 1 group (7 events, 2 threads, 0 locks, 2 variables)
+shb check: ok 1
 
-Place 1 of 1, 1 race: write and write of count
-  Write by worker at worker.c:3 (event 4)
-    Locks held: none
-    Thread started by main at start.c:5 (event 2)
-    Before it:
-      3  r(config)     worker.c:2
-  Write by main at start.c:6 (event 5)
-    Locks held: none
-    Thread started by no event of the trace
-    Before it:
-      1  w(config)     start.c:4
-      2  fork(worker)  start.c:5
-  Locks held by both: none
-  After the schedule of race 1 (3 events) both accesses come next.
+1. count: 2 threads write (1 race, 1 pair of lines)
+   In this run 2 threads write, and no access holds a lock in the trace.
+   start.c:6: 1 write by main
+     no lock in the trace
+     races with worker.c:3 (1 race)
+   worker.c:3: 1 write by worker
+     no lock in the trace
+     races with start.c:6 (1 race)
+   start.c:8: 1 read by main
+     no lock in the trace
 """
 
+FORK_JOIN_ALL = FORK_JOIN + """
+   data race on count: worker.c:3 and start.c:6
+   (one race in a recorded run)
+     write by worker at worker.c:3 (event 4)
+       no lock in the trace
+       thread started by main at start.c:5 (event 2)
+     write by main at start.c:6 (event 5)
+       no lock in the trace
+     In this run 2 threads write, and no access holds a lock in the trace.
+     `shb check` found the schedule of race 1 good: after its 3 events both accesses come next.
+   Before the accesses:
+     1  main    w(config)     start.c:4
+     2  main    fork(worker)  start.c:5
+     3  worker  r(config)     worker.c:2
+"""
+
+# Three pairs of lines with a place in each order: two of them share the variable `total`.
 UNLOCKED_READ = """\
-unlocked-read.std: 3 races at 3 places (18 events, 3 threads, 1 lock, 3 variables)
+unlocked-read.std: 3 races at 2 pairs of lines, in 2 groups (18 events, 3 threads, 1 lock, 3 variables)
 shb check: ok 3
 
-Place 1 of 3, 1 race: write and read of items
-  Write by producer at queue.c:22 (event 12)
-    Locks held: lock, acquired at queue.c:20 (event 10)
-    Thread started by main at main.c:9 (event 2)
-    Before it:
-      10  acq(lock)       queue.c:20
-      11  r(taken)        queue.c:21
-  Read by main at main.c:11 (event 13)
-    Locks held: none
-    Thread started by no event of the trace
-    Before it:
-       1  w(items)        main.c:8
-       2  fork(producer)  main.c:9
-       3  fork(consumer)  main.c:10
-  Locks held by both: none
-  After the schedule of race 1 (10 events) both accesses come next.
+1. items: main.c:11 is without lock (1 race, 1 pair of lines)
+   In this run lock is held at queue.c:22, and not at main.c:11.
+   queue.c:22: 1 write by producer
+     holds lock
+     races with main.c:11 (1 race)
+   main.c:11: 1 read by main
+     no lock in the trace
+     races with queue.c:22 (1 race)
+   main.c:8: 1 write by main
+     no lock in the trace
+   queue.c:31: 1 read by consumer
+     holds lock
 
-Place 2 of 3, 1 race: read and write of closed
-  Read by consumer at queue.c:29 (event 9)
-    Locks held: none
-    Thread started by main at main.c:10 (event 3)
-    Before it:
-       6  r(items)        queue.c:31
-       7  w(taken)        queue.c:32
-       8  rel(lock)       queue.c:33
-  Write by main at main.c:12 (event 15)
-    Locks held: none
-    Thread started by no event of the trace
-    Before it:
-       2  fork(producer)  main.c:9
-       3  fork(consumer)  main.c:10
-      13  r(items)        main.c:11
-  Locks held by both: none
-  After the schedule of race 2 (12 events) both accesses come next.
-
-Place 3 of 3, 1 race: write and read of closed
-  Write by main at main.c:12 (event 15)
-    Locks held: none
-    Thread started by no event of the trace
-    Before it:
-       2  fork(producer)  main.c:9
-       3  fork(consumer)  main.c:10
-      13  r(items)        main.c:11
-  Read by consumer at queue.c:29 (event 16)
-    Locks held: none
-    Thread started by main at main.c:10 (event 3)
-    Before it:
-       7  w(taken)        queue.c:32
-       8  rel(lock)       queue.c:33
-       9  r(closed)       queue.c:29
-  Locks held by both: none
-  After the schedule of race 3 (13 events) both accesses come next.
+2. closed: one thread writes (2 races, 1 pair of lines)
+   In this run only main writes, at main.c:12, and no access holds a lock in the trace.
+   main.c:12: 1 write by main
+     no lock in the trace
+     races with queue.c:29 (2 races)
+   queue.c:29: 3 reads by consumer
+     no lock in the trace
+     races with main.c:12 (2 races)
 """
 
-READ_ORDERS = """\
-read-orders.std: 1 race at 1 place (4 events, 2 threads, 0 locks, 2 variables)
+ACCOUNT = """\
+account.std: 1 race at 1 pair of lines, in 1 group (12 events, 2 threads, 1 lock, 1 variable)
+shb check: ok 1
 
-Place 1 of 1, 1 race: write and read of ready
-  Write by T1 at p.c:2 (event 2)
-    Locks held: none
-    Thread started by no event of the trace
-    Before it:
-      1  w(data)  p.c:1
-  Read by T2 at c.c:1 (event 3)
-    Locks held: none
-    Thread started by no event of the trace
-    Before it: nothing
-  Locks held by both: none
-  After the schedule of race 1 (1 event) both accesses come next.
+1. balance: account.c:8 is without door (1 race, 1 pair of lines)
+   In this run every write holds door, and account.c:8 reads without it.
+   account.c:10: 2 reads and 2 writes by T1.pay and main
+     holds door
+     races with account.c:8 (1 race)
+   account.c:8: 2 reads by T1.pay and main
+     no lock in the trace
+     races with account.c:10 (1 race)
 """
 
-# Two threads under nested locks of their own; the third to sixth event of each stand before its access.
-NESTED = b"""\
-main|fork(A)|m.c:1
-main|fork(B)|m.c:2
-A|acq(outer)|a.c:1
-A|acq(outer)|a.c:2
-A|acq(inner)|a.c:3
-A|rel(outer)|a.c:4
-B|acq(own)|b.c:1
-B|w(other)
-A|r(flag)|a.c:5
-A|w(x)|a.c:6
-B|r(x)|b.c:2
-"""
+# A place in each order of its two locations is one pair of lines; the counts are those of `races`.
+PLACES = """\
+places.std: 6 races at 2 pairs of lines, in 1 group (4 events, 4 threads, 0 locks, 1 variable)
+shb check: ok 3
 
-NESTED_LIST = """\
-t.std: 1 race at 1 place (11 events, 3 threads, 3 locks, 3 variables)
-The report has no schedules: events are shown in the order of the trace.
-
-Place 1 of 1, 1 race: write and read of x
-  Write by A at a.c:6 (event 10)
-    Locks held: outer, acquired at a.c:1 (event 3)
-                inner, acquired at a.c:3 (event 5)
-    Thread started by main at m.c:1 (event 1)
-    Before it:
-      5  acq(inner)  a.c:3
-      6  rel(outer)  a.c:4
-      9  r(flag)     a.c:5
-  Read by B at b.c:2 (event 11)
-    Locks held: own, acquired at b.c:1 (event 7)
-    Thread started by main at m.c:2 (event 2)
-    Before it:
-      7  acq(own)    b.c:1
-      8  w(other)    (no location)
-  Locks held by both: none
-  Race 1 of the report, in the order of the trace.
+1. total: 3 threads write (6 races, 2 pairs of lines)
+   In this run 3 threads write, and no access holds a lock in the trace.
+   Counter.java:12: 3 writes by T1, T2 and T4
+     no lock in the trace
+     races with Counter.java:12 (3 races) and Report.java:30 (3 races)
+   Report.java:30: 1 read by T3
+     no lock in the trace
+     races with Counter.java:12 (3 races)
 """
 
 
 class Text(program.Case):
-    def shown(self, trace, report, name="t.std"):
-        status, out, err = run_here([self.file(trace, name), self.file(report, "t.report")])
-        self.assertEqual((status, err), (0, ""))
-        return out
-
     def test_examples_by_hand(self):
-        for name, said, words in (("fork-join", FORK_JOIN, []), ("read-orders", READ_ORDERS, []),
-                                  ("unlocked-read", UNLOCKED_READ, ["--check", "--shb", program.PATH])):
-            self.expect(run([*words, EXAMPLES / f"{name}.std", EXAMPLES / f"{name}.report"]), 0, said.encode())
-
-    def test_nested_locks_by_hand(self):
-        self.assertEqual(self.shown(NESTED, shb.report(NESTED, False)), NESTED_LIST)
-
-    def test_most_races_come_first(self):
-        trace, report = ((EXAMPLES / f"places.{end}").read_bytes() for end in ("std", "report"))
-        out = self.shown(trace, report)
-        self.assertEqual(re.findall(r"^Place .*$", out, re.M), [
-            "Place 1 of 3, 3 races: write and write of total",
-            "Place 2 of 3, 2 races: write and read of total",
-            "Place 3 of 3, 1 race: read and write of total"])
-
-    def test_a_later_place_with_more_races_comes_first(self):
-        trace = b"T4|w(y)|b\nT5|w(y)|b\nT3|w(x)|c\nT1|r(x)|a\nT2|r(x)|a\n"
-        heads = re.findall(r"^Place .*$", self.shown(trace, shb.report(trace, True)), re.M)
-        self.assertEqual(heads, ["Place 1 of 2, 2 races: write and read of x", "Place 2 of 2, 1 race: write and write of y"])
+        for name, said, options in (("fork-join", FORK_JOIN, []), ("fork-join", FORK_JOIN_ALL, ["--all"]),
+                                    ("unlocked-read", UNLOCKED_READ, []), ("account", ACCOUNT, []), ("places", PLACES, [])):
+            with self.subTest(name):
+                self.expect(run([*options, EXAMPLES / f"{name}.std"]), 0, said.encode())
 
     def test_no_races(self):
-        trace, report = ((EXAMPLES / f"hidden-by-lock.{end}").read_bytes() for end in ("std", "report"))
-        self.assertEqual(self.shown(trace, report), "t.std: 0 races at 0 places (6 events, 2 threads, 1 lock, 1 variable)\n")
+        self.expect(run([EXAMPLES / "hidden-by-lock.std"]), 0,
+                    b"hidden-by-lock.std: 0 races (6 events, 2 threads, 1 lock, 1 variable)\nshb check: ok 0\n")
 
-    def test_a_lock_held_by_both(self):
-        """No report of `shb` has such a pair, and the text says why."""
-        trace = b"A|acq(l)|a1\nA|w(x)|a2\nA|rel(l)|a3\nB|acq(l)|b1\nB|w(x)|b2\n"
-        report = (b"shb-report 2\nevents 5 threads 2 locks 1 variables 1\nraces 1\nplaces 1\nplace 1: 1\nat a2\nand b2\n"
-                  b"race 1: 2 5\nfirst A|w(x)|a2\nsecond B|w(x)|b2\nend\n")
-        both = "l, acquired at b1 (event 4), between the accesses: this orders them, so they are no race"
-        self.assertIn(f"  Locks held by both: {both}\n", self.shown(trace, report))
+    def test_a_report_that_is_given(self):
+        """It isn't checked unless that is asked for, and its counts are its own."""
+        words = [EXAMPLES / "fork-join.std", EXAMPLES / "fork-join.report"]
+        unchecked = FORK_JOIN.replace("shb check: ok 1", "The report wasn't checked (--check does it).")
+        self.expect(run(words), 0, unchecked.encode())
+        self.expect(run(["--check", *words]), 0, FORK_JOIN.encode())
+        whole = FORK_JOIN_ALL.splitlines()[-6:-4]
+        self.assertEqual(run(["--all", "--check", *words]).out.decode().splitlines()[-6:-4], whole)
+        said = run(["--all", *words]).out.decode()
+        self.assertIn("     No schedule of this race was checked: events are shown in the order of the trace.\n", said)
+        self.assertNotIn("come next", said)
 
-    def test_nothing_after_an_access_is_shown_before_it(self):
-        """The second thread's acquire waits for a release that comes after the first access."""
-        trace = b"A|acq(l)\nA|w(x)\nA|rel(l)\nB|acq(l)\nB|w(x)\n"
-        report = b"shb-report 1\nevents 5 threads 2 locks 1 variables 1\nraces 1\nrace 1: 2 5\nfirst A|w(x)\nsecond B|w(x)\nend\n"
-        [place] = read(trace, report)[1]
-        self.assertEqual((place.shown, place.edges), ([1, 4], []))
+    def test_a_report_on_standard_input(self):
+        with open(EXAMPLES / "fork-join.report", "rb") as report:
+            answer = run(["--check", EXAMPLES / "fork-join.std", "-"], stdin=report)
+        self.expect(answer, 0, FORK_JOIN.encode())
+        read_end, write_end = os.pipe()
+        os.write(write_end, (EXAMPLES / "fork-join.report").read_bytes())
+        os.close(write_end)
+        with open(read_end, "rb") as report:
+            self.expect(run(["--check", EXAMPLES / "fork-join.std", "-"], stdin=report), 0, FORK_JOIN.encode())
 
-    def test_shown_events_and_edges_by_hand(self):
-        text, report = ((EXAMPLES / f"unlocked-read.{end}").read_bytes() for end in ("std", "report"))
-        _, (first, second, third) = read(text, report)
-        self.assertEqual((first.shown, first.edges), ([1, 2, 3, 7, 8, 10, 11], [(2, 10), (8, 10), (7, 11)]))
-        self.assertEqual((second.shown, second.edges), ([1, 2, 3, 4, 5, 6, 7, 8, 12, 13], [(3, 4), (1, 6), (12, 13)]))
-        self.assertEqual((third.shown, third.edges), ([1, 2, 3, 4, 5, 6, 7, 8, 9, 12, 13], [(3, 4), (1, 6), (12, 13)]))
+    def test_a_bad_report_is_said_first(self):
+        bad = (EXAMPLES / "places.report").read_bytes().replace(b"schedule 0:", b"schedule 1: 1", 1)
+        answer = run(["--all", "--check", EXAMPLES / "places.std", self.file(bad, "t.report")])
+        self.assertEqual((answer.status, answer.err), (1, b""))
+        said = answer.out.decode().splitlines()
+        self.assertEqual(said[0], "`shb check` finds the report bad: bad race 1. What follows is only what the report says.")
+        self.assertEqual(said[1], "places.std: 6 races at 2 pairs of lines, in 1 group (4 events, 4 threads, 0 locks, 1 variable)")
+        self.assertIn("     No schedule of this race was checked: events are shown in the order of the trace.", said)
+        self.assertNotIn("come next", answer.out.decode())
 
-    def test_the_fork_of_a_thread_whose_first_event_is_an_access(self):
-        trace = b"main|fork(A)\nA|w(x)\nmain|w(x)\n"
-        [place] = read(trace, shb.report(trace, True))[1]
-        self.assertEqual((place.shown, place.edges), ([1], [(1, 2)]))
-
-    def test_an_acquire_long_before_the_access_is_shown(self):
-        trace = b"A|acq(l)\n" + b"A|r(y)\n" * 20 + b"A|w(x)\nB|w(x)\n"
-        [place] = read(trace, shb.report(trace, True))[1]
-        self.assertEqual(place.shown, [1, 16, 17, 18, 19, 20, 21])
-
-    def test_schedules_decide_the_order(self):
-        """A schedule of another tool may have the threads in another order."""
-        trace = b"A|r(a)|1\nB|r(b)|2\nA|w(x)|3\nB|w(x)|4\n"
-        report = shb.report(trace, True).replace(b"schedule 2: 1 2", b"schedule 2: 2 1")
-        self.assertEqual(judge.verdict(trace, report), b"ok 1\n")
-        self.assertEqual(read(trace, report)[1][0].shown, [2, 1])
-        self.assertEqual(read(trace, shb.report(trace, False))[1][0].shown, [1, 2])
+    def test_a_report_without_schedules(self):
+        trace = (EXAMPLES / "fork-join.std").read_bytes()
+        words = [EXAMPLES / "fork-join.std", self.file(shb.report(trace, False), "t.report")]
+        said = FORK_JOIN.replace("shb check: ok 1", "The report has no schedules, so `shb check` can't judge it.")
+        for options in ([], ["--check"]):
+            self.expect(run([*options, *words]), 0, said.encode())
 
     def test_colours_on_a_terminal_alone(self):
-        words = [EXAMPLES / "fork-join.std", EXAMPLES / "fork-join.report"]
+        words = [EXAMPLES / "fork-join.std"]
         coloured = self.on_a_terminal(words, TERM="xterm", NO_COLOR="")
         self.assertIn(b"\x1b[1m", coloured)
         self.assertEqual(re.sub(rb"\x1b\[\d+m", b"", coloured).replace(b"\r\n", b"\n"), FORK_JOIN.encode())
-        for settings in ({"TERM": "xterm", "NO_COLOR": "1"}, {"TERM": "dumb", "NO_COLOR": ""}):
-            self.assertNotIn(b"\x1b", self.on_a_terminal(words, **settings))
+        for terminal in ({"TERM": "xterm", "NO_COLOR": "1"}, {"TERM": "dumb", "NO_COLOR": ""}):
+            self.assertNotIn(b"\x1b", self.on_a_terminal(words, **terminal))
 
-    def on_a_terminal(self, words, **settings):
+    def on_a_terminal(self, words, **more):
         own, other = pty.openpty()
         with open(own, "rb", buffering=0) as shown:
-            ran = run(words, stdout=other, env=program.with_settings(**settings))
+            ran = run(words, stdout=other, env=settings(**more))
             os.close(other)
             self.assertEqual((ran.status, ran.err), (0, b""))
             out = b""
@@ -244,350 +176,368 @@ class Text(program.Case):
         return out
 
 
-class Definitions(program.Case):
-    """What is shown, against the plain definitions, on made traces."""
+def trace_of(*lines):
+    """A trace of short lines, `A w x 1` for the event `A|w(x)|f.c:1`."""
+    events = [line.split() for line in lines]
+    return b"".join(f"{thread}|{word}({name})|f.c:{line}\n".encode() for thread, word, name, line in events)
 
-    def test_faults_are_those_of_the_analyser(self):
-        pick, refused = random.Random(2), 0
-        for number in range(3 * MADE):
-            text = made_traces.made_trace(pick)
-            with self.subTest(number):
-                self.assertEqual(self.fault_here(text), self.fault_there(text))
-                refused += self.fault_there(text) is not None
-        self.assertGreater(refused, 20)
 
-    def fault_here(self, text):
-        try:
-            read_trace(text, QUIET)
-        except Refused as fault:
-            return str(fault).replace(" of the trace:", ":", 1)
-        return None
+class Facts(program.Case):
+    """The sentence of a group, each made for one rule."""
 
-    def fault_there(self, text):
-        try:
-            shb.read_trace(text)
-        except shb.Refused as fault:
-            return str(fault)
-        return None
+    def said(self, *lines):
+        text = self.file(trace_of(*lines))
+        status, out, err = run_here([text])
+        self.assertEqual((status, err), (0, ""))
+        return [line[3:] for line in out.splitlines() if line.startswith("   In this run")]
 
-    def test_limits(self):
-        long_line, threads = b"T|w(" + b"x" * 4092 + b")", b"".join(b"T%d|w(x)\n" % k for k in range(1025))
-        for text, said in ((long_line, "line 1: the line is longer than 4096 bytes"),
-                           (long_line[1:], "line 1: the thread name is empty"),
-                           (b"\n" + long_line, "line 2: the line is longer than 4096 bytes"),
-                           (threads, "line 1025: there are more than 1024 threads")):
-            self.assertEqual(self.fault_here(text), said)
-        self.assertIsNone(self.fault_here(long_line[:4] + long_line[5:]))
+    def test_every_write_holds_a_lock(self):
+        self.assertEqual(self.said("A acq l 1", "A w x 2", "A rel l 3", "B r x 4"),
+                         ["In this run every write holds l, and f.c:4 reads without it."])
+        self.assertEqual(self.said("A acq l 1", "A w x 2", "A rel l 3", "B r x 4", "C r x 5"),
+                         ["In this run every write holds l, and f.c:4 and f.c:5 read without it."])
 
-    def test_fields_and_counts(self):
-        for _, text, events in made(MADE):
-            trace, (_, lines) = read_trace(text, QUIET), shb.read_trace(text)
-            self.assertEqual(trace.counts, shb.counts_of(events))
-            self.assertEqual([trace.line(e) for e in range(1, len(trace) + 1)], lines)
-            self.assertEqual([trace.event(e).location for e in range(1, len(trace) + 1)], list(map(shb.location, lines)))
-            in_text = [line[:-1] if line.endswith(b"\r") else line for line in text.split(b"\n")]
-            for event, line in trace.line_numbers(range(1, len(trace) + 1)).items():
-                self.assertEqual(in_text[line - 1], lines[event - 1])
-                self.assertEqual(sum(map(bool, in_text[: line - 1])), event - 1)
+    def test_a_line_that_sometimes_lacks_the_lock(self):
+        self.assertEqual(self.said("A acq l 1", "A w x 2", "A rel l 3", "B r x 4", "B acq l 5", "B r x 4"),
+                         ["In this run every write holds l, and f.c:4 reads without it at some accesses."])
 
-    def test_locks_held(self):
+    def test_a_lock_at_some_lines_that_write(self):
+        self.assertEqual(self.said("A acq l 1", "A w x 2", "A rel l 3", "B w x 4"),
+                         ["In this run l is held at f.c:2, and not at f.c:4."])
+        self.assertEqual(self.said("A acq l 1", "A w x 2", "A rel l 3", "B w x 4", "B acq l 5", "B w x 4"),
+                         ["In this run l is held at f.c:2, and not always at f.c:4."])
+
+    def test_several_threads_write(self):
+        self.assertEqual(self.said("A w x 1", "B w x 2"), ["In this run 2 threads write, and no access holds a lock in the trace."])
+        self.assertEqual(self.said("A w x 1", "B acq l 2", "B w x 1", "B rel l 4"),
+                         ["In this run 2 threads write, and no lock is held at every access."])
+
+    def test_one_thread_writes(self):
+        self.assertEqual(self.said("A w x 1", "B acq l 2", "B r x 3"),
+                         ["In this run only A writes, at f.c:1, and no lock is held at every access."])
+
+    def test_a_lock_that_readers_alone_hold_is_no_rule(self):
+        """The writer never holds it; so nothing says that it belongs to the variable."""
+        self.assertEqual(self.said("A w x 1", "B acq l 2", "B r x 3", "B rel l 4", "C r x 5"),
+                         ["In this run only A writes, at f.c:1, and no lock is held at every access."])
+
+    def test_many_lines_are_not_all_named(self):
+        reads = [f"R{line} r x {line}" for line in range(11, 16)]
+        self.assertEqual(self.said("A acq l 1", "A w x 2", "A rel l 3", *reads),
+                         ["In this run every write holds l, and f.c:11, f.c:12, f.c:13 and 2 more read without it."])
+
+    def test_order_of_the_groups(self):
+        """By the rule first; of one rule, most races first."""
+        lines = ["A w one 1", "R r one 2", "S r one 3", "A w two 4", "B w two 5", "A acq l 6", "A w three 7", "A rel l 8", "B r three 9",
+                 "A acq l 10", "A w four 11", "A rel l 12", "B w four 13", "A w five 14", "R r five 15", "S r five 16", "Q r five 17"]
+        heads = re.findall(r"^\d+\. (\w+):", run_here([self.file(trace_of(*lines))])[1], re.M)
+        self.assertEqual(heads, ["three", "four", "two", "five", "one"])
+
+    def test_a_foreign_report_of_ordered_accesses(self):
+        """No report of `shb` has such a pair, and the fact says why."""
+        trace = trace_of("A acq l 1", "A w x 2", "A rel l 3", "B acq l 4", "B w x 5")
+        report = (b"shb-report 2\nevents 5 threads 2 locks 1 variables 1\nraces 1\nplaces 1\nplace 1: 1\nat f.c:2\nand f.c:5\n"
+                  b"race 1: 2 5\nfirst A|w(x)|f.c:2\nsecond B|w(x)|f.c:5\nend\n")
+        [section] = sections(trace, report, None)
+        self.assertEqual("".join(part if isinstance(part, str) else part.decode() for part in section.fact.sentence),
+                         "In this run every access holds l, which orders them: these are no races.")
+
+
+class Sites(program.Case):
+    """Every line that uses the variable."""
+
+    def lines(self, *events):
+        return run_here([self.file(trace_of(*events))])[1].splitlines()
+
+    def test_locks_held_not_held_and_sometimes(self):
+        said = self.lines("A acq l 1", "A acq m 1", "A w x 2", "A rel m 3", "A rel l 3", "B r x 4", "B acq l 5", "B r x 4", "B acq n 6",
+                          "B r x 7", "C acq n2 8", "C r x 9")
+        self.assertEqual(said[5:15], [
+            "   f.c:2: 1 write by A", "     holds l; holds m", "     races with f.c:4 (1 race) and f.c:9 (1 race)",
+            "   f.c:4: 2 reads by B", "     holds l at 1 of 2; no lock in the trace at 1 of 2", "     races with f.c:2 (1 race)",
+            "   f.c:9: 1 read by C", "     holds n2; without l", "     races with f.c:2 (1 race)",
+            "   f.c:7: 1 read by B"])
+        self.assertEqual(said[15:], ["     holds l; holds n"])
+
+    def test_eight_locks_are_named(self):
+        locks = [f"A acq l{k} 1" for k in range(9)]
+        said = self.lines(*locks, "A w x 2", "B w x 3")
+        self.assertIn("     " + "; ".join(f"holds l{k}" for k in range(8)) + "; and 1 more", said)
+        said = self.lines(*locks[:8], "A w x 2", "B w x 3")
+        self.assertIn("     " + "; ".join(f"holds l{k}" for k in range(8)), said)
+
+    def test_three_locks_that_are_held_at_some_accesses_are_named(self):
+        events = [part for k in range(4) for part in (f"A acq l{k} 1", "A w x 2", f"A rel l{k} 3")]
+        self.assertIn("     holds l0 at 1 of 4; holds l1 at 1 of 4; holds l2 at 1 of 4; and 1 more", self.lines(*events, "B r x 4"))
+
+    def test_more_locks_than_are_counted(self):
+        locks = [f"A acq l{k} 1" for k in range(65)]
+        said = self.lines(*locks, "A w x 2", "B w x 3")
+        self.assertIn("     locks not counted at 1 of 1", said)
+        self.assertIn("   In this run 2 threads write, and the locks held at 1 access aren't counted.", said)
+        self.assertIn("   In this run l0 is held at f.c:2, and not at f.c:3.", self.lines(*locks[:64], "A w x 2", "B w x 3"))
+
+    def test_nested_acquires_of_a_lock(self):
+        said = self.lines("A acq l 1", "A acq l 1", "A rel l 1", "A w x 2", "A rel l 3", "B r x 4")
+        self.assertIn("   In this run every write holds l, and f.c:4 reads without it.", said)
+
+    def test_a_released_lock_is_not_held(self):
+        said = self.lines("A acq l 1", "A acq m 1", "A rel l 1", "A w x 2", "B r x 4")
+        self.assertIn("   In this run every write holds m, and f.c:4 reads without it.", said)
+
+    def test_twenty_lines_are_shown(self):
+        for many, more in ((20, []), (21, ["   and 1 more line"]), (23, ["   and 3 more lines"])):
+            said = self.lines("A w x 100", *(f"R{line} r x {line}" for line in range(201, 200 + many)))
+            self.assertEqual(len([line for line in said if line.startswith("   f.c:")]), 20)
+            self.assertEqual(said[5 + 3 * 20:], more)
+
+    def test_eight_partners_are_named(self):
+        said = self.lines("A w x 10", *(f"R{line} r x {line}" for line in range(11, 20)))
+        named = ", ".join(f"f.c:{line} (1 race)" for line in range(11, 19))
+        self.assertIn(f"     races with {named} and 1 more", said)
+
+    def test_kinds_that_are_not_told_apart(self):
+        """Where there are too many, the rest is counted without its lines and locks."""
+        most, counting.MOST_KINDS = counting.MOST_KINDS, 2
+        self.addCleanup(setattr, counting, "MOST_KINDS", most)
+        said = self.lines("A w x 1", "B w x 2", "B r x 3", "A r x 1", "A w x 1")
+        self.assertEqual(said[4:], [
+            "   In this run 2 threads write, and the locks held at 2 accesses aren't counted.",
+            "   f.c:1: 2 writes by A", "     no lock in the trace", "     races with f.c:2 (2 races) and f.c:3 (2 races)",
+            "   f.c:2: 1 write by B", "     no lock in the trace", "     races with f.c:1 (2 races)",
+            "   (further lines): 2 reads", "     locks not counted at 2 of 2"])
+
+    def test_counts_and_locks_of_made_traces(self):
+        """Against what the events say, one by one."""
         found = 0
-        for _, text, events in made(MADE):
-            trace = read_trace(text, QUIET)
-            for e in range(len(events)):
-                wanted = self.held(events, e)
-                found += len(wanted)
-                self.assertEqual([acquire - 1 for acquire in trace.held(e + 1)], wanted)
-        self.assertGreater(found, 100)
-
-    def held(self, events, e):
-        """For each lock that the thread of e has acquired more often than released before e, the acquire since which it is so."""
-        thread = events[e][0]
-
-        def balance(lock, end):
-            own = [event for event in events[:end] if event[0] == thread]
-            return own.count((thread, b"acq", lock)) - own.count((thread, b"rel", lock))
-
-        locks = {name for _, word, name in events if word == b"acq" and balance(name, e) > 0}
-        return sorted(max(k for k in range(e) if events[k] == (thread, b"acq", lock) and balance(lock, k) == 0) for lock in locks)
-
-    def test_sources_are_edges_and_give_the_whole_order(self):
-        found = 0
-        for _, text, events in made(MADE):
-            trace, below = read_trace(text, QUIET), shb.below_sets(events)
-            for e in range(len(events)):
-                sources = [source - 1 for source in explain.sources_of(trace, e + 1)]
-                found += len(sources)
-                self.assertTrue(all(shb.is_edge(events, s, e) and events[s][0] != events[e][0] for s in sources))
-                own = [k for k in range(e) if events[k][0] == events[e][0]][-1:]
-                self.assertEqual({e}.union(*(below[k] for k in own + sources)), below[e])
-        self.assertGreater(found, 100)
-
-    def test_shown_events_are_the_end_of_each_schedule(self):
-        races = 0
-        for _, text, events in made(MADE):
-            schedules = {(i + 1, j + 1): [e + 1 for e in schedule] for i, j, schedule in shb.races_and_schedules(events)}
-            trace, places = read(text, shb.report(text, True))
-            for place in places:
-                schedule = schedules[place.accesses]
-                self.assertEqual(place.shown, [e for e in schedule if e in place.shown])
-                self.assertEqual(place.length, len(schedule))
-                for access in place.accesses:
-                    own = [e for e in schedule if events[e - 1][0] == events[access - 1][0]]
-                    self.assertEqual(explain.last_events(trace, access, explain.BEFORE), own[-explain.BEFORE:])
-                    self.assertLessEqual(set(own[-explain.BEFORE:]), set(place.shown))
-                self.assertTrue(all(shb.is_edge(events, s - 1, e - 1) for s, e in place.edges))
-                self.assertEqual(explain.held_by_both(trace, place.accesses), [])
-                races += place.races
-            self.assertEqual(sum(place.races for place in places), len(schedules))
-        self.assertGreater(races, 200)
-
-
-class Reports(program.Case):
-    """Which reports are read."""
-
-    def test_every_form(self):
-        for _, text, events in made(MADE // 3):
-            wanted = shb.places_of(shb.races_and_schedules(events), shb.read_trace(text)[1])
-            wanted = sorted(wanted.items(), key=lambda place: -place[1])
-            for version in (1, 2):
-                for schedules in (False, True):
-                    places = read(text, shb.report(text, schedules, version))[1]
-                    self.assertEqual([(place.locations, place.races) for place in places], wanted)
-
-    def test_every_schedule_that_is_accepted(self):
-        """Schedules in other orders and with further events, as other tools may write them."""
-        pick, found = random.Random(5), 0
         for _, text, events in made(MADE):
             lines = shb.read_trace(text)[1]
-            head = b"shb-report 1\nevents %d threads %d locks %d variables %d\nraces 1\n" % shb.counts_of(events)
-            for i, j, printed in shb.races_and_schedules(events):
-                schedule = self.other_schedule(pick, events, (i, j))
-                if schedule is None or schedule == printed:
-                    continue
-                block = b"race 1: %d %d\nfirst %b\nsecond %b\nschedule %d:" % (i + 1, j + 1, lines[i], lines[j], len(schedule))
-                report = head + block + b"".join(b" %d" % (e + 1) for e in schedule) + b"\nend\n"
-                self.assertEqual(judge.verdict(text, report), b"ok 1\n")
-                [place] = read(text, report)[1]
-                self.assertEqual(place.shown, [e + 1 for e in schedule if e + 1 in place.shown])
-                found += 1
+            for section in sections(text, shb.report(text, True)):
+                wanted = collections.Counter()
+                for e, (thread, word, name) in enumerate(events):
+                    if word in (b"r", b"w") and name in section.group.variables:
+                        locks = {events[acquire][2] for acquire in held(events, e)}
+                        wanted[shb.location(lines[e]), word] += 1
+                        wanted.update((shb.location(lines[e]), "lock", lock) for lock in locks)
+                        wanted[shb.location(lines[e]), "bare"] += not locks
+                        found += len(locks)
+                got = collections.Counter()
+                for site in section.sites:
+                    got.update({(site.location, word): count for word, count in site.accesses.items()})
+                    got.update({(site.location, "lock", lock): count for lock, count in site.locks.items()})
+                    got[site.location, "bare"] += site.bare
+                self.assertEqual(+got, +wanted)
         self.assertGreater(found, 50)
 
-    def other_schedule(self, pick, events, pair):
-        """A schedule of the pair, made event by event; None where that came to an end."""
-        schedule = []
-        while not all(judge.comes_next(events, schedule, e) for e in pair):
-            free = [e for e in range(len(events)) if e not in pair and judge.may_run(events, schedule, e)]
-            free = [e for e in free if all(events[e][0] != events[access][0] or e < access for access in pair)]
-            if not free:
-                return None
-            schedule.append(pick.choice(free))
-        return schedule
 
-    def test_leading_races_alone(self):
-        trace = (EXAMPLES / "places.std").read_bytes()
-        report = (b"shb-report 2\nevents 4 threads 4 locks 0 variables 1\nraces 2\nplaces 2\n"
-                  b"place 1: 1\nat Counter.java:12\nand Counter.java:12\nplace 2: 1\nat Report.java:30\nand Counter.java:12\n"
-                  b"race 1: 1 2\nfirst T1|w(total)|Counter.java:12\n"
-                  b"second T2|w(total)|Counter.java:12\nschedule 0:\nrace 2: 3 4\nfirst T3|r(total)|Report.java:30\n"
-                  b"second T4|w(total)|Counter.java:12\nschedule 0:\nend\n")
-        self.assertEqual(judge.verdict(trace, report), b"ok 2\n")
-        self.assertEqual([(place.races, place.accesses) for place in read(trace, report)[1]], [(1, (1, 2)), (1, (3, 4))])
+def held(events, e):
+    """For each lock that the thread of e has acquired more often than released before e, the acquire since which it is so."""
+    thread = events[e][0]
 
-    def test_changed_reports(self):
-        """A good report is shown, and one whose form, counts or places are wrong is refused; `check` judges schedules."""
-        shown = refused = 0
-        for pick, text, _ in made(MADE):
-            good = shb.report(text, True, pick.choice([1, 2]))
-            for report in [made_traces.changed(pick, good) for _ in range(5)]:
-                verdict = judge.verdict(text, report).decode()
-                try:
-                    read(text, report)
-                except Refused:
-                    self.assertNotEqual(verdict[:3], "ok ")
-                    refused += 1
-                else:
-                    self.assertTrue(self.may_be_shown(report, verdict), verdict)
-                    shown += 1
-        self.assertGreater(min(shown, refused), 10)
+    def balance(lock, end):
+        own = [event for event in events[:end] if event[0] == thread]
+        return own.count((thread, b"acq", lock)) - own.count((thread, b"rel", lock))
 
-    def may_be_shown(self, report, verdict):
-        if verdict.startswith("bad line"):
-            bad = (report.split(b"\n") + [b""])[int(verdict.split()[2]) - 1]
-            return bad.startswith(b"schedule ") or b"\nschedule " not in report
-        return verdict.startswith(("ok ", "bad race "))
+    locks = {name for _, word, name in events if word == b"acq" and balance(name, e) > 0}
+    return sorted(max(k for k in range(e) if events[k] == (thread, b"acq", lock) and balance(lock, k) == 0) for lock in locks)
 
-    def test_a_report_of_another_trace(self):
-        report = shb.report(NESTED, True)
-        for old, new, said in (
-            (b"A|w(x)|a.c:6", b"A|w(x)|a.c:7", "the report is of another trace: line 9 of it isn't the line of event 10"),
-            (b"B|w(other)", b"B|w(own)", None),
-            (b"B|w(other)", b"B|end", "the report is of another trace: this one has 2 variables, not 3"),
-            (b"A|r(flag)|a.c:5\n", b"", "the report is of another trace: this one has 10 events, not 11; 2 variables, not 3"),
+
+class Groups(program.Case):
+    def names(self, *lines):
+        heads = re.findall(r"^\d+\. (.*): .*$", run_here([self.file(trace_of(*lines))])[1], re.M)
+        return sorted(heads)
+
+    def test_pairs_that_share_a_variable_are_one_group(self):
+        """Lines 1 and 2 race on x, lines 1 and 3 on x and y, lines 4 and 5 on z."""
+        text = trace_of("A w x 1", "B r x 2", "B w y 3", "A r y 1", "A w z 4", "B w z 5", "C r x 3")
+        found = sorted(sorted(pair.locations for pair in section.group.pairs) for section in sections(text, shb.report(text, True)))
+        self.assertEqual(found, [[(b"f.c:1", b"f.c:2"), (b"f.c:1", b"f.c:3")], [(b"f.c:4", b"f.c:5")]])
+
+    def test_lines_that_race_on_two_variables_are_one_group(self):
+        text = trace_of("A w x 1", "A w y 1", "B w x 2", "B w y 2")
+        [section] = sections(text, shb.report(text, True))
+        self.assertEqual(([pair.races for pair in section.group.pairs], section.group.variables), ([2], (b"x", b"y")))
+
+    def test_a_pair_has_no_order(self):
+        text = trace_of("A w x 1", "B w x 2", "A w x 1")
+        [section] = sections(text, shb.report(text, True))
+        self.assertEqual([(pair.locations, pair.races) for pair in section.group.pairs], [((b"f.c:1", b"f.c:2"), 2)])
+
+    def test_the_closest_race_is_shown(self):
+        text = trace_of("A w x 1", "B r y 9", "B w x 2", "B r y 9", "C w x 1")
+        [section] = sections(text, shb.report(text, True))
+        self.assertEqual(section.window.accesses, (1, 3))  # not 3 and 5, as near, and not 1 and 5
+        text = trace_of("A w x 1", "B r y 9", "B r y 9", "B w x 2", "C w x 1")
+        self.assertEqual(windows(text, shb.report(text, True))[0].accesses, (4, 5))
+
+    def test_what_several_variables_share(self):
+        for variables, name in (
+            ([b"x"], (b"x", "")),
+            ([b"cache.c:19#71+80", b"cache.c:19#43+80"], (b"cache.c:19+80", "(2 blocks)")),
+            ([b"slabs.c:615#134+1", b"slabs.c:615#134+22", b"slabs.c:615#134"], (b"slabs.c:615#134", "(3 variables)")),
+            ([b"slabs.c:615#134+1", b"slabs.c:615#9+2"], (b"slabs.c:615", "(2 variables)")),
+            ([b"stats", b"stats+8"], (b"stats", "(2 variables)")),
+            ([b"stats", b"settings+8"], (b"stats", "and 1 more")),
+            ([b"stack.T1-0x20", b"stack.T1-0x28"], (b"stack.T1", "(2 variables)")),
         ):
-            status, out, err = run_here([self.file(NESTED.replace(old, new)), self.file(report, "t.report")])
-            if said is None:
-                self.assertEqual((status, err), (0, ""))
-            else:
-                self.assertEqual((status, out, err), (1, "", f"shb-view: {said}\n"))
+            self.assertEqual(groups.common_name(variables), name)
 
-    def test_wrong_lines(self):
-        trace = b"A|r(a)|1\nB|r(b)|2\nA|w(x)|3\nB|w(x)|4\nB|r(x)|5\nA|acq(x)|6\n"
-        report = shb.report(trace, True).replace(b"races 2", b"races 1").replace(b"places 2", b"places 1")
-        report = re.sub(rb"(?s)place 2.*?race 1", b"race 1", report)
-        report = re.sub(rb"(?s)race 2.*end", b"end", report)
-        no_events = "race 1 of the report: %s aren't two events of the trace, the earlier first"
-        no_list = "line 11 of the report isn't a schedule of 2 events; it should be `schedule N: N EVENTS`"
-        for old, new, said in (
-            (b"race 1: 3 4", b"race 1: 3 7", no_events % "3 and 7"),
-            (b"race 1: 3 4", b"race 1: 4 3", no_events % "4 and 3"),
-            (b"race 1: 3 4", b"race 1: 0 3", no_events % "0 and 3"),
-            (b"race 1: 3 4", b"race 1: 1 3", "race 1 of the report: the events 1 and 3 of the trace don't conflict"),
-            (b"race 1: 3 4", b"race 1: 1 2", "race 1 of the report: the events 1 and 2 of the trace don't conflict"),
-            (b"race 1: 3 4", b"race 1: 2 3", "race 1 of the report: the events 2 and 3 of the trace don't conflict"),
-            (b"race 1: 3 4", b"race 1: 4 5", "race 1 of the report: the events 4 and 5 of the trace don't conflict"),
-            (b"race 1: 3 4", b"race 1: 5 6", "race 1 of the report: the events 5 and 6 of the trace don't conflict"),
-            (b"race 1: 3 4", b"race 2: 3 4", "line 8 of the report has the number 2; it should be `race 1: I J`"),
-            (b"schedule 2: 1 2", b"schedule 1: 1", "race 1 of the report: its schedule lacks event 2, which comes before an access"),
-            (b"schedule 2: 1 2", b"schedule 2: 1", no_list),
-            (b"schedule 2: 1 2", b"schedule 2: 1 02", no_list),
-            (b"schedule 2: 1 2", b"schedule 2:1 2 ", no_list),
-            (b"schedule 2: 1 2", b"schedule 2: 1  ", no_list),
-            (b"at 3", b"at 4", "the places that the report begins with aren't those of its races"),
-            (b"end\n", b"end", "line 12 of the report is cut off: `end`; it should be `end`"),
-            (b"end\n", b"", "line 12 of the report is missing; it should be `end`"),
-            (b"end\n", b"end\n\n", "line 13 of the report stands after `end`"),
-            (b"shb-report 2", b"shb-report 3", "line 1 of the report is `shb-report 3`; it should be `shb-report 2`"),
-            (b"shb-report 2", b"\x1b[31m\xff", "line 1 of the report is `\\x1b[31m\\xff`; it should be `shb-report 2`"),
-        ):
-            self.assertIn(old, report)
-            status, out, err = run_here([self.file(trace), self.file(report.replace(old, new), "t.report")])
-            self.assertEqual((status, out, err), (1, "", f"shb-view: {said}\n"))
+    def test_all_variables_where_the_races_are_few(self):
+        """With n accesses to each variable by each thread there are 2n² races: 80,000 are looked at one by one, 105,800 aren't."""
+        for many, name, note in ((200, "x and 1 more", ""), (230, "x and perhaps others", "The trace has too many races to look at each. "
+                                  "Of each place one is known, and what is said of a group holds for the variables of these.\n")):
+            events = [f"{thread} w {variable} {line}" for thread, line in (("A", 1), ("B", 2)) for _ in range(many) for variable in "xy"]
+            out = run_here([self.file(trace_of(*events))])[1]
+            self.assertIn(f"\nshb check: ok 1\n{note}\n1. {name}: 2 threads write ({2 * many * many:,} races, 1 pair of lines)\n", out)
 
-    def test_a_schedule_that_turns_the_order_round(self):
-        trace = b"A|r(a)\nA|r(b)\nA|w(x)\nB|w(x)\n"
+    def test_a_report_of_some_races(self):
+        """The report of `places` has one race of each place."""
+        with open(self.folder / "t.report", "wb") as report:
+            program_said = program.run(["places", EXAMPLES / "places.std"]).out
+            report.write(program_said)
+        said = run_here([EXAMPLES / "places.std", self.folder / "t.report"])[1].splitlines()
+        self.assertEqual(said[0], "places.std: 3 of 6 races at 2 pairs of lines, in 1 group (4 events, 4 threads, 0 locks, 1 variable)")
+        self.assertEqual(said[2:5], ["The report has not all races of the trace; the counts are the report's.", "",
+                                     "1. total: 3 threads write (3 races, 2 pairs of lines)"])
+
+    def test_two_hundred_groups_are_shown(self):
+        for many, more in ((200, ""), (202, "\nand 2 more groups\n")):
+            events = [f"{thread} w x{k} {2 * k + (thread == 'B')}" for k in range(many) for thread in "AB"]
+            out = run_here([self.file(trace_of(*events))])[1]
+            self.assertEqual(len(re.findall(r"^\d+\. ", out, re.M)), 200)
+            self.assertTrue(out.startswith(f"t.std: {many} races at {many} pairs of lines, in {many} groups "))
+            self.assertEqual(out.split("races with f.c:399 (1 race)\n")[-1][-len(more or "\n"):] if more else "", more)
+
+
+class Windows(program.Case):
+    """What comes before two accesses."""
+
+    def example(self, name):
+        return [(EXAMPLES / f"{name}.{end}").read_bytes() for end in ("std", "report")]
+
+    def test_shown_events_and_edges_by_hand(self):
+        first, second = windows(*self.example("unlocked-read"))
+        self.assertEqual(first.accesses, (12, 13))
+        self.assertEqual((first.before, first.edges), ([1, 2, 3, 7, 8, 10, 11], [(2, 10), (8, 10), (7, 11)]))
+        self.assertEqual(second.accesses, (15, 16))
+        self.assertEqual((second.before, second.edges), ([1, 2, 3, 4, 5, 6, 7, 8, 9, 12, 13], [(3, 4), (1, 6), (12, 13)]))
+
+    def test_nothing_after_an_access_is_shown_before_it(self):
+        """The second thread's acquire waits for a release that comes after the first access."""
+        trace = b"A|acq(l)\nA|w(x)\nA|rel(l)\nB|acq(l)\nB|w(x)\n"
+        report = b"shb-report 1\nevents 5 threads 2 locks 1 variables 1\nraces 1\nrace 1: 2 5\nfirst A|w(x)\nsecond B|w(x)\nend\n"
+        [window] = windows(trace, report, None)
+        self.assertEqual((window.before, window.edges), ([1, 4], []))
+
+    def test_the_fork_of_a_thread_whose_first_event_is_an_access(self):
+        trace = b"main|fork(A)\nA|w(x)\nmain|w(x)\n"
+        [window] = windows(trace, shb.report(trace, True))
+        self.assertEqual((window.before, window.edges, window.forks), ([1], [(1, 2)], {2: 1, 3: 0}))
+
+    def test_a_join_waits_for_the_last_event(self):
+        trace = b"main|fork(A)\nA|w(y)\nA|r(z)\nmain|join(A)\nmain|w(x)\nB|w(x)\n"
+        [window] = windows(trace, shb.report(trace, True))
+        self.assertEqual((window.before, window.edges), ([1, 3, 4], [(3, 4)]))
+
+    def test_an_acquire_long_before_the_access_is_shown(self):
+        trace = b"A|acq(l)\n" + b"A|r(y)\n" * 20 + b"A|w(x)\nB|w(x)\n"
+        [window] = windows(trace, shb.report(trace, True))
+        self.assertEqual(window.before, [1, 16, 17, 18, 19, 20, 21])
+
+    def test_eight_held_locks_are_shown(self):
+        trace = b"".join(b"A|acq(%d)\n" % k for k in range(9)) + b"A|r(y)\n" * 6 + b"A|w(x)\nB|w(x)\n"
+        [window] = windows(trace, shb.report(trace, True))
+        self.assertEqual((window.before, window.events[16].held), ([2, 3, 4, 5, 6, 7, 8, 9, 10, 11, 12, 13, 14, 15], 9))
+
+    def test_schedules_decide_the_order(self):
+        """A schedule of another tool may have the threads in another order. One that isn't known to be good decides nothing."""
+        trace = b"A|r(a)|1\nB|r(b)|2\nA|w(x)|3\nB|w(x)|4\n"
         report = shb.report(trace, True).replace(b"schedule 2: 1 2", b"schedule 2: 2 1")
-        with self.assertRaisesRegex(Refused, "its schedule has event 2 before event 1"):
-            read(trace, report)
+        self.assertEqual(judge.verdict(trace, report), b"ok 1\n")
+        self.assertEqual([(w.before, w.length) for w in windows(trace, report)], [([2, 1], 2)])
+        for is_good in (False, None):
+            self.assertEqual([(w.before, w.length) for w in windows(trace, report, is_good)], [([1, 2], None)])
+
+    def test_events_of_made_traces(self):
+        """Edges, locks held and what comes before, against the definitions."""
+        edges = locks = 0
+        for _, text, events in made(MADE):
+            schedules = {(i + 1, j + 1): [e + 1 for e in schedule] for i, j, schedule in shb.races_and_schedules(events)}
+            below, lines = shb.below_sets(events), shb.read_trace(text)[1]
+            for window in windows(text, shb.report(text, True)):
+                schedule = schedules[window.accesses]
+                self.assertEqual(window.length, len(schedule))
+                self.assertEqual(window.before, [e for e in schedule if e in window.before])
+                self.assertTrue(all(shb.is_edge(events, s - 1, e - 1) and events[s - 1][0] != events[e - 1][0] for s, e in window.edges))
+                edges += len(window.edges)
+                for access in window.accesses:
+                    own = [e for e in schedule if events[e - 1][0] == events[access - 1][0]]
+                    self.assertLessEqual(set(own[-counting.BEFORE:]), set(window.before))
+                for number in (*window.before, *window.accesses):
+                    shown = window.events[number]
+                    self.assertEqual(shown.line, lines[number - 1])
+                    self.assertEqual([acquire - 1 for _, acquire in shown.locks], held(events, number - 1))
+                    self.assertEqual(shown.held, len(shown.locks))
+                    locks += shown.held
+                    own = [e + 1 for e in range(number - 1) if events[e][0] == events[number - 1][0]]
+                    self.assertEqual(shown.previous, own[-1] if own else 0)
+                for access in window.accesses:
+                    own = [e for e in range(access - 1) if events[e][0] == events[access - 1][0]][-counting.BEFORE:]
+                    self.assertEqual([window.events[e + 1].source for e in own], [source(events, e) for e in own])
+                    forks = [e + 1 for e, event in enumerate(events) if event[1:] == (b"fork", events[access - 1][0])]
+                    self.assertEqual(window.forks[access], forks[0] if forks else 0)
+        self.assertGreater(min(edges, locks), 30)
 
 
-class Inputs(program.Case):
-    """What is no trace, no report or no file."""
-
-    def refused(self, words):
-        status, out, err = run_here(words)
-        self.assertEqual((status, out), (1, ""))
-        self.assertRegex(err, r"\Ashb-view: [^\n]+\n\Z")
-        return err
-
-    def test_truncated(self):
-        """Each front of a report is refused, and each front of a trace with a report of the whole."""
-        report = shb.report(NESTED, True)
-        trace = self.file(NESTED)
-        for end in range(len(report)):
-            self.refused([trace, self.file(report[:end], "t.report")])
-        whole = self.file(report, "t.report")
-        for end in range(len(NESTED) - 8):
-            self.refused([self.file(NESTED[:end]), whole])
-
-    def test_random_bytes(self):
-        pick = random.Random(3)
-        good = self.file(NESTED, "good.std"), self.file(shb.report(NESTED, True), "good.report")
-        for _ in range(100):
-            noise = self.file(bytes(pick.choices(range(256), k=pick.randrange(1, 300))) + b"!", "noise")
-            self.refused([noise, good[1]])
-            self.refused([good[0], noise])
-
-    def test_other_encodings(self):
-        trace, report = NESTED.decode(), shb.report(NESTED, True).decode()
-        for encoding in ("utf-16", "utf-32", "utf-8-sig"):
-            self.refused([self.file(trace.encode(encoding)), self.file(report.encode(encoding), "t.report")])
-            self.refused([self.file(NESTED, "good.std"), self.file(report.encode(encoding), "t.report")])
-
-    def test_numbers_without_end(self):
-        for line in (b"races " + b"9" * 5000, b"races 18446744073709551615", b"places 99999999999999999999"):
-            report = re.sub(rb"\n%b 1\n" % line.split()[0], b"\n" + line + b"\n", shb.report(NESTED, True))
-            self.assertIn(line, report)
-            self.refused([self.file(NESTED), self.file(report, "t.report")])
-
-    def test_files(self):
-        trace, report = EXAMPLES / "two-lines.std", EXAMPLES / "two-lines.report"
-        for words in ([self.folder / "none", report], [trace, self.folder / "none"], [self.folder, report], [trace, self.folder],
-                      ["--html", self.folder, trace, report], ["--html", self.folder / "no" / "page", trace, report]):
-            self.refused(words)
-
-    def test_the_page_never_takes_the_place_of_an_input(self):
-        trace, report = self.file(NESTED), self.file(shb.report(NESTED, True), "t.report")
-        for path in (trace, report):
-            before = path.read_bytes()
-            self.assertIn("would take the place of", self.refused(["--html", path, trace, report]))
-            self.assertEqual(path.read_bytes(), before)
-
-    def test_statuses_of_the_command(self):
-        words = [EXAMPLES / "two-lines.std", EXAMPLES / "two-lines.report"]
-        self.assertEqual(run([]).status, 2)
-        self.assertEqual(run(["--help"]).status, 0)
-        with open("/dev/full", "wb") as full:
-            answer = run(words, stdout=full)
-        self.assertEqual((answer.status, answer.err), (1, b"shb-view: No space left on device\n"))
-        read_end, write_end = os.pipe()
-        os.close(read_end)
-        with open(write_end, "wb") as closed:
-            self.assertEqual(run(words, stdout=closed)[::2], (1, b""))
-
-    def test_an_encoding_that_lacks_a_character(self):
-        trace = "A|w(größe…)\nB|w(größe…)\n".encode()
-        words = [self.file(trace), self.file(shb.report(trace, True), "t.report")]
-        answer = run(words, env=program.with_settings(PYTHONIOENCODING="ascii"))
-        self.assertEqual((answer.status, answer.err), (0, b""))
-        self.assertIn(rb"write and write of gr\xf6\xdfe\u2026", answer.out)
-
-
-class Check(program.Case):
-    """--check, with the built program."""
-
-    def run_check(self, report, trace=EXAMPLES / "places.std"):
-        return run_here(["--check", "--shb", program.PATH, trace, self.file(report, "t.report")])
-
-    def test_a_good_report(self):
-        status, out, err = self.run_check((EXAMPLES / "places.report").read_bytes())
-        self.assertEqual((status, out.splitlines()[1], err), (0, "shb check: ok 6", ""))
-
-    def test_a_bad_report_is_shown_with_its_verdict(self):
-        report = (EXAMPLES / "places.report").read_bytes().replace(b"schedule 0:", b"schedule 1: 1", 1)
-        status, out, err = self.run_check(report)
-        self.assertEqual((status, out.splitlines()[1], err), (1, "shb check: bad race 1", ""))
-        self.assertIn("Place 3 of 3", out)
-
-    def test_a_list_report_is_no_report_for_check(self):
-        status, out, _ = self.run_check(shb.report((EXAMPLES / "places.std").read_bytes(), False))
-        self.assertEqual((status, out.splitlines()[1]), (1, "shb check: bad line 17"))
-
-    def test_a_refused_trace(self):
-        self.assertEqual(self.run_check(b"", self.file(b"oops\n")),
-                         (1, "", "shb-view: `shb check` failed: line 1: the line has no operation field\n"))
-
-    def test_no_such_program(self):
-        words = ["--check", "--shb", self.folder / "none", EXAMPLES / "places.std", EXAMPLES / "places.report"]
-        status, out, err = run_here(words)
-        self.assertEqual((status, out), (1, ""))
-        self.assertRegex(err, r"\Ashb-view: .*none: No such file or directory\n\Z")
+def source(events, e):
+    """The last event of another thread that this one waits for or sees, counted from 1, or 0."""
+    thread, word, name = events[e]
+    wanted = {b"acq": (b"rel", name), b"r": (b"w", name)}.get(word)
+    found = [k for k in range(e) if events[k][1:] == wanted or (word == b"join" and events[k][0] == name)]
+    return found[-1] + 1 if found and events[found[-1]][0] != thread else 0
 
 
 class Names(program.Case):
     def test_shown(self):
         for name, said in ((b"plain", "plain"), (b"\xff\x00a", r"\xff\x00a"), ("größe".encode(), "größe"),
-                           (b"\x1b[2J\t", r"\x1b[2J\t"),
-                           ("a\u202eb".encode(), r"a\u202eb"), ("e\u0301".encode(), "e\u0301"), ("\u0301e".encode(), r"\u0301e"),
-                           (b"\xed\xa0\x80", r"\xed\xa0\x80"),
-                           ("e".encode() + "\u0301".encode() * 5, "e" + "\u0301" * 3 + r"\u0301\u0301")):
+                           (b"\x1b[2J\t\n", r"\x1b[2J\x09\x0a"), (b"\\xff", r"\\xff"), (b"a\\b", r"a\\b"),
+                           (b"\x9b", r"\x9b"), ("\u009b".encode(), r"\u009b"), (b"\x7f", r"\x7f"),
+                           ("a\u202eb".encode(), r"a\u202eb"), ("a\u2066b\u00a0".encode(), r"a\u2066b\u00a0"),
+                           ("x\u0301".encode(), "x\u0301"), ("\u0301x".encode(), r"\u0301x"), (b"\xed\xa0\x80", r"\xed\xa0\x80"),
+                           ("x".encode() + "\u0301".encode() * 5, "x" + "\u0301" * 3 + r"\u0301\u0301"),
+                           ("\U000e0041".encode(), r"\U000e0041")):
             self.assertEqual(names.shown(name), said)
+
+    def test_what_cannot_be_seen(self):
+        for character in "\u200b\u2060\u3164\u115f\u1160\u2800\uffa0\ufe0f\ufe00\u034f\u180b\u17b4\u00ad\ufeff\u2028":
+            self.assertEqual(names.shown(f"a{character}b".encode()), f"a\\u{ord(character):04x}b")
+        self.assertEqual(names.shown("a\U000e0100b".encode()), r"a\U000e0100b")
+
+    def test_letters_that_look_the_same(self):
+        """Of two ways to write an accented letter the shorter one is shown as it is."""
+        self.assertEqual(names.shown("\u00e9".encode()), "\u00e9")
+        self.assertEqual(names.shown("e\u0301".encode()), r"e\u0301")
+        self.assertEqual(names.shown("\u212b".encode()), r"\u212b")
+
+    def test_names_are_told_apart(self):
+        pick, parts = random.Random(7), [b"\xff", b"\\xff", b"\\", b"\x9b", "\u009b".encode(), b"x9b", b"a", "e\u0301".encode(),
+                                         "\u00e9".encode(), "\u3164".encode(), b"u3164", b"\\u3164", b"\x1b"]
+        found = {}
+        for _ in range(2000):
+            name = b"".join(pick.choices(parts, k=pick.randrange(1, 4)))
+            self.assertEqual(found.setdefault(names.shown(name), name), name)
+
+    def test_names_from_right_to_left_are_kept_apart(self):
+        self.assertEqual(names.shown("\u05d0\u05d1".encode()), "\u2068\u05d0\u05d1\u2069")
+        self.assertEqual(names.shown("x\u0627".encode()), "\u2068x\u0627\u2069")
+        self.assertEqual(names.columns(names.shown("\u05d0\u05d1".encode())), 2)
 
     def test_short(self):
         for name, most, said in (
             (b"abcdefgh", 8, "abcdefgh"), (b"abcdefghi", 8, "abc…fghi"), (b"abcdefghi", 7, "abc…ghi"),
-            ("e\u0301".encode() * 9, 8, "e\u0301" * 3 + "…" + "e\u0301" * 4),  # a letter keeps its mark
+            ("x\u0301".encode() * 9, 8, "x\u0301" * 3 + "…" + "x\u0301" * 4),  # a letter keeps its mark
             ("漢".encode() * 9, 8, "漢…漢漢"),  # of two columns each
+            ("Ａ".encode() * 9, 8, "Ａ…ＡＡ"),
             (b"\xff" * 9, 9, r"\xff…\xff"),  # escapes stay whole
             (b"a" * 4000, 9, "aaaa…aaaa"),
         ):
@@ -596,29 +546,46 @@ class Names(program.Case):
     def test_short_names_are_never_longer(self):
         pick = random.Random(4)
         for _ in range(300):
-            name = "".join(pick.choices("ab漢é\u0301\u202e\x00\udcff(", k=pick.randrange(60))).encode("utf-8", "surrogateescape")
+            name = "".join(pick.choices("ab漢x\u0301\u202e\u05d0\x00\udcff(", k=pick.randrange(60))).encode("utf-8", "surrogateescape")
             most = pick.randrange(8, 40)
-            said = names.short(name, most)
+            said, whole = names.short(name, most), names.shown(name)
             self.assertLessEqual(names.columns(said), most)
-            if names.columns(names.shown(name)) <= most:
-                self.assertEqual(said, names.shown(name))
+            if names.columns(whole) <= most:
+                self.assertEqual(said, whole)
             else:
-                head, tail = said.split("…")
-                self.assertTrue(names.shown(name).startswith(head) and names.shown(name).endswith(tail))
+                head, tail = said.strip("\u2068\u2069").split("…")
+                self.assertTrue(whole.strip("\u2068").startswith(head) and whole.strip("\u2069").endswith(tail))
+
+    def test_long_names_are_cut_in_the_text(self):
+        name = "v" * 200
+        out = run_here([self.file(f"A|w({name})|{name}\nB|w({name})|b\n".encode())])[1]
+        cut = "v" * 39 + "…" + "v" * 40
+        self.assertIn(f"1. {cut}: 2 threads write", out)
+        self.assertIn(f"   {cut}: 1 write by A\n", out)
+        self.assertNotIn("v" * 41, out)
+
+    def test_code_keeps_its_backslashes(self):
+        self.assertEqual(names.code_line(b'puts("a\\n\\x1b");\t\x1b\xff', 80), 'puts("a\\n\\x1b");        \\x1b\\xff')
 
 
 class Waiting(program.Case):
-    def test_words_on_a_terminal_go_away_again(self):
+    def terminal(self):
         class Terminal(io.StringIO):
             def isatty(self):
                 return True
 
-        terminal = Terminal()
-        said = progress.Progress(terminal)
+        return Terminal()
+
+    def test_words_on_a_terminal_go_away_again(self):
+        said = progress.Progress(self.terminal())
         said.next = 0  # as after the first second
         said.step("reading", 1, 4)
         said.clear()
-        self.assertEqual(terminal.getvalue(), "\r\x1b[Kshb-view: reading 25%\r\x1b[K")
+        self.assertEqual(said.out.getvalue(), "\r\x1b[Kshb-view: reading 25%\r\x1b[K")
+
+    def test_nothing_is_said_in_the_first_second(self):
+        said = progress.Progress(self.terminal())
+        self.assertLess(abs(said.next - progress.time.monotonic() - 1), 0.5)
 
     def test_nothing_is_said_elsewhere(self):
         said = progress.Progress(io.StringIO())

@@ -7,12 +7,11 @@ import re
 
 import program
 import shb
-from viewing import MADE, made, read, run_here
+from viewing import EXAMPLES, MADE, made, run_here, windows
 
 from shb_view import names, picture
 
-EXAMPLES = program.HERE.parent / "examples"
-VOID = {"meta"}
+VOID = {"br", "meta"}
 HOSTILE = [b"<script>alert(1)</script>", b'"><img src=x onerror=alert(1)>', b"' onload='alert(1)", b"&lt;b&gt;&amp;&#60;",
            b"</title></style></svg></code>", b"<!-- ]]> <![CDATA[", b"\xff\xfe\x00<\x80", b"javascript:alert(1)",
            b"(" + b"<" * 3900 + b")"]
@@ -54,48 +53,64 @@ class Page(html.parser.HTMLParser):
 
 
 class Pages(program.Case):
-    def page(self, trace, report, *words):
-        """The page of a trace and a report, parsed."""
+    def page(self, trace, *words):
+        """The page of a trace, parsed. Words after it are further arguments."""
         path = self.folder / "page.html"
-        status, out, err = run_here(["--html", path, *words, self.file(trace), self.file(report, "t.report")])
+        status, out, err = run_here(["--html", path, self.file(trace), *words])
         self.assertEqual((status, out, err), (0, "", ""))
         return Page(path.read_text(encoding="utf-8"))
 
     def example(self, name):
-        return [(EXAMPLES / f"{name}.{end}").read_bytes() for end in ("std", "report")]
+        return (EXAMPLES / f"{name}.std").read_bytes()
 
-    def test_each_place_once(self):
-        page = self.page(*self.example("places"))
-        self.assertEqual([text for _, text in page.all("td")][:15], [
-            "1", "3", "total", "Counter.java:12 write", "Counter.java:12 write", "2", "2", "total", "Counter.java:12 write",
-            "Report.java:30 read", "3", "1", "total", "Report.java:30 read", "Counter.java:12 write"])
-        self.assertEqual([attributes["id"] for attributes, _ in page.all("section")], ["p1", "p2", "p3"])
+    def test_a_row_and_a_section_for_each_group(self):
+        page = self.page(self.example("unlocked-read"))
+        self.assertEqual([text for _, text in page.all("li")], [
+            "1. items main.c:11 is without lock 1 race, 1 pair of linesIn this run lock is held at queue.c:22, and not at main.c:11.",
+            "2. closed one thread writes 2 races, 1 pair of linesIn this run only main writes, at main.c:12, and no access holds a lock "
+            "in the trace."])
+        self.assertEqual([attributes["id"] for attributes, _ in page.all("section")], ["g1", "g2"])
+        self.assertEqual([attributes["class"] for attributes, _ in page.all("li")], ["rank2", "rank4"])
+        self.assertEqual([text for _, text in page.all("h2")], ["1 items: main.c:11 is without lock", "2 closed: one thread writes"])
         self.assertEqual([attributes["aria-label"] for attributes, _ in page.all("svg")[1:]],
-                         [f"What comes before events {a} and {b}" for a, b in ((1, 2), (1, 3), (3, 4))])
+                         ["What comes before events 12 and 13", "What comes before events 15 and 16"])
 
-    def test_facts_of_an_example(self):
-        page = self.page(*self.example("fork-join"))
-        self.assertEqual([text for _, text in page.all("dd")],
-                         ["worker.c:3 event 4", "no lock", "main at start.c:5 event 2",
-                          "start.c:6 event 5", "no lock", "no event of the trace"])
-        self.assertEqual([text for _, text in page.all("td")][5:], [
+    def test_every_line_by_hand(self):
+        page = self.page(self.example("account"))
+        self.assertEqual([text for _, text in page.all("th")][:5], ["Line", "Accesses", "Threads", "Locks", "Races with"])
+        self.assertEqual([text for _, text in page.all("td")][:10], [
+            "account.c:10", "2 reads and 2 writes", "T1.pay and main", "holds door", "account.c:8 (1 race)",
+            "account.c:8", "2 reads", "T1.pay and main", "no lock in the trace", "account.c:10 (1 race)"])
+        self.assertEqual([attributes["data-head"] for attributes, _ in page.all("td")[:5]],
+                         ["Line", "Accesses", "Threads", "Locks", "Races with"])
+        self.assertEqual([(attributes["class"], text) for attributes, text in page.all("span") if attributes.get("class") in
+                          ("held", "some", "none")], [("held", "holds door"), ("none", "no lock in the trace")])
+
+    def test_folded_parts_by_hand(self):
+        page = self.page(self.example("fork-join"))
+        self.assertEqual([text for _, text in page.all("summary")],
+                         ["What comes before events 4 and 5, the closest listed race", "As text, for an issue", "Lines of the trace"])
+        [(_, issue)] = page.all("pre")
+        self.assertEqual(issue.splitlines()[:3], ["data race on count: worker.c:3 and start.c:6", "(one race in a recorded run)",
+                                                  "  write by worker at worker.c:3 (event 4)"])
+        self.assertEqual([text for _, text in page.all("td") if _.get("data-head") is None], [
             "1", "1", "main|w(config)|start.c:4", "2", "2", "main|fork(worker)|start.c:5", "3", "3", "worker|r(config)|worker.c:2",
             "4", "4", "worker|w(count)|worker.c:3", "5", "5", "main|w(count)|start.c:6"])
-        self.assertIn("After the schedule of race 1 (3 events) both accesses come next.", [text for _, text in page.all("p")])
+        self.assertEqual([attributes["id"] for attributes, _ in page.all("tr", "access")], ["g1e4", "g1e5"])
 
     def test_numbers_of_lines_count_empty_lines(self):
-        trace = b"\n\r\nA|w(x)\n\nB|w(x)\n"
-        page = self.page(trace, shb.report(trace, True))
-        self.assertEqual([text for _, text in page.all("td")][5:], ["1", "3", "A|w(x)", "2", "5", "B|w(x)"])
+        page = self.page(b"\n\r\nA|w(x)\n\nB|w(x)\n")
+        self.assertEqual([text for attributes, text in page.all("td") if "data-head" not in attributes],
+                         ["1", "3", "A|w(x)", "2", "5", "B|w(x)"])
 
     def test_nothing_comes_from_outside(self):
-        page = self.page(*self.example("places"))
+        page = self.page(self.example("unlocked-read"))
         ids = [attributes["id"] for _, attributes, _ in page.elements if "id" in attributes]
         self.assertEqual(len(ids), len(set(ids)))
         links = [attributes["href"] for _, attributes, _ in page.elements if "href" in attributes]
         self.assertGreater(len(links), 10)
         self.assertLessEqual(set(links), {"#" + name for name in ids})
-        wanted = {"class", "id", "href", "lang", "charset", "name", "content", "scope", "http-equiv"}
+        wanted = {"class", "id", "href", "lang", "charset", "name", "content", "scope", "http-equiv", "data-head"}
         shapes = {"role", "aria-label", "aria-hidden",
                   "width", "height", "viewbox", "x", "y", "x1", "x2", "y1", "y2", "cx", "cy", "r", "rx", "d", "refx", "refy",
                   "markerwidth", "markerheight", "orient", "marker-end"}
@@ -105,17 +120,15 @@ class Pages(program.Case):
             self.assertNotRegex(text, r"url\(|@import|https?:|fetch|XMLHttp|innerHTML")
 
     def test_every_number_leads_to_its_line(self):
-        """Also those of locks that the picture leaves out."""
-        trace = b"".join(b"A|acq(%d)\n" % k for k in range(9)) + b"A|w(x)\nB|w(x)\n"
-        page = self.page(trace, shb.report(trace, True))
+        page = self.page(self.example("unlocked-read"))
         lines = {attributes["id"]: text for attributes, text in page.all("tr") if "id" in attributes}
-        links = [(attributes["href"][1:], text) for attributes, text in page.all("a") if attributes["href"].startswith("#p1e")]
-        self.assertEqual({int(text.split()[-1]) for _, text in links}, set(range(1, 12)))
+        links = [(attributes["href"][1:], text) for attributes, text in page.all("a") if attributes["href"].startswith("#g1e")]
+        self.assertEqual({int(text) for _, text in links}, {1, 2, 3, 7, 8, 10, 11, 12, 13})
         for name, text in links:
-            self.assertTrue(lines[name].startswith(text.split()[-1]))
+            self.assertTrue(lines[name].startswith(text))
 
     def test_the_browser_may_run_its_own_style_and_script_alone(self):
-        page = self.page(*self.example("places"))
+        page = self.page(self.example("places"))
         metas = [attributes for attributes, _ in page.all("meta")]
         [policy] = [meta["content"] for meta in metas if meta.get("http-equiv") == "Content-Security-Policy"]
         self.assertTrue(policy.startswith("default-src 'none'; "))
@@ -130,36 +143,68 @@ class Pages(program.Case):
             lines = thread + b"|acq(" + lock + b")|", thread + b"|w(" + variable + b")|", b"B|w(" + variable + b")|"
             return b"".join(line + location + b"\n" for line in lines)
 
-        plain = trace(b"A", b"l", b"x", b"p")
-        shape = self.page(plain, shb.report(plain, True)).shape()
+        shape = self.page(trace(b"A", b"l", b"x", b"p")).shape()
         for name in HOSTILE:
             with self.subTest(name[:40]):
                 hostile = trace(name, name, name, name) if len(name) < 900 else trace(b"A", b"l", name, b"p")
-                page = self.page(hostile, shb.report(hostile, True))
+                page = self.page(hostile)
                 self.assertEqual(page.shape(), shape)
-                [(_, head)] = page.all("h2")
-                self.assertEqual(head, "1 Write and write of " + names.short(name, 80))
-                self.assertIn(names.shown(name), "".join(text for _, text in page.all("title")))
+                self.assertIn(names.short(name, 80), page.all("h2")[0][1])
+                self.assertIn(names.short(name, 80), "".join(text for _, text in page.all("code")))
+                self.assertIn(names.short(name, 120), page.all("pre")[0][1])
+
+    def test_long_names_are_cut(self):
+        name = b"v" * 1500
+        page = self.page(b"A|acq(" + name + b")|p\n" + b"".join(thread + b"|w(" + name + b")|" + name + b"\n" for thread in (b"A", b"B")))
+        whole = "".join(text for tag, _, texts in page.elements if tag in ("code", "text", "title", "pre") for text in texts)
+        self.assertNotIn("v" * 121, whole)
+        self.assertIn("v" * 40, whole)
 
     def test_a_hostile_name_of_the_file(self):
         path = self.folder / "page.html"
-        trace = self.file(b"A|w(x)\nB|w(x)\n", "<b>&\".std")
-        self.assertEqual(run_here(["--html", path, trace, self.file(shb.report(trace.read_bytes(), True), "t.report")])[0], 0)
+        self.assertEqual(run_here(["--html", path, self.file(b"A|w(x)\nB|w(x)\n", "<b>&\"\x1b.std")])[0], 0)
         page = Page(path.read_text(encoding="utf-8"))
-        self.assertEqual((page.all("h1"), page.all("b")), ([({}, "<b>&\".std")], []))
+        self.assertEqual((page.all("h1"), page.all("b")), ([({}, "<b>&\"\\x1b.std")], []))
+        self.assertEqual(page.all("title")[0][1], "<b>&\"\\x1b.std: 1 race at 1 pair of lines, in 1 group")
 
     def test_what_is_said_of_schedules_and_verdicts(self):
-        trace, report = self.example("places")
-        said = "The report has no schedules: events are shown in the order of the trace."
-        self.assertNotIn(said, [text for _, text in self.page(trace, report).all("p")])
-        self.assertIn(said, [text for _, text in self.page(trace, shb.report(trace, False)).all("p")])
-        page = self.page(trace, report, "--check", "--shb", program.PATH)
-        self.assertEqual([text for _, text in page.all("p", "verdict")], ["shb check: ok 6"])
+        trace, report = self.example("places"), (EXAMPLES / "places.report").read_bytes()
+        good = self.page(trace)
+        self.assertEqual([text for _, text in good.all("p", "verdict")], ["shb check: ok 3"])
+        self.assertEqual([attributes["class"] for attributes, _ in good.all("p", "verdict")], ["verdict good"])
+        self.assertIn("good: after its 0 events both accesses come next.", "".join(text for _, text in good.all("details")))
+        unchecked = self.page(trace, self.file(report, "t.report"))
+        self.assertEqual(unchecked.all("p", "verdict"), [])
+        self.assertIn("The report wasn't checked (--check does it).", [text for _, text in unchecked.all("p")])
+        self.assertNotIn("come next", "".join(text for _, text in unchecked.all("body")))
+
+    def test_a_bad_verdict_comes_first_and_is_red(self):
+        path = self.folder / "page.html"
+        report = (EXAMPLES / "places.report").read_bytes().replace(b"schedule 0:", b"schedule 1: 1", 1)
+        words = ["--html", path, "--check", EXAMPLES / "places.std", self.file(report, "t.report")]
+        self.assertEqual(run_here(words), (1, "", ""))
+        page = Page(path.read_text(encoding="utf-8"))
+        said = "shb check finds the report bad: bad race 1. What follows is only what the report says."
+        self.assertEqual(page.all("p")[0], ({"class": "verdict bad"}, said))
+        self.assertTrue(page.all("header")[0][1].startswith(said))
+        self.assertNotIn("come next", page.all("body")[0][1])
+
+    def test_the_verdict_of_another_program_is_escaped_and_coloured_by_its_status(self):
+        """This `check` says `ok <b>` and ends with the status of a bad report."""
+        path = self.folder / "page.html"
+        fake = self.file(b"#!/bin/sh\nif [ $1 = check ]; then printf 'ok <b>\\033[31m\\n'; exit 5; fi\nexec %b \"$@\"\n"
+                         % bytes(program.PATH), "shb")
+        fake.chmod(0o755)
+        self.assertEqual(run_here(["--html", path, "--shb", fake, EXAMPLES / "places.std"])[0], 1)
+        page = Page(path.read_text(encoding="utf-8"))
+        self.assertEqual(page.all("p")[0][0], {"class": "verdict bad"})
+        self.assertIn("ok <b>\\x1b[31m. What", page.all("p")[0][1])
+        self.assertEqual(page.all("b"), [])
 
     def test_no_races(self):
-        page = self.page(*self.example("hidden-by-lock"))
+        page = self.page(self.example("hidden-by-lock"))
         self.assertEqual((page.all("section"), page.all("table")), ([], []))
-        self.assertEqual([text for _, text in page.all("p", "sum")], ["0 races at 0 places"])
+        self.assertEqual([text for _, text in page.all("p", "sum")], ["0 races"])
 
 
 class Pictures(program.Case):
@@ -169,8 +214,7 @@ class Pictures(program.Case):
     def setUpClass(cls):
         cls.pictures = []
         for _, text, _ in made(MADE):
-            trace, places = read(text, shb.report(text, True))
-            cls.pictures += [(trace, place, Page(picture.picture(trace, place, "e"))) for place in places]
+            cls.pictures += [(window, Page(picture.picture(window, "e"))) for window in windows(text, shb.report(text, True))]
 
     def positions(self, page):
         """Where each event's circle stands."""
@@ -184,21 +228,21 @@ class Pictures(program.Case):
 
     def test_events_edges_and_lanes(self):
         arrows = 0
-        for trace, place, page in self.pictures:
+        for window, page in self.pictures:
             at = self.positions(page)
-            self.assertEqual(sorted(at), sorted([*place.shown, *place.accesses]))
-            heights = [at[event][1] for event in place.shown]
+            self.assertEqual(sorted(at), sorted([*window.before, *window.accesses]))
+            heights = [at[event][1] for event in window.before]
             self.assertEqual(heights, sorted(set(heights)))
-            first, second = (at[access] for access in place.accesses)
+            first, second = (at[access] for access in window.accesses)
             self.assertEqual(first[1], second[1])
             self.assertGreater(min(first[1], second[1]), max(heights, default=0))
             for a in at:
                 for b in at:
-                    self.assertEqual(at[a][0] == at[b][0], trace.threads[a] == trace.threads[b])
+                    self.assertEqual(at[a][0] == at[b][0], window.events[a].event.thread == window.events[b].event.thread)
             drawn = [self.ends(attributes["d"], at.values()) for attributes, _ in page.all("path", "edge")]
-            self.assertEqual(drawn, [at[source] + at[event] for source, event in place.edges])
+            self.assertEqual(drawn, [at[source] + at[event] for source, event in window.edges])
             arrows += len(drawn)
-        self.assertGreater(arrows, 50)
+        self.assertGreater(arrows, 30)
 
     def ends(self, path, places):
         """Where an arrow starts, and where the next event in its last direction stands."""
@@ -209,7 +253,7 @@ class Pictures(program.Case):
 
     def test_bars_are_the_locks_held(self):
         bars = 0
-        for trace, place, page in self.pictures:
+        for window, page in self.pictures:
             at = self.positions(page)
             lanes = sorted({x for x, _ in at.values()})
             drawn = [([float(attributes[name]) for name in ("x", "y", "height")], text)
@@ -217,15 +261,15 @@ class Pictures(program.Case):
             for event, (x, y) in at.items():
                 here = [lock for (left, top, height), lock in drawn
                         if top < y <= top + height and min(lane for lane in lanes if lane > left) == x]
-                held = [names.shown(trace.event(acquire).name) for acquire in trace.held(event)]
+                held = [names.shown(lock) for lock, _ in window.events[event].locks]
                 self.assertEqual(sorted(here), sorted(held))
             bars += len(drawn)
         self.assertGreater(bars, 50)
 
     def test_bars_begin_and_end_by_hand(self):
         """The consumer's ends at its release, event 8; the producer's begins at its acquire, event 10, and goes on."""
-        trace, places = read(*((EXAMPLES / f"unlocked-read.{end}").read_bytes() for end in ("std", "report")))
-        page = Page(picture.picture(trace, places[0], "e"))
+        window = windows(*((EXAMPLES / f"unlocked-read.{end}").read_bytes() for end in ("std", "report")))[0]
+        page = Page(picture.picture(window, "e"))
         at = self.positions(page)
         consumer, producer = sorted((float(bar["y"]), float(bar["y"]) + float(bar["height"])) for bar, _ in page.all("rect", "lock"))
         self.assertEqual((consumer[1], producer[0]), (at[8][1], at[10][1]))
@@ -233,12 +277,12 @@ class Pictures(program.Case):
 
     def test_no_line_crosses_a_text(self):
         lines = 0
-        for trace, place, page in self.pictures:
+        for window, page in self.pictures:
             texts = [self.box(*text) for text in page.all("text") if text[0].get("class") != "number"]
             for box in self.drawn(page):
                 lines += 1
                 for text in texts:
-                    self.assertFalse(self.overlap(box, text), (box, text, place))
+                    self.assertFalse(self.overlap(box, text), (box, text, window))
         self.assertGreater(lines, 1000)
 
     def box(self, attributes, text):

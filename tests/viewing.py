@@ -1,35 +1,60 @@
 """Runs view/shb-view, as a command and in this process, on texts."""
 
+import argparse
 import contextlib
 import io
+import os
 import random
 import subprocess
 import sys
+import tempfile
 
 import made_traces
 import program
 import shb
 
 VIEW = program.HERE.parent / "view"
+EXAMPLES = program.HERE.parent / "examples"
 sys.path.insert(0, str(VIEW))
 
-from shb_view import command, explain, progress
-from shb_view.report import Report
-from shb_view.trace import read_trace
+from shb_view import command, progress, view
+from shb_view.analyser import Verdict
+from shb_view.groups import Gathered
+from shb_view.report import Counts
+from shb_view.trace import Trace
 
 MADE = 150  # traces
 QUIET = progress.Progress(io.StringIO())
 
 
-def read(trace, report):
-    """The trace and the places of a report of it."""
-    trace = read_trace(trace, QUIET)
-    return trace, explain.read_places(trace, Report(io.BytesIO(report), trace), lambda done: None)
+def sections(text, report, is_good=True):
+    """The groups of a trace and its report, with what comes before their closest races."""
+    options = argparse.Namespace(html="page", all=False)
+    with tempfile.TemporaryFile() as file, tempfile.TemporaryFile() as given:
+        file.write(text)
+        given.write(report)
+        file.flush()
+        given.seek(0)
+        counts = Counts(*shb.counts_of(shb.read_trace(text)[0]))
+        verdict = Verdict(is_good, "")
+        gathered = Gathered()
+        view.read_report(view.Given(given, verdict, None), counts, gathered, QUIET)
+        return view.make_sections(options, Trace(file, QUIET), given, gathered.groups(), gathered.lines, counts, verdict)
 
 
-def run(words, **how):
-    how = {"stdout": subprocess.PIPE, "stderr": subprocess.PIPE, **how}
-    ran = subprocess.run([sys.executable, "-B", VIEW / "shb-view", *words], timeout=program.SECONDS, **how)
+def windows(text, report, is_good=True):
+    """What comes before the closest race of each group."""
+    return [section.window for section in sections(text, report, is_good)]
+
+
+def settings(**more):
+    """The environment in which the view finds the built program."""
+    return program.with_settings(SHB=program.PATH, **more)
+
+
+def run(words, command=VIEW / "shb-view", **how):
+    how = {"stdout": subprocess.PIPE, "stderr": subprocess.PIPE, "env": settings(), **how}
+    ran = subprocess.run([sys.executable, "-B", command, *words], timeout=program.SECONDS, **how)
     return program.Answer(ran.returncode, ran.stdout, ran.stderr)
 
 
@@ -37,7 +62,7 @@ def run_here(words):
     """The same in this process: what isn't answered ends the test."""
     out, err = io.TextIOWrapper(io.BytesIO(), "utf-8"), io.StringIO()
     with contextlib.redirect_stdout(out), contextlib.redirect_stderr(err):
-        status = command.main([str(word) for word in words])
+        status = command.main([str(word) for word in words], os.environ.get("SHB") or program.PATH)
     out.flush()
     return status, out.buffer.getvalue().decode(), err.getvalue()
 

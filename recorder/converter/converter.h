@@ -8,7 +8,10 @@ typedef uint32_t u32;
 enum { THREADS = 65536 };
 
 /* tables.c: arrays that grow, and maps from two words to a number from 1, in the order of asking. */
-typedef struct { u64 *keys; u32 *values; u64 count, capacity; } map;
+typedef struct { u64 a, b; u32 value; } map_entry;
+typedef struct { map_entry *entries; u64 count, capacity; } map;
+extern const char *program_name;       /* as messages begin */
+extern int failed_status;
 void die(const char *format, ...) __attribute__((noreturn, format(printf, 1, 2)));
 void *zeroed(size_t count, size_t size);
 void *grown(void *array, u64 count, u64 *capacity, size_t size);
@@ -19,6 +22,7 @@ u64 mix(u64 a, u64 b);
 
 /* records.c: the record. */
 extern u64 record_count;
+extern const char *recording_cut;      /* why the record is not that of the whole run; or null */
 void open_record(const char *path);
 enum operation operation_of(u64 i);
 u64 address_of(u64 i), caller_of(u64 i), size_of(u64 i);
@@ -28,12 +32,13 @@ int is_for_object(u64 i);
 u64 accessed_bytes(u64 i);
 
 /* names.c: modules, symbols, lines of code. */
-enum { NAME_BYTES = 1400, PLACE_BYTES = 1000 };              /* shb takes lines of 4,096 bytes */
+enum { NAME_BYTES = 1400, PLACE_BYTES = 1000, THREAD_BYTES = 80 };   /* shb takes lines of 4,096 bytes */
 extern int whole_paths;
 void read_modules(char *header);
 void note_caller(u64 caller);
 void find_places(void);                /* of all callers that were noted */
 const char *place_of(u64 caller);
+u64 place_length(u64 caller);
 const char *function_name(u64 address, char *buffer, size_t size);       /* "" where it is not known */
 void symbol_name(u64 address, char *buffer, size_t size);
 
@@ -50,10 +55,13 @@ void begin_memory_pass(void);
 void meet_block(u64 i);                /* each pass calls it for each record: the newest block holds its addresses */
 block *block_at(u64 address);          /* or null */
 u32 block_number(const block *b);      /* from 1; of null 0 */
+block *block_of(u32 number);
 void cut(u64 address);
 u64 next_cut(u64 from, u64 end);       /* the first cut after `from`, or the end */
-piece *piece_at(u64 address);          /* makes it */
-u32 piece_number(const piece *p);
+int in_one_grain(u64 address, u64 end);                      /* then it lies in one block */
+piece *piece_at(u64 cut);              /* the one that begins at this cut; in the third pass; makes it */
+u32 piece_number(const piece *p);      /* from 1 */
+piece *piece_of(u32 number);
 
 /* accesses.c, objects.c: what the passes do with a record. */
 extern int whole_trace;                /* also what cannot conflict */
@@ -62,6 +70,9 @@ void find_cuts(u64 i);
 void share_pieces(u64 i);
 void share_object(u64 i);
 void forget_states(void);              /* of objects, between the passes */
+int holds_unwritten(u32 t);            /* does it hold a lock whose acquire isn't in the trace? */
+void write_holds(u32 t);               /* writes these */
+u64 held_locks(u32 t);                 /* equal where it holds the same locks by which it orders no other thread */
 void access_events(u64 i);
 void object_events(u64 i);
 
@@ -72,9 +83,11 @@ void add_to_list(u32 *list, u32 thread);
 
 /* events.c: the events of the trace. */
 extern u64 event_limit, events;
+extern int into_windows;               /* the events go to windows, and no limit cuts them */
 extern const char *cut_reason;         /* null while the trace goes on */
 void name_thread(u32 t, u64 function);
 const char *thread_name(u32 t);
 u64 thread_epoch(u32 t);               /* it grows with each event of the thread that could order another */
 const char *variable_name(u64 address, const block *b);
 void event(u32 t, const char *operation, const char *name, const char *tail, u64 caller);
+void hold_event(u32 t, const char *operation, const char *name, const char *tail, u64 caller);   /* orders no thread */

@@ -2,16 +2,18 @@
 
    Four passes over the record.  The first meets the blocks of memory and finds those that one thread alone uses; the
    second cuts what is left into pieces; the third finds which pieces and objects are shared, and who reads what; the
-   fourth writes the events.  README.md has the table of what becomes what. */
+   fourth writes the events, into one trace or into windows.  README.md has the table of what becomes what. */
 #define _GNU_SOURCE
 #include <errno.h>
+#include <getopt.h>
 #include <stdio.h>
 #include <stdlib.h>
 #include <string.h>
 #include <unistd.h>
 #include "converter.h"
+#include "windows.h"
 
-enum { SHB_THREADS = 1024 };
+enum { SHB_THREADS = 1024, SHB_EVENTS = 4194304, NOT_WHOLE = 3 };   /* the status where the trace is a part of the run */
 #define MAX_RANGE_STEPS (1ull << 27)   /* in a pass: seconds */
 
 static u32 thread_count = 1;
@@ -30,7 +32,7 @@ static void find_sharing(u64 i) {
 
 static void write_events(u64 i) {
     enum operation operation = operation_of(i);
-    if (operation == OP_FORK && address_of(i) >= SHB_THREADS) cut_reason = "before a thread too many: shb takes 1,024";
+    if (operation == OP_FORK && address_of(i) >= SHB_THREADS && !into_windows) cut_reason = "before a thread too many: shb takes 1,024";
     else if (operation == OP_FORK) event(thread_of(i), "fork", thread_name(address_of(i)), "", caller_of(i));
     else if (operation == OP_JOIN) event(thread_of(i), "join", thread_name(address_of(i)), "", caller_of(i));
     else if (is_for_object(i)) object_events(i);
@@ -52,28 +54,67 @@ static void pass(void (*step)(u64)) {
     }
 }
 
+static const char help[] =
+    "usage: shb-std [OPTION].. RECORD > TRACE\n"
+    "       shb-std --windows DIR [OPTION].. RECORD\n"
+    "\n"
+    "Turns a record of the recorder into an STD trace. Without --windows the trace is cut at what shb takes.\n"
+    "\n"
+    "  --windows DIR  write a run of any length as overlapping traces, DIR/window-0001.std and so on,\n"
+    "                 with the table DIR/windows.tsv (shb-windows --help says what they are)\n"
+    "  -n EVENTS      at most so many events, of the trace or of each window (4194304)\n"
+    "  -a             also what can't conflict\n"
+    "  -p             whole paths\n"
+    "  -h, --help     this text\n"
+    "\n"
+    "Exit status: 0; 2 nothing can be said; 3 the trace was written, and isn't the whole run.\n";
+
+static const char *windows_folder;
+
+static void bad_words(void) { die("bad command line; shb-std --help says more"); }
+
 static void read_words(int count, char **words) {
-    const char *usage = "usage: shb-std [-a] [-p] [-n EVENTS] RECORD > TRACE";
-    for (int c; (c = getopt(count, words, "an:p")) > 0;)
-        if (c == 'a') whole_trace = 1;
+    static const struct option options[] = {{"windows", required_argument, 0, 'w'}, {"help", no_argument, 0, 'h'}, {0, 0, 0, 0}};
+    opterr = 0;
+    for (int c; (c = getopt_long(count, words, "ahn:p", options, 0)) > 0;)
+        if (c == 'h') {
+            fputs(help, stdout);
+            exit(0);
+        } else if (c == 'w') windows_folder = optarg;
+        else if (c == 'a') whole_trace = 1;
         else if (c == 'p') whole_paths = 1;
-        else if (c == 'n' && strtoull(optarg, 0, 10)) event_limit = strtoull(optarg, 0, 10);
-        else die("%s", usage);
-    if (optind + 1 != count) die("%s", usage);
+        else if (c != 'n' || !(event_limit = strtoull(optarg, 0, 10))) bad_words();
+    if (optind + 1 != count) bad_words();
+}
+
+/* With windows the limits are those of a window. */
+static void prepare_windows(void) {
+    if (event_limit > SHB_EVENTS) event_limit = SHB_EVENTS;
+    begin_windows(windows_folder, event_limit);
+    into_windows = 1;
+}
+
+static void end_trace(void) {
+    if (windows_folder) end_windows();
+    if (fflush(stdout) || ferror(stdout)) die("cannot write the trace: %s", strerror(errno));
+    fprintf(stderr, "shb-std: %lu records, %u threads, %lu events", record_count, thread_count, events);
+    if (windows_folder) fprintf(stderr, ", %lu windows", count_windows());
+    fputc('\n', stderr);
 }
 
 int main(int count, char **words) {
     read_words(count, words);
     open_record(words[optind]);
+    if (windows_folder) prepare_windows();
     pass(find_users);
     pass(find_threads_and_cuts);
     find_places();
     pass(find_sharing);
     forget_states();
     pass(write_events);
-    if (fflush(stdout) || ferror(stdout)) die("cannot write the trace: %s", strerror(errno));
-    fprintf(stderr, "shb-std: %lu records, %u threads, %lu events\n", record_count, thread_count, events);
+    end_trace();
     if (!cut_reason) cut_reason = shortened;
+    if (recording_cut) fprintf(stderr, "shb-std: the recording is not the whole run: %s\n", recording_cut);
     if (cut_reason) fprintf(stderr, "shb-std: the trace is cut %s\n", cut_reason);
-    return 0;
+    return cut_reason || recording_cut ? NOT_WHOLE : 0;
 }

@@ -2,7 +2,10 @@
 
    A block is what an allocation gave, or a stack; allocated again it is another block.  The accesses' bounds and those
    of the blocks *cut* memory into pieces, and a piece is a variable: so two accesses share a variable exactly where they
-   overlap, and a long range that nobody cuts is one variable.  A piece is known by its address and its block. */
+   overlap, and a long range that nobody cuts is one variable.  A piece is known by its address and its block.
+
+   In the third pass there are no new cuts.  Then a page has a slot for each of its cuts, which has the number of the
+   piece that begins there now; a new block empties its slots. */
 #include <stdlib.h>
 #include <string.h>
 #include "converter.h"
@@ -10,7 +13,12 @@
 enum { PAGE = 4096, GRAIN = 16, MAX_PAGES = 1 << 24 };
 #define MAX_BLOCK (1ull << 32)         /* a longer one is address space held in reserve: no new variables */
 
-typedef struct { u32 whole, *grains; u64 *cuts; } page;      /* numbers of blocks; a bit for each byte */
+typedef struct {
+    u32 whole, *grains;                /* numbers of blocks */
+    u64 *cuts;                         /* a bit for each byte */
+    uint16_t *before;                  /* for each word of `cuts`: how many cuts stand before it */
+    u32 *slots, cut_count;
+} page;
 
 u64 range_steps;
 static block *blocks;
@@ -19,38 +27,63 @@ static piece *pieces;
 static u64 piece_count, piece_capacity;
 static page *pages;
 static u64 page_count, page_capacity;
-static map page_map, piece_map;
+static map page_map;
 
-static page *page_of(u64 address, int make) {
-    static u64 last_address = ~0ull;
-    static u32 last;
-    u64 number = address / PAGE;
-    if (number == last_address) return &pages[last - 1];
-    u32 found = make ? map_number(&page_map, number, 0) : map_find(&page_map, number, 0);
+static u64 last_page = ~0ull;          /* the number of the page that was asked for last, and of its entry */
+static u32 last_found;
+
+static page *find_page(u64 number, int make) {
+    enum { RECENT = 4096 };
+    static struct { u64 number; u32 found; } recent[RECENT];
+    u32 *known = &recent[number & (RECENT - 1)].found;
+    u32 found = *known && recent[number & (RECENT - 1)].number == number ? *known
+        : make ? map_number(&page_map, number, 0) : map_find(&page_map, number, 0);
     if (!found) return 0;
     if (found > page_count) {
         if (page_count >= MAX_PAGES) die("the program used more than 64 GB of memory, or the record is damaged");
         GROW(pages, page_count, page_capacity);
-        pages[page_count++] = (page){0, 0, 0};
+        pages[page_count++] = (page){0};
     }
-    last_address = number;
-    last = found;
+    recent[number & (RECENT - 1)].number = last_page = number;
+    *known = last_found = found;
     return &pages[found - 1];
+}
+
+static inline page *page_of(u64 address, int make) {
+    return address / PAGE == last_page ? &pages[last_found - 1] : find_page(address / PAGE, make);
+}
+
+/* How many cuts of the page stand before this byte of it. */
+static u32 slot_of(const page *p, u64 byte) {
+    if (byte == PAGE) return p->cut_count;
+    return p->before[byte / 64] + __builtin_popcountll(p->cuts[byte / 64] & ((1ull << byte % 64) - 1));
+}
+
+static void make_slots(page *p) {
+    p->before = zeroed(PAGE / 64, sizeof *p->before);
+    for (int word = 0; word < PAGE / 64; word++) {
+        p->before[word] = p->cut_count;
+        p->cut_count += __builtin_popcountll(p->cuts[word]);
+    }
+    p->slots = zeroed(p->cut_count, sizeof *p->slots);
+}
+
+static void empty_slots(page *p, u64 from, u64 end) {
+    u32 first = slot_of(p, from);
+    memset(p->slots + first, 0, (slot_of(p, end) - first) * sizeof *p->slots);
 }
 
 static void allot(u64 from, u64 end, u32 number) {
     for (; from < end; range_steps++) {
         page *p = page_of(from, 1);
-        if (from % PAGE == 0 && end - from >= PAGE) {
-            p->whole = number;
-            from += PAGE;
-            continue;
+        u64 page_end = (from / PAGE + 1) * PAGE, stop = end < page_end ? end : page_end;
+        if (p->slots) empty_slots(p, from % PAGE, stop - (page_end - PAGE));
+        if (stop - from == PAGE) p->whole = number;
+        else {
+            if (!p->grains) p->grains = zeroed(PAGE / GRAIN, sizeof *p->grains);
+            for (u64 at = from; at < stop; at += GRAIN) p->grains[at % PAGE / GRAIN] = number;
         }
-        if (!p->grains) p->grains = zeroed(PAGE / GRAIN, sizeof *p->grains);
-        do {
-            p->grains[from % PAGE / GRAIN] = number;
-            from += GRAIN;
-        } while (from < end && from % PAGE);
+        from = stop;
     }
 }
 
@@ -62,7 +95,9 @@ block *block_at(u64 address) {
     return newest ? &blocks[newest - 1] : 0;
 }
 
+int in_one_grain(u64 address, u64 end) { return address / GRAIN == (end - 1) / GRAIN; }
 u32 block_number(const block *b) { return b ? b - blocks + 1 : 0; }
+block *block_of(u32 number) { return number ? &blocks[number - 1] : 0; }
 
 void begin_memory_pass(void) {
     met = range_steps = 0;
@@ -114,12 +149,16 @@ u64 next_cut(u64 from, u64 end) {
 }
 
 piece *piece_at(u64 address) {
-    u32 number = map_number(&piece_map, address, block_number(block_at(address)));
-    if (number > piece_count) {
+    page *p = page_of(address, 1);
+    if (!p->slots) make_slots(p);
+    u32 *slot = &p->slots[slot_of(p, address % PAGE)];
+    if (!*slot) {
         GROW(pieces, piece_count, piece_capacity);
         pieces[piece_count++] = (piece){0};
+        *slot = piece_count;
     }
-    return &pieces[number - 1];
+    return &pieces[*slot - 1];
 }
 
-u32 piece_number(const piece *p) { return p - pieces; }
+u32 piece_number(const piece *p) { return p - pieces + 1; }
+piece *piece_of(u32 number) { return &pieces[number - 1]; }

@@ -14,7 +14,7 @@ int whole_paths;
 static module modules[MAX_MODULES];
 static int module_count;
 static map callers;
-static char **places;
+static struct { char *text; u64 length; } *places;           /* by the numbers of callers */
 
 static module *module_at(u64 address) {
     for (int i = 0; i < module_count; i++)
@@ -134,13 +134,25 @@ void symbol_name(u64 address, char *buffer, size_t size) {
 }
 
 /* ---- lines of code ---- */
-void note_caller(u64 caller) { map_number(&callers, caller, 0); }
+/* A caller's number, mostly from a table of recent ones. */
+static u32 caller_number(u64 caller) {
+    enum { RECENT = 4096 };
+    static struct { u64 caller; u32 number; } recent[RECENT];
+    u64 at = (caller ^ caller >> 12) & (RECENT - 1);
+    if (recent[at].caller != caller || !recent[at].number) {
+        recent[at].caller = caller;
+        recent[at].number = map_number(&callers, caller, 0);
+    }
+    return recent[at].number;
+}
+
+void note_caller(u64 caller) { caller_number(caller); }
 
 static int write_addresses(FILE *f, module *m) {
     int some = 0;
     for (u64 i = 0; i < callers.capacity; i++) {
-        u64 caller = callers.keys[2 * i];
-        if (!callers.values[i] || !caller || module_at(caller) != m) continue;
+        u64 caller = callers.entries[i].a;
+        if (!callers.entries[i].value || !caller || module_at(caller) != m) continue;
         fprintf(f, "%lx\n", caller - m->base - 1);           /* the call, not where it returns to */
         some = 1;
     }
@@ -161,7 +173,8 @@ static void read_places(FILE *f, module *m) {
         line[strcspn(line, " (\n")] = 0;
         char *colon = strrchr(line, ':');
         if (!number || !colon || line[0] == '?' || colon[1] == '?' || colon[1] == '0') continue;
-        if (!places[number] || (in_system(places[number]) && !in_system(line))) places[number] = copy(cleaned(line));
+        char **place = &places[number].text;
+        if (!*place || (in_system(*place) && !in_system(line))) *place = copy(cleaned(line));
     }
 }
 
@@ -193,15 +206,16 @@ void find_places(void) {
     places = zeroed(callers.count + 1, sizeof *places);
     for (int i = 0; i < module_count; i++) find_places_in(&modules[i]);
     for (u64 i = 0; i < callers.capacity; i++) {
-        char **place = &places[callers.values[i]];
-        if (!callers.values[i]) continue;
-        if (!*place) *place = address_place(callers.keys[2 * i]);
+        u32 number = callers.entries[i].value;
+        char **place = &places[number].text;
+        if (!number) continue;
+        if (!*place) *place = address_place(callers.entries[i].a);
         else if (strlen(*place) > PLACE_BYTES) *place += strlen(*place) - PLACE_BYTES;
         else *place = copy(leaf(*place));
+        places[number].length = strlen(*place);
     }
 }
 
-const char *place_of(u64 caller) {
-    u32 number = map_find(&callers, caller, 0);
-    return number ? places[number] : "?";
-}
+/* Of a caller that was noted. */
+const char *place_of(u64 caller) { return places[caller_number(caller)].text; }
+u64 place_length(u64 caller) { return places[caller_number(caller)].length; }

@@ -13,6 +13,7 @@ typedef struct {
     u32 count, users, arrivals;        /* of a barrier */
     uint8_t many_users, recounted;     /* recounted: begun again with another count */
     uint8_t foreign;                   /* released by another thread than took it */
+    u32 writer;                        /* of a reader-writer lock: who has taken a hold to write, plus one */
 } object;
 
 static object *objects;
@@ -117,6 +118,69 @@ void share_object(u64 i) {
 void forget_states(void) {
     for (u64 i = 0; i < object_count; i++) objects[i].depth = objects[i].holder = objects[i].version = 0;
     if (seen_count) memset(seen, 0, seen_count * sizeof *seen);
+}
+
+/* ---- 4: locks that are held and order nothing: of one thread alone, and reader-writer locks, whose order is told by
+   locks of their own.  Such a lock is acquired in the trace right before its thread's next event, if there is one until
+   the release: so each lock that is held at an access in the trace is there. ---- */
+typedef struct { u64 caller; u32 object; uint8_t reads, written; } hold;
+static struct { hold *list; u64 count, capacity, unwritten, sum; } held[THREADS];
+
+int holds_unwritten(u32 t) { return held[t].unwritten > 0; }
+u64 held_locks(u32 t) { return held[t].sum; }
+
+static void write_hold(u32 t, const hold *h, const char *operation, u64 caller) {
+    char reader[THREAD_BYTES + 20] = "";
+    object *o = &objects[h->object];
+    if (h->reads) snprintf(reader, sizeof reader, "@reader.%s", thread_name(t));
+    hold_event(t, operation, variable_name(o->at, block_of(o->block)), reader, caller);
+}
+
+void write_holds(u32 t) {
+    for (u64 k = 0; k < held[t].count; k++) {
+        hold *h = &held[t].list[k];
+        if (!h->written) write_hold(t, h, "acq", h->caller);
+        h->written = 1;
+    }
+    held[t].unwritten = 0;
+}
+
+static void take_hold(object *o, u32 t, int reads, u64 caller) {
+    GROW(held[t].list, held[t].count, held[t].capacity);
+    held[t].list[held[t].count++] = (hold){caller, o - objects, reads, 0};
+    held[t].unwritten++;
+    held[t].sum += mix(o - objects, reads + 1);
+    if (!reads) o->writer = t + 1;
+}
+
+static void end_hold(object *o, u32 t, int reads, u64 caller) {
+    for (u64 k = held[t].count; k-- > 0;) {
+        hold h = held[t].list[k];
+        if (h.object != o - objects || h.reads != reads) continue;
+        if (h.written) write_hold(t, &h, "rel", caller);
+        else held[t].unwritten--;
+        held[t].count--;
+        memmove(&held[t].list[k], &held[t].list[k + 1], (held[t].count - k) * sizeof h);
+        held[t].sum -= mix(o - objects, reads + 1);
+        if (!reads) o->writer = 0;
+        return;
+    }
+}
+
+/* What an operation means for these, before and after its other events. */
+static void holds_before(u64 i, object *o, int is_private) {
+    u32 t = thread_of(i);
+    if (operation_of(i) == OP_UNLOCK && is_private) end_hold(o, t, 0, caller_of(i));
+    if (operation_of(i) == OP_RW_UNLOCK) end_hold(o, t, o->holder != t + 1, caller_of(i));
+}
+
+static void holds_after(u64 i, object *o, int is_private) {
+    u32 t = thread_of(i);
+    if (operation_of(i) == OP_LOCK && is_private && !o->foreign) take_hold(o, t, 0, caller_of(i));
+    if (operation_of(i) == OP_READ_LOCK) take_hold(o, t, 1, caller_of(i));
+    if (operation_of(i) != OP_WRITE_LOCK) return;
+    o->holder = t + 1;
+    if (!o->writer) take_hold(o, t, 0, caller_of(i));        /* else its last writer never released it */
 }
 
 /* ---- 4: events ---- */
@@ -231,6 +295,9 @@ static void order_events(u64 i, object *o) {
 void object_events(u64 i) {
     object *o = object_at(address_of(i));
     int orders = o->many_users || whole_trace;
+    holds_before(i, o, !orders);
     if (!is_atomic(i) || !orders) access_events(i);
     if (orders) order_events(i, o);
+    else if (operation_of(i) == OP_RW_UNLOCK && o->holder == thread_of(i) + 1) o->holder = 0;
+    holds_after(i, o, !orders);
 }

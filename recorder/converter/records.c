@@ -41,6 +41,17 @@ static char *map_file(const char *path, u64 *size) {
     return file;
 }
 
+const char *recording_cut;
+
+static void note_how_it_ended(const char *how) {
+    static char reason[ENDED_BYTES];
+    memcpy(reason, how, ENDED_BYTES - 1);
+    for (char *p = reason; *p; p++)
+        if ((unsigned char)*p < ' ') *p = '!';
+    if (!*reason) recording_cut = "the program was killed";
+    else if (strcmp(reason, ENDED_WHOLE)) recording_cut = reason;
+}
+
 void open_record(const char *path) {
     static char header[HEADER_BYTES + 1];
     u64 size;
@@ -53,6 +64,8 @@ void open_record(const char *path) {
     for (u64 i = 0; i < record_count; i++)
         if (!is_good(i)) die("record %lu of %s is damaged", i + 1, path);
     memcpy(header, file, HEADER_BYTES);
+    note_how_it_ended(header + ENDED_AT);
+    header[ENDED_AT] = 0;
     read_modules(header);
 }
 

@@ -4,13 +4,16 @@
 #include <stdlib.h>
 #include "converter.h"
 
+const char *program_name = "shb-std";
+int failed_status = 2;
+
 void die(const char *format, ...) {
     va_list arguments;
     va_start(arguments, format);
-    fputs("shb-std: ", stderr);
+    fprintf(stderr, "%s: ", program_name);
     vfprintf(stderr, format, arguments);
     fputc('\n', stderr);
-    exit(2);
+    exit(failed_status);
 }
 
 void *zeroed(size_t count, size_t size) {
@@ -35,35 +38,26 @@ u64 mix(u64 a, u64 b) {
     return a ^ a >> 29;
 }
 
-static u64 slot(const map *m, u64 a, u64 b) {
+static map_entry *entry_of(const map *m, u64 a, u64 b) {
     u64 i = mix(a, b) & (m->capacity - 1);
-    while (m->values[i] && (m->keys[2 * i] != a || m->keys[2 * i + 1] != b)) i = (i + 1) & (m->capacity - 1);
-    return i;
+    while (m->entries[i].value && (m->entries[i].a != a || m->entries[i].b != b)) i = (i + 1) & (m->capacity - 1);
+    return &m->entries[i];
 }
 
-static void put_in(map *m, u64 a, u64 b, u32 value) {
-    u64 i = slot(m, a, b);
-    m->keys[2 * i] = a;
-    m->keys[2 * i + 1] = b;
-    m->values[i] = value;
-}
-
-u32 map_find(const map *m, u64 a, u64 b) { return m->capacity ? m->values[slot(m, a, b)] : 0; }
+u32 map_find(const map *m, u64 a, u64 b) { return m->capacity ? entry_of(m, a, b)->value : 0; }
 
 static void double_map(map *m) {
     map old = *m;
     m->capacity = old.capacity ? old.capacity * 2 : 1024;
-    m->keys = zeroed(m->capacity, 2 * sizeof *m->keys);
-    m->values = zeroed(m->capacity, sizeof *m->values);
+    m->entries = zeroed(m->capacity, sizeof *m->entries);
     for (u64 i = 0; i < old.capacity; i++)
-        if (old.values[i]) put_in(m, old.keys[2 * i], old.keys[2 * i + 1], old.values[i]);
-    free(old.keys);
-    free(old.values);
+        if (old.entries[i].value) *entry_of(m, old.entries[i].a, old.entries[i].b) = old.entries[i];
+    free(old.entries);
 }
 
 u32 map_number(map *m, u64 a, u64 b) {
     if (m->count * 2 >= m->capacity) double_map(m);
-    u32 found = m->values[slot(m, a, b)];
-    if (!found) put_in(m, a, b, found = ++m->count);
-    return found;
+    map_entry *found = entry_of(m, a, b);
+    if (!found->value) *found = (map_entry){a, b, ++m->count};
+    return found->value;
 }

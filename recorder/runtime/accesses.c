@@ -4,12 +4,19 @@
 /* ---- accesses ---- */
 static uint64_t read_at(const volatile void *p, uint64_t caller) { return caller ^ (uint64_t)p << 20; }
 
-/* gcc puts two hooks before one copy of a structure (of the write, then of the read): so a read's hook directly after
-   a write's never gives the turn up. */
+/* gcc puts two hooks before one copy of a structure (of the write, then of the read), and between them the turn must not
+   be given up.  They are of one size, and the second stands soon after the first in the code: up to 86 bytes were seen,
+   with indices in two dimensions and large addresses.  A read that follows in a loop stands before the write. */
+enum { COPY_BYTES = 128 };
+
+static int ends_copy(const thread *t, uint64_t size, uint64_t caller) {
+    return t->written == size && caller - t->write_caller <= COPY_BYTES;
+}
+
 static void note_read(const void *p, uint64_t size, uint64_t caller) {
     thread *t = self;
-    if (!others || !size || !t || !enter(t->wrote ? NEVER_YIELD : MAY_YIELD)) return;
-    t->wrote = 0;
+    if (!others || !size || !t || !enter(ends_copy(t, size, caller) ? NEVER_YIELD : MAY_YIELD)) return;
+    t->written = 0;
     put(t, OP_READ, p, size, caller);
     note_spin(t, read_at(p, caller));
     leave(t);
@@ -18,7 +25,8 @@ static void note_read(const void *p, uint64_t size, uint64_t caller) {
 static void note_write(void *p, uint64_t size, uint64_t caller) {
     thread *t = others && size ? enter(MAY_YIELD) : 0;
     if (!t) return;
-    t->wrote = 1;
+    t->written = size;
+    t->write_caller = caller;
     t->last_read = 0;
     put(t, OP_WRITE, p, size, caller);
     leave(t);
@@ -38,9 +46,9 @@ PUBLIC void __tsan_read_range(void *p, unsigned long size) { note_read(p, size, 
 PUBLIC void __tsan_write_range(void *p, unsigned long size) { note_write(p, size, CALLER); }
 PUBLIC void __tsan_vptr_read(void **p) { note_read(p, 8, CALLER); }
 PUBLIC void __tsan_vptr_update(void **p, void *value) { if (*p != value) note_write(p, 8, CALLER); }
-static void ends_copy(void) { if (self) self->wrote = 0; }
-PUBLIC void __tsan_func_entry(void *caller) { ends_copy(); }
-PUBLIC void __tsan_func_exit(void) { ends_copy(); }
+static void forget_write(void) { if (self) self->written = 0; }
+PUBLIC void __tsan_func_entry(void *caller) { forget_write(); }
+PUBLIC void __tsan_func_exit(void) { forget_write(); }
 PUBLIC void __tsan_ignore_thread_begin(void) {}
 PUBLIC void __tsan_ignore_thread_end(void) {}
 
@@ -48,7 +56,7 @@ PUBLIC void __tsan_ignore_thread_end(void) {}
 static thread *before_atomic(enum operation operation, const volatile void *p, int size, uint64_t caller) {
     thread *t = enter(MAY_YIELD);
     if (!t) return 0;
-    t->wrote = 0;
+    t->written = 0;
     if (others) put(t, operation, p, size, caller);
     if (operation == OP_ATOMIC_STORE) t->last_read = 0;
     else note_spin(t, read_at(p, caller));
@@ -66,7 +74,7 @@ static thread *before_exchange(void) {
 
 static void after_exchange(thread *t, int done, const volatile void *p, int size, uint64_t caller) {
     if (!t) return;
-    t->wrote = 0;
+    t->written = 0;
     if (others) put(t, done ? OP_ATOMIC_UPDATE : OP_ATOMIC_LOAD, p, size, caller);
     if (done) t->last_read = 0;
     else note_spin(t, read_at(p, caller));

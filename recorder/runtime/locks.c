@@ -195,11 +195,32 @@ PUBLIC int pthread_once(pthread_once_t *flag, void (*function)(void)) {
 PUBLIC void call_once(once_flag *flag, void (*function)(void)) { pthread_once((pthread_once_t *)flag, function); }
 
 /* of C++ local statics: like an atomic byte */
+/* Without a C++ library behind this one (it is linked into the program, or came by dlopen) it is done here: the first
+   byte says that the variable is ready, the second that somebody makes it. */
 int __cxa_guard_acquire(char *), __cxa_guard_release(char *);
+static int plain_acquire(char *byte) {
+    for (;;) {
+        char idle = 0;
+        if (__atomic_load_n(byte, __ATOMIC_ACQUIRE)) return 0;
+        if (__atomic_compare_exchange_n(byte + 1, &idle, 1, 0, __ATOMIC_ACQUIRE, __ATOMIC_RELAXED)) {
+            if (!__atomic_load_n(byte, __ATOMIC_ACQUIRE)) return 1;
+            __atomic_store_n(byte + 1, 0, __ATOMIC_RELEASE);
+            return 0;
+        }
+        syscall(SYS_sched_yield);
+    }
+}
+static int plain_release(char *byte) {
+    __atomic_store_n(byte, 1, __ATOMIC_RELEASE);
+    __atomic_store_n(byte + 1, 0, __ATOMIC_RELEASE);
+    return 0;
+}
+static int real_acquire(char *byte) { return REAL(__cxa_guard_acquire) ? REAL(__cxa_guard_acquire)(byte) : plain_acquire(byte); }
+static int real_release(char *byte) { return REAL(__cxa_guard_release) ? REAL(__cxa_guard_release)(byte) : plain_release(byte); }
 PUBLIC int __cxa_guard_acquire(char *byte) {
     thread *t = enter(MAY_YIELD);
-    if (!t) return REAL(__cxa_guard_acquire)(byte);
-    int r = BLOCKING(t, REAL(__cxa_guard_acquire)(byte));
+    if (!t) return real_acquire(byte);
+    int r = BLOCKING(t, real_acquire(byte));
     if (others) put(t, OP_ATOMIC_LOAD, byte, 1, CALLER);
     leave(t);
     return r;
@@ -210,7 +231,7 @@ PUBLIC int __cxa_guard_release(char *byte) {
         if (t) put(t, OP_ATOMIC_STORE, byte, 1, CALLER);
         if (t) leave(t);
     }
-    return REAL(__cxa_guard_release)(byte);
+    return real_release(byte);
 }
 
 /* said by the program itself */
@@ -218,3 +239,11 @@ PUBLIC void __tsan_acquire(void *p) { note(OP_WAIT, p, CALLER); }
 PUBLIC void __tsan_release(void *p) { note(OP_POST, p, CALLER); }
 PUBLIC void AnnotateHappensBefore(const char *file, int line, const volatile void *p) { note(OP_POST, p, CALLER); }
 PUBLIC void AnnotateHappensAfter(const char *file, int line, const volatile void *p) { note(OP_WAIT, p, CALLER); }
+
+/* By this the OpenMP run-time's archer sees that somebody listens; it then calls the two above. */
+PUBLIC int RunningOnValgrind(void) { return 0; }
+PUBLIC void AnnotateNewMemory(const char *file, int line, const volatile void *p, unsigned long size) {}
+PUBLIC void AnnotateIgnoreWritesBegin(const char *file, int line) {}
+PUBLIC void AnnotateIgnoreWritesEnd(const char *file, int line) {}
+PUBLIC void AnnotateIgnoreReadsBegin(const char *file, int line) {}
+PUBLIC void AnnotateIgnoreReadsEnd(const char *file, int line) {}

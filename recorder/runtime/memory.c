@@ -78,6 +78,11 @@ void _ZdlPv(void *), _ZdaPv(void *), _ZdlPvm(void *, size_t), _ZdaPvm(void *, si
 static void end_new(thread **t) { (*t)->new_caller = 0; }    /* also where it throws */
 
 static void *called_new(void *(*real)(size_t), size_t n, uint64_t caller) {
+    if (!real) {                                             /* the C++ library is linked into the program: no way to throw */
+        void *p = allocated(__libc_malloc(n ? n : 1), n, caller);
+        if (!p) abort();
+        return p;
+    }
     if (!self || self->new_caller) return real(n);
     thread *t __attribute__((cleanup(end_new))) = self;
     t->new_caller = caller;
@@ -104,7 +109,7 @@ static void note_copy(void *to, const void *from, size_t n, uint64_t caller) {
     make_room(t, ROOM_OF_COPY);        /* nobody comes between the two */
     if (from) put(t, OP_READ, from, n, caller);
     put(t, OP_WRITE, to, n, caller);
-    t->wrote = 0;
+    t->written = 0;
     leave(t);
 }
 

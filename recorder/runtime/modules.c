@@ -66,11 +66,18 @@ static int count_modules(struct dl_phdr_info *info, size_t size, void *count) {
     return 1;
 }
 
+void __tsan_init(void);
+static unsigned long long seen_modules;
+
 PUBLIC void __tsan_init(void) {        /* called by each instrumented file's constructor, so also after a dlopen */
-    static unsigned long long seen;
     unsigned long long count = 0;
     dl_iterate_phdr(count_modules, &count);
-    if (count == seen) return;
-    seen = count;
+    if (count == seen_modules) return;
+    seen_modules = count;
     dl_iterate_phdr(see_module, 0);
+}
+
+void note_modules(void) {              /* once there is a record; gcc's own library has __tsan_init called before that */
+    seen_modules = 0;
+    __tsan_init();
 }

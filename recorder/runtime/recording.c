@@ -1,23 +1,27 @@
-/* The file of the record: it is mapped, and grows in steps.  Whatever fails ends the recording and not the program. */
+/* The file of the record: it is mapped, and grows in steps.  Whatever fails ends the recording and not the program.
+   Of a process made by fork the record stays in memory until it starts a thread, or has no room there. */
 #define _GNU_SOURCE
 #include <errno.h>
 #include <fcntl.h>
+#include <limits.h>
 #include <stdio.h>
 #include <string.h>
+#include <sys/file.h>
 #include <sys/mman.h>
 #include <sys/resource.h>
 #include <sys/syscall.h>
 #include <unistd.h>
 #include "runtime.h"
 
-#define STEP_BYTES (4 << 20)           /* the file grows by so much */
+#define STEP_BYTES (4 << 20)           /* the file grows by so much; the record of a child has so much in memory */
 
 int stall_seconds;
 static char *header;
 static struct record *records;
 static uint64_t written, most_records;
 static _Atomic uint64_t room;          /* records that the file has disk space for */
-static int file = -1;
+static int file = -1;                  /* -1 also while the record is in memory */
+static char pattern[PATH_MAX];         /* the path of the record, as it was asked for */
 
 /* ---- disk space: taken before it is written, for a full disk would be a SIGBUS at the write ---- */
 static int add_space(uint64_t from, uint64_t bytes) {
@@ -30,6 +34,7 @@ static int add_space(uint64_t from, uint64_t bytes) {
 }
 
 static void grow(void) {
+    if (file < 0 && !move_to_file()) return;
     uint64_t have = atomic_load(&room);
     int saved = errno, done = add_space(HEADER_BYTES + have * sizeof *records, STEP_BYTES);
     if (done) atomic_compare_exchange_strong(&room, &have, have + STEP_BYTES / sizeof *records);
@@ -82,10 +87,17 @@ void note(enum operation operation, const volatile void *object, uint64_t caller
 }
 
 /* ---- begin and end ---- */
+/* How the recording ended, for the converter; "" takes it back. */
+void note_end(const char *how) {
+    if (header) snprintf(header + ENDED_AT, ENDED_BYTES, "%s", how);
+}
+
 void stop_recording(const char *reason) {
     char text[240];
     int n = snprintf(text, sizeof text, "shb recorder: %s; the recording ends here, the program goes on\n", reason);
-    if (end_turns()) syscall(SYS_write, 2, text, n);
+    if (!end_turns()) return;
+    note_end(reason);
+    syscall(SYS_write, 2, text, n);
 }
 
 /* The calls of the C library would be points where a thread may be cancelled. */
@@ -123,19 +135,113 @@ static int can_look_at_threads(void) { /* without it no turn could be taken over
     return 0;
 }
 
-int open_recording(const char *path, uint64_t most) {
-    if (!can_look_at_threads()) return 0;
-    if (!fit_size_limit(&most)) return refuse(path);
-    file = open(path, O_RDWR | O_CREAT | O_TRUNC | O_CLOEXEC, 0666);
-    if (file < 0 || !add_space(0, HEADER_BYTES)) return refuse(path);
-    uint64_t bytes = HEADER_BYTES + most * sizeof *records;
-    void *map = mmap(0, bytes, PROT_READ | PROT_WRITE, MAP_SHARED | MAP_NORESERVE, file, 0);
-    if (map == MAP_FAILED) return refuse(path);
+/* A path with %p is one for each process: its number stands there. */
+int has_number(void) { return strstr(pattern, "%p") != 0; }
+
+/* The folder may be another one when a child opens its record. */
+static int keep_path(const char *path) {
+    char here[PATH_MAX] = "";
+    if (*path != '/' && !getcwd(here, sizeof here)) return 0;
+    if (strlen(here) + 1 + strlen(path) + 20 < sizeof pattern) {
+        snprintf(pattern, sizeof pattern, "%s%s%s", here, *here ? "/" : "", path);
+        return 1;
+    }
+    errno = ENAMETOOLONG;
+    return 0;
+}
+
+static void numbered(char *path) {     /* a program that execs keeps its number: then a count follows it */
+    char *mark = strstr(pattern, "%p"), number[40];
+    snprintf(path, PATH_MAX, "%s", pattern);
+    for (int n = 0; mark && n < 1000; n++) {
+        snprintf(number, sizeof number, n ? "%d-%d" : "%d", getpid(), n);
+        snprintf(path, PATH_MAX, "%.*s%s%s", (int)(mark - pattern), pattern, number, mark + 2);
+        if (access(path, F_OK)) return;
+    }
+}
+
+/* Opens the file and locks it: cut by a second process it would be a SIGBUS in the first. */
+static int open_file(void) {
+    char path[PATH_MAX];
+    numbered(path);
+    file = open(path, O_RDWR | O_CREAT | O_CLOEXEC, 0666);
+    if (file < 0) return refuse(path);
+    if (flock(file, LOCK_EX | LOCK_NB) && errno == EWOULDBLOCK) {
+        fprintf(stderr, "shb recorder: another process records to %s; the program runs unrecorded (%%p in the path gives "
+                "each process a record of its own)\n", path);
+        return 0;
+    }
+    if ((ftruncate(file, 0) && errno != EINVAL) || !add_space(0, HEADER_BYTES)) return refuse(path);
+    return 1;
+}
+
+static uint64_t map_bytes(void) { return HEADER_BYTES + most_records * sizeof *records; }
+
+static int map_record(void *at, int flags) {
+    void *map = mmap(at, map_bytes(), PROT_READ | PROT_WRITE, flags | MAP_NORESERVE, file, 0);
+    if (map == MAP_FAILED) return 0;
     header = map;
     records = (struct record *)(header + HEADER_BYTES);
-    most_records = most;
-    note_text(RECORD_MAGIC);
     return 1;
+}
+
+/* The command line, in which nothing may look like a line of the header. */
+static void note_command(void) {
+    char line[1024] = "command ";
+    size_t at = strlen(line);
+    int f = open("/proc/self/cmdline", O_RDONLY | O_CLOEXEC);
+    ssize_t n = f < 0 ? 0 : read(f, line + at, sizeof line - at - 2);
+    if (f >= 0) close(f);
+    for (ssize_t i = 0; i < n; i++)
+        if ((unsigned char)line[at + i] < ' ') line[at + i] = ' ';
+    strcpy(line + at + (n > 0 ? n : 0), "\n");
+    note_text(line);
+}
+
+int open_recording(const char *path, uint64_t most) {
+    if (!can_look_at_threads()) return 0;
+    if (!fit_size_limit(&most) || !keep_path(path)) return refuse(path);
+    if (!open_file()) return 0;
+    most_records = most;
+    if (!map_record(0, MAP_SHARED)) return refuse(path);
+    note_text(RECORD_MAGIC);
+    note_command();
+    return 1;
+}
+
+/* ---- a process made by fork ---- */
+/* Leaves the parent's record, which it would hold open and locked, and goes on in memory with the header alone. */
+int leave_recording(void) {
+    char *parents = header;
+    int of_parent = file;
+    file = -1;
+    header = 0;
+    int going_on = has_number() && map_record(0, MAP_PRIVATE | MAP_ANONYMOUS);
+    if (going_on) strcpy(header, parents);
+    written = 0;
+    atomic_store(&room, STEP_BYTES / sizeof *records);
+    munmap(parents, map_bytes());
+    if (of_parent >= 0) syscall(SYS_close, of_parent);
+    return going_on;
+}
+
+static int write_whole(const char *from, uint64_t bytes) {
+    for (uint64_t done = 0; done < bytes;) {
+        ssize_t n = syscall(SYS_pwrite64, file, from + done, bytes - done, done);
+        if (n <= 0) return 0;
+        done += n;
+    }
+    return 1;
+}
+
+/* Gives the record in memory its file; where that fails the recording ends. */
+int move_to_file(void) {
+    if (file >= 0) return 1;
+    int moved = open_file() && write_whole(header, HEADER_BYTES + written * sizeof *records);
+    atomic_store(&room, written);
+    if (moved && map_record(header, MAP_SHARED | MAP_FIXED)) return 1;
+    stop_recording("its record cannot be written");
+    return 0;
 }
 
 /* With the turn nobody else writes, so the file can be cut.  Without it (the recording had ended before) a last record
@@ -144,13 +250,14 @@ void close_recording(void) {
     thread *t = enter(NEVER_YIELD);
     end_turns();
     if (!t) return;
-    int failed = ftruncate(file, HEADER_BYTES + written * sizeof *records);
+    int failed = file >= 0 && ftruncate(file, HEADER_BYTES + written * sizeof *records);
     (void)failed;                                            /* then the zeros stay too */
+    note_end(ENDED_WHOLE);
     leave(t);
 }
 
 void note_text(const char *line) {
     if (!header) return;
     size_t at = strlen(header), n = strlen(line);
-    if (at + n < HEADER_BYTES && !strstr(header, line)) memcpy(header + at, line, n);
+    if (at + n < ENDED_AT && !strstr(header, line)) memcpy(header + at, line, n);
 }

@@ -19,13 +19,15 @@ typedef struct thread {
     int spins;                         /* how often in a row it made that one */
     volatile char inside;              /* the recorder: hooks met now are not recorded */
     volatile char deferred;            /* a signal came meanwhile and waits for the end of the hook */
-    char wrote;                        /* its last hook was of a write */
+    uint64_t written, write_caller;    /* if its last hook was of a write: the size, and who called it; else size 0 */
     char joined;
     int exit_rounds;                   /* of destructors of thread-specific data */
     uint64_t new_caller;               /* who called operator new */
     void *(*function)(void *);         /* what it runs; or of a C11 thread the next */
     int (*c11_function)(void *);
     void *argument;
+    void *stack;
+    size_t stack_size;
     sigset_t mask;                     /* before a signal was deferred */
 } thread;
 
@@ -34,6 +36,7 @@ enum yields { NEVER_YIELD, MAY_YIELD };
 extern __thread thread *self __attribute__((tls_model("initial-exec")));
 extern volatile int recording;
 void begin_turns(int slice, uint64_t seed);
+void restart_turns(thread *t);         /* in a process made by fork, where there is t alone; it has the turn */
 int end_turns(void);                   /* all threads run free from here on; gives whether they took turns before */
 thread *new_thread(void);
 int number_thread(thread *t);
@@ -58,8 +61,12 @@ void note_spin(thread *t, uint64_t read);
 /* recording.c: the file. */
 extern int stall_seconds;
 int open_recording(const char *path, uint64_t most_records);
+int has_number(void);                  /* is there a record for each process? */
+int leave_recording(void);             /* in a process made by fork; does it go on in memory? */
+int move_to_file(void);
 void close_recording(void);
 void stop_recording(const char *reason);
+void note_end(const char *how);
 void note_text(const char *line);      /* adds a line to the header */
 enum { ROOM = 2, ROOM_OF_COPY = 4 };   /* records of one access, each with its size; of a copy's read and write */
 int make_room(thread *t, int count);
@@ -70,7 +77,7 @@ int read_task_file(pid_t system_id, const char *leaf, char *text, int size);
 /* modules.c */
 int instrumented(uint64_t caller);     /* lies the code in a module compiled with -fsanitize=thread? */
 void *next_symbol(const char *name);
-void __tsan_init(void);
+void note_modules(void);
 #define REAL(f) ({ \
     static __typeof__(&f) real_; \
     if (!real_) real_ = (__typeof__(&f))next_symbol(#f); \

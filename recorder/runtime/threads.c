@@ -2,6 +2,7 @@
 #define _GNU_SOURCE
 #include <errno.h>
 #include <limits.h>
+#include <stdarg.h>
 #include <stdlib.h>
 #include <sys/syscall.h>
 #include <threads.h>
@@ -26,14 +27,14 @@ static uint64_t setting(const char *name, uint64_t otherwise) {
 /* The thread's stack is new variables.  The main thread's is noted for its name alone. */
 static void note_stack(thread *t, uint64_t function) {
     pthread_attr_t attributes;
-    size_t size = 8 << 20;
-    void *low = (char *)__libc_stack_end - size;
+    t->stack_size = 8 << 20;
+    t->stack = (char *)__libc_stack_end - t->stack_size;
     if (t->number) {
         if (pthread_getattr_np(pthread_self(), &attributes)) return;
-        pthread_attr_getstack(&attributes, &low, &size);
+        pthread_attr_getstack(&attributes, &t->stack, &t->stack_size);
         pthread_attr_destroy(&attributes);
     }
-    put(t, OP_START, low, size, function);
+    put(t, OP_START, t->stack, t->stack_size, function);
 }
 
 static void begin_thread(thread *t, uint64_t function) {
@@ -53,9 +54,31 @@ static void thread_exits(void *t_) {   /* runs again in each round of destructor
     give_turn(t);
 }
 
-static void in_child(void) {           /* a forked process is not recorded */
+/* ---- a process made by fork: one thread, and a record of its own from here on ---- */
+static int is_unrecorded_child;
+
+static void in_child(void) {
+    int was = recording;
     recording = 0;
-    self = 0;
+    others = 0;
+    is_unrecorded_child = was && !has_number();
+    if (!was || !leave_recording() || !self) {
+        self = 0;
+        return;
+    }
+    process = getpid();
+    restart_turns(self);
+    self->inside = 1;
+    put(self, OP_START, self->stack, self->stack_size, 0);
+    leave(self);
+}
+
+/* It starts threads and nobody records them: it says so, once. */
+static void tell_of_child(void) {
+    static const char text[] = "shb recorder: a process made by fork starts threads and runs unrecorded (%p in SHB_RECORD "
+        "gives each process a record of its own)\n";
+    if (is_unrecorded_child) syscall(SYS_write, 2, text, sizeof text - 1);
+    is_unrecorded_child = 0;
 }
 
 __attribute__((constructor(101))) static void begin(void) {
@@ -64,8 +87,8 @@ __attribute__((constructor(101))) static void begin(void) {
     process = getpid();
     stall_seconds = setting("SHB_STALL", 60);
     if (!open_recording(path, setting("SHB_RECORDS", 64000000))) return;
-    unsetenv("SHB_RECORD");            /* a program started by this one would write over it */
-    __tsan_init();
+    if (!has_number()) unsetenv("SHB_RECORD");               /* a program started by this one would write over it */
+    note_modules();
     thread *t = new_thread();
     if (!t || !number_thread(t) || pthread_key_create(&at_exit, thread_exits) || pthread_atfork(0, 0, in_child)) return;
     begin_turns(setting("SHB_SLICE", 200), setting("SHB_SEED", 0));
@@ -74,6 +97,62 @@ __attribute__((constructor(101))) static void begin(void) {
 
 __attribute__((destructor(101))) static void end(void) {
     if (process && getpid() == process) close_recording();
+}
+
+/* Ways out that run no destructor.  A process made by vfork uses its parent's memory and says nothing. */
+static int is_own(void) { return process && getpid() == process; }
+
+#define LEAVES(name) \
+    PUBLIC void name(int status) { \
+        if (is_own()) close_recording(); \
+        REAL(name)(status); \
+        __builtin_unreachable(); \
+    }
+LEAVES(_exit)
+LEAVES(_Exit)
+
+#define EXECS(name, parameters, arguments) \
+    PUBLIC int name parameters { \
+        int own = is_own() && recording; \
+        if (own) note_end(ENDED_WHOLE); \
+        int r = REAL(name) arguments; \
+        if (own) note_end(""); \
+        return r; \
+    }
+typedef char *const words[];
+EXECS(execve, (const char *path, words v, words e), (path, v, e))
+EXECS(execv, (const char *path, words v), (path, v))
+EXECS(execvp, (const char *path, words v), (path, v))
+EXECS(execvpe, (const char *path, words v, words e), (path, v, e))
+EXECS(fexecve, (int f, words v, words e), (f, v, e))
+
+/* The words of a list up to its null pointer, as an array; `more` stands behind that. */
+#define LISTED(first, array, more) \
+    va_list more; \
+    va_start(more, first); \
+    int count = 1; \
+    while (va_arg(more, char *)) count++; \
+    va_end(more); \
+    char *array[count + 1]; \
+    array[0] = (char *)first; \
+    va_start(more, first); \
+    for (int i = 1; i <= count; i++) array[i] = va_arg(more, char *);
+
+PUBLIC int execl(const char *path, const char *first, ...) {
+    LISTED(first, array, more)
+    va_end(more);
+    return execv(path, array);
+}
+PUBLIC int execlp(const char *path, const char *first, ...) {
+    LISTED(first, array, more)
+    va_end(more);
+    return execvp(path, array);
+}
+PUBLIC int execle(const char *path, const char *first, ...) {
+    LISTED(first, array, more)
+    char **environment = va_arg(more, char **);
+    va_end(more);
+    return execve(path, array, environment);
 }
 
 /* ---- threads ---- */
@@ -89,6 +168,7 @@ static void *run(void *t_) {
    new_thread, and then the turn may be taken over: so it is asked for after that, before the child gets its number. */
 static int create(thread *t, thread start, pthread_t *handle, const pthread_attr_t *attributes, uint64_t caller) {
     thread *child = new_thread();
+    move_to_file();
     if (!keep_turn(t)) take_turn(t);
     if (!child || !number_thread(child)) {
         stop_recording("too many threads");
@@ -109,7 +189,10 @@ static int create(thread *t, thread start, pthread_t *handle, const pthread_attr
 
 PUBLIC int pthread_create(pthread_t *handle, const pthread_attr_t *attributes, void *(*function)(void *), void *argument) {
     thread *t = enter(MAY_YIELD);
-    if (!t) return REAL(pthread_create)(handle, attributes, function, argument);
+    if (!t) {
+        tell_of_child();
+        return REAL(pthread_create)(handle, attributes, function, argument);
+    }
     int error = create(t, (thread){.function = function, .argument = argument}, handle, attributes, CALLER);
     leave(t);
     return error;
@@ -117,7 +200,10 @@ PUBLIC int pthread_create(pthread_t *handle, const pthread_attr_t *attributes, v
 
 PUBLIC int thrd_create(thrd_t *handle, thrd_start_t function, void *argument) {
     thread *t = enter(MAY_YIELD);
-    if (!t) return REAL(thrd_create)(handle, function, argument);
+    if (!t) {
+        tell_of_child();
+        return REAL(thrd_create)(handle, function, argument);
+    }
     int error = create(t, (thread){.c11_function = function, .argument = argument}, handle, 0, CALLER);
     leave(t);
     return !error ? thrd_success : error == EAGAIN || error == ENOMEM ? thrd_nomem : thrd_error;

@@ -218,6 +218,17 @@ void begin_turns(int slice_, uint64_t seed) {
     recording = 1;
 }
 
+void restart_turns(thread *t) {
+    waiters = 0;
+    thread_count = 0;
+    number_thread(t);
+    t->system_id = syscall(SYS_gettid);
+    t->quantum = 1;
+    atomic_store(&turn, next_word(t, atomic_load(&turn)));
+    atomic_store(&guard, 0);
+    recording = 1;
+}
+
 int end_turns(void) {
     lock_guard();
     int was = recording;

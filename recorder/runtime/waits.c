@@ -19,7 +19,7 @@ typedef const struct timespec *deadline;
 static void let_others_run(void) {
     thread *t = self;
     if (!t || !recording || t->inside) return;
-    t->wrote = 0;
+    t->written = 0;
     t->inside = 1;
     give_turn(t);
     leave(t);
@@ -56,7 +56,7 @@ static void note_descriptor(enum operation operation, void *what, uint64_t calle
     int saved = errno;
     thread *t = enter(MAY_YIELD);
     if (t) {
-        t->wrote = 0;
+        t->written = 0;
         put(t, operation, what, 0, caller);
         give_turn(t);
         leave(t);

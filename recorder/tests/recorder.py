@@ -35,8 +35,10 @@ def build_recorder(folder, *settings):
     """Builds the recorder from its sources in a new folder."""
     global BUILT
     copy = folder / "recorder"
-    shutil.copytree(SOURCES, copy, ignore=shutil.ignore_patterns("lib", "shb-std", "tests"))
+    shutil.copytree(SOURCES, copy, ignore=shutil.ignore_patterns("lib", "shb-std", "shb-windows", "tests"))
     must(call("make", "-C", copy, *settings))
+    if not (folder / "view").exists():
+        (folder / "view").symlink_to(SOURCES.parent / "view")
     BUILT = BUILT or copy
     return copy
 
@@ -55,6 +57,13 @@ def settings(path, seed=1, slice=200, **more):
 
 def convert(path, *options):
     return call(BUILT / "shb-std", *options, path)
+
+
+def part(answer):
+    """The answer of the converter where the trace is a part of the run."""
+    if answer.returncode != 3:
+        raise AssertionError(f"{answer.args}: status {answer.returncode}\n{answer.stderr.decode(errors='replace')}")
+    return answer
 
 
 def places(trace):

@@ -29,11 +29,14 @@ def each(tests):
 
 
 def run(test):
-    """Runs one test, prints how it went, and says whether it passed."""
+    """Runs one test, prints how it went, and says whether it passed; nothing of one that is skipped."""
     result = unittest.TestResult()
     test.run(result)
+    if result.skipped:
+        print("skip", test.id(), *(reason for _, reason in result.skipped), flush=True)
+        return None
     trouble = [text for _, text in [*result.failures, *result.errors]]
-    passed = not trouble and not result.skipped and result.testsRun == 1
+    passed = not trouble and result.testsRun == 1
     print("ok  " if passed else "FAIL", test.id(), *trouble, flush=True)
     return passed
 
@@ -45,7 +48,7 @@ def main():
         recorder.build_recorder(pathlib.Path(folder))
         loader = unittest.TestLoader()
         found = loader.loadTestsFromNames(sys.argv[2:]) if sys.argv[2:] else loader.discover(str(HERE))
-        passed = list(pool.map(run, each(found)))
+        passed = [done for done in pool.map(run, each(found)) if done is not None]
     print(f"{sum(passed)} passed, {len(passed) - sum(passed)} failed")
     return 0 if passed and all(passed) else 1
 

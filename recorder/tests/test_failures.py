@@ -35,7 +35,8 @@ class Failures(recorder.Case):
             how = recorder.settings(path, LD_PRELOAD=str(refuse), REFUSE_SPACE=str(request))
             ran = recorder.must(recorder.call(program, env=how))
             self.assertIn(b"no disk space for the record (No space left on device); the recording ends here", ran.stderr)
-            answer = recorder.must(recorder.convert(path))
+            answer = recorder.part(recorder.convert(path))
+            self.assertIn(b"is not the whole run: no disk space for the record (No space left on device)", answer.stderr)
             written = int(re.search(rb"shb-std: (\d+) records", answer.stderr)[1])
             self.assertTrue(max(0, records - 4) <= written <= records, written)
             self.assertEqual(recorder.places(answer.stdout), set())
@@ -44,14 +45,15 @@ class Failures(recorder.Case):
         path = self.folder / "app.rec"
         ran = recorder.must(recorder.call(self.program("mutex_ok.c"), env=recorder.settings(path, SHB_RECORDS="1000")))
         self.assertIn(b"SHB_RECORDS is reached; the recording ends here, the program goes on", ran.stderr)
-        answer = recorder.must(recorder.convert(path))
+        answer = recorder.part(recorder.convert(path))
+        self.assertIn(b"is not the whole run: SHB_RECORDS is reached", answer.stderr)
         self.assertRegex(answer.stderr, rb"shb-std: (99[6-9]|1000) records")
         self.assertEqual(recorder.places(answer.stdout), set())
 
     def test_too_many_threads(self):
         path = self.folder / "app.rec"
         recorder.must(recorder.call(self.program("many_threads.c"), env=recorder.settings(path)))
-        answer = recorder.must(recorder.convert(path))
+        answer = recorder.part(recorder.convert(path))
         self.assertIn(b"the trace is cut before a thread too many: shb takes 1,024", answer.stderr)
         self.assertIn(b"fork(T1023.work)", answer.stdout)
         self.assertNotIn(b"T1024", answer.stdout)
@@ -63,5 +65,20 @@ class Failures(recorder.Case):
             self.assertEqual(running.stdout.read(2), b"..")  # each has its first lock
             running.send_signal(signal.SIGKILL)
         self.assertEqual(running.returncode, -signal.SIGKILL)
-        trace = recorder.must(recorder.convert(path)).stdout
-        self.assertEqual(recorder.places(trace), {("deadlock.c:9", "deadlock.c:9")})
+        answer = recorder.part(recorder.convert(path))
+        self.assertIn(b"is not the whole run: the program was killed", answer.stderr)
+        self.assertEqual(recorder.places(answer.stdout), {("deadlock.c:9", "deadlock.c:9")})
+
+    def test_ways_out_that_leave_the_whole_run(self):
+        """By _exit and by exec, tried once in vain, there is no destructor; the run up to there is whole."""
+        program, path = self.program("ways_out.c"), self.folder / "app.rec"
+        for way in ("_exit", "_Exit", "execl", "execlp", "execle", "execv", "execvp", "execvpe", "execve", "vfork"):
+            with self.subTest(way):
+                recorder.must(recorder.call(program, way, env=recorder.settings(path)))
+                answer = recorder.must(recorder.convert(path))
+                self.assertEqual(recorder.places(answer.stdout), {("ways_out.c:9", "ways_out.c:9")})
+
+    def test_a_program_that_is_killed_after_an_exec_in_vain(self):
+        program, path = self.program("ways_out.c"), self.folder / "app.rec"
+        recorder.call(program, "abort", env=recorder.settings(path))
+        self.assertIn(b"the program was killed", recorder.part(recorder.convert(path)).stderr)

@@ -26,7 +26,14 @@ def accesses(thread, values):
         yield "r", values[step]
 
 
-def reads(trace, output):
+def copies(thread, values):
+    """The same of a thread of copies.c: a copy into the shared structure, and a read of it."""
+    for step, value in enumerate(values):
+        yield "w", thread << 32 | step
+        yield "r", value
+
+
+def reads(trace, output, accesses=accesses):
     """For each read in the trace: the value that it got, and the one that stood there by the trace."""
     values = [[] for _ in range(THREADS)]
     for line in output.splitlines():
@@ -77,6 +84,33 @@ class Order(recorder.Case):
 
     def test_more_threads_than_cores(self):
         self.check_order("-O2", before=(sys.executable, "-c", ON_ONE_CORE))
+
+    def record(self, name, option, seed, slice=200):
+        """The trace with all accesses, and what the program printed."""
+        program, path = self.folder / "app", self.folder / "app.rec"
+        recorder.build(recorder.PROGRAMS / name, option, program)
+        ran = recorder.must(recorder.call(program, env=recorder.settings(path, seed, slice)))
+        return recorder.must(recorder.convert(path, "-a")).stdout.decode(), ran.stdout.decode()
+
+    def test_copies_of_structures(self):
+        """No other thread comes between the two hooks of a copy."""
+        for seed, slice in ((1, 200), (2, 7), (3, 1)):
+            text, printed = self.record("copies.c", "-O0", seed, slice)
+            trace = [(int(name) - 1, kind) for name, kind in re.findall(r"^T(\d+)\.work\|(w|r)\(shared\+504\)", text, re.M)]
+            pairs = list(reads(trace, printed, copies))
+            self.assertEqual(len(pairs), 4 * 2000)
+            self.assertEqual([pair for pair in pairs if pair[0] != pair[1]], [])
+
+    def test_threads_change_places_after_reads_and_after_writes(self):
+        """In a loop of count++, of which a read follows each write."""
+        last = []
+        for seed in range(4):
+            text, _ = self.record("loop.c", "-O1", seed)
+            steps = re.findall(r"^(T\d)\.work\|(w|r)\(count\)", text, re.M)
+            last += [kind for (thread, kind), (next, _) in zip(steps, steps[1:]) if thread != next]
+        self.assertGreater(len(last), 50)
+        for kind in "rw":
+            self.assertGreater(last.count(kind), len(last) / 5)
 
     def test_each_thread_is_forked_once_and_before_it_starts(self):
         """Threads that fork may sleep in the system and lose the turn: each child has a number of its own all the same."""

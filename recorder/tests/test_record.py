@@ -7,7 +7,7 @@ import struct
 
 import recorder
 
-HEADER = b"shb-record 2\n".ljust(65536, b"\0")
+HEADER = b"shb-record 3\n".ljust(65536 - 256, b"\0") + b"whole".ljust(256, b"\0")
 DEFINED = re.search(r"enum operation \{(.*?)\n\};", (recorder.SOURCES / "record.h").read_text(), re.S)[1]
 OPERATIONS = re.findall(r"OP_\w+", re.sub(r"/\*.*?\*/", "", DEFINED))
 SIZE_FOLLOWS = 1023
@@ -70,10 +70,17 @@ class Canned(recorder.Case):
                 recorder.places(lines.encode())  # is accepted
 
     def test_a_limit_of_events_is_said(self):
-        answer = recorder.convert(self.record, "-n", "5")
+        answer = recorder.part(recorder.convert(self.record, "-n", "5"))
         self.assertEqual(answer.stdout.decode().splitlines(), TRACE[:5])
         self.assertIn(b"the trace is cut at the limit of events", answer.stderr)
         self.assertNotIn(b"cut", recorder.convert(self.record, "-n", str(len(TRACE))).stderr)
+
+    def test_a_recording_that_ended_early_is_said(self):
+        for how, said in ((b"", b"the program was killed"), (b"the disk is\nfull", b"the disk is!full")):
+            self.record.write_bytes(HEADER[:65536 - 256] + how.ljust(256, b"\0") + ENTRIES)
+            answer = recorder.part(recorder.convert(self.record))
+            self.assertEqual(answer.stdout.decode().splitlines(), TRACE)
+            self.assertIn(b"shb-std: the recording is not the whole run: " + said + b"\n", answer.stderr)
 
     def test_a_trace_that_cannot_be_written(self):
         with open("/dev/full", "wb") as full:
@@ -84,8 +91,51 @@ class Canned(recorder.Case):
     def test_long_ranges_without_end_are_cut(self):
         ranges = b"".join(entry(k % 2, "WRITE", RANGE, 0x300 + k, (1 << 36) - 1) for k in range(2000))
         self.record.write_bytes(HEADER + ENTRIES[:64] + ranges)
-        answer = recorder.must(recorder.convert(self.record))
+        answer = recorder.part(recorder.convert(self.record))
         self.assertIn(b"the trace is cut where its accesses of long ranges take too much work", answer.stderr)
+
+
+OWN, RW, CELL = 0x10000040, 0x10000050, 0x10000060
+HELD = [  # locks of one thread alone, and reader-writer locks: in the trace where something happens under them
+    (entry(0, "FORK", 1, 0x101), ["main|fork(T1)|0x101"]),
+    (entry(0, "LOCK", OWN, 0x102), []),
+    (entry(0, "UNLOCK", OWN, 0x103), []),
+    (entry(0, "LOCK", OWN, 0x104), []),
+    (entry(0, "LOCK", OWN, 0x105), []),
+    (entry(0, "WRITE", CELL, 0x106, 4), ["main|acq(0x10000040)|0x104", "main|acq(0x10000040)|0x105", "main|w(0x10000060)|0x106"]),
+    (entry(0, "UNLOCK", OWN, 0x107), ["main|rel(0x10000040)|0x107"]),
+    (entry(0, "READ", CELL, 0x108, 4), ["main|r(0x10000060)|0x108"]),
+    (entry(0, "READ", CELL, 0x108, 4), []),  # the same read again
+    (entry(0, "UNLOCK", OWN, 0x109), ["main|rel(0x10000040)|0x109"]),
+    (entry(0, "READ", CELL, 0x108, 4), ["main|r(0x10000060)|0x108"]),  # under other locks it isn't the same
+    (entry(1, "READ_LOCK", RW, 0x201), []),
+    (entry(1, "READ", CELL, 0x202, 4), ["T1|acq(0x10000050@reader.T1)|0x201", "T1|r(0x10000060)|0x202"]),
+    (entry(1, "RW_UNLOCK", RW, 0x203), ["T1|rel(0x10000050@reader.T1)|0x203", "T1|acq(0x10000050@0<T1)|0x203",
+                                        "T1|rel(0x10000050@0<T1)|0x203"]),
+    (entry(0, "WRITE_LOCK", RW, 0x10a), ["main|acq(0x10000050@0)|0x10a", "main|rel(0x10000050@0)|0x10a",
+                                         "main|acq(0x10000050@0<T1)|0x10a", "main|rel(0x10000050@0<T1)|0x10a"]),
+    (entry(0, "WRITE", CELL, 0x10b, 4), ["main|acq(0x10000050)|0x10a", "main|w(0x10000060)|0x10b"]),
+    (entry(0, "RW_UNLOCK", RW, 0x10c), ["main|rel(0x10000050)|0x10c", "main|acq(0x10000050@1)|0x10c",
+                                        "main|rel(0x10000050@1)|0x10c"]),
+    (entry(1, "WRITE", CELL, 0x204, 4), ["T1|w(0x10000060)|0x204"]),
+]
+
+
+class Held(recorder.Case):
+    def test_locks_that_are_held_at_an_access_are_in_the_trace(self):
+        record = self.folder / "app.rec"
+        record.write_bytes(HEADER + b"".join(entries for entries, _ in HELD))
+        trace = recorder.must(recorder.convert(record)).stdout
+        self.assertEqual(trace.decode().splitlines(), [line for _, lines in HELD for line in lines])
+        self.assertEqual(recorder.places(trace), {("0x106", "0x202"), ("0x108", "0x204"), ("0x10b", "0x204")})
+
+    def test_a_writer_that_never_releases_its_lock(self):
+        entries = [entry(0, "FORK", 1, 0x101), entry(0, "WRITE_LOCK", RW, 0x102), entry(0, "WRITE", CELL, 0x103, 4),
+                   entry(1, "WRITE_LOCK", RW, 0x201), entry(1, "WRITE", CELL, 0x202, 4), entry(1, "RW_UNLOCK", RW, 0x203)]
+        record = self.folder / "app.rec"
+        record.write_bytes(HEADER + b"".join(entries))
+        trace = recorder.must(recorder.convert(record)).stdout
+        self.assertEqual(recorder.places(trace), {("0x103", "0x202")})  # a trace that is taken
 
 
 def random_bytes(draw, count):
@@ -103,7 +153,7 @@ def damaged_records():
         yield bytes(record)
     yield from (HEADER + random_bytes(draw, 16 * entries) for entries in range(20))
     yield random_bytes(draw, 70000)
-    yield b"shb-record 2\nffff 1 2 \n1 2\nx y z\n0 fff 0 --help\n0 ffffffffffff 0 /\n".ljust(65536, b"1") + ENTRIES
+    yield b"shb-record 3\nffff 1 2 \n1 2\nx y z\n0 fff 0 --help\n0 ffffffffffff 0 /\n".ljust(65536, b"1") + ENTRIES
 
 
 class Damaged(recorder.Case):
@@ -117,7 +167,7 @@ class Damaged(recorder.Case):
             record.write_bytes(damaged)
             answer = recorder.call(converter, record, env={**os.environ, "ASAN_OPTIONS": "detect_leaks=0"})
             with self.subTest(number):
-                self.assertIn(answer.returncode, (0, 2), answer.stderr[-2000:])
+                self.assertIn(answer.returncode, (0, 2, 3), answer.stderr[-2000:])
                 self.assertIn(b"shb-std: ", answer.stderr)
                 self.assertNotRegex(answer.stderr, b"Sanitizer|runtime error")
             statuses.append(answer.returncode)

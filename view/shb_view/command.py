@@ -2,84 +2,74 @@
 
 import argparse
 import os
-import pathlib
-import subprocess
 import sys
-import typing
 
-from shb_view import explain, names, page, text
+from shb_view import text
+from shb_view.faults import Refused
+from shb_view.names import shown
+from shb_view.output import new_file, write_parts
+from shb_view.page import page_parts
 from shb_view.progress import Progress
-from shb_view.refused import Refused
-from shb_view.report import Report
-from shb_view.trace import MOST_BYTES, Trace, read_trace
+from shb_view.view import make_view
 
-ANALYSER = pathlib.Path(__file__).resolve().parents[2] / "bin" / "shb"
 ABOUT = """\
-Explains the races of a report: for each place, most races first, its first race with
-threads, locks, and what came right before."""
+Explains the races of a trace: runs `shb` for them, and says for each group of lines
+that share a variable which lines use it, in which threads and under which locks."""
 STATUS = """\
-Exit status: 0 shown; 1 the trace or the report is refused, a file can't be read or
-written, or `shb check` finds the report bad; 2 the words are refused."""
+Exit status: 0 shown; 1 the report is bad; 2 nothing could be shown: the words or the
+trace are refused, `shb` failed, or a file can't be read or written. SHB=PROGRAM names
+another `shb`."""
 
 
-class View(typing.NamedTuple):
-    """What is shown."""
-
-    title: str
-    trace: Trace
-    races: int
-    places: typing.List[explain.Place]
-    has_schedules: bool
-    verdict: str
+class Parser(argparse.ArgumentParser):
+    def error(self, message):
+        self.print_usage(sys.stderr)
+        self.exit(2, f"{self.prog}: {shown(os.fsencode(message))}\n")
 
 
-def arguments(words):
-    parser = argparse.ArgumentParser(prog="shb-view", description=ABOUT, epilog=STATUS,
-                                     formatter_class=argparse.RawDescriptionHelpFormatter)
+def arguments(words, program):
+    parser = Parser(prog="shb-view", description=ABOUT, epilog=STATUS, formatter_class=argparse.RawDescriptionHelpFormatter)
     parser.add_argument("--html", metavar="PAGE", help="write a page to this file, not text to standard output")
-    parser.add_argument("--check", action="store_true", help="first run `shb check`, and show its verdict at the top")
-    parser.add_argument("--shb", metavar="PROGRAM", default=ANALYSER, help="the program that --check runs (default: %(default)s)")
+    parser.add_argument("--source", metavar="DIR", action="append", default=[],
+                        help="show lines of the source files below this folder; may be given again")
+    parser.add_argument("--all", action="store_true", help="in the text, add each group's closest race and what comes before it")
+    parser.add_argument("--check", action="store_true", help="run `shb check` on the REPORT that is given")
+    parser.add_argument("--shb", metavar="PROGRAM", default=os.environ.get("SHB") or program, help="the `shb` to run")
     parser.add_argument("trace", metavar="TRACE", help="a trace, as `shb` reads it")
-    parser.add_argument("report", metavar="REPORT", help="a report of it, with schedules or without")
+    parser.add_argument("report", metavar="REPORT", nargs="?",
+                        help="a report of it (- is standard input), if `shb` isn't to make one")
+    if any("\0" in word for word in words):
+        parser.error("a word has a NUL")
     return parser.parse_args(words)
 
 
-def read_bytes(path, most):
-    """The first bytes of a file, at most so many."""
-    with open(path, "rb") as file:
-        return file.read(most)
+def open_standard_files():
+    """Opens those of standard input, output and error that are closed, so that no other file takes their place. Says whether
+    standard output was open."""
+    is_open = sys.stdout is not None
+    for number in range(3):
+        try:
+            os.fstat(number)
+        except OSError:
+            os.open(os.devnull, os.O_RDWR)
+    sys.stdout = sys.stdout or open(os.devnull, "w", encoding="utf-8")
+    sys.stderr = sys.stderr or open(os.devnull, "w", encoding="utf-8")
+    return is_open
 
 
-def checked(program, trace, report):
-    """The verdict of `shb check`, and whether the report is good."""
-    with open(report, "rb") as given:
-        ran = subprocess.run([program, "check", trace], stdin=given, stdout=subprocess.PIPE, stderr=subprocess.PIPE)
-    verdict = names.shown((ran.stdout or ran.stderr).rstrip(b"\n"))
-    if ran.returncode not in (0, 5):
-        raise Refused(f"`shb check` failed: {verdict}")
-    return verdict, ran.returncode == 0
-
-
-def read_view(options, verdict, progress):
-    trace = read_trace(read_bytes(options.trace, MOST_BYTES + 1), progress)
-    with open(options.report, "rb") as file:
-        size = os.fstat(file.fileno()).st_size
-        report = Report(file, trace)
-        places = explain.read_places(trace, report, lambda done: progress.step("reading the report", done, size))
-    title = names.shown(os.fsencode(os.path.basename(options.trace)))
-    return View(title, trace, report.races, places, report.has_schedules, verdict)
-
-
-def show(options, progress):
+def show(options, progress, is_open):
     """Writes what was asked for, and gives the status."""
-    verdict, is_good = checked(options.shb, options.trace, options.report) if options.check else ("", True)
-    view = read_view(options, verdict, progress)
-    progress.clear()
     if options.html:
-        write_page(options, page.page_text(view))
+        with new_file(options.html, [options.trace, options.report or options.trace]) as out:
+            view = make_view(options, progress)
+            write_parts(out, page_parts(view), options.html)
+    elif is_open:
+        view = make_view(options, progress)
+        progress.clear()
+        write_text(text.text_lines(view, text.Colours(is_coloured(sys.stdout)), options.all))
     else:
-        write_text(text.text_lines(view, text.Colours(is_coloured(sys.stdout))))
-    return 0 if is_good else 1
+        raise Refused("standard output is closed")
+    return 1 if view.verdict.is_good is False else 0
 
 
 def is_coloured(out):
@@ -88,34 +78,31 @@ def is_coloured(out):
 
 def write_text(lines):
     sys.stdout.reconfigure(errors="backslashreplace")
-    for line in lines:
-        print(line)
-    sys.stdout.flush()
+    write_parts(sys.stdout, (f"{line}\n" for line in lines), "standard output")
 
 
-def write_page(options, content):
-    for path in (options.trace, options.report):
-        if os.path.exists(options.html) and os.path.samefile(options.html, path):
-            raise Refused(f"the page would take the place of {path}")
-    with open(options.html, "w", encoding="utf-8", newline="\n") as out:
-        out.write(content)
-
-
-def main(words):
-    options, progress = arguments(words), Progress()
+def main(words, program=None):
+    is_open = open_standard_files()
+    options, progress = arguments(words, program), Progress(sys.stderr)
     try:
-        return show(options, progress)
+        return show(options, progress, is_open)
     except BrokenPipeError:
         os.dup2(os.open(os.devnull, os.O_WRONLY), sys.stdout.fileno())
-        return 1
+        return 2
     except Refused as refused:
-        said = str(refused)
+        status, said = refused.status, str(refused)
     except OSError as fault:
-        said = f"{fault.filename}: {fault.strerror}" if fault.filename else fault.strerror
+        status, said = 2, said_of(fault)
     except MemoryError:
-        said = "out of memory"
+        status, said = 2, "out of memory"
     except KeyboardInterrupt:
-        said = "stopped"
+        status, said = 2, "stopped"
     progress.clear()
     print(f"shb-view: {said}", file=sys.stderr)
-    return 1
+    return status
+
+
+def said_of(fault):
+    """A fault of the system in words, with the file's name if it has one."""
+    words = fault.strerror or str(fault)
+    return f"{shown(os.fsencode(fault.filename))}: {words}" if fault.filename else words

@@ -1,23 +1,48 @@
-"""Names as they are shown. A name is any bytes; what is shown of it is safe in a terminal."""
+"""Names as they are shown. A name is any bytes. What is shown of it is safe in a terminal, and two names look the same only where
+they are the same: what doesn't print, what can't be seen and what isn't UTF-8 is written as an escape, and so is a backslash."""
 
+import bisect
+import functools
 import unicodedata
 
 MOST_MARKS = 3  # combining marks that stay with one character
+# Ranges of letters and marks that print as nothing: Unicode's Default_Ignorable_Code_Point, and the empty Braille pattern.
+UNSEEN = [(0x34F, 0x34F), (0x115F, 0x1160), (0x17B4, 0x17B5), (0x180B, 0x180F), (0x2800, 0x2800), (0x3164, 0x3164),
+          (0xFE00, 0xFE0F), (0xFFA0, 0xFFA0), (0xE0100, 0xE01EF)]
+ISOLATE, END = "\u2068", "\u2069"  # around a name with letters that are read from right to left
 
 
+@functools.lru_cache(maxsize=1024)
 def shown(name):
     """The whole name as text."""
-    return "".join(characters(name))
+    return isolated(characters(name))
 
 
+@functools.lru_cache(maxsize=4096)
 def short(name, most):
     """The name as text of at most so many columns: of a longer one the middle is left out."""
-    found = characters(name)
+    return fitted(characters(name), most)
+
+
+def code_line(line, most):
+    """A line of code, short in the same way. Its tabs are blanks, and its backslashes stay as they are."""
+    return fitted([part if part != "\\\\" else "\\" for part in characters(line.expandtabs(8))], most)
+
+
+def fitted(found, most):
+    """The characters as one text of at most so many columns."""
     if columns(found) <= most:
-        return "".join(found)
+        return isolated(found)
     head = fitting(found, (most - 1) // 2)
     tail = fitting(found[::-1], most - 1 - columns(head))[::-1]
-    return "".join([*head, "…", *tail])
+    return isolated([*head, "…", *tail])
+
+
+def isolated(found):
+    """The characters as one text, kept apart from the text around it where it is read from right to left."""
+    text = "".join(found)
+    is_right_to_left = any(unicodedata.bidirectional(character) in ("R", "AL", "AN") for character in text)
+    return f"{ISOLATE}{text}{END}" if is_right_to_left else text
 
 
 def columns(text):
@@ -31,28 +56,49 @@ def padded(text, width):
 
 
 def characters(name):
-    """The characters that a reader sees, each as a text that isn't cut: combining marks go with the character before them,
-    and bytes that aren't UTF-8 or don't print are written as escapes."""
+    """The characters that a reader sees, each as a text that isn't cut. Combining marks go with the character before them,
+    but where another character looks like both together: so only one of the two ways to write it is shown without escapes."""
     found = []
     for character in name.decode("utf-8", "surrogateescape"):
         is_mark = unicodedata.category(character).startswith("M")
-        if is_mark and found and len(found[-1]) <= MOST_MARKS:
-            found[-1] += character
-        elif character.isprintable() and not is_mark:
+        if not is_seen(character):
+            found.append(escape(character))
+        elif not is_mark:
             found.append(character)
+        elif found and len(found[-1]) <= MOST_MARKS and unicodedata.is_normalized("NFC", found[-1] + character):
+            found[-1] += character
         else:
             found.append(escape(character))
     return found
 
 
+def is_seen(character):
+    """Whether the character is shown as it is. Marks print where there is a character before them."""
+    if character == "\\" or is_unseen(character):
+        return False
+    return unicodedata.category(character).startswith("M") or (
+        character.isprintable() and unicodedata.is_normalized("NFC", character))
+
+
+def is_unseen(character):
+    at = bisect.bisect(UNSEEN, (ord(character), 0x110000)) - 1
+    return at >= 0 and ord(character) <= UNSEEN[at][1]
+
+
 def escape(character):
-    if "\udc80" <= character <= "\udcff":
-        return "\\x%02x" % (ord(character) - 0xDC00)
-    return character.encode("unicode_escape").decode()
+    """A byte that isn't UTF-8 and an ASCII character as `\\xff`, other characters as `\\u200b` or `\\U000e0001`."""
+    if character == "\\":
+        return "\\\\"
+    code = ord(character)
+    if 0xDC80 <= code <= 0xDCFF:
+        return f"\\x{code - 0xDC00:02x}"
+    if code < 0x80:
+        return f"\\x{code:02x}"
+    return f"\\u{code:04x}" if code < 0x10000 else f"\\U{code:08x}"
 
 
 def character_columns(character):
-    if unicodedata.category(character).startswith("M"):
+    if character in (ISOLATE, END) or unicodedata.category(character).startswith("M"):
         return 0
     return 2 if unicodedata.east_asian_width(character) in "WF" else 1
 

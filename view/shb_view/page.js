@@ -1,20 +1,33 @@
-// Sorts the table of places by the column whose head is clicked.
+// Sorts a table of lines by the column whose head is clicked, and opens the folded part that a link leads to.
 "use strict";
-for (const table of document.querySelectorAll("table.places")) {
-  const heads = [...table.tHead.rows[0].cells];
-  heads.forEach((head, column) => {
+
+function sortBy(table, head, column) {
+  const direction = head.getAttribute("aria-sort") === "ascending" ? -1 : 1;
+  for (const other of table.tHead.rows[0].cells) other.removeAttribute("aria-sort");
+  head.setAttribute("aria-sort", direction === 1 ? "ascending" : "descending");
+  const text = (row) => row.cells[column].textContent;
+  const rows = [...table.tBodies[0].rows];
+  rows.sort((a, b) => direction * text(a).localeCompare(text(b), "en", { numeric: true }));
+  table.tBodies[0].append(...rows);
+}
+
+for (const table of document.querySelectorAll("table.sites")) {
+  [...table.tHead.rows[0].cells].forEach((head, column) => {
     const button = document.createElement("button");
     button.type = "button";
     button.textContent = head.textContent;
     head.replaceChildren(button);
-    button.addEventListener("click", () => {
-      const direction = head.getAttribute("aria-sort") === "ascending" ? -1 : 1;
-      heads.forEach((other) => other.removeAttribute("aria-sort"));
-      head.setAttribute("aria-sort", direction === 1 ? "ascending" : "descending");
-      const text = (row) => row.cells[column].textContent;
-      const rows = [...table.tBodies[0].rows];
-      rows.sort((a, b) => direction * text(a).localeCompare(text(b), "en", { numeric: true }));
-      table.tBodies[0].append(...rows);
-    });
+    button.addEventListener("click", () => sortBy(table, head, column));
   });
 }
+
+function openTarget() {
+  const target = location.hash && document.getElementById(location.hash.slice(1));
+  const folded = target && target.closest("details");
+  if (folded) {
+    folded.open = true;
+    target.scrollIntoView();
+  }
+}
+addEventListener("hashchange", openTarget);
+openTarget();

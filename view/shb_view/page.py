@@ -1,131 +1,178 @@
-"""The page: one file that asks for nothing else, with a table of the places and a section for each."""
+"""The page: one file that asks for nothing else, with a list of the groups and a section for each."""
 
 import base64
 import hashlib
-import html
 import pathlib
 
-from shb_view.explain import held_by_both
-from shb_view.names import short, shown
+from shb_view.groups import group_name
+from shb_view.issue import issue_lines, order_text
+from shb_view.markup import Markup, code, element, joined, marked
+from shb_view.names import code_line, short
 from shb_view.picture import picture
-from shb_view.text import KINDS, both_text, counted, ending, location_text, note, summary
+from shb_view.source import excerpt
+from shb_view.words import (KINDS, MOST_SITES, MOST_THREADS, MOST_VARIABLES, NO_LOCK, Code, accesses_text, counted, listed, lock_words,
+                            notes_of, partner_parts, place, races_text, summary)
 
 HERE = pathlib.Path(__file__).resolve().parent
 NAME = 80  # columns
 LINE = 240
+ARROW = Markup('<svg class="defs" width="0" height="0" aria-hidden="true"><defs><marker id="to" viewBox="0 0 8 8" refX="7" refY="4" '
+               'markerWidth="7" markerHeight="7" orient="auto"><path d="M0 0L8 4L0 8z"></path></marker></defs></svg>')
 LEGEND = """\
-In a picture each lane is a thread, and time runs down. A solid arrow leads from a release to the acquire after it, from a fork
-to the thread's first event, or from a thread's last event to a join; a dashed arrow from a write to the read that sees it.
-A bar beside a lane is a lock held. Where a lane is dashed, events are left out. After the events above them, both accesses of
-the last row can come next."""
+Each lane is a thread, and time runs down. A solid arrow leads from a release to the acquire after it, from a fork to the thread's
+first event, or from a thread's last event to a join; a dashed arrow from a write to the read that sees it. A bar beside a lane is a
+lock held. Where a lane is dashed, events are left out."""
 
 
-def page_text(view):
-    """The whole page."""
+def page_parts(view):
+    """The page, part by part."""
     style, script = ((HERE / name).read_text(encoding="utf-8") for name in ("page.css", "page.js"))
-    races, size = summary(view)
-    title = html.escape(view.title)
-    parts = ["<!doctype html>", '<html lang="en">', "<head>", '<meta charset="utf-8">', policy(style, script),
-             '<meta name="viewport" content="width=device-width, initial-scale=1">',
-             f"<title>{title}: {races}</title>", f"<style>{style}</style>", "</head>", "<body>",
-             '<svg class="defs" width="0" height="0" aria-hidden="true"><defs><marker id="to" viewBox="0 0 8 8" refX="7" refY="4" '
-             'markerWidth="7" markerHeight="7" orient="auto"><path d="M0 0L8 4L0 8z"/></marker></defs></svg>',
-             f"<header><h1>{title}</h1>", f'<p class="sum">{races}</p>', f'<p class="faint">{size}</p>',
-             *notes(view), "</header>", "<main>"]
-    if view.places:
-        parts += [*table(view), f'<p class="faint">{LEGEND}</p>']
-    lines = view.trace.line_numbers({event for place in view.places for event in linked_events(view.trace, place)})
-    for number, place in enumerate(view.places, 1):
-        parts += section(view.trace, number, place, lines)
-    return "\n".join([*parts, "</main>", f"<script>{script}</script>", "</body>", "</html>"]) + "\n"
+    head = [element("meta", charset="utf-8"), policy(style, script),
+            element("meta", name="viewport", content="width=device-width, initial-scale=1"),
+            element("title", f"{view.title}: {summary(view)[0]}"), element("style", Markup(style))]
+    yield "<!doctype html>\n<html lang=\"en\">\n"
+    yield element("head", joined(head, "\n")) + "\n<body>\n" + ARROW + "\n" + header(view) + "\n<main>\n"
+    if view.sections:
+        yield group_list(view) + "\n"
+    for number, section in enumerate(view.sections, 1):
+        yield section_part(view, number, section) + "\n"
+    yield "</main>\n" + element("script", Markup(script)) + "\n</body>\n</html>\n"
 
 
 def policy(style, script):
     """What the browser may run and load: this style and this script, whatever a name says."""
     style, script = (base64.b64encode(hashlib.sha256(text.encode()).digest()).decode() for text in (style, script))
     allowed = f"default-src 'none'; base-uri 'none'; form-action 'none'; style-src 'sha256-{style}'; script-src 'sha256-{script}'"
-    return f'<meta http-equiv="Content-Security-Policy" content="{allowed}">'
+    return element("meta", http_equiv="Content-Security-Policy", content=allowed)
 
 
-def notes(view):
-    if view.verdict:
-        kind = "good" if view.verdict.startswith("ok ") else "bad"
-        yield f'<p class="verdict {kind}"><code>shb check</code>: {html.escape(view.verdict)}</p>'
-    if note(view):
-        yield f"<p>{note(view)}</p>"
+def header(view):
+    verdict = []
+    if view.verdict.is_good is False:
+        words = f": {view.verdict.words}. What follows is only what the report says."
+        verdict = [element("p", element("code", "shb check"), " finds the report bad", words, class_="verdict bad")]
+    races, size = summary(view)
+    notes = [element("p", note, class_="verdict good" if view.verdict.is_good and not number else "faint")
+             for number, note in enumerate(notes_of(view))]
+    return element("header", *verdict, element("h1", view.title), element("p", races, class_="sum"), element("p", size, class_="faint"),
+                   *notes)
 
 
-def code(text):
-    return f"<code>{html.escape(text)}</code>"
+def group_list(view):
+    """A row for each group, with its fact."""
+    rows = []
+    for number, section in enumerate(view.sections, 1):
+        link = element("a", f"{number}. ", marked(group_name(view, section.group), NAME), href=f"#g{number}")
+        tag = element("span", marked(section.fact.tag, NAME), class_="tag")
+        races = element("span", races_text(section.group), class_="faint")
+        rows.append(element("li", link, " ", tag, " ", races, element("p", marked(section.fact.sentence, NAME)),
+                            class_=f"rank{section.fact.rank}"))
+    more = view.groups - len(view.sections)
+    rows += [element("li", f"and {counted(more, 'more group')}")] if more else []
+    return element("ol", joined(rows, "\n"), class_="groups", id="groups")
 
 
-def table(view):
-    """A row for each place."""
-    yield '<div class="wide" id="places"><table class="places"><thead><tr>'
-    for name in ("Place", "Races", "Variable", "First access", "Second access"):
-        yield f'<th scope="col">{name}</th>'
-    yield "</tr></thead><tbody>"
-    for number, place in enumerate(view.places, 1):
-        first, second = (view.trace.event(access) for access in place.accesses)
-        yield (f'<tr><td class="n"><a href="#p{number}">{number}</a></td><td class="n">{place.races}</td>'
-               f"<td>{code(short(first.name, NAME))}</td>{access_cell(first)}{access_cell(second)}</tr>")
-    yield "</tbody></table></div>"
+def section_part(view, number, section):
+    """All that is said of a group."""
+    anchor = f"g{number}e"
+    parts = [element("h2", element("a", number, href=f"#g{number}"), " ", marked(group_name(view, section.group), NAME), ": ",
+                     marked(section.fact.tag, NAME)),
+             element("p", marked(section.fact.sentence, NAME), " ", races_text(section.group), ". ",
+                     element("a", "All groups", href="#groups", class_="back"))]
+    if len(section.group.variables) > 1:
+        names = listed([[Code(name)] for name in section.group.variables], MOST_VARIABLES)
+        parts.append(element("p", "Variables: ", marked(names, NAME)))
+    parts += [source_pair(view, section.window), element("h3", "Every line that uses ", "it" if len(section.group.variables) == 1 else "them"),
+              site_table(view, section), window_details(section.window, anchor), issue_details(view, section),
+              line_details(section.window, anchor)]
+    return element("section", joined(filter(None, parts), "\n"), id=f"g{number}")
 
 
-def access_cell(event):
-    return f'<td>{code(location_text(event.location, NAME))} <span class="faint">{KINDS[event.word]}</span></td>'
+def source_pair(view, window):
+    """The two lines of code, side by side, where the source has them."""
+    figures = [figure(view, window, number, access) for number, access in enumerate(window.accesses, 1)]
+    return element("div", *figures, class_="pair") if any(figures) else None
 
 
-def section(trace, number, place, lines):
-    """All that is said of a place. `lines` are the numbers of the lines of its events."""
-    first, second = (trace.event(access) for access in place.accesses)
-    yield f'<section id="p{number}">'
-    kinds = f"{KINDS[first.word].capitalize()} and {KINDS[second.word]}"
-    yield f'<h2><a href="#p{number}">{number}</a> {kinds} of {code(short(first.name, NAME))}</h2>'
-    yield (f'<p>{code(location_text(first.location, NAME))} and {code(location_text(second.location, NAME))}: '
-           f"{counted(place.races, 'race')}. <a href=\"#places\">All places</a></p>")
-    yield '<div class="parts"><div class="facts">'
-    for place_number, access in enumerate(place.accesses, 1):
-        yield from access_facts(trace, place_number, access, f"p{number}e")
-    yield f"<p>Locks held by both: {html.escape(both_text(trace, place.accesses))}</p>"
-    yield f"<p>{ending(place)}</p></div>"
-    yield f'<div class="wide picture">{picture(trace, place, f"p{number}e")}</div>'
-    yield from lines_table(trace, place, f"p{number}e", lines)
-    yield "</div></section>"
+def figure(view, window, number, access):
+    """The lines of code around an access, with a bar from the acquire of its newest lock to it."""
+    row = window.events[access]
+    found = view.source.place(row.event.location)
+    if not found:
+        return ""
+    lock = ["holding ", Code(row.locks[-1][0])] if row.locks else [NO_LOCK]
+    caption = [element("b", number, class_="mark"), " ", code(row.event.location, NAME), f" {KINDS[row.event.word]}s, ",
+               marked(lock, NAME)]
+    lines = ""
+    if found.line() is not None:
+        acquire = view.source.place(window.events[row.locks[-1][1]].event.location) if row.locks else None
+        shown_lines = excerpt(found, acquire)
+        if shown_lines.head:
+            caption += [element("br"), element("span", "in ", element("code", code_line(shown_lines.head.rstrip(b" {"), LINE)), class_="faint")]
+        lines = code_table(shown_lines, number)
+    if found.fault:
+        caption += [element("br"), element("span", found.fault, class_="fault")]
+    return element("figure", element("figcaption", *caption), lines, class_="src")
 
 
-def access_facts(trace, number, access, anchor):
-    """An access, the locks that its thread holds, and how its thread was started."""
-    event, fork = trace.event(access), trace.fork(access)
-    started = f"{code(short(trace.event(fork).thread, NAME))} at {where(trace, fork, anchor)}" if fork else "no event of the trace"
-    held = [f"{code(short(trace.event(acquire).name, NAME))} acquired at {where(trace, acquire, anchor)}"
-            for acquire in trace.held(access)]
-    yield f'<h3><span class="mark">{number}</span> {KINDS[event.word].capitalize()} by {code(short(event.thread, NAME))}</h3>'
-    yield f"<dl><dt>Where</dt><dd>{where(trace, access, anchor)}</dd>"
-    yield "<dt>Holds</dt>" + "".join(f"<dd>{lock}</dd>" for lock in held or ["no lock"])
-    yield f"<dt>Started by</dt><dd>{started}</dd></dl>"
+def code_table(lines, mark):
+    rows = []
+    for number in lines.numbers:
+        is_hit = number == lines.place.number
+        text = code_line(lines.place.lines[number - 1].rstrip(), LINE)
+        rows.append(element("tr", element("td", class_="lock on" if number in lines.held else "lock"),
+                            element("td", number, class_="n"), element("td", mark if is_hit else "", class_="hitmark"),
+                            element("td", element("code", text)), class_="hit" if is_hit else None))
+    return element("table", element("tbody", *rows), class_="code")
 
 
-def where(trace, event, anchor):
-    """An event's location and number, as a link to its line."""
-    location = code(location_text(trace.event(event).location, NAME))
-    return f'{location} <a href="#{anchor}{event}">event {event}</a>'
+def site_table(view, section):
+    """Every line that uses the group's variables."""
+    heads = ["Line", "Code", "Accesses", "Threads", "Locks", "Races with"]
+    if not view.source.folders:
+        heads.remove("Code")
+    rows = [element("tr", *site_cells(view, section, site, heads), class_="racing" if site.partners else None)
+            for site in section.sites[:MOST_SITES]]
+    table = element("table", element("thead", element("tr", *(element("th", head, scope="col") for head in heads))),
+                    element("tbody", joined(rows, "\n")), class_="sites")
+    more = len(section.sites) - MOST_SITES
+    return joined([element("div", table, class_="wide"), element("p", f"and {counted(more, 'more line')}") if more > 0 else ""])
 
 
-def linked_events(trace, place):
-    """The events whose numbers are links, and so have their lines in the page."""
-    events = {*place.accesses, *place.shown, *held_by_both(trace, place.accesses)}
-    for access in place.accesses:
-        events.update(trace.held(access), [trace.fork(access)] if trace.fork(access) else [])
-    return sorted(events)
+def site_cells(view, section, site, heads):
+    place_of = view.source.place(site.location) if site.location else None
+    line = place_of.line() if place_of else None
+    threads = sorted(site.threads, key=lambda thread: (-site.threads[thread], thread))
+    locks = [element("span", marked(parts, NAME), class_=kind) for kind, parts in lock_words(site, section.fact.lock)]
+    cells = {"Line": "further lines" if site.location is None else marked([place(site.location)], NAME),
+             "Code": element("code", code_line(line.strip(), LINE)) if line is not None else "",
+             "Accesses": accesses_text(site),
+             "Threads": marked(listed([[Code(thread)] for thread in threads if site.location is not None], MOST_THREADS), NAME),
+             "Locks": joined(locks, "; "),
+             "Races with": marked(partner_parts(site), NAME) or "–"}
+    return [element("td", element("span", cells[head]), data_head=head) for head in heads]
 
 
-def lines_table(trace, place, anchor, lines):
-    """The lines of the trace that the place's numbers link to."""
-    yield '<div class="wide"><table class="lines"><thead><tr>'
-    yield "".join(f'<th scope="col">{name}</th>' for name in ("Event", "Line", "Text of the line")) + "</tr></thead><tbody>"
-    for event in linked_events(trace, place):
-        kind = ' class="access"' if event in place.accesses else ""
-        yield (f'<tr id="{anchor}{event}"{kind}><td class="n">{event}</td><td class="n">{lines[event]}</td>'
-               f"<td>{code(short(trace.line(event), LINE))}</td></tr>")
-    yield "</tbody></table></div>"
+def window_details(window, anchor):
+    first, second = window.accesses
+    return element("details", element("summary", f"What comes before events {first} and {second}, the closest listed race"),
+                   element("p", f"{LEGEND} {order_text(window)}", class_="faint"),
+                   element("div", picture(window, anchor), class_="wide picture"))
+
+
+def issue_details(view, section):
+    text = "\n".join(issue_lines(view, section))
+    return element("details", element("summary", "As text, for an issue"), element("pre", text))
+
+
+def line_details(window, anchor):
+    """The lines of the trace that the picture's numbers link to."""
+    heads = [element("th", name, scope="col") for name in ("Event", "Line", "Text of the line")]
+    rows = []
+    for event in sorted({*window.before, *window.accesses}):
+        row = window.events[event]
+        rows.append(element("tr", element("td", event, class_="n"), element("td", row.row, class_="n"),
+                            element("td", element("code", short(row.line, LINE))),
+                            id=f"{anchor}{event}", class_="access" if event in window.accesses else None))
+    table = element("table", element("thead", element("tr", *heads)), element("tbody", joined(rows, "\n")), class_="lines")
+    return element("details", element("summary", "Lines of the trace"), element("div", table, class_="wide"))

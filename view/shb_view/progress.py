@@ -1,6 +1,5 @@
 """How far a long reading is, on standard error where that is a terminal."""
 
-import sys
 import time
 
 WAIT = 1.0  # seconds before the first words
@@ -8,7 +7,7 @@ PAUSE = 0.2  # seconds between further ones
 
 
 class Progress:
-    def __init__(self, out=sys.stderr):
+    def __init__(self, out):
         self.out = out
         self.next = time.monotonic() + WAIT if out.isatty() else float("inf")
         self.said = False

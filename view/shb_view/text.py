@@ -1,11 +1,13 @@
-"""The text form: for each place the two accesses, the locks, and what came right before."""
+"""The text form: the groups, each with its fact and the lines that use its variables."""
 
-from shb_view.explain import held_by_both, last_events
-from shb_view.names import columns, padded, short
+from shb_view.groups import group_name
+from shb_view.issue import issue_lines
+from shb_view.names import code_line, columns, padded, short
+from shb_view.words import (MOST_SITES, MOST_THREADS, MOST_VARIABLES, Code, accesses_text, counted, listed, lock_words, notes_of,
+                            operation_text, partner_parts, place, races_text, summary)
 
-BEFORE = 3  # events of a thread before its access
-NAME, LOCATION = 48, 48  # columns
-KINDS = {b"r": "read", b"w": "write"}
+NAME = 80  # columns of a name or a location
+LINE = 100  # columns of a line of code
 
 
 class Colours:
@@ -27,106 +29,64 @@ class Colours:
         return self.coded("2", text)
 
 
-def counted(count, word):
-    return f"{count} {word}" if count == 1 else f"{count} {word}s"
+def flat(parts):
+    """Parts as one text."""
+    return "".join(short(part, NAME) if isinstance(part, Code) else part for part in parts)
 
 
-def location_text(location, most=LOCATION):
-    return short(location, most) if location else "(no location)"
-
-
-def summary(view):
-    """How much the report and the trace have, in a line."""
-    events, threads, locks, variables = view.trace.counts
-    size = ", ".join(counted(*part) for part in ((events, "event"), (threads, "thread"), (locks, "lock"), (variables, "variable")))
-    places = counted(len(view.places), "place")
-    return f"{counted(view.races, 'race')} at {places}", size
-
-
-def note(view):
-    """What the reader has to know of a report without schedules."""
-    return "" if view.has_schedules else "The report has no schedules: events are shown in the order of the trace."
-
-
-def text_lines(view, colours):
-    """The lines of the whole text."""
+def text_lines(view, colours, is_whole):
+    """The lines of the whole text. `is_whole` adds the report for an issue and the events before the accesses."""
+    verdict = view.verdict
+    if verdict.is_good is False:
+        yield colours.red(f"`shb check` finds the report bad: {verdict.words}. What follows is only what the report says.")
     races, size = summary(view)
     yield f"{colours.bold(f'{view.title}: {races}')} ({size})"
-    if view.verdict:
-        yield f"shb check: {view.verdict}"
-    if note(view):
-        yield note(view)
-    for number, place in enumerate(view.places, 1):
+    yield from notes_of(view)
+    for number, section in enumerate(view.sections, 1):
         yield ""
-        yield from place_lines(view, number, place, colours)
+        yield from section_lines(view, number, section, colours)
+        if is_whole:
+            yield ""
+            yield from (f"   {line}".rstrip() for line in issue_lines(view, section))
+            yield from window_lines(section.window, view.verdict)
+    if view.groups > len(view.sections):
+        yield ""
+        yield f"and {counted(view.groups - len(view.sections), 'more group')}"
 
 
-def place_lines(view, number, place, colours):
-    trace = view.trace
-    first, second = (trace.event(access) for access in place.accesses)
-    yield colours.bold(f"Place {number} of {len(view.places)}, {counted(place.races, 'race')}: "
-                   f"{KINDS[first.word]} and {KINDS[second.word]} of {short(first.name, NAME)}")
-    before = [last_events(trace, access, BEFORE) for access in place.accesses]
-    widths = widths_of(trace, before[0] + before[1])
-    for access, events in zip(place.accesses, before):
-        yield from access_lines(trace, access, colours)
-        yield from event_lines(trace, events, widths, colours)
-    yield f"  Locks held by both: {both_text(trace, place.accesses)}"
-    yield "  " + ending(place)
+def section_lines(view, number, section, colours):
+    name = flat(group_name(view, section.group))
+    yield colours.bold(f"{number}. {name}: {flat(section.fact.tag)}") + f" ({races_text(section.group)})"
+    yield f"   {flat(section.fact.sentence)}"
+    if len(section.group.variables) > 1:
+        yield f"   Variables: {flat(listed([[Code(name)] for name in section.group.variables], MOST_VARIABLES))}"
+    for site in section.sites[:MOST_SITES]:
+        yield from site_lines(view, section, site, colours)
+    if len(section.sites) > MOST_SITES:
+        yield f"   and {counted(len(section.sites) - MOST_SITES, 'more line')}"
 
 
-def access_lines(trace, access, colours):
-    """An access, the locks that its thread holds, and how its thread was started."""
-    event = trace.event(access)
-    kind = colours.red(KINDS[event.word].capitalize())
-    yield f"  {kind} by {short(event.thread, NAME)} at {location_text(event.location)} (event {access})"
-    held = [held_text(trace, acquire) for acquire in trace.held(access)] or ["none"]
-    yield f"    Locks held: {held[0]}"
-    yield from (f"                {lock}" for lock in held[1:])
-    yield f"    {start_text(trace, access)}"
+def site_lines(view, section, site, colours):
+    """A line that uses the variables."""
+    location = "(further lines)" if site.location is None else flat([place(site.location)])
+    threads = sorted(site.threads, key=lambda thread: (-site.threads[thread], thread))
+    by = flat([" by ", *listed([[Code(thread)] for thread in threads], MOST_THREADS)]) if site.location is not None else ""
+    yield f"   {colours.red(location) if site.partners else location}: {accesses_text(site)}{by}"
+    source = view.source.place(site.location) if site.location else None
+    if source and source.line() is not None:
+        yield f"     | {code_line(source.line().strip(), LINE)}"
+    if source and source.fault:
+        yield f"     | ({source.fault})"
+    yield "     " + "; ".join(flat(parts) for _, parts in lock_words(site, section.fact.lock))
+    if site.partners:
+        yield f"     races with {flat(partner_parts(site))}"
 
 
-def held_text(trace, acquire):
-    return f"{short(trace.event(acquire).name, NAME)}, acquired at {where(trace, acquire)}"
-
-
-def where(trace, event):
-    return f"{location_text(trace.event(event).location)} (event {event})"
-
-
-def start_text(trace, access):
-    fork = trace.fork(access)
-    if not fork:
-        return "Thread started by no event of the trace"
-    return f"Thread started by {short(trace.event(fork).thread, NAME)} at {where(trace, fork)}"
-
-
-def both_text(trace, accesses):
-    """The locks that both hold. There are none at a race; of a pair that is none it is said what was acquired between."""
-    acquires = held_by_both(trace, accesses)
-    if not acquires:
-        return "none"
-    taken = "; ".join(held_text(trace, acquire) for acquire in acquires)
-    return f"{taken}, between the accesses: this orders them, so they are no race"
-
-
-def widths_of(trace, events):
-    """How wide the numbers and the operations of some events are."""
-    return (max((len(str(event)) for event in events), default=0),
-            max((columns(short(trace.event(event).operation, NAME)) for event in events), default=0))
-
-
-def event_lines(trace, events, widths, colours):
-    number_width, operation_width = widths
-    yield "    Before it:" if events else "    Before it: nothing"
-    for number in events:
-        event = trace.event(number)
-        operation = padded(short(event.operation, NAME), operation_width)
-        yield f"      {number:>{number_width}}  {operation}  {colours.faint(location_text(event.location))}"
-
-
-def ending(place):
-    """How the two accesses come next."""
-    if place.length is None:
-        return f"Race {place.number} of the report, in the order of the trace."
-    return f"After the schedule of race {place.number} ({counted(place.length, 'event')}) both accesses come next."
+def window_lines(window, verdict):
+    """The events before the accesses of a group's closest race."""
+    yield f"   Before the accesses: {'nothing' if not window.before else ''}".rstrip()
+    rows = [window.events[event] for event in window.before]
+    texts = [(str(row.number), short(row.event.thread, NAME), operation_text(row.event, NAME)) for row in rows]
+    widths = [max(map(columns, column)) for column in zip(*texts)]
+    for row, (number, thread, operation) in zip(rows, texts):
+        yield f"     {number:>{widths[0]}}  {padded(thread, widths[1])}  {padded(operation, widths[2])}  {flat([place(row.event.location)])}"

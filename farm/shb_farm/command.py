@@ -1,0 +1,204 @@
+"""The words of the command, its passes and its statuses."""
+
+import argparse
+import os
+import pathlib
+import shutil
+import signal
+import sys
+import time
+import typing
+
+from shb_farm import engines, files, limits, merging, passes, tables
+from shb_farm.known import BadLine, Known
+
+ABOUT = """\
+Analyses all traces (NAME.std) in a folder and below, and joins what was found:
+a row for each pair of locations with a race, with the number of traces that
+have it. Each trace ends as a file in OUT/outcomes, put in place whole and last.
+To resume, or when traces or the program have changed, run the same command
+again: it makes what isn't there yet."""
+NOTES = """\
+Files in OUT:
+  places.txt      the places as text, which is also printed; then the traces
+                  without a report
+  places.tsv      the places as a table, with an example and its report
+  places.sarif    the places for code review tools, in SARIF 2.1.0
+  unknown.places  the places that aren't known, as a file of known places
+  traces.tsv      how each trace ended: a report, refused, out of memory, time
+                  or size, or missing
+  reports/        for each unknown place the full report of the smallest trace
+                  that has it
+
+Known places:
+  Two locations a line with a tab between them, in either order; * stands for
+  any text. Empty lines, and lines that begin with #, are passed over.
+
+Exit status:
+  The first that applies:
+  4  the words are refused, or a folder, a file or an engine fails; the reason
+     is on standard error
+  3  a trace has no outcome: it is missing
+  1  there is a place that isn't known
+  2  a trace was refused, or memory, time or size didn't suffice
+  0  none of these
+
+Environment:
+  SHB          the program to run, if not the one that came with this command
+  SHB_WINDOWS  the same of shb-windows, which cuts traces that are too long
+"""
+TEMPORARY_SECONDS = 86_400      # what a killed run has left is deleted after a day
+
+
+class Farm(typing.NamedTuple):
+    engine: str
+    jobs: int
+    memory: typing.List[int]    # the MiB of each pass
+    sbatch: str
+
+
+class Refused(Exception):
+    """The farm can't run; with the reason."""
+
+
+class Parser(argparse.ArgumentParser):
+    def error(self, message):
+        raise Refused(f"{message}\n{self.format_usage().rstrip()}")
+
+
+def arguments(words):
+    parser = Parser(prog="shb-farm", description=ABOUT, epilog=NOTES, formatter_class=argparse.RawDescriptionHelpFormatter)
+    parser.add_argument("--known", metavar="FILE", help="places to pass over")
+    parser.add_argument("--engine", choices=sorted(engines.ENGINES), default="xargs",
+                        help="xargs: this machine (the default); slurm: a job array on a cluster whose nodes see the same folders")
+    parser.add_argument("--jobs", metavar="N", type=number, default=os.cpu_count(), help="with xargs: traces at once (as many as processors)")
+    parser.add_argument("--memory", metavar="MIB,..", type=numbers, help="memory of each pass; a trace that needs more goes on to "
+                        "the next (256,1024,4096, then with xargs what the machine has, with slurm 16384)")
+    parser.add_argument("--seconds", metavar="N", type=number, default=3600, help="processor time of a trace (%(default)s)")
+    parser.add_argument("--size", metavar="MIB", type=number, default=1024, help="most of a report (%(default)s)")
+    parser.add_argument("--sbatch", metavar="WORDS", default="", help="with slurm: further words for sbatch")
+    parser.add_argument("traces", metavar="TRACES", help="the folder of the traces")
+    parser.add_argument("out", metavar="OUT", help="the folder for outcomes and tables")
+    return parser.parse_args(words)
+
+
+def number(text):
+    value = int(text)
+    if value < 1:
+        raise argparse.ArgumentTypeError("it takes numbers from 1 on")
+    return value
+
+
+def numbers(text):
+    return sorted(map(number, text.split(",")))
+
+
+def memory_of(options):
+    """The MiB of each pass."""
+    if options.memory:
+        return options.memory
+    if options.engine == "slurm":
+        return [256, 1024, 4096, 16384]
+    most = limits.memory_of_this_machine()
+    return [mib for mib in (256, 1024, 4096) if mib < most] + [most]
+
+
+def command_of(variable, *places):
+    """A command by the variable that names it, else the first that is there of these paths beside this package; or None."""
+    if os.environ.get(variable):
+        found = shutil.which(os.environ[variable])
+        if not found:
+            raise Refused(f"{os.environ[variable]}: no such program")
+        return os.path.realpath(found)
+    home = pathlib.Path(__file__).resolve().parents[1]
+    found = [home / place for place in places if (home / place).is_file()]
+    return os.path.realpath(found[0]) if found else None
+
+
+def pass_of(options):
+    """What all passes of this farm share."""
+    shb = command_of("SHB", "../bin/shb", "../../bin/shb")
+    if not shb:
+        raise Refused("there is no shb where this command was installed; SHB can name it")
+    windows = command_of("SHB_WINDOWS", "../recorder/shb-windows", "../../bin/shb-windows")
+    with open(shb, "rb") as program:
+        checksum = files.checksum_of_file(program)
+    traces, out = os.path.realpath(options.traces), os.path.realpath(options.out)
+    return passes.Pass(shb, checksum, windows or "", traces, out, seconds=options.seconds, size=options.size)
+
+
+def known_in(path):
+    if not path:
+        return Known()
+    try:
+        return Known(pathlib.Path(path).read_bytes())
+    except BadLine as fault:
+        raise Refused(f"{path}: {fault}")
+
+
+def clean(room):
+    for path in room.iterdir():
+        if path.stat().st_mtime < time.time() - TEMPORARY_SECONDS:
+            shutil.rmtree(path) if path.is_dir() else path.unlink()
+
+
+def run_passes(farm, work, names):
+    """Runs the traces of these names, and gives how each ended. A trace begins with the first pass that has room for its size,
+    and goes on to the next where it ran out of memory or got no outcome."""
+    last = work._replace(memory=farm.memory[-1])
+    endings = {name: merging.ending_of(last, name) for name in names}
+    for memory in farm.memory:
+        now = work._replace(memory=memory)
+        waiting = [name for name in names if endings[name].kind == "missing" and endings[name].size is not None
+                   and (limits.memory_for(endings[name].size) <= memory or memory == last.memory)]
+        waiting = [name for name in waiting if merging.ending_of(now, name).kind == "missing"]
+        if waiting:
+            waiting.sort(key=lambda name: -endings[name].size)      # the longest first
+            engines.run_pass(now._replace(names=waiting), farm)
+            endings.update((name, merging.ending_of(last, name)) for name in waiting)
+    return endings
+
+
+def with_reports(farm, work, rows):
+    """The rows of places, those that aren't known with the full report of their example."""
+    examples = sorted({row.example for row in rows if not row.is_known})
+    full = work._replace(form=passes.FULL)
+    endings = run_passes(farm, full, examples)
+    return [row if row.is_known else row._replace(report=report_of(full, row.example, endings[row.example])) for row in rows]
+
+
+def report_of(work, name, ending):
+    """Where the full report of a trace is, below the folder of the outcomes, or why there is none."""
+    if ending.kind != "report":
+        return "missing" if ending.kind == "missing" else tables.why(ending)
+    path = (passes.windows_path if ending.words.endswith("windows") else passes.report_path)(work.out, name)
+    return os.path.relpath(path, work.out)
+
+
+def run(options):
+    """Runs the farm, writes its tables, and gives the status."""
+    known_places, work = known_in(options.known), pass_of(options)
+    farm = Farm(options.engine, options.jobs, memory_of(options), options.sbatch)
+    clean(passes.room_in(work.out))
+    endings = run_passes(farm, work, merging.names_in(work.traces, work.out))
+    rows = with_reports(farm, work, merging.rows_of(endings, known_places))
+    status = merging.status_of(rows, endings)
+    print(tables.write(pathlib.Path(work.out), rows, endings, status), end="", flush=True)
+    return status
+
+
+def main(words):
+    sys.stdout.reconfigure(errors="backslashreplace")
+    sys.stderr.reconfigure(errors="backslashreplace")
+    for name in (signal.SIGTERM, signal.SIGHUP):
+        signal.signal(name, lambda number, frame: sys.exit(128 + number))
+    try:
+        return run(arguments(words))
+    except (Refused, engines.NotInstalled) as refused:
+        said = str(refused)
+    except OSError as fault:
+        said = f"{fault.filename}: {fault.strerror}" if fault.filename else str(fault)
+    except KeyboardInterrupt:
+        return 130
+    print(f"shb-farm: {said}", file=sys.stderr)
+    return 4

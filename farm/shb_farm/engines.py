@@ -1,0 +1,116 @@
+"""What runs the jobs of a pass: xargs on this machine, or Slurm on a cluster.
+
+An engine may lose a job, run it twice, or end early: what has no outcome is stated as missing, and the next pass or the
+next run of the farm takes it up. So nothing hangs on an engine's own status.
+"""
+
+import os
+import pathlib
+import shlex
+import signal
+import subprocess
+import sys
+import time
+
+from shb_farm import limits, passes
+
+# Without a PATH Python doesn't know its own name. A job needs nothing of this machine's packages, whose start costs time.
+JOB = [sys.executable or "python3", "-I", "-S", str(pathlib.Path(__file__).resolve().with_name("job.py"))]
+TRACES_A_JOB = 50       # at most: so Python's start is a small part of a job
+MOST_TASKS = 1000       # of an array, below Slurm's own bound of 1,001
+BESIDE_MIB = 64         # what a job needs beside the program, where a cluster counts memory
+POLL_SECONDS = 5
+
+
+class NotInstalled(Exception):
+    """A command that the engine needs isn't there."""
+
+
+def run_xargs(work, path, farm):
+    """Runs a pass here, as many traces at once as there are processors and memory for."""
+    count = len(work.names)
+    at_once = max(1, min(farm.jobs, count, limits.free_memory() // work.memory))
+    jobs = min(count, max(8 * at_once, count // TRACES_A_JOB))
+    say(f"{counted(count, 'trace')} with {work.memory} MiB each, {at_once} at once")
+    numbers = "".join(f"{number}\n" for number in range(jobs))
+    words = ["xargs", "-n", "1", "-P", str(at_once), *JOB, path, str(jobs)]
+    run_group(words, numbers)
+
+
+def run_slurm(work, path, farm):
+    """Runs a pass as one job array, and waits for its end."""
+    count = len(work.names)
+    tasks = min(count, MOST_TASKS, max(100, count // TRACES_A_JOB))
+    log = pathlib.Path(work.out) / "log"
+    log.mkdir(exist_ok=True)
+    job = shlex.join([*JOB, path, str(tasks)])
+    words = ["sbatch", "--parsable", "--requeue", f"--job-name=shb-farm-{work.memory}", f"--array=0-{tasks - 1}", "--ntasks=1",
+             "--cpus-per-task=1", f"--mem={work.memory + BESIDE_MIB}", "--open-mode=append", f"--output={log}/%A_%a",
+             *shlex.split(farm.sbatch), "--wrap", f"exec {job}"]
+    status, said, why = call(words)
+    if status:
+        say(f"sbatch ended with status {status}: {why.strip()}")
+        return
+    array = said.split(";")[0].strip()
+    say(f"{counted(count, 'trace')} with {work.memory} MiB each, in {counted(tasks, 'task')} of job {array}")
+    try:
+        while is_running(array):
+            time.sleep(POLL_SECONDS)
+    except BaseException:
+        call(["scancel", array])
+        raise
+
+
+def is_running(array):
+    """Whether a job array has tasks that may still run. Where a node or the controller failed, Slurm holds what it couldn't start
+    again, until somebody comes: such tasks are given up, and their traces are missing for now."""
+    status, said, why = call(["squeue", "--noheader", f"--jobs={array}", "--format=%T %r"])
+    if status:
+        return "Invalid job id" not in why      # an array that ended long ago; else the controller doesn't answer
+    tasks = said.splitlines()
+    if tasks and all("requeued" in task for task in tasks):
+        say(f"Slurm holds what is left of job {array}, which is given up: {tasks[0]}")
+        call(["scancel", array])
+        return False
+    return bool(tasks)
+
+
+def call(words):
+    """Runs a command to its end; gives its status and what it said on standard output and standard error."""
+    try:
+        ran = subprocess.run(words, stdin=subprocess.DEVNULL, stdout=subprocess.PIPE, stderr=subprocess.PIPE)
+    except FileNotFoundError:
+        raise NotInstalled(f"{words[0]} isn't installed")
+    return ran.returncode, ran.stdout.decode(errors="replace"), ran.stderr.decode(errors="replace")
+
+
+ENGINES = {"xargs": run_xargs, "slurm": run_slurm}
+
+
+def run_group(words, given):
+    """Runs a command with all that it starts in a process group of its own, which ends with this process if a signal comes."""
+    try:
+        started = subprocess.Popen(words, stdin=subprocess.PIPE, stdout=sys.stderr, start_new_session=True, text=True)
+    except FileNotFoundError:
+        raise NotInstalled(f"{words[0]} isn't installed")
+    try:
+        started.communicate(given)
+    except BaseException:
+        os.killpg(started.pid, signal.SIGTERM)
+        started.wait()
+        raise
+
+
+def run_pass(work, farm):
+    """Runs a pass to its end with the engine that was asked for."""
+    path = passes.write(work)
+    ENGINES[farm.engine](work, path, farm)
+    os.unlink(path)
+
+
+def say(text):
+    print(f"shb-farm: {text}", file=sys.stderr, flush=True)
+
+
+def counted(count, word):
+    return f"{count} {word}" if count == 1 else f"{count} {word}s"

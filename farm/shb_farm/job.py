@@ -1,0 +1,60 @@
+#!/usr/bin/env python3
+"""Makes the outcomes of some traces of a pass, whatever engine asks for them.
+
+    job.py PASS EVERY [FIRST]
+
+PASS is the file of the pass. Of its traces, each EVERY-th is run, from number FIRST on, or from SLURM_ARRAY_TASK_ID.
+Run twice, even at once, it does no harm: an outcome that stands isn't made again. The status is 0, or 1 if a trace
+got no outcome that stands.
+"""
+
+import os
+import pathlib
+import sys
+
+sys.path.insert(0, str(pathlib.Path(__file__).resolve().parents[1]))
+
+from shb_farm import files, outcomes, passes, reports, running
+
+
+def make_outcome(work, name):
+    """Makes the outcome of a trace, unless there is one that stands. Gives its kind."""
+    path, place = pathlib.Path(work.traces) / name, passes.outcome_path(work.out, work.form, name)
+    old = outcomes.read(place)
+    if passes.stands(old, work, name, files.stamp_of(os.stat(path))):
+        return old.kind
+    with open(path, "rb") as trace:
+        stamp = files.stamp_of(os.fstat(trace.fileno()))
+        checksum = files.checksum_of_file(trace)
+        if old is not None and old.trace == checksum and passes.is_final(old, work, name):
+            new = old._replace(stamp=stamp)
+        else:
+            trace.seek(0)
+            end, places = reports.analysed(work, name, trace)
+            new = outcomes.Outcome(work.program, checksum, stamp, end.kind, end.words, places)
+    if files.stamp_of(os.stat(path)) != stamp:
+        new = new._replace(kind="failed", words="it changed while it was read", places=[])
+    files.put(place, outcomes.text_of(new), passes.room_in(work.out))
+    if new.kind == "failed":
+        print(f"shb-farm: {name}: {new.words}", file=sys.stderr)
+    return new.kind
+
+
+def main(words):
+    sys.stderr.reconfigure(errors="backslashreplace")
+    work, every = passes.read(words[0]), int(words[1])
+    first = int(words[2] if len(words) > 2 else os.environ["SLURM_ARRAY_TASK_ID"])
+    status = 0
+    for name in work.names[first::every]:
+        try:
+            kind = make_outcome(work, name)
+        except (OSError, running.NotHere) as fault:
+            kind = "failed"
+            print(f"shb-farm: {name}: {fault}", file=sys.stderr)
+        if kind == "failed":
+            status = 1
+    return status
+
+
+if __name__ == "__main__":
+    sys.exit(main(sys.argv[1:]))

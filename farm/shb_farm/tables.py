@@ -1,0 +1,84 @@
+"""The tables of a farm, as tab-separated values and as text."""
+
+import os
+
+from shb_farm import files, known, passes, sarif
+
+
+def field(text):
+    """A text as bytes that are one field of a table."""
+    return known.written(os.fsencode(text))
+
+
+def state_of(row):
+    return "known" if row.is_known else "unknown"
+
+
+def places_table(rows):
+    """A line for each place: how many traces have it, whether it is known, its two locations, one of the traces, its report."""
+    lines = [b"traces\tstate\tfirst\tsecond\texample\treport\n"]
+    for row in rows:
+        lines.append(b"\t".join([b"%d" % row.traces, field(state_of(row)), *row.pair, field(row.example), field(row.report)]) + b"\n")
+    return b"".join(lines)
+
+
+def traces_table(endings):
+    """A line for each trace: how it ended, how many places it has, and the words of its outcome."""
+    lines = [b"trace\toutcome\tplaces\twords\n"]
+    for name, ending in endings.items():
+        places = b"%d" % len({known.pair_of(*place) for place in ending.places}) if ending.kind == "report" else b""
+        lines.append(b"\t".join([field(name), field(ending.kind), places, field(ending.words)]) + b"\n")
+    return b"".join(lines)
+
+
+def unknown_places(rows):
+    """The unknown places as a file of known places has them."""
+    return b"".join(b"%s\t%s\n" % row.pair for row in rows if not row.is_known)
+
+
+def why(ending):
+    """Why a trace has no report, for a reader."""
+    return {"memory": f"out of memory in {ending.words} MiB", "time": f"not done in {ending.words} s of processor time",
+            "size": f"its report is longer than {ending.words} MiB"}.get(ending.kind, ending.words)
+
+
+def shown(field_):
+    """A field on a terminal: what doesn't print is escaped."""
+    text = field_.decode("utf-8", "backslashreplace")
+    return "".join(character if character.isprintable() else character.encode("unicode_escape").decode() for character in text)
+
+
+def aligned(lines):
+    """Lines of fields, each column as wide as its longest field; the last one is left as it is."""
+    lines = [[shown(part) for part in line] for line in lines]
+    widths = [max(map(len, column)) for column in zip(*lines)]
+    return ["  ".join(part.ljust(width) for part, width in zip(line, widths)).rstrip() for line in lines]
+
+
+def text(rows, endings):
+    """What the farm prints: how much there is, the places, and the traces without a report."""
+    kinds = [ending.kind for ending in endings.values()]
+    reports, missing = kinds.count("report"), kinds.count("missing")
+    unknown = sum(not row.is_known for row in rows)
+    lines = [f"traces {len(kinds)} reports {reports} refused {len(kinds) - reports - missing} missing {missing}",
+             f"places {len(rows)} unknown {unknown} known {len(rows) - unknown}"]
+    if rows:
+        head = [b"traces", b"state", b"first", b"second", b"example"]
+        table = [[b"%d" % row.traces, field(state_of(row)), *row.pair, field(row.example)] for row in rows]
+        lines += ["", *aligned([head, *table])]
+    lost = [(name, ending) for name, ending in endings.items() if ending.kind != "report"]
+    if lost:
+        table = [[field(ending.kind if ending.kind == "missing" else "refused"), field(name), field(why(ending))] for name, ending in lost]
+        lines += ["", *aligned(table)]
+    return "".join(line + "\n" for line in lines)
+
+
+def write(out, rows, endings, status):
+    """Writes all tables, each whole, and gives the text."""
+    said = text(rows, endings)
+    room = passes.room_in(out)
+    for name, content in (("places.tsv", places_table(rows)), ("traces.tsv", traces_table(endings)),
+                          ("unknown.places", unknown_places(rows)), ("places.txt", said.encode("utf-8", "surrogateescape")),
+                          ("places.sarif", sarif.log(rows, endings, status))):
+        files.put(out / name, content, room)
+    return said

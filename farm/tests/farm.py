@@ -1,0 +1,90 @@
+"""What the tests of the farm share: folders, traces, stand-ins of programs, runs of the command."""
+
+import os
+import pathlib
+import subprocess
+import sys
+import tempfile
+import typing
+import unittest
+
+HERE = pathlib.Path(__file__).resolve().parent
+TOP = HERE.parents[1]
+COMMAND = HERE.parent / "shb-farm"
+SHB = TOP / "crates" / "shb" / "out" / "shb"
+SECONDS = 120       # after so long a command hangs
+
+RACE = b"T1|w(x)|a.c:1\nT2|w(x)|b.c:2\n"            # one place
+OTHER_ORDER = b"T2|w(x)|b.c:2\nT1|w(x)|a.c:1\n"     # the same place, the other access first
+CLEAN = b"T1|w(x)|a.c:1\nT1|w(x)|b.c:2\n"           # one thread
+BAD = b"oops\n"
+BAD_WORDS = "line 1: the line has no operation field"
+
+
+class Answer(typing.NamedTuple):
+    status: int
+    out: str
+    err: str
+
+
+class Case(unittest.TestCase):
+    """A test with a folder of its own, in which are the folders of traces and of outcomes."""
+
+    maxDiff = None
+
+    def setUp(self):
+        room = tempfile.TemporaryDirectory()
+        self.addCleanup(room.cleanup)
+        self.folder = pathlib.Path(room.name)
+        self.traces, self.out = self.folder / "traces", self.folder / "out"
+        self.traces.mkdir()
+
+    def trace(self, name, text):
+        path = self.traces / name
+        path.parent.mkdir(parents=True, exist_ok=True)
+        path.write_bytes(text)
+        return path
+
+    def script(self, name, text):
+        """An executable file."""
+        path = self.folder / name
+        path.parent.mkdir(parents=True, exist_ok=True)
+        path.write_text("#!/bin/sh\n" + text)
+        path.chmod(0o755)
+        return path
+
+    def counting(self):
+        """A program that does what SHB does, and notes each run."""
+        return self.script("counting", f"echo run >> {self.folder}/runs\nexec {SHB} \"$@\"\n")
+
+    def runs(self):
+        """How often it was run since the last call."""
+        path = self.folder / "runs"
+        count = len(path.read_text().splitlines()) if path.exists() else 0
+        path.unlink() if path.exists() else None
+        return count
+
+    def words(self, *words, out=None):
+        return [sys.executable, str(COMMAND), *map(str, words), str(self.traces), str(out or self.out)]
+
+    def environment(self, shb=None, **settings):
+        return {**os.environ, "SHB": str(shb or SHB), "SHB_WINDOWS": "", **{name: str(value) for name, value in settings.items()}}
+
+    def farm(self, *words, shb=None, out=None, **settings):
+        """Runs the farm to its end."""
+        ran = subprocess.run(self.words(*words, out=out), env=self.environment(shb, **settings), capture_output=True, timeout=SECONDS)
+        return Answer(ran.returncode, ran.stdout.decode(), ran.stderr.decode())
+
+    def table(self, name, out=None):
+        """The lines of a table as lists of fields, without the head."""
+        lines = ((out or self.out) / name).read_bytes().decode("utf-8", "surrogateescape").splitlines()
+        return [line.split("\t") for line in lines[1:]]
+
+    def ends(self, out=None):
+        """How each trace ended: its outcome and its words."""
+        return {line[0]: (line[1], line[3]) for line in self.table("traces.tsv", out)}
+
+    def known(self, text):
+        path = self.folder / "known"
+        path.write_bytes(text)
+        return path

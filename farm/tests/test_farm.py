@@ -1,0 +1,176 @@
+"""What a farm prints and writes, and its statuses."""
+
+import os
+import shutil
+import subprocess
+
+import farm
+from farm import BAD, BAD_WORDS, CLEAN, OTHER_ORDER, RACE
+
+FULL_TEXT = """\
+traces 5 reports 3 refused 1 missing 1
+places 2 unknown 1 known 1
+
+traces  state    first  second  example
+2       unknown  a.c:1  b.c:2   one.std
+1       known    k.c:1  k.c:2   three.std
+
+refused  bad.std   line 1: the line has no operation field
+missing  gone.std  No such file or directory
+"""
+FULL_PLACES = """\
+traces	state	first	second	example	report
+2	unknown	a.c:1	b.c:2	one.std	reports/one.std.report
+1	known	k.c:1	k.c:2	three.std	
+"""
+FULL_TRACES = """\
+trace	outcome	places	words
+bad.std	refused		line 1: the line has no operation field
+gone.std	missing		No such file or directory
+one.std	report	1	events 2 threads 2 locks 0 variables 1
+three.std	report	2	events 4 threads 2 locks 0 variables 2
+two.std	report	0	events 2 threads 1 locks 0 variables 1
+"""
+ONE_REPORT = b"""\
+shb-report 2
+events 2 threads 2 locks 0 variables 1
+races 1
+places 1
+place 1: 1
+at a.c:1
+and b.c:2
+race 1: 1 2
+first T1|w(x)|a.c:1
+second T2|w(x)|b.c:2
+schedule 0:
+end
+"""
+
+
+class Tables(farm.Case):
+    def test_all_tables(self):
+        self.trace("one.std", RACE)
+        self.trace("two.std", CLEAN)
+        self.trace("three.std", OTHER_ORDER + b"T1|w(y)|k.c:2\nT2|w(y)|k.c:1\n")
+        self.trace("bad.std", BAD)
+        self.trace("no-trace.txt", BAD)
+        (self.traces / "gone.std").symlink_to("nowhere")
+        answer = self.farm("--known", self.known(b"k.c:1\tk.c:2\n"))
+        self.assertEqual((answer.status, answer.out), (3, FULL_TEXT))
+        for name, wanted in (("places.txt", FULL_TEXT), ("places.tsv", FULL_PLACES), ("traces.tsv", FULL_TRACES),
+                             ("unknown.places", "a.c:1\tb.c:2\n")):
+            self.assertEqual((self.out / name).read_text(), wanted)
+        self.assertEqual([path.name for path in (self.out / "reports").glob("*.report")], ["one.std.report"])
+        self.assertEqual((self.out / "reports" / "one.std.report").read_bytes(), ONE_REPORT)
+        self.assertEqual(list((self.out / "tmp").iterdir()), [])
+
+    def test_no_trace(self):
+        self.assertEqual(self.farm()[:2], (0, "traces 0 reports 0 refused 0 missing 0\nplaces 0 unknown 0 known 0\n"))
+
+    def test_statuses(self):
+        known = self.known(b"b.c:2\ta.c:1\n")
+        self.trace("clean.std", CLEAN)
+        self.assertEqual(self.farm().status, 0)
+        self.trace("race.std", RACE)
+        self.assertEqual(self.farm().status, 1)
+        self.assertEqual(self.farm("--known", known).status, 0)
+        self.trace("bad.std", BAD)
+        self.assertEqual(self.farm().status, 1)
+        self.assertEqual(self.farm("--known", known).status, 2)
+        (self.traces / "gone.std").symlink_to("nowhere")
+        self.assertEqual(self.farm("--known", known).status, 3)
+        self.assertEqual(self.farm().status, 3)
+
+    def test_what_cannot_run_has_a_status_of_its_own(self):
+        self.trace("race.std", RACE)
+        for words, said in ((["--engine", "none"], "argument --engine: invalid choice: 'none'"),
+                            (["--memory", "0"], "argument --memory: it takes numbers from 1 on"),
+                            (["--memory", "x"], "argument --memory: invalid numbers value: 'x'"),
+                            (["--known", self.folder / "none"], f"{self.folder}/none: No such file or directory"),
+                            (["--known", self.known(b"# one\nno tab\n")],
+                             f"{self.folder}/known: line 2: a place is two locations with a tab between them")):
+            answer = self.farm(*words)
+            self.assertEqual((answer.status, answer.out), (4, ""))
+            self.assertTrue(answer.err.startswith(f"shb-farm: {said}"), answer.err)
+        answer = self.farm(shb=self.folder / "none")
+        self.assertEqual(answer, (4, "", f"shb-farm: {self.folder}/none: no such program\n"))
+
+    def test_a_folder_that_is_not_there(self):
+        self.traces.rmdir()
+        self.assertEqual(self.farm(), (4, "", f"shb-farm: {self.traces}: No such file or directory\n"))
+
+    def test_an_engine_that_is_not_there(self):
+        self.trace("race.std", RACE)
+        answer = self.farm("--engine", "slurm", PATH=self.folder)
+        self.assertEqual((answer.status, answer.err.splitlines()[-1]), (4, "shb-farm: sbatch isn't installed"))
+
+    def test_the_example_is_the_smallest_trace(self):
+        self.trace("a.std", RACE + RACE)
+        self.trace("c.std", RACE)
+        self.trace("b.std", OTHER_ORDER)
+        self.farm()
+        self.assertEqual(self.table("places.tsv"), [["3", "unknown", "a.c:1", "b.c:2", "b.std", "reports/b.std.report"]])
+
+    def test_help(self):
+        answer = self.farm("--help")
+        self.assertEqual((answer.status, answer.err), (0, ""))
+        self.assertTrue(answer.out.startswith("usage: shb-farm "))
+
+
+class Names(farm.Case):
+    def test_names_that_are_hard_for_a_shell(self):
+        names = ["a b.std", "quote'.std", 'double".std', "$HOME.std", "-x.std", "back\\slash.std", "sub folder/deep/x.std",
+                 "*.std", "line\nbreak.std", "tab\t.std", os.fsdecode(b"byte\xff.std"), "{}.std", ";true.std"]
+        for name in names:
+            self.trace(name, RACE)
+        self.assertEqual(self.farm().status, 1)
+        wanted = {name.replace("\t", "\\t").replace("\n", "\\n") for name in names}
+        self.assertEqual({name: end[0] for name, end in self.ends().items()}, dict.fromkeys(wanted, "report"))
+        self.assertEqual(self.table("places.tsv")[0][0], str(len(names)))
+
+    def test_what_is_no_file(self):
+        (self.traces / "folder.std").mkdir()
+        self.trace("folder.std/inner.std", CLEAN)
+        os.mkfifo(self.traces / "pipe.std")
+        self.assertEqual(self.farm().status, 3)
+        self.assertEqual({name: end[1] for name, end in self.ends().items() if end[0] == "missing"}, {"pipe.std": "not a regular file"})
+        self.assertIn("folder.std/inner.std", self.ends())
+
+    def test_a_name_that_is_too_long_for_an_outcome_is_missing(self):
+        self.trace("n" * 251 + ".std", RACE)
+        answer = self.farm()
+        self.assertEqual(answer.status, 3)
+        self.assertIn("File name too long", answer.err)
+
+    def test_outcomes_in_the_folder_of_the_traces(self):
+        self.trace("race.std", RACE)
+        out = self.traces / "out"
+        self.assertEqual(self.farm(out=out).status, 1)
+        shutil.copy(self.traces / "race.std", out / "copy.std")
+        self.assertEqual(self.farm(out=out).status, 1)
+        self.assertEqual(list(self.ends(out)), ["race.std"])
+
+    def test_locations_that_are_hard_for_a_table(self):
+        self.trace("race.std", b"T1|w(x)|a\tb|\x1b[31mc\nT2|w(x)|\xff\n")
+        answer = self.farm()
+        self.assertIn("1       unknown  a\\tb|\\x1b[31mc  \\xff    race.std\n", answer.out)
+        self.assertEqual(self.table("places.tsv")[0][2:4], ["a\\tb|\x1b[31mc", "\udcff"])
+        self.assertEqual(self.farm("--known", self.out / "unknown.places").status, 0)
+
+
+class Installed(farm.Case):
+    def test_a_copy_finds_its_parts(self):
+        """Beside `bin/` as in a checkout, and below `lib/` as installed, also through a link to the command."""
+        self.trace("race.std", RACE)
+        here = farm.HERE.parent
+        for root, command, package in (("checkout", "farm/shb-farm", "farm/shb_farm"), ("prefix", "bin/shb-farm", "lib/shb/shb_farm")):
+            root = self.folder / root
+            shutil.copytree(here / "shb_farm", root / package)
+            for name, source in ((command, here / "shb-farm"), ("bin/shb", farm.SHB)):
+                (root / name).parent.mkdir(parents=True, exist_ok=True)
+                shutil.copy(source, root / name)
+            link = self.folder / f"link-{root.name}"
+            link.symlink_to(root / command)
+            environment = {name: value for name, value in os.environ.items() if name not in ("SHB", "SHB_WINDOWS")}
+            ran = subprocess.run([link, self.traces, root / "out"], env=environment, capture_output=True, timeout=farm.SECONDS)
+            self.assertEqual(ran.returncode, 1, ran.stderr)

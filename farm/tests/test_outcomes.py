@@ -1,0 +1,264 @@
+"""Outcomes: what is kept, what is made again, and what a lost or doubled job does."""
+
+import os
+import shutil
+import signal
+import subprocess
+import time
+
+import farm
+from farm import BAD, CLEAN, RACE
+from shb_farm import outcomes
+from shb_farm.outcomes import Outcome
+
+TEXT = b"""\
+shb-farm 1
+program p1
+trace t1
+stamp 12:34
+report events 2
+at a
+and b c
+sum """
+
+
+class Files(farm.Case):
+    def test_the_text_of_an_outcome(self):
+        outcome = Outcome("p1", "t1", "12:34", "report", "events 2", [(b"a", b"b c")])
+        text = outcomes.text_of(outcome)
+        self.assertEqual(text[:-65], TEXT)
+        path = self.folder / "outcome"
+        path.write_bytes(text)
+        self.assertEqual(outcomes.read(path), outcome)
+
+    def test_what_is_not_whole_is_no_outcome(self):
+        path = self.folder / "outcome"
+        text = outcomes.text_of(Outcome("p", "t", "1:2", "refused", "words", [(b"sum ", b"end")]))
+        for number in range(len(text)):
+            path.write_bytes(text[:number])
+            self.assertIsNone(outcomes.read(path))
+        for damaged in (text.replace(b"refused", b"report"), text + b"\n", b"\n" + text):
+            path.write_bytes(damaged)
+            self.assertIsNone(outcomes.read(path))
+        self.assertIsNone(outcomes.read(self.folder / "none"))
+        self.assertIsNone(outcomes.read(self.folder))
+
+
+class Again(farm.Case):
+    def setUp(self):
+        super().setUp()
+        self.shb = self.counting()
+        self.race, self.bad = self.trace("race.std", RACE), self.trace("bad.std", BAD)
+        self.trace("clean.std", CLEAN)
+        self.first = self.farm(shb=self.shb)
+        self.assertEqual((self.first.status, self.runs()), (1, 4))      # three lists and one full report
+
+    def again(self, count, status=1):
+        answer = self.farm(shb=self.shb)
+        self.assertEqual((answer.status, self.runs()), (status, count))
+        return answer
+
+    def test_nothing_is_made_twice(self):
+        self.assertEqual(self.again(0).out, self.first.out)
+
+    def test_a_new_time_alone_runs_nothing(self):
+        os.utime(self.race, (1, 1))
+        self.again(0)
+        self.again(0)
+
+    def test_one_changed_trace_is_made_again(self):
+        old = os.stat(self.bad)
+        self.bad.write_bytes(b"T1|jump(x)\n")
+        self.again(1)
+        self.assertEqual(self.ends()["bad.std"][1], "line 1: the operation is not known")
+        self.bad.write_bytes(BAD)
+        os.utime(self.bad, ns=(old.st_atime_ns, old.st_mtime_ns))
+        self.assertEqual(self.again(1).out, self.first.out)
+
+    def test_a_new_program_makes_all_anew(self):
+        with open(self.shb, "a") as program:
+            program.write("# another\n")
+        self.assertEqual(self.again(4).out, self.first.out)
+
+    def test_a_trace_that_is_gone_does_not_count(self):
+        self.race.unlink()
+        self.again(0, status=2)
+        self.assertEqual(list(self.ends()), ["bad.std", "clean.std"])
+
+    def test_a_torn_outcome_is_made_again(self):
+        path = self.out / "outcomes" / "race.std.outcome"
+        path.write_bytes(path.read_bytes()[:-1])
+        self.assertEqual(self.again(1).out, self.first.out)
+
+    def test_a_lost_or_cut_report_is_made_again(self):
+        path = self.out / "reports" / "race.std.report"
+        whole = path.read_bytes()
+        path.unlink()
+        self.again(1)
+        path.write_bytes(whole[:-1])
+        self.again(1)
+        self.assertEqual(path.read_bytes(), whole)
+
+
+class Engines(farm.Case):
+    """Stand-ins of xargs that do what an engine may do."""
+
+    def setUp(self):
+        super().setUp()
+        for number in range(6):
+            self.trace(f"{number}.std", RACE)
+        self.trace("bad.std", BAD)
+        self.xargs = shutil.which("xargs")
+
+    def engine(self, text):
+        self.script("bin/xargs", text)
+        return self.farm("--memory", "256", PATH=f"{self.folder}/bin:{os.environ['PATH']}")
+
+    def test_lost_jobs_are_missing(self):
+        answer = self.engine("exit 0\n")
+        self.assertEqual(answer.status, 3)
+        self.assertEqual(set(self.ends().values()), {("missing", "its job didn't end")})
+        self.assertIn("traces 7 reports 0 refused 0 missing 7\n", answer.out)
+
+    def test_one_lost_job_is_missing_and_taken_up(self):
+        answer = self.engine(f"grep -v '^0$' | {self.xargs} \"$@\"\n")
+        self.assertEqual(answer.status, 3)
+        self.assertEqual([end[0] for end in self.ends().values()].count("missing"), 1)
+        self.assertEqual(self.farm().status, 1)
+        self.assertIn("traces 7 reports 6 refused 1 missing 0\n", self.farm().out)
+
+    def test_doubled_jobs_do_no_harm(self):
+        plain = self.farm(out=self.folder / "plain")
+        answer = self.engine(f"sed p | {self.xargs} -P 6 \"$@\"\n")
+        self.assertEqual((answer.status, answer.out), (plain.status, plain.out))
+        self.assertEqual(self.table("places.tsv"), self.table("places.tsv", self.folder / "plain"))
+
+    def test_two_farms_at_once(self):
+        plain = self.farm(out=self.folder / "plain")
+        started = [subprocess.Popen(self.words(), env=self.environment(), stdout=subprocess.PIPE, stderr=subprocess.PIPE) for _ in "ab"]
+        for farm_ in started:
+            self.assertEqual(farm_.communicate(timeout=farm.SECONDS)[0].decode(), plain.out)
+            self.assertEqual(farm_.returncode, 1)
+
+    def test_an_outcome_that_cannot_be_put_in_place_is_missing(self):
+        place = self.out / "outcomes" / "bad.std.outcome"
+        place.mkdir(parents=True)
+        answer = self.farm()
+        self.assertEqual(answer.status, 3)
+        self.assertEqual(self.ends()["bad.std"], ("missing", "its job didn't end"))
+        self.assertIn("shb-farm: bad.std: ", answer.err)
+        place.rmdir()
+        self.assertEqual(self.farm().status, 1)
+
+
+class Slurm(farm.Case):
+    """Stand-ins of Slurm's commands; by_hand_slurm.py has the real ones."""
+
+    def setUp(self):
+        super().setUp()
+        for number in range(3):
+            self.trace(f"{number}.std", RACE)
+        # Runs the tasks but the last one, whose number is in the words as --array=0-LAST.
+        self.sbatch = f"""
+echo "$@" >> {self.folder}/submitted
+for word; do case $word in --array=0-*) last=${{word#--array=0-}} ;; esac; job=$word; done
+k=0
+while [ $k -lt ${{LOST:-$last}} ]; do SLURM_ARRAY_TASK_ID=$k sh -c "$job"; k=$((k + 1)); done
+echo '17;loop'
+"""
+
+    def slurm(self, squeue, sbatch=None, *words, **settings):
+        self.script("bin/sbatch", sbatch or self.sbatch)
+        self.script("bin/squeue", squeue)
+        self.script("bin/scancel", f"echo $1 >> {self.folder}/cancelled\n")
+        return self.farm("--engine", "slurm", "--memory", "256", *words, PATH=f"{self.folder}/bin:{os.environ['PATH']}", **settings)
+
+    def test_all_tasks_run(self):
+        plain = self.farm(out=self.folder / "plain")
+        answer = self.slurm("exit 0\n", None, "--sbatch", "--partition='a b'", LOST=3)
+        self.assertEqual((answer.status, answer.out), (1, plain.out))
+        submitted = (self.folder / "submitted").read_text().splitlines()
+        self.assertEqual(len(submitted), 2)         # the lists, and the full report of one trace
+        for wanted in ("--array=0-2 ", "--array=0-0 "):
+            self.assertIn(wanted, submitted[wanted == "--array=0-0 "])
+        for wanted in ("--mem=320 ", "--requeue ", "--partition=a b ", f"--output={self.out}/log/%A_%a "):
+            self.assertIn(wanted, submitted[0])
+
+    def test_a_held_task_is_given_up_and_missing(self):
+        held = "[ \"$1 $2 $3\" = '--noheader --jobs=17 --format=%T %r' ] && echo 'PENDING launch failed requeued held'\n"
+        answer = self.slurm(held)
+        self.assertEqual(answer.status, 3)
+        self.assertEqual([end[0] for end in self.ends().values()], ["report", "report", "missing"])
+        self.assertEqual(set((self.folder / "cancelled").read_text().split()), {"17"})
+        self.assertEqual(self.slurm("exit 0\n", LOST=1).status, 1)
+
+    def test_an_array_that_is_forgotten_has_ended(self):
+        self.assertEqual(self.slurm("echo 'slurm_load_jobs error: Invalid job id specified' >&2; exit 1\n", LOST=3).status, 1)
+
+    def test_a_refusal_is_said_and_the_traces_are_missing(self):
+        answer = self.slurm("exit 0\n", "echo 'no such partition' >&2; exit 1\n")
+        self.assertEqual(answer.status, 3)
+        self.assertIn("shb-farm: sbatch ended with status 1: no such partition\n", answer.err)
+
+
+class Killed(farm.Case):
+    def setUp(self):
+        super().setUp()
+        self.pids, self.gate = self.folder / "pids", self.folder / "gate"
+        for number in range(12):
+            self.trace(f"{number:02}.std", RACE * (number + 1))
+        # Each run after the fourth waits at the gate, and notes its number.
+        self.shb = self.script("waiting", f"""
+if [ ! -e {self.gate} ] && [ "$(ls {self.out}/outcomes | wc -l)" -ge 4 ]; then
+    echo $$ >> {self.pids}
+    while [ ! -e {self.gate} ]; do sleep 0.05; done
+fi
+exec {farm.SHB} "$@"
+""")
+
+    def start(self):
+        """A farm that has made some outcomes and waits in the middle of others."""
+        (self.out / "outcomes").mkdir(parents=True)
+        started = subprocess.Popen(self.words("--jobs", "2"), env=self.environment(self.shb), stdout=subprocess.DEVNULL,
+                                   stderr=subprocess.DEVNULL)
+        deadline = time.monotonic() + farm.SECONDS
+        while not self.pids.exists() and started.poll() is None:
+            self.assertLess(time.monotonic(), deadline)
+            time.sleep(0.02)
+        return started
+
+    def finish(self):
+        """The tables of a second farm are those of one that nothing has disturbed."""
+        made = list((self.out / "outcomes").glob("*.outcome"))
+        self.assertTrue(4 <= len(made) < 12, made)
+        times = {path: path.stat().st_mtime_ns for path in made}
+        self.gate.touch()
+        again = self.farm(shb=self.shb)
+        self.assertEqual({path: path.stat().st_mtime_ns for path in made}, times)
+        plain = self.farm(shb=self.shb, out=self.folder / "plain")
+        self.assertEqual(again[:2], plain[:2])
+        for name in ("places.tsv", "traces.tsv", "places.sarif", "places.txt", "unknown.places"):
+            self.assertEqual((self.out / name).read_bytes(), (self.folder / "plain" / name).read_bytes())
+
+    def test_killed_midway(self):
+        started = self.start()
+        started.kill()
+        started.wait()
+        group = os.getpgid(int(self.pids.read_text().split()[0]))
+        os.killpg(group, signal.SIGKILL)        # xargs and its jobs
+        self.finish()
+
+    def test_ended_by_a_signal_with_all_that_it_ran(self):
+        started = self.start()
+        group = os.getpgid(int(self.pids.read_text().split()[0]))
+        started.terminate()
+        self.assertEqual(started.wait(), 128 + signal.SIGTERM)
+        deadline = time.monotonic() + farm.SECONDS
+        while True:
+            try:
+                os.killpg(group, 0)
+            except ProcessLookupError:
+                break
+            self.assertLess(time.monotonic(), deadline)
+            time.sleep(0.02)
+        self.finish()

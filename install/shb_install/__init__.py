@@ -1,0 +1,1 @@
+"""Puts the commands, manual pages and completions where users have them, and makes the package."""

@@ -1,0 +1,46 @@
+"""A manual page from a command's help."""
+
+import re
+
+ARGUMENTS, OPTIONS = "positional arguments", ("options", "optional arguments")     # as argparse calls them
+
+
+def page(help_, version, date, others):
+    """The page of a command; `others` are the names of the pages that it points to."""
+    name = name_of(help_.command)
+    lines = [f'.TH {name.upper()} 1 "{date}" "shb {version}" "shb"', ".SH NAME", rf"{roff(name)} \- {roff(help_.about)}",
+             ".SH SYNOPSIS", roff(help_.usage), ".SH DESCRIPTION"]
+    for head, body in help_.parts:
+        if not head:
+            lines += [*as_it_is(body), ".PP"]
+    for head, body in help_.parts:
+        if head.lower() in OPTIONS:
+            lines += [".SH OPTIONS", *options(help_)]
+        elif head:
+            lines += [".SH " + roff("ARGUMENTS" if head == ARGUMENTS else head.upper()), *as_it_is(body)]
+    if others:
+        lines += [".SH SEE ALSO", ",\n".join(f".BR {roff(other)} (1)" for other in others)]
+    return "\n".join(lines) + "\n"
+
+
+def name_of(command):
+    return command.replace(" ", "-")
+
+
+def as_it_is(lines):
+    return [".nf", *map(roff, lines), ".fi"]
+
+
+def options(help_):
+    lines = []
+    for option in help_.options:
+        value = f" {option.value}" if option.value else ""
+        lines += [".TP", ".B " + roff(", ".join(name + value for name in option.names)), roff(option.text) or r"\&"]
+    return lines
+
+
+def roff(text):
+    """A line of text as roff reads it: no sign in it commands anything."""
+    for sign, escape in (("\\", r"\e"), ("-", r"\-"), ("'", r"\(aq"), ("`", r"\(ga"), ("^", r"\(ha"), ("~", r"\(ti"), ('"', r"\(dq")):
+        text = text.replace(sign, escape)
+    return re.sub(r"^\.", r"\\&.", text)

@@ -1,0 +1,118 @@
+"""An installation: what is where, that it works from there, and that nothing stays of it."""
+
+import os
+import re
+import shutil
+
+import installing
+from installing import TOP, call, contents
+
+RACE = "T1|w(x)|a.c:1\nT2|w(x)|b.c:2\n"
+WANTED = ("bin/shb", "bin/shb-farm", "bin/shb-std", "bin/shb-view", "lib/shb/libtsan.so", "lib/shb/libtsan_preinit.o",
+          "lib/shb/shb_farm/job.py", "lib/shb/shb_view/page.css", "share/man/man1/shb.1", "share/man/man1/shb-races.1",
+          "share/man/man1/shb-places.1", "share/man/man1/shb-check.1", "share/man/man1/shb-farm.1",
+          "share/bash-completion/completions/shb", "share/bash-completion/completions/shb-farm", "share/zsh/site-functions/_shb",
+          "share/zsh/site-functions/_shb-farm", "share/fish/vendor_completions.d/shb.fish",
+          "share/fish/vendor_completions.d/shb-farm.fish", "share/doc/shb/README.md", "share/doc/shb/VERSION",
+          "share/doc/shb/docs/GUARANTEES.md", "share/doc/shb/examples/fork-join.std")
+SHARED = ("bin/shb", "share/man/man1/shb", "share/bash-completion/completions/shb", "share/zsh/site-functions/_shb",
+          "share/fish/vendor_completions.d/shb")
+OWN = ("lib/shb/", "share/doc/shb/")
+
+
+class Tree(installing.Case):
+    def setUp(self):
+        super().setUp()
+        self.prefix = installing.installed()
+
+    def test_what_is_where(self):
+        files = contents(self.prefix)
+        self.assertEqual([name for name in WANTED if name not in files], [])
+        self.assertEqual([name for name in files if not name.startswith(SHARED + OWN)], [])
+
+    def test_all_can_read_it(self):
+        for path in [self.prefix, *self.prefix.rglob("*")]:
+            mode = path.stat().st_mode & 0o777
+            wanted = (0o755,) if path.is_dir() or path.parent.name == "bin" else (0o644, 0o755)
+            self.assertIn(mode, wanted, path)
+
+    def test_the_links_of_the_readme_hold(self):
+        folder = self.prefix / "share/doc/shb"
+        for name in re.findall(r"\]\(([^)#:]+)\)", (folder / "README.md").read_text()):
+            self.assertTrue((folder / name).exists(), name)
+
+    def test_it_works_from_there_without_an_environment(self):
+        """Also through links from another folder, and with nothing of the checkout."""
+        trace = self.folder / "traces" / "race.std"
+        trace.parent.mkdir()
+        trace.write_text(RACE)
+        (self.folder / "bin").mkdir()
+        for command in (self.prefix / "bin").iterdir():
+            (self.folder / "bin" / command.name).symlink_to(command)
+        for folder in (self.prefix, self.folder):
+            listed = call(folder / "bin" / "shb", "races", "--list", trace, env={})
+            self.assertIn("\nplace 1: 1\nat a.c:1\nand b.c:2\n", listed)
+            said = call(folder / "bin" / "shb-farm", trace.parent, self.folder / "out", env={}, status=1)
+            self.assertTrue(said.startswith("traces 1 reports 1 refused 0 missing 0\nplaces 1 unknown 1 known 0\n"), said)
+
+    def test_nothing_names_the_checkout_or_a_folder_that_is_gone(self):
+        for name, content in contents(self.prefix).items():
+            if isinstance(content, bytes) and not name.startswith("share/doc"):
+                self.assertNotIn(os.fsencode(TOP), content, name)
+                self.assertNotIn(b"/tmp/tmp", content.replace(os.fsencode(self.prefix), b""), name)
+
+    def test_the_library_is_found_where_it_is(self):
+        self.need("readelf")
+        listed = call("readelf", "-d", self.prefix / "lib/shb/libtsan.so")
+        self.assertIn(f"Library soname: [{self.prefix}/lib/shb/libtsan.so]", listed)
+
+
+class Uninstalled(installing.Case):
+    def make(self, what, *words):
+        return call("make", "-s", "-C", TOP, what, f"SHB={installing.SHB}", *words)
+
+    def test_nothing_stays(self):
+        prefix = self.folder / "prefix"
+        prefix.mkdir()
+        self.make("install", f"PREFIX={prefix}")
+        compiled = prefix / "lib/shb/shb_farm/__pycache__"
+        compiled.mkdir()
+        (compiled / "known.pyc").touch()
+        self.make("uninstall", f"PREFIX={prefix}")
+        self.assertEqual(list(prefix.iterdir()), [])
+        self.make("uninstall", f"PREFIX={prefix}")      # nothing there is no fault
+
+    def test_what_was_there_before_stays(self):
+        prefix = self.folder / "prefix"
+        for folder in ("bin", "share/man/man1", "share/zsh"):
+            (prefix / folder).mkdir(parents=True)
+        (prefix / "bin").chmod(0o2775)
+        (prefix / "bin/other").write_text("other")
+        (prefix / "share/zsh/mine").write_text("mine")
+        before = {str(path) for path in prefix.rglob("*")}
+        self.make("install", f"PREFIX={prefix}")
+        self.assertEqual((prefix / "bin").stat().st_mode & 0o7777, 0o2775)
+        self.make("uninstall", f"PREFIX={prefix}")
+        self.assertEqual({str(path) for path in prefix.rglob("*")}, before)
+
+    def test_a_new_installation_takes_the_place_of_an_old_one(self):
+        prefix = self.folder / "prefix"
+        self.make("install", f"PREFIX={prefix}")
+        (prefix / "bin/shb-old").write_text("old")
+        with open(prefix / "lib/shb/installed", "a") as listed:
+            listed.write("bin/shb-old\n")
+        (prefix / "bin/shb").write_text("old")
+        self.make("install", f"PREFIX={prefix}")
+        self.assertFalse((prefix / "bin/shb-old").exists())
+        self.assertEqual((prefix / "bin/shb").read_bytes(), installing.SHB.read_bytes())
+        self.make("uninstall", f"PREFIX={prefix}")
+        self.assertEqual(list(prefix.iterdir()), [])
+
+    def test_destdir(self):
+        self.make("install", "PREFIX=/usr", f"DESTDIR={self.folder}/image")
+        self.assertEqual([path.name for path in (self.folder / "image").iterdir()], ["usr"])
+        self.assertTrue((self.folder / "image/usr/bin/shb-farm").exists())
+        if shutil.which("readelf"):
+            self.assertIn("[/usr/lib/shb/libtsan.so]", call("readelf", "-d", self.folder / "image/usr/lib/shb/libtsan.so"))
+        self.make("uninstall", "PREFIX=/usr", f"DESTDIR={self.folder}/image")
+        self.assertEqual(contents(self.folder / "image"), {})

@@ -1,0 +1,186 @@
+"""shb-record: one command from a program to its races, for programs that gcc built for its own library."""
+
+import os
+import pathlib
+import re
+import shutil
+import signal
+
+import recorder
+
+PLACE = ("status.c:9", "status.c:9")
+
+
+def text_of(path):
+    return path.read_text()
+
+
+class Command(recorder.Case):
+    def program(self, name="status.c", *words, compiler="gcc", sanitized=("-fsanitize=thread",)):
+        out = self.folder / pathlib.Path(name).stem
+        recorder.must(recorder.call(compiler, "-w", "-g", "-O1", *sanitized, "-pthread", recorder.PROGRAMS / name, "-o", out, *words))
+        return out
+
+    def record(self, *words, command=None, **more):
+        """The command's status, the program's output, and what the command said."""
+        how = {**os.environ, "SHB": str(recorder.SHB), **more}
+        ran = recorder.call(command or recorder.BUILT / "shb-record", *words, cwd=self.folder, env=how)
+        return ran.returncode, ran.stdout.decode(), ran.stderr.decode()
+
+    def known(self, text):
+        path = self.folder / "known"
+        path.write_text(text)
+        return path
+
+    def names(self, folder="status.shb"):
+        return sorted(re.sub(r"\d{2,}", "N", path.name) for path in (self.folder / folder).iterdir())
+
+    def test_a_race(self):
+        status, out, said = self.record(self.program(), "0", "race")
+        self.assertEqual((status, out), (66, "said by the program\n"))
+        self.assertRegex(said, r"(?m)^shb-record: run 1, process \d+ \(\S+/status 0 race\): .*; 1 place with races$")
+        self.assertEqual(said.count("status.c:9"), 2)  # the view's text: once for each access
+        self.assertEqual(said.splitlines()[-1], "shb-record: 1 place with races; the program's own status: 0; files in "
+                         f"{self.folder}/status.shb")
+        self.assertEqual(self.names(), ["run1.N.html", "run1.N.report", "run1.N.std", "unknown.places"])
+        self.assertEqual(text_of(self.folder / "status.shb" / "unknown.places"), "status.c:9\tstatus.c:9\n")
+
+    def test_statuses_without_a_race(self):
+        program = self.program()
+        for word, wanted in (("0", 0), ("5", 5), ("signal", 143)):
+            status, _, said = self.record(program, word)
+            self.assertEqual(status, wanted, said)
+            self.assertIn(f"shb-record: 0 places with races; the program's own status: {wanted};", said)
+            self.assertEqual(self.names(), ["unknown.places"])
+
+    def test_a_race_wins_over_the_own_status(self):
+        program = self.program()
+        for word, own in (("5", 5), ("signal", 143)):
+            status, _, said = self.record(program, word, "race")
+            self.assertEqual(status, 66)
+            self.assertIn(f"the program's own status: {own};", said)
+
+    def test_what_cannot_be_run(self):
+        (self.folder / "text").write_text("no program")
+        for words, wanted, reason in (((self.folder / "none",), 127, "not found"), ((self.folder / "text",), 126, "can't be run"),
+                                      ((), 125, "no program is named"), (("--runs", "0", "true"), 125, "--runs takes a number from 1"),
+                                      (("--no",), 125, "option --no not recognized"),
+                                      (("--known", "none", "true"), 125, "none: No such file or directory")):
+            status, _, said = self.record(*words)
+            self.assertEqual((status, reason in said), (wanted, True), said)
+
+    def test_words_of_the_program_are_its_own(self):
+        status, out, _ = self.record("-o", "r", "--", shutil.which("echo"), "--runs", "--", "-h")
+        self.assertEqual((status, out), (125, "--runs -- -h\n"))
+
+    def test_known_places(self):
+        program = self.program("atomic_plain.c")  # its place has two lines: RACE
+        first, second = [f"atomic_plain.c:{number}" for number, line in enumerate(
+            (recorder.PROGRAMS / "atomic_plain.c").read_text().splitlines(), 1) if "RACE" in line]
+        for text, wanted in ((f"# a comment\n\n{first}\t{second}\n", 0), (f"{second}\t{first}\n", 0), ("*plain.c:*\tatomic*\n", 0),
+                             (f"#{first}\t{second}\n", 66), (f"{first}\t{first}\n", 66), ("atomic_plain?c:*\t*\n", 66)):
+            status, _, said = self.record("--known", self.known(text), program)
+            self.assertEqual(status, wanted, text)
+            self.assertIn("1 unknown place with races;" if wanted else
+                          "0 unknown places with races, 1 known one passed over;", said)
+
+    def test_the_file_of_unknown_places_is_one_of_known_places(self):
+        program = self.program()
+        self.record(program, "0", "race")
+        status, _, _ = self.record("--known", "status.shb/unknown.places", "-o", "again", program, "0", "race")
+        self.assertEqual(status, 0)
+
+    def test_a_file_of_known_places_with_a_line_that_is_none(self):
+        status, _, said = self.record("--known", self.known("a.c:1\tb.c:2\na.c:1 b.c:2\n"), self.program(), "0")
+        self.assertEqual(status, 125)
+        self.assertIn("line 2: two locations with a tab between them are wanted", said)
+
+    def test_runs_show_each_place_once(self):
+        status, out, said = self.record("--runs", "3", self.program(), "0", "race")
+        self.assertEqual((status, out), (66, "said by the program\n" * 3))
+        self.assertEqual(len(re.findall(r"(?m)^shb-record: run [123], process ", said)), 3)
+        self.assertEqual(said.count("status.c:9"), 2)
+        self.assertIn("shb-record: 1 place with races;", said)
+
+    def test_no_record_has_a_likely_cause(self):
+        for compiled, cause in (((), "was compiled with -fsanitize=thread"),
+                                (("-fsanitize=thread", "-static-libtsan"), "ThreadSanitizer's own library is linked into it")):
+            status, _, said = self.record(self.program(sanitized=compiled), "0")
+            self.assertEqual(status, 125)
+            self.assertIn(cause, said)
+        status, _, said = self.record("sh", "-c", "true")
+        self.assertEqual((status, "neither it nor a program that it started was compiled" in said), (125, True))
+
+    def test_clang_in_one_step(self):
+        if not shutil.which("clang"):
+            self.skipTest("clang isn't installed")
+        help = self.record("--help")[1]
+        flags = re.search(r"link with (-fno-sanitize-link-runtime -L\S+ -ltsan)\.", help)[1].split()
+        status, _, said = self.record(self.program("status.c", *flags, compiler="clang"), "0", "race")
+        self.assertEqual(status, 66, said)
+
+    def test_every_process(self):
+        program = self.program()
+        status, _, said = self.record("sh", "-c", f"{program} 1 race; {program} 0; exec {program} 2 race")
+        self.assertEqual(status, 66)
+        found = re.findall(r"(?m)^shb-record: run 1, process \d+ \(\S+/status (.*)\): .*; 1 place with races$", said)
+        self.assertEqual(sorted(found), ["1 race", "2 race"])
+        self.assertIn("1 place with races; the program's own status: 2;", said)
+
+    def test_a_daemon_is_waited_for(self):
+        status, out, said = self.record(self.program("daemon.c"))
+        self.assertEqual((status, out), (66, "done\n"), said)
+
+    def test_a_process_that_goes_on(self):
+        self.addCleanup(self.stop)
+        program = self.program("deadlock.c")
+        status, _, said = self.record("--wait", "0", "sh", "-c", f"mkfifo pipe; {program} > pipe 2> errors & echo $! > number; head -c 2 pipe")
+        self.assertEqual(status, 66)
+        self.assertIn("processes that the program started still run after 0 seconds", said)
+        self.assertIn("deadlock.c:9", said)
+
+    def stop(self):
+        os.kill(int((self.folder / "number").read_text()), signal.SIGKILL)
+
+    def test_results_of_an_earlier_call_are_removed(self):
+        program = self.program()
+        self.record("--keep", program, "0", "race")
+        self.assertEqual(self.names(), ["run1.N.html", "run1.N.rec", "run1.N.report", "run1.N.std", "unknown.places"])
+        self.record(program, "0")
+        self.assertEqual(self.names(), ["unknown.places"])
+
+    def test_a_part_of_a_run_is_called_one(self):
+        status, _, said = self.record(self.program("mutex_ok.c"), SHB_RECORDS="1000")
+        self.assertEqual(status, 0)
+        self.assertIn("the recording is not the whole run: SHB_RECORDS is reached", said)
+        self.assertIn("0 places with races; not the whole of the run was seen;", said)
+
+    def test_a_run_of_which_nothing_was_recorded(self):
+        refuse, path = self.folder / "refuse.so", recorder.HERE / "refuse_space.c"
+        recorder.must(recorder.call("gcc", "-O1", "-fno-builtin", "-fPIC", "-shared", path, "-o", refuse))
+        program = self.program("mutex_ok.c")
+        status, _, said = self.record("env", f"LD_PRELOAD={refuse}", "REFUSE_SPACE=2", program)
+        self.assertEqual((status, "nothing of the run was recorded" in said), (125, True), said)
+
+    def test_an_analyser_that_fails(self):
+        status, _, said = self.record(self.program(), "0", "race", SHB=shutil.which("false"))
+        self.assertEqual((status, "ended with status 1" in said), (125, True), said)
+
+    def test_help(self):
+        for word in ("-h", "--help"):
+            status, out, said = self.record(word)
+            self.assertEqual((status, said), (0, ""))
+            self.assertTrue(out.startswith("usage: shb-record "))
+
+    def test_installed(self):
+        """The commands in PREFIX/bin, the library in PREFIX/lib/shb."""
+        prefix = self.folder / "prefix"
+        (prefix / "bin").mkdir(parents=True)
+        (prefix / "lib").mkdir()
+        shutil.copytree(recorder.BUILT / "lib", prefix / "lib" / "shb", symlinks=True)
+        for name in ("shb-record", "shb-std"):
+            shutil.copy(recorder.BUILT / name, prefix / "bin")
+        (prefix / "bin" / "shb").symlink_to(recorder.SHB)
+        (prefix / "bin" / "shb-view").symlink_to(recorder.SOURCES.parent / "view" / "shb-view")
+        status, _, said = self.record(self.program(), "0", "race", command=prefix / "bin" / "shb-record", SHB="")
+        self.assertEqual((status, said.count("status.c:9")), (66, 2), said)

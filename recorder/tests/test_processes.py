@@ -1,0 +1,105 @@
+"""Each process has its own record, none is lost without a word, and nothing crashes that doesn't crash by itself."""
+
+import os
+import pathlib
+import re
+import shutil
+import signal
+import subprocess
+
+import recorder
+
+ARCHER = next(iter(sorted(pathlib.Path("/usr/lib").glob("llvm-*/lib/libarcher.so"))), None)
+
+
+def marked(name, word="RACE"):
+    """The lines of a program that have the word."""
+    lines = enumerate((recorder.PROGRAMS / name).read_text().splitlines(), 1)
+    return {f"{name}:{number}" for number, line in lines if word in line}
+
+
+def racing_lines(record, must=recorder.must):
+    trace = must(recorder.convert(record)).stdout
+    return {line for pair in recorder.places(trace) for line in pair}
+
+
+def command_of(record):
+    """The command line in a record."""
+    return re.search(rb"^command (.*)$", record.read_bytes()[:65536], re.M)[1].split()
+
+
+class Processes(recorder.Case):
+    def program(self, name, *words, compiler="gcc"):
+        """Builds a program as for gcc's own library."""
+        out = self.folder / pathlib.Path(name).stem
+        recorder.must(recorder.call(compiler, "-w", "-g", "-O1", "-fsanitize=thread", "-pthread",
+                                    recorder.PROGRAMS / name, "-o", out, *words))
+        return out
+
+    def settings(self, name="%p.rec", **more):
+        """Our library under the name of gcc's, and a record for each process."""
+        return recorder.settings(self.folder / name, LD_LIBRARY_PATH=str(recorder.BUILT / "lib"), **more)
+
+    def records(self):
+        return sorted(self.folder.glob("*.rec"))
+
+    def test_each_process_has_its_record(self):
+        ran = recorder.must(recorder.call(self.program("processes.c"), env=self.settings()))
+        self.assertEqual(ran.stderr, b"")
+        children = marked("processes.c", "races in the child")
+        found = sorted((len(command_of(record)), sorted(racing_lines(record))) for record in self.records())
+        parent, child = sorted(marked("processes.c")), sorted(children)
+        self.assertEqual(found, sorted([(1, parent), (1, child), (1, child), (2, [])]))  # the last by exec
+
+    def test_a_daemon(self):
+        program = self.program("daemon.c")
+        with subprocess.Popen([program], env=self.settings(), stdout=subprocess.PIPE) as running:
+            self.assertEqual(running.stdout.read(), b"done\n")  # the daemon's own output
+        self.assertEqual(sorted(map(sorted, map(racing_lines, self.records()))), [[], sorted(marked("daemon.c"))])
+
+    def test_a_path_that_is_not_absolute(self):
+        program = self.program("daemon.c")  # which changes its folder before it starts threads
+        how = dict(self.settings(), SHB_RECORD="%p.rec")
+        ran = recorder.must(recorder.call(program, env=how, cwd=self.folder))
+        self.assertEqual((ran.stdout, ran.stderr, len(self.records())), (b"done\n", b"", 2))
+
+    def test_a_child_without_a_record_says_so(self):
+        ran = recorder.must(recorder.call(self.program("daemon.c"), env=self.settings("one.rec")))
+        self.assertEqual(ran.stderr.count(b"a process made by fork starts threads and runs unrecorded"), 1)
+
+    def test_a_record_in_use_is_not_cut(self):
+        program, second = self.program("deadlock.c"), self.program("mutex_ok.c")
+        how = self.settings("one.rec")
+        with subprocess.Popen([program], env=how, stdout=subprocess.PIPE) as running:
+            self.addCleanup(running.kill)
+            self.assertEqual(running.stdout.read(2), b"..")  # it has its record, and waits
+            ran = recorder.call(second, env=how)
+            running.send_signal(signal.SIGKILL)
+        self.assertIn(b"another process records to " + os.fsencode(self.folder / "one.rec"), ran.stderr)
+        self.assertEqual(command_of(self.folder / "one.rec"), [os.fsencode(program)])
+        self.assertEqual(racing_lines(self.folder / "one.rec", recorder.part), {"deadlock.c:9"})
+
+    def test_a_library_in_cxx_loaded_by_a_program_in_c(self):
+        library = self.program("plugin.cc", "-shared", "-fPIC", compiler="g++")
+        program = self.program("plugin_host.c", "-ldl")
+        how = self.settings()
+        recorder.must(recorder.call(program, library, env={**how, "SHB_RECORD": ""}))
+        recorder.must(recorder.call(program, library, env=how))
+        self.assertEqual(racing_lines(*self.records()), marked("plugin.cc"))
+
+    def test_the_cxx_library_linked_into_the_program(self):
+        program, how = self.program("cxx.cc", "-static-libstdc++", compiler="g++"), self.settings()
+        recorder.must(recorder.call(program, env={**how, "SHB_RECORD": ""}))
+        recorder.must(recorder.call(program, env=how))
+        self.assertEqual(racing_lines(*self.records()), marked("cxx.cc"))
+
+    def test_openmp_of_clang_with_archer(self):
+        if not shutil.which("clang") or not ARCHER:
+            self.skipTest("clang or its libarcher.so isn't installed")
+        program = self.folder / "openmp"
+        library = f"-L{recorder.BUILT}/lib"
+        recorder.must(recorder.call("clang", "-w", "-g", "-O1", "-fopenmp", "-fsanitize=thread", "-fno-sanitize-link-runtime",
+                                    recorder.PROGRAMS / "openmp.c", "-o", program, library, "-ltsan"))
+        more = {"OMP_TOOL_LIBRARIES": str(ARCHER), "TSAN_OPTIONS": "ignore_noninstrumented_modules=1"}
+        recorder.must(recorder.call(program, env={**self.settings(), **more}))
+        self.assertEqual(racing_lines(*self.records()), marked("openmp.c"))

@@ -1,0 +1,77 @@
+/* shb-windows: cuts an STD trace of any length into overlapping windows that shb takes. */
+#include <errno.h>
+#include <stdio.h>
+#include <stdlib.h>
+#include <string.h>
+#include <unistd.h>
+#include "../converter/converter.h"
+#include "../converter/windows.h"
+
+enum { SHB_EVENTS = 4194304, REFUSED = 2, BAD_WORDS = 3, FAILED = 4, LINE_ROOM = 1 << 20 };
+
+static const char help[] =
+    "usage: shb-windows [-n EVENTS] -o DIR [TRACE]\n"
+    "\n"
+    "Cuts a trace of any length, from TRACE or standard input, into overlapping traces that shb takes:\n"
+    "DIR/window-0001.std, window-0002.std.., and DIR/windows.tsv: for each file the first and the last\n"
+    "of its events in the whole trace, and how many acquires were added before these, one for each\n"
+    "lock that is held there. Each window begins in the middle of the one before. Its races are the\n"
+    "races of the whole trace with both accesses in it; so each race whose accesses are fewer than half\n"
+    "a window apart is found, and a race of accesses further apart may not be.\n"
+    "\n"
+    "  -n EVENTS   a window's most events, the added ones counted (4194304, which is what shb takes)\n"
+    "  -o DIR      the folder; it is made if it isn't there\n"
+    "  -h, --help  this text\n"
+    "\n"
+    "Exit status: 0; 2 the trace is refused, as shb would refuse it; 3 the command line is refused;\n"
+    "4 a file can't be read or written.\n";
+
+static const char *folder;
+static u64 most_events = SHB_EVENTS;
+
+static void bad_words(void) {
+    fputs("shb-windows: bad command line; shb-windows --help says more\n", stderr);
+    exit(BAD_WORDS);
+}
+
+/* Gives the trace's path, or null for standard input. */
+static const char *read_words(int count, char **words) {
+    if (count > 1 && !strcmp(words[1], "--help")) words[1] = "-h";
+    for (int c; (c = getopt(count, words, "hn:o:")) > 0;)
+        if (c == 'h') {
+            fputs(help, stdout);
+            exit(0);
+        } else if (c == 'o') folder = optarg;
+        else if (c != 'n' || (most_events = strtoull(optarg, 0, 10)) < 2 || most_events > SHB_EVENTS) bad_words();
+    if (!folder || optind + 1 < count) bad_words();
+    return words[optind];
+}
+
+/* A line longer than the room is given in part: it is refused for its length. */
+static void cut_up(FILE *trace) {
+    static char line[LINE_ROOM];
+    for (u64 number = 1; ; number++) {
+        u64 length = 0;
+        for (int byte; length < LINE_ROOM && (byte = getc_unlocked(trace)) != EOF;)
+            if ((line[length++] = byte) == '\n') break;
+        if (!length) return;
+        const char *fault = window_line(line, length);
+        if (!fault) continue;
+        fprintf(stderr, "line %lu: %s\n", number, fault);
+        exit(REFUSED);
+    }
+}
+
+int main(int count, char **words) {
+    program_name = "shb-windows";
+    failed_status = FAILED;
+    opterr = 0;
+    const char *path = read_words(count, words);
+    FILE *trace = path ? fopen(path, "r") : stdin;
+    if (!trace) die("cannot open %s: %s", path, strerror(errno));
+    begin_windows(folder, most_events);
+    cut_up(trace);
+    if (ferror(trace)) die("cannot read %s: %s", path ? path : "standard input", strerror(errno));
+    end_windows();
+    return 0;
+}

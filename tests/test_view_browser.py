@@ -1,0 +1,100 @@
+"""The page of view/shb-view in a browser, where one is installed: that its script runs and that nothing is cut."""
+
+import json
+import re
+import shutil
+import subprocess
+
+import program
+from viewing import EXAMPLES, run_here
+
+BROWSERS = ("chromium", "chromium-browser", "google-chrome")
+TRIAL = """
+<script>
+"use strict";
+const table = document.querySelector("table.sites");
+const column = (number) => [...table.tBodies[0].rows].map((row) => row.cells[number].textContent);
+const found = {};
+for (const button of table.querySelectorAll("th button")) {
+  const number = button.parentElement.cellIndex;
+  button.click();
+  const up = column(number).join(), sort = button.parentElement.getAttribute("aria-sort");
+  button.click();
+  found[button.textContent] = [up, sort, column(number).join(), button.parentElement.getAttribute("aria-sort")];
+}
+found.sorted = table.querySelectorAll("[aria-sort]").length;
+found.before = [...document.querySelectorAll("details")].map((details) => details.open).join();
+location.hash = "#g1e12";
+addEventListener("hashchange", () => {
+  found.after = [...document.querySelectorAll("details")].map((details) => details.open).join();
+  found.wide = document.documentElement.scrollWidth - innerWidth;
+  document.body.textContent = "FOUND" + JSON.stringify(found) + "END";
+});
+</script>
+</body>"""
+
+
+class Browser(program.Case):
+    """Where no browser is installed each test says so and tries nothing."""
+
+    def browser(self):
+        found = next(filter(None, map(shutil.which, BROWSERS)), None)
+        if found is None:
+            print("(no browser is installed: not tried)", end=" ")
+        return found
+
+    def shown(self, browser, page, *words):
+        """What the browser makes of a page, as text."""
+        command = [browser, "--headless", "--no-sandbox", "--disable-gpu", f"--user-data-dir={self.folder}/profile",
+                   "--virtual-time-budget=5000", *words, "--dump-dom", page.as_uri()]
+        ran = subprocess.run(command, stdout=subprocess.PIPE, stderr=subprocess.PIPE, timeout=program.SECONDS * 2)
+        self.assertNotIn(b"CONSOLE", ran.stderr)
+        return ran.stdout.decode()
+
+    def page(self, *words):
+        path = self.folder / "page.html"
+        self.assertEqual(run_here(["--html", path, *words])[0], 0)
+        return path
+
+    def test_the_script_runs_under_the_policy(self):
+        browser = self.browser()
+        if browser:
+            shown = self.shown(browser, self.page(EXAMPLES / "account.std"), "--enable-logging=stderr")
+            heads = re.findall(r'<th scope="col"><button type="button">([^<]*)</button></th>', shown)
+            self.assertEqual(heads, ["Line", "Accesses", "Threads", "Locks", "Races with"])
+
+    def test_a_click_sorts_and_a_link_opens(self):
+        """On a copy of the page without its policy, with a script that clicks."""
+        browser = self.browser()
+        if browser:
+            page = self.page(EXAMPLES / "unlocked-read.std")
+            text = page.read_text(encoding="utf-8")
+            text = re.sub(r"<meta http-equiv[^>]*>", "", text).replace("</body>", TRIAL)
+            page.write_text(text, encoding="utf-8")
+            found = re.search(r"FOUND(.*?)END", self.shown(browser, page)).group(1)
+            found = json.loads(found)
+            lines = ["main.c:8", "main.c:11", "queue.c:22", "queue.c:31"]
+            self.assertEqual(found["Line"], [",".join(lines), "ascending", ",".join(lines[::-1]), "descending"])
+            self.assertEqual(found["Accesses"][0], "1 read,1 read,1 write,1 write")
+            self.assertEqual((found["sorted"], found["before"]), (1, ",".join(["false"] * 6)))
+            self.assertEqual(found["after"], "false,false,true,false,false,false")
+
+    def test_nothing_is_wider_than_a_narrow_window(self):
+        """Of 400 pixels, with all folded parts open and with long names."""
+        browser = self.browser()
+        if browser:
+            name = "very_long_names_of_a_program." * 12
+            code = self.file(b"int x;\n" + b"    call(%b);\n" % (name.encode() * 3), "code.c")
+            trace = self.file("".join(f"{thread}.{name}|{event}|code.c:2\n" for thread in "AB" for event in
+                                      (f"acq(lock.{thread}.{name})", f"w({name})", f"rel(lock.{thread}.{name})")).encode())
+            page = self.page("--source", code.parent, trace)
+            text = page.read_text(encoding="utf-8").replace("<details>", "<details open>")
+            script = ("<script>document.title = document.documentElement.scrollWidth + ' ' + [...document.querySelectorAll('.wide, pre, figure')]"
+                      ".filter((box) => box.scrollWidth > box.clientWidth + 1).length;</script></body>")
+            page.write_text(re.sub(r"<meta http-equiv[^>]*>", "", text).replace("</body>", script), encoding="utf-8")
+            frame = self.file(b'<iframe src="page.html" style="width:400px;height:900px;border:0"></iframe><script>'
+                              b'onload = () => document.title = document.querySelector("iframe").contentDocument.title;</script>', "frame.html")
+            shown = self.shown(browser, frame, "--allow-file-access-from-files", "--window-size=800,1000")
+            width, cut = re.search("<title>([0-9]+) ([0-9]+)</title>", shown).groups()
+            self.assertLessEqual(int(width), 400)
+            self.assertEqual(cut, "0")

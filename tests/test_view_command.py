@@ -1,0 +1,281 @@
+"""view/shb-view as a command: its files, its statuses, and the `shb` that it runs."""
+
+import os
+import pathlib
+import shutil
+import signal
+import subprocess
+import sys
+import threading
+
+import program
+import shb
+from viewing import EXAMPLES, VIEW, run, run_here, settings
+
+TRACE = EXAMPLES / "fork-join.std"
+REPORT = EXAMPLES / "fork-join.report"
+
+
+class Fake(program.Case):
+    """A test with an `shb` of its own."""
+
+    def fake(self, script, name="shb"):
+        """A program that runs this script, in which REAL is the built program."""
+        path = self.file(b"#!/bin/sh\n" + script.replace("REAL", str(program.PATH)).encode(), name)
+        path.chmod(0o755)
+        return path
+
+    def said(self, words, status=2):
+        """What is said where nothing is shown."""
+        answer = run_here(words)
+        self.assertEqual(answer[:2], (status, ""))
+        self.assertRegex(answer[2], r"\Ashb-view: [^\n]+\n\Z")
+        return answer[2][10:-1]
+
+
+class Running(Fake):
+    """How the program is run."""
+
+    def test_the_list_is_left_after_its_places(self):
+        """Its further lines are never read: here they have no end."""
+        script = """if [ $2 = --list ] && [ $1 = races ]; then
+printf 'shb-report 2\\nevents 7 threads 2 locks 0 variables 2\\nraces 900000000\\nplaces 1\\n'
+printf 'place 1: 900000000\\nat worker.c:3\\nand start.c:6\\n'; exec yes 'race 1: 4 5'; fi
+exec REAL "$@"
+"""
+        status, out, err = run_here(["--shb", self.fake(script), TRACE])
+        self.assertEqual((status, err), (0, ""))
+        self.assertEqual(out.splitlines()[0],
+                         "fork-join.std: 900,000,000 races at 1 pair of lines, in 1 group (7 events, 2 threads, 0 locks, 2 variables)")
+        self.assertIn("\n1. count and perhaps others: 2 threads write (900,000,000 races, 1 pair of lines)\n", out)
+        self.assertIn("     races with worker.c:3 (900,000,000 races)", out)
+
+    def test_no_schedules_where_they_would_be_long(self):
+        """A thousand places and 20,000 events: 140 MB. The program is asked for no schedule and checks nothing."""
+        events = "".join(f"A|w(x{k})|a:{k}\nB|w(x{k})|b:{k}\n" for k in range(1000)) + "A|r(y)|c:1\n" * 18000
+        log = self.folder / "log"
+        script = f'echo "$1 $2" >> {log}; exec REAL "$@"\n'
+        trace = self.file(events.encode())
+        status, out, err = run_here(["--all", "--shb", self.fake(script), trace])
+        self.assertEqual((status, err), (0, ""))
+        self.assertEqual(log.read_text().splitlines(), ["races --list", "places --list"])
+        self.assertEqual(out.splitlines()[1], "No schedules were made, since they would take over 100 MB; so nothing was checked.")
+        self.assertIn("No schedule of this race was checked: events are shown in the order of the trace.", out)
+        self.assertNotIn("come next", out)
+
+    def test_what_is_run(self):
+        log = self.folder / "log"
+        script = f'echo "$*" >> {log}; exec REAL "$@"\n'
+        self.assertEqual(run_here(["--shb", self.fake(script), TRACE])[0], 0)
+        self.assertEqual(log.read_text().splitlines(), [f"races --list {TRACE}", f"places {TRACE}", f"check {TRACE}"])
+
+    def test_a_name_like_an_option(self):
+        trace = self.file(TRACE.read_bytes(), "-t.std")
+        answer = subprocess.run([sys.executable, "-B", VIEW / "shb-view", "--", "-t.std"], cwd=self.folder, env=settings(),
+                                capture_output=True, timeout=program.SECONDS)
+        self.assertEqual((answer.returncode, answer.stderr), (0, b""))
+        self.assertTrue(answer.stdout.startswith(b"-t.std: 1 race "))
+
+    def test_a_refused_trace(self):
+        self.assertEqual(self.said([self.file(b"oops\n")]), "`shb` refuses the trace: line 1: the line has no operation field")
+
+    def test_a_killed_program(self):
+        self.assertEqual(self.said(["--shb", self.fake("kill -9 $$\n"), TRACE]), "`shb races --list` was ended by signal 9")
+        script = "[ $1 = places ] && kill -9 $$; exec REAL \"$@\"\n"
+        self.assertEqual(self.said(["--shb", self.fake(script), TRACE]), "`shb places` was ended by signal 9")
+        script = "[ $1 = check ] && kill -9 $$; exec REAL \"$@\"\n"
+        self.assertEqual(self.said(["--shb", self.fake(script), TRACE]), "`shb check` was ended by signal 9")
+
+    def test_a_program_that_fails(self):
+        script = "[ $1 = places ] && { echo 'out of memory' >&2; exit 4; }; exec REAL \"$@\"\n"
+        self.assertEqual(self.said(["--shb", self.fake(script), TRACE]), "`shb places` ended with status 4: out of memory")
+        self.assertEqual(self.said(["--shb", self.fake("exit 4\n"), TRACE]), "`shb races --list` ended with status 4")
+        self.assertEqual(self.said(["--shb", self.fake("echo hello\n"), TRACE]),
+                         "`shb races --list` wrote no report: line 1 of the report is `hello`; it should be `shb-report 2`")
+
+    def test_a_verdict_without_words(self):
+        script = "[ $1 = check ] && exit 5; exec REAL \"$@\"\n"
+        status, out, _ = run_here(["--shb", self.fake(script), TRACE])
+        self.assertEqual((status, out.splitlines()[0]), (
+            1, "`shb check` finds the report bad: it ended with status 5 and no word. What follows is only what the report says."))
+
+    def test_a_verdict_of_many_words(self):
+        """Also where the program writes more than a pipe holds, to both."""
+        script = "[ $1 = check ] && { yes bad | head -c 300000; yes 'line' | head -c 300000 >&2; exit 5; }; exec REAL \"$@\"\n"
+        status, out, _ = run_here(["--shb", self.fake(script), TRACE])
+        self.assertEqual(status, 1)
+        self.assertLess(len(out.splitlines()[0]), 400)
+        self.assertTrue(out.startswith("`shb check` finds the report bad: bad\\x0abad"))
+
+    def test_no_such_program(self):
+        none = self.folder / "no\nne"
+        said = f"`{self.folder}/no\\x0ane` can't be run (No such file or directory); SHB=PROGRAM names another `shb`"
+        self.assertEqual(self.said(["--shb", none, TRACE]), said)
+        answer = run([TRACE], env=program.with_settings(SHB=str(none)))
+        self.assertEqual((answer.status, answer.err.decode()), (2, f"shb-view: {said}\n"))
+
+    def test_where_it_finds_its_parts(self):
+        """In a checkout ../bin/shb; installed the package in ../lib/shb and ../bin/shb, also by a link."""
+        for command, package in (("top/view/shb-view", "top/view/shb_view"), ("usr/bin/shb-view", "usr/lib/shb/shb_view")):
+            command, package = self.folder / command, self.folder / package
+            shutil.copytree(VIEW / "shb_view", package, ignore=shutil.ignore_patterns("__pycache__"))
+            command.parent.mkdir(exist_ok=True, parents=True)
+            shutil.copy(VIEW / "shb-view", command)
+            bin_folder = command.parent.parent / "bin"
+            bin_folder.mkdir(exist_ok=True)
+            (bin_folder / "shb").symlink_to(program.PATH)
+            link = self.folder / f"link-{command.parent.name}"
+            link.symlink_to(command)
+            environment = {key: value for key, value in os.environ.items() if key != "SHB"}
+            for path in (command, link):
+                answer = run([TRACE], env=environment, command=path)
+                self.assertEqual((answer.status, answer.err), (0, b""))
+                self.assertIn(b"shb check: ok 1\n", answer.out)
+
+
+class Files(Fake):
+    def test_files_that_are_not_there(self):
+        none = self.folder / "no\x1bne"
+        shown = f"{self.folder}/no\\x1bne"
+        self.assertEqual(self.said([none]), f"{shown}: No such file or directory")
+        self.assertEqual(self.said([TRACE, none]), f"{shown}: No such file or directory")
+        self.assertEqual(self.said([self.folder]), f"{self.folder} isn't a regular file: the trace is read more than once")
+        self.assertEqual(self.said([TRACE, self.folder]), f"{self.folder}: Is a directory")
+        self.assertEqual(self.said(["--source", none, TRACE]), f"--source: {shown} isn't a folder")
+
+    def test_a_pipe_is_no_trace(self):
+        os.mkfifo(self.folder / "pipe")
+        self.assertEqual(self.said([self.folder / "pipe"]), f"{self.folder}/pipe isn't a regular file: the trace is read more than once")
+
+    def test_a_pipe_may_be_a_report(self):
+        pipe = self.folder / "pipe"
+        os.mkfifo(pipe)
+        writer = threading.Thread(target=lambda: pipe.write_bytes(REPORT.read_bytes()))
+        writer.start()
+        status, out, _ = run_here(["--check", TRACE, pipe])
+        writer.join()
+        self.assertEqual((status, out.splitlines()[1]), (0, "shb check: ok 1"))
+
+    def test_places_that_cannot_be_written(self):
+        self.assertEqual(self.said(["--html", self.folder, TRACE]), f"{self.folder} isn't a regular file")
+        path = self.folder / "no" / "page"
+        self.assertEqual(self.said(["--html", path, TRACE]), f"{path}: No such file or directory")
+
+    def test_the_place_is_tried_before_the_work(self):
+        fake = self.fake(f"touch {self.folder}/ran; exec REAL \"$@\"\n")
+        self.said(["--html", self.folder / "no" / "page", "--shb", fake, TRACE])
+        self.assertFalse((self.folder / "ran").exists())
+
+    def test_the_page_never_takes_the_place_of_an_input(self):
+        trace, report = self.file(TRACE.read_bytes()), self.file(REPORT.read_bytes(), "t.report")
+        hard, soft = self.folder / "hard", self.folder / "soft"
+        os.link(trace, hard)
+        soft.symlink_to(report)
+        for path, at in ((trace, trace), (report, report), (hard, trace), (soft, report)):
+            before = path.read_bytes()
+            self.assertEqual(self.said(["--html", path, trace, report]), f"the page would take the place of {at}")
+            self.assertEqual(path.read_bytes(), before)
+
+    def test_the_old_page_stays_where_a_new_one_fails(self):
+        page = self.file(b"old", "page.html")
+        self.said(["--html", page, "--shb", self.fake("kill -9 $$\n"), TRACE])
+        self.assertEqual(page.read_bytes(), b"old")
+        self.assertEqual(sorted(path.name for path in self.folder.iterdir()), ["page.html", "shb"])
+
+    def test_a_page_that_is_too_long_for_the_disk(self):
+        """Here for a limit of the shell; the fault names the page."""
+        page = self.file(b"old", "page.html")
+        words = [sys.executable, "-B", str(VIEW / "shb-view"), "--html", str(page), str(TRACE)]
+        script = 'ulimit -f 4; exec "$@"'  # blocks of 512 or 1,024 bytes: less than the style alone
+        answer = subprocess.run(["sh", "-c", script, "sh", *words], env=settings(), capture_output=True, timeout=program.SECONDS)
+        self.assertEqual((answer.returncode, answer.stderr.decode()), (2, f"shb-view: {page}: File too large\n"))
+        self.assertEqual((page.read_bytes(), len(list(self.folder.iterdir()))), (b"old", 1))
+
+    def test_a_new_page_has_the_usual_mode_and_a_link_is_replaced(self):
+        page, other = self.folder / "page.html", self.file(b"other", "other")
+        page.symlink_to(other)
+        mask = os.umask(0o027)
+        self.addCleanup(os.umask, mask)
+        self.assertEqual(run_here(["--html", page, TRACE])[0], 0)
+        self.assertEqual((page.is_symlink(), page.stat().st_mode & 0o777, other.read_bytes()), (False, 0o640, b"other"))
+
+    def test_an_encoding_that_lacks_a_character(self):
+        trace = self.file("A|w(größe…)\nB|w(größe…)\n".encode())
+        answer = run([trace], env=settings(PYTHONIOENCODING="ascii"))
+        self.assertEqual((answer.status, answer.err), (0, b""))
+        self.assertIn(rb"1. gr\xf6\xdfe\u2026: 2 threads write", answer.out)
+
+
+class Statuses(Fake):
+    def test_words(self):
+        self.assertEqual(run([]).status, 2)
+        self.assertEqual(run(["--help"]).status, 0)
+        answer = run(["a", "b", "c\x1b[31m"])
+        self.assertEqual((answer.status, answer.out), (2, b""))
+        self.assertTrue(answer.err.endswith(b"shb-view: unrecognized arguments: c\\x1b[31m\n"))
+        self.assertNotIn(b"\x1b", answer.err)
+
+    def test_a_nul_in_a_path(self):
+        with self.assertRaises(SystemExit) as ended:
+            run_here(["a\0b"])
+        self.assertEqual(ended.exception.code, 2)
+
+    def test_a_full_disk(self):
+        with open("/dev/full", "wb") as full:
+            answer = run([TRACE], stdout=full)
+        self.assertEqual((answer.status, answer.err), (2, b"shb-view: standard output: No space left on device\n"))
+
+    def test_a_reader_that_went_away(self):
+        read_end, write_end = os.pipe()
+        os.close(read_end)
+        with open(write_end, "wb") as closed:
+            self.assertEqual(run([TRACE], stdout=closed)[::2], (2, b""))
+
+    def test_closed_standard_files(self):
+        words = [sys.executable, "-B", str(VIEW / "shb-view")]
+
+        def closed(script, *more):
+            return subprocess.run(["sh", "-c", script, "sh", *words, *map(str, more)], env=settings(), capture_output=True,
+                                  timeout=program.SECONDS)
+
+        answer = closed('"$@" >&-', TRACE)
+        self.assertEqual((answer.returncode, answer.stderr), (2, b"shb-view: standard output is closed\n"))
+        whole = run([TRACE]).out
+        answer = closed('"$@" 2>&-', TRACE)
+        self.assertEqual((answer.returncode, answer.stdout), (0, whole))
+        answer = closed('"$@" <&- 2>&-', self.folder / "none")
+        self.assertEqual((answer.returncode, answer.stdout), (2, b""))
+        page = self.folder / "page.html"
+        answer = closed('"$@" <&- >&- 2>&-', "--html", page, TRACE)
+        self.assertEqual(answer.returncode, 0)
+        self.assertTrue(page.read_bytes().endswith(b"</html>\n"))
+        self.assertEqual(closed('"$@" <&-', TRACE, "-").returncode, 1)  # an empty report
+
+    def test_stopped(self):
+        """By the signal of a terminal, while `shb` runs."""
+        started = self.folder / "started"
+        fake = self.fake(f"touch {started}; exec sleep 20\n")
+        ran = subprocess.Popen([sys.executable, "-B", VIEW / "shb-view", "--shb", fake, TRACE], stdout=subprocess.PIPE,
+                               stderr=subprocess.PIPE)
+        while not started.exists():
+            self.assertIsNone(ran.poll())
+        ran.send_signal(signal.SIGINT)
+        out, err = ran.communicate(timeout=program.SECONDS)
+        self.assertEqual((ran.returncode, out, err), (2, b"", b"shb-view: stopped\n"))
+
+    def test_out_of_memory(self):
+        from shb_view import command
+
+        def fails(*_):
+            raise MemoryError
+
+        kept, command.make_view = command.make_view, fails
+        self.addCleanup(setattr, command, "make_view", kept)
+        self.assertEqual(self.said([TRACE]), "out of memory")
+
+    def test_a_trace_that_was_changed(self):
+        """`shb` reads one trace, the view another."""
+        trace = self.file(TRACE.read_bytes())
+        script = f"REAL \"$@\"; status=$?; [ $1 = check ] && printf 'A|w(count)|x\\n' >> {trace}; exit $status\n"
+        self.assertEqual(self.said(["--shb", self.fake(script), trace]),
+                         "the trace isn't the one that `shb` read: it was changed in between")

@@ -1,0 +1,154 @@
+"""Which reports view/shb-view takes, and what it says of others."""
+
+import io
+import random
+import re
+
+import judge
+import made_traces
+import program
+import shb
+from viewing import EXAMPLES, MADE, made, run_here, sections
+
+from shb_view.faults import BadReport
+from shb_view.report import Lines
+
+
+class Taken(program.Case):
+    def test_every_form(self):
+        for _, text, events in made(MADE // 3):
+            races = shb.places_of(shb.races_and_schedules(events), shb.read_trace(text)[1])
+            wanted = {}
+            for (one, other), count in races.items():
+                pair = tuple(sorted((one, other)))
+                wanted[pair] = wanted.get(pair, 0) + count
+            for version in (1, 2):
+                for schedules in (False, True):
+                    found = sections(text, shb.report(text, schedules, version), schedules or None)
+                    self.assertEqual({pair.locations: pair.races for section in found for pair in section.group.pairs}, wanted)
+
+    def test_leading_races_alone(self):
+        trace = (EXAMPLES / "places.std").read_bytes()
+        report = (b"shb-report 2\nevents 4 threads 4 locks 0 variables 1\nraces 2\nplaces 2\n"
+                  b"place 1: 1\nat Counter.java:12\nand Counter.java:12\nplace 2: 1\nat Report.java:30\nand Counter.java:12\n"
+                  b"race 1: 1 2\nfirst T1|w(total)|Counter.java:12\n"
+                  b"second T2|w(total)|Counter.java:12\nschedule 0:\nrace 2: 3 4\nfirst T3|r(total)|Report.java:30\n"
+                  b"second T4|w(total)|Counter.java:12\nschedule 0:\nend\n")
+        self.assertEqual(judge.verdict(trace, report), b"ok 2\n")
+        [section] = sections(trace, report)
+        self.assertEqual({pair.locations: pair.races for pair in section.group.pairs},
+                         {(b"Counter.java:12", b"Counter.java:12"): 1, (b"Counter.java:12", b"Report.java:30"): 1})
+
+    def test_changed_reports(self):
+        """A good report is shown, and one whose form, counts or places are wrong is refused; `check` judges schedules."""
+        shown = refused = 0
+        for pick, text, _ in made(MADE):
+            good = shb.report(text, True, pick.choice([1, 2]))
+            for report in [made_traces.changed(pick, good) for _ in range(5)]:
+                verdict = judge.verdict(text, report).decode()
+                try:
+                    sections(text, report, None)
+                except BadReport:
+                    self.assertNotEqual(verdict[:3], "ok ")
+                    refused += 1
+                else:
+                    self.assertTrue(self.may_be_shown(report, verdict), verdict)
+                    shown += 1
+        self.assertGreater(min(shown, refused), 10)
+
+    def may_be_shown(self, report, verdict):
+        if verdict.startswith("bad line"):
+            bad = (report.split(b"\n") + [b""])[int(verdict.split()[2]) - 1]
+            return bad.startswith(b"schedule ") or b"\nschedule " not in report
+        return verdict.startswith(("ok ", "bad race "))
+
+    def test_the_longest_location_and_line(self):
+        location = b"f" * 4086 + b":1"
+        trace = b"A|w(x)|" + location + b"\nB|w(x)|\n"
+        [section] = sections(trace, shb.report(trace, True))
+        self.assertEqual(section.group.pairs[0].locations, (b"", location))
+
+    def test_a_long_schedule_is_passed_over_in_pieces(self):
+        events = b"".join(b" %d" % k for k in range(1, 20001))
+        lines = Lines(io.BytesIO(b"schedule 20000:" + events + b"\nend\n"))
+        self.assertEqual((lines.pass_schedule(), lines.number, lines.line), (0, 1, b"end\n"))
+
+
+class Refused(program.Case):
+    TRACE = b"A|r(a)|1\nB|r(b)|2\nA|w(x)|3\nB|w(x)|4\nB|r(y)|5\nA|acq(x)|6\n"
+
+    def refused(self, words, status=1):
+        answer = run_here(words)
+        self.assertEqual(answer[:2], (status, ""))
+        self.assertRegex(answer[2], r"\Ashb-view: [^\n]+\n\Z")
+        return answer[2][10:-1]
+
+    def test_words_by_hand(self):
+        report = shb.report(self.TRACE, True)
+        self.assertIn(b"schedule 2: 1 2\n", report)
+        other = "the report is of another trace: "
+        race = "race 1 of the report: "
+        for old, new, said in (
+            (b"events 6", b"events 5", other + "this one has 6 events, not 5"),
+            (b"threads 2 locks 1", b"threads 3 locks 0", other + "this one has 2 threads, not 3; 1 lock, not 0"),
+            (b"first A|w(x)|3", b"first A|w(x)|9", "the places that the report begins with aren't those of its races"),
+            (b"second B|w(x)|4", b"second C|w(x)|4", other + "it has another line for event 4"),
+            (b"race 1: 3 4", b"race 1: 1 4", other + "it names events that aren't accesses to its variables"),
+            (b"race 1: 3 4", b"race 1: 4 3", race + "4 and 3 aren't two events of the trace, the earlier first"),
+            (b"race 1: 3 4", b"race 1: 3 7", race + "3 and 7 aren't two events of the trace, the earlier first"),
+            (b"race 1: 3 4", b"race 1: 0 4", race + "0 and 4 aren't two events of the trace, the earlier first"),
+            (b"first A|w(x)|3", b"first B|w(x)|3", race + "the events 3 and 4 don't conflict"),
+            (b"first A|w(x)|3", b"first A|w(z)|3", race + "the events 3 and 4 don't conflict"),
+            (b"first A|w(x)|3\nsecond B|w(x)|4", b"first A|r(x)|3\nsecond B|r(x)|4", race + "the events 3 and 4 don't conflict"),
+            (b"first A|w(x)|3", b"first A|acq(x)|3", "line 9 of the report is `first A|acq(x)|3`; it should be `first ACCESS`"),
+            (b"race 1: 3 4", b"race 2: 3 4", "line 8 of the report has the number 2; it should be `race 1: I J`"),
+            (b"schedule 2: 1 2", b"schedule x: 1 2", "line 11 of the report is `schedule x: 1 2`; it should be `schedule N: N EVENTS`"),
+            (b"at 3", b"at 4", "the places that the report begins with aren't those of its races"),
+            (b"end\n", b"end", "line 12 of the report is cut off: `end`; it should be `end`"),
+            (b"end\n", b"", "line 12 of the report is missing; it should be `end`"),
+            (b"end\n", b"end\n\n", "line 13 of the report stands after `end`"),
+            (b"shb-report 2", b"shb-report 3", "line 1 of the report is `shb-report 3`; it should be `shb-report 2`"),
+            (b"shb-report 2", b"\x1b[31m\xff", "line 1 of the report is `\\x1b[31m\\xff`; it should be `shb-report 2`"),
+            (b"shb-report 2", b"x" * 70, f"line 1 of the report is `{'x' * 29}…{'x' * 30}`; it should be `shb-report 2`"),
+            (b"shb-report 2", b"x" * 5000, f"line 1 of the report is too long: `{'x' * 29}…{'x' * 30}`; it should be `shb-report 2`"),
+            (b"races 1", b"races " + b"9" * 21, f"line 3 of the report is `races {'9' * 21}`; it should be `races R`"),
+        ):
+            self.assertIn(old, report)
+            words = [self.file(self.TRACE), self.file(report.replace(old, new), "t.report")]
+            self.assertEqual(self.refused(words), said)
+
+    def test_the_verdict_is_said_with_a_report_that_cannot_be_read(self):
+        report = shb.report(self.TRACE, True).replace(b"end\n", b"", 1)
+        said = self.refused(["--check", self.file(self.TRACE), self.file(report, "t.report")])
+        self.assertEqual(said, "line 12 of the report is missing; it should be `end`; `shb check` says `bad line 12`")
+
+    def test_truncated(self):
+        report = shb.report(self.TRACE, True)
+        trace = self.file(self.TRACE)
+        for end in range(len(report)):
+            self.refused([trace, self.file(report[:end], "t.report")])
+        whole = self.file(report, "t.report")
+        for end in range(0, len(self.TRACE) - 8, 3):
+            self.refused([self.file(self.TRACE[:end]), whole], run_here([self.file(self.TRACE[:end])])[0] or 1)
+
+    def test_random_bytes(self):
+        pick = random.Random(3)
+        trace = self.file(self.TRACE, "good.std")
+        for _ in range(100):
+            noise = self.file(bytes(pick.choices(range(256), k=pick.randrange(1, 300))) + b"!", "noise")
+            self.refused([trace, noise])
+
+    def test_other_encodings(self):
+        for encoding in ("utf-16", "utf-32", "utf-8-sig"):
+            report = shb.report(self.TRACE, True).decode().encode(encoding)
+            self.refused([self.file(self.TRACE), self.file(report, "t.report")])
+
+    def test_numbers_without_end(self):
+        for line in (b"races " + b"9" * 4000, b"races 18446744073709551615", b"places 99999999999999999999"):
+            report = re.sub(rb"\n%b 1\n" % line.split()[0], b"\n" + line + b"\n", shb.report(self.TRACE, True))
+            self.assertIn(line, report)
+            self.refused([self.file(self.TRACE), self.file(report, "t.report")])
+
+    def test_a_report_without_end(self):
+        with open("/dev/zero", "rb") as zeros, self.assertRaisesRegex(BadReport, "line 1 of the report is too long"):
+            Lines(zeros).next(re.compile(b"shb"), "shb-report 2")

@@ -1,0 +1,184 @@
+"""The lines of code that view/shb-view shows: which file of which folder, and what is said where there is none."""
+
+import os
+
+import program
+from viewing import run_here
+
+from shb_view.source import Source, excerpt
+
+CODE = b"""\
+#include <stdio.h>
+
+static int total;
+
+void *run(void *unused) {
+    for (int k = 0; k < 3; k++) {
+\tlock(&door);
+        total++;
+again:
+        unlock(&door);
+    }
+    return unused;
+}
+"""
+
+
+class Found(program.Case):
+    def put(self, path, text=b"one\ntwo\nthree\n", time=1000):
+        path = self.folder / path
+        path.parent.mkdir(parents=True, exist_ok=True)
+        path.write_bytes(text)
+        os.utime(path, (time, time))
+        return path
+
+    def place(self, location, *folders):
+        return Source([self.folder / folder for folder in folders or ["src"]], 2000).place(location)
+
+    def test_by_base_name(self):
+        self.put("src/deep/a.c")
+        place = self.place(b"a.c:2")
+        self.assertEqual((place.path, place.line(), place.fault), (b"deep/a.c", b"two", ""))
+        self.assertEqual(self.place(b"a.c:2:17").line(), b"two")
+        self.assertEqual(self.place(b"other/folder/a.c:3").line(), b"three")
+
+    def test_no_line_of_a_file(self):
+        self.put("src/a.c")
+        for location in (b"", b"a.c", b"a.c:", b":3", b"a.c:x", b"b.c:1", b"a.c:1 ", b"a.c:1\n"):
+            self.assertIsNone(self.place(location))
+
+    def test_a_location_is_never_a_path(self):
+        secret = self.put("secret.c")
+        self.put("src/a.c")
+        for location in (b"../secret.c:1", bytes(secret) + b":1", b"./../secret.c:1", b"a.c/../../secret.c:1", b"..:1", b".:1"):
+            self.assertIsNone(self.place(location))
+
+    def test_the_longest_common_end_decides(self):
+        self.put("src/one/util.c", b"1\n")
+        self.put("src/two/util.c", b"2\n")
+        self.assertEqual(self.place(b"/build/two/util.c:1").line(), b"2")
+        self.assertEqual(self.place(b"one/util.c:1").line(), b"1")
+        for location in (b"util.c:1", b"three/util.c:1"):
+            place = self.place(location)
+            self.assertEqual((place.line(), place.fault), (None, "2 files are named util.c; record with `shb-std -p`"))
+
+    def test_the_first_folder_counts(self):
+        self.put("new/util.c", b"new\n")
+        self.put("src/util.c", b"old\n")
+        self.assertEqual(self.place(b"util.c:1", "new", "src").line(), b"new")
+        self.assertEqual(self.place(b"util.c:1", "src", "new").line(), b"old")
+
+    def test_a_line_beyond_the_end(self):
+        self.put("src/a.c")
+        for location in (b"a.c:4", b"a.c:0"):
+            place = self.place(location)
+            self.assertEqual((place.line(), place.fault), (None, "the file has 3 lines"))
+
+    def test_a_newer_file(self):
+        self.put("src/a.c", time=2001)
+        place = self.place(b"a.c:1")
+        self.assertEqual((place.line(), place.fault), (b"one", "the file is newer than the trace; its lines may have moved"))
+
+    def test_links_and_hidden_folders_are_passed_over(self):
+        target = self.put("target.c")
+        self.put("src/.git/hidden.c")
+        (self.folder / "src" / "a.c").symlink_to(target)
+        (self.folder / "src" / "loop").symlink_to(self.folder)
+        os.mkfifo(self.folder / "src" / "pipe.c")
+        for location in (b"a.c:1", b"hidden.c:1", b"target.c:1", b"pipe.c:1"):
+            self.assertIsNone(self.place(location))
+
+    def test_a_long_file(self):
+        self.put("src/a.c", b"x\n" * 2_000_001)
+        self.assertEqual(self.place(b"a.c:1")[2:4], ([], "the file is longer than 4,000,000 bytes"))
+        self.put("src/b.c", b"x\n" * 2_000_000)
+        self.assertEqual(self.place(b"b.c:1").line(), b"x")
+
+    def test_a_file_that_cannot_be_read(self):
+        path = self.put("src/a.c")
+        source = Source([self.folder / "src"], 2000)
+        path.unlink()
+        path.symlink_to("/etc/passwd")
+        self.assertEqual(source.place(b"a.c:1")[2:4], ([], "the file can't be read (Too many levels of symbolic links)"))
+
+    def test_what_is_found(self):
+        self.put("src/a.c", time=2001)
+        self.put("src/b.c")
+        source = Source([self.folder / "src"], 2000)
+        said = f"Source lines of {self.folder}/src: "
+        self.assertEqual(source.summary([b"a.c:1", b"a.c:2", b"b.c:1", b"c.c:1", b"?"]), said + "2 of 3 files found, 1 newer than the trace.")
+        self.assertEqual(source.summary([b"b.c:1"]), said + "1 of 1 file found, none newer than the trace.")
+
+
+class Excerpts(program.Case):
+    def excerpt(self, location, acquire=None, code=CODE):
+        self.file(code, "a.c")
+        source = Source([self.folder], 1e12)
+        found = excerpt(source.place(location), source.place(acquire) if acquire else None)
+        return found.head, list(found.numbers), list(found.held)
+
+    def test_three_lines_before_and_two_after(self):
+        self.assertEqual(self.excerpt(b"a.c:8"), (b"void *run(void *unused) {", [5, 6, 7, 8, 9, 10], []))
+
+    def test_at_the_ends_of_the_file(self):
+        self.assertEqual(self.excerpt(b"a.c:1"), (b"", [1, 2, 3], []))
+        self.assertEqual(self.excerpt(b"a.c:13")[1], [10, 11, 12, 13])
+
+    def test_a_label_is_no_head(self):
+        self.assertEqual(self.excerpt(b"a.c:10")[0], b"void *run(void *unused) {")
+
+    def test_the_bar_from_the_acquire(self):
+        self.assertEqual(self.excerpt(b"a.c:10", b"a.c:7")[2], [7, 8, 9, 10])
+
+    def test_no_bar_from_another_function_or_from_after_the_access(self):
+        for acquire in (b"a.c:3", b"a.c:11", b"b.c:7", b"a.c:99"):
+            self.assertEqual(self.excerpt(b"a.c:8", acquire)[2], [])
+
+    def test_a_near_acquire_is_shown_and_a_far_one_not(self):
+        for lines, first in ((12, 2), (13, 12)):
+            code = b"void f(void) {\nlock();\n" + b" x;\n" * 30
+            found = self.excerpt(b"a.c:%d" % (2 + lines), b"a.c:2", code)
+            self.assertEqual((found[1][0], found[2][0]), (first, 2))
+
+
+class Shown(program.Case):
+    TRACE = b"A|acq(door)|a.c:7\nA|w(total)|a.c:8\nA|rel(door)|a.c:10\nB|r(total)|a.c:3\n"
+
+    def shown(self, *words):
+        self.file(CODE, "a.c")
+        os.utime(self.folder / "a.c", (1000, 1000))
+        status, out, err = run_here([*words, "--source", self.folder, self.file(self.TRACE)])
+        self.assertEqual((status, err), (0, ""))
+        return out
+
+    def test_text_by_hand(self):
+        self.assertEqual(self.shown().splitlines()[2:], [
+            f"Source lines of {self.folder}: 1 of 1 file found, none newer than the trace.", "",
+            "1. total: a.c:3 is without door (1 race, 1 pair of lines)",
+            "   In this run every write holds door, and a.c:3 reads without it.",
+            "   a.c:8: 1 write by A", "     | total++;", "     holds door", "     races with a.c:3 (1 race)",
+            "   a.c:3: 1 read by B", "     | static int total;", "     no lock in the trace", "     races with a.c:8 (1 race)"])
+
+    def test_page_by_hand(self):
+        from test_view_page import Page
+
+        path = self.folder / "page.html"
+        self.shown("--html", path)
+        page = Page(path.read_text(encoding="utf-8"))
+        self.assertEqual([text for _, text in page.all("figcaption")],
+                         ["1 a.c:8 writes, holding doorin void *run(void *unused)", "2 a.c:3 reads, no lock in the trace"])
+        rows = [text for _, text in page.all("tr") if text.startswith(("5", "6", "7", "8", "9", "10"))]
+        self.assertEqual(rows[:6], ["5void *run(void *unused) {", "6    for (int k = 0; k < 3; k++) {", "7        lock(&door);",
+                                    "81        total++;", "9again:", "10        unlock(&door);"])
+        self.assertEqual([attributes["class"] for attributes, _ in page.all("td", "lock")],
+                         ["lock", "lock", "lock on", "lock on", "lock", "lock"] + ["lock"] * 5)
+        self.assertEqual([text for attributes, text in page.all("tr", "hit")], ["81        total++;", "32static int total;"])
+        self.assertEqual([text for attributes, text in page.all("td") if attributes.get("data-head") == "Code"],
+                         ["total++;", "static int total;"])
+
+    def test_a_fault_is_said_beside_the_code(self):
+        self.shown()
+        os.utime(self.folder / "a.c")
+        os.utime(self.folder / "t.std", (1000, 1000))
+        out = run_here(["--source", self.folder, self.folder / "t.std"])[1]
+        self.assertIn("     | total++;\n     | (the file is newer than the trace; its lines may have moved)\n", out)

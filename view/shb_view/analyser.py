@@ -1,0 +1,92 @@
+"""Runs `shb`."""
+
+import os
+import subprocess
+import tempfile
+import typing
+
+from shb_view.faults import BadReport, Refused
+from shb_view.names import short
+from shb_view.report import Report
+
+MOST_BYTES = 4_096  # of the program's words that are looked at
+MOST_SAID = 200  # columns of the program's words that are shown
+MOST_LISTED = 100_000  # races of a list that is read to its end
+BAD = 5  # the status of `shb check` for a bad report
+REFUSED = 2  # the status of `shb` for a refused trace
+
+
+class Verdict(typing.NamedTuple):
+    """What is known of a report. `is_good` is None where it wasn't judged."""
+
+    is_good: typing.Optional[bool]
+    words: str
+
+
+class Analyser:
+    def __init__(self, program, trace):
+        self.program, self.trace = str(program), os.path.abspath(trace)
+        self.errors = tempfile.TemporaryFile()  # what the program says on standard error
+
+    def started(self, words, **how):
+        self.errors.seek(0)
+        self.errors.truncate()
+        try:
+            return subprocess.Popen([self.program, *words, self.trace], stderr=self.errors, **how)
+        except OSError as fault:
+            name = short(os.fsencode(self.program), MOST_SAID)
+            raise Refused(f"`{name}` can't be run ({fault.strerror}); SHB=PROGRAM names another `shb`") from None
+
+    def head(self, take):
+        """What `races --list` begins with. The accesses of its races are given to `take`, if there is one and the races
+        are few; else the rest isn't read."""
+        words = ["races", "--list"]
+        with self.started(words, stdin=subprocess.DEVNULL, stdout=subprocess.PIPE) as process:
+            try:
+                report = Report(process.stdout)
+                if take and report.head.races <= MOST_LISTED:
+                    for _, accesses in report.races(lambda done: None):
+                        take(*accesses)
+                return report.head
+            except BadReport as fault:
+                self.end(words, process, (0,))
+                raise Refused(f"`shb races --list` wrote no report: {fault}") from None
+            finally:
+                process.stdout.close()
+                process.kill()
+
+    def write_places(self, with_schedules, file):
+        """Writes the report of one race of each place."""
+        words = ["places"] if with_schedules else ["places", "--list"]
+        with self.started(words, stdin=subprocess.DEVNULL, stdout=file) as process:
+            self.end(words, process, (0,))
+        file.seek(0)
+
+    def check(self, file):
+        """The verdict of `shb check`."""
+        file.seek(0)
+        with self.started(["check"], stdin=file, stdout=subprocess.PIPE) as process:
+            verdict = process.stdout.read(MOST_BYTES)
+            while process.stdout.read(MOST_BYTES):
+                pass
+            status = self.end(["check"], process, (0, BAD))
+        file.seek(0)
+        said = short(verdict.rstrip(b"\n"), MOST_SAID) or f"it ended with status {status} and no word"
+        return Verdict(status == 0, said)
+
+    def end(self, words, process, good):
+        """Waits for the end of a process. Refused where its status isn't one of the good ones."""
+        if process.stdout:
+            process.stdout.close()
+        try:
+            status = process.wait()
+        finally:
+            process.kill()
+        if status in good:
+            return status
+        self.errors.seek(0)
+        said = short(self.errors.read(MOST_BYTES).rstrip(b"\n"), MOST_SAID)
+        if status == REFUSED and said:
+            raise Refused(f"`shb` refuses the trace: {said}")
+        how = f"was ended by signal {-status}" if status < 0 else f"ended with status {status}"
+        raise Refused(f"`shb {' '.join(words)}` {how}{': ' if said else ''}{said}")

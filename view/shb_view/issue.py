@@ -1,0 +1,52 @@
+"""A race as a text that can be pasted into an issue."""
+
+from shb_view.names import code_line, short
+from shb_view.words import KINDS, NO_LOCK, Code, counted, listed, place
+
+NAME = 120  # columns
+
+
+def flat(parts):
+    return "".join(short(part, NAME) if isinstance(part, Code) else part for part in parts)
+
+
+def issue_lines(view, section):
+    """The group's closest race with its threads, locks and lines of code, and what the trace says of the group."""
+    window = section.window
+    one, other = (window.events[access].event for access in window.accesses)
+    locations = tuple(sorted((one.location, other.location)))
+    races = next(pair.races for pair in section.group.pairs if pair.locations == locations)
+    yield f"data race on {short(one.name, NAME)}: {flat([place(one.location), ' and ', place(other.location)])}"
+    yield f"(one of {counted(races, 'race')} of these two lines in a recorded run)" if races > 1 else "(one race in a recorded run)"
+    for access in window.accesses:
+        yield from access_lines(view, window, access)
+    yield f"  {flat(section.fact.sentence)}"
+    yield f"  {order_text(window)}"
+
+
+def access_lines(view, window, access):
+    """An access, its line of code, the locks that its thread holds, and how the thread was started."""
+    shown, fork = window.events[access], window.forks[access]
+    event = shown.event
+    yield f"  {KINDS[event.word]} by {flat([Code(event.thread), ' at ', place(event.location)])} (event {access})"
+    source = view.source.place(event.location)
+    if source and source.line() is not None:
+        yield f"      {code_line(source.line().strip(), NAME)}"
+    for lock, acquire in shown.locks:
+        at = place(window.events[acquire].event.location)
+        yield f"    holds {flat([Code(lock), ', acquired at ', at])} (event {acquire})"
+    if shown.held > len(shown.locks):
+        yield f"    and {counted(shown.held - len(shown.locks), 'more lock')}"
+    if not shown.held:
+        yield f"    {NO_LOCK}"
+    if fork:
+        start = window.events[fork].event
+        yield f"    thread started by {flat([Code(start.thread), ' at ', place(start.location)])} (event {fork})"
+
+
+def order_text(window):
+    """How the two accesses come next, as far as it is known."""
+    if window.length is not None:
+        return (f"`shb check` found the schedule of race {window.race.number} good: after its {counted(window.length, 'event')} "
+                "both accesses come next.")
+    return "No schedule of this race was checked: events are shown in the order of the trace."

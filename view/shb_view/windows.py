@@ -1,0 +1,160 @@
+"""The second pass over a trace: what is shown before two racing accesses, and what orders it."""
+
+import collections
+import typing
+
+from shb_view.held import Held
+from shb_view.trace import Event, event_of, without_end
+
+
+class Shown(typing.NamedTuple):
+    """An event that is shown. `previous` is the event before it in its thread, or 0. `source` is the event of another thread that
+    it waits for or sees: for an acquire the last release of the lock, for a read the last write, for a join the thread's last
+    event; or 0. `locks` and `held` are as `Held.newest` has them; `frees` says whether it makes a lock free."""
+
+    number: int
+    row: int
+    line: bytes
+    event: Event
+    previous: int
+    source: int
+    locks: typing.Tuple[typing.Tuple[bytes, int], ...]
+    held: int
+    frees: bool
+
+
+class Moment(typing.NamedTuple):
+    """What the pass notes at an event."""
+
+    previous: int
+    locks: typing.Tuple[typing.Tuple[bytes, int], ...]
+    held: int
+    frees: bool
+
+
+class Window(typing.NamedTuple):
+    """A race with what comes before it. `before` are the events before the accesses in the order of its schedule or of the trace;
+    `edges` are pairs of events of different threads, the earlier first; `forks` has the fork of each access's thread, or 0;
+    `length` is that of the schedule, or None."""
+
+    race: typing.Any
+    accesses: typing.Tuple[int, int]
+    before: typing.List[int]
+    edges: typing.List[typing.Tuple[int, int]]
+    forks: typing.Dict[int, int]
+    events: typing.Dict[int, Shown]
+    length: typing.Optional[int]
+
+
+class Moments:
+    """Notes the wanted events, and of some operations the last one before each wanted event."""
+
+    def __init__(self, wanted, sources):
+        """`sources` has for an event the operation that it waits for or sees, `w(X)` or `rel(L)`."""
+        self.wanted, self.sources = wanted, sources
+        self.tracked = set(sources.values())
+        self.latest = {}  # of a tracked operation: its last event, its thread and its moment
+        self.moments = {}
+        self.found = {}  # by event: its source, where that is an event of another thread
+        self.held = collections.defaultdict(Held)  # by thread
+        self.last = {}  # by thread
+
+    def read(self, trace):
+        wanted, tracked, last, end = self.wanted, self.tracked, self.last, max(self.wanted, default=0)
+        for first, lines in trace.batches("reading what comes before"):
+            for number, line in enumerate(lines, first):
+                fields = line.split(b"|", 2)
+                thread, operation = fields[0], fields[1]
+                if len(fields) == 2:
+                    operation = without_end(operation)
+                if number in wanted or operation in tracked:
+                    self.note(number, thread, operation)
+                if operation[1:2] != b"(":
+                    self.take(number, thread, operation)
+                last[thread] = number
+            if first + len(lines) > end:
+                break
+
+    def note(self, number, thread, operation):
+        held = self.held[thread]
+        frees = operation.startswith(b"rel(") and held.is_last_release(operation[4:-1])
+        moment = Moment(self.last.get(thread, 0), *held.newest(), frees)
+        if number in self.wanted:
+            self.moments[number] = moment
+            source, by, its_moment = self.latest.get(self.sources.get(number), (0, thread, None))
+            if by != thread:
+                self.found[number] = source
+                self.moments[source] = its_moment
+        if operation in self.tracked:
+            self.latest[operation] = number, thread, moment
+
+    def take(self, number, thread, operation):
+        """Keeps the locks that the thread holds."""
+        word, _, lock = operation[:-1].partition(b"(")
+        if word == b"acq":
+            self.held[thread].acquire(lock, number)
+        elif word == b"rel":
+            self.held[thread].release(lock)
+
+
+def make_windows(trace, races, counting, order):
+    """A window for each race. `order` gives some events in the order of a race's schedule, and the schedule's length."""
+    accesses = {access for race in races for access in (race.first, race.second)}
+    before = {event for access in accesses for event in counting.noted[access].before}
+    forks = {access: counting.forks.get(race_thread, 0) for access, race_thread in threads_of(races)}
+    acquires = {acquire for access in accesses for _, acquire in counting.noted[access].locks}
+    events = {number: event_of(found.line) for number, found in trace.find(before).items()}
+    joined = {number: counting.recent[event.name][-1] for number, event in events.items()
+              if event.word == b"join" and counting.recent.get(event.name)}
+    moments = Moments({*accesses, *before, *filter(None, forks.values()), *acquires, *joined.values()}, sources_of(events))
+    moments.read(trace)
+    moments.found.update(joined)
+    found = trace.find(moments.moments)
+    shown = {number: Shown(number, *found[number], event_of(found[number].line), moment.previous,
+                           moments.found.get(number, 0), *moment[1:]) for number, moment in moments.moments.items()}
+    return [window(race, counting, forks, shown, order) for race in races]
+
+
+def threads_of(races):
+    """The accesses of some races, each with its thread."""
+    for race in races:
+        for access, line in ((race.first, race.first_line), (race.second, race.second_line)):
+            yield access, event_of(line).thread
+
+
+def sources_of(events):
+    """For each acquire and each read the operation that is its source."""
+    found = {}
+    for number, event in events.items():
+        if event.word == b"acq":
+            found[number] = b"rel(" + event.name + b")"
+        elif event.word == b"r":
+            found[number] = b"w(" + event.name + b")"
+    return found
+
+
+def window(race, counting, forks, shown, order):
+    """What is shown of a race. The last write of an access isn't, since a schedule needn't have it."""
+    accesses = race.first, race.second
+    before, starts = set(), {}
+    for access in accesses:
+        noted = counting.noted[access]
+        before.update(noted.before, (acquire for _, acquire in noted.locks))
+        for event in (*noted.before, access):
+            if not shown[event].previous and forks[access]:
+                starts[event] = forks[access]
+        before.update(starts.values(), filter(None, (shown[event].source for event in noted.before)))
+    before = {event for event in before if stands_before(shown, event, accesses)}
+    ordered, length = order(race, sorted(before))
+    edges = [(source, event) for event in (*ordered, *accesses) for source in (starts.get(event, 0), own_source(shown, event, accesses))
+             if source in before]
+    return Window(race, accesses, ordered, edges, forks, shown, length)
+
+
+def own_source(shown, event, accesses):
+    return 0 if event in accesses else shown[event].source
+
+
+def stands_before(shown, event, accesses):
+    """Whether neither access, nor an event after one in its thread, is this event."""
+    return all(event < access or shown[event].event.thread != shown[access].event.thread for access in accesses)

@@ -1,0 +1,101 @@
+"""Words that the text and the page share. What is said is a list of parts: plain text, and names as `Code`."""
+
+from shb_view.names import short
+
+KINDS = {b"r": "read", b"w": "write"}
+MOST_SITES = 20  # lines that are shown of a group
+MOST_LOCKS, MOST_SOME, MOST_PARTNERS, MOST_THREADS = 8, 3, 8, 3  # that are named at a line; MOST_SOME are held at some accesses
+MOST_VARIABLES = 8  # that are named of a group
+NO_LOCK = "no lock in the trace"
+
+
+class Code(bytes):
+    """A name of the trace or a location, as bytes."""
+
+
+def operation_text(event, most):
+    """An event's operation in so many columns."""
+    operation = event.word + b"(" + event.name + b")" if event.name else event.word
+    return short(operation, most)
+
+
+def counted(count, word, words=None):
+    return f"{count:,} {word if count == 1 else words or word + 's'}"
+
+
+def place(location):
+    """A location as a part."""
+    return Code(location) if location else "(no location)"
+
+
+def listed(items, most):
+    """Items, each a list of parts, with commas and an `and` between them; after so many it is said how many more there are."""
+    items = list(items)
+    if len(items) > most:
+        items = [*items[:most], [f"{len(items) - most:,} more"]]
+    found = []
+    for number, parts in enumerate(items):
+        if number:
+            found.append(" and " if number == len(items) - 1 else ", ")
+        found.extend(parts)
+    return found
+
+
+def lock_words(site, lock):
+    """What is said of the locks held at a line: pairs of `held`, `some` or `none`, and parts. `lock` is the one that the group's
+    fact is about, or None."""
+    total = site.total()
+    names = sorted(site.locks, key=lambda name: (-site.locks[name], name))
+    always = [name for name in names if site.locks[name] == total][:MOST_LOCKS]
+    some = [name for name in names if site.locks[name] < total][:MOST_SOME]
+    found = [("held", ["holds ", Code(name)]) for name in always]
+    found += [("some", ["holds ", Code(name), f" at {site.locks[name]:,} of {total:,}"]) for name in some]
+    if len(names) > len(always) + len(some):
+        found.append(("some", [f"and {len(names) - len(always) - len(some):,} more"]))
+    if site.bare:
+        found.append(("none", [NO_LOCK]) if site.bare == total else ("some", [NO_LOCK, f" at {site.bare:,} of {total:,}"]))
+    if lock and site.bare < total and not site.locks[lock] and not site.unknown:
+        found.append(("none", ["without ", Code(lock)]))
+    if site.unknown:
+        found.append(("some", [f"locks not counted at {site.unknown:,} of {total:,}"]))
+    return found
+
+
+def accesses_text(site):
+    """How often a line reads and writes."""
+    return " and ".join(counted(site.accesses[word], KINDS[word]) for word in (b"r", b"w") if site.accesses[word])
+
+
+def partner_parts(site):
+    """The lines that a line races with, most races first."""
+    partners = sorted(site.partners.items(), key=lambda item: (-item[1], item[0]))
+    return listed([[place(location), f" ({counted(races, 'race')})"] for location, races in partners], MOST_PARTNERS)
+
+
+def summary(view):
+    """How much the report and the trace have."""
+    size = ", ".join(counted(count, name[:-1]) for name, count in view.counts._asdict().items())
+    races = counted(view.races, "race") if view.listed == view.races else f"{view.listed:,} of {counted(view.races, 'race')}"
+    lines = f" at {counted(view.pairs, 'pair')} of lines, in {counted(view.groups, 'group')}" if view.groups else ""
+    return f"{races}{lines}", size
+
+
+def notes_of(view):
+    """What the reader has to know of the report."""
+    if view.verdict.is_good:
+        yield f"shb check: {view.verdict.words}"
+    elif view.verdict.is_good is None and view.races:
+        yield view.verdict.words
+    if view.listed < view.races:
+        yield "The report has not all races of the trace; the counts are the report's."
+    if view.is_sample:
+        yield ("The trace has too many races to look at each. Of each place one is known, and what is said of a group holds for the "
+               "variables of these.")
+    if view.source.folders and view.sections:
+        shown = [site.location for section in view.sections for site in section.sites[:MOST_SITES] if site.location]
+        yield view.source.summary(shown)
+
+
+def races_text(group):
+    """How many races a group has, at how many pairs of lines."""
+    return f"{counted(group.races(), 'race')}, {counted(len(group.pairs), 'pair')} of lines"
