@@ -11,7 +11,7 @@ use crate::settings::Summary;
 use shb_clocks::Order;
 use shb_fan::{Gate, Workers};
 use shb_io::Sink;
-use shb_pairs::{PairJob, accesses_of_open, pieces};
+use shb_pairs::{RangeJob, accesses_of_open, pieces};
 use shb_write::{RaceSearch, WriteError, write_list};
 use std::alloc::Global;
 use std::random::RandomSource;
@@ -48,7 +48,7 @@ pub(crate) fn report_list<
     let ordered = screened.ordered;
     let accesses = accesses_of_open(alloc, ordered.trace, screened.flags)?;
     let pieces = pieces(alloc, &accesses)?;
-    let job = PairJob::new(
+    let job = RangeJob::new(
         ordered.order,
         ordered.trace,
         ordered.links,

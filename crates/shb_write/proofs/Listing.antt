@@ -3,14 +3,14 @@ use Rattle.std.proofs.Common.{◌≡◌, ℕ, zero, suc, ◌+◌, ◌-◌, ◌^�
 use Rattle.std.specs.Prelude.{IfSome, MatchResult, flat_map}
 use Rattle.std.specs.List.{AllByRecursion}
 use Rattle.std.proofs.lemmas.Bool.{cases_lt}
-use Rattle.std.proofs.lemmas.List.{map-append, length-map, length-append, length-take-le, take_all, take-append-drop}
-use Rattle.std.proofs.Math.Seq.{take-append_seam}
+use Rattle.std.proofs.lemmas.List.{map-append, length-map, length-append, length-take-le, take_all, take_more, take-append-drop}
+use Rattle.std.proofs.Math.Seq.{take-append-add, take-append_seam}
 use Rattle.std.proofs.lemmas.List.Concat.{flat_map-append}
 use Rattle.std.proofs.lemmas.List.Elements.{All-nil, All-map}
 use Rattle.std.proofs.lemmas.List.Sums.{fold-append}
 use Rattle.std.specs.Io.KnownBytes.{Appends}
 use Rattle.shb_io.specs.Devices.{AppendsPrefix, IsCounted, Writes}
-use Rattle.shb_io.proofs.Growth.{Appends-trans, AppendsPrefix-after, AppendsPrefix-front, Writes-err}
+use Rattle.shb_io.proofs.Growth.{Appends-nil, Appends-trans, AppendsPrefix-after, AppendsPrefix-front, Writes-err}
 use Rattle.shb_fan.specs.Values.{values_of}
 use Rattle.shb_lines.specs.declared.event.Pair.{Pair}
 use Rattle.shb_lines.specs.events.Race.{ends}
@@ -25,7 +25,7 @@ use Rattle.shb_write.specs.declared.errors.WriteError.{WriteError}
 use Rattle.shb_write.specs.declared.errors.WriteError.TheVariants as errors
 use Rattle.shb_write.specs.declared.race_counter.RaceCounter.{RaceCounter}
 use Rattle.shb_write.specs.declared.race_lister.RaceLister.{RaceLister}
-use Rattle.shb_write.specs.Listed.{HasCounted, HasFailedListing, HasListed, IsCountOf, IsRaceOf, MayCount, MayList, count_after, failures_after, listed_blocks, shown_alone}
+use Rattle.shb_write.specs.Listed.{HasCounted, HasFailedListing, HasListed, IsCountOf, IsRaceOf, MayCount, MayList, count_after, failures_after, listed_blocks, pairs_in, shown_alone}
 use Rattle.shb_write.specs.Written.{AppendsFront, IsSinkCounted, WritesBlocks}
 use Rattle.shb_write.proofs.Blocks.{ends-take, front_of}
 use Rattle.shb_write.proofs.Reports.{pairs_back}
@@ -77,6 +77,48 @@ pub pairs_of_trace : (trace : TraceData) (pairs : List Pair) → All (IsRaceOf t
 pairs_of_trace trace [] h k d lt = All-nil (IsPairOf trace) k d lt
 pairs_of_trace trace (pair ∷ pairs) h zero d lt = let both = h 0 (ends d) (omega arith) in record { first = both.0; second = both.1 }
 pairs_of_trace trace (pair ∷ pairs) h (suc k) d lt = pairs_of_trace trace pairs (λ j e l. h (suc j) e (omega arith)) k d (omega arith)
+
+-- pieces, each as the races of its later accesses
+pub ends_back : (races : List (ℕ × ℕ)) → map ends (map pair_of races) ≡ races
+ends_back [] = refl
+ends_back (race ∷ races) = ap (λ (l : List (ℕ × ℕ)). race ∷ l) (ends_back races)
+
+pub given_back : (given : List (List (List (ℕ × ℕ)))) → map (λ v. map ends (pairs_in v)) given ≡ map (λ v. joined v) given
+given_back [] = refl
+given_back (v ∷ given) =
+    ap (λ (l : List (ℕ × ℕ)). l ∷ map (λ u. map ends (pairs_in u)) given) (ends_back (joined v))
+    ∙ ap (λ (l : List (List (ℕ × ℕ))). joined v ∷ l) (given_back given)
+
+pairs_append : (xs ys : List (List (ℕ × ℕ))) → pairs_in (xs ++ ys) ≡ pairs_in xs ++ pairs_in ys
+pairs_append xs ys = ap (map pair_of) (flat_map-append (λ (l : List (ℕ × ℕ)). l) xs ys) ∙ map-append pair_of (joined xs) (joined ys)
+
+-- the races of the next later access, as they were expanded
+pub room_has : (items old : List Pair) (races : List (ℕ × ℕ)) → map ends items ≡ map ends old ++ races → old ≡ [] → items ≡ map pair_of races
+room_has items old races is none = sym (pairs_back items) ∙ ap (map pair_of) (is ∙ ap (λ (l : List Pair). map ends l ++ races) none)
+
+pub pairs_next : (piece : List (List (ℕ × ℕ))) (k : ℕ) (here : List Pair) → k < length piece → here ≡ map pair_of (get_or piece k []) → pairs_in (take (k + 1) piece) ≡ pairs_in (take k piece) ++ here
+pairs_next piece k here lt is =
+    ap (λ (l : List (List (ℕ × ℕ))). pairs_in l) (take_more piece k [] lt)
+    ∙ pairs_append (take k piece) (get_or piece k [] ∷ [])
+    ∙ ap (λ (l : List (ℕ × ℕ)). pairs_in (take k piece) ++ map pair_of l) (append-nil (get_or piece k []))
+    ∙ ap (λ (l : List Pair). pairs_in (take k piece) ++ l) (sym is)
+
+pub pairs_split : (piece : List (List (ℕ × ℕ))) (k : ℕ) (here : List Pair) → k < length piece → here ≡ map pair_of (get_or piece k [])
+    → pairs_in piece ≡ (pairs_in (take k piece) ++ here) ++ pairs_in (drop (k + 1) piece)
+pairs_split piece k here lt is =
+    ap (λ (l : List (List (ℕ × ℕ))). pairs_in l) (sym (take-append-drop (k + 1) piece))
+    ∙ pairs_append (take (k + 1) piece) (drop (k + 1) piece)
+    ∙ ap (λ (l : List Pair). l ++ pairs_in (drop (k + 1) piece)) (pairs_next piece k here lt is)
+
+pub here_in_range : (trace : TraceData) (piece : List (List (ℕ × ℕ))) (k : ℕ) (here : List Pair) → k < length piece → here ≡ map pair_of (get_or piece k []) → All (IsPairOf trace) (pairs_in piece) → All (IsPairOf trace) here
+here_in_range trace piece k here lt is are =
+    all_right (IsPairOf trace) (pairs_in (take k piece)) here
+    (all_left (IsPairOf trace) (pairs_in (take k piece) ++ here) (pairs_in (drop (k + 1) piece)) (subst (All (IsPairOf trace)) (pairs_split piece k here lt is) are))
+
+pub here_has_room : (piece : List (List (ℕ × ℕ))) (k : ℕ) (here : List Pair) → k < length piece → here ≡ map pair_of (get_or piece k []) → length (pairs_in (take k piece)) + length here ≤ length (pairs_in piece)
+here_has_room piece k here lt is =
+    let whole : length (pairs_in piece) ≡ length ((pairs_in (take k piece) ++ here) ++ pairs_in (drop (k + 1) piece)) = ap length (pairs_split piece k here lt is) in
+    omega (arith, whole, length-append (pairs_in (take k piece) ++ here) (pairs_in (drop (k + 1) piece)), length-append (pairs_in (take k piece)) here)
 
 -- the races of the next piece stand after those of the pieces before it
 module _ {V : Type 0} (items : V → List Pair) (f : ℕ → List (ℕ × ℕ)) (k n : ℕ) (given : List V) (out : V) (lt : k < n)
@@ -139,12 +181,26 @@ counted_more (Ok x) old new pairs trace most races places kept = record {
 }
 
 -- no place has more races than there are
-pub counted_few : (start end : RaceCounter) (pairs next : List Pair) → MayCount start next → HasCounted start pairs end → AllByRecursion (λ place. place.counted.count ≤ end.races) end.places
-counted_few start end pairs next may has =
-    let none = ap (λ (places : List PlaceOf). places_after start.trace.now places pairs) may.no_places in
-    let many : end.races ≡ length pairs + 0 = omega (arith, has.races, count_after-is start.races pairs, may.no_races) in
+pub still_few : (start end : RaceCounter) (pairs : List Pair) → AllByRecursion (λ place. place.counted.count ≤ start.races) start.places → HasCounted start pairs end
+    → AllByRecursion (λ place. place.counted.count ≤ end.races) end.places
+still_few start end pairs few has =
+    let many : end.races ≡ length pairs + start.races = omega (arith, has.races, count_after-is start.races pairs) in
     subst (λ (n : ℕ). AllByRecursion (λ (place : PlaceOf). place.counted.count ≤ n) end.places) (sym many)
-    (subst (AllByRecursion (λ (place : PlaceOf). place.counted.count ≤ length pairs + 0)) (sym (has.places ∙ none)) (places_after_few start.trace.now 0 [] pairs tt))
+    (subst (AllByRecursion (λ (place : PlaceOf). place.counted.count ≤ length pairs + start.races)) (sym has.places) (places_after_few start.trace.now start.races start.places pairs few))
+
+pub counted_few : (start end : RaceCounter) (pairs next : List Pair) → MayCount start next → HasCounted start pairs end → AllByRecursion (λ place. place.counted.count ≤ end.races) end.places
+counted_few start end pairs next may has = still_few start end pairs (subst (AllByRecursion (λ (place : PlaceOf). place.counted.count ≤ start.races)) (sym may.no_places) tt) has
+
+pub counted_none : (start : RaceCounter) → HasCounted start [] start
+counted_none start = record { same_trace = refl; same_most = refl; races = refl; places = refl; kept = λ few. sym (append-nil start.kept.items) }
+
+pub counted_next : (start before after : RaceCounter) (piece : List (List (ℕ × ℕ))) (k : ℕ) (here : List Pair) → k < length piece → here ≡ map pair_of (get_or piece k [])
+    → HasCounted start (pairs_in (take k piece)) before → HasCounted before here after → HasCounted start (pairs_in (take (k + 1) piece)) after
+counted_next start before after piece k here lt is has more =
+    subst (λ (l : List Pair). HasCounted start l after) (sym (pairs_next piece k here lt is)) (counted_then start before after (pairs_in (take k piece)) here has more)
+
+pub counted_whole : (start end : RaceCounter) (piece : List (List (ℕ × ℕ))) (k : ℕ) → length piece ≤ k → HasCounted start (pairs_in (take k piece)) end → HasCounted start (pairs_in piece) end
+counted_whole start end piece k le has = subst (λ (l : List (List (ℕ × ℕ))). HasCounted start (pairs_in l) end) (take_all k piece le) has
 
 pub counted_in_range : (start end : RaceCounter) (pairs next : List Pair) → MayCount start next → HasCounted start pairs end → All (IsPairOf end.trace.now) next
 counted_in_range start end pairs next may has = subst (λ (t : TraceData). All (IsPairOf t) next) (sym has.same_trace) may.in_range
@@ -206,9 +262,9 @@ AreBlocks-listed trace races = record {
 }
 
 -- the blocks up to an index, and the one there
-listed_next : (trace : TraceData) (before number : ℕ) (pairs : List Pair) (k : ℕ) (d : Pair) → k < length pairs → number ≡ before + k + 1
+blocks_next : (trace : TraceData) (before number : ℕ) (pairs : List Pair) (k : ℕ) (d : Pair) → k < length pairs → number ≡ before + k + 1
     → listed_blocks trace (before + 1) (map ends (take (k + 1) pairs)) ≡ listed_blocks trace (before + 1) (map ends (take k pairs)) ++ block_bytes trace number (ends (get_or pairs k d)) None
-listed_next trace before number pairs k d lt is =
+blocks_next trace before number pairs k d lt is =
     let front = map ends (take k pairs) in
     let last = ends (get_or pairs k d) in
     ap (listed_blocks trace (before + 1)) (ends-take pairs k d lt)
@@ -219,7 +275,7 @@ pub listed_on : (trace : TraceData) (before number : ℕ) (pairs : List Pair) (k
     → Appends old now (listed_blocks trace (before + 1) (map ends (take k pairs))) → Appends now new (block_bytes trace number (ends (get_or pairs k d)) None)
     → Appends old new (listed_blocks trace (before + 1) (map ends (take (k + 1) pairs)))
 listed_on trace before number pairs k d old now new lt is has next =
-    subst (Appends old new) (sym (listed_next trace before number pairs k d lt is)) (Appends-trans old now new _ _ has next)
+    subst (Appends old new) (sym (blocks_next trace before number pairs k d lt is)) (Appends-trans old now new _ _ has next)
 
 pub listed_stop : (trace : TraceData) (before number : ℕ) (pairs : List Pair) (k : ℕ) (d : Pair) (old now new : Option (List ℕ)) → k < length pairs → number ≡ before + k + 1
     → Appends old now (listed_blocks trace (before + 1) (map ends (take k pairs))) → AppendsPrefix now new (block_bytes trace number (ends (get_or pairs k d)) None)
@@ -230,50 +286,120 @@ listed_stop trace before number pairs k d old now new lt is has cut =
     let whole : map ends pairs ≡ front ++ rest = sym (ap (map ends) (take-append-drop (k + 1) pairs)) ∙ map-append ends (take (k + 1) pairs) (drop (k + 1) pairs) in
     subst (AppendsPrefix old new) (sym (ap (listed_blocks trace (before + 1)) whole ∙ listed_append trace (before + 1) (before + 1 + length front) front rest refl))
     (AppendsPrefix-front old new (listed_blocks trace (before + 1) front) (listed_blocks trace (before + 1 + length front) rest)
-    (subst (AppendsPrefix old new) (sym (listed_next trace before number pairs k d lt is)) (AppendsPrefix-after old now new _ _ has cut)))
+    (subst (AppendsPrefix old new) (sym (blocks_next trace before number pairs k d lt is)) (AppendsPrefix-after old now new _ _ has cut)))
 
 pub listed_all : (trace : TraceData) (before : ℕ) (pairs : List Pair) (k : ℕ) (old new : Option (List ℕ)) → length pairs ≤ k
     → Appends old new (listed_blocks trace (before + 1) (map ends (take k pairs))) → Appends old new (listed_blocks trace (before + 1) (map ends pairs))
 listed_all trace before pairs k old new le has = subst (λ (l : List Pair). Appends old new (listed_blocks trace (before + 1) (map ends l))) (take_all k pairs le) has
 
--- ---- blocks that are written as pieces come
+-- ---- blocks that are written as races come
+
+pub front_more : (old new : Option (List ℕ)) (xs ys : List ℕ) → AppendsFront old new xs → AppendsFront old new (xs ++ ys)
+front_more old new xs ys front = cases (cases_lt front.0 (length xs))
+  where
+    cases : (front.0 < length xs) ⊎ (length xs ≤ front.0) → AppendsFront old new (xs ++ ys)
+    cases (inl lt) = front_of old new (xs ++ ys) (AppendsPrefix-front old new xs ys (front.0, lt, front.1))
+    cases (inr le) = (length xs, subst (Appends old new) (take_all front.0 xs le ∙ sym (take-append_seam xs ys)) front.1)
+
+front_after : (old now new : Option (List ℕ)) (xs ys : List ℕ) → Appends old now xs → AppendsFront now new ys → AppendsFront old new (xs ++ ys)
+front_after old now new xs ys before front = (length xs + front.0, subst (Appends old new) (sym (take-append-add xs ys front.0)) (Appends-trans old now new xs (take front.0 ys) before front.1))
+
+pub whole_front : (old new : Option (List ℕ)) (xs : List ℕ) → Appends old new xs → AppendsFront old new xs
+whole_front old new xs has = (length xs, subst (Appends old new) (sym (take_all (length xs) xs (omega arith))) has)
+
+module _ {K : Type 0} (taken : K → Option (List ℕ)) (failures : K → ℕ) where
+  -- the blocks of further races come after those of the races before them
+  next_blocks : (start middle : RaceLister K) (xs ys : List Pair) → HasListed taken failures start xs middle
+      → listed_blocks start.trace.now (start.written + 1) (map ends (xs ++ ys))
+      ≡ listed_blocks start.trace.now (start.written + 1) (map ends xs) ++ listed_blocks middle.trace.now (middle.written + 1) (map ends ys)
+  next_blocks start middle xs ys has =
+      ap (listed_blocks start.trace.now (start.written + 1)) (map-append ends xs ys)
+      ∙ listed_append start.trace.now (start.written + 1) (middle.written + 1) (map ends xs) (map ends ys) (omega (arith, has.as_many, count_after-is start.written xs, length-map xs ends))
+      ∙ ap (λ (t : TraceData). listed_blocks start.trace.now (start.written + 1) (map ends xs) ++ listed_blocks t (middle.written + 1) (map ends ys)) (sym has.same_trace)
+
+  pub listed_none : (start : RaceLister K) → HasListed taken failures start [] start
+  listed_none start = record { same_sink = refl; same_trace = refl; as_many = refl; appended = Appends-nil (taken start.sink.now); counted = refl }
+
+  pub listed_once : (start end : RaceLister K) (pairs : List Pair) → end.sink.ghost_name ≡ start.sink.ghost_name → end.trace.now ≡ start.trace.now → end.written ≡ start.written + length pairs
+      → Appends (taken start.sink.now) (taken end.sink.now) (listed_blocks start.trace.now (start.written + 1) (map ends pairs)) → failures end.sink.now ≡ failures start.sink.now
+      → HasListed taken failures start pairs end
+  listed_once start end pairs sink trace many written counted = record { same_sink = sink; same_trace = trace; as_many = many ∙ sym (count_after-is start.written pairs); appended = written; counted = counted }
+
+  pub failed_once : (start end : RaceLister K) (pairs : List Pair) → end.sink.ghost_name ≡ start.sink.ghost_name
+      → AppendsPrefix (taken start.sink.now) (taken end.sink.now) (listed_blocks start.trace.now (start.written + 1) (map ends pairs)) → failures end.sink.now ≡ failures start.sink.now + 1
+      → HasFailedListing taken failures start pairs errors.Sink end
+  failed_once start end pairs sink cut counted = record { same_sink = sink; front = front_of _ _ _ cut; counted = counted }
+
+  pub listed_then : (start middle end : RaceLister K) (xs ys : List Pair) → HasListed taken failures start xs middle → HasListed taken failures middle ys end → HasListed taken failures start (xs ++ ys) end
+  listed_then start middle end xs ys a b = record {
+    same_sink = b.same_sink ∙ a.same_sink;
+    same_trace = b.same_trace ∙ a.same_trace;
+    as_many = omega (arith, a.as_many, b.as_many, count_after-is start.written xs, count_after-is middle.written ys, count_after-is start.written (xs ++ ys), length-append xs ys);
+    appended = subst (Appends (taken start.sink.now) (taken end.sink.now)) (sym (next_blocks start middle xs ys a)) (Appends-trans _ _ _ _ _ a.appended b.appended);
+    counted = b.counted ∙ a.counted;
+  }
+
+  pub failed_then : (start middle end : RaceLister K) (xs ys : List Pair) (e : WriteError) → HasListed taken failures start xs middle → HasFailedListing taken failures middle ys e end
+      → HasFailedListing taken failures start (xs ++ ys) e end
+  failed_then start middle end xs ys e a b = record {
+    same_sink = b.same_sink ∙ a.same_sink;
+    front = subst (AppendsFront (taken start.sink.now) (taken end.sink.now)) (sym (next_blocks start middle xs ys a)) (front_after _ _ _ _ _ a.appended b.front);
+    counted = b.counted ∙ ap (failures_after e) a.counted;
+  }
+
+  pub failed_more : (start end : RaceLister K) (xs zs : List Pair) (e : WriteError) → HasFailedListing taken failures start xs e end → HasFailedListing taken failures start (xs ++ zs) e end
+  failed_more start end xs zs e has = record {
+    same_sink = has.same_sink;
+    front = subst (AppendsFront (taken start.sink.now) (taken end.sink.now))
+        (sym (ap (listed_blocks start.trace.now (start.written + 1)) (map-append ends xs zs) ∙ listed_append start.trace.now (start.written + 1) (start.written + 1 + length (map ends xs)) (map ends xs) (map ends zs) refl))
+        (front_more _ _ _ _ has.front);
+    counted = has.counted;
+  }
+
+  pub stopped : (start end : RaceLister K) (xs : List Pair) → HasListed taken failures start xs end → HasFailedListing taken failures start xs errors.Memory end
+  stopped start end xs has = record { same_sink = has.same_sink; front = whole_front _ _ _ has.appended; counted = has.counted }
+
+  -- the races of a piece, one later access after the other
+  module _ (start : RaceLister K) (piece : List (List (ℕ × ℕ))) (k : ℕ) (here : List Pair) (lt : k < length piece) (is : here ≡ map pair_of (get_or piece k [])) where
+    pub listed_next : (before after : RaceLister K) → HasListed taken failures start (pairs_in (take k piece)) before → HasListed taken failures before here after
+        → HasListed taken failures start (pairs_in (take (k + 1) piece)) after
+    listed_next before after has more = subst (λ (l : List Pair). HasListed taken failures start l after) (sym (pairs_next piece k here lt is)) (listed_then start before after (pairs_in (take k piece)) here has more)
+
+    pub failed_next : (before after : RaceLister K) (e : WriteError) → HasListed taken failures start (pairs_in (take k piece)) before → HasFailedListing taken failures before here e after
+        → HasFailedListing taken failures start (pairs_in piece) e after
+    failed_next before after e has more =
+        subst (λ (l : List Pair). HasFailedListing taken failures start l e after) (sym (pairs_split piece k here lt is))
+        (failed_more start after (pairs_in (take k piece) ++ here) (pairs_in (drop (k + 1) piece)) e (failed_then start before after (pairs_in (take k piece)) here e has more))
+
+    pub next_room : (before : RaceLister K) → start.written + length (pairs_in piece) < 2 ^ 64 → HasListed taken failures start (pairs_in (take k piece)) before → before.written + length here < 2 ^ 64
+    next_room before room has = omega (arith, room, here_has_room piece k here lt is, has.as_many, count_after-is start.written (pairs_in (take k piece)))
+
+    pub next_in_range : (before : RaceLister K) → All (IsPairOf start.trace.now) (pairs_in piece) → HasListed taken failures start (pairs_in (take k piece)) before → All (IsPairOf before.trace.now) here
+    next_in_range before are has = subst (λ (t : TraceData). All (IsPairOf t) here) (sym has.same_trace) (here_in_range start.trace.now piece k here lt is are)
+
+  pub still_countable : (start before : RaceLister K) (xs : List Pair) → failures start.sink.now < 2 ^ 64 - 1 → HasListed taken failures start xs before → failures before.sink.now < 2 ^ 64 - 1
+  still_countable start before xs countable has = omega (arith, countable, has.counted)
+
+  pub part_stopped : (start end : RaceLister K) (piece : List (List (ℕ × ℕ))) (k : ℕ) → HasListed taken failures start (pairs_in (take k piece)) end → HasFailedListing taken failures start (pairs_in piece) errors.Memory end
+  part_stopped start end piece k has =
+      subst (λ (l : List Pair). HasFailedListing taken failures start l errors.Memory end) (sym (ap (λ (l : List (List (ℕ × ℕ))). pairs_in l) (sym (take-append-drop k piece)) ∙ pairs_append (take k piece) (drop k piece)))
+      (failed_more start end (pairs_in (take k piece)) (pairs_in (drop k piece)) errors.Memory (stopped start end (pairs_in (take k piece)) has))
+
+  pub listed_piece_whole : (start end : RaceLister K) (piece : List (List (ℕ × ℕ))) (k : ℕ) → length piece ≤ k → HasListed taken failures start (pairs_in (take k piece)) end → HasListed taken failures start (pairs_in piece) end
+  listed_piece_whole start end piece k le has = subst (λ (l : List (List (ℕ × ℕ))). HasListed taken failures start (pairs_in l) end) (take_all k piece le) has
 
 module _ {K V : Type 0} (taken : K → Option (List ℕ)) (failures : K → ℕ) (items : V → List Pair) where
-  -- where the blocks of a piece come after those of the pieces before it
-  next_blocks : (start before : RaceLister K) (given : List V) (out : V) → HasListed taken failures start (flat_map items given) before
-      → listed_blocks start.trace.now (start.written + 1) (map ends (flat_map items given ++ items out))
-      ≡ listed_blocks start.trace.now (start.written + 1) (map ends (flat_map items given)) ++ listed_blocks before.trace.now (before.written + 1) (map ends (items out))
-  next_blocks start before given out has =
-      let xs = flat_map items given in
-      ap (listed_blocks start.trace.now (start.written + 1)) (map-append ends xs (items out))
-      ∙ listed_append start.trace.now (start.written + 1) (before.written + 1) (map ends xs) (map ends (items out)) (omega (arith, has.as_many, count_after-is start.written xs, length-map xs ends))
-      ∙ ap (λ (t : TraceData). listed_blocks start.trace.now (start.written + 1) (map ends xs) ++ listed_blocks t (before.written + 1) (map ends (items out))) (sym has.same_trace)
+  -- one piece more
+  pub listed_piece : {T E : Type 0} (r : Result T E) (start before after : RaceLister K) (given : List V) (out : V) → HasListed taken failures start (flat_map items given) before
+      → OnOk r (HasListed taken failures before (items out) after) → IfOk r (λ _. HasListed taken failures start (flat_map items (given ++ out ∷ [])) after)
+  listed_piece (Ok x) start before after given out has more =
+      subst (λ (l : List Pair). HasListed taken failures start l after) (sym (flat_push items given out)) (listed_then taken failures start before after (flat_map items given) (items out) has more)
+  listed_piece (Err e) start before after given out has more = tt
 
-  pub listed_piece : (start before after : RaceLister K) (given : List V) (out : V)
-      → after.sink.ghost_name ≡ before.sink.ghost_name → after.trace.now ≡ before.trace.now → after.written ≡ before.written + length (items out)
-      → Appends (taken before.sink.now) (taken after.sink.now) (listed_blocks before.trace.now (before.written + 1) (map ends (items out)))
-      → failures after.sink.now ≡ failures before.sink.now
-      → HasListed taken failures start (flat_map items given) before → HasListed taken failures start (flat_map items (given ++ out ∷ [])) after
-  listed_piece start before after given out sink trace many written counted has =
-      let xs = flat_map items given in
-      subst (λ (l : List Pair). HasListed taken failures start l after) (sym (flat_push items given out)) (record {
-        same_sink = sink ∙ has.same_sink;
-        same_trace = trace ∙ has.same_trace;
-        as_many = omega (arith, many, has.as_many, count_after-is start.written xs, count_after-is start.written (xs ++ items out), length-append xs (items out));
-        appended = subst (Appends (taken start.sink.now) (taken after.sink.now)) (sym (next_blocks start before given out has)) (Appends-trans _ _ _ _ _ has.appended written);
-        counted = counted ∙ has.counted;
-      })
-
-  pub failed_piece : (start before after : RaceLister K) (given : List V) (out : V) → after.sink.ghost_name ≡ before.sink.ghost_name
-      → AppendsPrefix (taken before.sink.now) (taken after.sink.now) (listed_blocks before.trace.now (before.written + 1) (map ends (items out)))
-      → failures after.sink.now ≡ failures before.sink.now + 1
-      → HasListed taken failures start (flat_map items given) before → HasFailedListing taken failures start (flat_map items given ++ items out) errors.Sink after
-  failed_piece start before after given out sink cut counted has =
-      record {
-        same_sink = sink ∙ has.same_sink;
-        front = front_of _ _ _ (subst (AppendsPrefix (taken start.sink.now) (taken after.sink.now)) (sym (next_blocks start before given out has)) (AppendsPrefix-after _ _ _ _ _ has.appended cut));
-        counted = counted ∙ ap (λ n. n + 1) has.counted;
-      }
+  pub failed_piece : {T : Type 0} (r : Result T WriteError) (start before after : RaceLister K) (given : List V) (out : V) → HasListed taken failures start (flat_map items given) before
+      → IfErr r (λ e. HasFailedListing taken failures before (items out) e after) → IfErr r (λ e. HasFailedListing taken failures start (flat_map items given ++ items out) e after)
+  failed_piece (Ok x) start before after given out has more = tt
+  failed_piece (Err e) start before after given out has more = failed_then taken failures start before after (flat_map items given) (items out) e has more
 
   -- what the next piece needs
   pub list_room : (start before : RaceLister K) (given : List V) (out : V) → HasListed taken failures start (flat_map items given) before → MayList failures start (flat_map items given) (items out)
@@ -304,19 +430,13 @@ listed_front trace races written rest old new e is has = record {
   bytes = listed_blocks trace 1 races;
   blocks = AreBlocks-listed trace races;
   written = subst (AppendsFront old new) (sym (ap (listed_blocks trace 1) is ∙ listed_append trace 1 (1 + length written) written rest refl))
-      (longer old new (listed_blocks trace 1 written) (listed_blocks trace (1 + length written) rest) has);
+      (front_more old new (listed_blocks trace 1 written) (listed_blocks trace (1 + length written) rest) has);
 }
-  where
-    longer : (old new : Option (List ℕ)) (xs ys : List ℕ) → AppendsFront old new xs → AppendsFront old new (xs ++ ys)
-    longer old new xs ys front = cases (cases_lt front.0 (length xs))
-      where
-        cases : (front.0 < length xs) ⊎ (length xs ≤ front.0) → AppendsFront old new (xs ++ ys)
-        cases (inl lt) = front_of old new (xs ++ ys) (AppendsPrefix-front old new xs ys (front.0, lt, front.1))
-        cases (inr le) = (length xs, subst (Appends old new) (take_all front.0 xs le ∙ sym (take-append_seam xs ys)) front.1)
-
-pub whole_front : (old new : Option (List ℕ)) (xs : List ℕ) → Appends old new xs → AppendsFront old new xs
-whole_front old new xs has = (length xs, subst (Appends old new) (sym (take_all (length xs) xs (omega arith))) has)
 
 pub counted_error : (T : Type 0) (e : WriteError) (old new : ℕ) → new ≡ failures_after e old → IsSinkCounted {T = T} old new (Err e)
 counted_error T errors.Sink old new is = is
 counted_error T errors.Memory old new is = is
+
+pub failed_as : (T : Type 0) (r : Result T WriteError) (e : WriteError) (P : WriteError → Type 0) → IsErrAnd r (λ x. x ≡ e) → P e → IfErr r P
+failed_as T (Ok x) e P same h = tt
+failed_as T (Err x) e P same h = subst P (sym same) h

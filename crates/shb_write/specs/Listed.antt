@@ -32,6 +32,10 @@ shown_alone race = record { pair = race; schedule = None }
 abbrev pub listed_blocks : TraceData → ℕ → List (ℕ × ℕ) → List ℕ
 listed_blocks trace number races = blocks_from trace number (map shown_alone races)
 
+-- the races of a piece, as pairs
+abbrev pub pairs_in : List (List (ℕ × ℕ)) → List Pair
+pairs_in races = map pair_of (joined races)
+
 -- so many and those
 abbrev pub count_after : ℕ → List Pair → ℕ
 count_after n [] = n

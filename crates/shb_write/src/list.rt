@@ -1,5 +1,5 @@
 //! The report of a trace that lists the races which a search finds.
-ghost use Rattle.std.specs.Prelude.{◌≡◌, ◌⊎◌, ◌-◌, ◌^◌, ◌<◌, ◌≤◌, All, IfOk, IfSome, false, length, map};
+ghost use Rattle.std.specs.Prelude.{◌≡◌, ◌⊎◌, ◌-◌, ◌^◌, ◌<◌, ◌≤◌, [], All, IfOk, IfSome, false, length, map};
 ghost use Rattle.shb_lines.specs.events.Race.{ends};
 ghost use Rattle.shb_report.specs.Places.{IsPairOf, counts_in};
 ghost use Rattle.shb_write.specs.Listed.{IsCountOf, IsRaceOf, races_found};
@@ -7,8 +7,8 @@ ghost use Rattle.shb_write.specs.Written.{CutsBlocksOn, CutsReportOn, IsSinkCoun
 
 use crate::counted::Counted;
 use crate::errors::WriteError;
-use crate::race_counter::RaceCounter;
-use crate::race_lister::{RaceLister, write_listed};
+use crate::race_counter::{PieceCounter, RaceCounter};
+use crate::race_lister::{PieceLister, RaceLister, write_listed};
 use crate::race_search::RaceSearch;
 use crate::write::write_front;
 use shb_clocks::Order;
@@ -44,6 +44,35 @@ fn counted_of(alloc: Global, counter: RaceCounter<'_>) -> Result<Counted, NoMemo
     })
 }
 
+/// A counter that has counted nothing.
+fn piece_counter<'t, R: RandomSource>(
+    rt: &R,
+    alloc: Global,
+    trace: &'t Trace,
+) -> Result<PieceCounter<'t>, NoMemory>
+    ensures trace { IfOk result (λ taker. taker.counter.trace.now ≡ trace.now) }
+    ensures races { IfOk result (λ taker. taker.counter.races ≡ 0) }
+    ensures places { IfOk result (λ taker. taker.counter.places ≡ []) }
+    ensures kept { IfOk result (λ taker. taker.counter.kept.items ≡ []) }
+{
+    let places = PlaceTable::new(rt, alloc)?;
+    let kept = Vec::new(alloc);
+    let room = Vec::new(alloc);
+    let most_kept = u64::from(trace.len());
+    let counter = RaceCounter {
+        trace,
+        places,
+        races: 0,
+        kept,
+        most_kept,
+    };
+    Ok(PieceCounter {
+        counter,
+        room,
+        alloc,
+    })
+}
+
 /// Counts the races that a search finds, and keeps them where there are not more of them than events.
 fn count_races<R: Threads + Wait + Sync + RandomSource, O: Order + Sync, G: Gate + Sync>(
     rt: &R,
@@ -54,25 +83,59 @@ fn count_races<R: Threads + Wait + Sync + RandomSource, O: Order + Sync, G: Gate
     requires { All (IsRaceOf trace.now) (races_found search.now.job.now) }
     ensures { IfOk result (IsCountOf trace.now (races_found search.now.job.now)) }
 {
-    let places = PlaceTable::new(rt, alloc)?;
-    let mut counter = RaceCounter {
-        trace,
-        places,
-        races: 0,
-        kept: Vec::new(alloc),
-        most_kept: u64::from(trace.len()),
-    };
+    let mut taker = piece_counter(rt, alloc, trace)?;
     let Ok(_) = stream(
         rt,
         alloc,
         search.job,
         search.gate,
         search.workers,
-        &mut counter,
+        &mut taker,
     ) else {
         return Err(NoMemory);
     };
+    let PieceCounter { counter, .. } = taker;
     counted_of(alloc, counter)
+}
+
+/// Makes a search again, and writes the blocks of its races as they come. `room` is for the races of one
+/// later access at a time.
+fn write_found_in<R: Threads + Wait + Sync, K: Sink, O: Order + Sync, G: Gate + Sync>(
+    rt: &R,
+    alloc: Global,
+    sink: &mut K,
+    trace: &Trace,
+    search: &RaceSearch<'_, '_, '_, O, G>,
+    room: &mut Vec<Pair>,
+) -> Result<(), WriteError>
+    requires countable { K.failure_count sink.old < 2 ^ 64 - 1 }
+    requires room { length (races_found search.now.job.now) < 2 ^ 64 }
+    requires races { All (IsRaceOf trace.now) (races_found search.now.job.now) }
+    ensures blocks { WritesBlocks false trace.now (races_found search.now.job.now) (K.taken sink.old) (K.taken sink.new) result }
+    ensures counted { IsSinkCounted (K.failure_count sink.old) (K.failure_count sink.new) result }
+{
+    let lister = RaceLister {
+        sink: &mut *sink,
+        trace,
+        written: 0,
+    };
+    let mut taker = PieceLister {
+        lister,
+        room: &mut *room,
+        alloc,
+    };
+    match stream(
+        rt,
+        alloc,
+        search.job,
+        search.gate,
+        search.workers,
+        &mut taker,
+    ) {
+        Ok(_) => Ok(()),
+        Err(StreamError::Taker(error)) => Err(error),
+        Err(StreamError::Memory) => Err(WriteError::Memory),
+    }
 }
 
 /// Makes a search again, and writes the blocks of its races as they come.
@@ -89,23 +152,8 @@ fn write_found<R: Threads + Wait + Sync, K: Sink, O: Order + Sync, G: Gate + Syn
     ensures blocks { WritesBlocks false trace.now (races_found search.now.job.now) (K.taken sink.old) (K.taken sink.new) result }
     ensures counted { IsSinkCounted (K.failure_count sink.old) (K.failure_count sink.new) result }
 {
-    let mut lister = RaceLister {
-        sink: &mut *sink,
-        trace,
-        written: 0,
-    };
-    match stream(
-        rt,
-        alloc,
-        search.job,
-        search.gate,
-        search.workers,
-        &mut lister,
-    ) {
-        Ok(_) => Ok(()),
-        Err(StreamError::Taker(error)) => Err(error),
-        Err(StreamError::Memory) => Err(WriteError::Memory),
-    }
+    let mut room = Vec::new(alloc);
+    write_found_in(rt, alloc, sink, trace, search, &mut room)
 }
 
 /// Writes the blocks of some races without schedules, numbered from 1.

@@ -2,12 +2,14 @@
 ghost use Rattle.std.specs.Prelude.{◌≡◌, ◌++◌, ◌≤◌, All, OnOk};
 ghost use Rattle.std.specs.List.{AllByRecursion};
 ghost use Rattle.shb_report.specs.Places.{IsPairOf};
-ghost use Rattle.shb_write.specs.Listed.{HasCounted};
+ghost use Rattle.shb_write.specs.Listed.{HasCounted, pairs_in};
 
 use shb_fan::Taker;
 use shb_io::NoMemory;
 use shb_lines::{Pair, Trace};
+use shb_pairs::RaceRanges;
 use shb_report::PlaceTable;
+use std::alloc::Global;
 
 /// Counts races and the races of each place, and keeps the races as long as there are few.
 #[derive(Drop)]
@@ -52,16 +54,44 @@ impl<'t> RaceCounter<'t> {
     }
 }
 
-impl<'t> Taker<Vec<Pair>> for RaceCounter<'t> {
+/// Counts the races of a piece. `room` is for those of one later access at a time.
+fn count_piece(
+    alloc: Global,
+    counter: &mut RaceCounter<'_>,
+    room: &mut Vec<Pair>,
+    piece: &RaceRanges<'_>,
+) -> Result<(), NoMemory>
+    requires pairs { All (IsPairOf counter.old.trace.now) (pairs_in piece.now) }
+    requires few { AllByRecursion (λ place. place.counted.count ≤ counter.old.races) counter.old.places }
+    ensures { OnOk result (HasCounted counter.old (pairs_in piece.now) counter.new) }
+{
+    for k in 0..piece.later_accesses() {
+        room.clear();
+        piece.expand(alloc, k, room)?;
+        counter.count(room.as_slice())?;
+    }
+    Ok(())
+}
+
+/// Counts the races of pieces as they come.
+#[derive(Drop)]
+pub(crate) struct PieceCounter<'t> {
+    pub(crate) counter: RaceCounter<'t>,
+    /// Room for the races of one later access.
+    pub(crate) room: Vec<Pair>,
+    pub(crate) alloc: Global,
+}
+
+impl<'t, 'a> Taker<RaceRanges<'a>> for PieceCounter<'t> {
     ghost use Rattle.std.specs.Prelude.{flat_map};
     ghost use Rattle.std.proofs.Common.{append-nil, refl, sym};
-    ghost use Rattle.shb_write.specs.Listed.{HasCounted, MayCount};
+    ghost use Rattle.shb_write.specs.Listed.{HasCounted, MayCount, pairs_in};
 
     type Error = NoMemory;
 
-    ghost takes = { λ start given end. HasCounted start (flat_map (λ v. v.items) given) end };
+    ghost takes = { λ start given end. HasCounted start.counter (flat_map pairs_in given) end.counter };
 
-    ghost may_take = { λ start _ out. MayCount start out.items };
+    ghost may_take = { λ start _ out. MayCount start.counter (pairs_in out) };
 
     ghost refuses = { λ _ _ _ _ _. Unit {0} };
 
@@ -70,10 +100,10 @@ impl<'t> Taker<Vec<Pair>> for RaceCounter<'t> {
       same_most = refl;
       races = refl;
       places = refl;
-      kept = λ _. sym (append-nil s.kept.items);
+      kept = λ _. sym (append-nil s.counter.kept.items);
     } };
 
-    fn take(&mut self, _k: u64, out: Vec<Pair>) -> Result<(), NoMemory> {
-        self.count(&out)
+    fn take(&mut self, _k: u64, out: RaceRanges<'a>) -> Result<(), NoMemory> {
+        count_piece(self.alloc, &mut self.counter, &mut self.room, &out)
     }
 }
