@@ -102,7 +102,7 @@ places_after_few trace n places [] few = each-weaker (λ (p : PlaceOf). p.counte
 places_after_few trace n places (pair ∷ pairs) few =
     let after = with_pair places (location_at trace pair.first) (location_at trace pair.second) pair in
     let once = with_pair_few (n + 1) places (location_at trace pair.first) (location_at trace pair.second) pair (omega arith)
-        (each-weaker (λ (p : PlaceOf). p.counted.count ≤ n) (λ (p : PlaceOf). p.counted.count + 1 ≤ n + 1) places (λ p l. omega arith) few) in
+    (each-weaker (λ (p : PlaceOf). p.counted.count ≤ n) (λ (p : PlaceOf). p.counted.count + 1 ≤ n + 1) places (λ p l. omega arith) few) in
     each-weaker (λ (p : PlaceOf). p.counted.count ≤ length pairs + (n + 1)) (λ (p : PlaceOf). p.counted.count ≤ suc (length pairs) + n) (places_after trace after pairs) (λ p l. omega arith)
     (places_after_few trace (n + 1) after pairs once)
 

@@ -1,4 +1,4 @@
-use Rattle.std.proofs.Common.{arith, false, inr, sym}
+use Rattle.std.proofs.Common.{arith, false, inr}
 use Rattle.shb_io.proofs.Growth.{Appends-trans, AppendsPrefix-after, AppendsPrefix-front}
 use Rattle.shb_report.specs.Report.{tail_bytes}
 use Rattle.shb_write.specs.Listed.{races_found}
