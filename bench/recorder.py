@@ -1,10 +1,11 @@
 #!/usr/bin/env python3
 """Prints a row on what recording a program costs, for docs/BENCHMARKS.md.
 
-    recorder.py PLAIN TSAN RECORDED [WORD..]
+    recorder.py PLAIN TSAN [WORD..]
 
-The three are the same program, built without -fsanitize=thread, with it, and with it and the recorder's library.
-Each is run with the WORDs, its output thrown away. Times are wall and processor seconds, the least of three runs.
+The two are the same program, built without -fsanitize=thread and with it; the second is run by itself and recorded.
+Each is run with the WORDs, its output thrown away. The trace is then made and analysed. Times are wall and processor
+seconds, the least of three runs. The built analyser is bin/shb, or what SHB names.
 """
 
 import os
@@ -16,8 +17,11 @@ import sys
 import tempfile
 import time
 
-CONVERTER = pathlib.Path(__file__).resolve().parent.parent / "recorder" / "shb-std"
+TOP = pathlib.Path(__file__).resolve().parent.parent
+CONVERTER, LIBRARY = TOP / "recorder" / "shb-std", TOP / "recorder" / "lib"
+ANALYSER = os.environ.get("SHB") or TOP / "bin" / "shb"
 RUNS = 3
+CUT = 3  # the converter's status for a part of a run
 
 
 def processor_seconds():
@@ -30,21 +34,27 @@ def measure(words, **how):
     wall, processor = [], []
     for _ in range(RUNS):
         begin, before = time.monotonic(), processor_seconds()
-        ran = subprocess.run(words, stdout=subprocess.DEVNULL, stderr=subprocess.PIPE, check=True, **how)
+        ran = subprocess.run(words, stdout=subprocess.DEVNULL, stderr=subprocess.PIPE, **how)
+        if ran.returncode not in (0, CUT):
+            sys.exit(f"{words[0]}: status {ran.returncode}")
         wall.append(time.monotonic() - begin)
         processor.append(processor_seconds() - before)
     return f"{min(wall):.2f}, {min(processor):.2f}", ran.stderr.decode()
 
 
 def main():
-    plain, tsan, recorded, *words = sys.argv[1:]
+    plain, tsan, *words = sys.argv[1:]
     with tempfile.TemporaryDirectory() as folder:
-        record = os.path.join(folder, "app.rec")
-        times = [measure([plain, *words])[0], measure([tsan, *words])[0]]
-        times.append(measure([recorded, *words], env={**os.environ, "SHB_RECORD": record})[0])
-        converting, said = measure([CONVERTER, record])
+        record, trace = os.path.join(folder, "app.rec"), os.path.join(folder, "app.std")
+        quiet = {**os.environ, "TSAN_OPTIONS": "report_bugs=0"}
+        times = [measure([plain, *words])[0], measure([tsan, *words], env=quiet)[0]]
+        recording = {**os.environ, "SHB_RECORD": record, "LD_LIBRARY_PATH": str(LIBRARY)}
+        times.append(measure([tsan, *words], env=recording)[0])
+        converting, said = measure(["sh", "-c", f"exec {CONVERTER} {record} > {trace}"])
+        analysing = measure([ANALYSER, "places", "--list", trace])[0]
     records, threads, events = re.search(r"(\d+) records, (\d+) threads, (\d+) events", said).groups()
-    cells = [pathlib.Path(plain).name, *times, threads, records, events + (" (cut)" if "cut" in said else ""), converting]
+    cut = " (cut)" if " cut " in said or "not the whole" in said else ""
+    cells = [pathlib.Path(plain).name, *times, threads, records, events + cut, converting, analysing]
     print("| " + " | ".join(cells) + " |")
 
 

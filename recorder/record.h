@@ -14,6 +14,7 @@
 #define LOW_48_BITS 0xffffffffffffull
 #define FIRST_DESCRIPTOR (1ul << 47)   /* no program's address: descriptor D is at 16 D above it, its data 8 further */
 #define SIZE_FOLLOWS 1023              /* such a size or a greater one stands in a record OP_SIZE after this one */
+#define ATOMIC_SIZE_BITS 5             /* of an atomic access: the memory order stands above the size, as __ATOMIC_.. */
 
 struct record {
     uint64_t where;                    /* 48 bits: the address (of a fork or join: the other thread); 16: the thread */
@@ -28,5 +29,6 @@ enum operation {
     OP_POST, OP_WAIT, OP_BARRIER_INIT, OP_ARRIVE, OP_DEPART,
     OP_USE,                            /* a use of an object that orders nothing */
     OP_DESTROY,                        /* the end of an object, or a second beginning */
+    OP_FENCE,                          /* its size is the memory order */
     OPERATIONS
 };

@@ -121,6 +121,8 @@ PLACES = [
     (b"races 1\n" + places(1) + ONE_BLOCK, b"races 0\n" + places(1), b"bad places"),
     (b"places 1", b"places 2", b"bad line 8"),
     (b"places 1", b"places %d" % GREATEST, b"bad line 8"),
+    # no memory is asked for what a report only claims
+    (b"races 1\nplaces 1", b"races %d\nplaces %d" % (GREATEST, GREATEST), b"bad line 8"),
     (b"places 1\n", b"", b"bad line 4"),
     (b"shb-report 2", b"shb-report 3", b"bad line 1"),
     (b"shb-report 2", b"shb-report 1", b"bad line 4"),

@@ -1,13 +1,14 @@
-"""Sizes that small traces never reach: more than 65,536 races, names, kept clocks and events of a schedule; as many
+"""Sizes that small traces never reach: more than 100,000 races with schedules, more than 65,536 names, kept clocks and events of a schedule; as many
 locks, names and events of a schedule as a trace of the most events has; an empty line before each of a million events; and
-clocks of 1,024 threads, a report with a schedule that is far longer than its trace, and one with far more places than
+clocks of 1,024 threads, a variable with more races than memory could hold, a report with a schedule that is far longer than its trace, and one with far more places than
 races, in little memory."""
 
 import resource
 
 import program
 
-THREADS = 400
+THREADS = 460
+RACING_VARIABLES = 250_000
 ROUNDS = 35_000
 MOST_EVENTS = 4_194_304
 
@@ -25,6 +26,19 @@ def many_races():
     for k, (i, j) in enumerate(pairs, 1):
         report.append(b"race %d: %d %d\nfirst T%d|w(x)\nsecond T%d|w(x)\nschedule 0:\n" % (k, i, j, i, j))
     return b"".join(lines), b"".join([*report, b"end\n"]), len(pairs)
+
+
+def many_racing_variables():
+    """Two threads write each of many variables, with nothing between them: each variable has one race, all at one
+    place."""
+    count = RACING_VARIABLES
+    lines = [b"T1|w(v%d)|a\nT2|w(v%d)|b\n" % (k, k) for k in range(count)]
+    report = [b"shb-report 2\nevents %d threads 2 locks 0 variables %d\n" % (2 * count, count)]
+    report.append(b"races %d\nplaces 1\nplace 1: %d\nat a\nand b\n" % (count, count))
+    for k in range(count):
+        pair = (k + 1, 2 * k + 1, 2 * k + 2, k, k)
+        report.append(b"race %d: %d %d\nfirst T1|w(v%d)|a\nsecond T2|w(v%d)|b\n" % pair)
+    return b"".join(lines), b"".join([*report, b"end\n"])
 
 
 def many_names():
@@ -78,6 +92,32 @@ def random_locks(threads, rounds):
     return b"".join(lines), b"".join(report)
 
 
+def hot_variable(writes):
+    """Two threads write one variable in turn, and nothing orders them: each write of one races with each of the other.
+    The report of a race of each place, with schedules: 2 may come before 1, and 2 and 3 may change places after 1."""
+    report = [
+        b"shb-report 2\nevents %d threads 2 locks 0 variables 1\n" % (2 * writes),
+        b"races 2\nplaces 2\nplace 1: 1\nat a\nand b\nplace 2: 1\nat b\nand a\n",
+        b"race 1: 1 2\nfirst T1|w(x)|a\nsecond T2|w(x)|b\nschedule 0:\n",
+        b"race 2: 2 3\nfirst T2|w(x)|b\nsecond T1|w(x)|a\nschedule 1: 1\nend\n",
+    ]
+    return b"T1|w(x)|a\nT2|w(x)|b\n" * writes, b"".join(report)
+
+
+def square_of_places(locations):
+    """One thread writes a variable at so many locations, and then another does: each pair of these is a place, and has
+    one race."""
+    count = locations * locations
+    lines = [b"T%d|w(x)|%c%d\n" % (t, b"ab"[t - 1], k) for t in (1, 2) for k in range(locations)]
+    pairs = [(i, j) for j in range(locations) for i in range(locations)]
+    report = [b"shb-report 2\nevents %d threads 2 locks 0 variables 1\n" % (2 * locations)]
+    report.append(b"races %d\nplaces %d\n" % (count, count))
+    report += [b"place %d: 1\nat a%d\nand b%d\n" % (q, i, j) for q, (i, j) in enumerate(pairs, 1)]
+    for k, (i, j) in enumerate(pairs, 1):
+        report.append(b"race %d: %d %d\nfirst T1|w(x)|a%d\nsecond T2|w(x)|b%d\n" % (k, i + 1, locations + j + 1, i, j))
+    return b"".join(lines), b"".join([*report, b"end\n"])
+
+
 def long_schedule(numbers, last):
     """Two writes, and a report of their race with so many numbers in its schedule and one more."""
     report = [
@@ -116,10 +156,35 @@ class Large(program.Case):
 
     def test_many_races(self):
         text, report, races = many_races()
-        self.assertGreater(races, 65_536)
+        self.assertGreater(races, 100_000)
         trace = self.compare(text, report, races)
-        forged = b"second T399|w(x)".join(report.rsplit(b"second T400|w(x)", 1))
+        forged = (b"second T%d|w(x)" % (THREADS - 1)).join(report.rsplit(b"second T%d|w(x)" % THREADS, 1))
         self.expect(program.run(["check", trace], forged), 5, b"bad race %d\n" % races)
+
+    def test_many_racing_variables(self):
+        """Each variable is a piece of work of its own: many more than 256 for each worker."""
+        text, report = many_racing_variables()
+        for workers in ("1", "4"):
+            self.expect(program.run(["races", "--list", "--workers", workers], text), 0, report)
+
+    def test_a_hot_variable_in_little_memory(self):
+        """Forty billion races of 8 bytes each don't fit; `places` makes no list of them."""
+        writes = 200_000
+        text, report = hot_variable(writes)
+        room = len(text) + 100 * 2**20
+        self.assertGreater(8 * writes * writes, room)
+        listed = b"".join(line for line in report.splitlines(keepends=True) if not line.startswith(b"schedule"))
+        trace = self.file(text)
+        for workers in ("1", "2", "64"):
+            self.expect(program.run(["places", "--list", "--workers", workers, trace], **within(room)), 0, listed)
+        self.expect(program.run(["places", "--workers", "2", trace], **within(room)), 0, report)
+        self.expect(program.run(["check", trace], report), 0, b"ok 2\n")
+
+    def test_many_places(self):
+        text, report = square_of_places(500)
+        trace = self.file(text)
+        for form in ("places", "races"):
+            self.assertTrue(program.run([form, "--list", trace]) == program.Answer(0, report, b""), "the reports differ")
 
     def test_many_names_clocks_and_events_of_a_schedule(self):
         text, report, races = many_names()

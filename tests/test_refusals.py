@@ -16,7 +16,9 @@ def racing(threads):
     return b"".join(b"T%d|w(%d)\nT%d|w(x)|%d\n" % (k, k, k, k % 7) for k in range(threads))
 
 
-class Refusals(program.Case):
+class Refusing(program.Case):
+    """A test that refuses what the program asks for."""
+
     @classmethod
     def setUpClass(cls):
         cls.room = tempfile.TemporaryDirectory()
@@ -52,6 +54,8 @@ class Refusals(program.Case):
         is_unsaid = ample.status == 2 and answer == (2, b"", b"")
         self.assertTrue(answer == ample or is_front or is_unsaid, f"at request {number}: {answer}")
 
+
+class Refusals(Refusing):
     def test_memory_for_a_report(self):
         for workers in ("1", "2"):
             self.refuse_in_turn(["races", "--workers", workers], LOCKED)
@@ -100,17 +104,23 @@ class Refusals(program.Case):
         return next(k for k in range(1000) if not self.run_refused(words, text, REFUSE_THREADS=k + 1)[1])
 
     def test_numbers_of_workers(self):
-        """Each worker is a thread in the search, and one when schedules are made; 4 where no number is named."""
-        trace = self.file(racing(64))
+        """Each worker is a thread in the search, and one when schedules are made; 4 where no number is named. A list of
+        more races than events is searched for twice, and `places` searches without workers."""
+        trace, few = self.file(racing(64)), self.file(LOCKED, "few.std")
         for words, wanted in (
-            (["races", "--list", trace], 4),
+            (["races", "--list", few], 4),
+            (["races", "--list", trace], 8),
             (["races", trace], 8),
             (["races", "--workers", "1", trace], 2),
             (["races", "--workers", "3", trace], 6),
-            (["races", "--workers", "64", "--list", trace], 64),
+            (["races", "--workers", "64", "--list", trace], 128),
+            (["places", "--list", trace], 0),
+            (["places", trace], 4),
+            (["places", "--workers", "1", trace], 1),
+            (["places", "--workers", "3", trace], 3),
         ):
             self.assertEqual(self.threads_started(words, b""), wanted)
-        self.assertEqual(self.threads_started([], racing(64)), 4)
+        self.assertEqual(self.threads_started([], racing(64)), 8)
 
     def test_nothing_is_read_after_the_end(self):
         trace, report = self.file(LOCKED), program.run(["races"], LOCKED).out

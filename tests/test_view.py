@@ -13,7 +13,7 @@ import program
 import shb
 from viewing import EXAMPLES, MADE, made, run, run_here, sections, settings, windows
 
-from shb_view import counting, groups, names, progress
+from shb_view import command, counting, groups, names, progress
 
 FORK_JOIN = """\
 fork-join.std: 1 race at 1 pair of lines, in 1 group (7 events, 2 threads, 0 locks, 2 variables)
@@ -276,6 +276,14 @@ class Sites(program.Case):
         self.assertIn("     locks not counted at 1 of 1", said)
         self.assertIn("   In this run 2 threads write, and the locks held at 1 access aren't counted.", said)
         self.assertIn("   In this run l0 is held at f.c:2, and not at f.c:3.", self.lines(*locks[:64], "A w x 2", "B w x 3"))
+
+    def test_no_fact_of_a_lock_where_some_locks_are_not_counted(self):
+        """Both writes hold l0, and the first one too many others."""
+        locks = [f"l{k}" for k in range(65)]
+        said = self.lines(*(f"A acq {lock} 1" for lock in locks), "A w x 2", *(f"A rel {lock} 3" for lock in locks),
+                          "C acq l0 4", "C w x 5", "C rel l0 6", "B r x 7")
+        self.assertEqual([line for line in said if "In this run" in line],
+                         ["   In this run 2 threads write, and the locks held at 1 access aren't counted."])
 
     def test_nested_acquires_of_a_lock(self):
         said = self.lines("A acq l 1", "A acq l 1", "A rel l 1", "A w x 2", "A rel l 3", "B r x 4")
@@ -582,6 +590,17 @@ class Waiting(program.Case):
         said.step("reading", 1, 4)
         said.clear()
         self.assertEqual(said.out.getvalue(), "\r\x1b[Kshb-view: reading 25%\r\x1b[K")
+
+    def test_words_go_away_before_a_refusal(self):
+        report = (EXAMPLES / "places.report").read_bytes().replace(b"end\n", b"")
+        wait, progress.WAIT = progress.WAIT, 0.0
+        self.addCleanup(setattr, progress, "WAIT", wait)
+        terminal = self.terminal()
+        with contextlib.redirect_stderr(terminal):
+            status = command.main([str(EXAMPLES / "places.std"), str(self.file(report, "t.report"))], program.PATH)
+        self.assertEqual(status, 1)
+        self.assertRegex(terminal.getvalue(), r"\A\r\x1b\[Kshb-view: reading the report \d+%.*\r\x1b\[Kshb-view: line 38 of the report is "
+                                              r"missing; it should be `end`\n\Z")
 
     def test_nothing_is_said_in_the_first_second(self):
         said = progress.Progress(self.terminal())

@@ -24,12 +24,10 @@ for (const button of table.querySelectorAll("th button")) {
 }
 found.sorted = table.querySelectorAll("[aria-sort]").length;
 found.before = [...document.querySelectorAll("details")].map((details) => details.open).join();
-location.hash = "#g1e12";
-addEventListener("hashchange", () => {
-  found.after = [...document.querySelectorAll("details")].map((details) => details.open).join();
-  found.wide = document.documentElement.scrollWidth - innerWidth;
-  document.body.textContent = "FOUND" + JSON.stringify(found) + "END";
-});
+history.replaceState(null, "", "#g1e12");  // opens nothing by itself
+dispatchEvent(new HashChangeEvent("hashchange"));
+found.after = [...document.querySelectorAll("details")].map((details) => details.open).join();
+document.body.textContent = "FOUND" + JSON.stringify(found) + "END";
 </script>
 </body>"""
 
@@ -89,12 +87,15 @@ class Browser(program.Case):
                                       (f"acq(lock.{thread}.{name})", f"w({name})", f"rel(lock.{thread}.{name})")).encode())
             page = self.page("--source", code.parent, trace)
             text = page.read_text(encoding="utf-8").replace("<details>", "<details open>")
-            script = ("<script>document.title = document.documentElement.scrollWidth + ' ' + [...document.querySelectorAll('.wide, pre, figure')]"
-                      ".filter((box) => box.scrollWidth > box.clientWidth + 1).length;</script></body>")
+            script = """<script>
+const boxes = [...document.querySelectorAll(".wide, pre, figure, .sites, svg[role]")];
+const cut = boxes.filter((box) => box.scrollWidth > box.clientWidth + 1), hidden = boxes.filter((box) => !box.getBoundingClientRect().height);
+document.title = [document.documentElement.scrollWidth, cut.length, hidden.length, boxes.length].join(" ");
+</script></body>"""
             page.write_text(re.sub(r"<meta http-equiv[^>]*>", "", text).replace("</body>", script), encoding="utf-8")
-            frame = self.file(b'<iframe src="page.html" style="width:400px;height:900px;border:0"></iframe><script>'
-                              b'onload = () => document.title = document.querySelector("iframe").contentDocument.title;</script>', "frame.html")
+            frame = self.file(b"""<iframe src="page.html" style="width:400px;height:900px;border:0"></iframe><script>
+onload = () => document.title = document.querySelector("iframe").contentDocument.title;</script>""", "frame.html")
             shown = self.shown(browser, frame, "--allow-file-access-from-files", "--window-size=800,1000")
-            width, cut = re.search("<title>([0-9]+) ([0-9]+)</title>", shown).groups()
-            self.assertLessEqual(int(width), 400)
-            self.assertEqual(cut, "0")
+            width, *boxes = map(int, re.search("<title>([0-9 ]+)</title>", shown).group(1).split())
+            self.assertLessEqual(width, 400)
+            self.assertEqual(boxes, [0, 0, 8])  # cut, hidden, all

@@ -1,7 +1,6 @@
 """view/shb-view as a command: its files, its statuses, and the `shb` that it runs."""
 
 import os
-import pathlib
 import shutil
 import signal
 import subprocess
@@ -89,6 +88,8 @@ exec REAL "$@"
     def test_a_program_that_fails(self):
         script = "[ $1 = places ] && { echo 'out of memory' >&2; exit 4; }; exec REAL \"$@\"\n"
         self.assertEqual(self.said(["--shb", self.fake(script), TRACE]), "`shb places` ended with status 4: out of memory")
+        script = "[ $1 = check ] && { echo 'out of memory' >&2; exit 4; }; exec REAL \"$@\"\n"
+        self.assertEqual(self.said(["--shb", self.fake(script), TRACE]), "`shb check` ended with status 4: out of memory")
         self.assertEqual(self.said(["--shb", self.fake("exit 4\n"), TRACE]), "`shb races --list` ended with status 4")
         self.assertEqual(self.said(["--shb", self.fake("echo hello\n"), TRACE]),
                          "`shb races --list` wrote no report: line 1 of the report is `hello`; it should be `shb-report 2`")
@@ -141,6 +142,7 @@ class Files(Fake):
         self.assertEqual(self.said([TRACE, none]), f"{shown}: No such file or directory")
         self.assertEqual(self.said([self.folder]), f"{self.folder} isn't a regular file: the trace is read more than once")
         self.assertEqual(self.said([TRACE, self.folder]), f"{self.folder}: Is a directory")
+        self.assertEqual(self.said([TRACE, "/proc/self/mem"]), "/proc/self/mem: Input/output error")
         self.assertEqual(self.said(["--source", none, TRACE]), f"--source: {shown} isn't a folder")
 
     def test_a_pipe_is_no_trace(self):
@@ -155,6 +157,10 @@ class Files(Fake):
         status, out, _ = run_here(["--check", TRACE, pipe])
         writer.join()
         self.assertEqual((status, out.splitlines()[1]), (0, "shb check: ok 1"))
+
+    def test_what_has_no_end_is_no_report(self):
+        said = self.said([TRACE, "/dev/zero"], 1)
+        self.assertTrue(said.startswith("line 1 of the report is too long: `\\x00\\x00"), said)
 
     def test_places_that_cannot_be_written(self):
         self.assertEqual(self.said(["--html", self.folder, TRACE]), f"{self.folder} isn't a regular file")
@@ -252,11 +258,11 @@ class Statuses(Fake):
         self.assertEqual(closed('"$@" <&-', TRACE, "-").returncode, 1)  # an empty report
 
     def test_stopped(self):
-        """By the signal of a terminal, while `shb` runs."""
+        """By the signal of a terminal, while `shb` runs. A test that runs in the background may have been told to ignore it."""
         started = self.folder / "started"
         fake = self.fake(f"touch {started}; exec sleep 20\n")
         ran = subprocess.Popen([sys.executable, "-B", VIEW / "shb-view", "--shb", fake, TRACE], stdout=subprocess.PIPE,
-                               stderr=subprocess.PIPE)
+                               stderr=subprocess.PIPE, preexec_fn=lambda: signal.signal(signal.SIGINT, signal.SIG_DFL))
         while not started.exists():
             self.assertIsNone(ran.poll())
         ran.send_signal(signal.SIGINT)

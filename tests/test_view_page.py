@@ -160,6 +160,18 @@ class Pages(program.Case):
         self.assertNotIn("v" * 121, whole)
         self.assertIn("v" * 40, whole)
 
+    def test_the_longest_page(self):
+        """250 groups of 30 lines with names that are long in HTML: the list is whole, and the parts end after 3.5 MB."""
+        quotes = '"' * 80
+        events = [f"T{i}.{quotes}|{'w' if i % 10 == 0 else 'r'}({k}{quotes})|{k}.{i}{quotes}" for k in range(250) for i in range(30)]
+        page = self.page("\n".join(events).encode())
+        size = (self.folder / "page.html").stat().st_size
+        self.assertTrue(3_500_000 < size < 5_000_000, size)
+        self.assertEqual(len(page.all("li")), 201)
+        parts = len(page.all("section"))
+        self.assertIn(f"The page would be too long: the last {200 - parts} groups of the list have no part of their own.",
+                      [text for _, text in page.all("p")])
+
     def test_a_hostile_name_of_the_file(self):
         path = self.folder / "page.html"
         self.assertEqual(run_here(["--html", path, self.file(b"A|w(x)\nB|w(x)\n", "<b>&\"\x1b.std")])[0], 0)
@@ -274,6 +286,52 @@ class Pictures(program.Case):
         consumer, producer = sorted((float(bar["y"]), float(bar["y"]) + float(bar["height"])) for bar, _ in page.all("rect", "lock"))
         self.assertEqual((consumer[1], producer[0]), (at[8][1], at[10][1]))
         self.assertGreater(producer[1], at[12][1])
+
+    def test_texts_by_hand(self):
+        """Each event has its operation, and its location with its number."""
+        trace = b"A|r(y)|f.c:1\nA|w(x)|f.c:2\nB|w(x)\n"
+        page = Page(picture.picture(windows(trace, shb.report(trace, True))[0], "e"))
+        self.assertEqual([text for attributes, text in page.all("text") if attributes.get("class") != "number"], [
+            "A", "B", "r(y)", "f.c:1 · 1", "1  w(x)", "f.c:2 · 2", "2  w(x)", "(no location) · 3"])
+
+    def test_arrows_by_hand(self):
+        """From a fork to a first event that reads, and dashed from the write that a read sees."""
+        trace = b"main|w(y)\nmain|fork(A)\nA|r(y)\nA|w(x)\nmain|w(x)\n"
+        [window] = windows(trace, shb.report(trace, True))
+        self.assertEqual(window.edges, [(2, 3), (1, 3)])
+        page = Page(picture.picture(window, "e"))
+        self.assertEqual([attributes["class"] for attributes, _ in page.all("path")], ["edge", "edge seen"])
+        self.assertEqual([attributes["class"] for attributes, _ in page.all("line", "lane")], ["lane"] * 5)
+        [window, _] = windows(*((EXAMPLES / f"unlocked-read.{end}").read_bytes() for end in ("std", "report")))
+        page = Page(picture.picture(window, "e"))  # of a fork, a release and a write
+        self.assertEqual([attributes["class"] for attributes, _ in page.all("path")], ["edge", "edge", "edge seen"])
+
+    def test_a_lane_is_dashed_where_events_are_left_out(self):
+        trace = b"main|fork(A)\nmain|r(z)\nA|r(y)\n" + b"B|r(y)\n" * 8 + b"A|w(x)\nB|w(x)\n"
+        page = Page(picture.picture(windows(trace, shb.report(trace, True))[0], "e"))
+        self.assertEqual([attributes["class"] for attributes, _ in page.all("line", "lane")],
+                         ["lane"] * 2 + ["lane gap"] + ["lane"] * 6 + ["lane"])
+
+    def test_six_colours_of_locks(self):
+        """The seventh lock has the first one's colour again."""
+        def pairs(thread, locks):
+            return "".join(f"{thread}|acq({lock})\n{thread}|rel({lock})\n" for lock in locks)
+
+        trace = ("A|acq(g)\n" + pairs("A", "abc") + "A|w(x)\n" + pairs("B", "def") + "B|w(x)\n").encode()
+        page = Page(picture.picture(windows(trace, shb.report(trace, True))[0], "e"))
+        colours = {}
+        for attributes, lock in page.all("rect", "lock"):
+            colours.setdefault(lock, attributes["class"].split()[1])
+        self.assertEqual(sorted(colours), list("abcdefg"))
+        self.assertEqual(sorted(colours.values()), ["lock0", "lock0", "lock1", "lock2", "lock3", "lock4", "lock5"])
+
+    def test_the_width_holds_every_text(self):
+        for name in (b"x", b"a_rather_long_name_of_a_thread_here"):
+            trace = name + b"|w(v)\nB|w(v)\n"
+            page = Page(picture.picture(windows(trace, shb.report(trace, True))[0], "e"))
+            [(svg, _)] = page.all("svg")
+            right = max(float(attributes["x"]) + picture.COLUMN * names.columns(text) for attributes, text in page.all("text"))
+            self.assertGreater(float(svg["width"]), right)
 
     def test_no_line_crosses_a_text(self):
         lines = 0

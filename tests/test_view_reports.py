@@ -10,6 +10,7 @@ import program
 import shb
 from viewing import EXAMPLES, MADE, made, run_here, sections
 
+from shb_view import report
 from shb_view.faults import BadReport
 from shb_view.report import Lines
 
@@ -148,6 +149,17 @@ class Refused(program.Case):
             report = re.sub(rb"\n%b 1\n" % line.split()[0], b"\n" + line + b"\n", shb.report(self.TRACE, True))
             self.assertIn(line, report)
             self.refused([self.file(self.TRACE), self.file(report, "t.report")])
+
+    def test_a_report_that_is_too_long(self):
+        size = len(shb.report(self.TRACE, True))
+        kept = report.MOST_BYTES
+        self.addCleanup(setattr, report, "MOST_BYTES", kept)
+        self.assertEqual(kept, 1_073_741_824)
+        words = [self.file(self.TRACE), self.file(shb.report(self.TRACE, True), "t.report")]
+        report.MOST_BYTES = size
+        self.assertEqual(run_here(words)[0], 0)
+        report.MOST_BYTES = size - 1
+        self.assertEqual(self.refused(words), f"the report is longer than {size - 1} bytes")
 
     def test_a_report_without_end(self):
         with open("/dev/zero", "rb") as zeros, self.assertRaisesRegex(BadReport, "line 1 of the report is too long"):

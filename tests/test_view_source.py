@@ -3,8 +3,10 @@
 import os
 
 import program
+from test_view_page import Page
 from viewing import run_here
 
+from shb_view import source as source_lines
 from shb_view.source import Source, excerpt
 
 CODE = b"""\
@@ -74,6 +76,12 @@ class Found(program.Case):
             place = self.place(location)
             self.assertEqual((place.line(), place.fault), (None, "the file has 3 lines"))
 
+    def test_lines_end_with_line_feeds_alone(self):
+        self.put("src/a.c", b"one\r\ntwo\rstill two\r\nthree")
+        self.assertEqual([self.place(b"a.c:%d" % number).line() for number in (2, 3, 4)], [b"two\rstill two\r", b"three", None])
+        self.put("src/b.c", b"")
+        self.assertEqual(self.place(b"b.c:1").fault, "the file has 0 lines")
+
     def test_a_newer_file(self):
         self.put("src/a.c", time=2001)
         place = self.place(b"a.c:1")
@@ -107,7 +115,14 @@ class Found(program.Case):
         source = Source([self.folder / "src"], 2000)
         said = f"Source lines of {self.folder}/src: "
         self.assertEqual(source.summary([b"a.c:1", b"a.c:2", b"b.c:1", b"c.c:1", b"?"]), said + "2 of 3 files found, 1 newer than the trace.")
-        self.assertEqual(source.summary([b"b.c:1"]), said + "1 of 1 file found, none newer than the trace.")
+        kept, source_lines.MOST_FILES = source_lines.MOST_FILES, 2
+        self.addCleanup(setattr, source_lines, "MOST_FILES", kept)
+        self.put("src/c.c")
+        source = Source([self.folder / "src"], 2000)
+        self.assertEqual(source.files, 2)
+        self.assertTrue(source.summary([b"b.c:1"]).endswith(" Only 2 files were looked at."))
+        source_lines.MOST_FILES = kept
+        self.assertEqual(Source([self.folder / "src"], 2000).summary([b"b.c:1"]), said + "1 of 1 file found, none newer than the trace.")
 
 
 class Excerpts(program.Case):
@@ -160,8 +175,6 @@ class Shown(program.Case):
             "   a.c:3: 1 read by B", "     | static int total;", "     no lock in the trace", "     races with a.c:8 (1 race)"])
 
     def test_page_by_hand(self):
-        from test_view_page import Page
-
         path = self.folder / "page.html"
         self.shown("--html", path)
         page = Page(path.read_text(encoding="utf-8"))
@@ -175,6 +188,19 @@ class Shown(program.Case):
         self.assertEqual([text for attributes, text in page.all("tr", "hit")], ["81        total++;", "32static int total;"])
         self.assertEqual([text for attributes, text in page.all("td") if attributes.get("data-head") == "Code"],
                          ["total++;", "static int total;"])
+
+    def test_names_and_code_stay_text(self):
+        code = b"void <u>f(void) {\n  lock(<u>);\n  </td><u>x;\n}\n"
+        os.utime(self.file(code, "<u>&.c"), (1000, 1000))
+        trace = self.file(b"A|acq(<u>)|<u>&.c:2\nA|w(<u>)|<u>&.c:3\nB|w(<u>)|<u>&.c:9\n")
+        path = self.folder / "page.html"
+        self.assertEqual(run_here(["--html", path, "--source", self.folder, trace])[0], 0)
+        page = Page(path.read_text(encoding="utf-8"))
+        self.assertEqual(page.all("u"), [])
+        self.assertEqual([text for _, text in page.all("figcaption")], [
+            "1 <u>&.c:3 writes, holding <u>in void <u>f(void)",
+            "2 <u>&.c:9 writes, no lock in the tracethe file has 4 lines"])
+        self.assertEqual(page.all("tr", "hit")[0][1], "31  </td><u>x;")
 
     def test_a_fault_is_said_beside_the_code(self):
         self.shown()

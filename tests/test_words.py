@@ -18,10 +18,10 @@ Options:
   -h, --help  Print help
 
 With no words at all it does what 'shb races --list' does: it reads a trace from
-standard input and lists its races. Begin with the list, then ask 'shb places'
-for one race of each place: a schedule may be as long as the trace.
+standard input and lists its races. Begin with 'shb places --list': one race of
+each place, however many there are. Without --list it shows their schedules.
 
-  $ printf 'T1|w(y)|1\\nT2|r(y)|2\\n' | shb races --list
+  $ printf 'T1|w(y)|1\\nT2|r(y)|2\\n' | shb places --list
 
 'shb help races' says what a trace and a report look like, and 'shb help check'
 what a good report means.
@@ -50,7 +50,7 @@ class Words(program.Case):
             lines = answer.out.decode().splitlines()
             self.assertLessEqual(len(lines), 24)
             self.assertLessEqual(max(map(len, lines)), 80)
-            for wanted in ("Usage: shb <COMMAND>", "  races  ", "  check  ", "shb races --list", "shb help check"):
+            for wanted in ("Usage: shb <COMMAND>", "  races  ", "  check  ", "shb places --list", "shb help check"):
                 self.assertIn(wanted, answer.out.decode())
 
     def test_help_of_races(self):

@@ -1,6 +1,5 @@
 """Runs view/shb-view, as a command and in this process, on texts."""
 
-import argparse
 import contextlib
 import io
 import os
@@ -29,17 +28,15 @@ QUIET = progress.Progress(io.StringIO())
 
 def sections(text, report, is_good=True):
     """The groups of a trace and its report, with what comes before their closest races."""
-    options = argparse.Namespace(html="page", all=False)
-    with tempfile.TemporaryFile() as file, tempfile.TemporaryFile() as given:
+    with tempfile.TemporaryFile() as file, tempfile.TemporaryFile() as written:
         file.write(text)
-        given.write(report)
+        written.write(report)
         file.flush()
-        given.seek(0)
-        counts = Counts(*shb.counts_of(shb.read_trace(text)[0]))
-        verdict = Verdict(is_good, "")
-        gathered = Gathered()
-        view.read_report(view.Given(given, verdict, None), counts, gathered, QUIET)
-        return view.make_sections(options, Trace(file, QUIET), given, gathered.groups(), gathered.lines, counts, verdict)
+        written.seek(0)
+        given = view.Given("report", written, Verdict(is_good, ""), None)
+        counts, gathered = Counts(*shb.counts_of(shb.read_trace(text)[0])), Gathered()
+        view.read_report(given, counts, gathered, QUIET)
+        return view.make_sections(True, Trace(file, QUIET), given, gathered.groups(), gathered.lines, counts.events)
 
 
 def windows(text, report, is_good=True):

@@ -1,6 +1,7 @@
 """The words of the command, its passes and its statuses."""
 
 import argparse
+import contextlib
 import os
 import pathlib
 import shutil
@@ -47,7 +48,7 @@ Environment:
   SHB          the program to run, if not the one that came with this command
   SHB_WINDOWS  the same of shb-windows, which cuts traces that are too long
 """
-TEMPORARY_SECONDS = 86_400      # what a killed run has left is deleted after a day
+TEMPORARY_SECONDS = 86_400      # a day: no run takes longer to write a file or to cut a trace
 
 
 class Farm(typing.NamedTuple):
@@ -71,7 +72,8 @@ def arguments(words):
     parser.add_argument("--known", metavar="FILE", help="places to pass over")
     parser.add_argument("--engine", choices=sorted(engines.ENGINES), default="xargs",
                         help="xargs: this machine (the default); slurm: a job array on a cluster whose nodes see the same folders")
-    parser.add_argument("--jobs", metavar="N", type=number, default=os.cpu_count(), help="with xargs: traces at once (as many as processors)")
+    parser.add_argument("--jobs", metavar="N", type=number, default=len(os.sched_getaffinity(0)),
+                        help="with xargs: traces at once (as many as processors)")
     parser.add_argument("--memory", metavar="MIB,..", type=numbers, help="memory of each pass; a trace that needs more goes on to "
                         "the next (256,1024,4096, then with xargs what the machine has, with slurm 16384)")
     parser.add_argument("--seconds", metavar="N", type=number, default=3600, help="processor time of a trace (%(default)s)")
@@ -137,9 +139,11 @@ def known_in(path):
 
 
 def clean(room):
+    """Deletes what killed runs have left. Other farms may work in the same folder: what they delete meanwhile is passed over."""
     for path in room.iterdir():
-        if path.stat().st_mtime < time.time() - TEMPORARY_SECONDS:
-            shutil.rmtree(path) if path.is_dir() else path.unlink()
+        with contextlib.suppress(FileNotFoundError):
+            if path.stat().st_mtime < time.time() - TEMPORARY_SECONDS:
+                shutil.rmtree(path) if path.is_dir() else path.unlink()
 
 
 def run_passes(farm, work, names):
@@ -149,14 +153,19 @@ def run_passes(farm, work, names):
     endings = {name: merging.ending_of(last, name) for name in names}
     for memory in farm.memory:
         now = work._replace(memory=memory)
-        waiting = [name for name in names if endings[name].kind == "missing" and endings[name].size is not None
-                   and (limits.memory_for(endings[name].size) <= memory or memory == last.memory)]
-        waiting = [name for name in waiting if merging.ending_of(now, name).kind == "missing"]
+        waiting = waiting_for(now, endings, memory == last.memory)
         if waiting:
-            waiting.sort(key=lambda name: -endings[name].size)      # the longest first
             engines.run_pass(now._replace(names=waiting), farm)
             endings.update((name, merging.ending_of(last, name)) for name in waiting)
     return endings
+
+
+def waiting_for(work, endings, is_last):
+    """The traces that this pass has to run, the longest first."""
+    found = [name for name, ending in endings.items() if ending.kind == "missing" and ending.size is not None
+             and (is_last or limits.memory_for(ending.size) <= work.memory)]
+    found = [name for name in found if merging.ending_of(work, name).kind == "missing"]     # not those that it didn't suffice for
+    return sorted(found, key=lambda name: -endings[name].size)
 
 
 def with_reports(farm, work, rows):
@@ -197,7 +206,7 @@ def main(words):
     except (Refused, engines.NotInstalled) as refused:
         said = str(refused)
     except OSError as fault:
-        said = f"{fault.filename}: {fault.strerror}" if fault.filename else str(fault)
+        said = files.words_of(fault)
     except KeyboardInterrupt:
         return 130
     print(f"shb-farm: {said}", file=sys.stderr)

@@ -18,7 +18,8 @@ from shb_farm import files, outcomes, passes, reports, running
 
 
 def make_outcome(work, name):
-    """Makes the outcome of a trace, unless there is one that stands. Gives its kind."""
+    """Makes the outcome of a trace, unless there is one that stands. Gives its kind. If the trace changes meanwhile, the outcome
+    has the stamp of before, and doesn't count."""
     path, place = pathlib.Path(work.traces) / name, passes.outcome_path(work.out, work.form, name)
     old = outcomes.read(place)
     if passes.stands(old, work, name, files.stamp_of(os.stat(path))):
@@ -32,8 +33,6 @@ def make_outcome(work, name):
             trace.seek(0)
             end, places = reports.analysed(work, name, trace)
             new = outcomes.Outcome(work.program, checksum, stamp, end.kind, end.words, places)
-    if files.stamp_of(os.stat(path)) != stamp:
-        new = new._replace(kind="failed", words="it changed while it was read", places=[])
     files.put(place, outcomes.text_of(new), passes.room_in(work.out))
     if new.kind == "failed":
         print(f"shb-farm: {name}: {new.words}", file=sys.stderr)
@@ -50,7 +49,8 @@ def main(words):
             kind = make_outcome(work, name)
         except (OSError, running.NotHere) as fault:
             kind = "failed"
-            print(f"shb-farm: {name}: {fault}", file=sys.stderr)
+            said = files.words_of(fault) if isinstance(fault, OSError) else str(fault)
+            print(f"shb-farm: {name}: {said}", file=sys.stderr)
         if kind == "failed":
             status = 1
     return status

@@ -5,6 +5,8 @@ import os
 MIB = 1 << 20
 MOST_EVENTS = 4_194_304
 MOST_BYTES = 1 << 30
+# How the program's words end that refuse a trace which windows can be cut of.
+TOO_LONG = ("there are more than 4194304 events", "there are more than 1024 threads", "the text is longer than 1073741824 bytes")
 
 
 def memory_for(size):

@@ -6,6 +6,8 @@ import pathlib
 import tempfile
 import typing
 
+from shb_farm.limits import TOO_LONG
+
 LIST, FULL = "list", "full"     # the places of a trace; its report with schedules
 FOLDER_OF = {LIST: "outcomes", FULL: "reports"}
 
@@ -65,6 +67,8 @@ def is_final(outcome, work, name):
     """The same, where the trace is known to be the one that the outcome is of."""
     if outcome.program != work.program or outcome.kind == "failed":
         return False
+    if outcome.kind == "refused" and work.windows and outcome.words.endswith(TOO_LONG):
+        return False        # there was no shb-windows then
     if outcome.kind in ("memory", "time", "size"):
         limit = {"memory": work.memory, "time": work.seconds, "size": work.size}[outcome.kind]
         return int(outcome.words) >= limit

@@ -6,10 +6,8 @@ import tempfile
 
 from shb_farm import passes, running, windows
 from shb_farm.files import put_file, temporary_file
-from shb_farm.limits import MOST_BYTES
+from shb_farm.limits import MOST_BYTES, TOO_LONG
 from shb_farm.running import End
-
-TOO_LONG = ("there are more than 4194304 events", "the text is longer than 1073741824 bytes")
 
 
 def analysed(work, name, trace):
@@ -21,7 +19,7 @@ def analysed(work, name, trace):
             return end, places
         trace.seek(0)
     with tempfile.TemporaryDirectory(dir=passes.room_in(work.out)) as folder:
-        return windows.analysed(work, name, trace, pathlib.Path(folder))
+        return windows.analysed(work, name, trace, pathlib.Path(folder) / "windows")
 
 
 def report_of(work, trace, path):

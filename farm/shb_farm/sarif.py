@@ -17,7 +17,7 @@ RULE = {
                                 "schedulable happens-before doesn't order them: a correct reordering of the run brings both next."},
     "defaultConfiguration": {"level": "error"},
 }
-BASE = "TRACED"         # the folder that relative file names in the traces start from
+BASE = "SRCROOT"        # the folder that relative file names in the traces start from
 LOCATION = re.compile(rb"(.+?):([1-9][0-9]{0,8})(?::[0-9]+)?", re.DOTALL)
 
 

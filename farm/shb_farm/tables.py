@@ -15,10 +15,11 @@ def state_of(row):
 
 
 def places_table(rows):
-    """A line for each place: how many traces have it, whether it is known, its two locations, one of the traces, its report."""
+    """A line for each place: how many traces have it, whether it is known, its locations, one of the traces, its report."""
     lines = [b"traces\tstate\tfirst\tsecond\texample\treport\n"]
     for row in rows:
-        lines.append(b"\t".join([b"%d" % row.traces, field(state_of(row)), *row.pair, field(row.example), field(row.report)]) + b"\n")
+        fields = [b"%d" % row.traces, field(state_of(row)), *row.pair, field(row.example), field(row.report)]
+        lines.append(b"\t".join(fields) + b"\n")
     return b"".join(lines)
 
 
@@ -68,7 +69,8 @@ def text(rows, endings):
         lines += ["", *aligned([head, *table])]
     lost = [(name, ending) for name, ending in endings.items() if ending.kind != "report"]
     if lost:
-        table = [[field(ending.kind if ending.kind == "missing" else "refused"), field(name), field(why(ending))] for name, ending in lost]
+        words = ["missing" if ending.kind == "missing" else "refused" for _, ending in lost]
+        table = [[field(word), field(name), field(why(ending))] for word, (name, ending) in zip(words, lost)]
         lines += ["", *aligned(table)]
     return "".join(line + "\n" for line in lines)
 

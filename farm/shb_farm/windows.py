@@ -8,14 +8,14 @@ import os
 import shutil
 
 from shb_farm import files, passes, reports, running
-from shb_farm.limits import MIB, MOST_BYTES
+from shb_farm.limits import MIB, MOST_BYTES, MOST_EVENTS
 from shb_farm.running import End
-
-EVENTS = 4_000_000      # of the 4,194,304 that a trace may have: a window begins with the locks that are held
 
 
 def analysed(work, name, trace, folder):
-    """How the program ended on the windows of an open trace, and the places that it found. `folder` is empty, for the windows."""
+    """How the program ended on the windows of an open trace, and the places that it found. `folder` is for the windows, and isn't
+    there yet."""
+    folder.mkdir()
     end = cut(work, trace, folder)
     places, found = {}, sorted(folder.glob("window-*.std"))
     if not found and end.kind == "report":
@@ -37,7 +37,7 @@ def cut(work, trace, folder):
     """Cuts an open trace into windows, each of which may be as long as the program takes."""
     with files.temporary_file(passes.room_in(work.out)) as (out, _):
         wide = work._replace(size=max(work.size, MOST_BYTES // MIB))
-        status, said = running.run(wide, [work.windows, "-n", str(EVENTS), "-o", str(folder)], trace, out)
+        status, said = running.run(wide, [work.windows, "-n", str(MOST_EVENTS), "-o", str(folder)], trace, out)
     return running.end_of(wide, status, said, 0)
 
 
@@ -60,6 +60,5 @@ def put_reports(folder, place):
         if not window.with_suffix(".report").exists():
             window.unlink()
     place.parent.mkdir(parents=True, exist_ok=True)
-    os.chmod(folder, 0o755)
     shutil.rmtree(place, ignore_errors=True)
-    shutil.copytree(folder, place)
+    os.rename(folder, place)

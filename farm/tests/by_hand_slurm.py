@@ -67,7 +67,7 @@ class Cluster:
         os.environ["SLURM_CONF"] = str(run / "slurm.conf")
 
     def start(self, name):
-        """Starts what doesn't run."""
+        """Starts a daemon if it doesn't run."""
         if name in self.started and self.started[name].poll() is None:
             return
         words = {"munged": ["munged", "--foreground", "--force", f"--socket={self.run}/munge.socket", f"--key-file={self.run}/munge.key",
@@ -75,13 +75,13 @@ class Cluster:
                  "slurmctld": ["slurmctld", "-D"]}.get(name, ["unshare", "--pid", "--fork", "--kill-child", "--mount-proc", "slurmd", "-D", "-N", name])
         with open(self.run / f"{name}.said", "ab") as said:
             self.started[name] = subprocess.Popen(words, stdin=subprocess.DEVNULL, stdout=said, stderr=said)
+        time.sleep(1)
 
     def up(self):
         """Starts all that doesn't run, and waits until both nodes are ready."""
-        for name in ("munged", "slurmctld", "n1", "n2"):
-            self.start(name)
-            time.sleep(1)
         for _ in range(120):
+            for name in ("munged", "slurmctld", "n1", "n2"):
+                self.start(name)
             subprocess.run(["scontrol", "update", "nodename=n1,n2", "state=resume"], stderr=subprocess.DEVNULL)
             shown = subprocess.run(["scontrol", "-o", "show", "nodes"], stdout=subprocess.PIPE, stderr=subprocess.DEVNULL).stdout.decode()
             if len(re.findall(r"State=(?:IDLE|MIXED|ALLOCATED)(?![*+])", shown)) == 2:
@@ -234,21 +234,23 @@ def memory(cluster, farm, out):
         print(f"  {kills[1] if kills else '?'} processes were killed for memory, {farm.made(out)} of {farm.count} outcomes", flush=True)
         restart_in(cluster, group.parent)
     finally:
-        for name in ("n1", "n2"):
-            cluster.kill(name)
+        restart_nodes(cluster)
         time.sleep(2)
         group.rmdir()
-        cluster.up()
     return status
+
+
+def restart_nodes(cluster):
+    for name in ("n1", "n2"):
+        cluster.kill(name)
+    cluster.up()
 
 
 def restart_in(cluster, group):
     """Starts both nodes anew in a group of processes: a child joins the group of its parent."""
-    for name in ("n1", "n2"):
-        cluster.kill(name)
     home = (group.parent if group.name == "shb-farm-nodes" else group) / "cgroup.procs"
     (group / "cgroup.procs").write_text(str(os.getpid()))
-    cluster.up()
+    restart_nodes(cluster)
     home.write_text(str(os.getpid()))
 
 
@@ -256,6 +258,7 @@ def disk(cluster, farm, out):
     """The folder of the outcomes is on a disk that is full at once; then it has room."""
     out.mkdir()
     subprocess.run(["mount", "-t", "tmpfs", "-o", "size=64k", "none", out], check=True)
+    restart_nodes(cluster)      # a node sees what was mounted before it began
     try:
         status = farm.took("slurm on a disk of 64 KiB", farm.slurm(out))
         print(f"  {farm.made(out)} of {farm.count} outcomes", flush=True)
@@ -265,6 +268,7 @@ def disk(cluster, farm, out):
         shutil.copytree(out, kept)
     finally:
         subprocess.run(["umount", out], check=True)
+        restart_nodes(cluster)
     out.rmdir()
     kept.rename(out)
     return status

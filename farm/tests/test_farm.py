@@ -104,6 +104,14 @@ class Tables(farm.Case):
         answer = self.farm("--engine", "slurm", PATH=self.folder)
         self.assertEqual((answer.status, answer.err.splitlines()[-1]), (4, "shb-farm: sbatch isn't installed"))
 
+    def test_unknown_places_come_first(self):
+        self.trace("a.std", RACE)
+        self.trace("b.std", RACE + b"T1|w(y)|k.c:1\nT2|w(y)|k.c:1\nT1|w(z)|k.c:3\nT2|w(z)|k.c:3\nT1|w(z)|k.c:2\n")
+        self.farm("--known", self.known(b"a.c:1\tb.c:2\n"))
+        self.assertEqual([line[:4] for line in self.table("places.tsv")], [
+            ["1", "unknown", "k.c:1", "k.c:1"], ["1", "unknown", "k.c:2", "k.c:3"], ["1", "unknown", "k.c:3", "k.c:3"],
+            ["2", "known", "a.c:1", "b.c:2"]])
+
     def test_the_example_is_the_smallest_trace(self):
         self.trace("a.std", RACE + RACE)
         self.trace("c.std", RACE)

@@ -11,6 +11,7 @@ b.c:2\ta.c:1
 lib.c:*\tmain.c:3
 pool.c:*\t*
 a[0].c:?\tz
+a[0].c:*\ty.
 """
 
 
@@ -32,8 +33,8 @@ class KnownPlaces(farm.Case):
         self.expect(False, (b"lib.c:77", b"main.c:33"), (b"lib.c", b"main.c:3"), (b"xpool.c:1", b"z"))
 
     def test_other_signs_stand_for_themselves(self):
-        self.expect(True, (b"a[0].c:?", b"z"))
-        self.expect(False, (b"a0.c:?", b"z"), (b"a[0].c:1", b"z"), (b"a[0]xc:?", b"z"))
+        self.expect(True, (b"a[0].c:?", b"z"), (b"a[0].c:7", b"y."))
+        self.expect(False, (b"a0.c:7", b"y."), (b"a[0].c:7", b"y+"), (b"a0.c:?", b"z"), (b"a[0].c:1", b"z"), (b"a[0]xc:?", b"z"))
 
     def test_comments_are_no_places(self):
         self.expect(False, (b"# A comment, and an empty line", b""), (b"", b""))

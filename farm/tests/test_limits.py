@@ -48,6 +48,14 @@ exit 4
         self.assertEqual((self.folder / "limits").read_text().split()[:3], ["102400", "204800", "614400"])
         self.assertEqual(self.ends()["race.std"][0], "report")
 
+    def test_a_pass_that_did_not_suffice_is_not_run_again(self):
+        self.trace("race.std", RACE)
+        shb = self.script("hungry", f'[ "$(ulimit -v)" -ge 614400 ] && exec {farm.SHB} "$@"\necho "out of memory" >&2\nexit 4\n')
+        self.assertEqual(self.farm("--memory", "100", shb=shb).status, 2)
+        answer = self.farm("--memory", "100,600", "--known", self.known(b"*\t*\n"), shb=shb)
+        self.assertEqual(answer.status, 0)
+        self.assertNotIn("100 MiB", answer.err)
+
     def test_a_refusal_without_words_is_for_memory(self):
         self.trace("bad.std", BAD)
         self.assertEqual(self.farm("--memory", "100", shb=self.script("mute", "exit 2\n")).status, 2)

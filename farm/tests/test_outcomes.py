@@ -100,6 +100,18 @@ class Again(farm.Case):
         self.assertEqual(path.read_bytes(), whole)
 
 
+class Rests(farm.Case):
+    def test_what_killed_runs_have_left_is_deleted_after_a_day(self):
+        room = self.out / "tmp"
+        (room / "old-folder" / "windows").mkdir(parents=True)
+        for name in ("old-folder/windows/window-0001.std", "old", "new"):
+            (room / name).touch()
+        for name in ("old-folder", "old"):
+            os.utime(room / name, (1, 1))
+        self.assertEqual(self.farm().status, 0)
+        self.assertEqual([path.name for path in room.iterdir()], ["new"])
+
+
 class Engines(farm.Case):
     """Stand-ins of xargs that do what an engine may do."""
 
@@ -146,7 +158,7 @@ class Engines(farm.Case):
         answer = self.farm()
         self.assertEqual(answer.status, 3)
         self.assertEqual(self.ends()["bad.std"], ("missing", "its job didn't end"))
-        self.assertIn("shb-farm: bad.std: ", answer.err)
+        self.assertRegex(answer.err, r"(?m)^shb-farm: bad\.std: .*: Is a directory$")
         place.rmdir()
         self.assertEqual(self.farm().status, 1)
 

@@ -116,7 +116,7 @@ class Log(farm.Case):
         self.trace("race.std", RACE)
         result = self.log()["results"][0]
         self.assertEqual(result["message"], {"text": "Data race between a.c:1 and [b.c:2](1): 1 of 1 traces have it, for example race.std."})
-        place = lambda uri, line: {"artifactLocation": {"uri": uri, "uriBaseId": "TRACED"}, "region": {"startLine": line}}
+        place = lambda uri, line: {"artifactLocation": {"uri": uri, "uriBaseId": "SRCROOT"}, "region": {"startLine": line}}
         self.assertEqual(result["locations"], [{"physicalLocation": place("a.c", 1)}])
         self.assertEqual(result["relatedLocations"], [{"id": 1, "message": {"text": "The other access."}, "physicalLocation": place("b.c", 2)}])
         self.assertEqual(result["suppressions"], [])

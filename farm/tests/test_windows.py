@@ -29,7 +29,7 @@ class Windows(farm.Case):
 
     def test_its_windows_are_joined(self):
         self.assertEqual(self.farm(SHB_WINDOWS=self.cutter(WINDOWS)).status, 1)
-        self.assertEqual((self.folder / "words").read_text(), "-n 4000000 -o\n")
+        self.assertEqual((self.folder / "words").read_text(), "-n 4194304 -o\n")
         self.assertEqual(int((self.folder / "given").read_text()), len(LONG))
         self.assertEqual(self.ends()["long.std"], ("report", "3 windows"))
         self.assertEqual(self.table("places.tsv"), [["2", "unknown", "a.c:1", "b.c:2", "race.std", "reports/race.std.report"],
@@ -40,6 +40,13 @@ class Windows(farm.Case):
         self.assertEqual((kept / "window-0002.std").read_bytes(), WINDOWS[1])
         self.assertIn(b"\nschedule 0:\n", (kept / "window-0002.report").read_bytes())
         self.assertEqual(list((self.out / "tmp").iterdir()), [])
+
+    def test_a_trace_with_too_many_threads_is_cut_once_the_command_is_there(self):
+        self.trace("long.std", b"".join(b"T%d|w(x%d)|q\n" % (number, number) for number in range(1025)))
+        self.assertEqual(self.farm().status, 1)
+        self.assertEqual(self.ends()["long.std"], ("refused", "line 1025: there are more than 1024 threads"))
+        self.assertEqual(self.farm(SHB_WINDOWS=self.cutter(WINDOWS)).status, 1)
+        self.assertEqual(self.ends()["long.std"], ("report", "3 windows"))
 
     def test_a_window_that_is_refused(self):
         self.assertEqual(self.farm(SHB_WINDOWS=self.cutter((RACE, BAD))).status, 1)

@@ -23,7 +23,7 @@ def arguments(words):
 
 
 def prefix_of(options):
-    return os.path.abspath(options.prefix)
+    return os.path.abspath(os.path.expanduser(options.prefix))
 
 
 def place_of(options):

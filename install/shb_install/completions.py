@@ -37,18 +37,23 @@ def bash(help_, helps):
     inner = subcommands(help_, helps)
     name = identifier(help_.command)
     lines = [f"# Completes {help_.command} in bash; made from its help.", f"{name}() {{",
-             "    local word=${COMP_WORDS[COMP_CWORD]} previous=${COMP_WORDS[COMP_CWORD-1]} command=${COMP_WORDS[1]}", "    COMPREPLY=()"]
+             "    local word=${COMP_WORDS[COMP_CWORD]} previous=${COMP_WORDS[COMP_CWORD-1]} command=${COMP_WORDS[1]}",
+             "    COMPREPLY=()"]
     if inner:
-        words = " ".join([*inner, "help", *names(help_)])
-        lines += ["    if [ \"$COMP_CWORD\" = 1 ]; then", f"        COMPREPLY=($(compgen -W {quoted(words)} -- \"$word\"))", "        return",
+        lines += ["    if [ \"$COMP_CWORD\" = 1 ]; then", "        " + offered([*inner, "help", *names(help_)]), "        return",
                   "    fi", "    case $command in"]
         for sub, sub_help in inner.items():
             lines += [f"        {sub})", *("    " * 2 + line for line in bash_options(sub_help)), "            ;;"]
-        lines += [f"        help) COMPREPLY=($(compgen -W {quoted(' '.join(inner))} -- \"$word\")) ;;", "    esac"]
+        lines += [f"        help) {offered(inner)} ;;", "    esac"]
     else:
         lines += bash_options(help_)
     lines += ["}", f"complete -o default -F {name} {help_.command}"]
     return "\n".join(lines) + "\n"
+
+
+def offered(words):
+    """The line that offers those of these words that the typed one begins."""
+    return f"COMPREPLY=($(compgen -W {quoted(' '.join(words))} -- \"$word\"))"
 
 
 def names(help_):
@@ -59,12 +64,11 @@ def bash_options(help_):
     lines = ["    case $previous in"]
     for option in help_.options:
         if choices(option):
-            lines.append(f"        {'|'.join(option.names)}) COMPREPLY=($(compgen -W {quoted(' '.join(choices(option)))} -- \"$word\")); return ;;")
+            lines.append(f"        {'|'.join(option.names)}) {offered(choices(option))}; return ;;")
         elif option.value:
             lines.append(f"        {'|'.join(option.names)}) return ;;")
-    lines += ["    esac"] if len(lines) > 1 else []
-    lines = lines if lines[-1] == "    esac" else []
-    return lines + [f"    case $word in -*) COMPREPLY=($(compgen -W {quoted(' '.join(names(help_)))} -- \"$word\")) ;; esac"]
+    lines = [*lines, "    esac"] if len(lines) > 1 else []
+    return lines + [f"    case $word in -*) {offered(names(help_))} ;; esac"]
 
 
 # ---- zsh ----

@@ -4,6 +4,8 @@ import re
 
 ARGUMENTS, OPTIONS = "positional arguments", ("options", "optional arguments")     # as argparse calls them
 
+ESCAPES = (("\\", r"\e"), ("-", r"\-"), ("'", r"\(aq"), ("`", r"\(ga"), ("^", r"\(ha"), ("~", r"\(ti"), ('"', r"\(dq"))
+
 
 def page(help_, version, date, others):
     """The page of a command; `others` are the names of the pages that it points to."""
@@ -41,6 +43,6 @@ def options(help_):
 
 def roff(text):
     """A line of text as roff reads it: no sign in it commands anything."""
-    for sign, escape in (("\\", r"\e"), ("-", r"\-"), ("'", r"\(aq"), ("`", r"\(ga"), ("^", r"\(ha"), ("~", r"\(ti"), ('"', r"\(dq")):
+    for sign, escape in ESCAPES:
         text = text.replace(sign, escape)
     return re.sub(r"^\.", r"\\&.", text)

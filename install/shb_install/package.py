@@ -62,7 +62,8 @@ def proved_text(tree, name, commit, seconds):
     section = re.search(r"^## What is proved\n.*?(?=^## |\Z)", readme, re.M | re.S)[0]
     kit = KIT.search(readme)[1]
     checksum = hashlib.sha256((tree / "bin/shb").read_bytes()).hexdigest()
-    return PROVED.format(version=name, commit=commit, date=day(seconds), checksum=checksum, kit=kit, glibc=glibc_of(tree), section=section)
+    return PROVED.format(version=name, commit=commit, date=day(seconds), checksum=checksum, kit=kit, glibc=glibc_of(tree),
+                         section=section)
 
 
 def archive(tree, top, seconds):

@@ -13,7 +13,8 @@ FOLDERS = ("recorder", "view", "farm")      # where commands (shb-NAME) and thei
 OWN = ("lib/shb", "share/doc/shb")          # folders that are nobody else's
 SHARED = ("bin", "share/man/man1", "share/bash-completion/completions", "share/zsh/site-functions",
           "share/fish/vendor_completions.d")
-DOCUMENTS = ("README.md", "CONTRIBUTING.md", "docs/*", "recorder/README.md", "farm/README.md", "examples/*")
+DOCUMENTS = ("README.md", "CONTRIBUTING.md", "docs/*", "recorder/README.md", "farm/README.md", "install/README.md",
+             "examples/*")
 COMPLETIONS = ((completions.bash, "share/bash-completion/completions/{}"), (completions.zsh, "share/zsh/site-functions/_{}"),
                (completions.fish, "share/fish/vendor_completions.d/{}.fish"))
 RECORDER_FLAGS = "-O2 -Wall -Wextra -Wno-unused-parameter"  # as in its Makefile without -g, which names folders

@@ -57,9 +57,9 @@ class Case(unittest.TestCase):
         self.addCleanup(room.cleanup)
         self.folder = pathlib.Path(room.name)
 
-    def need(self, command):
-        if not shutil.which(command):
-            self.skipTest(f"{command} isn't installed")
+    def need(self, command, path=None):
+        if not shutil.which(command, path=path):
+            self.skipTest(f"{command} isn't installed" + (f" in {path}" if path else ""))
 
 
 @functools.lru_cache(maxsize=None)

@@ -8,13 +8,16 @@ import installing
 from installing import TOP, call, contents
 
 RACE = "T1|w(x)|a.c:1\nT2|w(x)|b.c:2\n"
-WANTED = ("bin/shb", "bin/shb-farm", "bin/shb-std", "bin/shb-view", "lib/shb/libtsan.so", "lib/shb/libtsan_preinit.o",
-          "lib/shb/shb_farm/job.py", "lib/shb/shb_view/page.css", "share/man/man1/shb.1", "share/man/man1/shb-races.1",
-          "share/man/man1/shb-places.1", "share/man/man1/shb-check.1", "share/man/man1/shb-farm.1",
-          "share/bash-completion/completions/shb", "share/bash-completion/completions/shb-farm", "share/zsh/site-functions/_shb",
-          "share/zsh/site-functions/_shb-farm", "share/fish/vendor_completions.d/shb.fish",
-          "share/fish/vendor_completions.d/shb-farm.fish", "share/doc/shb/README.md", "share/doc/shb/VERSION",
-          "share/doc/shb/docs/GUARANTEES.md", "share/doc/shb/examples/fork-join.std")
+COMMANDS = ("shb", "shb-farm", "shb-record", "shb-std", "shb-view", "shb-windows")
+WITH_HELP = ("shb", "shb-farm", "shb-record", "shb-view", "shb-windows")
+WANTED = ([f"bin/{name}" for name in COMMANDS]
+          + [f"share/man/man1/{name}.1" for name in (*WITH_HELP, "shb-races", "shb-places", "shb-check")]
+          + [f"share/bash-completion/completions/{name}" for name in WITH_HELP]
+          + [f"share/zsh/site-functions/_{name}" for name in WITH_HELP]
+          + [f"share/fish/vendor_completions.d/{name}.fish" for name in WITH_HELP]
+          + ["lib/shb/libtsan.so", "lib/shb/libtsan.so.0", "lib/shb/libtsan.so.2", "lib/shb/libtsan_preinit.o", "lib/shb/shb_farm/job.py",
+             "lib/shb/shb_view/page.css", "share/doc/shb/README.md", "share/doc/shb/VERSION", "share/doc/shb/docs/GUARANTEES.md",
+             "share/doc/shb/examples/fork-join.std"])
 SHARED = ("bin/shb", "share/man/man1/shb", "share/bash-completion/completions/shb", "share/zsh/site-functions/_shb",
           "share/fish/vendor_completions.d/shb")
 OWN = ("lib/shb/", "share/doc/shb/")
@@ -41,19 +44,46 @@ class Tree(installing.Case):
         for name in re.findall(r"\]\(([^)#:]+)\)", (folder / "README.md").read_text()):
             self.assertTrue((folder / name).exists(), name)
 
-    def test_it_works_from_there_without_an_environment(self):
+    def links(self):
+        """A folder with links to all commands, as a user may have it."""
+        folder = self.folder / "bin"
+        folder.mkdir()
+        for command in (self.prefix / "bin").iterdir():
+            (folder / command.name).symlink_to(command)
+        return folder
+
+    def test_commands_find_their_parts_without_an_environment(self):
         """Also through links from another folder, and with nothing of the checkout."""
+        self.need("python3", os.defpath)
         trace = self.folder / "traces" / "race.std"
         trace.parent.mkdir()
         trace.write_text(RACE)
-        (self.folder / "bin").mkdir()
-        for command in (self.prefix / "bin").iterdir():
-            (self.folder / "bin" / command.name).symlink_to(command)
-        for folder in (self.prefix, self.folder):
-            listed = call(folder / "bin" / "shb", "races", "--list", trace, env={})
+        for folder in (self.prefix / "bin", self.links()):
+            listed = call(folder / "shb", "races", "--list", trace, env={})
             self.assertIn("\nplace 1: 1\nat a.c:1\nand b.c:2\n", listed)
-            said = call(folder / "bin" / "shb-farm", trace.parent, self.folder / "out", env={}, status=1)
+            said = call(folder / "shb-farm", trace.parent, self.folder / "out", env={}, status=1)
             self.assertTrue(said.startswith("traces 1 reports 1 refused 0 missing 0\nplaces 1 unknown 1 known 0\n"), said)
+            self.assertIn("b.c:2", call(folder / "shb-view", trace, env={}))
+
+    def test_a_program_is_recorded(self):
+        """Compiled as the README says, recorded through a link to the command."""
+        program = self.folder / "account"
+        call("gcc", "-fsanitize=thread", "-g", TOP / "examples" / "account.c", "-o", program)
+        results = self.folder / "results"
+        call(self.links() / "shb-record", "-o", results, program, status=66, env={"PATH": os.environ["PATH"]})
+        self.assertEqual((results / "unknown.places").read_text(), "account.c:10\taccount.c:8\n")
+
+    def test_a_farm_cuts_a_long_trace(self):
+        self.need("python3", os.defpath)
+        trace = self.folder / "traces" / "long.std"
+        trace.parent.mkdir()
+        with open(trace, "w") as file:
+            for part in (RACE, "A|end\n" * 4_194_305, "T3|w(y)|k.c:1\nT4|r(y)|k.c:2\n", "T2|w(x)|far.c:9\n"):
+                file.write(part)
+        out = self.folder / "out"
+        call(self.prefix / "bin" / "shb-farm", trace.parent, out, env={}, status=1)
+        self.assertEqual((out / "unknown.places").read_text(), "a.c:1\tb.c:2\nk.c:1\tk.c:2\n")
+        self.assertIn("\nlong.std\treport\t2\t2 windows\n", (out / "traces.tsv").read_text())
 
     def test_nothing_names_the_checkout_or_a_folder_that_is_gone(self):
         for name, content in contents(self.prefix).items():

@@ -123,7 +123,10 @@ class Pages(installing.Case):
         self.prefix = installing.installed()
 
     def helps(self):
-        for words in (["shb"], ["shb", "races"], ["shb", "places"], ["shb", "check"], ["shb-farm"]):
+        """The words of each page's command, with its help."""
+        for page in sorted((self.prefix / "share/man/man1").iterdir()):
+            command = page.stem if (self.prefix / "bin" / page.stem).exists() else "shb"
+            words = [command] if page.stem == command else [command, page.stem[len("shb-"):]]
             environment = {"PATH": os.environ["PATH"], "COLUMNS": "80"}
             yield words, call(self.prefix / "bin" / words[0], *words[1:], "--help", env=environment)
 

@@ -24,11 +24,14 @@ u64 mix(u64 a, u64 b);
 extern u64 record_count;
 extern const char *recording_cut;      /* why the record is not that of the whole run; or null */
 void open_record(const char *path);
+enum { RECORDS_AT_ONCE = 1 << 20 };    /* a multiple of a page's; so many are in memory at a time */
+void forget_records(u64 from, u64 end);
 enum operation operation_of(u64 i);
 u64 address_of(u64 i), caller_of(u64 i), size_of(u64 i);
 u32 thread_of(u64 i);
 int writes_plainly(u64 i), is_atomic(u64 i), writes_atomically(u64 i);
 int is_for_object(u64 i);
+int acquires(u64 i), releases(u64 i);  /* of an atomic access or a fence */
 u64 accessed_bytes(u64 i);
 
 /* names.c: modules, symbols, lines of code. */
@@ -69,12 +72,15 @@ void find_users(u64 i);
 void find_cuts(u64 i);
 void share_pieces(u64 i);
 void share_object(u64 i);
+extern int has_fences;                 /* known before the third pass */
+void share_fence(u64 i);
 void forget_states(void);              /* of objects, between the passes */
 int holds_unwritten(u32 t);            /* does it hold a lock whose acquire isn't in the trace? */
 void write_holds(u32 t);               /* writes these */
 u64 held_locks(u32 t);                 /* equal where it holds the same locks by which it orders no other thread */
 void access_events(u64 i);
 void object_events(u64 i);
+void fence_events(u64 i);
 
 /* A list of threads is the number of its first entry, or 0. */
 typedef struct { u32 thread, next; } list_entry;

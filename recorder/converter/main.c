@@ -20,6 +20,7 @@ static u32 thread_count = 1;
 
 static void find_threads_and_cuts(u64 i) {
     note_caller(caller_of(i));
+    if (operation_of(i) == OP_FENCE) has_fences = 1;
     if (operation_of(i) == OP_FORK && address_of(i) >= thread_count) thread_count = address_of(i) + 1;
     find_cuts(i);
 }
@@ -27,6 +28,7 @@ static void find_threads_and_cuts(u64 i) {
 static void find_sharing(u64 i) {
     if (operation_of(i) == OP_START && thread_of(i)) name_thread(thread_of(i), caller_of(i));
     share_pieces(i);
+    if (operation_of(i) == OP_FENCE) share_fence(i);
     if (is_for_object(i)) share_object(i);
 }
 
@@ -35,6 +37,7 @@ static void write_events(u64 i) {
     if (operation == OP_FORK && address_of(i) >= SHB_THREADS && !into_windows) cut_reason = "before a thread too many: shb takes 1,024";
     else if (operation == OP_FORK) event(thread_of(i), "fork", thread_name(address_of(i)), "", caller_of(i));
     else if (operation == OP_JOIN) event(thread_of(i), "join", thread_name(address_of(i)), "", caller_of(i));
+    else if (operation == OP_FENCE) fence_events(i);
     else if (is_for_object(i)) object_events(i);
     else access_events(i);
 }
@@ -45,6 +48,7 @@ static const char *shortened;
 static void pass(void (*step)(u64)) {
     begin_memory_pass();
     for (u64 i = 0; i < record_count && !cut_reason; i++) {
+        if (i && i % RECORDS_AT_ONCE == 0) forget_records(i - RECORDS_AT_ONCE, i);
         if (operation_of(i) == OP_SIZE) continue;
         meet_block(i);
         step(i);

@@ -3,11 +3,17 @@
 #include <string.h>
 #include "converter.h"
 
+/* What a store or an update gives on to those who read it: a number of the object's own, and who gave it. If it is
+   locked, whoever takes the lock of the object's head gets it too. */
+typedef struct { u32 version, giver, locked; } gift;
+
 typedef struct {
     u64 at;
     u32 block, user;                   /* the block's number; the first thread that used it, plus one */
     u32 holder, depth;                 /* of a lock: the thread that took it, plus one, and how often */
-    u32 version, head;                 /* how often it was stored to; the version that heads the release sequence */
+    u32 version, head;                 /* how often it gave something; the number of the lock of its updates */
+    gift *gifts;                       /* what its present value gives */
+    u64 gift_count, gift_capacity;
     u32 posts, *waiters;               /* of a semaphore; of a reader-writer lock: the readers since the last writer */
     u64 waiter_count, waiter_capacity;
     u32 count, users, arrivals;        /* of a barrier */
@@ -20,7 +26,8 @@ static object *objects;
 static u64 object_count, object_capacity;
 static map object_map, seen_map, version_map;
 static u32 *seen;                      /* for object and thread: the last version, post or round that it has seen */
-static u64 seen_count, seen_capacity;
+static u32 *noted;                     /* the same: the last version that it will take at a fence */
+static u64 seen_count, seen_capacity, noted_capacity;
 static u32 *version_readers;           /* for object and version: the list of those who will read it */
 static u64 version_count, version_capacity;
 
@@ -33,13 +40,18 @@ static object *object_at(u64 address) {
     return &objects[number - 1];
 }
 
-static u32 *seen_by(object *o, u32 t) {
+static u32 seen_number(object *o, u32 t) {
     u32 number = map_number(&seen_map, o - objects, t);
-    if (number > seen_count) {
-        GROW(seen, seen_count, seen_capacity);
-        seen[seen_count++] = 0;
-    }
-    return &seen[number - 1];
+    if (number <= seen_count) return number - 1;
+    GROW(seen, seen_count, seen_capacity);
+    GROW(noted, seen_count, noted_capacity);
+    seen[seen_count] = noted[seen_count] = 0;
+    return seen_count++;
+}
+
+static u32 *seen_by(object *o, u32 t) {
+    u32 number = seen_number(o, t);    /* it may move the array */
+    return &seen[number];
 }
 
 static void new_version(object *o, u32 t) { *seen_by(o, t) = ++o->version; }
@@ -58,18 +70,101 @@ static void add_waiter(object *o, u32 t) {
     o->waiters[o->waiter_count++] = t;
 }
 
+/* ---- memory orders: who takes what from whom; the same in the third and the fourth pass ---- */
+typedef void (*handing)(object *o, u32 version, u32 taker, u64 caller);
+typedef struct { u32 object, version; } note;
+static struct { note *notes; u64 count, capacity; int fenced; } fences[THREADS];   /* fenced: by a release fence */
+int has_fences;
+
+static void give(object *o, u32 t, int locked) {
+    GROW(o->gifts, o->gift_count, o->gift_capacity);
+    o->gifts[o->gift_count++] = (gift){++o->version, t, locked};
+}
+
+/* t takes all gifts of the present value that it hasn't; what the lock of the head gives only if that isn't taken. */
+static void take_gifts(object *o, u32 t, int by_lock, handing hand, u64 caller) {
+    u32 last = *seen_by(o, t);
+    for (u64 k = o->gift_count; k-- > 0 && o->gifts[k].version > last;)
+        if (o->gifts[k].giver != t && !(by_lock && o->gifts[k].locked)) hand(o, o->gifts[k].version, t, caller);
+    *seen_by(o, t) = o->version;
+}
+
+/* A relaxed read: t will take the gifts at its next fence, if there is one. */
+static void note_gifts(object *o, u32 t) {
+    u32 number = seen_number(o, t), last = noted[number] > seen[number] ? noted[number] : seen[number];
+    for (u64 k = o->gift_count; k-- > 0 && o->gifts[k].version > last;) {
+        if (o->gifts[k].giver == t) continue;
+        GROW(fences[t].notes, fences[t].count, fences[t].capacity);
+        fences[t].notes[fences[t].count++] = (note){o - objects, o->gifts[k].version};
+    }
+    noted[number] = o->version;
+}
+
+static void take_noted(u32 t, handing hand, u64 caller) {
+    for (u64 k = 0; k < fences[t].count; k++) hand(&objects[fences[t].notes[k].object], fences[t].notes[k].version, t, caller);
+    fences[t].count = 0;
+}
+
+static void read_value(u64 i, object *o, int by_lock, handing hand) {
+    if (acquires(i)) take_gifts(o, thread_of(i), by_lock, hand, caller_of(i));
+    else if (has_fences) note_gifts(o, thread_of(i));
+}
+
+/* After a release fence of its thread each store and update counts as a release. */
+static int gives(u64 i) { return releases(i) || fences[thread_of(i)].fenced; }
+
+/* An update that acquires and releases does so by a lock that it shares with its like. */
+static int is_by_lock(u64 i) { return operation_of(i) == OP_ATOMIC_UPDATE && acquires(i) && gives(i); }
+
+/* A store that gives begins anew; any other ends what other threads gave, and keeps its own thread's. */
+static void store_value(u64 i, object *o) {
+    u32 t = thread_of(i);
+    u64 kept = 0;
+    for (u64 k = 0; k < o->gift_count && !gives(i); k++)
+        if (o->gifts[k].giver == t) o->gifts[kept++] = (gift){o->gifts[k].version, t, 0};
+    o->gift_count = kept;
+    if (gives(i)) give(o, t, 1);
+    else o->version++;
+    o->head = o->version;
+}
+
+/* An update keeps what the value before gave; one by the lock has taken all, and gives it on. */
+static void write_value(u64 i, object *o) {
+    if (operation_of(i) == OP_ATOMIC_STORE) {
+        store_value(i, o);
+        return;
+    }
+    if (is_by_lock(i)) o->gift_count = 0;
+    if (gives(i)) give(o, thread_of(i), is_by_lock(i));
+}
+
+static void pass_fence(u64 i, handing hand) {
+    if (acquires(i)) take_noted(thread_of(i), hand, caller_of(i));
+    if (releases(i)) fences[thread_of(i)].fenced = 1;
+}
+
 /* ---- 3: who uses and who reads what ---- */
-/* A store passes what it carries to each of its readers by a lock of these two alone, so that no reader orders
-   another.  For this the readers of each version are found first. */
-static void will_read(object *o, u32 t) {
-    if (!sees_version(o, t)) return;
-    u32 number = map_number(&version_map, o - objects, o->version);
+/* A store passes what it gives to each of its takers by a lock of these two alone, so that no taker orders another. For
+   this the takers of each version are found first. */
+static void add_taker(object *o, u32 version, u32 t, u64 unused) {
+    u32 number = map_number(&version_map, o - objects, version);
     if (number > version_count) {
         GROW(version_readers, version_count, version_capacity);
         version_readers[version_count++] = 0;
     }
     add_to_list(&version_readers[number - 1], t);
 }
+
+static void will_read(object *o, u32 t) {
+    if (sees_version(o, t)) add_taker(o, o->version, t, 0);
+}
+
+static void share_atomic(u64 i, object *o) {
+    if (operation_of(i) != OP_ATOMIC_STORE) read_value(i, o, is_by_lock(i), add_taker);
+    if (operation_of(i) != OP_ATOMIC_LOAD) write_value(i, o);
+}
+
+void share_fence(u64 i) { pass_fence(i, add_taker); }
 
 static void share_lock(object *o, u32 t, enum operation operation) {
     int taken = o->depth && o->holder == t + 1;
@@ -94,8 +189,8 @@ void share_object(u64 i) {
     if (o->user != t + 1) o->many_users = 1;
     switch (operation) {
     case OP_LOCK: case OP_UNLOCK: case OP_LOCK_INIT: share_lock(o, t, operation); break;
-    case OP_ATOMIC_LOAD: case OP_READ_LOCK: will_read(o, t); break;
-    case OP_ATOMIC_STORE: case OP_ATOMIC_UPDATE: new_version(o, t); break;
+    case OP_ATOMIC_LOAD: case OP_ATOMIC_STORE: case OP_ATOMIC_UPDATE: share_atomic(i, o); break;
+    case OP_READ_LOCK: will_read(o, t); break;
     case OP_WRITE_LOCK: o->holder = t + 1; break;
     case OP_RW_UNLOCK:
         if (o->holder != t + 1) break;
@@ -116,8 +211,13 @@ void share_object(u64 i) {
 }
 
 void forget_states(void) {
-    for (u64 i = 0; i < object_count; i++) objects[i].depth = objects[i].holder = objects[i].version = 0;
+    for (u64 i = 0; i < object_count; i++) {
+        objects[i].depth = objects[i].holder = objects[i].version = objects[i].head = 0;
+        objects[i].gift_count = 0;
+    }
+    for (u32 t = 0; t < THREADS; t++) fences[t].count = fences[t].fenced = 0;
     if (seen_count) memset(seen, 0, seen_count * sizeof *seen);
+    if (seen_count) memset(noted, 0, seen_count * sizeof *noted);
 }
 
 /* ---- 4: locks that are held and order nothing: of one thread alone, and reader-writer locks, whose order is told by
@@ -206,30 +306,36 @@ static const char *thread_tail(u32 version, char sign, u32 t) {
     return text;
 }
 
-static void publish(object *o, u32 t, u64 caller) {
-    u32 number = map_find(&version_map, o - objects, o->version);
+static void publish_version(object *o, u32 t, u32 version, u64 caller) {
+    u32 number = map_find(&version_map, o - objects, version);
     for (u32 k = number ? version_readers[number - 1] : 0; k; k = list_entries[k - 1].next)
-        pass_lock(o, t, thread_tail(o->version, '>', list_entries[k - 1].thread), caller);
+        pass_lock(o, t, thread_tail(version, '>', list_entries[k - 1].thread), caller);
 }
+
+static void publish(object *o, u32 t, u64 caller) { publish_version(o, t, o->version, caller); }
 
 static void receive(object *o, u32 t, u64 caller) {
     if (sees_version(o, t)) pass_lock(o, t, thread_tail(o->version, '>', t), caller);
 }
 
-static void load_events(u64 i, object *o) {
-    receive(o, thread_of(i), caller_of(i));
-    access_events(i);
+static void take_version(object *o, u32 version, u32 t, u64 caller) {
+    pass_lock(o, t, thread_tail(version, '>', t), caller);
 }
 
-/* An update takes what the store at the head of its release sequence gave, and all updates since. */
-static void store_events(u64 i, object *o) {
+void fence_events(u64 i) { pass_fence(i, take_version); }
+
+/* A store that gives is the first to take the lock of its head, so by that it gives alone. */
+static void atomic_events(u64 i, object *o) {
     u32 t = thread_of(i);
-    new_version(o, t);
-    if (operation_of(i) == OP_ATOMIC_STORE) o->head = o->version;
-    lock_event(o, t, "acq", tail(o->head), caller_of(i));
+    u64 caller = caller_of(i);
+    int stores = operation_of(i) == OP_ATOMIC_STORE, loads = operation_of(i) == OP_ATOMIC_LOAD;
+    int by_lock = is_by_lock(i) || (stores && gives(i));
+    if (!stores) read_value(i, o, by_lock, take_version);
+    if (!loads) write_value(i, o);
+    if (by_lock) lock_event(o, t, "acq", tail(o->head), caller);
     access_events(i);
-    lock_event(o, t, "rel", tail(o->head), caller_of(i));
-    publish(o, t, caller_of(i));
+    if (by_lock) lock_event(o, t, "rel", tail(o->head), caller);
+    if (!loads && gives(i)) publish(o, t, caller);
 }
 
 static void write_lock_events(object *o, u32 t, u64 caller) {
@@ -286,8 +392,7 @@ static void order_events(u64 i, object *o) {
     case OP_WAIT: wait_events(o, t, caller); break;
     case OP_ARRIVE: arrive_events(o, t, caller); break;
     case OP_DEPART: pass_lock(o, t, tail(*seen_by(o, t)), caller); break;
-    case OP_ATOMIC_LOAD: load_events(i, o); break;
-    case OP_ATOMIC_STORE: case OP_ATOMIC_UPDATE: store_events(i, o); break;
+    case OP_ATOMIC_LOAD: case OP_ATOMIC_STORE: case OP_ATOMIC_UPDATE: atomic_events(i, o); break;
     default: break;
     }
 }

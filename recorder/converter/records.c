@@ -59,19 +59,30 @@ void open_record(const char *path) {
     if (strncmp(file, RECORD_MAGIC, strlen(RECORD_MAGIC))) die("%s is no record", path);
     records = (struct record *)(file + HEADER_BYTES);
     u64 most = (size - HEADER_BYTES) / sizeof *records;
-    while (record_count < most && records[record_count].what) record_count++;
+    for (; record_count < most && records[record_count].what; record_count++)
+        if (record_count && record_count % RECORDS_AT_ONCE == 0) forget_records(record_count - RECORDS_AT_ONCE, record_count);
     if (record_count && size_follows(record_count - 1)) record_count--;  /* cut in two */
-    for (u64 i = 0; i < record_count; i++)
+    for (u64 i = 0; i < record_count; i++) {
         if (!is_good(i)) die("record %lu of %s is damaged", i + 1, path);
+        if (i && i % RECORDS_AT_ONCE == 0) forget_records(i - RECORDS_AT_ONCE, i);
+    }
     memcpy(header, file, HEADER_BYTES);
     note_how_it_ended(header + ENDED_AT);
     header[ENDED_AT] = 0;
     read_modules(header);
 }
 
+/* A pass has gone by these: they needn't stay in memory. */
+void forget_records(u64 from, u64 end) { madvise(&records[from], (end - from) * sizeof *records, MADV_DONTNEED); }
+
 /* ---- what a record accesses ---- */
 int is_atomic(u64 i) { return operation_of(i) >= OP_ATOMIC_LOAD && operation_of(i) <= OP_ATOMIC_UPDATE; }
 int writes_atomically(u64 i) { return is_atomic(i) && operation_of(i) != OP_ATOMIC_LOAD; }
+
+/* The memory order of an atomic access or a fence: does it take over what a release gave, does it give on? */
+static u64 order_of(u64 i) { return operation_of(i) == OP_FENCE ? size_of(i) : size_of(i) >> ATOMIC_SIZE_BITS; }
+int acquires(u64 i) { return order_of(i) != __ATOMIC_RELAXED && order_of(i) != __ATOMIC_RELEASE; }
+int releases(u64 i) { return order_of(i) >= __ATOMIC_RELEASE; }
 
 int writes_plainly(u64 i) {
     enum operation operation = operation_of(i);
@@ -97,8 +108,8 @@ static u64 freed_bytes(u64 address) {
 
 u64 accessed_bytes(u64 i) {
     switch (operation_of(i)) {
-    case OP_READ: case OP_WRITE:
-    case OP_ATOMIC_LOAD: case OP_ATOMIC_STORE: case OP_ATOMIC_UPDATE: return size_of(i);
+    case OP_READ: case OP_WRITE: return size_of(i);
+    case OP_ATOMIC_LOAD: case OP_ATOMIC_STORE: case OP_ATOMIC_UPDATE: return size_of(i) & ((1 << ATOMIC_SIZE_BITS) - 1);
     case OP_FREE: return freed_bytes(address_of(i));
     case OP_DESTROY: return 1;
     default: return uses_object(i);

@@ -52,12 +52,14 @@ PUBLIC void __tsan_func_exit(void) { forget_write(); }
 PUBLIC void __tsan_ignore_thread_begin(void) {}
 PUBLIC void __tsan_ignore_thread_end(void) {}
 
-/* ---- atomic operations: done here under the turn, whatever memory order was asked for ---- */
-static thread *before_atomic(enum operation operation, const volatile void *p, int size, uint64_t caller) {
+/* ---- atomic operations: done here under the turn, and in the strongest order; the record has the one asked for ---- */
+static uint64_t size_and_order(int size, int order) { return size | (order & 7) << ATOMIC_SIZE_BITS; }
+
+static thread *before_atomic(enum operation operation, const volatile void *p, uint64_t size_and_order, uint64_t caller) {
     thread *t = enter(MAY_YIELD);
     if (!t) return 0;
     t->written = 0;
-    if (others) put(t, operation, p, size, caller);
+    if (others) put(t, operation, p, size_and_order, caller);
     if (operation == OP_ATOMIC_STORE) t->last_read = 0;
     else note_spin(t, read_at(p, caller));
     return t;
@@ -72,62 +74,130 @@ static thread *before_exchange(void) {
     return t;
 }
 
-static void after_exchange(thread *t, int done, const volatile void *p, int size, uint64_t caller) {
+static void after_exchange(thread *t, int done, const volatile void *p, uint64_t size_and_order, uint64_t caller) {
     if (!t) return;
     t->written = 0;
-    if (others) put(t, done ? OP_ATOMIC_UPDATE : OP_ATOMIC_LOAD, p, size, caller);
+    if (others) put(t, done ? OP_ATOMIC_UPDATE : OP_ATOMIC_LOAD, p, size_and_order, caller);
     if (done) t->last_read = 0;
     else note_spin(t, read_at(p, caller));
     leave(t);
 }
 
-#define UPDATE(bits, type, name, builtin) \
+/* Of 16 bytes, for which the compiler would call another library. */
+typedef unsigned __int128 uint128_t;
+
+static int exchange_16(volatile uint128_t *p, uint128_t *expected, uint128_t value) {
+    uint64_t low = (uint64_t)*expected, high = (uint64_t)(*expected >> 64);
+    char done;
+    __asm__ volatile("lock cmpxchg16b %1; sete %0"
+                     : "=q"(done), "+m"(*p), "+a"(low), "+d"(high)
+                     : "b"((uint64_t)value), "c"((uint64_t)(value >> 64)) : "memory", "cc");
+    if (!done) *expected = (uint128_t)high << 64 | low;
+    return done;
+}
+
+static uint128_t load_16(const volatile uint128_t *p) {
+    uint128_t value = 0;
+    exchange_16((volatile uint128_t *)p, &value, 0);         /* writes 0 where there is 0 */
+    return value;
+}
+
+#define FETCH_16(name, new_value) \
+    static uint128_t name##_16(volatile uint128_t *p, uint128_t value) { \
+        uint128_t old = load_16(p); \
+        while (!exchange_16(p, &old, new_value)) ; \
+        return old; \
+    }
+FETCH_16(exchange_all, value)
+FETCH_16(fetch_add, old + value)
+FETCH_16(fetch_sub, old - value)
+FETCH_16(fetch_and, old & value)
+FETCH_16(fetch_or, old | value)
+FETCH_16(fetch_xor, old ^ value)
+FETCH_16(fetch_nand, ~(old & value))
+
+/* The operations as the macros below name them: of up to 8 bytes the compiler's own. */
+#define LOAD(p) __atomic_load_n(p, __ATOMIC_SEQ_CST)
+#define STORE(p, value) __atomic_store_n(p, value, __ATOMIC_SEQ_CST)
+#define EXCHANGE(p, expected, value) __atomic_compare_exchange_n(p, expected, value, 0, __ATOMIC_SEQ_CST, __ATOMIC_SEQ_CST)
+#define DO_exchange(p, value) __atomic_exchange_n(p, value, __ATOMIC_SEQ_CST)
+#define DO_fetch_add(p, value) __atomic_fetch_add(p, value, __ATOMIC_SEQ_CST)
+#define DO_fetch_sub(p, value) __atomic_fetch_sub(p, value, __ATOMIC_SEQ_CST)
+#define DO_fetch_and(p, value) __atomic_fetch_and(p, value, __ATOMIC_SEQ_CST)
+#define DO_fetch_or(p, value) __atomic_fetch_or(p, value, __ATOMIC_SEQ_CST)
+#define DO_fetch_xor(p, value) __atomic_fetch_xor(p, value, __ATOMIC_SEQ_CST)
+#define DO_fetch_nand(p, value) __atomic_fetch_nand(p, value, __ATOMIC_SEQ_CST)
+
+#define UPDATE(bits, type, name, perform) \
     PUBLIC type __tsan_atomic##bits##_##name(volatile type *p, type value, int order) { \
-        thread *t = before_atomic(OP_ATOMIC_UPDATE, p, bits / 8, CALLER); \
-        type old = builtin(p, value, __ATOMIC_SEQ_CST); \
+        thread *t = before_atomic(OP_ATOMIC_UPDATE, p, size_and_order(bits / 8, order), CALLER); \
+        type old = perform(p, value); \
         after_atomic(t); \
         return old; \
     }
 
-#define COMPARE_EXCHANGE(bits, type, name) \
+#define COMPARE_EXCHANGE(bits, type, name, exchange) \
     PUBLIC int __tsan_atomic##bits##_##name(volatile type *p, type *expected, type value, int order, int fail_order) { \
         thread *t = before_exchange(); \
-        int done = __atomic_compare_exchange_n(p, expected, value, 0, __ATOMIC_SEQ_CST, __ATOMIC_SEQ_CST); \
-        after_exchange(t, done, p, bits / 8, CALLER); \
+        int done = exchange(p, expected, value); \
+        after_exchange(t, done, p, size_and_order(bits / 8, done ? order : fail_order), CALLER); \
         return done; \
     }
 
-#define ATOMICS(bits, type) \
+#define ATOMICS(bits, type, load, store, exchange) \
     PUBLIC type __tsan_atomic##bits##_load(const volatile type *p, int order) { \
-        thread *t = before_atomic(OP_ATOMIC_LOAD, p, bits / 8, CALLER); \
-        type value = __atomic_load_n(p, __ATOMIC_SEQ_CST); \
+        thread *t = before_atomic(OP_ATOMIC_LOAD, p, size_and_order(bits / 8, order), CALLER); \
+        type value = load(p); \
         after_atomic(t); \
         return value; \
     } \
     PUBLIC void __tsan_atomic##bits##_store(volatile type *p, type value, int order) { \
-        thread *t = before_atomic(OP_ATOMIC_STORE, p, bits / 8, CALLER); \
-        __atomic_store_n(p, value, __ATOMIC_SEQ_CST); \
+        thread *t = before_atomic(OP_ATOMIC_STORE, p, size_and_order(bits / 8, order), CALLER); \
+        store(p, value); \
         after_atomic(t); \
     } \
-    UPDATE(bits, type, exchange, __atomic_exchange_n) \
-    UPDATE(bits, type, fetch_add, __atomic_fetch_add) \
-    UPDATE(bits, type, fetch_sub, __atomic_fetch_sub) \
-    UPDATE(bits, type, fetch_and, __atomic_fetch_and) \
-    UPDATE(bits, type, fetch_or, __atomic_fetch_or) \
-    UPDATE(bits, type, fetch_xor, __atomic_fetch_xor) \
-    UPDATE(bits, type, fetch_nand, __atomic_fetch_nand) \
-    COMPARE_EXCHANGE(bits, type, compare_exchange_strong) \
-    COMPARE_EXCHANGE(bits, type, compare_exchange_weak) \
+    COMPARE_EXCHANGE(bits, type, compare_exchange_strong, exchange) \
+    COMPARE_EXCHANGE(bits, type, compare_exchange_weak, exchange) \
     PUBLIC type __tsan_atomic##bits##_compare_exchange_val(volatile type *p, type expected, type value, int order, \
                                                            int fail_order) { \
         thread *t = before_exchange(); \
-        int done = __atomic_compare_exchange_n(p, &expected, value, 0, __ATOMIC_SEQ_CST, __ATOMIC_SEQ_CST); \
-        after_exchange(t, done, p, bits / 8, CALLER); \
+        int done = exchange(p, &expected, value); \
+        after_exchange(t, done, p, size_and_order(bits / 8, done ? order : fail_order), CALLER); \
         return expected; \
     }
-ATOMICS(8, uint8_t)
-ATOMICS(16, uint16_t)
-ATOMICS(32, uint32_t)
-ATOMICS(64, uint64_t)
-PUBLIC void __tsan_atomic_thread_fence(int order) { __atomic_thread_fence(__ATOMIC_SEQ_CST); }
+
+#define UPDATES(bits, type) \
+    UPDATE(bits, type, exchange, DO_exchange) \
+    UPDATE(bits, type, fetch_add, DO_fetch_add) \
+    UPDATE(bits, type, fetch_sub, DO_fetch_sub) \
+    UPDATE(bits, type, fetch_and, DO_fetch_and) \
+    UPDATE(bits, type, fetch_or, DO_fetch_or) \
+    UPDATE(bits, type, fetch_xor, DO_fetch_xor) \
+    UPDATE(bits, type, fetch_nand, DO_fetch_nand)
+ATOMICS(8, uint8_t, LOAD, STORE, EXCHANGE)
+UPDATES(8, uint8_t)
+ATOMICS(16, uint16_t, LOAD, STORE, EXCHANGE)
+UPDATES(16, uint16_t)
+ATOMICS(32, uint32_t, LOAD, STORE, EXCHANGE)
+UPDATES(32, uint32_t)
+ATOMICS(64, uint64_t, LOAD, STORE, EXCHANGE)
+UPDATES(64, uint64_t)
+ATOMICS(128, uint128_t, load_16, exchange_all_16, exchange_16)
+UPDATE(128, uint128_t, exchange, exchange_all_16)
+UPDATE(128, uint128_t, fetch_add, fetch_add_16)
+UPDATE(128, uint128_t, fetch_sub, fetch_sub_16)
+UPDATE(128, uint128_t, fetch_and, fetch_and_16)
+UPDATE(128, uint128_t, fetch_or, fetch_or_16)
+UPDATE(128, uint128_t, fetch_xor, fetch_xor_16)
+UPDATE(128, uint128_t, fetch_nand, fetch_nand_16)
+
+PUBLIC void __tsan_atomic_thread_fence(int order) {
+    thread *t = others ? enter(MAY_YIELD) : 0;
+    if (t) {
+        t->written = 0;
+        put(t, OP_FENCE, 0, order & 7, CALLER);
+        leave(t);
+    }
+    __atomic_thread_fence(__ATOMIC_SEQ_CST);
+}
 PUBLIC void __tsan_atomic_signal_fence(int order) { __atomic_signal_fence(__ATOMIC_SEQ_CST); }

@@ -47,7 +47,7 @@ typedef const struct timespec *deadline;
 #define BEGINS(name, operation, object, size, parameters, arguments) \
     PUBLIC int name parameters { \
         thread *t = enter(MAY_YIELD); \
-        if (t && others) put(t, OP_DESTROY, object, 0, CALLER); \
+        if (t && others && !tells_its_own_order(CALLER)) put(t, OP_DESTROY, object, 0, CALLER); \
         if (t) put(t, operation, object, size, CALLER); \
         int r = REAL(name) arguments; \
         if (t) leave(t); \
@@ -58,7 +58,7 @@ typedef const struct timespec *deadline;
     PUBLIC type name(parameter *object) { \
         thread *t = others ? enter(MAY_YIELD) : 0; \
         if (t) { \
-            put(t, OP_DESTROY, object, 0, CALLER); \
+            if (!tells_its_own_order(CALLER)) put(t, OP_DESTROY, object, 0, CALLER); \
             give_turn(t); \
             leave(t); \
         } \
@@ -221,14 +221,14 @@ PUBLIC int __cxa_guard_acquire(char *byte) {
     thread *t = enter(MAY_YIELD);
     if (!t) return real_acquire(byte);
     int r = BLOCKING(t, real_acquire(byte));
-    if (others) put(t, OP_ATOMIC_LOAD, byte, 1, CALLER);
+    if (others) put(t, OP_ATOMIC_LOAD, byte, 1 | __ATOMIC_ACQUIRE << ATOMIC_SIZE_BITS, CALLER);
     leave(t);
     return r;
 }
 PUBLIC int __cxa_guard_release(char *byte) {
     if (others) {
         thread *t = enter(MAY_YIELD);
-        if (t) put(t, OP_ATOMIC_STORE, byte, 1, CALLER);
+        if (t) put(t, OP_ATOMIC_STORE, byte, 1 | __ATOMIC_RELEASE << ATOMIC_SIZE_BITS, CALLER);
         if (t) leave(t);
     }
     return real_release(byte);

@@ -11,6 +11,9 @@
 enum { MAX_MODULES = 256 };
 static struct { uint64_t low, high; } modules[MAX_MODULES];    /* the instrumented ones */
 static int module_count;
+static uint64_t openmp_low, openmp_high;                       /* the code of clang's OpenMP library */
+
+int tells_its_own_order(uint64_t caller) { return caller >= openmp_low && caller < openmp_high; }
 
 int instrumented(uint64_t caller) {
     for (int i = 0; i < module_count; i++)
@@ -49,6 +52,11 @@ static int see_module(struct dl_phdr_info *info, size_t size, void *unused) {
         if (from + part->p_memsz > high) high = from + part->p_memsz;
     }
     note_module(info, low, high);
+    const char *slash = strrchr(info->dlpi_name, '/');
+    if (slash && (!strncmp(slash, "/libomp.", 8) || !strncmp(slash, "/libiomp5.", 10))) {
+        openmp_low = low;
+        openmp_high = high;
+    }
     if (!hooks || (own >= low && own < high) || instrumented(low) || module_count == MAX_MODULES) return 0;
     modules[module_count].low = low;
     modules[module_count++].high = high;

@@ -76,6 +76,7 @@ int read_task_file(pid_t system_id, const char *leaf, char *text, int size);
 
 /* modules.c */
 int instrumented(uint64_t caller);     /* lies the code in a module compiled with -fsanitize=thread? */
+int tells_its_own_order(uint64_t caller);                    /* the begin and end of its objects are not recorded */
 void *next_symbol(const char *name);
 void note_modules(void);
 #define REAL(f) ({ \
@@ -83,6 +84,9 @@ void note_modules(void);
     if (!real_) real_ = (__typeof__(&f))next_symbol(#f); \
     real_; \
 })
+
+/* waits.c */
+void let_others_run(void);             /* gives the turn up before a call that may wait */
 
 /* threads.c */
 extern volatile int others;            /* threads that were created and not joined */

@@ -61,11 +61,12 @@ static void in_child(void) {
     int was = recording;
     recording = 0;
     others = 0;
-    is_unrecorded_child = was && !has_number();
+    is_unrecorded_child = was;
     if (!was || !leave_recording() || !self) {
         self = 0;
         return;
     }
+    is_unrecorded_child = 0;
     process = getpid();
     restart_turns(self);
     self->inside = 1;

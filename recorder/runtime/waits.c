@@ -16,7 +16,7 @@
 typedef const struct timespec *deadline;
 
 /* ---- calls that often block; one that is not here keeps the turn until a waiter finds it asleep ---- */
-static void let_others_run(void) {
+void let_others_run(void) {
     thread *t = self;
     if (!t || !recording || t->inside) return;
     t->written = 0;

@@ -47,7 +47,7 @@ def build(source, option, program, built=None):
     """Builds a program that is to be recorded, as the README says."""
     compiler = "g++" if source.suffix == ".cc" else "gcc"
     words = ["-w", "-g", option, "-fsanitize=thread", "-pthread", f"-B{built or BUILT}/lib/", source, "-o", program]
-    must(call(compiler, *words))
+    must(call(compiler, *words, *["-fopenmp"] * source.name.startswith("openmp")))
 
 
 def settings(path, seed=1, slice=200, **more):

@@ -39,11 +39,28 @@ class Command(recorder.Case):
         status, out, said = self.record(self.program(), "0", "race")
         self.assertEqual((status, out), (66, "said by the program\n"))
         self.assertRegex(said, r"(?m)^shb-record: run 1, process \d+ \(\S+/status 0 race\): .*; 1 place with races$")
-        self.assertEqual(said.count("status.c:9"), 2)  # the view's text: once for each access
+        self.assertIn("status.c:9", said)
         self.assertEqual(said.splitlines()[-1], "shb-record: 1 place with races; the program's own status: 0; files in "
                          f"{self.folder}/status.shb")
-        self.assertEqual(self.names(), ["run1.N.html", "run1.N.report", "run1.N.std", "unknown.places"])
+        self.assertEqual(self.names(), ["places.tsv", "run1.N.html", "run1.N.report", "run1.N.std", "unknown.places"])
         self.assertEqual(text_of(self.folder / "status.shb" / "unknown.places"), "status.c:9\tstatus.c:9\n")
+        self.assertRegex(text_of(self.folder / "status.shb" / "places.tsv"),  # main forks both, then each writes
+                         r"^status.c:9\tstatus.c:9\tunknown\t\d+\t\d+\trun 1, process \d+\trun1\.\d+\.std\n$")
+
+    def test_a_long_run_is_cut_into_windows(self):
+        """The first and the last step of the program race; so its last window has a place that no other has."""
+        program = self.program("long_race.c")
+        early, late = (f"long_race.c:{number}" for number, line in enumerate(
+            text_of(recorder.PROGRAMS / "long_race.c").splitlines(), 1) if "RACE" in line)
+        status, _, said = self.record("--window", "2000", program)
+        self.assertEqual(status, 66)
+        events, windows = map(int, re.search(r"(\d+) events, (\d+) windows; 2 places with races", said).groups())
+        rows = [line.split("\t") for line in text_of(self.folder / "long_race.shb" / "places.tsv").splitlines()]
+        found = {row[0]: (row[1], row[6]) for row in rows}
+        self.assertEqual(found, {early: (early, "window-0001.std"), late: (late, f"window-{windows:04}.std")})
+        numbers = {row[0]: [int(number) for number in row[3:5]] for row in rows}
+        self.assertLess(numbers[early][1], 100)
+        self.assertGreater(numbers[late][0], events - 100)
 
     def test_statuses_without_a_race(self):
         program = self.program()
@@ -51,7 +68,7 @@ class Command(recorder.Case):
             status, _, said = self.record(program, word)
             self.assertEqual(status, wanted, said)
             self.assertIn(f"shb-record: 0 places with races; the program's own status: {wanted};", said)
-            self.assertEqual(self.names(), ["unknown.places"])
+            self.assertEqual(self.names(), ["places.tsv", "unknown.places"])
 
     def test_a_race_wins_over_the_own_status(self):
         program = self.program()
@@ -99,7 +116,8 @@ class Command(recorder.Case):
         status, out, said = self.record("--runs", "3", self.program(), "0", "race")
         self.assertEqual((status, out), (66, "said by the program\n" * 3))
         self.assertEqual(len(re.findall(r"(?m)^shb-record: run [123], process ", said)), 3)
-        self.assertEqual(said.count("status.c:9"), 2)
+        self.assertEqual(len(re.findall("^run1.*: 1 race at 1 ", said, re.M)), 1)  # the view's first line
+        self.assertNotRegex(said, "(?m)^run[23]")
         self.assertIn("shb-record: 1 place with races;", said)
 
     def test_no_record_has_a_likely_cause(self):
@@ -145,9 +163,10 @@ class Command(recorder.Case):
     def test_results_of_an_earlier_call_are_removed(self):
         program = self.program()
         self.record("--keep", program, "0", "race")
-        self.assertEqual(self.names(), ["run1.N.html", "run1.N.rec", "run1.N.report", "run1.N.std", "unknown.places"])
+        self.assertEqual(self.names(), ["places.tsv", "run1.N.html", "run1.N.rec", "run1.N.report", "run1.N.std",
+                                        "unknown.places"])
         self.record(program, "0")
-        self.assertEqual(self.names(), ["unknown.places"])
+        self.assertEqual(self.names(), ["places.tsv", "unknown.places"])
 
     def test_a_part_of_a_run_is_called_one(self):
         status, _, said = self.record(self.program("mutex_ok.c"), SHB_RECORDS="1000")
@@ -183,4 +202,4 @@ class Command(recorder.Case):
         (prefix / "bin" / "shb").symlink_to(recorder.SHB)
         (prefix / "bin" / "shb-view").symlink_to(recorder.SOURCES.parent / "view" / "shb-view")
         status, _, said = self.record(self.program(), "0", "race", command=prefix / "bin" / "shb-record", SHB="")
-        self.assertEqual((status, said.count("status.c:9")), (66, 2), said)
+        self.assertEqual((status, "status.c:9" in said), (66, True), said)

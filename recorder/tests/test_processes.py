@@ -93,6 +93,11 @@ class Processes(recorder.Case):
         recorder.must(recorder.call(program, env=how))
         self.assertEqual(racing_lines(*self.records()), marked("cxx.cc"))
 
+    def test_openmp_that_is_not_seen_is_told(self):
+        ran = recorder.must(recorder.call(self.program("openmp_taskloop.c", "-fopenmp"), env=self.settings()))
+        self.assertEqual(ran.stderr, b"shb recorder: the program uses OpenMP's taskloop, whose order isn't seen: "
+                         b"false races are possible\n")
+
     def test_openmp_of_clang_with_archer(self):
         if not shutil.which("clang") or not ARCHER:
             self.skipTest("clang or its libarcher.so isn't installed")

@@ -19,6 +19,7 @@ def entry(thread, operation, address, caller, size=0):
     return struct.pack("<QQ", address | thread << 48, caller | number << 48 | min(size, SIZE_FOLLOWS) << 54) + follows
 
 
+RELAXED, ACQUIRE, RELEASE, BOTH = (order << 5 for order in (0, 2, 3, 4))  # beside the size of an atomic access
 BLOCK, STACK, ATOMIC, LOCK, SEMAPHORE, RANGE = 0x20000000, 0x30000000, 0x10000000, 0x10000010, 0x10000020, 0x40000000
 CANNED = [  # entries of a record, and the lines that each becomes
     (entry(0, "ALLOC", BLOCK, 0x100, 32), []),
@@ -27,11 +28,11 @@ CANNED = [  # entries of a record, and the lines that each becomes
     (entry(0, "WRITE", BLOCK, 0x102, 8), ["main|w(0x100#1+4)|0x102"]),  # its upper half is shared
     (entry(1, "READ", BLOCK + 4, 0x201, 4), ["T1|r(0x100#1+4)|0x201"]),
     (entry(1, "WRITE", STACK + 16, 0x202, 8), []),  # its own stack
-    (entry(0, "ATOMIC_STORE", ATOMIC, 0x103, 4),
+    (entry(0, "ATOMIC_STORE", ATOMIC, 0x103, 4 | RELEASE),
      ["main|acq(0x10000000@1)|0x103", "main|w(0x10000000!main)|0x103", "main|rel(0x10000000@1)|0x103",
       "main|acq(0x10000000@1>T1)|0x103", "main|rel(0x10000000@1>T1)|0x103"]),
     (entry(1, "READ", ATOMIC, 0x203, 4), ["T1|r(0x10000000!main)|0x203"]),
-    (entry(1, "ATOMIC_LOAD", ATOMIC, 0x204, 4), ["T1|acq(0x10000000@1>T1)|0x204", "T1|rel(0x10000000@1>T1)|0x204"]),
+    (entry(1, "ATOMIC_LOAD", ATOMIC, 0x204, 4 | ACQUIRE), ["T1|acq(0x10000000@1>T1)|0x204", "T1|rel(0x10000000@1>T1)|0x204"]),
     (entry(0, "LOCK", LOCK, 0x104), ["main|acq(0x10000010)|0x104"]),
     (entry(0, "UNLOCK", LOCK, 0x105), ["main|rel(0x10000010)|0x105"]),
     (entry(1, "LOCK", LOCK, 0x205), ["T1|acq(0x10000010)|0x205"]),
@@ -119,6 +120,40 @@ HELD = [  # locks of one thread alone, and reader-writer locks: in the trace whe
                                         "main|rel(0x10000050@1)|0x10c"]),
     (entry(1, "WRITE", CELL, 0x204, 4), ["T1|w(0x10000060)|0x204"]),
 ]
+
+
+ORDERS = [  # of T1 and T2: who gives what to whom, lock by lock
+    (entry(0, "FORK", 1, 0x101), ["main|fork(T1)|0x101"]),
+    (entry(0, "FORK", 2, 0x102), ["main|fork(T2)|0x102"]),
+    (entry(0, "ATOMIC_STORE", ATOMIC, 0x103, 4 | RELEASE),  # to T1 by the update at 0x203, to T2 by the fence
+     ["main|acq(0x10000000@1)|0x103", "main|rel(0x10000000@1)|0x103", "main|acq(0x10000000@1>T2)|0x103",
+      "main|rel(0x10000000@1>T2)|0x103"]),
+    (entry(1, "ATOMIC_LOAD", ATOMIC, 0x201, 4 | RELAXED), []),
+    (entry(1, "ATOMIC_UPDATE", ATOMIC, 0x202, 4 | RELAXED), []),
+    (entry(2, "ATOMIC_LOAD", ATOMIC, 0x301, 4 | RELAXED), []),
+    (entry(2, "FENCE", 0, 0x302, 2), ["T2|acq(0x10000000@1>T2)|0x302", "T2|rel(0x10000000@1>T2)|0x302"]),
+    (entry(1, "ATOMIC_UPDATE", ATOMIC, 0x203, 4 | BOTH), ["T1|acq(0x10000000@1)|0x203", "T1|rel(0x10000000@1)|0x203"]),
+    (entry(2, "ATOMIC_UPDATE", ATOMIC, 0x303, 4 | RELEASE),  # a gift of its own, which main takes below
+     ["T2|acq(0x10000000@3>main)|0x303", "T2|rel(0x10000000@3>main)|0x303"]),
+    (entry(0, "ATOMIC_UPDATE", ATOMIC, 0x104, 4 | BOTH),
+     ["main|acq(0x10000000@3>main)|0x104", "main|rel(0x10000000@3>main)|0x104", "main|acq(0x10000000@1)|0x104",
+      "main|rel(0x10000000@1)|0x104"]),
+    (entry(1, "ATOMIC_STORE", ATOMIC, 0x204, 4 | RELAXED), []),  # ends what the others gave, and keeps what T1 gave: nothing
+    (entry(2, "ATOMIC_LOAD", ATOMIC, 0x304, 4 | ACQUIRE), []),
+    (entry(1, "FENCE", 0, 0x205, 3), []),
+    (entry(1, "ATOMIC_STORE", ATOMIC, 0x206, 4 | RELAXED),  # after the fence it gives
+     ["T1|acq(0x10000000@6)|0x206", "T1|rel(0x10000000@6)|0x206", "T1|acq(0x10000000@6>T2)|0x206",
+      "T1|rel(0x10000000@6>T2)|0x206"]),
+    (entry(2, "ATOMIC_LOAD", ATOMIC, 0x305, 4 | ACQUIRE), ["T2|acq(0x10000000@6>T2)|0x305", "T2|rel(0x10000000@6>T2)|0x305"]),
+]
+
+
+class Orders(recorder.Case):
+    def test_memory_orders(self):
+        record = self.folder / "app.rec"
+        record.write_bytes(HEADER + b"".join(entries for entries, _ in ORDERS))
+        trace = recorder.must(recorder.convert(record)).stdout
+        self.assertEqual(trace.decode().splitlines(), [line for _, lines in ORDERS for line in lines])
 
 
 class Held(recorder.Case):

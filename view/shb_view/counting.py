@@ -79,7 +79,8 @@ class Counting:
         held = self.held[thread]
         if number in self.wanted:
             self.noted[number] = Noted(array.array("I", self.recent[thread]), *held.newest())
-        counts, kind = self.counts[group], (location[0] if location else b"", self.names.setdefault(thread, thread), word, held.names())
+        counts, thread = self.counts[group], self.names.setdefault(thread, thread)
+        kind = (location[0] if location else b"", thread, word, held.names())
         if kind not in counts:
             if self.kinds == MOST_KINDS:
                 kind = (None, b"", word, None)

@@ -95,7 +95,8 @@ def held_at_writes(sites, lock):
     name, lines = Code(lock), lines_of(without)
     read = "reads" if len(without) == 1 else "read"
     some = " at some accesses" if any(site.locks[lock] for site in without) else ""
-    return Fact(1, tag_of(without, lock), ["In this run every write holds ", name, ", and ", *lines, f" {read} without it{some}."], lock)
+    sentence = ["In this run every write holds ", name, ", and ", *lines, f" {read} without it{some}."]
+    return Fact(1, tag_of(without, lock), sentence, lock)
 
 
 def held_at_some(sites, lock):

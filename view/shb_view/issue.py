@@ -1,7 +1,7 @@
 """A race as a text that can be pasted into an issue."""
 
 from shb_view.names import code_line, short
-from shb_view.words import KINDS, NO_LOCK, Code, counted, listed, place
+from shb_view.words import KINDS, NO_LOCK, Code, counted, place
 
 NAME = 120  # columns
 

@@ -10,14 +10,15 @@ from shb_view.markup import Markup, code, element, joined, marked
 from shb_view.names import code_line, short
 from shb_view.picture import picture
 from shb_view.source import excerpt
-from shb_view.words import (KINDS, MOST_SITES, MOST_THREADS, MOST_VARIABLES, NO_LOCK, Code, accesses_text, counted, listed, lock_words,
-                            notes_of, partner_parts, place, races_text, summary)
+from shb_view.words import (KINDS, MOST_SITES, MOST_THREADS, MOST_VARIABLES, NO_LOCK, Code, accesses_text, counted, listed,
+                            lock_words, notes_of, partner_parts, place, races_text, summary)
 
 HERE = pathlib.Path(__file__).resolve().parent
 NAME = 80  # columns
 LINE = 240
-ARROW = Markup('<svg class="defs" width="0" height="0" aria-hidden="true"><defs><marker id="to" viewBox="0 0 8 8" refX="7" refY="4" '
-               'markerWidth="7" markerHeight="7" orient="auto"><path d="M0 0L8 4L0 8z"></path></marker></defs></svg>')
+MOST_BYTES = 3_500_000  # of the groups' parts; the last of them may go beyond
+ARROW = Markup('<svg class="defs" width="0" height="0" aria-hidden="true"><defs><marker id="to" viewBox="0 0 8 8" refX="7" '
+               'refY="4" markerWidth="7" markerHeight="7" orient="auto"><path d="M0 0L8 4L0 8z"></path></marker></defs></svg>')
 LEGEND = """\
 Each lane is a thread, and time runs down. A solid arrow leads from a release to the acquire after it, from a fork to the thread's
 first event, or from a thread's last event to a join; a dashed arrow from a write to the read that sees it. A bar beside a lane is a
@@ -34,8 +35,15 @@ def page_parts(view):
     yield element("head", joined(head, "\n")) + "\n<body>\n" + ARROW + "\n" + header(view) + "\n<main>\n"
     if view.sections:
         yield group_list(view) + "\n"
+    size = 0
     for number, section in enumerate(view.sections, 1):
-        yield section_part(view, number, section) + "\n"
+        if size > MOST_BYTES:
+            left = counted(len(view.sections) - number + 1, "group")
+            yield element("p", f"The page would be too long: the last {left} of the list have no part of their own.") + "\n"
+            break
+        part = section_part(view, number, section) + "\n"
+        size += len(part.encode())
+        yield part
     yield "</main>\n" + element("script", Markup(script)) + "\n</body>\n</html>\n"
 
 
@@ -54,8 +62,8 @@ def header(view):
     races, size = summary(view)
     notes = [element("p", note, class_="verdict good" if view.verdict.is_good and not number else "faint")
              for number, note in enumerate(notes_of(view))]
-    return element("header", *verdict, element("h1", view.title), element("p", races, class_="sum"), element("p", size, class_="faint"),
-                   *notes)
+    return element("header", *verdict, element("h1", view.title), element("p", races, class_="sum"),
+                   element("p", size, class_="faint"), *notes)
 
 
 def group_list(view):
@@ -82,7 +90,8 @@ def section_part(view, number, section):
     if len(section.group.variables) > 1:
         names = listed([[Code(name)] for name in section.group.variables], MOST_VARIABLES)
         parts.append(element("p", "Variables: ", marked(names, NAME)))
-    parts += [source_pair(view, section.window), element("h3", "Every line that uses ", "it" if len(section.group.variables) == 1 else "them"),
+    them = "it" if len(section.group.variables) == 1 else "them"
+    parts += [source_pair(view, section.window), element("h3", f"Every line that uses {them}"),
               site_table(view, section), window_details(section.window, anchor), issue_details(view, section),
               line_details(section.window, anchor)]
     return element("section", joined(filter(None, parts), "\n"), id=f"g{number}")
@@ -108,7 +117,8 @@ def figure(view, window, number, access):
         acquire = view.source.place(window.events[row.locks[-1][1]].event.location) if row.locks else None
         shown_lines = excerpt(found, acquire)
         if shown_lines.head:
-            caption += [element("br"), element("span", "in ", element("code", code_line(shown_lines.head.rstrip(b" {"), LINE)), class_="faint")]
+            head = element("code", code_line(shown_lines.head.rstrip(b" {"), LINE))
+            caption += [element("br"), element("span", "in ", head, class_="faint")]
         lines = code_table(shown_lines, number)
     if found.fault:
         caption += [element("br"), element("span", found.fault, class_="fault")]

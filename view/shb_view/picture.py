@@ -38,7 +38,8 @@ class Drawing:
     def __init__(self, window):
         self.window = window
         self.events = [*window.before, *window.accesses]
-        self.lanes = {thread: lane for lane, thread in enumerate(dict.fromkeys(map(self.thread, [*window.accesses, *window.before])))}
+        threads = dict.fromkeys(map(self.thread, [*window.accesses, *window.before]))
+        self.lanes = {thread: lane for lane, thread in enumerate(threads)}
         top = HEAD * len(self.lanes) + 6
         self.y = {event: top + ROW * row + ROW // 2 for row, event in enumerate(window.before)}
         self.band = top + ROW * len(window.before) + 4

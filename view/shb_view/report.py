@@ -133,7 +133,7 @@ class Report:
     def __init__(self, file):
         self.lines = Lines(file)
         self.head = Head(self.lines)
-        self.has_schedules = self.head.races == 0  # or known once the first race is read
+        self.has_schedules = None  # known once its races were read; a report without races lacks none
 
     def check_counts(self, counts):
         """Refuses a report of a trace that doesn't have these counts."""
@@ -151,6 +151,7 @@ class Report:
             places[place] = places.get(place, 0) + 1
             yield race, accesses
             progress(self.lines.bytes)
+        self.has_schedules = self.has_schedules is not False
         self.lines.next(END, "end")
         if self.lines.line:
             raise BadReport(f"line {self.lines.number + 1} of the report stands after `end`")

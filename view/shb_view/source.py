@@ -57,7 +57,7 @@ class Source:
                 for entry in entries:
                     if entry.is_dir(follow_symlinks=False) and not entry.name.startswith(b"."):
                         pending.append(entry.path)
-                    elif entry.is_file(follow_symlinks=False):
+                    elif entry.is_file(follow_symlinks=False) and self.files < MOST_FILES:
                         self.files += 1
                         paths = self.paths.setdefault(entry.name, {})
                         paths.setdefault(os.path.relpath(entry.path, top), entry.path)
@@ -89,8 +89,9 @@ class Source:
         found = [place for place in places.values() if place and place.lines]
         newer = sum(place.is_newer for place in found)
         folders = ", ".join(shown(os.fsencode(folder)) for folder in self.folders)
+        some = f" Only {MOST_FILES:,} files were looked at." if self.files >= MOST_FILES else ""
         return (f"Source lines of {folders}: {len(found)} of {counted(len(places), 'file')} found, "
-                f"{newer or 'none'} newer than the trace.")
+                f"{newer or 'none'} newer than the trace.{some}")
 
 
 def read_lines(file):
@@ -102,9 +103,15 @@ def read_lines(file):
                 return [], 0, "it isn't a regular file"
             if status.st_size > MOST_BYTES:
                 return [], 0, f"the file is longer than {MOST_BYTES:,} bytes"
-            return opened.read(MOST_BYTES).splitlines(), status.st_mtime, ""
+            return lines_of(opened.read(MOST_BYTES)), status.st_mtime, ""
     except OSError as fault:
         return [], 0, f"the file can't be read ({fault.strerror})"
+
+
+def lines_of(text):
+    """The lines of a text, as compilers count them."""
+    lines = text.split(b"\n")
+    return lines if lines[-1] else lines[:-1]
 
 
 def best(path, candidates):
@@ -134,8 +141,8 @@ def function_head(place):
 
 
 class Excerpt(typing.NamedTuple):
-    """Lines around a place. `head` is the first line of its function, nothing if that is the place; `held` are the numbers of the lines from the acquire of a
-    lock to the place, if both are in one function."""
+    """Lines around a place. `head` is the first line of its function, nothing if that is the place; `held` are the numbers of the
+    lines from the acquire of a lock to the place, if both are in one function."""
 
     place: Place
     head: bytes

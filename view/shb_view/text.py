@@ -89,4 +89,5 @@ def window_lines(window, verdict):
     texts = [(str(row.number), short(row.event.thread, NAME), operation_text(row.event, NAME)) for row in rows]
     widths = [max(map(columns, column)) for column in zip(*texts)]
     for row, (number, thread, operation) in zip(rows, texts):
-        yield f"     {number:>{widths[0]}}  {padded(thread, widths[1])}  {padded(operation, widths[2])}  {flat([place(row.event.location)])}"
+        location = flat([place(row.event.location)])
+        yield f"     {number:>{widths[0]}}  {padded(thread, widths[1])}  {padded(operation, widths[2])}  {location}"

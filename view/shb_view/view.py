@@ -2,7 +2,6 @@
 
 import contextlib
 import os
-import shutil
 import stat
 import sys
 import tempfile
@@ -14,7 +13,7 @@ from shb_view.facts import Fact, Site, fact_of, sites_of
 from shb_view.faults import BadReport, Refused
 from shb_view.groups import Gathered, Group
 from shb_view.names import shown
-from shb_view.report import Counts, Report, in_order
+from shb_view.report import BLOCK, MOST_BYTES, Counts, Report, in_order
 from shb_view.source import Source
 from shb_view.trace import CHANGED, Trace
 from shb_view.windows import Window, make_windows
@@ -55,9 +54,15 @@ class View(typing.NamedTuple):
 class Given(typing.NamedTuple):
     """A report to be shown. `places` has how many races each place has, where the report lists one race of each place."""
 
+    name: str
     file: typing.BinaryIO
     verdict: Verdict
     places: typing.Optional[dict]
+
+    def order(self, race, events):
+        """Some events in the order of a race's schedule, with the schedule's length, if `check` found the report good; else as
+        they are."""
+        return in_order(self.file, race, events) if self.verdict.is_good else (events, None)
 
 
 def make_view(options, progress):
@@ -71,13 +76,16 @@ def make_view(options, progress):
         listed, has_schedules = read_report(given, head.counts, gathered, progress)
         groups, lines = gathered.groups(), gathered.lines
         del gathered
-        verdict = given.verdict if has_schedules or given.verdict is TOO_LONG else NO_SCHEDULES
-        sections = make_sections(options, Trace(file, progress), given.file, groups, lines, head.counts, verdict)
+        if not has_schedules and given.verdict is not TOO_LONG:
+            given = given._replace(verdict=NO_SCHEDULES)
+        is_whole = bool(options.html or options.all)
+        sections = make_sections(is_whole, Trace(file, progress), given, groups, lines, head.counts.events)
         title = shown(os.fsencode(os.path.basename(options.trace)))
         pairs = sum(len(group.pairs) for group in groups)
         source = Source(options.source, os.fstat(file.fileno()).st_mtime)
-        return View(title, head.counts, head.races, listed if options.report else head.races, pairs, len(groups), sections, verdict,
-                    not options.report and head.races > MOST_LISTED, source)
+        is_sample = not options.report and head.races > MOST_LISTED
+        return View(title, head.counts, head.races, listed if options.report else head.races, pairs, len(groups), sections,
+                    given.verdict, is_sample, source)
 
 
 def open_regular(path):
@@ -92,19 +100,32 @@ def own_report(analyser, head, stack):
     file = stack.enter_context(tempfile.TemporaryFile())
     with_schedules = len(head.places) * head.counts.events * NUMBER <= MOST_REPORT
     analyser.write_places(with_schedules, file)
-    return Given(file, analyser.check(file) if with_schedules else TOO_LONG, head.places)
+    return Given("a file for the report of `shb`", file, analyser.check(file) if with_schedules else TOO_LONG, head.places)
 
 
 def given_report(options, analyser, stack):
     """The report that the options name. What can't be read twice is copied."""
-    source = sys.stdin.buffer if options.report == "-" else stack.enter_context(open(options.report, "rb"))
-    if stat.S_ISREG(os.fstat(source.fileno()).st_mode) and source.tell() == 0:
-        file = source
-    else:
-        file = stack.enter_context(tempfile.TemporaryFile())
-        shutil.copyfileobj(source, file)
-        file.seek(0)
-    return Given(file, analyser.check(file) if options.check else NOT_ASKED, None)
+    file = sys.stdin.buffer if options.report == "-" else stack.enter_context(open(options.report, "rb"))
+    if not stat.S_ISREG(os.fstat(file.fileno()).st_mode) or file.tell():
+        try:
+            file = copy_of(file, stack)
+        except OSError as fault:
+            raise OSError(fault.errno, fault.strerror, options.report) from None
+    return Given(options.report, file, analyser.check(file) if options.check else NOT_ASKED, None)
+
+
+def copy_of(source, stack):
+    """A file with all that a source has. Of what doesn't begin like a report the front is enough."""
+    file = stack.enter_context(tempfile.TemporaryFile())
+    block = source.read(BLOCK)
+    is_report = block.startswith(b"shb-report ")
+    while block:
+        file.write(block)
+        if file.tell() > MOST_BYTES:
+            raise BadReport(f"the report is longer than {MOST_BYTES} bytes")
+        block = source.read(BLOCK) if is_report else b""
+    file.seek(0)
+    return file
 
 
 def read_report(given, counts, gathered, progress):
@@ -119,23 +140,24 @@ def read_report(given, counts, gathered, progress):
     except BadReport as fault:
         said = f"; `shb check` says `{given.verdict.words}`" if given.verdict.is_good is False else ""
         raise BadReport(f"{fault}{said}") from None
+    except OSError as fault:
+        raise OSError(fault.errno, fault.strerror, given.name) from None
     return report.head.races, report.has_schedules
 
 
-def make_sections(options, trace, report, groups, lines, counts, verdict):
-    """The groups that are shown, in the order of their facts and then most races first."""
+def make_sections(is_whole, trace, given, groups, lines, events):
+    """The groups that are shown, in the order of their facts and then most races first; with their windows if `is_whole`."""
     if not groups:
         return []
     wanted = {access for group in groups for access in group.accesses()}
     variables = {variable: number for number, group in enumerate(groups) for variable in group.variables}
     counting = Counting(variables, lines, wanted)
     try:
-        counting.read(trace, counts.events)
+        counting.read(trace, events)
         sections = [make_section(groups[number], counting.counts[number]) for number in first_groups(groups, counting.counts)]
-        if not (options.html or options.all):
+        if not is_whole:
             return sections
-        order = (lambda race, events: in_order(report, race, events)) if verdict.is_good else (lambda race, events: (events, None))
-        windows = make_windows(trace, [section.group.closest() for section in sections], counting, order)
+        windows = make_windows(trace, [section.group.closest() for section in sections], counting, given.order)
     except (IndexError, KeyError):
         raise Refused(CHANGED) from None
     return [section._replace(window=window) for section, window in zip(sections, windows)]

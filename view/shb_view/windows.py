@@ -4,6 +4,7 @@ import collections
 import typing
 
 from shb_view.held import Held
+from shb_view.report import Race
 from shb_view.trace import Event, event_of, without_end
 
 
@@ -37,7 +38,7 @@ class Window(typing.NamedTuple):
     `edges` are pairs of events of different threads, the earlier first; `forks` has the fork of each access's thread, or 0;
     `length` is that of the schedule, or None."""
 
-    race: typing.Any
+    race: Race
     accesses: typing.Tuple[int, int]
     before: typing.List[int]
     edges: typing.List[typing.Tuple[int, int]]
@@ -146,13 +147,9 @@ def window(race, counting, forks, shown, order):
         before.update(starts.values(), filter(None, (shown[event].source for event in noted.before)))
     before = {event for event in before if stands_before(shown, event, accesses)}
     ordered, length = order(race, sorted(before))
-    edges = [(source, event) for event in (*ordered, *accesses) for source in (starts.get(event, 0), own_source(shown, event, accesses))
-             if source in before]
+    sources = {event: (starts.get(event, 0), 0 if event in accesses else shown[event].source) for event in (*ordered, *accesses)}
+    edges = [(source, event) for event, found in sources.items() for source in found if source in before]
     return Window(race, accesses, ordered, edges, forks, shown, length)
-
-
-def own_source(shown, event, accesses):
-    return 0 if event in accesses else shown[event].source
 
 
 def stands_before(shown, event, accesses):

@@ -89,8 +89,8 @@ def notes_of(view):
     if view.listed < view.races:
         yield "The report has not all races of the trace; the counts are the report's."
     if view.is_sample:
-        yield ("The trace has too many races to look at each. Of each place one is known, and what is said of a group holds for the "
-               "variables of these.")
+        yield ("The trace has too many races to look at each. Of each place one is known, and what is said of a group holds for "
+               "the variables of these.")
     if view.source.folders and view.sections:
         shown = [site.location for section in view.sections for site in section.sites[:MOST_SITES] if site.location]
         yield view.source.summary(shown)

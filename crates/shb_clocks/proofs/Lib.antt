@@ -1,6 +1,7 @@
 pub mod Fronts
 pub mod KeptLemmas
 pub mod LearnedLemmas
+pub mod ListedLemmas
 pub mod Locals
 pub mod MarksLemmas
 pub mod MayLearn

@@ -2,6 +2,7 @@
 use Rattle.std.specs.Prelude.{◌≡◌, ℕ, ◌≤◌, Bool, List, length}
 use Rattle.shb_lines.specs.declared.event.Event.{Event}
 use Rattle.shb_lines.specs.declared.event.Sizes.{Sizes}
+use Rattle.shb_clocks.specs.Listed.{HasListedRows}
 use Rattle.shb_clocks.specs.Stamps.{HasRowsBefore}
 use Rattle.shb_clocks.specs.declared.kept_rows.KeptRows.{KeptRows}
 
@@ -11,3 +12,10 @@ pub record AreKeptRows (trace : List Event) (flags : List Bool) (n : ℕ) (sizes
   pub few : length kept.rows.rows ≤ n
   pub as_many : length kept.last.items ≡ sizes.threads
   pub before : HasRowsBefore trace flags kept.rows.rows n kept.before.items
+
+-- what is kept after the first n of the listed events
+pub record AreListedRows (trace : List Event) (events : List ℕ) (n : ℕ) (sizes : Sizes) (kept : KeptRows) : Type 0 where
+  pub width : kept.rows.width ≡ sizes.threads
+  pub few : length kept.rows.rows ≤ n
+  pub as_many : length kept.last.items ≡ sizes.threads
+  pub before : HasListedRows trace kept.rows.rows events n kept.before.items

@@ -1,6 +1,7 @@
 pub mod Fronts
 pub mod KeptRows
 pub mod Learned
+pub mod Listed
 pub mod Marks
 pub mod Moved
 pub mod Open

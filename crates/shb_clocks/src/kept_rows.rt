@@ -1,9 +1,10 @@
 //! The rows that are kept for look-ups.
 
-ghost use Rattle.std.specs.Prelude.{◌≡◌, ℕ, ◌+◌, ◌<◌, ◌^◌, Bool, List, Some, IfOk, OnOk, length};
+ghost use Rattle.std.specs.Prelude.{◌≡◌, ℕ, ◌+◌, ◌<◌, ◌^◌, Bool, List, Some, IfOk, OnOk, length, slice_index_or};
+ghost use Rattle.std.specs.List.Sorted.{IsStrictlyIncreasing};
 ghost use Rattle.shb_lines.specs.events.Events.{thread_at};
 ghost use Rattle.shb_lines.specs.events.Order.{BelowPred};
-ghost use Rattle.shb_clocks.specs.KeptRows.{AreKeptRows};
+ghost use Rattle.shb_clocks.specs.KeptRows.{AreKeptRows, AreListedRows};
 ghost use Rattle.shb_clocks.specs.Stamps.{HasGrown, HasOpenRows, IsRowFor, IsSwept};
 
 use crate::clock::zeros;
@@ -54,7 +55,8 @@ fn keep(
 impl KeptRows {
     /// What is kept before the first event.
     pub fn new(alloc: Global, linked: &Linked<'_>) -> Result<Self, NoMemory>
-        ensures { (flags : List Bool) → IfOk result (AreKeptRows linked.now.events.now flags 0 linked.now.sizes) }
+        ensures by_flags { (flags : List Bool) → IfOk result (AreKeptRows linked.now.events.now flags 0 linked.now.sizes) }
+        ensures listed { (events : List ℕ) → IfOk result (AreListedRows linked.now.events.now events 0 linked.now.sizes) }
     {
         Ok(KeptRows {
             rows: Rows::new(alloc, linked.sizes.threads),
@@ -80,6 +82,27 @@ impl KeptRows {
             self.before.push(0)?;
             return Ok(());
         }
+        let number = keep(linked, e, stamps, &mut self.rows, &mut self.last)?;
+        self.before.push(number)?;
+        Ok(())
+    }
+
+    /// Keeps what the thread of the listed event at a position knows before it, where it is the next event.
+    pub fn note_listed(
+        &mut self,
+        linked: &Linked<'_>,
+        stamps: &Stamps,
+        events: &[u32],
+        at: usize,
+    ) -> Result<(), NoMemory>
+        requires in_range { at < length events.now }
+        requires rising { IsStrictlyIncreasing events.now }
+        requires of_trace { slice_index_or events.now at 0 < length linked.now.events.now }
+        requires swept { IsSwept linked.now.events.now (slice_index_or events.now at 0) linked.now.sizes stamps.now }
+        requires kept { AreListedRows linked.now.events.now events.now at linked.now.sizes self.old }
+        ensures { OnOk result (AreListedRows linked.now.events.now events.now (at + 1) linked.now.sizes self.new) }
+    {
+        let e = events[at];
         let number = keep(linked, e, stamps, &mut self.rows, &mut self.last)?;
         self.before.push(number)?;
         Ok(())

@@ -1,10 +1,11 @@
 //! Orders of a trace: how far each thread is SHB-below the predecessor of an event.
 //!
 //! The trait [`Order`] has one call, and its contract names paths of edges alone. An order says about
-//! which events it can be asked. Two orders serve the run. [`Sweep`] goes over the trace once and can be
+//! which events it can be asked. Three orders serve the run. [`Sweep`] goes over the trace once and can be
 //! asked about the next event alone, so it keeps only what later events may need. [`EventRows`] can be
 //! asked about each access of an open variable, one whose flag isn't false, and finds a row of clocks by
-//! its number without a search. Three more can be asked about each event and stand in `compared`:
+//! its number without a search. [`ListedRows`] can be asked about the events of a list, so it keeps rows
+//! for these alone, found by binary search. Three more can be asked about each event and stand in `compared`:
 //! [`PlainOrder`], marks by a backward sweep, for small traces and tests; [`FullClocks`], a vector clock
 //! for each event; [`ClockVersions`], a clock only where a thread may learn of others (its first event,
 //! an acquire, a join, a read that has a last write), found by binary search. [`Ordered`] is a trace
@@ -30,6 +31,8 @@ mod compact;
 mod compared;
 mod event_rows;
 mod kept_rows;
+pub mod laws;
+mod listed_rows;
 mod open;
 mod order;
 mod ordered;
@@ -40,6 +43,7 @@ mod sweep;
 
 pub use compared::{ClockVersions, FullClocks, PlainOrder, full, plain, versions};
 pub use event_rows::{EventRows, by_event};
+pub use listed_rows::{ListedRows, at_events};
 pub use open::is_open;
 pub use order::Order;
 pub use ordered::Ordered;

@@ -269,6 +269,24 @@ impl Stamps {
         Ok(())
     }
 
+    /// Takes the events from n on up to the end, without the end.
+    pub fn pass_up_to(
+        &mut self,
+        alloc: Global,
+        linked: &Linked<'_>,
+        n: u32,
+        end: u32,
+    ) -> Result<(), NoMemory>
+        requires in_range { (n ≤ end) × (end ≤ length linked.now.events.now) }
+        requires swept { IsSwept linked.now.events.now n linked.now.sizes self.old }
+        ensures { OnOk result (IsSwept linked.now.events.now end linked.now.sizes self.new) }
+    {
+        for e in n..end {
+            self.pass(alloc, linked, e)?;
+        }
+        Ok(())
+    }
+
     /// Frees the rows that nothing names. What is kept after the first n events stays the same.
     fn compact(&mut self, alloc: Global, linked: &Linked<'_>, n: u32) -> Result<(), NoMemory>
         requires in_range { n ≤ length linked.now.events.now }

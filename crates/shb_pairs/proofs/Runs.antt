@@ -159,8 +159,8 @@ run_pushed old pieces new x n k m is least so =
     let last : pieces ++ record { variable = x; from = 64 * k; to = 64 * k + m } ∷ [] ≡ pieces ++ run_at x n k ∷ [] = ap (λ (l : ℕ). pieces ++ record { variable = x; from = 64 * k; to = 64 * k + l } ∷ []) least in
     is ∙ (last ∙ (ap (λ (ps : List Piece). ps ++ run_at x n k ∷ []) so ∙ (append_assoc old (runs_of x n k) (run_at x n k ∷ []) ∙ ap (λ (ps : List Piece). old ++ ps) (sym (runs_more x n k)))))
 
-pub run_first : (trace : List Event) (xs : List ℕ) (pairs : List Pair) (from : ℕ) → pairs ≡ [] → map ends pairs ≡ flat_map (races_with trace) (take (from - from) (drop from xs))
-run_first trace xs pairs from none = let e : from - from ≡ 0 = omega arith in rw (none, e) refl
+pub run_first : (trace : List Event) (xs : List ℕ) (pairs : List (ℕ × ℕ)) (from : ℕ) → pairs ≡ [] → pairs ≡ flat_map (races_with trace) (take (from - from) (drop from xs))
+run_first trace xs pairs from none = let e : from - from ≡ 0 = omega arith in none ∙ rw e refl
 
 -- the run and the races of piece k
 pub piece_value : (a seen : OpenTrace) (trace : List Event) (pieces : List Piece) (k : ℕ) (piece : Piece) → a ≡ seen → a.trace ≡ trace → pieces ≡ pieces_in a → k < length (pieces_in seen) → piece ≡ piece_at pieces k

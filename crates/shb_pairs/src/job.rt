@@ -4,12 +4,13 @@ ghost use Rattle.std.specs.Prelude.{◌≡◌, ◌<◌, length, map};
 ghost use Rattle.shb_clocks.specs.Open.{OpenTrace};
 ghost use Rattle.shb_pairs.specs.Open.{AsksOpen};
 ghost use Rattle.shb_pairs.specs.Pieces.{pieces_in};
-ghost use Rattle.shb_pairs.specs.Races.{piece_at, races_at};
+ghost use Rattle.shb_pairs.specs.Races.{joined, piece_at, races_at};
 ghost use Rattle.shb_lines.specs.events.Race.{ends};
 
 use crate::accesses::Accesses;
 use crate::piece::Piece;
 use crate::races::races_in;
+use crate::ranges::RaceRanges;
 use crate::search::Search;
 use shb_clocks::{Order, Ordered};
 use shb_discipline::Disciplined;
@@ -22,21 +23,21 @@ use std::collections::LinkedList;
 use std::marker::Model;
 
 /// The search for the races of a trace, as work in pieces: the value of a piece is the races whose
-/// later access is in its run, by the later access, then by the earlier one. The values of all pieces
-/// joined are the race list, where a variable that isn't open has no race. Clauses see it as the
+/// later access is in its run, by the later access, then by the earlier one, as ranges. The values of all
+/// pieces joined are the race list, where a variable that isn't open has no race. Clauses see it as the
 /// accesses.
 ///
-/// A piece costs its accesses times the threads that access the variable, and a step for each race;
+/// A piece costs its accesses times the threads that access the variable, whatever the number of its races;
 /// where its accesses are ordered, about one look-up of the order for each. Running a piece takes
-/// memory only for the races that it finds, and changes nothing.
+/// memory for its ranges, at most one for each of its accesses and each thread, and changes nothing.
 #[derive(Drop)]
-pub struct PairJob<'a, O: Order> {
+pub struct RangeJob<'a, O: Order> {
     ordered: Ordered<'a, O>,
     accesses: &'a Accesses<'a>,
     pieces: &'a [Piece],
 }
 
-impl<'a, O: Order> Model for PairJob<'a, O> {
+impl<'a, O: Order> Model for RangeJob<'a, O> {
     ghost Value = { OpenTrace };
 
     ghost view = { λ j. j.accesses.now };
@@ -45,7 +46,7 @@ impl<'a, O: Order> Model for PairJob<'a, O> {
         × AsksOpen (O.asks j.ordered.order.now) j.accesses.now.flags j.ordered.trace.now.events.now };
 }
 
-impl<'a, O: Order> PairJob<'a, O> {
+impl<'a, O: Order> RangeJob<'a, O> {
     /// The search on these pieces of these accesses. The order, the links, the accesses and the pieces
     /// are of the trace, the order can be asked about each access of an open variable, and the pieces are
     /// all of its pieces.
@@ -68,7 +69,7 @@ impl<'a, O: Order> PairJob<'a, O> {
             trace,
             links,
         };
-        PairJob {
+        RangeJob {
             ordered,
             accesses,
             pieces,
@@ -84,6 +85,66 @@ fn piece_with(pieces: &[Piece], k: u64) -> Piece
     pieces[k as usize]
 }
 
+impl<'a, O: Order> Job for RangeJob<'a, O> {
+    type Out = RaceRanges<'a>;
+
+    type Meaning = LinkedList<(u32, u32)>;
+
+    ghost meaning = { λ races. joined races };
+
+    ghost value = { races_at };
+
+    ghost count = { λ a. length (pieces_in a) };
+
+    fn pieces(&self) -> u64 {
+        self.pieces.len() as u64
+    }
+
+    fn run(&self, alloc: Global, k: u64) -> Result<RaceRanges<'a>, NoMemory> {
+        let piece = piece_with(self.pieces, k);
+        let search = Search {
+            ordered: &self.ordered,
+            accesses: self.accesses,
+            variable: piece.variable,
+        };
+        races_in(alloc, &search, piece.from as usize, piece.to as usize)
+    }
+}
+
+/// The same search where the value of a piece is the list of its races: for what needs all races at once.
+#[derive(Drop)]
+pub struct PairJob<'a, O: Order> {
+    ranges: RangeJob<'a, O>,
+}
+
+impl<'a, O: Order> Model for PairJob<'a, O> {
+    ghost Value = { OpenTrace };
+
+    ghost view = { λ j. j.ranges };
+}
+
+impl<'a, O: Order> PairJob<'a, O> {
+    /// The search on these pieces of these accesses, as [`RangeJob::new`] makes it.
+    pub fn new(
+        order: &'a O,
+        trace: &'a Disciplined<'a>,
+        links: &'a Links<'a>,
+        accesses: &'a Accesses<'a>,
+        pieces: &'a [Piece],
+    ) -> Self
+        requires of_trace { O.trace order.now ≡ trace.now.events.now }
+        requires linked { links.now ≡ trace.now.events.now }
+        requires accesses { accesses.now.trace ≡ trace.now.events.now }
+        requires asked { AsksOpen (O.asks order.now) accesses.now.flags trace.now.events.now }
+        requires pieces { pieces.now ≡ pieces_in accesses.now }
+        ensures { result ≡ accesses.now }
+    {
+        PairJob {
+            ranges: RangeJob::new(order, trace, links, accesses, pieces),
+        }
+    }
+}
+
 impl<'a, O: Order> Job for PairJob<'a, O> {
     type Out = Vec<Pair>;
 
@@ -96,16 +157,11 @@ impl<'a, O: Order> Job for PairJob<'a, O> {
     ghost count = { λ a. length (pieces_in a) };
 
     fn pieces(&self) -> u64 {
-        self.pieces.len() as u64
+        self.ranges.pieces()
     }
 
     fn run(&self, alloc: Global, k: u64) -> Result<Vec<Pair>, NoMemory> {
-        let piece = piece_with(self.pieces, k);
-        let search = Search {
-            ordered: &self.ordered,
-            accesses: self.accesses,
-            variable: piece.variable,
-        };
-        races_in(alloc, &search, piece.from as usize, piece.to as usize)
+        let races = self.ranges.run(alloc, k)?;
+        races.expanded(alloc)
     }
 }

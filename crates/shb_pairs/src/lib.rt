@@ -6,14 +6,16 @@
 //! so are the reads since, which the newest tells where each has the one before it below. The others
 //! are open. [`accesses_of_open`] collects their
 //! accesses in one pass and sorts them by counting, in trace order and by thread; [`pieces`] cuts
-//! each list into runs of at most 64; [`PairJob`] is the job over them, whose piece has the races
-//! with the later access in its run.
+//! each list into runs of at most 64; [`RangeJob`] is the job over them, whose piece has the races
+//! with the later access in its run, as [`RaceRanges`]: for each later access a range of the accesses
+//! of each thread that has races with it. [`PairJob`] is the same with lists of pairs.
 //!
 //! The search for a later access j goes over the threads that write its variable (that access it,
-//! where j writes). In the accesses of a thread it finds by binary search where j stands, and walks
-//! back while a local time is above what the order answers: what it walks over are the races. A write
-//! without a race that is SHB-below the predecessor of j orders all accesses before it; then only
-//! those after it are tested, one by one. So accesses that are ordered cost about one look-up each.
+//! where j writes). In the accesses of a thread it finds by binary search where j stands, and back from
+//! there, one by one and then by halving, the first whose local time is above what the order answers:
+//! the races are the range between the two. A write without a race that is SHB-below the predecessor
+//! of j orders all accesses before it; then only those after it are tested, one by one, until one races.
+//! So accesses that are ordered cost about one look-up each, and races cost their ranges.
 #![tactic(auto)]
 
 mod accesses;
@@ -23,12 +25,14 @@ pub mod laws;
 mod piece;
 mod race;
 mod races;
+mod ranges;
 mod rivals;
 mod screen;
 mod search;
 
 pub use accesses::{Accesses, accesses_of, accesses_of_open};
-pub use job::PairJob;
+pub use job::{PairJob, RangeJob};
 pub use piece::{Piece, pieces};
 pub use race::is_race;
+pub use ranges::RaceRanges;
 pub use screen::open_variables;

@@ -1,75 +1,54 @@
 //! The races with the accesses of one variable.
 
-ghost use Rattle.std.specs.Prelude.{◌≡◌, ◌++◌, ℕ, ◌+◌, ◌<◌, ◌≤◌, true, Some, All, IfOk, IfSome, IsTrue, ◌↔◌, flat_map, length, map, slice_index_or, slice_range};
+ghost use Rattle.std.specs.Prelude.{◌≡◌, ◌++◌, [], ℕ, ◌+◌, ◌<◌, ◌≤◌, ◌^◌, true, Some, All, IfOk, IfSome, IsFalse, IsTrue, ◌↔◌, flat_map, length, slice_index_or, slice_range};
 ghost use Rattle.shb_lines.specs.declared.event.Op.TheVariants.{Write};
 ghost use Rattle.shb_lines.specs.events.Events.{op_at};
 ghost use Rattle.shb_lines.specs.events.Order.{BelowPred};
-ghost use Rattle.shb_lines.specs.events.Race.{Race, variable_at, ends};
+ghost use Rattle.shb_lines.specs.events.Race.{Race, variable_at};
 ghost use Rattle.shb_pairs.specs.Accesses.{accesses_in, variables_in};
 ghost use Rattle.shb_clocks.specs.Open.{is_open};
-ghost use Rattle.shb_pairs.specs.Races.{races_with};
+ghost use Rattle.shb_pairs.specs.Races.{joined, races_with};
 ghost use Rattle.shb_pairs.specs.Search.{IsFreeWrite, racing};
 
 use crate::race::{is_below_pred, is_race_by};
+use crate::ranges::RaceRanges;
 use crate::rivals::{Cursors, rivals_of};
 use crate::search::Search;
 use shb_clocks::{Order, Ordered};
 use shb_discipline::Disciplined;
 use shb_io::NoMemory;
-use shb_lines::Pair;
 use std::alloc::Global;
 
-/// Adds the pairs of some positions with a later one.
-fn add_pairs(races: &mut Vec<Pair>, firsts: &[u32], second: u32) -> Result<(), NoMemory>
-    ensures { IfOk result (λ _. map ends races.new.items ≡ map ends races.old.items ++ map (λ i. (i, second)) firsts.now) }
-{
-    for first in firsts {
-        races.push(Pair {
-            first: *first,
-            second,
-        })?;
-    }
-    Ok(())
-}
-
-/// Adds the races of a later access with all accesses before it, thread by thread.
-fn add_races<O: Order>(
+/// Adds the races of a later access with all accesses before it, found thread by thread.
+fn add_races<'a, O: Order>(
     alloc: Global,
-    races: &mut Vec<Pair>,
-    search: &Search<'_, '_, O>,
+    races: &mut RaceRanges<'a>,
+    search: &Search<'_, 'a, O>,
     cursors: &mut Cursors,
     second: u32,
 ) -> Result<(), NoMemory>
     requires accessed { variable_at search.now.ordered.now.trace.now.events.now second ≡ Some search.now.variable }
-    ensures { IfOk result (λ _. map ends races.new.items ≡ map ends races.old.items
+    requires room { length (joined races.old) + 2 ^ 32 < 2 ^ 64 }
+    ensures { IfOk result (λ _. joined races.new ≡ joined races.old
         ++ races_with search.now.ordered.now.trace.now.events.now second) }
 {
-    let firsts = rivals_of(alloc, search, cursors, second)?;
-    add_pairs(races, firsts.as_slice(), second)
+    let ranges = rivals_of(alloc, search, cursors, second)?;
+    races.add(second, ranges)
 }
 
-/// Adds the races of a later access with some accesses before it, one by one.
-fn add_races_among<O: Order>(
-    races: &mut Vec<Pair>,
-    ordered: &Ordered<'_, O>,
-    firsts: &[u32],
-    second: u32,
-) -> Result<(), NoMemory>
+/// Whether one of some earlier accesses races with a later one.
+fn has_race_among<O: Order>(ordered: &Ordered<'_, O>, firsts: &[u32], second: u32) -> bool
     requires in_range { second < length ordered.now.trace.now.events.now }
     requires asked { O.asks ordered.now.order.now second ≡ true }
     requires earlier { All (λ i. i < second) firsts.now }
-    ensures { IfOk result (λ _. map ends races.new.items ≡ map ends races.old.items
-        ++ map (λ i. (i, second)) (racing ordered.now.trace.now.events.now second firsts.now)) }
+    ensures { IsFalse result → racing ordered.now.trace.now.events.now second firsts.now ≡ [] }
 {
     for first in firsts {
         if is_race_by(ordered, *first, second) {
-            races.push(Pair {
-                first: *first,
-                second,
-            })?;
+            return true;
         }
     }
-    Ok(())
+    false
 }
 
 /// Whether an earlier access is SHB-below the predecessor of a later one.
@@ -84,31 +63,29 @@ fn is_ordered<O: Order>(ordered: &Ordered<'_, O>, first: u32, second: u32) -> bo
         || is_below_pred(ordered, first, second)
 }
 
-/// Adds the races of the access at an index, where the last write before it has no race and is
-/// SHB-below its predecessor: then it races with reads after that write alone.
-fn add_races_since<O: Order>(
-    races: &mut Vec<Pair>,
+/// Whether the access at an index has a race, where the last write before it has none and is SHB-below
+/// its predecessor: then it races with reads after that write alone.
+fn has_race_since<O: Order>(
     ordered: &Ordered<'_, O>,
     accesses: &[u32],
     write: usize,
     index: usize,
-) -> Result<(), NoMemory>
+) -> bool
     requires inside { index < length accesses.now }
     requires asked { O.asks ordered.now.order.now (slice_index_or accesses.now index 0) ≡ true }
     requires free_write { (x : ℕ) × (accesses.now ≡ accesses_in ordered.now.trace.now.events.now x)
         × IsFreeWrite ordered.now.trace.now.events.now x accesses.now index write }
     requires ordered { BelowPred ordered.now.trace.now.events.now (slice_index_or accesses.now write 0)
         (slice_index_or accesses.now index 0) }
-    ensures { IfOk result (λ _. map ends races.new.items ≡ map ends races.old.items
-        ++ races_with ordered.now.trace.now.events.now (slice_index_or accesses.now index 0)) }
+    ensures { IsFalse result → races_with ordered.now.trace.now.events.now (slice_index_or accesses.now index 0) ≡ [] }
 {
     let second = accesses[index];
-    if ordered.trace.events.op(second).is_write() {
-        let (earlier, _) = accesses.split_at(index);
-        let (_, since) = earlier.split_at(write + 1);
-        add_races_among(races, ordered, since, second)?;
+    if !ordered.trace.events.op(second).is_write() {
+        return false;
     }
-    Ok(())
+    let (earlier, _) = accesses.split_at(index);
+    let (_, since) = earlier.split_at(write + 1);
+    has_race_among(ordered, since, second)
 }
 
 /// The last write before an index, where it has no race and is SHB-below the predecessor of the
@@ -166,29 +143,28 @@ fn next_free_write(
 
 /// Adds the races of the access at an index of the accesses of a variable. `free_write` is the index of
 /// the last write before it, where that is known to have no race.
-fn add_races_at<O: Order>(
+fn add_races_at<'a, O: Order>(
     alloc: Global,
-    races: &mut Vec<Pair>,
-    search: &Search<'_, '_, O>,
+    races: &mut RaceRanges<'a>,
+    search: &Search<'_, 'a, O>,
     cursors: &mut Cursors,
     free_write: Option<usize>,
     index: usize,
 ) -> Result<(), NoMemory>
     requires inside { index < length (accesses_in search.now.ordered.now.trace.now.events.now search.now.variable) }
+    requires room { length (joined races.old) + 2 ^ 32 < 2 ^ 64 }
     requires free_write { IfSome free_write
         (λ s. IsFreeWrite search.now.ordered.now.trace.now.events.now search.now.variable
         (accesses_in search.now.ordered.now.trace.now.events.now search.now.variable) index s) }
-    ensures { IfOk result (λ _. map ends races.new.items ≡ map ends races.old.items
+    ensures { IfOk result (λ _. joined races.new ≡ joined races.old
         ++ races_with search.now.ordered.now.trace.now.events.now
         (slice_index_or (accesses_in search.now.ordered.now.trace.now.events.now search.now.variable) index 0)) }
 {
     let accesses = search.accesses.of(search.variable);
+    let second = accesses[index];
     match ordered_write(search.ordered, accesses, free_write, index) {
-        Some(write) => add_races_since(races, search.ordered, accesses, write, index),
-        None => {
-            let second = accesses[index];
-            add_races(alloc, races, search, cursors, second)
-        }
+        Some(write) if !has_race_since(search.ordered, accesses, write, index) => Ok(()),
+        _ => add_races(alloc, races, search, cursors, second),
     }
 }
 
@@ -196,22 +172,22 @@ fn add_races_at<O: Order>(
 /// then by the earlier one.
 ///
 /// A write without a race orders all accesses before it. So for an access after such a write, which
-/// is SHB-below its predecessor, only the accesses between the two are tested; for any other the
-/// accesses of each other thread are searched.
-pub(crate) fn races_in<O: Order>(
+/// is SHB-below its predecessor, only the accesses between the two are tested; for any other, and where
+/// one of these races, the accesses of each other thread are searched.
+pub(crate) fn races_in<'a, O: Order>(
     alloc: Global,
-    search: &Search<'_, '_, O>,
+    search: &Search<'_, 'a, O>,
     from: usize,
     to: usize,
-) -> Result<Vec<Pair>, NoMemory>
+) -> Result<RaceRanges<'a>, NoMemory>
     requires forward { from ≤ to }
     requires within { to ≤ length (accesses_in search.now.ordered.now.trace.now.events.now search.now.variable) }
-    ensures { IfOk result (λ v. map ends v.items
+    ensures { IfOk result (λ races. joined races
         ≡ flat_map (races_with search.now.ordered.now.trace.now.events.now)
         (slice_range (accesses_in search.now.ordered.now.trace.now.events.now search.now.variable) from to)) }
 {
     let accesses = search.accesses.of(search.variable);
-    let mut races = Vec::new(alloc);
+    let mut races = RaceRanges::new(alloc);
     let mut cursors = Cursors::new(alloc);
     let mut free_write = None;
     for index in from..to {

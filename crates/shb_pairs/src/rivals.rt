@@ -1,4 +1,4 @@
-//! The accesses that race with a later one, found thread by thread.
+//! The accesses that race with a later one, as ranges, found thread by thread.
 
 ghost use Rattle.std.specs.Prelude.{◌≡◌, ◌++◌, ℕ, ◌+◌, ◌<◌, ◌≤◌, true, Some, All, AllPairs, IfOk, length, slice_index_or};
 ghost use Rattle.shb_lines.specs.events.Discipline.{local_time};
@@ -8,16 +8,21 @@ ghost use Rattle.shb_lines.specs.events.Reach.{is_race, numbers_where};
 ghost use Rattle.shb_pairs.specs.Accesses.{IsBeforeByThread};
 ghost use Rattle.shb_pairs.specs.Buckets.{key_at};
 ghost use Rattle.shb_clocks.specs.Open.{is_open};
+ghost use Rattle.shb_pairs.specs.Ranges.{in_ranges, sorted};
 ghost use Rattle.shb_pairs.specs.Search.{AreRivals, IsOfOneThread, racing};
 ghost use Rattle.shb_pairs.specs.declared.buckets.Key.TheVariants.{Thread};
 
 use crate::buckets::part;
+use crate::ranges::Range;
 use crate::search::Search;
 use shb_clocks::{Order, Ordered};
 use shb_io::NoMemory;
 use shb_lines::Events;
 use shb_links::Links;
 use std::alloc::Global;
+
+/// So many of a thread's accesses are looked at one by one before the others are halved.
+const NEAR: usize = 8;
 
 /// What a search found of one thread's accesses: where they end among the positions by thread, and how
 /// many of them stand before the later access. The search for the next access tries these first. They say
@@ -28,20 +33,17 @@ struct Cursor {
     before: usize,
 }
 
-/// The cursors of a search for the races of one variable, by threads in order: for its writes, and for its
-/// reads.
+/// The cursors of a search for the races of one variable, by threads in order: for its writes, and for all
+/// its accesses.
 pub(crate) struct Cursors {
     writes: Vec<Cursor>,
-    reads: Vec<Cursor>,
+    both: Vec<Cursor>,
 }
 
 // By hand: a derived one stands in each function that drops cursors, with a step for each vector.
 impl Drop for Cursors {
     fn drop(self) {
-        let Cursors {
-            writes: _,
-            reads: _,
-        } = self;
+        let Cursors { writes: _, both: _ } = self;
     }
 }
 
@@ -50,7 +52,7 @@ impl Cursors {
     pub(crate) fn new(alloc: Global) -> Cursors {
         Cursors {
             writes: Vec::new(alloc),
-            reads: Vec::new(alloc),
+            both: Vec::new(alloc),
         }
     }
 }
@@ -105,9 +107,9 @@ fn count_before(positions: &[u32], guess: usize, second: u32) -> usize
 }
 
 /// Where the positions start, among the first `end` of one thread, that are not among the first
-/// `below` events of the thread.
-fn tail_start(links: &Links<'_>, positions: &[u32], end: usize, below: u32) -> usize
-    requires in_range { All (λ k. k < length links.now) positions.now }
+/// `below` events of the thread. By halving: local times rise along a thread.
+fn halved_start(links: &Links<'_>, positions: &[u32], end: usize, below: u32) -> usize
+    requires one_thread { IsOfOneThread links.now positions.now }
     requires within { end ≤ length positions.now }
     ensures start { result ≤ end }
     ensures above { (t k : ℕ) → result ≤ k → k < end → thread_at links.now (slice_index_or positions.now k 0) ≡ Some t
@@ -115,22 +117,55 @@ fn tail_start(links: &Links<'_>, positions: &[u32], end: usize, below: u32) -> u
     ensures under { (t k : ℕ) → k + 1 ≡ result → thread_at links.now (slice_index_or positions.now k 0) ≡ Some t
         → local_time links.now t (slice_index_or positions.now k 0) ≤ below }
 {
-    // From the newest back: each step but the last is a race that is found.
-    for k in (0..end).rev() {
+    let mut start = 0;
+    let mut limit = end;
+    while start < limit {
+        let middle = start + (limit - start) / 2;
+        if links.local(positions[middle]) <= below {
+            start = middle + 1;
+        } else {
+            limit = middle;
+        }
+    }
+    start
+}
+
+/// The same, where the newest are looked at one by one first: mostly few race.
+fn tail_start(links: &Links<'_>, positions: &[u32], end: usize, below: u32) -> usize
+    requires one_thread { IsOfOneThread links.now positions.now }
+    requires within { end ≤ length positions.now }
+    ensures start { result ≤ end }
+    ensures above { (t k : ℕ) → result ≤ k → k < end → thread_at links.now (slice_index_or positions.now k 0) ≡ Some t
+        → below < local_time links.now t (slice_index_or positions.now k 0) }
+    ensures under { (t k : ℕ) → k + 1 ≡ result → thread_at links.now (slice_index_or positions.now k 0) ≡ Some t
+        → local_time links.now t (slice_index_or positions.now k 0) ≤ below }
+{
+    let near = end.saturating_sub(NEAR);
+    for k in (near..end).rev() {
         if links.local(positions[k]) <= below {
             return k + 1;
         }
     }
-    0
+    halved_start(links, positions, near, below)
 }
 
-/// Adds the positions, all of one thread, that race with a later access. Local times rise with
-/// positions, so the races are the last ones before it: those after the events of the thread that
-/// are SHB-below its predecessor.
-fn add_tail<O: Order>(
-    found: &mut Vec<u32>,
+/// Adds a range, unless it is empty.
+fn add_range<'p>(found: &mut Vec<Range<'p>>, firsts: &'p [u32]) -> Result<(), NoMemory>
+    ensures { IfOk result (λ _. in_ranges found.new.items ≡ in_ranges found.old.items ++ firsts.now) }
+{
+    if !firsts.is_empty() {
+        found.push(Range { firsts })?;
+    }
+    Ok(())
+}
+
+/// Adds the range of those positions, all of one thread, that race with a later access, if there are any.
+/// Local times rise with positions, so the races are the last ones before it: those after the events of
+/// the thread that are SHB-below its predecessor.
+fn add_tail<'p, O: Order>(
+    found: &mut Vec<Range<'p>>,
     ordered: &Ordered<'_, O>,
-    positions: &[u32],
+    positions: &'p [u32],
     before: &mut usize,
     second: u32,
 ) -> Result<(), NoMemory>
@@ -139,7 +174,8 @@ fn add_tail<O: Order>(
     requires some { 0 < length positions.now }
     requires rivals { AreRivals ordered.now.trace.now.events.now second positions.now }
     requires one_thread { IsOfOneThread ordered.now.trace.now.events.now positions.now }
-    ensures { IfOk result (λ _. found.new.items ≡ found.old.items ++ racing ordered.now.trace.now.events.now second positions.now) }
+    ensures { IfOk result (λ _. in_ranges found.new.items
+        ≡ in_ranges found.old.items ++ racing ordered.now.trace.now.events.now second positions.now) }
 {
     let thread = ordered.trace.events.thread(positions[0]);
     // The accesses of its own thread are ordered before it: the order isn't asked.
@@ -150,15 +186,14 @@ fn add_tail<O: Order>(
     *before = end;
     let below = ordered.order.below_pred(second, thread);
     let start = tail_start(ordered.links, positions, end, below);
-    found.extend_from_slice(part(positions, start, end))?;
-    Ok(())
+    add_range(found, part(positions, start, end))
 }
 
-/// Adds the positions, by thread, that race with a later access.
-fn add_rivals<O: Order>(
-    found: &mut Vec<u32>,
+/// Adds the ranges of those positions, by thread, that race with a later access.
+fn add_rivals<'p, O: Order>(
+    found: &mut Vec<Range<'p>>,
     ordered: &Ordered<'_, O>,
-    positions: &[u32],
+    positions: &'p [u32],
     cursors: &mut Vec<Cursor>,
     second: u32,
 ) -> Result<(), NoMemory>
@@ -167,7 +202,8 @@ fn add_rivals<O: Order>(
     requires rivals { AreRivals ordered.now.trace.now.events.now second positions.now }
     requires each_in_range { All (λ k. k < length ordered.now.trace.now.events.now) positions.now }
     requires sorted { AllPairs (IsBeforeByThread ordered.now.trace.now.events.now) positions.now }
-    ensures { IfOk result (λ _. found.new.items ≡ found.old.items ++ racing ordered.now.trace.now.events.now second positions.now) }
+    ensures { IfOk result (λ _. in_ranges found.new.items
+        ≡ in_ranges found.old.items ++ racing ordered.now.trace.now.events.now second positions.now) }
 {
     let mut start = 0;
     let mut run = 0;
@@ -190,37 +226,38 @@ fn add_rivals<O: Order>(
     Ok(())
 }
 
-/// The accesses that race with a later access of a variable, in trace order. The cursors are those of
-/// earlier searches for this variable.
-pub(crate) fn rivals_of<O: Order>(
+/// The ranges of the accesses that race with a later access of a variable: one for each thread that has
+/// any. The cursors are those of earlier searches for this variable.
+pub(crate) fn rivals_of<'a, O: Order>(
     alloc: Global,
-    search: &Search<'_, '_, O>,
+    search: &Search<'_, 'a, O>,
     cursors: &mut Cursors,
     second: u32,
-) -> Result<Vec<u32>, NoMemory>
+) -> Result<Vec<Range<'a>>, NoMemory>
     requires accessed { variable_at search.now.ordered.now.trace.now.events.now second ≡ Some search.now.variable }
-    ensures { IfOk result (λ v. v.items ≡ numbers_where (λ i. is_race search.now.ordered.now.trace.now.events.now i second) second) }
+    ensures { IfOk result (λ v. sorted (in_ranges v.items)
+        ≡ numbers_where (λ i. is_race search.now.ordered.now.trace.now.events.now i second) second) }
 {
     let mut found = Vec::new(alloc);
-    let writes = search.accesses.writes_by_thread(search.variable);
-    add_rivals(
-        &mut found,
-        search.ordered,
-        writes,
-        &mut cursors.writes,
-        second,
-    )?;
-    // A read conflicts with no read.
+    // A read conflicts with writes alone.
     if search.ordered.trace.events.op(second).is_write() {
-        let reads = search.accesses.reads_by_thread(search.variable);
+        let accesses = search.accesses.both_by_thread(search.variable);
         add_rivals(
             &mut found,
             search.ordered,
-            reads,
-            &mut cursors.reads,
+            accesses,
+            &mut cursors.both,
+            second,
+        )?;
+    } else {
+        let writes = search.accesses.writes_by_thread(search.variable);
+        add_rivals(
+            &mut found,
+            search.ordered,
+            writes,
+            &mut cursors.writes,
             second,
         )?;
     }
-    found.sort_unstable();
     Ok(found)
 }

@@ -14,7 +14,7 @@ use shb_clocks::{Order, Ordered};
 #[derive(Drop)]
 pub(crate) struct Search<'s, 'a, O: Order> {
     pub(crate) ordered: &'s Ordered<'a, O>,
-    pub(crate) accesses: &'s Accesses<'a>,
+    pub(crate) accesses: &'a Accesses<'a>,
     pub(crate) variable: u32,
     pub(crate) ghost of_trace: { accesses.now.trace ≡ ordered.now.trace.now.events.now },
     pub(crate) ghost listed: { is_open accesses.now.flags variable ≡ true },

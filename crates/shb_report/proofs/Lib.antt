@@ -3,7 +3,7 @@ pub mod Blocks
 pub mod Bad
 mod EntryLemmas
 pub mod Injective
-mod PlaceLemmas
+pub mod PlaceLemmas
 pub mod LeadingLemmas
 pub mod LeadingReports
 pub mod WrittenText

@@ -13,7 +13,7 @@ use Rattle.std.specs.Str.{bytes_eq}
 use Rattle.indexmap.specs.IndexMap.{insert_entry}
 use Rattle.shb_lines.specs.declared.event.Pair.{Pair}
 use Rattle.shb_report.specs.declared.places.PlaceCount.{PlaceCount}
-use Rattle.shb_report.specs.Places.{IsPairOf, IsPlaceOf, PlaceOf, counts_in, location_at, place_of_entry, places_in, places_of_pairs, with_one_more, with_pair}
+use Rattle.shb_report.specs.Places.{IsPairOf, IsPlaceOf, PlaceOf, counts_in, location_at, place_of_entry, places_after, places_in, places_of_pairs, with_one_more, with_pair}
 
 abbrev pub Key : Type 0
 Key = Bor (List ℕ) × Bor (List ℕ)
@@ -64,15 +64,15 @@ located None found e = absurd (cc)
 located (Some line) found e = cc
 
 -- one pair more
-pub one_pair_more : (trace : TraceData) (pairs : List Pair) (k : ℕ) (d : Pair) (first second : List ℕ) → k < length pairs
+pub one_pair_more : (trace : TraceData) (before : List PlaceOf) (pairs : List Pair) (k : ℕ) (d : Pair) (first second : List ℕ) → k < length pairs
     → first ≡ location_at trace (get_or pairs k d).first → second ≡ location_at trace (get_or pairs k d).second
-    → with_pair (places_of_pairs trace (take k pairs)) first second (get_or pairs k d) ≡ places_of_pairs trace (take (k + 1) pairs)
-one_pair_more trace pairs k d first second within e f =
+    → with_pair (places_after trace before (take k pairs)) first second (get_or pairs k d) ≡ places_after trace before (take (k + 1) pairs)
+one_pair_more trace before pairs k d first second within e f =
     let pair = get_or pairs k d in
-    ap (λ l. with_pair (places_of_pairs trace (take k pairs)) l second pair) e
-    ∙ ap (λ l. with_pair (places_of_pairs trace (take k pairs)) (location_at trace pair.first) l pair) f
-    ∙ sym (fold-append (λ places pair. with_pair places (location_at trace pair.first) (location_at trace pair.second) pair) [] (take k pairs) (pair ∷ []))
-    ∙ ap (places_of_pairs trace) (sym (take_more pairs k d within))
+    ap (λ l. with_pair (places_after trace before (take k pairs)) l second pair) e
+    ∙ ap (λ l. with_pair (places_after trace before (take k pairs)) (location_at trace pair.first) l pair) f
+    ∙ sym (fold-append (λ places pair. with_pair places (location_at trace pair.first) (location_at trace pair.second) pair) before (take k pairs) (pair ∷ []))
+    ∙ ap (places_after trace before) (sym (take_more pairs k d within))
 
 -- the values of a table are its counts
 pub counts_are : (entries : List (Key × PlaceCount)) → map (λ e. e.1) entries ≡ counts_in (places_in entries)
@@ -94,3 +94,25 @@ pub counts_in_range : (trace : TraceData) (places : List PlaceOf) → AllByRecur
 counts_in_range trace [] h k d below = absurd (omega arith)
 counts_in_range trace (place ∷ places) h zero d below = h.0
 counts_in_range trace (place ∷ places) h (suc k) d below = counts_in_range trace places h.1 k d (omega arith)
+
+-- with all pairs counted no count has grown by more than their number
+pub places_after_few : (trace : TraceData) (n : ℕ) (places : List PlaceOf) (pairs : List Pair) → AllByRecursion (λ place. place.counted.count ≤ n) places
+    → AllByRecursion (λ place. place.counted.count ≤ length pairs + n) (places_after trace places pairs)
+places_after_few trace n places [] few = each-weaker (λ (p : PlaceOf). p.counted.count ≤ n) (λ (p : PlaceOf). p.counted.count ≤ length {A = Pair} [] + n) places (λ p l. omega arith) few
+places_after_few trace n places (pair ∷ pairs) few =
+    let after = with_pair places (location_at trace pair.first) (location_at trace pair.second) pair in
+    let once = with_pair_few (n + 1) places (location_at trace pair.first) (location_at trace pair.second) pair (omega arith)
+    (each-weaker (λ (p : PlaceOf). p.counted.count ≤ n) (λ (p : PlaceOf). p.counted.count + 1 ≤ n + 1) places (λ p l. omega arith) few) in
+    each-weaker (λ (p : PlaceOf). p.counted.count ≤ length pairs + (n + 1)) (λ (p : PlaceOf). p.counted.count ≤ suc (length pairs) + n) (places_after trace after pairs) (λ p l. omega arith)
+    (places_after_few trace (n + 1) after pairs once)
+
+-- and each place's pair is one of theirs, or of those before
+pub places_after_in_range : (trace : TraceData) (places : List PlaceOf) (pairs : List Pair) → All (IsPairOf trace) pairs → AllByRecursion (λ place. IsPlaceOf trace place.counted) places
+    → AllByRecursion (λ place. IsPlaceOf trace place.counted) (places_after trace places pairs)
+places_after_in_range trace places [] are h = h
+places_after_in_range trace places (pair ∷ pairs) are h =
+    places_after_in_range trace (with_pair places (location_at trace pair.first) (location_at trace pair.second) pair) pairs (λ k d lt. are (suc k) d (omega arith))
+    (with_pair_in_range trace places (location_at trace pair.first) (location_at trace pair.second) pair (are 0 pair (omega arith)) h)
+
+pub places_in_range : (trace : TraceData) (pairs : List Pair) → All (IsPairOf trace) pairs → All (IsPlaceOf trace) (counts_in (places_of_pairs trace pairs))
+places_in_range trace pairs are = counts_in_range trace (places_of_pairs trace pairs) (places_after_in_range trace [] pairs are tt)

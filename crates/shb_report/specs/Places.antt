@@ -30,8 +30,12 @@ with_pair (place ∷ places) first second pair =
     then record { first = place.first; second = place.second; counted = with_one_more (Some place.counted) pair } ∷ places
     else place ∷ with_pair places first second pair
 
+-- these places, and then each pair in its turn
+abbrev pub places_after : TraceData → List PlaceOf → List Pair → List PlaceOf
+places_after trace before pairs = fold (λ places pair. with_pair places (location_at trace pair.first) (location_at trace pair.second) pair) before pairs
+
 abbrev pub places_of_pairs : TraceData → List Pair → List PlaceOf
-places_of_pairs trace pairs = fold (λ places pair. with_pair places (location_at trace pair.first) (location_at trace pair.second) pair) [] pairs
+places_of_pairs trace pairs = places_after trace [] pairs
 
 -- the first pair of each place, and how many pairs have it
 abbrev pub counts_in : List PlaceOf → List PlaceCount

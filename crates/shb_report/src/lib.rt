@@ -29,6 +29,6 @@ mod writing;
 pub use counts::Counts;
 pub use judging::{RaceFault, Verdict, check_report, judge_report};
 pub use leading::leading_of;
-pub use places::{PlaceCount, Places, places_of};
+pub use places::{PlaceCount, PlaceTable, Places, places_of};
 pub use reading::{Report, ReportError, read_report, read_report_within};
 pub use writing::{NumberTexts, block, head, place_lines, scheduled_block, tail, verdict_line};

@@ -2,7 +2,7 @@
 ghost use Rattle.std.specs.Prelude.{◌≡◌, ◌+◌, ◌-◌, ◌<◌, ◌≤◌, ◌^◌, [], ℕ, List, All, Some, length, map, option_map, slice_get, IfOk, IfSome, OnOk};
 ghost use Rattle.std.specs.Option.{option_copied};
 ghost use Rattle.std.specs.List.{AllByRecursion};
-ghost use Rattle.shb_report.specs.Places.{IsPairOf, IsPlaceOf, counts_in, places_in, places_of_pairs, with_one_more, with_pair};
+ghost use Rattle.shb_report.specs.Places.{IsPairOf, IsPlaceOf, counts_in, places_after, places_in, places_of_pairs, with_one_more, with_pair};
 
 use indexmap::IndexMap;
 use shb_io::NoMemory;
@@ -54,12 +54,11 @@ fn add_pair<'t>(
     Ok(())
 }
 
-/// Counts some pairs in a table without places.
+/// Counts some pairs.
 fn add_pairs<'t>(table: &mut Table<'t>, trace: &'t Trace, pairs: &[Pair]) -> Result<(), NoMemory>
     requires pairs { All (IsPairOf trace.now) pairs.now }
-    requires empty { table.old.entries ≡ [] }
-    ensures places { OnOk result (places_in table.new.entries ≡ places_of_pairs trace.now pairs.now) }
-    ensures in_range { OnOk result (AllByRecursion (λ place. IsPlaceOf trace.now place.counted) (places_in table.new.entries)) }
+    requires few { AllByRecursion (λ place. place.counted.count + length pairs.now < 2 ^ 64) (places_in table.old.entries) }
+    ensures { OnOk result (places_in table.new.entries ≡ places_after trace.now (places_in table.old.entries) pairs.now) }
 {
     for pair in pairs {
         let first = trace.location(pair.first);
@@ -96,6 +95,61 @@ impl Model for Places {
     ghost view = { λ p. p.counts.items };
 }
 
+/// The places of pairs that come one list after the other. Contracts see it as the places so far, in the
+/// order of the first pair that has each.
+pub struct PlaceTable<'t> {
+    table: Table<'t>,
+}
+
+// By hand: a derived one stands in each function that drops it, with a step for each part of the table.
+impl<'t> Drop for PlaceTable<'t> {
+    fn drop(self) {
+        let PlaceTable { table: _ } = self;
+    }
+}
+
+impl<'t> Model for PlaceTable<'t> {
+    ghost use Rattle.std.specs.Prelude.{List};
+    ghost use Rattle.shb_report.specs.Places.{PlaceOf, places_in};
+
+    ghost Value = { List PlaceOf };
+
+    ghost view = { λ t. places_in t.table.entries };
+}
+
+impl<'t> PlaceTable<'t> {
+    /// A table without places. `NoMemory` where there were no random numbers for it.
+    pub fn new<R: RandomSource>(rt: &R, alloc: Global) -> Result<PlaceTable<'t>, NoMemory>
+        ensures { IfOk result (λ table. table ≡ []) }
+    {
+        let Ok(state) = RandomState::new(rt) else {
+            return Err(NoMemory);
+        };
+        Ok(PlaceTable {
+            table: IndexMap::with_hasher(alloc, state),
+        })
+    }
+
+    /// Counts some pairs of a trace, whose events must be events of it. No count may grow beyond 64 bits.
+    /// After `NoMemory` the table has counted some of them.
+    pub fn add(&mut self, trace: &'t Trace, pairs: &[Pair]) -> Result<(), NoMemory>
+        requires pairs { All (IsPairOf trace.now) pairs.now }
+        requires few { AllByRecursion (λ place. place.counted.count + length pairs.now < 2 ^ 64) self.old }
+        ensures { OnOk result (self.new ≡ places_after trace.now self.old pairs.now) }
+    {
+        add_pairs(&mut self.table, trace, pairs)
+    }
+
+    /// The places so far. `NoMemory` where memory was refused.
+    pub fn to_places(&self, alloc: Global) -> Result<Places, NoMemory>
+        ensures { IfOk result (λ places. places ≡ counts_in self.now) }
+    {
+        Ok(Places {
+            counts: counts_of(alloc, &self.table)?,
+        })
+    }
+}
+
 /// The places of a list of pairs: of each pair the location of its first event and that of its second.
 ///
 /// Both events of each pair must be events of the trace.
@@ -113,14 +167,10 @@ pub fn places_of<R: RandomSource>(
     ensures places { IfOk result (λ places. places ≡ counts_in (places_of_pairs trace.now pairs.now)) }
     ensures in_range { IfOk result (λ places. All (IsPlaceOf trace.now) places) }
 {
-    let Ok(state) = RandomState::new(rt) else {
-        return Err(NoMemory);
-    };
-    let mut table = IndexMap::with_hasher(alloc, state);
-    add_pairs(&mut table, trace, pairs)?;
-    Ok(Places {
-        counts: counts_of(alloc, &table)?,
-    })
+    let mut table = PlaceTable::new(rt, alloc)?;
+    table.add(trace, pairs)?;
+    let places = table.to_places(alloc)?;
+    Ok(places)
 }
 
 impl Places {

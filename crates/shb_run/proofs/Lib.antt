@@ -3,3 +3,4 @@ pub mod OwnReport
 pub mod Reports
 pub mod Joining
 pub mod Endings
+pub mod Lists

@@ -10,7 +10,6 @@ use Rattle.shb_lines.specs.text.TraceData.{TraceData}
 use Rattle.shb_clocks.specs.Open.{OpenTrace, accesses_open, is_open}
 use Rattle.shb_clocks.proofs.OpenItems.{asks_open}
 use Rattle.shb_pairs.specs.Open.{AreOpen, AsksOpen}
-use Rattle.shb_report.specs.Leading.{AreLeading}
 use Rattle.shb_report.specs.Report.{IsReportOn, pair_of}
 use Rattle.shb_report.proofs.LeadingReports.{leading_are_races}
 use Rattle.shb_report.proofs.WrittenGood.{all_are_races}
@@ -69,15 +68,6 @@ module _ (Lists : TraceData → List (ℕ × ℕ) → Type 0) (ws : Bool) (trace
   pub known_blocks : (old new : Option (List ℕ)) → CutsBlocksOn (These races) ws trace old new → CutsBlocksOn Lists ws trace old new
   known_blocks old new h = record { cut = known_cut old new h.cut; front = h.front }
 
--- the leading races of a race list
-pub leading_chosen : {V E : Type 0} (items : V → List Pair) (r : Result V E) (choice : Choice) (trace : TraceData) (events : List Event) (races : List Pair) → choice ≡ choices.Leading → events ≡ trace.events
-    → IsRaceList events (map ends races) → IfOk r (λ v. AreLeading trace races (items v)) → IfOk r (λ v. ListedBy choice trace (map ends (items v)))
-leading_chosen items (Err e) choice trace events races is same listed are = tt
-leading_chosen items (Ok v) choice trace events races is same listed are =
-    subst (λ c. ListedBy c trace (map ends (items v))) (sym is) (record {
-      races = map ends races;
-      races_are = subst (λ e. IsRaceList e (map ends races)) same listed;
-      leading_are =
-          subst (λ (l : List Pair). AreLeading trace l (map pair_of (map ends (items v)))) (sym (pairs_back races))
-          (subst (AreLeading trace races) (sym (pairs_back (items v))) are);
-    })
+-- all races of a trace, whose events may have another name, and their list too
+pub all_listed : (trace : TraceData) (events : List Event) (races list : List Pair) → events ≡ trace.events → list ≡ races → IsRaceList events (map ends races) → ListedBy choices.All trace (map ends list)
+all_listed trace events races list same is listed = subst (λ (l : List Pair). IsRaceList trace.events (map ends l)) (sym is) (subst (λ e. IsRaceList e (map ends races)) same listed)

@@ -8,6 +8,8 @@
 #![tactic(auto)]
 
 pub mod laws;
+mod leading;
+mod list;
 mod pipeline;
 mod places;
 mod races;

@@ -4,12 +4,15 @@ ghost use Rattle.shb_discipline.specs.FirstFault.{IsFirstFault};
 ghost use Rattle.shb_lines.specs.declared.fault.Fault.{Fault};
 ghost use Rattle.shb_lines.specs.text.Limits.{most_read, standard_limits};
 ghost use Rattle.shb_lines.specs.text.Taking.{ReadsText, TakesAtMost};
+ghost use Rattle.shb_report.specs.Report.{AllRaces};
 ghost use Rattle.shb_check.specs.Outcomes.{CountsSink, CountsSource, Grows, OnJudged, OnMemory, OnNoTrace, OnSink, OnTrace};
 ghost use Rattle.shb_run.specs.Runs.{FitsU64, HasTrace, IsReported, IsReportedBy};
 ghost use Rattle.shb_write.specs.Written.{CutsBlocksOn, CutsReportOn, IsSinkCounted, OnFailedSink, OnNoMemory};
 ghost use Rattle.shb_run.specs.Written.{CutsBlocks, CutsReport, ListedBy, ReportsTrace, summary_of};
 
-use crate::races::{chosen_of, races_of};
+use crate::leading::report_leading;
+use crate::list::report_list;
+use crate::races::races_of;
 use crate::screened::Screened;
 use crate::settings::{Choice, Gates, Settings, Summary, Task};
 use shb_check::{RunError, judge};
@@ -27,7 +30,7 @@ use std::sync::Wait;
 use std::thread::Threads;
 
 /// What a run says of a trace that has so many races.
-fn summary_of(trace: &Trace, races: u64) -> Summary
+pub(crate) fn summary_of(trace: &Trace, races: u64) -> Summary
     ensures summary { result ≡ summary_of trace.now races }
     ensures fits { FitsU64 result }
 {
@@ -40,8 +43,8 @@ fn summary_of(trace: &Trace, races: u64) -> Summary
     }
 }
 
-/// Finds the races of an ordered trace, and writes the report of those that are asked for.
-fn report_by<
+/// Finds all races of an ordered trace, and writes their report, from a list of them.
+fn report_screened<
     R: Threads + Wait + Sync + RandomSource,
     K: Sink,
     O: Order + Sync,
@@ -52,37 +55,67 @@ fn report_by<
     alloc: Global,
     sink: &mut K,
     screened: &Screened<'_, '_, '_, O>,
-    task: Task,
+    settings: Settings,
     gates: &Gates<'_, '_, P, W>,
 ) -> Result<Summary, WriteError>
     requires countable { K.failure_count sink.old < 2 ^ 64 - 1 }
     ensures report { IfOk result (λ summary.
-        ReportsTrace (ListedBy task.choice) task.settings.schedules screened.now.ordered.now.trace.now.trace.now summary
+        ReportsTrace AllRaces settings.schedules screened.now.ordered.now.trace.now.trace.now summary
         (K.taken sink.old) (K.taken sink.new)) }
     ensures fits { IfOk result FitsU64 }
-    ensures cut { OnFailedSink result (CutsReportOn (ListedBy task.choice) task.settings.schedules
-        screened.now.ordered.now.trace.now.trace.now
+    ensures cut { OnFailedSink result (CutsReport settings.schedules screened.now.ordered.now.trace.now.trace.now
         (K.taken sink.old) (K.taken sink.new)) }
     ensures memory { OnNoMemory result ((sink.new ≡ sink.old)
-        ⊎ CutsBlocksOn (ListedBy task.choice) task.settings.schedules screened.now.ordered.now.trace.now.trace.now
+        ⊎ CutsBlocks settings.schedules screened.now.ordered.now.trace.now.trace.now
         (K.taken sink.old) (K.taken sink.new)) }
     ensures counted { IsSinkCounted (K.failure_count sink.old) (K.failure_count sink.new) result }
 {
-    let Settings { workers, schedules } = task.settings;
     let ordered = screened.ordered;
-    let races = races_of(rt, alloc, screened, gates.pair, workers)?;
-    let chosen = chosen_of(rt, alloc, ordered.trace, races, task.choice)?;
+    let races = races_of(rt, alloc, screened, gates.pair, settings.workers)?;
     let plan = BlockPlan {
-        schedules,
-        workers,
+        schedules: settings.schedules,
+        workers: settings.workers,
         gate: gates.witness,
     };
-    write_report(rt, alloc, sink, ordered, &chosen, &plan)?;
-    Ok(summary_of(ordered.trace.trace, chosen.len() as u64))
+    write_report(rt, alloc, sink, ordered, &races, &plan)?;
+    Ok(summary_of(ordered.trace.trace, races.len() as u64))
+}
+
+/// Finds all races of an ordered trace, and writes their report. Without schedules no list of them is made.
+fn report_found<
+    R: Threads + Wait + Sync + RandomSource,
+    K: Sink,
+    O: Order + Sync,
+    P: Gate + Sync,
+    W: Gate + Sync,
+>(
+    rt: &R,
+    alloc: Global,
+    sink: &mut K,
+    screened: &Screened<'_, '_, '_, O>,
+    settings: Settings,
+    gates: &Gates<'_, '_, P, W>,
+) -> Result<Summary, WriteError>
+    requires countable { K.failure_count sink.old < 2 ^ 64 - 1 }
+    ensures report { IfOk result (λ summary.
+        ReportsTrace AllRaces settings.schedules screened.now.ordered.now.trace.now.trace.now summary
+        (K.taken sink.old) (K.taken sink.new)) }
+    ensures fits { IfOk result FitsU64 }
+    ensures cut { OnFailedSink result (CutsReport settings.schedules screened.now.ordered.now.trace.now.trace.now
+        (K.taken sink.old) (K.taken sink.new)) }
+    ensures memory { OnNoMemory result ((sink.new ≡ sink.old)
+        ⊎ CutsBlocks settings.schedules screened.now.ordered.now.trace.now.trace.now
+        (K.taken sink.old) (K.taken sink.new)) }
+    ensures counted { IsSinkCounted (K.failure_count sink.old) (K.failure_count sink.new) result }
+{
+    if !settings.schedules {
+        return report_list(rt, alloc, sink, screened, gates.pair, settings.workers);
+    }
+    report_screened(rt, alloc, sink, screened, settings, gates)
 }
 
 /// The links that a report needs: one without schedules asks for no predecessors and no last writes.
-fn links_for<'a>(
+pub(crate) fn links_for<'a>(
     alloc: Global,
     trace: &'a Disciplined<'a>,
     schedules: bool,
@@ -96,7 +129,35 @@ fn links_for<'a>(
     }
 }
 
-/// Finds the races of a trace, and writes the report of those that are asked for.
+/// Finds all races of a trace, and writes their report.
+fn report_all<R: Threads + Wait + Sync + RandomSource, K: Sink, P: Gate + Sync, W: Gate + Sync>(
+    rt: &R,
+    alloc: Global,
+    sink: &mut K,
+    trace: &Disciplined<'_>,
+    settings: Settings,
+    gates: &Gates<'_, '_, P, W>,
+) -> Result<Summary, WriteError>
+    requires countable { K.failure_count sink.old < 2 ^ 64 - 1 }
+    ensures report { IfOk result (λ summary. ReportsTrace AllRaces settings.schedules trace.now.trace.now summary
+        (K.taken sink.old) (K.taken sink.new)) }
+    ensures fits { IfOk result FitsU64 }
+    ensures cut { OnFailedSink result (CutsReport settings.schedules trace.now.trace.now
+        (K.taken sink.old) (K.taken sink.new)) }
+    ensures memory { OnNoMemory result ((sink.new ≡ sink.old)
+        ⊎ CutsBlocks settings.schedules trace.now.trace.now
+        (K.taken sink.old) (K.taken sink.new)) }
+    ensures counted { IsSinkCounted (K.failure_count sink.old) (K.failure_count sink.new) result }
+{
+    let links = links_for(alloc, &*trace, settings.schedules)?;
+    let flags = open_variables(alloc, &*trace, &links)?;
+    let order = by_event(alloc, Linked::new(&*trace, &links), &flags)?;
+    let ordered = Ordered::new(&order, &*trace, &links);
+    let screened = Screened::new(&ordered, &flags);
+    report_found(rt, alloc, sink, &screened, settings, gates)
+}
+
+/// Writes the report of a trace that is asked for.
 fn report<R: Threads + Wait + Sync + RandomSource, K: Sink, P: Gate + Sync, W: Gate + Sync>(
     rt: &R,
     alloc: Global,
@@ -116,12 +177,10 @@ fn report<R: Threads + Wait + Sync + RandomSource, K: Sink, P: Gate + Sync, W: G
         (K.taken sink.old) (K.taken sink.new)) }
     ensures counted { IsSinkCounted (K.failure_count sink.old) (K.failure_count sink.new) result }
 {
-    let links = links_for(alloc, &*trace, task.settings.schedules)?;
-    let flags = open_variables(alloc, &*trace, &links)?;
-    let order = by_event(alloc, Linked::new(&*trace, &links), &flags)?;
-    let ordered = Ordered::new(&order, &*trace, &links);
-    let screened = Screened::new(&ordered, &flags);
-    report_by(rt, alloc, sink, &screened, task, gates)
+    match task.choice {
+        Choice::All => report_all(rt, alloc, sink, trace, task.settings, gates),
+        Choice::Leading => report_leading(rt, alloc, sink, trace, task.settings, gates.witness),
+    }
 }
 
 /// Reads a trace, finds its races, and writes its report.

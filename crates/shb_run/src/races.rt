@@ -1,19 +1,14 @@
-//! The races of a trace, from the pieces of its accesses, and which of them a report lists.
+//! The races of a trace, from the pieces of its accesses.
 ghost use Rattle.std.specs.Prelude.{IfOk, map};
 ghost use Rattle.shb_lines.specs.events.Race.{IsRaceList, ends};
-ghost use Rattle.shb_run.specs.Written.{ListedBy};
 
 use crate::screened::Screened;
-use crate::settings::Choice;
 use shb_clocks::Order;
-use shb_discipline::Disciplined;
 use shb_fan::{Gate, Workers, gather_joined};
 use shb_io::NoMemory;
 use shb_lines::Pair;
 use shb_pairs::{PairJob, accesses_of_open, pieces};
-use shb_report::leading_of;
 use std::alloc::Global;
-use std::random::RandomSource;
 use std::sync::Wait;
 use std::thread::Threads;
 
@@ -39,21 +34,4 @@ pub fn races_of<R: Threads + Wait + Sync, O: Order + Sync, G: Gate + Sync>(
         &pieces,
     );
     gather_joined(rt, alloc, &job, gate, workers)
-}
-
-/// Those of the races of a trace that a report lists. The others are let go.
-pub fn chosen_of<R: RandomSource>(
-    rt: &R,
-    alloc: Global,
-    trace: &Disciplined<'_>,
-    races: Vec<Pair>,
-    choice: Choice,
-) -> Result<Vec<Pair>, NoMemory>
-    requires { IsRaceList trace.now.events.now (map ends races.items) }
-    ensures chosen { IfOk result (λ chosen. ListedBy choice trace.now.trace.now (map ends chosen.items)) }
-{
-    match choice {
-        Choice::All => Ok(races),
-        Choice::Leading => leading_of(rt, alloc, trace.trace, &races),
-    }
 }

@@ -1,10 +1,10 @@
-//! What the orders answer on small traces, and that all five answer alike.
+//! What the orders answer on small traces, and that those for whole traces answer alike.
 ghost use Rattle.std.specs.Prelude.{◌≡◌, ℕ, true, []};
 ghost use Rattle.shb_clocks.specs.Open.{OpenTrace};
 
 use crate::asserting::{same, same_in_row};
 use crate::fixtures::{Mixture, Question, asked, push_line, push_mixed_lines};
-use shb_clocks::{EventRows, Order, PlainOrder, Sweep, by_event, full, plain, versions};
+use shb_clocks::{EventRows, Order, PlainOrder, Sweep, at_events, by_event, full, plain, versions};
 use shb_discipline::Disciplined;
 use shb_io::NoMemory;
 use shb_links::{Linked, Links};
@@ -48,8 +48,18 @@ fn answer_of_sweep(alloc: Global, linked: Linked<'_>, at: At) -> Result<u32, NoM
     Ok(0)
 }
 
-/// What the plain order, the full clocks, the versions, the rows by event and a sweep answer for an
-/// event and a thread. What the rows can't be asked about the plain order answers for them.
+/// What an order at the event and the first one answers, 0 for an event that isn't there.
+fn answer_of_listed(alloc: Global, linked: Linked<'_>, e: u32, t: u32) -> Result<u32, NoMemory> {
+    if e as usize >= linked.events.len() {
+        return Ok(0);
+    }
+    let order = at_events(alloc, linked, &[e, 0, e])?;
+    Ok(order.below_pred(e, t))
+}
+
+/// What the plain order, the full clocks, the versions, the rows by event, a sweep and the rows of listed
+/// events answer for an event and a thread. What the rows by event can't be asked about the plain order
+/// answers for them.
 #[derive(Clone, Copy)]
 struct At {
     e: u32,
@@ -57,21 +67,22 @@ struct At {
 }
 
 impl Question for At {
-    type Answer = [u32; 5];
+    type Answer = [u32; 6];
 
     fn ask(
         &self,
         alloc: Global,
         trace: &Disciplined<'_>,
         links: &Links<'_>,
-    ) -> Result<[u32; 5], Fail> {
+    ) -> Result<[u32; 6], Fail> {
         let in_plain = answer(&plain(alloc, trace, links)?, trace, self.e, self.t);
         let in_full = answer(&full(alloc, trace, links)?, trace, self.e, self.t);
         let in_versions = answer(&versions(alloc, trace, links)?, trace, self.e, self.t);
         let rows = by_event(alloc, Linked::new(trace, links), &[])?;
         let in_rows = answer_of_rows(&rows, trace, self.e, self.t, in_plain);
         let in_sweep = answer_of_sweep(alloc, Linked::new(trace, links), *self)?;
-        Ok([in_plain, in_full, in_versions, in_rows, in_sweep])
+        let in_listed = answer_of_listed(alloc, Linked::new(trace, links), self.e, self.t)?;
+        Ok([in_plain, in_full, in_versions, in_rows, in_sweep, in_listed])
     }
 }
 
@@ -152,7 +163,7 @@ fn sweep_differs(
     Ok(None)
 }
 
-/// An event and a thread for which the five forms don't answer alike.
+/// An event and a thread for which the forms for whole traces don't answer alike.
 struct Difference;
 
 impl Question for Difference {
@@ -249,7 +260,7 @@ fn values(rt: HostRuntime) -> Result<(), Fail> {
         same_in_row(
             &rt,
             &asked(&rt, text, &At { e: *e, t: *t })?,
-            &[*wanted; 5],
+            &[*wanted; 6],
             row,
         );
     }

@@ -1,3 +1,4 @@
 pub mod CheckpointLemmas
 pub mod CutLemmas
+pub mod Ends
 pub mod Printed

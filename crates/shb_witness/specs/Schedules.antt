@@ -1,5 +1,5 @@
 -- The printed schedules of races, as lists that compute, so that the value of each piece of work is named.
-use Rattle.std.specs.Prelude.{◌≡◌, ℕ, Bool, true, ◌||◌, List, All, length, slice_index_or}
+use Rattle.std.specs.Prelude.{◌≡◌, ℕ, Bool, true, ◌||◌, List, [], ◌∷◌, All, flat_map, length, slice_index_or}
 use Rattle.shb_lines.specs.declared.event.Event.{Event}
 use Rattle.shb_lines.specs.declared.event.Pair.{Pair}
 use Rattle.shb_lines.specs.events.Race.{Race}
@@ -21,6 +21,10 @@ AsksBoth asks p = (asks p.first ≡ true) × (asks p.second ≡ true)
 -- the same of each pair
 abbrev pub AsksEach : (ℕ → Bool) → List Pair → Type 0
 AsksEach asks pairs = All (AsksBoth asks) pairs
+
+-- the events of the pairs
+abbrev pub ends_of : List Pair → List ℕ
+ends_of pairs = flat_map (λ p. p.first ∷ p.second ∷ []) pairs
 
 -- the positions of the events below the predecessor of either, in trace order
 unfoldable pub printed_schedule : List Event → Pair → List ℕ

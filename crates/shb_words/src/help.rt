@@ -3,10 +3,10 @@
 /// Under the list of commands: what to begin with, and the statuses.
 pub const ABOUT_THE_PROGRAM: &str =
     "With no words at all it does what 'shb races --list' does: it reads a trace from
-standard input and lists its races. Begin with the list, then ask 'shb places'
-for one race of each place: a schedule may be as long as the trace.
+standard input and lists its races. Begin with 'shb places --list': one race of
+each place, however many there are. Without --list it shows their schedules.
 
-  $ printf 'T1|w(y)|1\\nT2|r(y)|2\\n' | shb races --list
+  $ printf 'T1|w(y)|1\\nT2|r(y)|2\\n' | shb places --list
 
 'shb help races' says what a trace and a report look like, and 'shb help check'
 what a good report means.
@@ -43,10 +43,11 @@ The report:
 
 Costs:
   A schedule may be as long as the trace, so a full report may take as many
-  numbers as races times events. --list leaves the schedules out: use it for the
-  first look. --workers changes the time alone, never the report: the search for
-  races and the schedules are shared out; reading the trace, ordering its events
-  and writing aren't.
+  numbers as races times events. --list leaves the schedules out. A variable
+  that two threads write N times without a lock has N times N races: 'shb
+  places' lists one of each place, and is for the first look. --workers changes
+  the time alone, never the report: the search for races and the schedules are
+  shared out; reading the trace, ordering its events and writing aren't.
 
 Exit status:
   0  the report was written, or the help that was asked for
@@ -81,10 +82,10 @@ counts one. 'shb check' judges such a report as any other, and other tools read
 it as any other.
 
 Costs:
-  All races are looked for, but a schedule is made for those alone that are
-  listed. A trace has far fewer places than races, so this is how to see a
-  schedule of each kind of race. 'shb races --list' says how many races a place
-  has.
+  One race of each place is looked for, and no list of all races is made: time
+  and memory grow with the trace and with the places, not with the races. A
+  schedule is made for those races alone that are listed; --list leaves it out.
+  'shb races --list' says how many races a place has.
 
 Exit status:
   0  the report was written, or the help that was asked for

@@ -88,7 +88,7 @@ pub HasBlocks-nil : (ws : Bool) (trace : TraceData) (old : Option (List ℕ)) �
 HasBlocks-nil ws trace old = record { bytes = []; blocks = AreBlocks-nil ws trace; appended = Appends-nil old }
 
 -- the races up to an index, and the one there
-ends-take : (races : List Pair) (i : ℕ) (d : Pair) → i < length races → map ends (take (i + 1) races) ≡ map ends (take i races) ++ ends (get_or races i d) ∷ []
+pub ends-take : (races : List Pair) (i : ℕ) (d : Pair) → i < length races → map ends (take (i + 1) races) ≡ map ends (take i races) ++ ends (get_or races i d) ∷ []
 ends-take races i d lt = ap (map ends) (take_more races i d lt) ∙ map-append ends (take i races) (get_or races i d ∷ [])
 
 length-ends-take : (races : List Pair) (i : ℕ) → i < length races → length (map ends (take i races)) ≡ i

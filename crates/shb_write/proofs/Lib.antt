@@ -1,4 +1,5 @@
 pub mod Blocks
+pub mod Listing
 pub mod Ranges
 pub mod Reports
 pub mod Streamed

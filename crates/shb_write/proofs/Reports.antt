@@ -36,31 +36,35 @@ pairs_in_range trace events races same are = λ k d lt.
     record { first = first_in_range trace.events trace.events pair.first pair.second refl race; second = second_in_range trace.events trace.events pair.first pair.second refl race }
 
 -- the head and the places
-pub front_is : (trace : TraceData) (races : List Pair) (count : ℕ) (places : List PlaceCount) → count ≡ length races → places ≡ counts_in (places_of_pairs trace races)
-    → head_bytes (counts_of trace) count ++ section_bytes trace places ≡ front_bytes trace (map ends races)
+pub front_is : (trace : TraceData) (races : List (ℕ × ℕ)) (count : ℕ) (places : List PlaceCount) → count ≡ length races → places ≡ counts_in (places_of_pairs trace (map pair_of races))
+    → head_bytes (counts_of trace) count ++ section_bytes trace places ≡ front_bytes trace races
 front_is trace races count places counted are =
-    ap (λ n. head_bytes (counts_of trace) n ++ section_bytes trace places) (counted ∙ sym (length-map races ends))
-    ∙ ap (λ p. head_bytes (counts_of trace) (length (map ends races)) ++ section_bytes trace p) (are ∙ ap (λ l. counts_in (places_of_pairs trace l)) (sym (pairs_back races)))
+    ap (λ n. head_bytes (counts_of trace) n ++ section_bytes trace places) counted
+    ∙ ap (λ p. head_bytes (counts_of trace) (length races) ++ section_bytes trace p) are
+
+-- the places of some pairs are those of their ends
+pub places_of_ends : (trace : TraceData) (races : List Pair) (places : List PlaceCount) → places ≡ counts_in (places_of_pairs trace races) → places ≡ counts_in (places_of_pairs trace (map pair_of (map ends races)))
+places_of_ends trace races places are = are ∙ ap (λ l. counts_in (places_of_pairs trace l)) (sym (pairs_back races))
 
 -- the lines before the blocks, the blocks and the tail
-abbrev pub bytes_with : TraceData → List Pair → List ℕ → List ℕ
-bytes_with trace races blocks = front_bytes trace (map ends races) ++ (blocks ++ tail_bytes)
+abbrev pub bytes_with : TraceData → List (ℕ × ℕ) → List ℕ → List ℕ
+bytes_with trace races blocks = front_bytes trace races ++ (blocks ++ tail_bytes)
 
-module _ (ws : Bool) (trace : TraceData) (races : List Pair) (blocks : List ℕ) (are : AreBlocks ws trace (map ends races) blocks) where
-  abbrev report_of : IsReportOn (These (map ends races)) ws trace (bytes_with trace races blocks)
-  report_of = record { races = map ends races; blocks = blocks; races_are = refl; blocks_are = are; bytes_are = refl }
+module _ (ws : Bool) (trace : TraceData) (races : List (ℕ × ℕ)) (blocks : List ℕ) (are : AreBlocks ws trace races blocks) where
+  abbrev report_of : IsReportOn (These races) ws trace (bytes_with trace races blocks)
+  report_of = record { races = races; blocks = blocks; races_are = refl; blocks_are = are; bytes_are = refl }
 
-  pub report_written : (old new : Option (List ℕ)) → Appends old new (bytes_with trace races blocks) → WritesReport (These (map ends races)) ws trace old new
+  pub report_written : (old new : Option (List ℕ)) → Appends old new (bytes_with trace races blocks) → WritesReport (These races) ws trace old new
   report_written old new written = record { bytes = bytes_with trace races blocks; report = report_of; written = written }
 
   -- the front of them was written
-  pub report_cut : (old new : Option (List ℕ)) → AppendsPrefix old new (bytes_with trace races blocks) → CutsReportOn (These (map ends races)) ws trace old new
+  pub report_cut : (old new : Option (List ℕ)) → AppendsPrefix old new (bytes_with trace races blocks) → CutsReportOn (These races) ws trace old new
   report_cut old new front = record { bytes = bytes_with trace races blocks; report = report_of; count = front.0; some_missing = front.1; written = front.2 }
 
   -- the lines before the blocks were written, and the front of what comes after
-  pub blocks_cut : (old now new : Option (List ℕ)) → Appends old now (front_bytes trace (map ends races)) → AppendsPrefix now new (blocks ++ tail_bytes) → CutsBlocksOn (These (map ends races)) ws trace old new
+  pub blocks_cut : (old now new : Option (List ℕ)) → Appends old now (front_bytes trace races) → AppendsPrefix now new (blocks ++ tail_bytes) → CutsBlocksOn (These races) ws trace old new
   blocks_cut old now new before front =
-      let lines = front_bytes trace (map ends races) in
+      let lines = front_bytes trace races in
       let left = blocks ++ tail_bytes in
       record {
         cut = record {

@@ -1,8 +1,8 @@
 //! The report of a trace that lists races which are known.
-ghost use Rattle.std.specs.Prelude.{◌≡◌, ◌⊎◌, ◌-◌, ◌^◌, ◌<◌, All, IfOk, false, map, true};
+ghost use Rattle.std.specs.Prelude.{◌≡◌, ◌⊎◌, ◌-◌, ◌^◌, ◌<◌, ℕ, All, IfOk, List, false, length, map, true};
 ghost use Rattle.shb_io.specs.Devices.{IsCounted, Writes};
 ghost use Rattle.shb_report.specs.Places.{IsPlaceOf, counts_in, places_of_pairs};
-ghost use Rattle.shb_report.specs.Report.{counts_of, front_bytes};
+ghost use Rattle.shb_report.specs.Report.{counts_of, front_bytes, pair_of};
 ghost use Rattle.shb_witness.specs.Checkpoints.{IsReached};
 ghost use Rattle.shb_witness.specs.Schedules.{AreRaces, AsksEach};
 ghost use Rattle.shb_write.specs.Written.{CutsBlocksOn, CutsReportOn, IsSinkCounted, OnFailedSink, OnNoMemory, These, WritesBlocks, WritesReport};
@@ -131,20 +131,20 @@ fn counts_of(trace: &Trace) -> Counts
 }
 
 /// Writes the lines of a report before its first block: the head, and the places of the races.
-fn write_front<K: Sink>(
+pub(crate) fn write_front<K: Sink>(
     sink: &mut K,
     trace: &Trace,
-    races: &[Pair],
+    races: u64,
     places: &Places,
 ) -> Result<(), Failed>
     requires countable { K.failure_count sink.old < 2 ^ 64 - 1 }
-    requires places { places.now ≡ counts_in (places_of_pairs trace.now races.now) }
     requires in_range { All (IsPlaceOf trace.now) places.now }
-    ensures written { Writes (K.taken sink.old) (K.taken sink.new) result (front_bytes trace.now (map ends races.now)) }
+    ensures written { (listed : List (ℕ × ℕ)) → races ≡ length listed → places.now ≡ counts_in (places_of_pairs trace.now (map pair_of listed))
+        → Writes (K.taken sink.old) (K.taken sink.new) result (front_bytes trace.now listed) }
     ensures counted { IsCounted (K.failure_count sink.old) (K.failure_count sink.new) result }
 {
     let counts = counts_of(trace);
-    head(sink, &counts, races.len() as u64)?;
+    head(sink, &counts, races)?;
     place_lines(sink, trace, places)
 }
 
@@ -184,7 +184,7 @@ pub fn write_report<
 {
     let trace = ordered.trace.trace;
     let places = places_of(rt, alloc, trace, races)?;
-    write_front(sink, trace, races, &places)?;
+    write_front(sink, trace, races.len() as u64, &places)?;
     let found = Found {
         ordered: &*ordered,
         races: &*races,

@@ -2,6 +2,12 @@ use Rattle.std.proofs.Common.{ℕ, sym, subst, arith}
 use Rattle.shb_clocks.specs.Stamps.{HasRowsBefore}
 use Rattle.shb_clocks.proofs.kept_rows.kept_rows.Goals as goal
 
+pub loop-e-init : goal.loop-e-init
+loop-e-init c = record {
+  swept = c.in_ok-stamps.ensures;
+  kept = c.in_ok-kept.ensures.by_flags c.args.flags.now;
+}
+
 pub returns-clause-rows : goal.returns-clause-rows
 returns-clause-rows c = record {
   rows_before = subst (λ (n : ℕ). HasRowsBefore c.args.linked.now.events.now c.args.flags.now c.loop-e.kept.rows.rows n c.loop-e.kept.before.items) (sym c.loop-e.invariant.kept.before.as_many) c.loop-e.invariant.kept.before;

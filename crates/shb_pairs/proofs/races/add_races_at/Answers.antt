@@ -9,13 +9,13 @@ ordered_write-requires-clause-asked g c =
     let access = seen_access c.args.search.now.ordered.now.trace.now.events.now c.args.search.now.variable c.of-accesses.result.now c.args.index is (let size = ap length is in let lt = c.requires.inside in omega (arith, size, lt)) in
     c.args.search.now.asked _ c.args.search.now.variable access.0 c.args.search.now.listed
 
-pub add_races_since-requires-clause-asked : goal.add_races_since-requires-clause-asked
-add_races_since-requires-clause-asked g c =
+pub has_race_since-requires-clause-asked : goal.has_race_since-requires-clause-asked
+has_race_since-requires-clause-asked g c =
     let is = c.of-accesses.ensures.exact ∙ listed_of_trace c.args.search.now.accesses.now c.args.search.now.ordered.now.trace.now.events.now c.args.search.now.variable c.args.search.now.of_trace c.args.search.now.listed in
     let access = seen_access c.args.search.now.ordered.now.trace.now.events.now c.args.search.now.variable c.of-accesses.result.now c.args.index is (let size = ap length is in let lt = c.requires.inside in omega (arith, size, lt)) in
     c.args.search.now.asked _ c.args.search.now.variable access.0 c.args.search.now.listed
 
-pub add_races-requires : goal.add_races-requires
-add_races-requires g c =
+pub add_races-requires-clause-accessed : goal.add_races-requires-clause-accessed
+add_races-requires-clause-accessed g c =
     let is = c.of-accesses.ensures.exact ∙ listed_of_trace c.args.search.now.accesses.now c.args.search.now.ordered.now.trace.now.events.now c.args.search.now.variable c.args.search.now.of_trace c.args.search.now.listed in
-    record { accessed = (seen_access c.args.search.now.ordered.now.trace.now.events.now c.args.search.now.variable c.of-accesses.result.now c.args.index is (let size = ap length is in let lt = c.requires.inside in omega (arith, size, lt))).0 }
+    (seen_access c.args.search.now.ordered.now.trace.now.events.now c.args.search.now.variable c.of-accesses.result.now c.args.index is (let size = ap length is in let lt = c.requires.inside in omega (arith, size, lt))).0

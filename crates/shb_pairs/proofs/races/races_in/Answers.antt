@@ -1,20 +1,25 @@
-use Rattle.std.proofs.Common.{◌≡◌, ◌-◌, ◌++◌, ℕ, List, get_or, ap, subst, sym, ◌∙◌, arith}
+use Rattle.std.proofs.Common.{◌≡◌, ◌+◌, ◌-◌, ◌<◌, ◌≤◌, ◌++◌, ℕ, List, length, get_or, ap, subst, sym, ◌∙◌, arith}
 use Rattle.std.specs.Prelude.{flat_map, take, drop}
 use Rattle.std.proofs.lemmas.Bool.{eqb-true}
-use Rattle.std.proofs.lemmas.List.{length-map}
-use Rattle.shb_lines.specs.events.Race.{Race, ends}
-use Rattle.shb_pairs.specs.Accesses.{accesses_in}
-use Rattle.shb_pairs.specs.Races.{races_with}
+use Rattle.shb_lines.specs.events.Race.{Race}
+use Rattle.shb_pairs.specs.Accesses.{accesses_at, accesses_in}
+use Rattle.shb_pairs.specs.Races.{joined, races_with}
 use Rattle.shb_pairs.proofs.ByThread.{listed_of_trace}
 use Rattle.shb_pairs.proofs.Runs.{run_first, run_more}
 use Rattle.shb_pairs.proofs.FreeWrites.{next_seen, none_added}
+use Rattle.std.proofs.lemmas.List.{length-take}
+use Rattle.std.proofs.lemmas.List.Elements.{All-drop, All-take}
+use Rattle.shb_lines.specs.declared.event.Event.{Event}
+use Rattle.shb_pairs.proofs.ByThread.{numbers_all}
+use Rattle.shb_pairs.proofs.Counting.{numbers_few}
+use Rattle.shb_pairs.proofs.Ranged.{races_few}
 use Rattle.shb_pairs.proofs.races.races_in.Goals as goal
 
 pub loop-index-init : goal.loop-index-init
 loop-index-init g c = record {
   low = omega arith;
   high = (let le = c.requires.forward in omega (arith, le));
-  found = run_first c.args.search.now.ordered.now.trace.now.events.now (accesses_in c.args.search.now.ordered.now.trace.now.events.now c.args.search.now.variable) _ c.args.from c.new-races.ensures.items;
+  found = run_first c.args.search.now.ordered.now.trace.now.events.now (accesses_in c.args.search.now.ordered.now.trace.now.events.now c.args.search.now.variable) _ c.args.from (ap (λ (ls : List (List (ℕ × ℕ))). joined ls) c.new-races.ensures);
   free_write = tt;
 }
 
@@ -22,12 +27,10 @@ pub next_free_write-free_write-requires-clause-free : goal.next_free_write-free_
 next_free_write-free_write-requires-clause-free g c same i race =
     let is = c.of-accesses.ensures.exact ∙ listed_of_trace c.args.search.now.accesses.now c.args.search.now.ordered.now.trace.now.events.now c.args.search.now.variable c.args.search.now.of_trace c.args.search.now.listed in
     let there = subst (λ (ks : List ℕ). Race c.args.search.now.ordered.now.trace.now.events.now i (get_or ks c.loop-index.index 0)) is race in
-    let old = length-map c.loop-index.races.items ends in
-    let new = length-map c.add_races_at.new.races.items ends in
     let equal = eqb-true _ _ same in
     let first = c.len-count.ensures in
     let second = c.len.ensures in
-    none_added c.args.search.now.ordered.now.trace.now.events.now (get_or (accesses_in c.args.search.now.ordered.now.trace.now.events.now c.args.search.now.variable) c.loop-index.index 0) _ _ c.in_ok-add_races_at.ensures (omega (arith, old, new, equal, first, second)) i there
+    none_added c.args.search.now.ordered.now.trace.now.events.now (get_or (accesses_in c.args.search.now.ordered.now.trace.now.events.now c.args.search.now.variable) c.loop-index.index 0) _ _ c.in_ok-add_races_at.ensures (omega (arith, equal, first, second)) i there
 
 pub loop-index-preserved : goal.loop-index-preserved
 loop-index-preserved g c = record {
@@ -39,6 +42,18 @@ loop-index-preserved g c = record {
       ∙ sym (run_more c.args.search.now.ordered.now.trace.now.events.now (accesses_in c.args.search.now.ordered.now.trace.now.events.now c.args.search.now.variable) c.args.from c.loop-index.index c.loop-index.invariant.low (omega (arith, le)))));
   free_write = next_seen c.args.search.now.ordered.now.trace.now.events.now c.args.search.now.variable c.of-accesses.result.now c.loop-index.index c.loop-index.free_write c.next_free_write-free_write.result (c.of-accesses.ensures.exact ∙ listed_of_trace c.args.search.now.accesses.now c.args.search.now.ordered.now.trace.now.events.now c.args.search.now.variable c.args.search.now.of_trace c.args.search.now.listed) c.next_free_write-free_write.ensures.free_write c.loop-index.invariant.free_write;
 }
+
+-- there is room for the races of one access more
+races_room : (trace : List Event) (x from to index : ℕ) (races : List (ℕ × ℕ)) → length trace ≤ 4194304 → index < to → to ≤ length (accesses_in trace x) → races ≡ flat_map (races_with trace) (take (index - from) (drop from (accesses_in trace x))) → length races + 4294967296 < 18446744073709551616
+races_room trace x from to index races few lt within is =
+    let all = numbers_few (accesses_at trace x) (length trace) in
+    let size = length-take (index - from) (drop from (accesses_in trace x)) in
+    let below = races_few trace (take (index - from) (drop from (accesses_in trace x))) (All-take (λ j. j < 4294967296) (index - from) (drop from (accesses_in trace x)) (All-drop (λ j. j < 4294967296) from (accesses_in trace x) (numbers_all (λ j. j < 4294967296) (accesses_at trace x) (length trace) (λ k lt h. omega (arith, lt, few))))) in
+    let same = ap length is in
+    omega (arith, few, lt, within, all, size, below, same)
+
+pub add_races_at-requires-clause-room : goal.add_races_at-requires-clause-room
+add_races_at-requires-clause-room g c = races_room c.args.search.now.ordered.now.trace.now.events.now c.args.search.now.variable c.args.from c.args.to c.loop-index.index (joined c.loop-index.races) c.args.search.now.ordered.now.trace.now.few c.loop-index-test.true c.requires.within c.loop-index.invariant.found
 
 pub returns : goal.returns
 returns g c =

@@ -1,6 +1,7 @@
 use Rattle.std.proofs.Common.{◌≡◌, [], ◌∷◌, inl, inr, ◌++◌, ◌-◌, ◌<◌, ◌≤◌, ℕ, List, Vec, Global, length, arith, ap, sym, ◌∙◌}
 use Rattle.std.proofs.lemmas.Bool.{cases_lt}
 use Rattle.std.proofs.lemmas.List.{append-nil, length-set, length_push, take_all}
+use Rattle.shb_pairs.specs.Ranges.{in_ranges}
 use Rattle.shb_pairs.specs.Search.{racing}
 use Rattle.shb_pairs.specs.declared.rivals.Cursor.{Cursor}
 use Rattle.shb_pairs.proofs.Tails.{part_of_rivals, part_of_thread, racing_more}
@@ -8,7 +9,7 @@ use Rattle.shb_pairs.proofs.rivals.add_rivals.Goals as goal
 use Rattle.shb_pairs.proofs.rivals.add_rivals.Goals.{then-run-len+in_ok-push, else-run-len}
 
 pub loop-start-init : goal.loop-start-init
-loop-start-init g c = (omega arith, sym (append-nil c.args.found.now.items), omega arith, omega arith)
+loop-start-init g c = (omega arith, sym (append-nil (in_ranges c.args.found.now.items)), omega arith, omega arith)
 
 pub add_tail-requires-clause-some : goal.add_tail-requires-clause-some
 add_tail-requires-clause-some g c = rw c.part-of_thread.ensures (part_of_thread c.args.ordered.now.trace.now.events.now c.args.positions.now c.loop-start.start c.run_end-end.result c.requires.each_in_range c.requires.sorted c.run_end-end.ensures.more c.run_end-end.ensures.within c.run_end-end.ensures.same_thread).1
@@ -39,8 +40,8 @@ pub loop-start-preserved : goal.loop-start-preserved
 loop-start-preserved g c = (
   c.run_end-end.ensures.within,
   c.in_ok-add_tail.ensures
-      ∙ (ap (λ (ks : List ℕ). c.loop-start.found.items ++ racing c.args.ordered.now.trace.now.events.now c.args.second ks) c.part-of_thread.ensures
-      ∙ racing_more c.args.ordered.now.trace.now.events.now c.args.second c.loop-start.start c.run_end-end.result c.args.positions.now c.args.found.now.items c.loop-start.found.items (let more = c.run_end-end.ensures.more in omega (arith, more)) c.loop-start.invariant.1),
+      ∙ (ap (λ (ks : List ℕ). in_ranges c.loop-start.found.items ++ racing c.args.ordered.now.trace.now.events.now c.args.second ks) c.part-of_thread.ensures
+      ∙ racing_more c.args.ordered.now.trace.now.events.now c.args.second c.loop-start.start c.run_end-end.result c.args.positions.now (in_ranges c.args.found.now.items) (in_ranges c.loop-start.found.items) (let more = c.run_end-end.ensures.more in omega (arith, more)) c.loop-start.invariant.1),
   (let more = c.run_end-end.ensures.more in let low = c.loop-start.invariant.2 in omega (arith, more, low)),
   (let lt = room in
       let size = length-set c.if-run-len.cursors.items c.loop-start.run record { end = c.run_end-end.result; before = c.add_tail.new.before } in
@@ -54,4 +55,4 @@ loop-start-preserved g c = (
     ]
 
 pub returns : goal.returns
-returns g c = c.loop-start.invariant.1 ∙ ap (λ (ks : List ℕ). c.args.found.now.items ++ racing c.args.ordered.now.trace.now.events.now c.args.second ks) (take_all c.loop-start.start c.args.positions.now c.loop-start-test.false)
+returns g c = c.loop-start.invariant.1 ∙ ap (λ (ks : List ℕ). in_ranges c.args.found.now.items ++ racing c.args.ordered.now.trace.now.events.now c.args.second ks) (take_all c.loop-start.start c.args.positions.now c.loop-start-test.false)

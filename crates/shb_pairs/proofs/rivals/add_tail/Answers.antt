@@ -1,8 +1,10 @@
 use Rattle.std.proofs.Common.{◌≡◌, ◌++◌, ◌+◌, ◌<◌, ◌≤◌, ℕ, List, Some, get_or, subst, sym, ap, ◌∙◌}
 use Rattle.std.proofs.lemmas.List.{append-nil}
+use Rattle.std.proofs.lemmas.Result.{IfOk-weaker}
 use Rattle.shb_lines.specs.declared.event.Event.{Event}
 use Rattle.shb_lines.specs.events.Discipline.{local_time}
 use Rattle.shb_lines.specs.events.Events.{thread_at}
+use Rattle.shb_pairs.specs.Ranges.{in_ranges}
 use Rattle.shb_pairs.proofs.Tails.{count_seen, other_thread_races, own_thread_races}
 use Rattle.shb_pairs.proofs.Sorting.{thread_read}
 use Rattle.shb_pairs.proofs.rivals.add_tail.Goals as goal
@@ -11,7 +13,7 @@ pub returns-then-thread : goal.returns-then-thread
 returns-then-thread g c =
     let head = thread_read c.args.ordered.now.trace.now.events.now (get_or c.args.positions.now 0 0) _ c.thread-thread.ensures in
     let own = thread_read c.args.ordered.now.trace.now.events.now c.args.second _ c.thread.ensures in
-    rw (own_thread_races c.args.ordered.now.trace.now.events.now c.args.second c.args.positions.now c.requires.in_range c.requires.one_thread c.requires.some (head ∙ (c.if-thread.true ∙ sym own))) (sym (append-nil c.args.found.now.items))
+    rw (own_thread_races c.args.ordered.now.trace.now.events.now c.args.second c.args.positions.now c.requires.in_range c.requires.one_thread c.requires.some (head ∙ (c.if-thread.true ∙ sym own))) (sym (append-nil (in_ranges c.args.found.now.items)))
 
 pub returns : goal.returns
 returns g c =
@@ -25,4 +27,4 @@ returns g c =
     c.count_before-end.ensures.rest
     above
     under in
-    c.in_ok-extend_from_slice.ensures.items ∙ ap (λ (ks : List ℕ). c.args.found.now.items ++ ks) (c.part.ensures ∙ sym tail)
+    IfOk-weaker c.add_range.result _ _ (λ _ is. is ∙ ap (λ (ks : List ℕ). in_ranges c.args.found.now.items ++ ks) (c.part.ensures ∙ sym tail)) c.add_range.ensures

@@ -1,14 +1,14 @@
--- The counts are those of the places in the table.
-use Rattle.std.proofs.Common.{◌∙◌, ap, subst, sym}
-use Rattle.std.specs.Prelude.{All}
-use Rattle.shb_report.specs.Places.{IsPlaceOf, counts_in, places_in}
-use Rattle.shb_report.proofs.PlaceLemmas.{counts_are, counts_in_range}
+-- Each place's pair is one of the pairs.
+use Rattle.std.proofs.Common.{◌≡◌, ◌∙◌, ap, subst, sym, All, List}
+use Rattle.shb_report.specs.declared.places.PlaceCount.{PlaceCount}
+use Rattle.shb_report.specs.Places.{IsPlaceOf, PlaceOf, counts_in, places_after}
+use Rattle.shb_report.proofs.PlaceLemmas.{places_in_range}
 use Rattle.shb_report.proofs.places.places_of.Goals as goal
-
-pub returns-clause-places : goal.returns-clause-places
-returns-clause-places g c = c.in_ok-counts_of.ensures ∙ counts_are c.add_pairs.new.table.entries ∙ ap counts_in c.in_ok-add_pairs.ensures.places
 
 pub returns-clause-in_range : goal.returns-clause-in_range
 returns-clause-in_range g c =
-    let entries = c.add_pairs.new.table.entries in
-    subst (All (IsPlaceOf c.args.trace.now)) (sym (c.in_ok-counts_of.ensures ∙ counts_are entries)) (counts_in_range c.args.trace.now (places_in entries) c.in_ok-add_pairs.ensures.in_range)
+    let trace = c.args.trace.now in
+    let pairs = c.args.pairs.now in
+    subst (All (IsPlaceOf trace))
+    (sym (c.in_ok-places.ensures ∙ ap counts_in (c.in_ok-add.ensures ∙ ap (λ (before : List PlaceOf). places_after trace before pairs) c.in_ok-table.ensures)))
+    (places_in_range trace pairs c.requires)

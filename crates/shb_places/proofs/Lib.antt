@@ -1,0 +1,12 @@
+mod CoveredLeading
+mod Entries
+pub mod FoundLemmas
+mod KeyOrder
+mod LeadMembers
+pub mod Lists
+pub mod NoteLemmas
+mod RacesByNumber
+pub mod SearchLemmas
+pub mod SiteLemmas
+mod SortedEntries
+pub mod StepLemmas

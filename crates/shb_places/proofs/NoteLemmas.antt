@@ -1,0 +1,566 @@
+-- What is kept of the accesses, an access at a time.
+use Rattle.std.proofs.Common.{◌≡◌, ◌≢◌, ℕ, zero, suc, ◌+◌, ◌<◌, ◌≤◌, ◌⊎◌, inl, inr, Bool, true, false, List, [], ◌∷◌, ◌++◌, Option, Some, None, length, get_or, slice_get, arith, refl, subst, ap, sym, ◌∙◌}
+use Rattle.std.specs.Prelude.{option_and_then, ◌↔◌}
+use Rattle.std.proofs.Math.ListN.{set, length-set}
+use Rattle.std.proofs.lemmas.Bool.{cases_eq, cases_Bool}
+use Rattle.std.proofs.lemmas.List.{length-append}
+use Rattle.std.proofs.lemmas.Option.{slice_get_within, slice_get-get_or}
+use Rattle.shb_lines.specs.declared.event.Event.{Event}
+use Rattle.shb_lines.specs.declared.event.Op.{Op}
+use Rattle.shb_lines.specs.declared.event.Op.TheVariants.{Read, Write}
+use Rattle.shb_lines.specs.events.Discipline.{local_time}
+use Rattle.shb_lines.specs.events.Events.{thread_at, op_at, variable_of}
+use Rattle.shb_lines.specs.events.Order.{IsBelowPredCount}
+use Rattle.shb_lines.specs.events.Race.{Conflict, Race, variable_at}
+use Rattle.shb_lines.specs.text.TraceData.{TraceData}
+use Rattle.shb_report.specs.Places.{location_at}
+use Rattle.shb_pairs.proofs.Found.{accessed_within}
+use Rattle.shb_pairs.proofs.Tails.{IsRival, rival_races, times_rise}
+use Rattle.shb_places.specs.declared.notes.Access.{Access}
+use Rattle.shb_places.specs.declared.notes.Class.{Class}
+use Rattle.shb_places.specs.declared.notes.Link.{Link}
+use Rattle.shb_places.specs.declared.notes.Newest.{Newest}
+use Rattle.shb_places.specs.declared.sites.Site.{Site}
+use Rattle.shb_places.specs.Access.{IsAccess, IsAccessOf}
+use Rattle.shb_places.specs.Lists.{Reaches, here, further, class_next, link_previous, none}
+use Rattle.shb_places.specs.Notes.{AreAlike, AreKept, AreLinked, InChain, IsAddable, IsAdded, IsBegun, IsClass, IsClassOf, IsEarliestAt, IsEarliestIn, IsExtended, IsNotedAt, RacesAt, Tables}
+use Rattle.shb_places.proofs.Lists.{get_cases, get_last, get_more, get_set, get_set_other, reaches_end, reaches_more, reaches_next, reaches_within, same_entry}
+
+-- where a chain ends
+pub in_chain_end : (links : List Link) (p e : ℕ) → length links ≤ p → InChain links p e → ⊥
+in_chain_end links p e past chain =
+    let same = reaches_end link_previous links chain.number p past chain.reached in
+    let low = slice_get_within links chain.number chain.link chain.there in
+    omega (arith, same, low, past)
+
+-- at a link
+pub in_chain_next : (links : List Link) (p e : ℕ) (link : Link) → slice_get links p ≡ Some link → InChain links p e → (link.event ≡ e) ⊎ ((link.previous < p) × InChain links link.previous e)
+in_chain_next links p e link at chain = elim (reaches_next link_previous links chain.number p link at chain.reached) [
+  | inl same ↦ inl (ap (λ (l : Link). l.event) (same_entry links p link chain.link at (subst (λ (k : ℕ). slice_get links k ≡ Some chain.link) (sym same) chain.there)) ∙ chain.event_is)
+  | inr rest ↦ inr (rest.0, record { number = chain.number; link = chain.link; reached = rest.1; there = chain.there; event_is = chain.event_is })
+]
+
+alike_same : (trace : TraceData) (e : ℕ) → AreAlike trace e e
+alike_same trace e = record { thread = refl; op = refl; location = refl }
+
+alike_then : (trace : TraceData) (d e f : ℕ) → AreAlike trace d e → AreAlike trace e f → AreAlike trace d f
+alike_then trace d e f h g = record { thread = h.thread ∙ g.thread; op = h.op ∙ g.op; location = h.location ∙ g.location }
+
+-- the events of a chain are accesses of one class, and none is later than the one that it begins with
+reached_alike : (trace : TraceData) (links : List Link) (n : ℕ) → AreLinked trace links n → (k : ℕ) (last : Link) → slice_get links k ≡ Some last → (p : ℕ) (link : Link) → slice_get links p ≡ Some link → Reaches link_previous links k p → (last.event ≤ link.event) × AreAlike trace last.event link.event
+reached_alike trace links n linked k last at_k p link at (here is) =
+    subst (λ (l : Link). (last.event ≤ l.event) × AreAlike trace last.event l.event) (same_entry links p last link (subst (λ (m : ℕ). slice_get links m ≡ Some last) (sym is) at_k) at) ((omega arith), alike_same trace last.event)
+reached_alike trace links n linked k last at_k p link at (further entry there falls rest) =
+    let low = reaches_within link_previous links k entry.previous (slice_get_within links k last at_k) rest in
+    let before = get_or links entry.previous entry in
+    let at_before = slice_get-get_or links entry.previous entry low in
+    let more = reached_alike trace links n linked k last at_k entry.previous before at_before rest in
+    let later = linked.falls p entry before there falls at_before in
+    let earlier = more.0 in
+    subst (λ (l : Link). (last.event ≤ l.event) × AreAlike trace last.event l.event) (same_entry links p entry link there at)
+    ((omega (arith, earlier, later)), alike_then trace last.event before.event entry.event more.1 (linked.alike p entry before there falls at_before))
+
+pub chain_alike : (trace : TraceData) (links : List Link) (n p e : ℕ) (link : Link) → AreLinked trace links n → slice_get links p ≡ Some link → InChain links p e → (e ≤ link.event) × AreAlike trace e link.event
+chain_alike trace links n p e link linked at chain = subst (λ (f : ℕ). (f ≤ link.event) × AreAlike trace f link.event) chain.event_is (reached_alike trace links n linked chain.number chain.link chain.there p link at chain.reached)
+
+-- local times rise along a chain
+pub chain_times : (trace : TraceData) (links : List Link) (n p e t : ℕ) (link : Link) → AreLinked trace links n → slice_get links p ≡ Some link → InChain links p e → thread_at trace.events e ≡ Some t → (thread_at trace.events link.event ≡ Some t) × (local_time trace.events t e ≤ local_time trace.events t link.event)
+chain_times trace links n p e t link linked at chain of_t =
+    let h = chain_alike trace links n p e link linked at chain in
+    let own = sym h.1.thread ∙ of_t in (
+      own,
+      elim (cases_eq e link.event) [
+        | inl same ↦ (let f = ap (λ (k : ℕ). local_time trace.events t k) same in omega (arith, f))
+        | inr ne ↦ (let low = h.0 in let lt = times_rise trace.events t e link.event (omega (arith, low, ne)) own in omega (arith, lt))
+      ],
+    )
+
+access_alike : (trace : TraceData) (t x l : ℕ) (writes : Bool) (e f : ℕ) → AreAlike trace e f → IsAccessOf trace t x l writes f → IsAccessOf trace t x l writes e
+access_alike trace t x l writes e f alike access = record {
+  thread = alike.thread ∙ access.thread;
+  variable = ap (λ (o : Option Op). option_and_then variable_of o) alike.op ∙ access.variable;
+  location = alike.location ∙ access.location;
+  write = λ is. alike.op ∙ access.write is;
+  read = λ is op. access.read is (sym alike.op ∙ op);
+}
+
+-- the events of a class are accesses of it, and their local times are no higher than that of the newest
+pub class_access : (trace : TraceData) (sites : List Site) (notes : Tables) (n c e : ℕ) (class : Class) (newest : Newest) (site : Site) → AreKept trace sites notes n → slice_get notes.classes c ≡ Some class → slice_get notes.newest c ≡ Some newest → slice_get sites class.site ≡ Some site → InChain notes.links newest.link e → IsAccessOf trace class.thread site.variable site.location class.writes e × (local_time trace.events class.thread e ≤ newest.local) × (e < n)
+class_access trace sites notes n c e class newest site kept there at_newest at_site chain =
+    let h = kept.classes c class there in
+    let same : h.newest ≡ newest = same_entry notes.newest c h.newest newest h.at_newest at_newest in
+    let at_link : slice_get notes.links newest.link ≡ Some h.link = subst (λ (m : Newest). slice_get notes.links m.link ≡ Some h.link) same h.at_link in
+    let alike = chain_alike trace notes.links n newest.link e h.link kept.links at_link chain in
+    let access : IsAccessOf trace class.thread site.variable site.location class.writes h.link.event = subst (λ (s : Site). IsAccessOf trace class.thread s.variable s.location class.writes h.link.event) (same_entry sites class.site h.site site h.at_site at_site) h.access in
+    let own = access_alike trace class.thread site.variable site.location class.writes e h.link.event alike.1 access in
+    let times = chain_times trace notes.links n newest.link e class.thread h.link kept.links at_link chain own.thread in
+    let high : local_time trace.events class.thread h.link.event ≤ newest.local = subst (λ (m : Newest). local_time trace.events class.thread h.link.event ≤ m.local) same h.local in
+    let low = times.1 in
+    let past = kept.links.past newest.link h.link at_link in
+    let late = alike.0 in
+    (own, (omega (arith, low, high)), (omega (arith, past, late)))
+
+-- a local time of the same trace under another name
+pub local_of : (trace events seen : List Event) (r e : ℕ) → seen ≡ events → events ≡ trace → ((t : ℕ) → thread_at seen e ≡ Some t → r ≡ local_time seen t e) → (t : ℕ) → thread_at trace e ≡ Some t → r ≡ local_time trace t e
+local_of trace events seen r e linked same time = subst (λ (tr : List Event). (t : ℕ) → thread_at tr e ≡ Some t → r ≡ local_time tr t e) (linked ∙ same) time
+
+pub within_of : (trace events seen : List Event) (e : ℕ) → seen ≡ events → events ≡ trace → e < length trace → e < length seen
+within_of trace events seen e linked same lt = let f = ap length (linked ∙ same) in omega (arith, f, lt)
+
+pub at_chain : (links : List Link) (k p : ℕ) (link : Link) → slice_get links k ≡ Some link → Reaches link_previous links k p → InChain links p link.event
+at_chain links k p link at reached = record { number = k; link = link; reached = reached; there = at; event_is = refl }
+
+-- an access that a class has races with an access of another thread where one of the two writes and its local time is above the bound
+pub class_races : (trace : TraceData) (t x l b e : ℕ) (writes : Bool) (access : Access) → IsAccess trace access → IsAccessOf trace t x l writes e → x ≡ access.variable → (t ≢ access.thread) × ((writes ≡ true) ⊎ (access.writes ≡ true)) → e < access.event → IsBelowPredCount trace.events t access.event b → b < local_time trace.events t e → Race trace.events e access.event
+class_races trace t x l b e writes access own other same can lt count above =
+    let conflict : Conflict trace.events e access.event = record {
+      variable = x;
+      first_accesses = other.variable;
+      second_accesses = subst (λ (y : ℕ). variable_at trace.events access.event ≡ Some y) (sym same) own.variable;
+      one_writes = elim can.1 [ inl w ↦ inl (other.write w) | inr w ↦ inr (subst (λ (y : ℕ). op_at trace.events access.event ≡ Some (Write y)) (sym same) (own.write w)) ];
+      other_thread = λ is. can.0 (let s : Some t ≡ Some access.thread = sym other.thread ∙ (is ∙ own.thread) in cc);
+    } in
+    (rival_races trace.events t access.event b e count (record { earlier = lt; thread = other.thread; conflict = conflict })).1 above
+
+-- and where it races, this is so
+pub race_class : (trace : TraceData) (t x l e : ℕ) (writes : Bool) (access : Access) → IsAccess trace access → IsAccessOf trace t x l writes e → Race trace.events e access.event → (t ≢ access.thread) × ((writes ≡ true) ⊎ (access.writes ≡ true))
+race_class trace t x l e writes access own other race = (
+  (λ same. race.conflict.other_thread (other.thread ∙ (ap (λ (u : ℕ). Some u) same ∙ sym own.thread))),
+  (elim (cases_Bool writes) [
+    | inl w ↦ inl w
+    | inr r ↦ elim (cases_Bool access.writes) [
+      | inl w ↦ inr w
+      | inr s ↦ absurd (elim race.conflict.one_writes [
+        | inl w ↦ other.read r (subst (λ (y : ℕ). op_at trace.events e ≡ Some (Write y)) (let f : Some race.conflict.variable ≡ Some x = sym race.conflict.first_accesses ∙ other.variable in cc) w)
+        | inr w ↦ own.read s (subst (λ (y : ℕ). op_at trace.events access.event ≡ Some (Write y)) (let f : Some race.conflict.variable ≡ Some access.variable = sym race.conflict.second_accesses ∙ own.variable in cc) w)
+      ])
+    ]
+  ]),
+)
+
+pub race_above : (trace : TraceData) (t x l b e : ℕ) (writes : Bool) (access : Access) → IsAccessOf trace t x l writes e → IsBelowPredCount trace.events t access.event b → Race trace.events e access.event → b < local_time trace.events t e
+race_above trace t x l b e writes access other count race = (rival_races trace.events t access.event b e count (record { earlier = race.earlier; thread = other.thread; conflict = race.conflict })).0 race
+
+read_op : (o : Option Op) (x : ℕ) → option_and_then variable_of o ≡ Some x → (o ≡ Some (Write x) → ⊥) → o ≡ Some (Read x)
+read_op None x access other = absurd cc
+read_op (Some (Read y)) x access other = cc
+read_op (Some (Write y)) x access other = absurd (other (cc))
+read_op (Some _) x access other = absurd cc
+
+-- two accesses of one thread, variable, location and kind
+access_same : (trace : TraceData) (t x l : ℕ) (writes : Bool) (e f : ℕ) → IsAccessOf trace t x l writes e → IsAccessOf trace t x l writes f → AreAlike trace e f
+access_same trace t x l true e f h g = record { thread = h.thread ∙ sym g.thread; op = h.write refl ∙ sym (g.write refl); location = h.location ∙ sym g.location }
+access_same trace t x l false e f h g = record { thread = h.thread ∙ sym g.thread; op = read_op (op_at trace.events e) x h.variable (h.read refl) ∙ sym (read_op (op_at trace.events f) x g.variable (g.read refl)); location = h.location ∙ sym g.location }
+
+-- one link more
+linked_more : (trace : TraceData) (links : List Link) (n : ℕ) (last : Link) → AreLinked trace links n → length links < none → last.event ≡ n → ((before : Link) → last.previous < length links → slice_get links last.previous ≡ Some before → AreAlike trace before.event last.event) → AreLinked trace (links ++ last ∷ []) (n + 1)
+linked_more trace links n last linked few is alike = record {
+  few = (let long = length-append links (last ∷ []) in omega (arith, long, few));
+  past = λ k link at. elim (get_cases links last k link at) [
+    | inl old ↦ (let low = linked.past k link old in omega (arith, low))
+    | inr new ↦ (let own = ap (λ (l : Link). l.event) new.1 in omega (arith, own, is))
+  ];
+  falls = λ k link before at low at_before. elim (get_cases links last k link at) [
+    | inl old ↦ (let high = slice_get_within links k link old in elim (get_cases links last link.previous before at_before) [
+      | inl there ↦ linked.falls k link before old low there
+      | inr newer ↦ absurd (let same = newer.0 in omega (arith, high, low, same))
+    ])
+    | inr new ↦ (let own = ap (λ (l : Link). l.event) new.1 in let same_k = new.0 in elim (get_cases links last link.previous before at_before) [
+      | inl there ↦ (let past = linked.past link.previous before there in omega (arith, past, own, is))
+      | inr newer ↦ absurd (let same = newer.0 in omega (arith, low, same, same_k))
+    ])
+  ];
+  alike = λ k link before at low at_before. elim (get_cases links last k link at) [
+    | inl old ↦ (let high = slice_get_within links k link old in elim (get_cases links last link.previous before at_before) [
+      | inl there ↦ linked.alike k link before old low there
+      | inr newer ↦ absurd (let same = newer.0 in omega (arith, high, low, same))
+    ])
+    | inr new ↦ (let same_k = new.0 in elim (get_cases links last link.previous before at_before) [
+      | inl there ↦ subst (λ (l : Link). (l.previous < length links) → slice_get links l.previous ≡ Some before → AreAlike trace before.event l.event) new.1 (alike before) (omega (arith, low, same_k)) there
+      | inr newer ↦ absurd (let same = newer.0 in omega (arith, low, same, same_k))
+    ])
+  ];
+}
+
+chain_more : (links more : List Link) (p e : ℕ) → InChain links p e → InChain (links ++ more) p e
+chain_more links more p e chain = record { number = chain.number; link = chain.link; reached = reaches_more link_previous links more chain.number p chain.reached; there = get_more links more chain.number chain.link chain.there; event_is = chain.event_is }
+
+-- a chain that begins with one link more
+chain_longer : (links : List Link) (last : Link) (e : ℕ) → last.previous < length links → InChain links last.previous e → InChain (links ++ last ∷ []) (length links) e
+chain_longer links last e low chain = record { number = chain.number; link = chain.link; reached = further last (get_last links last (length links) refl) low (reaches_more link_previous links (last ∷ []) chain.number last.previous chain.reached); there = get_more links (last ∷ []) chain.number chain.link chain.there; event_is = chain.event_is }
+
+chain_last : (links : List Link) (last : Link) → InChain (links ++ last ∷ []) (length links) last.event
+chain_last links last = record { number = length links; link = last; reached = here refl; there = get_last links last (length links) refl; event_is = refl }
+
+abbrev tables : List ℕ → List Class → List Newest → List Link → Tables
+tables heads classes newest links = record { heads = heads; classes = classes; newest = newest; links = links }
+
+tables_same : (a b : Tables) → a.heads ≡ b.heads → a.classes ≡ b.classes → a.newest ≡ b.newest → a.links ≡ b.links → a ≡ b
+tables_same a b heads classes newests links =
+    ap (λ (v : List ℕ). tables v a.classes a.newest a.links) heads
+    ∙ (ap (λ (v : List Class). tables b.heads v a.newest a.links) classes
+    ∙ (ap (λ (v : List Newest). tables b.heads b.classes v a.links) newests
+    ∙ ap (λ (v : List Link). tables b.heads b.classes b.newest v) links))
+
+-- what is kept, by lists
+module _ (trace : TraceData) (sites : List Site) (old : Tables) (s local : ℕ) (access : Access) (add : IsAddable trace sites old s access local) where
+  -- the access is one of any class of its thread, site and kind
+  own_access : (class : Class) (site : Site) → class.site ≡ s → class.thread ≡ access.thread → class.writes ≡ access.writes → slice_get sites class.site ≡ Some site → IsAccessOf trace class.thread site.variable site.location class.writes access.event
+  own_access class site site_is thread_is writes_is at_site =
+      let same = same_entry sites s add.site site add.at_site (subst (λ (k : ℕ). slice_get sites k ≡ Some site) site_is at_site) in
+      let a : IsAccessOf trace access.thread site.variable access.location access.writes access.event = subst (λ (x : ℕ). IsAccessOf trace access.thread x access.location access.writes access.event) (sym add.variable_is ∙ ap (λ (k : Site). k.variable) same) add.is_access in
+      let b : IsAccessOf trace access.thread site.variable site.location access.writes access.event = subst (λ (l : ℕ). IsAccessOf trace access.thread site.variable l access.writes access.event) (sym add.location_is ∙ ap (λ (k : Site). k.location) same) a in
+      let d : IsAccessOf trace class.thread site.variable site.location access.writes access.event = subst (λ (t : ℕ). IsAccessOf trace t site.variable site.location access.writes access.event) (sym thread_is) b in
+      subst (λ (w : Bool). IsAccessOf trace class.thread site.variable site.location w access.event) (sym writes_is) d
+
+  own_time : (class : Class) → class.thread ≡ access.thread → local_time trace.events class.thread access.event ≤ local
+  own_time class thread_is = let f = ap (λ (t : ℕ). local_time trace.events t access.event) thread_is in let g = add.time in omega (arith, f, g)
+
+  -- a class gets one access more
+  module _ (c : ℕ) (is : IsClassOf old.classes s access c) (newest : Newest) (at_newest : slice_get old.newest c ≡ Some newest) (few : length old.links < none) where
+    h : IsClass trace sites old c is.class
+    h = add.kept.classes c is.class is.there
+
+    abbrev last : Link
+    last = record { event = access.event; previous = newest.link }
+
+    abbrev later : Newest
+    later = record { link = length old.links; local = local }
+
+    abbrev extended : Tables
+    extended = record { heads = old.heads; classes = old.classes; newest = set old.newest c later; links = old.links ++ last ∷ [] }
+
+    at_link : slice_get old.links newest.link ≡ Some h.link
+    at_link = subst (λ (m : Newest). slice_get old.links m.link ≡ Some h.link) (same_entry old.newest c h.newest newest h.at_newest at_newest) h.at_link
+
+    own : IsAccessOf trace is.class.thread h.site.variable h.site.location is.class.writes access.event
+    own = own_access is.class h.site is.site_is is.thread_is is.writes_is h.at_site
+
+    linked : AreLinked trace extended.links (access.event + 1)
+    linked = linked_more trace old.links access.event last add.kept.links few refl (λ before low there. subst (λ (l : Link). AreAlike trace l.event access.event) (same_entry old.links newest.link h.link before at_link there) (access_same trace is.class.thread h.site.variable h.site.location is.class.writes h.link.event access.event h.access own))
+
+    ext_class : (k : ℕ) (class : Class) → slice_get old.classes k ≡ Some class → IsClass trace sites extended k class
+    ext_class k class there =
+        let g = add.kept.classes k class there in
+        elim (cases_eq k c) [
+          | inl same ↦ (
+              let class_is : is.class ≡ class = same_entry old.classes c is.class class is.there (subst (λ (m : ℕ). slice_get old.classes m ≡ Some class) same there) in
+              record {
+                site = g.site;
+                at_site = g.at_site;
+                head = g.head;
+                at_head = g.at_head;
+                reached = g.reached;
+                newest = later;
+                at_newest = subst (λ (m : ℕ). slice_get extended.newest m ≡ Some later) (sym same) (get_set old.newest c later (slice_get_within old.newest c newest at_newest));
+                link = last;
+                at_link = get_last old.links last (length old.links) refl;
+                access = own_access class g.site (subst (λ (m : Class). m.site ≡ s) class_is is.site_is) (subst (λ (m : Class). m.thread ≡ access.thread) class_is is.thread_is) (subst (λ (m : Class). m.writes ≡ access.writes) class_is is.writes_is) g.at_site;
+                local = own_time class (subst (λ (m : Class). m.thread ≡ access.thread) class_is is.thread_is);
+              })
+          | inr ne ↦ record {
+            site = g.site;
+            at_site = g.at_site;
+            head = g.head;
+            at_head = g.at_head;
+            reached = g.reached;
+            newest = g.newest;
+            at_newest = get_set_other old.newest c k later ne ∙ g.at_newest;
+            link = g.link;
+            at_link = get_more old.links (last ∷ []) g.newest.link g.link g.at_link;
+            access = g.access;
+            local = g.local;
+          }
+        ]
+
+    ext_stays : (t i : ℕ) → IsNotedAt old t i → IsNotedAt extended t i
+    ext_stays t i noted = elim (cases_eq noted.number c) [
+      | inl same ↦ (
+          let newest_is : newest ≡ noted.newest = same_entry old.newest c newest noted.newest at_newest (subst (λ (m : ℕ). slice_get old.newest m ≡ Some noted.newest) same noted.at_newest) in
+          record {
+            number = noted.number;
+            class = noted.class;
+            there = noted.there;
+            site_is = noted.site_is;
+            newest = later;
+            at_newest = subst (λ (m : ℕ). slice_get extended.newest m ≡ Some later) (sym same) (get_set old.newest c later (slice_get_within old.newest c newest at_newest));
+            chain = chain_longer old.links last i (slice_get_within old.links newest.link h.link at_link) (subst (λ (m : Newest). InChain old.links m.link i) (sym newest_is) noted.chain);
+          })
+      | inr ne ↦ record {
+        number = noted.number;
+        class = noted.class;
+        there = noted.there;
+        site_is = noted.site_is;
+        newest = noted.newest;
+        at_newest = get_set_other old.newest c noted.number later ne ∙ noted.at_newest;
+        chain = chain_more old.links (last ∷ []) noted.newest.link i noted.chain;
+      }
+    ]
+
+    ext_noted : IsNotedAt extended s access.event
+    ext_noted = record {
+      number = c;
+      class = is.class;
+      there = is.there;
+      site_is = is.site_is;
+      newest = later;
+      at_newest = get_set old.newest c later (slice_get_within old.newest c newest at_newest);
+      chain = chain_last old.links last;
+    }
+
+    ext_added : IsAdded trace sites old extended s access.event
+    ext_added = record {
+      kept = record { classes = ext_class; links = linked; as_many = length-set old.newest c later ∙ add.kept.as_many };
+      noted = ext_noted;
+      stays = ext_stays;
+    }
+
+    pub extended_added : (new : Tables) → new.heads ≡ extended.heads → new.classes ≡ extended.classes → new.newest ≡ extended.newest → new.links ≡ extended.links → IsAdded trace sites old new s access.event
+    extended_added new heads classes newests links = subst (λ (t : Tables). IsAdded trace sites old t s access.event) (sym (tables_same new extended heads classes newests links)) ext_added
+
+  -- a new class
+  module _ (head : ℕ) (class : Class) (at_head : slice_get old.heads s ≡ Some head) (site_is : class.site ≡ s) (thread_is : class.thread ≡ access.thread) (writes_is : class.writes ≡ access.writes) (next_is : class.next ≡ head) (few : length old.links < none) where
+    abbrev first : Link
+    first = record { event = access.event; previous = none }
+
+    abbrev only : Newest
+    only = record { link = length old.links; local = local }
+
+    abbrev begun : Tables
+    begun = record { heads = set old.heads s (length old.classes); classes = old.classes ++ class ∷ []; newest = old.newest ++ only ∷ []; links = old.links ++ first ∷ [] }
+
+    begun_linked : AreLinked trace begun.links (access.event + 1)
+    begun_linked = linked_more trace old.links access.event first add.kept.links few refl (λ before low there. absurd (omega (arith, low, few)))
+
+    begun_class : (k : ℕ) (other : Class) → slice_get begun.classes k ≡ Some other → IsClass trace sites begun k other
+    begun_class k other there = elim (get_cases old.classes class k other there) [
+      | inl before ↦ (
+          let g = add.kept.classes k other before in
+          let more : Reaches class_next begun.classes k g.head = reaches_more class_next old.classes (class ∷ []) k g.head g.reached in
+          let parts : (start : ℕ) × (slice_get begun.heads other.site ≡ Some start) × Reaches class_next begun.classes k start = elim (cases_eq other.site s) [
+            | inl same ↦ (
+                let same_head : g.head ≡ head = same_entry old.heads s g.head head (subst (λ (m : ℕ). slice_get old.heads m ≡ Some g.head) same g.at_head) at_head in
+                let low = reaches_within class_next old.classes k g.head (slice_get_within old.classes k other before) g.reached in (
+                  length old.classes,
+                  subst (λ (m : ℕ). slice_get begun.heads m ≡ Some (length old.classes)) (sym same) (get_set old.heads s (length old.classes) (slice_get_within old.heads s head at_head)),
+                  further class (get_last old.classes class (length old.classes) refl) (omega (arith, low, same_head, next_is)) (subst (λ (m : ℕ). Reaches class_next begun.classes k m) (same_head ∙ sym next_is) more),
+                ))
+            | inr ne ↦ (g.head, get_set_other old.heads s other.site (length old.classes) ne ∙ g.at_head, more)
+          ] in
+          record {
+            site = g.site;
+            at_site = g.at_site;
+            head = parts.0;
+            at_head = parts.1;
+            reached = parts.2;
+            newest = g.newest;
+            at_newest = get_more old.newest (only ∷ []) k g.newest g.at_newest;
+            link = g.link;
+            at_link = get_more old.links (first ∷ []) g.newest.link g.link g.at_link;
+            access = g.access;
+            local = g.local;
+          })
+      | inr new ↦ subst (λ (m : Class). IsClass trace sites begun k m) new.1 (subst (λ (m : ℕ). IsClass trace sites begun m class) (sym new.0) begun_own)
+    ]
+      where
+        begun_own : IsClass trace sites begun (length old.classes) class
+        begun_own =
+            let at_site = subst (λ (m : ℕ). slice_get sites m ≡ Some add.site) (sym site_is) add.at_site in
+            record {
+              site = add.site;
+              at_site = at_site;
+              head = length old.classes;
+              at_head = subst (λ (m : ℕ). slice_get begun.heads m ≡ Some (length old.classes)) (sym site_is) (get_set old.heads s (length old.classes) (slice_get_within old.heads s head at_head));
+              reached = here refl;
+              newest = only;
+              at_newest = get_last old.newest only (length old.classes) (sym add.kept.as_many);
+              link = first;
+              at_link = get_last old.links first (length old.links) refl;
+              access = own_access class add.site site_is thread_is writes_is at_site;
+              local = own_time class thread_is;
+            }
+
+    begun_noted : IsNotedAt begun s access.event
+    begun_noted = record {
+      number = length old.classes;
+      class = class;
+      there = get_last old.classes class (length old.classes) refl;
+      site_is = site_is;
+      newest = only;
+      at_newest = get_last old.newest only (length old.classes) (sym add.kept.as_many);
+      chain = chain_last old.links first;
+    }
+
+    begun_stays : (t i : ℕ) → IsNotedAt old t i → IsNotedAt begun t i
+    begun_stays t i noted = record {
+      number = noted.number;
+      class = noted.class;
+      there = get_more old.classes (class ∷ []) noted.number noted.class noted.there;
+      site_is = noted.site_is;
+      newest = noted.newest;
+      at_newest = get_more old.newest (only ∷ []) noted.number noted.newest noted.at_newest;
+      chain = chain_more old.links (first ∷ []) noted.newest.link i noted.chain;
+    }
+
+    begun_is_added : IsAdded trace sites old begun s access.event
+    begun_is_added = record {
+      kept = record { classes = begun_class; links = begun_linked; as_many = (let a = length-append old.newest (only ∷ []) in let b = length-append old.classes (class ∷ []) in let e = add.kept.as_many in omega (arith, a, b, e)) };
+      noted = begun_noted;
+      stays = begun_stays;
+    }
+
+    pub begun_added : (new : Tables) → new.heads ≡ begun.heads → new.classes ≡ begun.classes → new.newest ≡ begun.newest → new.links ≡ begun.links → IsAdded trace sites old new s access.event
+    begun_added new heads classes newests links = subst (λ (t : Tables). IsAdded trace sites old t s access.event) (sym (tables_same new begun heads classes newests links)) begun_is_added
+
+-- no access of the class is asked for, or none races
+pub earliest_none : (trace : TraceData) (sites : List Site) (notes : Tables) (s c : ℕ) (access : Access) → ((e : ℕ) (noted : IsNotedAt notes s e) → noted.number ≡ c → Race trace.events e access.event → ⊥) → IsEarliestIn trace sites notes s c access none
+earliest_none trace sites notes s c access nothing = record {
+  least = λ e noted is race. absurd (nothing e noted is race);
+  races = λ some. absurd (some refl);
+}
+
+-- what is known of an access in the class c
+pub record IsIn (trace : TraceData) (sites : List Site) (notes : Tables) (s c e n : ℕ) (class : Class) (newest : Newest) : Type 0 where
+  pub site : Site
+  pub at_site : slice_get sites s ≡ Some site
+  pub access : IsAccessOf trace class.thread site.variable site.location class.writes e
+  pub local : local_time trace.events class.thread e ≤ newest.local
+  pub past : e < n
+
+pub chain_in : (trace : TraceData) (sites : List Site) (notes : Tables) (s c e n : ℕ) (class : Class) (newest : Newest) → AreKept trace sites notes n → slice_get notes.classes c ≡ Some class → slice_get notes.newest c ≡ Some newest → class.site ≡ s → InChain notes.links newest.link e → IsIn trace sites notes s c e n class newest
+chain_in trace sites notes s c e n class newest kept there at_newest site_is chain =
+    let h = kept.classes c class there in
+    let f = class_access trace sites notes n c e class newest h.site kept there at_newest h.at_site chain in
+    record { site = h.site; at_site = subst (λ (k : ℕ). slice_get sites k ≡ Some h.site) site_is h.at_site; access = f.0; local = f.1; past = f.2 }
+
+pub noted_chain : (notes : Tables) (s c e : ℕ) (newest : Newest) → slice_get notes.newest c ≡ Some newest → (noted : IsNotedAt notes s e) → noted.number ≡ c → InChain notes.links newest.link e
+noted_chain notes s c e newest at_newest noted is =
+    subst (λ (m : Newest). InChain notes.links m.link e) (same_entry notes.newest c noted.newest newest (subst (λ (k : ℕ). slice_get notes.newest k ≡ Some noted.newest) is noted.at_newest) at_newest) noted.chain
+
+pub noted_class : (notes : Tables) (s c e : ℕ) (class : Class) → slice_get notes.classes c ≡ Some class → (noted : IsNotedAt notes s e) → noted.number ≡ c → class.site ≡ s
+noted_class notes s c e class there noted is =
+    subst (λ (m : Class). m.site ≡ s) (same_entry notes.classes c noted.class class (subst (λ (k : ℕ). slice_get notes.classes k ≡ Some noted.class) is noted.there) there) noted.site_is
+
+-- a class that can't race
+pub cannot : (trace : TraceData) (sites : List Site) (notes : Tables) (s c : ℕ) (access : Access) (class : Class) (newest : Newest) → AreKept trace sites notes access.event → IsAccess trace access → slice_get notes.classes c ≡ Some class → slice_get notes.newest c ≡ Some newest → class.site ≡ s → ((class.thread ≢ access.thread) × ((class.writes ≡ true) ⊎ (access.writes ≡ true)) → ⊥) → IsEarliestIn trace sites notes s c access none
+cannot trace sites notes s c access class newest kept own there at_newest site_is not = earliest_none trace sites notes s c access (λ e noted is race.
+    let f = chain_in trace sites notes s c e access.event class newest kept there at_newest site_is (noted_chain notes s c e newest at_newest noted is) in
+    not (race_class trace class.thread f.site.variable f.site.location e class.writes access own f.access race))
+
+-- a class that is below
+pub all_below : (trace : TraceData) (sites : List Site) (notes : Tables) (s c b : ℕ) (access : Access) (class : Class) (newest : Newest) → AreKept trace sites notes access.event → IsAccess trace access → slice_get notes.classes c ≡ Some class → slice_get notes.newest c ≡ Some newest → class.site ≡ s → IsBelowPredCount trace.events class.thread access.event b → newest.local ≤ b → IsEarliestIn trace sites notes s c access none
+all_below trace sites notes s c b access class newest kept own there at_newest site_is count low = earliest_none trace sites notes s c access (λ e noted is race.
+    let f = chain_in trace sites notes s c e access.event class newest kept there at_newest site_is (noted_chain notes s c e newest at_newest noted is) in
+    let above = race_above trace class.thread f.site.variable f.site.location b e class.writes access f.access count race in
+    let local = f.local in
+    omega (arith, above, local, low))
+
+-- the earliest of a chain whose local time is above the bound
+pub record IsLeast (trace : TraceData) (links : List Link) (p b r : ℕ) : Type 0 where
+  pub least : (n t e : ℕ) → AreLinked trace links n → InChain links p e → thread_at trace.events e ≡ Some t → b < local_time trace.events t e → r ≤ e
+  pub chain : r ≢ none → InChain links p r
+  pub above : (t : ℕ) → r ≢ none → thread_at trace.events r ≡ Some t → b < local_time trace.events t r
+
+pub chain_least : (trace : TraceData) (sites : List Site) (notes : Tables) (s c b r : ℕ) (access : Access) (class : Class) (newest : Newest) → AreKept trace sites notes access.event → IsAccess trace access → slice_get notes.classes c ≡ Some class → slice_get notes.newest c ≡ Some newest → class.site ≡ s → (class.thread ≢ access.thread) × ((class.writes ≡ true) ⊎ (access.writes ≡ true)) → IsBelowPredCount trace.events class.thread access.event b → IsLeast trace notes.links newest.link b r → IsEarliestIn trace sites notes s c access r
+chain_least trace sites notes s c b r access class newest kept own there at_newest site_is can count found = record {
+  least = λ e noted is race. (
+      let chain = noted_chain notes s c e newest at_newest noted is in
+      let f = chain_in trace sites notes s c e access.event class newest kept there at_newest site_is chain in
+      found.least access.event class.thread e kept.links chain f.access.thread (race_above trace class.thread f.site.variable f.site.location b e class.writes access f.access count race));
+  races = λ some. (
+      let f = chain_in trace sites notes s c r access.event class newest kept there at_newest site_is (found.chain some) in
+      record {
+        site = f.site;
+        at_site = f.at_site;
+        is_race = λ same. class_races trace class.thread f.site.variable f.site.location b r class.writes access own f.access same can f.past count (found.above class.thread some f.access.thread);
+        location_is = f.access.location;
+      });
+}
+
+-- all classes of a site are looked at, or from one on
+pub record AreLeast (trace : TraceData) (sites : List Site) (notes : Tables) (s : ℕ) (access : Access) (earliest p : ℕ) : Type 0 where
+  pub least : (e : ℕ) (noted : IsNotedAt notes s e) → Race trace.events e access.event → (earliest ≤ e) ⊎ Reaches class_next notes.classes noted.number p
+  pub races : earliest ≢ none → RacesAt trace sites s earliest access
+
+pub least_start : (trace : TraceData) (sites : List Site) (notes : Tables) (s n head : ℕ) (access : Access) → AreKept trace sites notes n → ((h : ℕ) → slice_get notes.heads s ≡ Some h → head ≡ h) → AreLeast trace sites notes s access none head
+least_start trace sites notes s n head access kept is = record {
+  least = λ e noted race. inr (
+      let h = kept.classes noted.number noted.class noted.there in
+      subst (λ (p : ℕ). Reaches class_next notes.classes noted.number p) (sym (is h.head (subst (λ (k : ℕ). slice_get notes.heads k ≡ Some h.head) noted.site_is h.at_head))) h.reached);
+  races = λ some. absurd (some refl);
+}
+
+pub least_next : (trace : TraceData) (sites : List Site) (notes : Tables) (s : ℕ) (access : Access) (earliest p r next : ℕ) (class : Class) → slice_get notes.classes p ≡ Some class → IsEarliestIn trace sites notes s p access r → next ≤ earliest → next ≤ r → (next ≡ earliest) ⊎ (next ≡ r) → AreLeast trace sites notes s access earliest p
+    → ((e : ℕ) (noted : IsNotedAt notes s e) → Race trace.events e access.event → (next ≤ e) ⊎ ((class.next < p) × Reaches class_next notes.classes noted.number class.next)) × (next ≢ none → RacesAt trace sites s next access)
+least_next trace sites notes s access earliest p r next class there here_is low_e low_r one before = (
+  (λ e noted race. elim (before.least e noted race) [
+    | inl le ↦ inl (omega (arith, le, low_e))
+    | inr rest ↦ elim (reaches_next class_next notes.classes noted.number p class there rest) [
+      | inl same ↦ inl (let le = here_is.least e noted (sym same) race in omega (arith, le, low_r))
+      | inr more ↦ inr more
+    ]
+  ]),
+  (λ some. elim one [
+    | inl is ↦ subst (λ (k : ℕ). RacesAt trace sites s k access) (sym is) (before.races (λ same. some (is ∙ same)))
+    | inr is ↦ subst (λ (k : ℕ). RacesAt trace sites s k access) (sym is) (here_is.races (λ same. some (is ∙ same)))
+  ]),
+)
+
+pub least_end : (trace : TraceData) (sites : List Site) (notes : Tables) (s : ℕ) (access : Access) (earliest p : ℕ) → length notes.classes ≤ p → AreLeast trace sites notes s access earliest p → IsEarliestAt trace sites notes s access earliest
+least_end trace sites notes s access earliest p past h = record {
+  least = λ e noted race. elim (h.least e noted race) [
+    | inl le ↦ le
+    | inr rest ↦ absurd (let same = reaches_end class_next notes.classes noted.number p past rest in let low = slice_get_within notes.classes noted.number noted.class noted.there in omega (arith, same, low, past))
+  ];
+  races = h.races;
+}
+
+-- an access is an event that the order knows
+pub order_within : (trace events seen : List Event) (e x : ℕ) → seen ≡ events → events ≡ trace → variable_at trace e ≡ Some x → e < length seen
+order_within trace events seen e x of_events same access = within_of trace events seen e of_events same (accessed_within trace e x access)
+
+-- the table of the heads may have grown
+pub addable_more : (trace : TraceData) (sites : List Site) (old : Tables) (s local : ℕ) (access : Access) (heads more : List ℕ) → heads ≡ old.heads ++ more → IsAddable trace sites old s access local → IsAddable trace sites (record { heads = heads; classes = old.classes; newest = old.newest; links = old.links }) s access local
+addable_more trace sites old s local access heads more grown add = record {
+  kept = record {
+    classes = λ c class there. (
+        let g = add.kept.classes c class there in
+        record {
+          site = g.site;
+          at_site = g.at_site;
+          head = g.head;
+          at_head = subst (λ (hs : List ℕ). slice_get hs class.site ≡ Some g.head) (sym grown) (get_more old.heads more class.site g.head g.at_head);
+          reached = g.reached;
+          newest = g.newest;
+          at_newest = g.at_newest;
+          link = g.link;
+          at_link = g.at_link;
+          access = g.access;
+          local = g.local;
+        });
+    links = add.kept.links;
+    as_many = add.kept.as_many;
+  };
+  site = add.site;
+  at_site = add.at_site;
+  variable_is = add.variable_is;
+  location_is = add.location_is;
+  is_access = add.is_access;
+  time = add.time;
+}
+
+-- which no access that is kept is told by
+pub added_more : (trace : TraceData) (sites : List Site) (old new : Tables) (s e : ℕ) (heads : List ℕ) → IsAdded trace sites (record { heads = heads; classes = old.classes; newest = old.newest; links = old.links }) new s e → IsAdded trace sites old new s e
+added_more trace sites old new s e heads added = record {
+  kept = added.kept;
+  noted = added.noted;
+  stays = λ t i noted. added.stays t i (record {
+    number = noted.number;
+    class = noted.class;
+    there = noted.there;
+    site_is = noted.site_is;
+    newest = noted.newest;
+    at_newest = noted.at_newest;
+    chain = noted.chain;
+  });
+}

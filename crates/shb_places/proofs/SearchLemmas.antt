@@ -1,0 +1,282 @@
+-- The search, an access at a time.
+use Rattle.std.proofs.Common.{◌≡◌, ◌≢◌, ℕ, ◌+◌, ◌<◌, ◌≤◌, ◌⊎◌, inl, inr, Bool, true, false, List, [], ◌∷◌, ◌++◌, Option, Some, None, length, get_or, slice_get, arith, refl, subst, ap, sym, ◌∙◌}
+use Rattle.std.specs.Prelude.{All, Contains}
+use Rattle.std.proofs.lemmas.Bool.{cases_Bool, cases_eq}
+use Rattle.std.proofs.lemmas.List.Elements.{Contains-get_or}
+use Rattle.std.proofs.lemmas.Option.{slice_get_within}
+use Rattle.shb_clocks.specs.Open.{is_open}
+use Rattle.shb_lines.specs.declared.event.Pair.{Pair}
+use Rattle.shb_lines.specs.events.Discipline.{local_time}
+use Rattle.shb_lines.specs.events.Race.{Race, variable_at}
+use Rattle.shb_lines.specs.text.TraceData.{TraceData}
+use Rattle.shb_report.specs.Leading.{place_at}
+use Rattle.shb_report.specs.Places.{location_at}
+use Rattle.shb_pairs.specs.Open.{AreOpen}
+use Rattle.shb_pairs.proofs.Found.{accessed_within}
+use Rattle.shb_places.specs.declared.found.Found.{Found}
+use Rattle.shb_places.specs.declared.found.Place.{Place}
+use Rattle.shb_places.specs.declared.notes.Access.{Access}
+use Rattle.shb_places.specs.declared.notes.Class.{Class}
+use Rattle.shb_places.specs.declared.notes.Link.{Link}
+use Rattle.shb_places.specs.declared.notes.Notes.{Notes}
+use Rattle.shb_places.specs.declared.sites.Site.{Site}
+use Rattle.shb_places.specs.declared.sites.Sites.{Sites}
+use Rattle.shb_places.specs.Access.{IsAccess, IsAccessOf}
+use Rattle.shb_places.specs.Covering.{Covers, IsCovered}
+use Rattle.shb_places.specs.Found.{AreFound, Improves, IsFound, IsOffered}
+use Rattle.shb_places.specs.Lists.{Reaches, none, site_previous}
+use Rattle.shb_places.specs.Notes.{AreKept, AreLinked, IsAddable, IsAdded, IsClass, IsEarliestAt, IsNotedAt, RacesAt, Tables, tables_of}
+use Rattle.shb_places.specs.Searched.{IsAsked, IsAskedAll, IsNoted, IsSearched}
+use Rattle.shb_places.specs.Sites.{AreMore, AreSites, IsSite}
+use Rattle.shb_places.proofs.FoundLemmas.{covered_by, covered_self, covered_then, found_variable, key_then, key_to, same_places}
+use Rattle.shb_places.proofs.Lists.{contains_get, reaches_end, reaches_next, same_entry}
+use Rattle.shb_places.proofs.NoteLemmas.{IsIn, chain_in}
+
+-- an access that is kept at a site is one of its variable and location
+noted_in : (trace : TraceData) (sites : List Site) (notes : Tables) (s i n : ℕ) (site : Site) → AreKept trace sites notes n → slice_get sites s ≡ Some site → IsNotedAt notes s i → (variable_at trace.events i ≡ Some site.variable) × (location_at trace i ≡ location_at trace site.location)
+noted_in trace sites notes s i n site kept at_site noted =
+    let f = chain_in trace sites notes s noted.number i n noted.class noted.newest kept noted.there noted.at_newest noted.site_is noted.chain in
+    let same = same_entry sites s f.site site f.at_site at_site in
+    (subst (λ (k : Site). variable_at trace.events i ≡ Some k.variable) same f.access.variable, subst (λ (k : Site). location_at trace i ≡ location_at trace k.location) same f.access.location)
+
+race_variable : (trace : TraceData) (i x : ℕ) (access : Access) → IsAccess trace access → variable_at trace.events i ≡ Some x → Race trace.events i access.event → x ≡ access.variable
+race_variable trace i x access own of_i race =
+    let a : Some x ≡ Some race.conflict.variable = sym of_i ∙ race.conflict.first_accesses in
+    let b : Some race.conflict.variable ≡ Some access.variable = sym race.conflict.second_accesses ∙ own.variable in
+    cc
+
+found_same : (trace : TraceData) (n : ℕ) (places : List Place) (races : List Pair) → AreFound trace n places races → Improves trace races races
+found_same trace n places races found race there = let v = found_variable trace n places races race found there in covered_self trace races race v.0.variable there v.1.variable_is
+
+-- the site is of another variable
+pub asked_other : (trace : TraceData) (sites : List Site) (notes : Tables) (access : Access) (s : ℕ) (site : Site) (places : List Place) (races : List Pair) → IsAccess trace access → AreKept trace sites notes access.event → slice_get sites s ≡ Some site → AreFound trace (access.event + 1) places races → site.variable ≢ access.variable → IsAsked trace notes access s races places races
+asked_other trace sites notes access s site places races own kept at_site found other = record {
+  found = found;
+  improves = found_same trace (access.event + 1) places races found;
+  covers = λ i noted race. absurd (other (race_variable trace i site.variable access own (noted_in trace sites notes s i access.event site kept at_site noted).0 race));
+}
+
+-- the place is known
+pub asked_known : (trace : TraceData) (sites : List Site) (notes : Tables) (access : Access) (s : ℕ) (site : Site) (places : List Place) (races : List Pair) → AreKept trace sites notes access.event → slice_get sites s ≡ Some site → AreFound trace (access.event + 1) places races → ((i : ℕ) → location_at trace i ≡ location_at trace site.location → IsCovered trace races i access.event) → IsAsked trace notes access s races places races
+asked_known trace sites notes access s site places races kept at_site found known = record {
+  found = found;
+  improves = found_same trace (access.event + 1) places races found;
+  covers = λ i noted race. known i (noted_in trace sites notes s i access.event site kept at_site noted).1;
+}
+
+-- no access there races
+pub asked_none : (trace : TraceData) (sites : List Site) (notes : Tables) (access : Access) (s : ℕ) (places : List Place) (races : List Pair) → access.event < none → AreFound trace (access.event + 1) places races → IsEarliestAt trace sites notes s access none → IsAsked trace notes access s races places races
+asked_none trace sites notes access s places races few found nothing = record {
+  found = found;
+  improves = found_same trace (access.event + 1) places races found;
+  covers = λ i noted race. absurd (let low = nothing.least i noted race in let before = race.earlier in omega (arith, low, before, few));
+}
+
+-- the race that is offered
+pub offered_race : (trace : TraceData) (sites : List Site) (notes : Tables) (access : Access) (s earliest : ℕ) (site : Site) (place : Place) (race : Pair) → IsAccess trace access → slice_get sites s ≡ Some site → site.variable ≡ access.variable → IsEarliestAt trace sites notes s access earliest → earliest ≢ none → place.first ≡ site.location → place.second ≡ access.location → place.variable ≡ access.variable → race.first ≡ earliest → race.second ≡ access.event → IsFound trace (access.event + 1) place race
+offered_race trace sites notes access s earliest site place race own at_site same_variable least some first_is second_is variable_is race_first race_second =
+    let h = least.races some in
+    let same = same_entry sites s h.site site h.at_site at_site in
+    let is_race = h.is_race (ap (λ (k : Site). k.variable) same ∙ same_variable) in
+    record {
+      is_race = subst (λ (e : ℕ). Race trace.events e race.second) (sym race_first) (subst (λ (e : ℕ). Race trace.events earliest e) (sym race_second) is_race);
+      past = omega (arith, race_second);
+      first_is = ap (λ (e : ℕ). location_at trace e) race_first ∙ (h.location_is ∙ (ap (λ (k : Site). location_at trace k.location) same ∙ ap (λ (l : ℕ). location_at trace l) (sym first_is)));
+      second_is = ap (λ (e : ℕ). location_at trace e) race_second ∙ (own.location ∙ ap (λ (l : ℕ). location_at trace l) (sym second_is));
+      variable_is = ap (λ (e : ℕ). variable_at trace.events e) race_second ∙ (own.variable ∙ ap (λ (x : ℕ). Some x) (sym variable_is));
+    }
+
+-- the race that was taken covers those with the accesses of its site
+pub asked_offered : (trace : TraceData) (sites : List Site) (notes : Tables) (access : Access) (s earliest : ℕ) (site : Site) (old : List Pair) (places : List Place) (new : List Pair) → IsAccess trace access → AreKept trace sites notes access.event → slice_get sites s ≡ Some site → IsEarliestAt trace sites notes s access earliest → earliest ≢ none → IsOffered trace (access.event + 1) places old new (record { first = earliest; second = access.event }) → IsAsked trace notes access s old places new
+asked_offered trace sites notes access s earliest site old places new own kept at_site least some offered = record {
+  found = offered.found;
+  improves = offered.improves;
+  covers = λ i noted race. (
+      let h = least.races some in
+      let same = same_entry sites s h.site site h.at_site at_site in
+      let here_is : location_at trace earliest ≡ location_at trace i = h.location_is ∙ (ap (λ (k : Site). location_at trace k.location) same ∙ sym (noted_in trace sites notes s i access.event site kept at_site noted).1) in
+      let low = least.least i noted race in
+      let cover = offered.covered in
+      let v = found_variable trace (access.event + 1) places new cover.pair offered.found cover.there in
+      covered_by trace new cover.pair i access.event v.0.variable access.variable cover.there (cover.same_place ∙ same_places trace earliest access.event i access.event here_is refl) v.1.variable_is own.variable
+      (key_then v.0.variable cover.pair.second cover.pair.first access.variable access.event earliest access.variable access.event i (key_to v.0.variable cover.pair.second cover.pair.first access.variable access.event earliest (cover.not_after v.0.variable access.variable v.1.variable_is own.variable)) (inr (refl, inr (refl, low)))));
+}
+
+-- a list of sites from one on is asked
+pub record AreAsked (trace : TraceData) (sites : List Site) (notes : Tables) (access : Access) (old : List Pair) (places : List Place) (new : List Pair) (p : ℕ) : Type 0 where
+  pub found : AreFound trace (access.event + 1) places new
+  pub improves : Improves trace old new
+  pub covers : (s i : ℕ) (site : Site) → slice_get sites s ≡ Some site → site.variable ≡ access.variable → IsNotedAt notes s i → Race trace.events i access.event → IsCovered trace new i access.event ⊎ Reaches site_previous sites s p
+
+pub asked_start : (trace : TraceData) (newest : List ℕ) (sites : List Site) (notes : Tables) (access : Access) (places : List Place) (races : List Pair) (p : ℕ) → AreSites newest sites → AreFound trace (access.event + 1) places races → ((head : ℕ) → slice_get newest access.variable ≡ Some head → p ≡ head) → AreAsked trace sites notes access races places races p
+asked_start trace newest sites notes access places races p listed found is = record {
+  found = found;
+  improves = found_same trace (access.event + 1) places races found;
+  covers = λ s i site there same noted race. inr (let h = listed s site there in subst (λ (k : ℕ). Reaches site_previous sites s k) (sym (is h.0 (subst (λ (x : ℕ). slice_get newest x ≡ Some h.0) same h.1))) h.2);
+}
+
+pub asked_next : (trace : TraceData) (sites : List Site) (notes : Tables) (access : Access) (old : List Pair) (start places more : List Place) (races new : List Pair) (p : ℕ) (at : Site) → slice_get sites p ≡ Some at → AreAsked trace sites notes access old places races p → IsAsked trace notes access p races more new
+    → AreFound trace (access.event + 1) more new × Improves trace old new × ((s i : ℕ) (site : Site) → slice_get sites s ≡ Some site → site.variable ≡ access.variable → IsNotedAt notes s i → Race trace.events i access.event → IsCovered trace new i access.event ⊎ ((at.previous < p) × Reaches site_previous sites s at.previous))
+asked_next trace sites notes access old start places more races new p at there before asked = (
+  asked.found,
+  (λ race is. covered_then trace (access.event + 1) places races new race.first race.second before.found asked.improves (before.improves race is)),
+  (λ s i site at_site same noted race. elim (before.covers s i site at_site same noted race) [
+    | inl cover ↦ inl (covered_then trace (access.event + 1) places races new i access.event before.found asked.improves cover)
+    | inr rest ↦ elim (reaches_next site_previous sites s p at there rest) [
+      | inl here_is ↦ inl (asked.covers i (subst (λ (k : ℕ). IsNotedAt notes k i) (sym here_is) noted) race)
+      | inr next ↦ inr next
+    ]
+  ]),
+)
+
+pub asked_end : (trace : TraceData) (sites : List Site) (notes : Tables) (access : Access) (old : List Pair) (places : List Place) (races : List Pair) (p : ℕ) → length sites ≤ p → AreAsked trace sites notes access old places races p → IsAskedAll trace sites notes access old places races
+asked_end trace sites notes access old places races p past h = record {
+  found = h.found;
+  improves = h.improves;
+  covers = λ s i site at_site same noted race. elim (h.covers s i site at_site same noted race) [
+    | inl cover ↦ cover
+    | inr rest ↦ absurd (let is = reaches_end site_previous sites s p past rest in let low = slice_get_within sites s site at_site in omega (arith, is, low, past))
+  ];
+}
+
+-- what is kept stays when sites come
+kept_sites : (trace : TraceData) (old new : List Site) (notes : Tables) (n : ℕ) → ((s : ℕ) (site : Site) → slice_get old s ≡ Some site → slice_get new s ≡ Some site) → AreKept trace old notes n → AreKept trace new notes n
+kept_sites trace old new notes n stay kept = record {
+  classes = λ c class there. (let h = kept.classes c class there in record {
+    site = h.site;
+    at_site = stay class.site h.site h.at_site;
+    head = h.head;
+    at_head = h.at_head;
+    reached = h.reached;
+    newest = h.newest;
+    at_newest = h.at_newest;
+    link = h.link;
+    at_link = h.at_link;
+    access = h.access;
+    local = h.local;
+  });
+  links = kept.links;
+  as_many = kept.as_many;
+}
+
+kept_later : (trace : TraceData) (sites : List Site) (notes : Tables) (n : ℕ) → AreKept trace sites notes n → AreKept trace sites notes (n + 1)
+kept_later trace sites notes n kept = record {
+  classes = kept.classes;
+  links = record {
+    few = kept.links.few;
+    past = λ k link at. (let low = kept.links.past k link at in omega (arith, low));
+    falls = kept.links.falls;
+    alike = kept.links.alike;
+  };
+  as_many = kept.as_many;
+}
+
+pub found_later : (trace : TraceData) (n : ℕ) (places : List Place) (races : List Pair) → AreFound trace n places races → AreFound trace (n + 1) places races
+found_later trace n places races found = record {
+  as_many = found.as_many;
+  each = λ q place race at_place at_race. (let h = found.each q place race at_place at_race in record {
+    is_race = h.is_race;
+    past = (let low = h.past in omega (arith, low));
+    first_is = h.first_is;
+    second_is = h.second_is;
+    variable_is = h.variable_is;
+  });
+}
+
+-- an event without an access of an open variable
+pub searched_other : (trace : TraceData) (flags : List Bool) (sites : Sites) (notes : Notes) (table : Found) (n : ℕ) → AreOpen trace.events flags → ((x : ℕ) → variable_at trace.events n ≡ Some x → is_open flags x ≡ false) → IsSearched trace flags sites notes table n → IsSearched trace flags sites notes table (n + 1)
+searched_other trace flags sites notes table n settled shut h = record {
+  sized = h.sized;
+  listed = h.listed;
+  kept = kept_later trace sites.sites.items (tables_of notes) n h.kept;
+  noted = λ e x lt access is_so. elim (cases_eq e n) [
+    | inl same ↦ absurd (let no = shut x (subst (λ (k : ℕ). variable_at trace.events k ≡ Some x) same access) in let f : true ≡ false = sym is_so ∙ no in (let none : ⊥ = cc in none))
+    | inr ne ↦ h.noted e x (omega (arith, lt, ne)) access is_so
+  ];
+  found = found_later trace n table.places.items table.races.items h.found;
+  covered = λ i j lt race. elim (cases_eq j n) [
+    | inl same ↦ absurd (let access = race.conflict.second_accesses in settled race.conflict.variable (shut race.conflict.variable (subst (λ (k : ℕ). variable_at trace.events k ≡ Some race.conflict.variable) same access)) i j access race)
+    | inr ne ↦ h.covered i j (omega (arith, lt, ne)) race
+  ];
+}
+
+-- an access of an open variable
+pub taken : (trace : TraceData) (flags : List Bool) (sites more : Sites) (notes after : Notes) (table next : Found) (s : ℕ) (access : Access) → IsAccess trace access → is_open flags access.variable ≡ true → IsSearched trace flags sites notes table access.event → AreMore sites.newest.items sites.sites.items more.newest.items more.sites.items → IsSite more.sites.items access.variable access.location s → IsAskedAll trace more.sites.items (tables_of notes) access table.races.items next.places.items next.races.items → IsAdded trace more.sites.items (tables_of notes) (tables_of after) s access.event → IsSearched trace flags more after next (access.event + 1)
+taken trace flags sites more notes after table next s access own is_so h grown is asked added = record {
+  sized = λ e x of_e. (let low = h.sized e x of_e in let same = grown.as_many in omega (arith, low, same));
+  listed = grown.listed h.listed;
+  kept = added.kept;
+  noted = λ e x lt of_e is_so_e. elim (cases_eq e access.event) [
+    | inl same ↦ record {
+      number = s;
+      site = is.site;
+      there = is.there;
+      variable_is = is.variable_is ∙ same_number access.variable x (variable_at trace.events access.event) own.variable (subst (λ (k : ℕ). variable_at trace.events k ≡ Some x) same of_e);
+      noted = subst (λ (k : ℕ). IsNotedAt (tables_of after) s k) (sym same) added.noted;
+    }
+    | inr ne ↦ (let g = h.noted e x (omega (arith, lt, ne)) of_e is_so_e in record {
+      number = g.number;
+      site = g.site;
+      there = grown.stay g.number g.site g.there;
+      variable_is = g.variable_is;
+      noted = added.stays g.number e g.noted;
+    })
+  ];
+  found = asked.found;
+  covered = λ i j lt race. elim (cases_eq j access.event) [
+    | inl same ↦ subst (λ (k : ℕ). IsCovered trace next.races.items i k) (sym same) (here_covered i (subst (λ (k : ℕ). Race trace.events i k) same race))
+    | inr ne ↦ covered_then trace access.event table.places.items table.races.items next.races.items i j h.found asked.improves (h.covered i j (omega (arith, lt, ne)) race)
+  ];
+}
+  where
+    same_number : (x y : ℕ) (o : Option ℕ) → o ≡ Some x → o ≡ Some y → x ≡ y
+    same_number x y o a b = let f : Some x ≡ Some y = sym a ∙ b in cc
+
+    here_covered : (i : ℕ) → Race trace.events i access.event → IsCovered trace next.races.items i access.event
+    here_covered i race =
+        let of_i : variable_at trace.events i ≡ Some access.variable = race.conflict.first_accesses ∙ ap (λ (x : ℕ). Some x) (race_variable trace i race.conflict.variable access own race.conflict.first_accesses race) in
+        let g = h.noted i access.variable race.earlier of_i is_so in
+        asked.covers g.number i g.site (grown.stay g.number g.site g.there) g.variable_is g.noted race
+
+pub kept_grown : (trace : TraceData) (flags : List Bool) (sites more : Sites) (notes : Notes) (table : Found) (n : ℕ) → IsSearched trace flags sites notes table n → AreMore sites.newest.items sites.sites.items more.newest.items more.sites.items → AreKept trace more.sites.items (tables_of notes) n
+kept_grown trace flags sites more notes table n h grown = kept_sites trace sites.sites.items more.sites.items (tables_of notes) n grown.stay h.kept
+
+pub can_add : (trace : TraceData) (sites : List Site) (notes : Tables) (s local : ℕ) (access : Access) → AreKept trace sites notes access.event → IsSite sites access.variable access.location s → IsAccess trace access → local ≡ local_time trace.events access.thread access.event → IsAddable trace sites notes s access local
+can_add trace sites notes s local access kept is own time = record { kept = kept; site = is.site; at_site = is.there; variable_is = is.variable_is; location_is = is.location_is; is_access = own; time = time }
+
+-- the links are of events of the trace
+pub links_within : (trace : TraceData) (flags : List Bool) (sites : Sites) (notes : Notes) (table : Found) (access : Access) → IsAccess trace access → IsSearched trace flags sites notes table access.event → (k : ℕ) (link : Link) → slice_get notes.links.items k ≡ Some link → link.event < length trace.events
+links_within trace flags sites notes table access own h k link at = let low = h.kept.links.past k link at in let past = accessed_within trace.events access.event access.variable own.variable in omega (arith, low, past)
+
+-- at the end
+pub searched_all : (trace : TraceData) (flags : List Bool) (sites : Sites) (notes : Notes) (table : Found) (n : ℕ) → length trace.events ≤ n → IsSearched trace flags sites notes table n → Covers trace table.races.items
+searched_all trace flags sites notes table n all h = record {
+  races = λ k d lt. (let race = get_or table.races.items k d in let v = found_variable trace n table.places.items table.races.items race h.found (Contains-get_or table.races.items k d lt) in v.1.is_race);
+  each = λ i j race. h.covered i j (let low = accessed_within trace.events j race.conflict.variable race.conflict.second_accesses in omega (arith, low, all)) race;
+}
+
+-- before the first event
+pub searched_none : (trace : TraceData) (flags : List Bool) (sites : Sites) (notes : Notes) (table : Found) → ((e x : ℕ) → variable_at trace.events e ≡ Some x → x < length sites.newest.items) → sites.sites.items ≡ [] → tables_of notes ≡ record { heads = []; classes = []; newest = []; links = [] } → table.places.items ≡ [] → table.races.items ≡ [] → IsSearched trace flags sites notes table 0
+searched_none trace flags sites notes table sized no_sites no_notes no_places no_races = record {
+  sized = sized;
+  listed = λ s site there. absurd (apart s (subst (λ (all : List Site). slice_get all s ≡ Some site) no_sites there));
+  kept = subst (λ (all : Tables). AreKept trace sites.sites.items all 0) (sym no_notes) (record {
+    classes = λ c class there. absurd cc;
+    links = record {
+      few = omega arith;
+      past = λ k link at. absurd cc;
+      falls = λ k link before at. absurd cc;
+      alike = λ k link before at. absurd cc;
+    };
+    as_many = refl;
+  });
+  noted = λ e x lt. absurd (omega (arith, lt));
+  found = record {
+    as_many = ap length no_races ∙ sym (ap length no_places);
+    each = λ q place race at. absurd (apart q (subst (λ (all : List Place). slice_get all q ≡ Some place) no_places at));
+  };
+  covered = λ i j lt. absurd (omega (arith, lt));
+}
+  where
+    apart : {T : Type 0} (k : ℕ) {x : T} → None ≡ Some x → ⊥
+    apart k e = cc

@@ -1,0 +1,31 @@
+use Rattle.std.proofs.Common.{◌≡◌, List, Some, length, arith, ap, subst, sym, ◌∙◌}
+use Rattle.shb_lines.specs.declared.event.Event.{Event}
+use Rattle.shb_lines.specs.declared.event.Pair.{Pair}
+use Rattle.shb_lines.specs.events.Race.{variable_at}
+use Rattle.shb_clocks.specs.SweepData.{SweepData}
+use Rattle.shb_links.proofs.Owners.{variable_sized}
+use Rattle.shb_pairs.specs.Open.{AreOpen}
+use Rattle.shb_places.specs.Covering.{Covers}
+use Rattle.shb_places.proofs.SearchLemmas.{searched_all}
+use Rattle.shb_places.proofs.search.covering_races.Goals as goal
+
+pub loop-e-init : goal.loop-e-init
+loop-e-init c =
+    let trace = c.args.trace.now in
+    record {
+      of_trace = ap (λ (s : SweepData). s.trace) c.in_ok-sweep.ensures ∙ c.new-3.ensures.events;
+      next = ap (λ (s : SweepData). s.next) c.in_ok-sweep.ensures;
+      searched = c.in_ok-search.ensures trace.trace.now c.args.flags.now (λ e x of_e. (variable_sized trace.events.now trace.sizes e x trace.within (subst (λ (l : List Event). variable_at l e ≡ Some x) (sym trace.of_trace) of_e)).1);
+    }
+
+pub step-requires-clause-settled : goal.step-requires-clause-settled
+step-requires-clause-settled c = rw c.new-ordered.ensures.trace (subst (λ (l : List Event). AreOpen l c.args.flags.now) c.args.trace.now.of_trace c.requires.settled)
+
+pub returns : goal.returns
+returns c =
+    let trace = c.args.trace.now in
+    let kept = c.loop-e.search in
+    let all : c.loop-e.e ≡ length trace.events.now = omega arith in
+    let same = ap length trace.of_trace in
+    subst (λ (l : List Pair). Covers trace.trace.now l) (sym c.into_races.ensures)
+    (searched_all trace.trace.now c.args.flags.now kept.sites kept.notes kept.found c.loop-e.e (omega (arith, all, same)) c.loop-e.invariant.searched)

@@ -1,0 +1,23 @@
+-- Lists in flat tables: each entry has the number of the next one, which is smaller, or the list ends.
+use Rattle.std.specs.Prelude.{◌≡◌, ℕ, ◌<◌, List, Some, slice_get}
+use Rattle.shb_places.specs.declared.notes.Class.{Class}
+use Rattle.shb_places.specs.declared.notes.Link.{Link}
+use Rattle.shb_places.specs.declared.sites.Site.{Site}
+
+-- the number of no entry
+abbrev pub none : ℕ
+none = 4294967295
+
+-- entry k is in the list that begins at an entry
+pub data Reaches {T : Type 0} (next : T → ℕ) (entries : List T) (k : ℕ) : ℕ → Type 0 where
+  here : {p : ℕ} → p ≡ k → Reaches next entries k p
+  further : {p : ℕ} (entry : T) → slice_get entries p ≡ Some entry → next entry < p → Reaches next entries k (next entry) → Reaches next entries k p
+
+abbrev pub class_next : Class → ℕ
+class_next class = class.next
+
+abbrev pub link_previous : Link → ℕ
+link_previous link = link.previous
+
+abbrev pub site_previous : Site → ℕ
+site_previous site = site.previous

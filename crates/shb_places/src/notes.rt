@@ -1,0 +1,339 @@
+//! The accesses so far, by site, thread and kind.
+
+ghost use Rattle.std.specs.Prelude.{◌≡◌, ◌≢◌, ◌⊎◌, ◌↔◌, ◌∷◌, [], ◌++◌, ◌+◌, ℕ, ◌<◌, ◌≤◌, true, IfOk, IfSome, IsTrue, List, OnOk, Some, length, slice_get};
+ghost use Rattle.shb_lines.specs.events.Discipline.{local_time};
+ghost use Rattle.shb_lines.specs.events.Events.{thread_at};
+ghost use Rattle.shb_lines.specs.events.Race.{Race};
+ghost use Rattle.shb_lines.specs.text.TraceData.{TraceData};
+ghost use Rattle.shb_report.specs.Places.{location_at};
+ghost use Rattle.shb_places.specs.Access.{IsAccess};
+ghost use Rattle.shb_places.specs.Lists.{Reaches, class_next, none};
+ghost use Rattle.shb_places.specs.Notes.{AreKept, AreLinked, InChain, IsAddable, IsAdded, IsBegun, IsClassOf, IsEarliestAt, IsEarliestIn, IsExtended, IsNotedAt, tables_of};
+ghost use Rattle.shb_places.specs.declared.sites.Site.{Site};
+ghost use Rattle.shb_places.specs.declared.notes.Newest.{Newest};
+
+use crate::hints::{Hints, MOST_TRIED};
+use crate::numbers::{NONE, mixed, next_number};
+use shb_clocks::{Order, Ordered};
+use shb_io::NoMemory;
+use std::alloc::Global;
+
+/// So many of the newest classes of a site are looked at before the hints.
+const NEAR: u32 = 8;
+
+/// The accesses of a site by one thread, of one kind; and the number of the class of the site before it.
+#[derive(Clone, Copy)]
+pub struct Class {
+    pub site: u32,
+    pub thread: u32,
+    pub writes: bool,
+    pub next: u32,
+}
+
+/// The newest access of a class: the number of its link, and its local time.
+#[derive(Clone, Copy)]
+pub struct Newest {
+    pub link: u32,
+    pub local: u32,
+}
+
+/// An access, and the number of the link of the access before it in its class.
+#[derive(Clone, Copy)]
+pub struct Link {
+    pub event: u32,
+    pub previous: u32,
+}
+
+/// The accesses so far: for each site its newest class, for each class its newest link.
+#[derive(Drop)]
+pub struct Notes {
+    pub heads: Vec<u32>,
+    pub classes: Vec<Class>,
+    pub newest: Vec<Newest>,
+    pub links: Vec<Link>,
+    pub hints: Hints,
+}
+
+/// An access of an open variable: the event, its thread, its variable, the number of its location, and
+/// whether it writes.
+#[derive(Clone, Copy)]
+pub struct Access {
+    pub event: u32,
+    pub thread: u32,
+    pub variable: u32,
+    pub location: u32,
+    pub writes: bool,
+}
+
+/// Whether the class of this number is that of an access at a site.
+fn is_class(classes: &[Class], c: u32, s: u32, access: Access) -> bool
+    ensures { IsTrue result → IsClassOf classes.now s access c }
+{
+    match classes.get(c as usize) {
+        Some(class) => {
+            class.site == s && class.thread == access.thread && class.writes == access.writes
+        }
+        None => false,
+    }
+}
+
+/// The hash of the class of an access at a site.
+fn hash_of(s: u32, access: Access) -> u32 {
+    mixed(s, mixed(access.thread, u32::from(access.writes)))
+}
+
+/// Adds a link before which the link `previous` stands.
+fn add_link(links: &mut Vec<Link>, event: u32, previous: u32) -> Result<u32, NoMemory>
+    ensures number { IfOk result (λ k. (k ≡ length links.old.items) × (k < none)) }
+    ensures pushed { OnOk result (links.new.items ≡ links.old.items ++ record { event = event; previous = previous } ∷ []) }
+{
+    let k = next_number(links.len())?;
+    links.push(Link { event, previous })?;
+    Ok(k)
+}
+
+/// Sees that a site has a newest class, or `NONE`.
+fn make_room(heads: &mut Vec<u32>, s: u32) -> Result<(), NoMemory>
+    ensures more { OnOk result ((more : List ℕ) × (heads.new.items ≡ heads.old.items ++ more)) }
+    ensures room { OnOk result (s < length heads.new.items) }
+{
+    for _ in heads.len()..s as usize + 1 {
+        heads.push(NONE)?;
+    }
+    Ok(())
+}
+
+/// The earliest of the accesses from a link back whose local times are above a bound, or `NONE`.
+fn earliest_from<O: Order>(ordered: &Ordered<'_, O>, links: &[Link], newest: u32, bound: u32) -> u32
+    requires in_range { (k : ℕ) (link : Link) → slice_get links.now k ≡ Some link → link.event < length ordered.now.trace.now.trace.now.events }
+    ensures least { (n t : ℕ) (e : ℕ) → AreLinked ordered.now.trace.now.trace.now links.now n → InChain links.now newest e
+        → thread_at ordered.now.trace.now.trace.now.events e ≡ Some t → bound < local_time ordered.now.trace.now.trace.now.events t e → result ≤ e }
+    ensures chain { result ≢ none → InChain links.now newest result }
+    ensures above { (t : ℕ) → result ≢ none → thread_at ordered.now.trace.now.trace.now.events result ≡ Some t → bound < local_time ordered.now.trace.now.trace.now.events t result }
+{
+    let mut earliest = NONE;
+    let mut at = newest;
+    loop {
+        let Some(link) = links.get(at as usize) else {
+            return earliest;
+        };
+        if ordered.links.local(link.event) <= bound {
+            return earliest;
+        }
+        earliest = link.event;
+        if link.previous >= at {
+            return earliest;
+        }
+        at = link.previous;
+    }
+}
+
+/// The lesser of two numbers.
+fn lesser(first: u32, second: u32) -> u32
+    ensures first { result ≤ first }
+    ensures second { result ≤ second }
+    ensures one { (result ≡ first) ⊎ (result ≡ second) }
+{
+    if first <= second { first } else { second }
+}
+
+/// Whether accesses of a class can race with an access: of another thread, and one of the two writes.
+fn can_race(class: Class, access: Access) -> bool
+    ensures { IsTrue result ↔ ((class.thread ≢ access.thread) × ((class.writes ≡ true) ⊎ (access.writes ≡ true))) }
+{
+    class.thread != access.thread && (class.writes || access.writes)
+}
+
+impl Notes {
+    /// No accesses.
+    pub fn new(alloc: Global) -> Notes
+        ensures { tables_of result ≡ record { heads = []; classes = []; newest = []; links = [] } }
+    {
+        Notes {
+            heads: Vec::new(alloc),
+            classes: Vec::new(alloc),
+            newest: Vec::new(alloc),
+            links: Vec::new(alloc),
+            hints: Hints::new(alloc),
+        }
+    }
+
+    /// The number of the newest class of a site, or `NONE`.
+    fn head_of(&self, s: u32) -> u32
+        ensures { (head : ℕ) → slice_get self.now.heads.items s ≡ Some head → result ≡ head }
+    {
+        match self.heads.get(s as usize) {
+            Some(head) => *head,
+            None => NONE,
+        }
+    }
+
+    /// The number of the class of the same site before a class, or `NONE`.
+    fn next_of(&self, c: u32) -> u32 {
+        match self.classes.get(c as usize) {
+            Some(class) => class.next,
+            None => NONE,
+        }
+    }
+
+    /// The class of an access at a site among the newest ones of the site.
+    fn near(&self, s: u32, access: Access) -> Option<u32>
+        ensures { IfSome result (IsClassOf self.now.classes.items s access) }
+    {
+        let mut at = self.head_of(s);
+        for _ in 0..NEAR {
+            if is_class(self.classes.as_slice(), at, s, access) {
+                return Some(at);
+            }
+            at = self.next_of(at);
+        }
+        None
+    }
+
+    /// Whether a site has more classes than are looked at before the hints.
+    fn has_many(&self, s: u32) -> bool {
+        let mut at = self.head_of(s);
+        for _ in 0..NEAR {
+            at = self.next_of(at);
+        }
+        at != NONE
+    }
+
+    /// The class of an access at a site that was noted under a hash.
+    fn noted(&self, s: u32, access: Access) -> Option<u32>
+        ensures { IfSome result (IsClassOf self.now.classes.items s access) }
+    {
+        let hash = hash_of(s, access);
+        for k in 0..MOST_TRIED {
+            let Some(c) = self.hints.candidate(hash, k) else {
+                return None;
+            };
+            if is_class(self.classes.as_slice(), c, s, access) {
+                return Some(c);
+            }
+        }
+        None
+    }
+
+    /// The class of an access at a site, if it is known.
+    fn class_of(&self, s: u32, access: Access) -> Option<u32>
+        ensures { IfSome result (IsClassOf self.now.classes.items s access) }
+    {
+        match self.near(s, access) {
+            Some(c) => Some(c),
+            None => self.noted(s, access),
+        }
+    }
+
+    /// Adds an access to a class.
+    fn extend(&mut self, c: u32, event: u32, local: u32) -> Result<(), NoMemory>
+        requires { c < length self.old.newest.items }
+        ensures { OnOk result ((newest : Newest) × IsExtended (tables_of self.old) (tables_of self.new) c newest event local) }
+    {
+        let newest = self.newest[c as usize];
+        let link = add_link(&mut self.links, event, newest.link)?;
+        self.newest[c as usize] = Newest { link, local };
+        Ok(())
+    }
+
+    /// Adds an access as the first of a new class.
+    fn begin(&mut self, s: u32, access: Access, local: u32) -> Result<u32, NoMemory>
+        requires { s < length self.old.heads.items }
+        ensures { IfOk result (λ c. (head : ℕ) × IsBegun (tables_of self.old) (tables_of self.new) s head
+            (record { site = s; thread = access.thread; writes = access.writes; next = head }) access.event local) }
+    {
+        let c = next_number(self.classes.len())?;
+        let next = self.heads[s as usize];
+        let link = add_link(&mut self.links, access.event, NONE)?;
+        self.newest.push(Newest { link, local })?;
+        self.classes.push(Class {
+            site: s,
+            thread: access.thread,
+            writes: access.writes,
+            next,
+        })?;
+        self.heads[s as usize] = c;
+        Ok(c)
+    }
+
+    /// Adds an access at a site to its class, or as the first of a new one.
+    fn put(&mut self, alloc: Global, s: u32, access: Access, local: u32) -> Result<(), NoMemory>
+        requires room { s < length self.old.heads.items }
+        requires as_many { length self.old.newest.items ≡ length self.old.classes.items }
+        ensures { (trace : TraceData) (sites : List Site) → IsAddable trace sites (tables_of self.old) s access local
+            → OnOk result (IsAdded trace sites (tables_of self.old) (tables_of self.new) s access.event) }
+    {
+        if let Some(c) = self.class_of(s, access) {
+            return self.extend(c, access.event, local);
+        }
+        let many = self.has_many(s);
+        let c = self.begin(s, access, local)?;
+        if many {
+            self.hints.insert(alloc, hash_of(s, access), c)?;
+        }
+        Ok(())
+    }
+
+    /// Adds an access at a site.
+    ///
+    /// # Errors
+    ///
+    /// `NoMemory` where a growth was refused.
+    pub fn add(&mut self, alloc: Global, s: u32, access: Access, local: u32) -> Result<(), NoMemory>
+        requires as_many { length self.old.newest.items ≡ length self.old.classes.items }
+        ensures { (trace : TraceData) (sites : List Site) → IsAddable trace sites (tables_of self.old) s access local
+            → OnOk result (IsAdded trace sites (tables_of self.old) (tables_of self.new) s access.event) }
+    {
+        make_room(&mut self.heads, s)?;
+        self.put(alloc, s, access, local)
+    }
+
+    /// The access of a class of a site that races with an access, the earliest one, or `NONE`.
+    fn earliest_in<O: Order>(&self, ordered: &Ordered<'_, O>, s: u32, c: u32, access: Access) -> u32
+        requires access { IsAccess ordered.now.trace.now.trace.now access }
+        requires asked { O.asks ordered.now.order.now access.event ≡ true }
+        requires in_range { (k : ℕ) (link : Link) → slice_get self.now.links.items k ≡ Some link → link.event < length ordered.now.trace.now.trace.now.events }
+        ensures { (sites : List Site) → AreKept ordered.now.trace.now.trace.now sites (tables_of self.now) access.event
+            → IsEarliestIn ordered.now.trace.now.trace.now sites (tables_of self.now) s c access result }
+    {
+        let Some(class) = self.classes.get(c as usize) else {
+            return NONE;
+        };
+        let Some(newest) = self.newest.get(c as usize) else {
+            return NONE;
+        };
+        if class.site != s {
+            return NONE;
+        }
+        if !can_race(*class, access) {
+            return NONE;
+        }
+        let bound = ordered.order.below_pred(access.event, class.thread);
+        if newest.local <= bound {
+            return NONE;
+        }
+        earliest_from(ordered, self.links.as_slice(), newest.link, bound)
+    }
+
+    /// The earliest access at a site that races with an access, or `NONE`.
+    pub fn earliest_at<O: Order>(&self, ordered: &Ordered<'_, O>, s: u32, access: Access) -> u32
+        requires access { IsAccess ordered.now.trace.now.trace.now access }
+        requires asked { O.asks ordered.now.order.now access.event ≡ true }
+        requires in_range { (k : ℕ) (link : Link) → slice_get self.now.links.items k ≡ Some link → link.event < length ordered.now.trace.now.trace.now.events }
+        ensures { (sites : List Site) → AreKept ordered.now.trace.now.trace.now sites (tables_of self.now) access.event
+            → IsEarliestAt ordered.now.trace.now.trace.now sites (tables_of self.now) s access result }
+    {
+        let mut earliest = NONE;
+        let mut at = self.head_of(s);
+        loop {
+            let Some(class) = self.classes.get(at as usize) else {
+                return earliest;
+            };
+            earliest = lesser(earliest, self.earliest_in(ordered, s, at, access));
+            if class.next >= at {
+                return earliest;
+            }
+            at = class.next;
+        }
+    }
+}

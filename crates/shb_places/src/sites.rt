@@ -1,0 +1,156 @@
+//! Sites: the locations of each variable.
+
+ghost use Rattle.std.specs.Prelude.{◌≡◌, ◌<◌, ℕ, IfOk, IfSome, IsTrue, OnOk, List, [], Some, length, slice_get};
+ghost use Rattle.shb_places.specs.Sites.{AreMore, AreSites, IsSite};
+
+use crate::hints::{Hints, MOST_TRIED};
+use crate::numbers::{NONE, mixed, next_number};
+use shb_io::NoMemory;
+use std::alloc::Global;
+
+/// So many of the newest sites of a variable are looked at before the hints.
+const NEAR: u32 = 8;
+
+/// A variable, a location of accesses of it, and the number of the site of the variable before it.
+#[derive(Clone, Copy)]
+pub struct Site {
+    pub variable: u32,
+    pub location: u32,
+    pub previous: u32,
+}
+
+/// The sites, and the newest one of each variable.
+#[derive(Drop)]
+pub struct Sites {
+    pub newest: Vec<u32>,
+    pub sites: Vec<Site>,
+    pub hints: Hints,
+}
+
+/// Whether the site of this number is that of a variable and a location.
+fn is_site(sites: &[Site], s: u32, variable: u32, location: u32) -> bool
+    ensures { IsTrue result → IsSite sites.now variable location s }
+{
+    match sites.get(s as usize) {
+        Some(site) => site.variable == variable && site.location == location,
+        None => false,
+    }
+}
+
+impl Sites {
+    /// No sites of so many variables.
+    pub fn new(alloc: Global, variables: u32) -> Result<Sites, NoMemory>
+        ensures none { IfOk result (λ sites. sites.sites.items ≡ []) }
+        ensures as_many { IfOk result (λ sites. length sites.newest.items ≡ variables) }
+    {
+        let newest = vec![in alloc; NONE; variables as usize]?;
+        Ok(Sites {
+            newest,
+            sites: Vec::new(alloc),
+            hints: Hints::new(alloc),
+        })
+    }
+
+    /// The site of a variable and a location among the newest ones of the variable.
+    fn near(&self, variable: u32, location: u32) -> Option<u32>
+        ensures { IfSome result (IsSite self.now.sites.items variable location) }
+    {
+        let mut at = self.newest_of(variable);
+        for _ in 0..NEAR {
+            if is_site(self.sites.as_slice(), at, variable, location) {
+                return Some(at);
+            }
+            at = self.previous_of(at);
+        }
+        None
+    }
+
+    /// Whether a variable has more sites than are looked at before the hints.
+    fn has_many(&self, variable: u32) -> bool {
+        let mut at = self.newest_of(variable);
+        for _ in 0..NEAR {
+            at = self.previous_of(at);
+        }
+        at != NONE
+    }
+
+    /// The number of the newest site of a variable, or `NONE`.
+    pub fn newest_of(&self, variable: u32) -> u32
+        ensures { (head : ℕ) → slice_get self.now.newest.items variable ≡ Some head → result ≡ head }
+    {
+        match self.newest.get(variable as usize) {
+            Some(newest) => *newest,
+            None => NONE,
+        }
+    }
+
+    /// The number of the site of the same variable before a site, or `NONE`.
+    fn previous_of(&self, s: u32) -> u32 {
+        match self.sites.get(s as usize) {
+            Some(site) => site.previous,
+            None => NONE,
+        }
+    }
+
+    /// The site of a variable and a location that was noted under a hash.
+    fn noted(&self, variable: u32, location: u32) -> Option<u32>
+        ensures { IfSome result (IsSite self.now.sites.items variable location) }
+    {
+        for k in 0..MOST_TRIED {
+            let Some(s) = self.hints.candidate(mixed(variable, location), k) else {
+                return None;
+            };
+            if is_site(self.sites.as_slice(), s, variable, location) {
+                return Some(s);
+            }
+        }
+        None
+    }
+
+    /// A new site.
+    fn add(&mut self, variable: u32, location: u32) -> Result<u32, NoMemory>
+        requires { variable < length self.old.newest.items }
+        ensures site { IfOk result (IsSite self.new.sites.items variable location) }
+        ensures more { OnOk result (AreMore self.old.newest.items self.old.sites.items self.new.newest.items self.new.sites.items) }
+    {
+        let s = next_number(self.sites.len())?;
+        let previous = self.newest[variable as usize];
+        self.sites.push(Site {
+            variable,
+            location,
+            previous,
+        })?;
+        self.newest[variable as usize] = s;
+        Ok(s)
+    }
+
+    #[tactic(auto, using(crate::proofs::SiteLemmas::sites_same))]
+    /// The site of a variable and a location.
+    ///
+    /// # Errors
+    ///
+    /// `NoMemory` where a growth was refused.
+    pub fn number_of(
+        &mut self,
+        alloc: Global,
+        variable: u32,
+        location: u32,
+    ) -> Result<u32, NoMemory>
+        requires { variable < length self.old.newest.items }
+        ensures site { IfOk result (IsSite self.new.sites.items variable location) }
+        ensures more { OnOk result (AreMore self.old.newest.items self.old.sites.items self.new.newest.items self.new.sites.items) }
+    {
+        if let Some(s) = self.near(variable, location) {
+            return Ok(s);
+        }
+        if !self.has_many(variable) {
+            return self.add(variable, location);
+        }
+        if let Some(s) = self.noted(variable, location) {
+            return Ok(s);
+        }
+        let s = self.add(variable, location)?;
+        self.hints.insert(alloc, mixed(variable, location), s)?;
+        Ok(s)
+    }
+}

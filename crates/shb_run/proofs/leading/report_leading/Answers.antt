@@ -1,0 +1,20 @@
+use Rattle.std.proofs.Common.{◌≡◌, List, All, map, subst, sym, ◌∙◌}
+use Rattle.shb_lines.specs.declared.event.Event.{Event}
+use Rattle.shb_lines.specs.declared.event.Pair.{Pair}
+use Rattle.shb_lines.specs.events.Race.{Race, ends}
+use Rattle.shb_report.specs.Report.{LeadingRaces}
+use Rattle.shb_run.specs.declared.settings.Choice.TheVariants as choices
+use Rattle.shb_run.proofs.Reports.{races_listed}
+use Rattle.shb_run.proofs.leading.report_leading.Goals as goal
+
+pub leading_races-requires-clause-settled : goal.leading_races-requires-clause-settled
+leading_races-requires-clause-settled g c = rw c.deref.ensures.value c.in_ok-flags.ensures
+
+pub order_of_races-requires : goal.order_of_races-requires
+order_of_races-requires g c =
+    let trace = c.args.trace.now in
+    let lists = subst (λ (races : List Pair). LeadingRaces trace.trace.now (map ends races)) (sym c.deref-2.ensures.value) c.in_ok-races.ensures in
+    record {
+      races = subst (λ (events : List Event). All (λ (p : Pair). Race events p.first p.second) c.deref-2.result.now) (sym c.new.ensures.events)
+          (races_listed choices.Leading trace.trace.now trace.events.now c.deref-2.result.now trace.of_trace lists);
+    }

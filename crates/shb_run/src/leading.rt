@@ -1,0 +1,85 @@
+//! The report of the leading races of a trace: of each place the first race.
+ghost use Rattle.std.specs.Prelude.{◌≡◌, ◌⊎◌, ◌-◌, ◌^◌, ◌<◌, IfOk, map};
+ghost use Rattle.shb_lines.specs.events.Race.{ends};
+ghost use Rattle.shb_report.specs.Report.{LeadingRaces};
+ghost use Rattle.shb_run.specs.Runs.{FitsU64};
+ghost use Rattle.shb_run.specs.Written.{ReportsTrace};
+ghost use Rattle.shb_witness.specs.Schedules.{AsksEach};
+ghost use Rattle.shb_write.specs.Written.{CutsBlocksOn, CutsReportOn, IsSinkCounted, OnFailedSink, OnNoMemory};
+
+use crate::pipeline::{links_for, summary_of};
+use crate::settings::{Settings, Summary};
+use shb_clocks::{Order, Ordered};
+use shb_discipline::Disciplined;
+use shb_fan::Gate;
+use shb_io::Sink;
+use shb_lines::Pair;
+use shb_links::Linked;
+use shb_pairs::open_variables;
+use shb_places::leading_races;
+use shb_witness::order_of_races;
+use shb_write::{BlockPlan, WriteError, write_report};
+use std::alloc::Global;
+use std::random::RandomSource;
+use std::sync::Wait;
+use std::thread::Threads;
+
+/// Writes the report of the leading races of a trace, which are known.
+fn write_leading<R: Threads + Wait + Sync + RandomSource, K: Sink, O: Order + Sync, G: Gate + Sync>(
+    rt: &R,
+    alloc: Global,
+    sink: &mut K,
+    ordered: &Ordered<'_, O>,
+    races: &[Pair],
+    plan: &BlockPlan<'_, G>,
+) -> Result<Summary, WriteError>
+    requires countable { K.failure_count sink.old < 2 ^ 64 - 1 }
+    requires listed { LeadingRaces ordered.now.trace.now.trace.now (map ends races.now) }
+    requires asked { AsksEach (O.asks ordered.now.order.now) races.now }
+    ensures report { IfOk result (λ summary. ReportsTrace LeadingRaces plan.now.schedules ordered.now.trace.now.trace.now summary
+        (K.taken sink.old) (K.taken sink.new)) }
+    ensures fits { IfOk result FitsU64 }
+    ensures cut { OnFailedSink result (CutsReportOn LeadingRaces plan.now.schedules ordered.now.trace.now.trace.now
+        (K.taken sink.old) (K.taken sink.new)) }
+    ensures memory { OnNoMemory result ((sink.new ≡ sink.old)
+        ⊎ CutsBlocksOn LeadingRaces plan.now.schedules ordered.now.trace.now.trace.now
+        (K.taken sink.old) (K.taken sink.new)) }
+    ensures counted { IsSinkCounted (K.failure_count sink.old) (K.failure_count sink.new) result }
+{
+    write_report(rt, alloc, sink, ordered, races, plan)?;
+    Ok(summary_of(ordered.trace.trace, races.len() as u64))
+}
+
+/// Finds the leading races of a trace, and writes their report. No list of all races is made, and
+/// schedules go by an order that can be asked about the events of the leading races alone.
+pub(crate) fn report_leading<R: Threads + Wait + Sync + RandomSource, K: Sink, W: Gate + Sync>(
+    rt: &R,
+    alloc: Global,
+    sink: &mut K,
+    trace: &Disciplined<'_>,
+    settings: Settings,
+    gate: &W,
+) -> Result<Summary, WriteError>
+    requires countable { K.failure_count sink.old < 2 ^ 64 - 1 }
+    ensures report { IfOk result (λ summary. ReportsTrace LeadingRaces settings.schedules trace.now.trace.now summary
+        (K.taken sink.old) (K.taken sink.new)) }
+    ensures fits { IfOk result FitsU64 }
+    ensures cut { OnFailedSink result (CutsReportOn LeadingRaces settings.schedules trace.now.trace.now
+        (K.taken sink.old) (K.taken sink.new)) }
+    ensures memory { OnNoMemory result ((sink.new ≡ sink.old)
+        ⊎ CutsBlocksOn LeadingRaces settings.schedules trace.now.trace.now
+        (K.taken sink.old) (K.taken sink.new)) }
+    ensures counted { IsSinkCounted (K.failure_count sink.old) (K.failure_count sink.new) result }
+{
+    let links = links_for(alloc, &*trace, settings.schedules)?;
+    let flags = open_variables(alloc, &*trace, &links)?;
+    let races = leading_races(rt, alloc, &*trace, &links, &flags)?;
+    let order = order_of_races(alloc, Linked::new(&*trace, &links), &races)?;
+    let ordered = Ordered::new(&order, &*trace, &links);
+    let plan = BlockPlan {
+        schedules: settings.schedules,
+        workers: settings.workers,
+        gate,
+    };
+    write_leading(rt, alloc, sink, &ordered, &races, &plan)
+}

@@ -1,0 +1,90 @@
+-- What is counted and written where the races of a search come piece by piece.
+use Rattle.std.specs.Prelude.{◌≡◌, ◌⊎◌, ℕ, ◌+◌, ◌-◌, ◌^◌, ◌<◌, ◌≤◌, List, [], ◌∷◌, ◌++◌, All, length, map, Option, None, IfSome}
+use Rattle.std.specs.Io.KnownBytes.{Appends}
+use Rattle.shb_fan.specs.Values.{values_of}
+use Rattle.shb_lines.specs.declared.event.Pair.{Pair}
+use Rattle.shb_lines.specs.events.Race.{ends}
+use Rattle.shb_lines.specs.text.TraceData.{TraceData}
+use Rattle.shb_clocks.specs.Open.{OpenTrace}
+use Rattle.shb_pairs.specs.Pieces.{pieces_in}
+use Rattle.shb_pairs.specs.Races.{joined, races_at}
+use Rattle.shb_report.specs.Places.{IsPairOf, IsPlaceOf, counts_in, places_after, places_of_pairs}
+use Rattle.shb_report.specs.Report.{ShownRace, blocks_from, pair_of}
+use Rattle.shb_write.specs.declared.counted.Counted.{Counted}
+use Rattle.shb_write.specs.declared.errors.WriteError.{WriteError}
+use Rattle.shb_write.specs.declared.errors.WriteError.TheVariants.{Sink, Memory}
+use Rattle.shb_write.specs.declared.race_counter.RaceCounter.{RaceCounter}
+use Rattle.shb_write.specs.declared.race_lister.RaceLister.{RaceLister}
+use Rattle.shb_write.specs.Written.{AppendsFront}
+
+-- the races that a search finds: those of all its pieces, in order
+abbrev pub races_found : OpenTrace → List (ℕ × ℕ)
+races_found search = joined (values_of (races_at search) (length (pieces_in search)))
+
+-- both events of the race are events of the trace
+abbrev pub IsRaceOf : TraceData → ℕ × ℕ → Type 0
+IsRaceOf trace race = (race.0 < length trace.events) × (race.1 < length trace.events)
+
+-- the blocks of these races without schedules, the first of which has this number
+abbrev pub shown_alone : ℕ × ℕ → ShownRace
+shown_alone race = record { pair = race; schedule = None }
+
+abbrev pub listed_blocks : TraceData → ℕ → List (ℕ × ℕ) → List ℕ
+listed_blocks trace number races = blocks_from trace number (map shown_alone races)
+
+-- the races of a piece, as pairs
+abbrev pub pairs_in : List (List (ℕ × ℕ)) → List Pair
+pairs_in races = map pair_of (joined races)
+
+-- so many and those
+abbrev pub count_after : ℕ → List Pair → ℕ
+count_after n [] = n
+count_after n (pair ∷ pairs) = count_after (n + 1) pairs
+
+-- these races were counted, and kept where there are few in all
+pub record HasCounted (start : RaceCounter) (pairs : List Pair) (end : RaceCounter) : Type 0 where
+  pub same_trace : end.trace.now ≡ start.trace.now
+  pub same_most : end.most_kept ≡ start.most_kept
+  pub races : end.races ≡ count_after start.races pairs
+  pub places : end.places ≡ places_after start.trace.now start.places pairs
+  pub kept : end.races ≤ end.most_kept → end.kept.items ≡ start.kept.items ++ pairs
+
+-- nothing is counted yet, and the next races are of the trace
+pub record MayCount (start : RaceCounter) (next : List Pair) : Type 0 where
+  pub no_races : start.races ≡ 0
+  pub no_places : start.places ≡ []
+  pub in_range : All (IsPairOf start.trace.now) next
+
+-- how many races there are, their places, and the races themselves where they were kept
+pub record IsCountOf (trace : TraceData) (races : List (ℕ × ℕ)) (counted : Counted) : Type 0 where
+  pub count : counted.races ≡ length races
+  pub few : length races < 2 ^ 64
+  pub places_are : counted.places ≡ counts_in (places_of_pairs trace (map pair_of races))
+  pub in_range : All (IsPlaceOf trace) counted.places
+  pub kept_are : IfSome counted.kept (λ kept. map ends kept.items ≡ races)
+
+-- the next races are of the trace, their numbers have 64 bits, and the sink can count a failure
+pub record MayList {K : Type 0} (failures : K → ℕ) (start : RaceLister K) (pairs next : List Pair) : Type 0 where
+  pub room : count_after start.written pairs + length next < 2 ^ 64
+  pub countable : failures start.sink.now < 2 ^ 64 - 1
+  pub in_range : All (IsPairOf start.trace.now) next
+
+-- how often the sink failed, of an error
+abbrev pub failures_after : WriteError → ℕ → ℕ
+failures_after Sink n = n + 1
+failures_after Memory n = n
+
+module _ {K : Type 0} (taken : K → Option (List ℕ)) (failures : K → ℕ) where
+  -- the blocks of these races were written, and nothing else changed
+  pub record HasListed (start : RaceLister K) (pairs : List Pair) (end : RaceLister K) : Type 0 where
+    pub same_sink : end.sink.ghost_name ≡ start.sink.ghost_name
+    pub same_trace : end.trace.now ≡ start.trace.now
+    pub as_many : end.written ≡ count_after start.written pairs
+    pub appended : Appends (taken start.sink.now) (taken end.sink.now) (listed_blocks start.trace.now (start.written + 1) (map ends pairs))
+    pub counted : failures end.sink.now ≡ failures start.sink.now
+
+  -- the front of the blocks of these races was written
+  pub record HasFailedListing (start : RaceLister K) (pairs : List Pair) (error : WriteError) (end : RaceLister K) : Type 0 where
+    pub same_sink : end.sink.ghost_name ≡ start.sink.ghost_name
+    pub front : AppendsFront (taken start.sink.now) (taken end.sink.now) (listed_blocks start.trace.now (start.written + 1) (map ends pairs))
+    pub counted : failures end.sink.now ≡ failures_after error (failures start.sink.now)

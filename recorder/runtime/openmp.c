@@ -1,0 +1,264 @@
+/* gcc's OpenMP. Its library hands over by system calls that nobody sees; so what orders threads is told here, at the calls
+   that the compiler makes into it: a region's begin and end, barriers, critical and ordered sections, locks and tasks. */
+#include <stdbool.h>
+#include <stdint.h>
+#include <stdlib.h>
+#include <string.h>
+#include <sys/syscall.h>
+#include <unistd.h>
+#include "runtime.h"
+
+typedef char object[16];               /* its address is what it is known by */
+typedef void (*function)(void *);
+typedef struct team { object begin, end, barrier, ordered, tasks, depend; function function; void *data; uint64_t caller; } team;
+typedef struct task {
+    _Atomic int users;                 /* itself while it runs, and each child */
+    struct task *parent;
+    team *team;
+    function function;
+    void *data;
+    int depends;
+    uint64_t caller;
+    object begin, children;
+} task;
+
+static __thread task *now;             /* the task that this thread is in; of a region a task for each thread */
+
+static void leave_task(task *t) {
+    while (t && atomic_fetch_sub(&t->users, 1) == 1) {
+        task *parent = t->parent;
+        free(t);
+        t = parent;
+    }
+}
+
+/* ---- regions ---- */
+static void run_region(void *team_) {
+    team *m = team_;
+    task *before = now, *own = calloc(1, sizeof *own);
+    if (!own) abort();
+    own->users = 1;
+    own->team = m;
+    now = own;
+    note(OP_WAIT, m->begin, m->caller);
+    m->function(m->data);
+    note(OP_POST, m->end, m->caller);
+    now = before;
+    leave_task(own);
+    let_others_run();
+}
+
+static team *begin_region(function f, void *data, uint64_t caller) {
+    team *m = calloc(1, sizeof *m);
+    if (!m) abort();
+    m->function = f;
+    m->data = data;
+    m->caller = caller;
+    note(OP_POST, m->begin, caller);
+    let_others_run();
+    return m;
+}
+
+static void end_region(team *m) {
+    note(OP_WAIT, m->end, m->caller);
+    note(OP_WAIT, m->tasks, m->caller);
+    free(m);
+}
+
+#define REGION(type, name, parameters, arguments) \
+    PUBLIC type name parameters { \
+        team *m = begin_region(f, data, CALLER); \
+        type r = REAL(name) arguments; \
+        end_region(m); \
+        return r; \
+    }
+#define PLAIN_REGION(name, parameters, arguments) \
+    PUBLIC void name parameters { \
+        team *m = begin_region(f, data, CALLER); \
+        REAL(name) arguments; \
+        end_region(m); \
+    }
+#define LOOP(name) \
+    PLAIN_REGION(name, (function f, void *data, unsigned n, long a, long b, long i, long c, unsigned k), \
+                 (run_region, m, n, a, b, i, c, k))
+#define RUNTIME_LOOP(name) \
+    PLAIN_REGION(name, (function f, void *data, unsigned n, long a, long b, long i, unsigned k), (run_region, m, n, a, b, i, k))
+PLAIN_REGION(GOMP_parallel, (function f, void *data, unsigned n, unsigned k), (run_region, m, n, k))
+PLAIN_REGION(GOMP_parallel_sections, (function f, void *data, unsigned n, unsigned c, unsigned k), (run_region, m, n, c, k))
+REGION(unsigned, GOMP_parallel_reductions, (function f, void *data, unsigned n, unsigned k), (run_region, m, n, k))
+LOOP(GOMP_parallel_loop_static)
+LOOP(GOMP_parallel_loop_dynamic)
+LOOP(GOMP_parallel_loop_guided)
+LOOP(GOMP_parallel_loop_nonmonotonic_dynamic)
+LOOP(GOMP_parallel_loop_nonmonotonic_guided)
+RUNTIME_LOOP(GOMP_parallel_loop_runtime)
+RUNTIME_LOOP(GOMP_parallel_loop_nonmonotonic_runtime)
+RUNTIME_LOOP(GOMP_parallel_loop_maybe_nonmonotonic_runtime)
+
+/* ---- barriers: by themselves, and at the ends of loops and sections; all tasks are done behind them ---- */
+static void arrive(uint64_t caller) {
+    if (now) note(OP_ARRIVE, now->team->barrier, caller);
+    let_others_run();
+}
+
+static void depart(uint64_t caller) {
+    if (!now) return;
+    note(OP_DEPART, now->team->barrier, caller);
+    note(OP_WAIT, now->team->tasks, caller);
+}
+
+#define BARRIER(name) \
+    PUBLIC void name(void) { \
+        arrive(CALLER); \
+        REAL(name)(); \
+        depart(CALLER); \
+    }
+#define CANCEL_BARRIER(name) \
+    PUBLIC bool name(void) { \
+        arrive(CALLER); \
+        bool r = REAL(name)(); \
+        depart(CALLER); \
+        return r; \
+    }
+BARRIER(GOMP_barrier)
+BARRIER(GOMP_loop_end)
+BARRIER(GOMP_sections_end)
+CANCEL_BARRIER(GOMP_barrier_cancel)
+CANCEL_BARRIER(GOMP_loop_end_cancel)
+CANCEL_BARRIER(GOMP_sections_end_cancel)
+
+/* The thread that gets null does the work and gives its data to the others, which wait. */
+PUBLIC void *GOMP_single_copy_start(void) {
+    arrive(CALLER);
+    void *r = REAL(GOMP_single_copy_start)();
+    if (r) depart(CALLER);
+    return r;
+}
+PUBLIC void GOMP_single_copy_end(void *data) {
+    arrive(CALLER);
+    REAL(GOMP_single_copy_end)(data);
+    depart(CALLER);
+}
+
+/* ---- locks ---- */
+static object critical, atomic;
+
+static void note_lock(enum operation operation, void *lock, uint64_t caller) {
+    if (lock) note(operation, lock, caller);
+}
+
+#define TAKES_LOCK(name, parameters, arguments, lock) \
+    PUBLIC void name parameters { \
+        let_others_run(); \
+        REAL(name) arguments; \
+        note_lock(OP_LOCK, lock, CALLER); \
+    }
+#define GIVES_LOCK(name, parameters, arguments, lock) \
+    PUBLIC void name parameters { \
+        note_lock(OP_UNLOCK, lock, CALLER); \
+        REAL(name) arguments; \
+    }
+#define TESTS_LOCK(name) \
+    PUBLIC int name(void *lock) { \
+        int r = REAL(name)(lock); \
+        if (r) note(OP_LOCK, lock, CALLER); \
+        else let_others_run(); \
+        return r; \
+    }
+#define ORDERED (now ? (void *)now->team->ordered : 0)
+TAKES_LOCK(GOMP_critical_start, (void), (), critical)
+GIVES_LOCK(GOMP_critical_end, (void), (), critical)
+TAKES_LOCK(GOMP_critical_name_start, (void **lock), (lock), lock)
+GIVES_LOCK(GOMP_critical_name_end, (void **lock), (lock), lock)
+TAKES_LOCK(GOMP_atomic_start, (void), (), atomic)
+GIVES_LOCK(GOMP_atomic_end, (void), (), atomic)
+TAKES_LOCK(GOMP_ordered_start, (void), (), ORDERED)
+GIVES_LOCK(GOMP_ordered_end, (void), (), ORDERED)
+TAKES_LOCK(omp_set_lock, (void *lock), (lock), lock)
+GIVES_LOCK(omp_unset_lock, (void *lock), (lock), lock)
+TESTS_LOCK(omp_test_lock)
+TAKES_LOCK(omp_set_nest_lock, (void *lock), (lock), lock)
+GIVES_LOCK(omp_unset_nest_lock, (void *lock), (lock), lock)
+TESTS_LOCK(omp_test_nest_lock)
+
+/* ---- tasks: a task comes after its creation, and before what waits for it ---- */
+enum { TASK_DEPENDS = 8 };             /* in its flags */
+
+static void run_task(void *task_) {
+    task *t = *(task **)task_, *before = now;
+    now = t;
+    note(OP_WAIT, t->begin, t->caller);
+    if (t->depends) note(OP_WAIT, t->team->depend, t->caller);
+    t->function(t->data);
+    note(OP_POST, t->parent->children, t->caller);
+    note(OP_POST, t->team->tasks, t->caller);
+    if (t->depends) note(OP_POST, t->team->depend, t->caller);
+    now = before;
+    leave_task(t);
+}
+
+/* The task with its data behind it, as the library would copy it. */
+static task *new_task(function f, void *data, void (*copy)(void *, void *), long size, long align) {
+    task *t = calloc(1, sizeof *t + size + align);
+    if (!t) abort();
+    t->data = (void *)(((uintptr_t)(t + 1) + align - 1) / align * align);
+    if (copy) copy(t->data, data);
+    else memcpy(t->data, data, size);
+    t->users = 1;
+    t->parent = now;
+    atomic_fetch_add(&now->users, 1);
+    t->team = now->team;
+    t->function = f;
+    return t;
+}
+
+PUBLIC void GOMP_task(function f, void *data, void (*copy)(void *, void *), long size, long align, bool deferred, unsigned flags,
+                      void **depend, int priority, void *detach) {
+    if (!now) {                        /* outside a region it runs at once */
+        REAL(GOMP_task)(f, data, copy, size, align, deferred, flags, depend, priority, detach);
+        return;
+    }
+    task *t = new_task(f, data, copy, size, align > 0 ? align : 1);
+    t->caller = CALLER;
+    t->depends = (flags & TASK_DEPENDS) != 0;
+    note(OP_POST, t->begin, CALLER);
+    let_others_run();
+    REAL(GOMP_task)(run_task, &t, 0, sizeof t, sizeof t, deferred, flags, depend, priority, detach);
+}
+
+PUBLIC void GOMP_taskwait(void) {
+    let_others_run();
+    REAL(GOMP_taskwait)();
+    if (now) note(OP_WAIT, now->children, CALLER);
+}
+
+PUBLIC void GOMP_taskwait_depend(void **depend) {
+    let_others_run();
+    REAL(GOMP_taskwait_depend)(depend);
+    if (now) note(OP_WAIT, now->children, CALLER);
+}
+
+PUBLIC void GOMP_taskgroup_end(void) {
+    let_others_run();
+    REAL(GOMP_taskgroup_end)();
+    if (now) note(OP_WAIT, now->team->tasks, CALLER);
+}
+
+/* ---- what isn't seen: said once ---- */
+static void tell(const char *what) {
+    static _Atomic int told;
+    if (!recording || atomic_exchange(&told, 1)) return;
+    const char *texts[] = {"shb recorder: the program uses OpenMP's ", what, ", whose order isn't seen: false races are possible\n"};
+    for (int i = 0; i < 3; i++) syscall(SYS_write, 2, texts[i], strlen(texts[i]));
+}
+
+typedef void (*copy_function)(void *, void *);
+PUBLIC void GOMP_taskloop(function f, void *data, copy_function copy, long size, long align, unsigned flags, unsigned long n,
+                          int priority, long from, long to, long step) {
+    tell("taskloop");
+    REAL(GOMP_taskloop)(f, data, copy, size, align, flags, n, priority, from, to, step);
+}
+PUBLIC void GOMP_doacross_post(long *counts) {
+    tell("doacross loops");
+    REAL(GOMP_doacross_post)(counts);
+}

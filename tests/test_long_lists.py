@@ -1,0 +1,105 @@
+"""Lists of more races than events, which the program searches for twice: more of them than fit into memory as pairs,
+pipes that break in the middle, and each request for memory and each device that fails on the way."""
+
+import os
+import resource
+import signal
+import subprocess
+
+import program
+import test_refusals
+
+FRONT = 1_000_000
+ROUNDS = 3_000
+
+
+def two_writers(rounds):
+    """One thread writes a variable so often, then another one does. Nothing orders the two, so each write of the second
+    races with each of the first."""
+    return b"T1|w(x)|a\n" * rounds + b"T2|w(x)|b\n" * rounds
+
+
+def head_of(rounds):
+    races = rounds * rounds
+    head = b"shb-report 2\nevents %d threads 2 locks 0 variables 1\nraces %d\n" % (2 * rounds, races)
+    return head + b"places 1\nplace 1: %d\nat a\nand b\n" % races
+
+
+def block(rounds, number):
+    """The block of the race with this number: by the later write, then by the earlier."""
+    second, first = divmod(number - 1, rounds)
+    events = b"race %d: %d %d\n" % (number, first + 1, rounds + second + 1)
+    return events + b"first T1|w(x)|a\nsecond T2|w(x)|b\n"
+
+
+def report_of(rounds):
+    return head_of(rounds) + b"".join(block(rounds, k) for k in range(1, rounds * rounds + 1)) + b"end\n"
+
+
+def front_of(rounds, length):
+    parts, number = [head_of(rounds)], 0
+    while sum(map(len, parts)) < length:
+        parts.append(b"".join(block(rounds, number + k) for k in range(1, 10_001)))
+        number += 10_000
+    return b"".join(parts)[:length]
+
+
+def at_most(room):
+    """How to run the program with so many bytes of memory."""
+    return {"preexec_fn": lambda: resource.setrlimit(resource.RLIMIT_AS, (room, room))}
+
+
+def written_at_most(size):
+    """How to run the program such that no file grows above so many bytes."""
+
+    def limit():
+        signal.signal(signal.SIGXFSZ, signal.SIG_IGN)
+        resource.setrlimit(resource.RLIMIT_FSIZE, (size, size))
+
+    return {"preexec_fn": limit}
+
+
+class LongLists(test_refusals.Refusing):
+    def test_whole_reports(self):
+        for rounds in (2, 3, 50, 200):
+            trace, report = self.file(two_writers(rounds)), report_of(rounds)
+            for workers in ("1", "4", "64"):
+                answer = program.run(["races", "--list", "--workers", workers, trace])
+                self.assertEqual((answer.status, answer.err), (0, b""))
+                self.assertTrue(answer.out == report, "the reports differ")
+
+    def test_more_races_than_fit_into_memory_as_pairs(self):
+        """A pair has 8 bytes. The reader goes away after the front, in the middle of the second search."""
+        room = 48 * 2**20
+        self.assertGreater(8 * ROUNDS * ROUNDS, room)
+        trace, wanted = self.file(two_writers(ROUNDS)), front_of(ROUNDS, FRONT)
+        for workers in ("1", "4"):
+            started = subprocess.Popen(
+                [program.PATH, "races", "--list", "--workers", workers, trace],
+                stdout=subprocess.PIPE,
+                stderr=subprocess.PIPE,
+                **at_most(room),
+            )
+            front = started.stdout.read(FRONT)
+            started.stdout.close()
+            said = started.stderr.read()
+            started.stderr.close()
+            self.assertTrue(front == wanted, "the fronts differ")
+            self.assertEqual((started.wait(program.SECONDS), said), (4, b"cannot write\n"))
+
+    def test_a_disk_that_fills_up(self):
+        """All that fits is written, and it is the front of the report."""
+        trace, report = self.file(two_writers(40)), report_of(40)
+        front = len(head_of(40))
+        for size in (0, 1, front - 1, front, front + 1, 60_000, len(report) - 5, len(report) - 1):
+            written = self.folder / "written"
+            with self.subTest(size), open(written, "wb") as out:
+                answer = program.run(["races", "--list", trace], stdout=out, **written_at_most(size))
+                self.assertEqual((answer.status, answer.err), (4, b"cannot write\n"))
+            self.assertTrue(written.read_bytes() == report[:size], "another front")
+
+    def test_memory(self):
+        """Each request of both searches is refused in turn. Six threads have fifteen races with twelve events."""
+        self.assertIn(b"\nraces 15\n", program.run(["races", "--list"], test_refusals.racing(6)).out)
+        for workers in ("1", "2"):
+            self.refuse_in_turn(["races", "--list", "--workers", workers], test_refusals.racing(6))
