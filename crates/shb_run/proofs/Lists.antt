@@ -1,5 +1,5 @@
 -- The races that a search of a trace finds are its race list.
-use Rattle.std.proofs.Common.{◌≡◌, ℕ, Bool, List, length, get_or, All, Option, Result, Ok, Err, IfOk, false, refl, sym, ap, subst, ◌∙◌}
+use Rattle.std.proofs.Common.{◌≡◌, ℕ, List, length, get_or, All, Option, false, refl, sym, ap, subst, ◌∙◌}
 use Rattle.std.proofs.lemmas.List.Elements.{Contains-get_or, All-from_get_or}
 use Rattle.shb_lines.specs.declared.event.Event.{Event}
 use Rattle.shb_lines.specs.events.Race.{IsRaceList, Race}

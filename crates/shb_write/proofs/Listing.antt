@@ -1,6 +1,6 @@
 -- Races that are counted and listed piece by piece.
 use Rattle.std.proofs.Common.{◌≡◌, ℕ, zero, suc, ◌+◌, ◌-◌, ◌^◌, ◌<◌, ◌≤◌, ◌⊎◌, inl, inr, false, List, [], ◌∷◌, ◌++◌, length, map, take, drop, get_or, All, Option, None, Some, Result, Ok, Err, IfOk, IfErr, OnOk, IsErrAnd, refl, sym, ap, subst, ◌∙◌, arith, append_assoc, append-nil, Vec, Global}
-use Rattle.std.specs.Prelude.{IfSome, MatchResult, flat_map}
+use Rattle.std.specs.Prelude.{IfSome, flat_map}
 use Rattle.std.specs.List.{AllByRecursion}
 use Rattle.std.proofs.lemmas.Bool.{cases_lt}
 use Rattle.std.proofs.lemmas.List.{map-append, length-map, length-append, length-take-le, take_all, take_more, take-append-drop}
@@ -9,16 +9,15 @@ use Rattle.std.proofs.lemmas.List.Concat.{flat_map-append}
 use Rattle.std.proofs.lemmas.List.Elements.{All-nil, All-map}
 use Rattle.std.proofs.lemmas.List.Sums.{fold-append}
 use Rattle.std.specs.Io.KnownBytes.{Appends}
-use Rattle.shb_io.specs.Devices.{AppendsPrefix, IsCounted, Writes}
-use Rattle.shb_io.proofs.Growth.{Appends-nil, Appends-trans, AppendsPrefix-after, AppendsPrefix-front, Writes-err}
+use Rattle.shb_io.specs.Devices.{AppendsPrefix}
+use Rattle.shb_io.proofs.Growth.{Appends-nil, Appends-trans, AppendsPrefix-after, AppendsPrefix-front}
 use Rattle.shb_fan.specs.Values.{values_of}
 use Rattle.shb_lines.specs.declared.event.Pair.{Pair}
 use Rattle.shb_lines.specs.events.Race.{ends}
 use Rattle.shb_lines.specs.text.TraceData.{TraceData}
 use Rattle.shb_pairs.specs.Races.{joined}
-use Rattle.shb_report.specs.declared.places.PlaceCount.{PlaceCount}
 use Rattle.shb_report.specs.Places.{IsPairOf, IsPlaceOf, PlaceOf, counts_in, location_at, places_after, places_of_pairs, with_pair}
-use Rattle.shb_report.specs.Report.{AreBlocks, HasSchedule, ShownRace, block_bytes, blocks_from, pair_of}
+use Rattle.shb_report.specs.Report.{AreBlocks, HasSchedule, ShownRace, block_bytes, pair_of}
 use Rattle.shb_report.proofs.PlaceLemmas.{places_after_few, places_in_range}
 use Rattle.shb_write.specs.declared.counted.Counted.{Counted}
 use Rattle.shb_write.specs.declared.errors.WriteError.{WriteError}

@@ -1,7 +1,6 @@
 -- What the writing of a report leaves in a sink.
 use Rattle.std.specs.Prelude.{◌≡◌, ℕ, ◌+◌, ◌<◌, ◌≤◌, Bool, List, length, take, Option, Result, Ok, Err, MatchResult, ⊤}
 use Rattle.std.specs.Io.KnownBytes.{Appends}
-use Rattle.shb_lines.specs.declared.event.Pair.{Pair}
 use Rattle.shb_lines.specs.text.TraceData.{TraceData}
 use Rattle.shb_report.specs.Report.{AreBlocks, IsReportOn, front_bytes}
 use Rattle.shb_write.specs.declared.errors.WriteError.{WriteError}

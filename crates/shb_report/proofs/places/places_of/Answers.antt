@@ -1,6 +1,5 @@
 -- Each place's pair is one of the pairs.
-use Rattle.std.proofs.Common.{◌≡◌, ◌∙◌, ap, subst, sym, All, List}
-use Rattle.shb_report.specs.declared.places.PlaceCount.{PlaceCount}
+use Rattle.std.proofs.Common.{◌∙◌, ap, subst, sym, All, List}
 use Rattle.shb_report.specs.Places.{IsPlaceOf, PlaceOf, counts_in, places_after}
 use Rattle.shb_report.proofs.PlaceLemmas.{places_in_range}
 use Rattle.shb_report.proofs.places.places_of.Goals as goal

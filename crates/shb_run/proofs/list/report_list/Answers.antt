@@ -1,4 +1,4 @@
-use Rattle.std.proofs.Common.{ℕ, List, Bool, ap, subst, sym, ◌∙◌}
+use Rattle.std.proofs.Common.{ℕ, ap, subst, sym, ◌∙◌}
 use Rattle.shb_lines.specs.events.Race.{IsRaceList}
 use Rattle.shb_lines.specs.events.Sizes.{IsNumberedByAccess}
 use Rattle.shb_clocks.specs.Open.{OpenTrace}

@@ -1,4 +1,4 @@
-use Rattle.std.proofs.Common.{rules, ◌≡◌, ◌+◌, ◌∙◌, ◌++◌, arith, false, map, flat_map, length, Ok, Err, refl}
+use Rattle.std.proofs.Common.{rules, ◌∙◌, ◌++◌, arith, false, map, flat_map, length, Ok, Err}
 use Rattle.shb_lines.specs.events.Race.{ends}
 use Rattle.shb_pairs.specs.Pieces.{pieces_in}
 use Rattle.shb_pairs.specs.Races.{joined, races_at}

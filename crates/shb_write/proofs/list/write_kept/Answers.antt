@@ -1,7 +1,5 @@
-use Rattle.std.proofs.Common.{map, refl}
+use Rattle.std.proofs.Common.{map}
 use Rattle.shb_lines.specs.events.Race.{ends}
-use Rattle.shb_write.specs.declared.errors.WriteError.TheVariants as errors
-use Rattle.std.proofs.lemmas.List.{append-nil}
 use Rattle.shb_write.proofs.Blocks.{front_of}
 use Rattle.shb_write.proofs.Listing.{AreBlocks-listed}
 use Rattle.shb_write.proofs.list.write_kept.Goals as goal

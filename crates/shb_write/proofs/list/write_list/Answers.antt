@@ -1,4 +1,4 @@
-use Rattle.std.proofs.Common.{arith, false, inr, sym}
+use Rattle.std.proofs.Common.{arith, false, inr}
 use Rattle.shb_io.proofs.Growth.{Appends-trans, AppendsPrefix-after, AppendsPrefix-front}
 use Rattle.shb_report.specs.Report.{tail_bytes}
 use Rattle.shb_write.specs.Listed.{races_found}
@@ -49,3 +49,7 @@ returns-clause-report g c =
     let blocks = c.in_ok-write_list_blocks.ensures.blocks in
     report_written false c.args.trace.now races blocks.bytes blocks.blocks _ _
     (Appends-trans _ _ _ _ _ (c.in_ok-write_front.ensures.written races found.count found.places_are) (Appends-trans _ _ _ _ _ blocks.written c.in_ok-tail.ensures.written))
+
+-- An edit that makes this false is refused at once.
+pub returns-clause-count : goal.returns-clause-count
+returns-clause-count g c = c.in_ok-counted.ensures.count

@@ -1,6 +1,5 @@
-use Rattle.std.proofs.Common.{List, ℕ, ap, ◌∙◌, ◌+◌, arith, false, map, subst, sym}
+use Rattle.std.proofs.Common.{List, ℕ, ap, ◌∙◌, false, map, subst, sym}
 use Rattle.std.specs.Prelude.{All}
-use Rattle.shb_lines.specs.declared.event.Pair.{Pair}
 use Rattle.shb_lines.specs.events.Race.{ends}
 use Rattle.shb_write.specs.Listed.{IsRaceOf, races_found}
 use Rattle.shb_write.specs.Written.{WritesBlocks}

@@ -1,4 +1,4 @@
-use Rattle.std.proofs.Common.{◌+◌, ◌<◌, ◌∙◌, All, arith, length, subst, sym, take}
+use Rattle.std.proofs.Common.{◌<◌, ◌∙◌, All, arith, length, subst, sym, take}
 use Rattle.shb_lines.specs.text.TraceData.{TraceData}
 use Rattle.shb_report.specs.Places.{IsPairOf}
 use Rattle.shb_write.specs.Listed.{pairs_in}

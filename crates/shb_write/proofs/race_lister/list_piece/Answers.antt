@@ -1,4 +1,4 @@
-use Rattle.std.proofs.Common.{◌+◌, ◌<◌, ◌∙◌, arith, length, take}
+use Rattle.std.proofs.Common.{◌<◌, ◌∙◌, arith, length}
 use Rattle.shb_write.specs.Listed.{HasFailedListing, pairs_in}
 use Rattle.shb_write.proofs.Listing.{failed_as, failed_next, listed_next, next_in_range, next_room, part_stopped, room_has}
 use Rattle.shb_write.proofs.race_lister.list_piece.Goals as goal

@@ -1,4 +1,4 @@
-use Rattle.std.proofs.Common.{rules, ◌+◌, arith, refl}
+use Rattle.std.proofs.Common.{rules, ◌+◌, arith}
 use Rattle.shb_io.proofs.Growth.{Writes-err}
 use Rattle.shb_write.proofs.Listing.{listed_all, listed_on, listed_stop}
 use Rattle.shb_write.proofs.race_lister.write_listed.Goals as goal

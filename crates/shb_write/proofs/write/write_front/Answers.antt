@@ -1,4 +1,4 @@
-use Rattle.std.proofs.Common.{List, ℕ, refl, subst}
+use Rattle.std.proofs.Common.{List, ℕ, subst}
 use Rattle.shb_io.specs.Devices.{Writes}
 use Rattle.shb_io.proofs.Growth.{AppendsPrefix-front, Writes-err, Writes-then}
 use Rattle.shb_write.proofs.Reports.{front_is}

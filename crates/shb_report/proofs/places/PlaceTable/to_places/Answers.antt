@@ -1,6 +1,6 @@
 -- The counts are those of the places in the table.
-use Rattle.std.proofs.Common.{◌∙◌, ap, sym}
-use Rattle.shb_report.specs.Places.{PlaceOf, counts_in}
+use Rattle.std.proofs.Common.{◌∙◌, ap}
+use Rattle.shb_report.specs.Places.{counts_in}
 use Rattle.shb_report.proofs.PlaceLemmas.{counts_are}
 use Rattle.shb_report.proofs.places.PlaceTable.to_places.Goals as goal
 

@@ -1,5 +1,5 @@
 use Rattle.shb_write.specs.Listed.{pairs_in}
-use Rattle.shb_write.proofs.Listing.{failed_piece, list_countable, list_in_range, list_room, listed_piece}
+use Rattle.shb_write.proofs.Listing.{failed_piece, listed_piece}
 use Rattle.shb_write.proofs.race_lister.PieceListerTakerRaceRanges.take.Goals as goal
 
 pub returns-clause-taken : goal.returns-clause-taken

@@ -1,5 +1,5 @@
 use Rattle.std.proofs.Common.{refl}
-use Rattle.shb_write.proofs.Listing.{failed_once, listed_once}
+use Rattle.shb_write.proofs.Listing.{listed_once}
 use Rattle.shb_write.proofs.race_lister.RaceLister.list.Goals as goal
 
 pub returns-in-Ok-clause-listed : goal.returns-in-Ok-clause-listed
