@@ -1,5 +1,5 @@
-"""Lists of more races than events, which the program searches for twice: more of them than fit into memory as pairs,
-pipes that break in the middle, and each request for memory and each device that fails on the way."""
+"""Lists of more races than events, which the program searches for more than once: more of them than fit into memory as
+pairs, pipes that break in the middle, and each request for memory and each device that fails on the way."""
 
 import os
 import resource
@@ -11,6 +11,7 @@ import test_refusals
 
 FRONT = 1_000_000
 ROUNDS = 3_000
+MANY_ROUNDS = 1_100_000
 
 
 def two_writers(rounds):
@@ -69,7 +70,7 @@ class LongLists(test_refusals.Refusing):
                 self.assertTrue(answer.out == report, "the reports differ")
 
     def test_more_races_than_fit_into_memory_as_pairs(self):
-        """A pair has 8 bytes. The reader goes away after the front, in the middle of the second search."""
+        """A pair has 8 bytes. The reader goes away after the front, in the middle of the search that writes."""
         room = 48 * 2**20
         self.assertGreater(8 * ROUNDS * ROUNDS, room)
         trace, wanted = self.file(two_writers(ROUNDS)), front_of(ROUNDS, FRONT)
@@ -87,6 +88,23 @@ class LongLists(test_refusals.Refusing):
             self.assertTrue(front == wanted, "the fronts differ")
             self.assertEqual((started.wait(program.SECONDS), said), (4, b"cannot write\n"))
 
+    def test_more_races_than_can_be_gone_through(self):
+        """More than 10^12 races of 2.2 million events: counted at once, and as little memory is taken as for few."""
+        self.assertGreater(MANY_ROUNDS * MANY_ROUNDS, 10**12)
+        trace, wanted = self.file(two_writers(MANY_ROUNDS)), front_of(MANY_ROUNDS, FRONT)
+        started = subprocess.Popen(
+            [program.PATH, "races", "--list", trace],
+            stdout=subprocess.PIPE,
+            stderr=subprocess.PIPE,
+            **at_most(2**29),
+        )
+        front = started.stdout.read(FRONT)
+        started.stdout.close()
+        said = started.stderr.read()
+        started.stderr.close()
+        self.assertTrue(front == wanted, "the fronts differ")
+        self.assertEqual((started.wait(program.SECONDS), said), (4, b"cannot write\n"))
+
     def test_a_disk_that_fills_up(self):
         """All that fits is written, and it is the front of the report."""
         trace, report = self.file(two_writers(40)), report_of(40)
@@ -99,7 +117,7 @@ class LongLists(test_refusals.Refusing):
             self.assertTrue(written.read_bytes() == report[:size], "another front")
 
     def test_memory(self):
-        """Each request of both searches is refused in turn. Six threads have fifteen races with twelve events."""
+        """Each request of all searches is refused in turn. Six threads have fifteen races with twelve events."""
         self.assertIn(b"\nraces 15\n", program.run(["races", "--list"], test_refusals.racing(6)).out)
         for workers in ("1", "2"):
             self.refuse_in_turn(["races", "--list", "--workers", workers], test_refusals.racing(6))

@@ -105,7 +105,7 @@ class Refusals(Refusing):
 
     def test_numbers_of_workers(self):
         """Each worker is a thread in the search, and one when schedules are made; 4 where no number is named. A list of
-        more races than events is searched for twice, and `places` searches without workers."""
+        more races than events is searched for by workers twice, and `places` searches without workers."""
         trace, few = self.file(racing(64)), self.file(LOCKED, "few.std")
         for words, wanted in (
             (["races", "--list", few], 4),

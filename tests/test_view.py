@@ -304,6 +304,16 @@ class Sites(program.Case):
         named = ", ".join(f"f.c:{line} (1 race)" for line in range(11, 19))
         self.assertIn(f"     races with {named} and 1 more", said)
 
+    def test_three_threads_are_named(self):
+        for many, named in ((3, "R0, R1 and R2"), (4, "R0, R1, R2 and 1 more"), (5, "R0, R1, R2 and 2 more")):
+            self.assertIn(f"   f.c:2: {many} reads by {named}", self.lines("A w x 1", *(f"R{k} r x 2" for k in range(many))))
+
+    def test_eight_variables_are_named(self):
+        for many, more in ((8, " and x7"), (9, ", x7 and 1 more")):
+            events = [f"{thread} w x{k} {line}" for k in range(many) for thread, line in (("A", 1), ("B", 2))]
+            named = ", ".join(f"x{k}" for k in range(7))
+            self.assertIn(f"   Variables: {named}{more}", self.lines(*events))
+
     def test_kinds_that_are_not_told_apart(self):
         """Where there are too many, the rest is counted without its lines and locks."""
         most, counting.MOST_KINDS = counting.MOST_KINDS, 2
@@ -415,6 +425,19 @@ class Groups(program.Case):
             self.assertEqual(len(re.findall(r"^\d+\. ", out, re.M)), 200)
             self.assertTrue(out.startswith(f"t.std: {many} races at {many} pairs of lines, in {many} groups "))
             self.assertEqual(out.split("races with f.c:399 (1 race)\n")[-1][-len(more or "\n"):] if more else "", more)
+
+
+class Issues(program.Case):
+    """The text for an issue."""
+
+    def test_locks_of_an_access(self):
+        """Each with its acquire, the eight that were acquired last."""
+        for many, more in ((2, []), (8, []), (9, ["       and 1 more lock"]), (11, ["       and 3 more locks"])):
+            locks = [f"A acq l{k} {k}" for k in range(many)]
+            lines = run_here(["--all", self.file(trace_of(*locks, "A w x 50", "B w x 60"))])[1].splitlines()
+            at = lines.index(f"     write by A at f.c:50 (event {many + 1})") + 1
+            held = [f"       holds l{k}, acquired at f.c:{k} (event {k + 1})" for k in range(max(many - 8, 0), many)]
+            self.assertEqual(lines[at:lines.index(f"     write by B at f.c:60 (event {many + 2})")], held + more)
 
 
 class Windows(program.Case):
@@ -601,6 +624,14 @@ class Waiting(program.Case):
         self.assertEqual(status, 1)
         self.assertRegex(terminal.getvalue(), r"\A\r\x1b\[Kshb-view: reading the report \d+%.*\r\x1b\[Kshb-view: line 38 of the report is "
                                               r"missing; it should be `end`\n\Z")
+
+    def test_words_go_away_before_the_text(self):
+        wait, progress.WAIT = progress.WAIT, 0.0
+        self.addCleanup(setattr, progress, "WAIT", wait)
+        terminal, out = self.terminal(), io.TextIOWrapper(io.BytesIO(), "utf-8")
+        with contextlib.redirect_stderr(terminal), contextlib.redirect_stdout(out):
+            self.assertEqual(command.main([str(EXAMPLES / "places.std")], program.PATH), 0)
+        self.assertRegex(terminal.getvalue(), r"\A\r\x1b\[Kshb-view: reading the report \d+%.*\r\x1b\[K\Z")
 
     def test_nothing_is_said_in_the_first_second(self):
         said = progress.Progress(self.terminal())

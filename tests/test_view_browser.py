@@ -1,4 +1,5 @@
-"""The page of view/shb-view in a browser, where one is installed: that its script runs and that nothing is cut."""
+"""The page of view/shb-view in a browser, where one is installed: that its script runs, that nothing is cut, and how long it is on
+paper."""
 
 import json
 import re
@@ -99,3 +100,20 @@ onload = () => document.title = document.querySelector("iframe").contentDocument
             width, *boxes = map(int, re.search("<title>([0-9 ]+)</title>", shown).group(1).split())
             self.assertLessEqual(width, 400)
             self.assertEqual(boxes, [0, 0, 8])  # cut, hidden, all
+
+    def test_seven_groups_with_their_code_take_at_most_ten_printed_pages(self):
+        """As memcached's: names of threads and locks of some length, and 16 lines a group. On paper two lines of code stand side by
+        side and the folded parts aren't."""
+        browser = self.browser()
+        if browser:
+            code = self.file(b"    if ((item->it_flags & ITEM_LINKED) != 0) {\n" * 200, "code.c")
+            events = []
+            for group in range(7):
+                events += [f"T{line % 4}.worker_libevent|acq(thread.c:1060#31+{group}{line})\n"
+                           f"T{line % 4}.worker_libevent|{'rw'[line == 0]}(slabs.c:615#134+{group})|code.c:{20 * group + line + 9}\n"
+                           f"T{line % 4}.worker_libevent|rel(thread.c:1060#31+{group}{line})\n" for line in range(16)]
+            page = self.page("--source", code.parent, self.file("".join(events).encode()))
+            self.assertEqual(page.read_text().count("<section"), 7)
+            printed = self.folder / "page.pdf"
+            self.shown(browser, page, f"--print-to-pdf={printed}")
+            self.assertIn(len(re.findall(rb"/Type */Page\b", printed.read_bytes())), range(5, 11))

@@ -1,6 +1,7 @@
 """view/shb-view as a command: its files, its statuses, and the `shb` that it runs."""
 
 import os
+import resource
 import shutil
 import signal
 import subprocess
@@ -10,6 +11,8 @@ import threading
 import program
 import shb
 from viewing import EXAMPLES, VIEW, run, run_here, settings
+
+from shb_view import output
 
 TRACE = EXAMPLES / "fork-join.std"
 REPORT = EXAMPLES / "fork-join.report"
@@ -48,6 +51,18 @@ exec REAL "$@"
                          "fork-join.std: 900,000,000 races at 1 pair of lines, in 1 group (7 events, 2 threads, 0 locks, 2 variables)")
         self.assertIn("\n1. count and perhaps others: 2 threads write (900,000,000 races, 1 pair of lines)\n", out)
         self.assertIn("     races with worker.c:3 (900,000,000 races)", out)
+
+    def test_notes_stand_below_the_title(self):
+        words = ["--note", "The trace is cut <b>here</b>.", "--note", "Two\x1b\nlines.", TRACE]
+        out = run_here(words)[1]
+        title, first, second = out.splitlines()[:3]
+        self.assertTrue(title.startswith("fork-join.std: 1 race "), title)
+        self.assertEqual(first, "The trace is cut <b>here</b>.")
+        self.assertRegex(second, r"\ATwo[^\x1b]+lines\.\Z")
+        page = self.folder / "page.html"
+        self.assertEqual(run_here(["--html", page, *words])[0], 0)
+        self.assertIn('</h1><p class="verdict bad">The trace is cut &lt;b&gt;here&lt;/b&gt;.</p><p class="verdict bad">Two',
+                      page.read_text())
 
     def test_no_schedules_where_they_would_be_long(self):
         """A thousand places and 20,000 events: 140 MB. The program is asked for no schedule and checks nothing."""
@@ -91,6 +106,10 @@ exec REAL "$@"
         script = "[ $1 = check ] && { echo 'out of memory' >&2; exit 4; }; exec REAL \"$@\"\n"
         self.assertEqual(self.said(["--shb", self.fake(script), TRACE]), "`shb check` ended with status 4: out of memory")
         self.assertEqual(self.said(["--shb", self.fake("exit 4\n"), TRACE]), "`shb races --list` ended with status 4")
+        self.assertEqual(self.said(["--shb", self.fake("printf 'a\\033[31m\\nb' >&2; exit 4\n"), TRACE]),
+                         "`shb races --list` ended with status 4: a\\x1b[31m\\x0ab")
+        self.assertEqual(self.said(["--shb", self.fake("head -c 5000 /dev/zero | tr '\\0' x >&2; exit 4\n"), TRACE]),
+                         f"`shb races --list` ended with status 4: {'x' * 99}…{'x' * 100}")
         self.assertEqual(self.said(["--shb", self.fake("echo hello\n"), TRACE]),
                          "`shb races --list` wrote no report: line 1 of the report is `hello`; it should be `shb-report 2`")
 
@@ -196,6 +215,18 @@ class Files(Fake):
         answer = subprocess.run(["sh", "-c", script, "sh", *words], env=settings(), capture_output=True, timeout=program.SECONDS)
         self.assertEqual((answer.returncode, answer.stderr.decode()), (2, f"shb-view: {page}: File too large\n"))
         self.assertEqual((page.read_bytes(), len(list(self.folder.iterdir()))), (b"old", 1))
+
+    def test_a_fault_that_comes_again_when_the_file_is_closed_names_the_page(self):
+        """What the disk has no room for is kept by Python, which tries it once more then."""
+        page = self.file(b"old", "page.html")
+        limit, kept = resource.getrlimit(resource.RLIMIT_FSIZE), signal.signal(signal.SIGXFSZ, signal.SIG_IGN)
+        self.addCleanup(signal.signal, signal.SIGXFSZ, kept)
+        self.addCleanup(resource.setrlimit, resource.RLIMIT_FSIZE, limit)
+        with self.assertRaises(OSError) as fault, output.new_file(str(page), []) as out:
+            resource.setrlimit(resource.RLIMIT_FSIZE, (4096, limit[1]))
+            output.write_parts(out, ["a" * 3000] * 5, "the page")
+        self.assertEqual((fault.exception.filename, fault.exception.strerror), ("the page", "File too large"))
+        self.assertEqual(list(self.folder.iterdir()), [page])
 
     def test_a_new_page_has_the_usual_mode_and_a_link_is_replaced(self):
         page, other = self.folder / "page.html", self.file(b"other", "other")

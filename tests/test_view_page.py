@@ -278,6 +278,15 @@ class Pictures(program.Case):
             bars += len(drawn)
         self.assertGreater(bars, 50)
 
+    def test_four_bars_at_an_event(self):
+        """Of the locks that were acquired last; the words on the event name all."""
+        trace = b"".join(b"A|acq(l%d)\n" % k for k in range(6)) + b"A|r(y)\n" * 6 + b"A|w(x)\nB|w(x)\n"
+        [window] = windows(trace, shb.report(trace, True))
+        window = window._replace(before=[event for event in window.before if event > 6], edges=[])
+        page = Page(picture.picture(window, "e"))
+        self.assertEqual([text for _, text in page.all("rect", "lock")], ["l2", "l3", "l4", "l5"])
+        self.assertIn("A|w(x)\nholds l0, l1, l2, l3, l4, l5", [text for _, text in page.all("title")])
+
     def test_bars_begin_and_end_by_hand(self):
         """The consumer's ends at its release, event 8; the producer's begins at its acquire, event 10, and goes on."""
         window = windows(*((EXAMPLES / f"unlocked-read.{end}").read_bytes() for end in ("std", "report")))[0]
@@ -293,6 +302,11 @@ class Pictures(program.Case):
         page = Page(picture.picture(windows(trace, shb.report(trace, True))[0], "e"))
         self.assertEqual([text for attributes, text in page.all("text") if attributes.get("class") != "number"], [
             "A", "B", "r(y)", "f.c:1 · 1", "1  w(x)", "f.c:2 · 2", "2  w(x)", "(no location) · 3"])
+
+    def test_a_long_location_and_its_number_take_36_columns(self):
+        trace = b"A|r(y)\n" * 9 + b"A|w(x)|" + b"f" * 100 + b"\nB|w(x)\n"
+        page = Page(picture.picture(windows(trace, shb.report(trace, True))[0], "e"))
+        self.assertIn("f" * 15 + "…" + "f" * 15 + " · 10", [text for _, text in page.all("text", "at")])
 
     def test_arrows_by_hand(self):
         """From a fork to a first event that reads, and dashed from the write that a read sees."""

@@ -1,6 +1,7 @@
 """Which reports view/shb-view takes, and what it says of others."""
 
 import io
+import os
 import random
 import re
 
@@ -10,7 +11,7 @@ import program
 import shb
 from viewing import EXAMPLES, MADE, made, run_here, sections
 
-from shb_view import report
+from shb_view import report, view
 from shb_view.faults import BadReport
 from shb_view.report import Lines
 
@@ -160,6 +161,24 @@ class Refused(program.Case):
         self.assertEqual(run_here(words)[0], 0)
         report.MOST_BYTES = size - 1
         self.assertEqual(self.refused(words), f"the report is longer than {size - 1} bytes")
+
+    def test_a_report_from_a_pipe_that_is_too_long(self):
+        """It is copied up to the same length."""
+        text, trace, kept = shb.report(self.TRACE, True), self.file(self.TRACE), view.MOST_BYTES
+        self.addCleanup(setattr, view, "MOST_BYTES", kept)
+        self.assertEqual(kept, 1_073_741_824)
+
+        def given():
+            read_end, write_end = os.pipe()
+            self.addCleanup(os.close, read_end)
+            os.write(write_end, text)
+            os.close(write_end)
+            return [trace, f"/dev/fd/{read_end}"]
+
+        view.MOST_BYTES = len(text)
+        self.assertEqual(run_here(given())[0], 0)
+        view.MOST_BYTES = len(text) - 1
+        self.assertEqual(self.refused(given()), f"the report is longer than {len(text) - 1} bytes")
 
     def test_a_report_without_end(self):
         with open("/dev/zero", "rb") as zeros, self.assertRaisesRegex(BadReport, "line 1 of the report is too long"):

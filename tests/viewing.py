@@ -45,8 +45,8 @@ def windows(text, report, is_good=True):
 
 
 def settings(**more):
-    """The environment in which the view finds the built program."""
-    return program.with_settings(SHB=program.PATH, **more)
+    """The environment in which the view finds the built program, and in which Python writes as it does for a user."""
+    return {name: value for name, value in program.with_settings(SHB=program.PATH, **more).items() if name != "PYTHONUNBUFFERED"}
 
 
 def run(words, command=VIEW / "shb-view", **how):

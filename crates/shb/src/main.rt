@@ -9,7 +9,7 @@ mod reports;
 
 use crate::checks::check_report;
 use crate::complaints::{FAILED, WORDS_REFUSED, complain};
-use crate::reports::{Listing, report};
+use crate::reports::report;
 use shb_run::Settings;
 use shb_words::{Plan, WordsFault, plan_of};
 use std::env;
@@ -27,7 +27,8 @@ fn follow<R: Print + Eprint + Input + AllocGlobal + Files + RandomSource + Threa
 ) -> u8 {
     match plan_of(rt.alloc(), words) {
         Ok(
-            Plan::Races {
+            Plan::Report {
+                listing,
                 workers,
                 list,
                 trace,
@@ -38,21 +39,7 @@ fn follow<R: Print + Eprint + Input + AllocGlobal + Files + RandomSource + Threa
                 schedules: !list,
             };
             let path = trace.as_ref().map(|path| path.as_str());
-            report(rt, path, Listing::Races, settings)
-        }
-        Ok(
-            Plan::Places {
-                workers,
-                list,
-                trace,
-            },
-        ) => {
-            let settings = Settings {
-                workers,
-                schedules: !list,
-            };
-            let path = trace.as_ref().map(|path| path.as_str());
-            report(rt, path, Listing::Places, settings)
+            report(rt, path, listing, settings)
         }
         Ok(Plan::Check { trace }) => check_report(rt, trace.as_str()),
         Ok(Plan::Help { text }) => match rt.print(text.as_str()) {

@@ -5,6 +5,7 @@ use crate::complaints::{FAILED, complain};
 use crate::output::flushed;
 use shb_io::{FromRead, Source, ToWrite};
 use shb_run::{Settings, end_of_run, run, run_places};
+use shb_words::Listing;
 use std::fs::File;
 use std::io::{BufWriter, writer};
 use std::random::RandomSource;
@@ -14,15 +15,6 @@ use std::thread::Threads;
 
 /// How many bytes of a report are written at once.
 const REPORT_BUFFER: usize = 1 << 16;
-
-/// Which races a report lists.
-#[derive(Clone, Copy)]
-pub(crate) enum Listing {
-    /// All of them.
-    Races,
-    /// One of each place.
-    Places,
-}
 
 /// Writes the report of a source to standard output, and gives the program's status.
 fn write_report<R: Print + Eprint + AllocGlobal + RandomSource + Threads + Wait + Sync, S: Source>(

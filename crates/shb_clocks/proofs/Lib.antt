@@ -6,10 +6,12 @@ pub mod Locals
 pub mod MarksLemmas
 pub mod MayLearn
 pub mod PastLemmas
+pub mod Renamed
 pub mod RowsLemmas
 pub mod MovedLemmas
 pub mod OpenItems
 pub mod Sources
+pub mod CopiesLemmas
 pub mod Counting
 pub mod StampItems
 pub mod Stamping

@@ -10,12 +10,10 @@ use Rattle.shb_clocks.specs.declared.kept_rows.KeptRows.{KeptRows}
 pub record AreKeptRows (trace : List Event) (flags : List Bool) (n : ℕ) (sizes : Sizes) (kept : KeptRows) : Type 0 where
   pub width : kept.rows.width ≡ sizes.threads
   pub few : length kept.rows.rows ≤ n
-  pub as_many : length kept.last.items ≡ sizes.threads
   pub before : HasRowsBefore trace flags kept.rows.rows n kept.before.items
 
 -- what is kept after the first n of the listed events
 pub record AreListedRows (trace : List Event) (events : List ℕ) (n : ℕ) (sizes : Sizes) (kept : KeptRows) : Type 0 where
   pub width : kept.rows.width ≡ sizes.threads
   pub few : length kept.rows.rows ≤ n
-  pub as_many : length kept.last.items ≡ sizes.threads
   pub before : HasListedRows trace kept.rows.rows events n kept.before.items

@@ -13,6 +13,10 @@ pub data IsMovedStamp (old new : List (List ℕ)) (before after : Stamp) : Type 
   of_row : after.thread ≡ before.thread → after.time ≡ before.time → IsMovedRow old new before.row after.row → IsMovedStamp old new before after
   of_no_event : before.time ≡ 0 → after ≡ before → IsMovedStamp old new before after
 
+-- for each row one more than the number of its copy among the kept rows, or 0 where none is noted
+pub record AreCopies (rows kept : List (List ℕ)) (copies : List ℕ) : Type 0 where
+  pub each : (a b : ℕ) → slice_index_or copies a 0 ≡ b + 1 → (a < length rows) × IsMovedRow rows kept a b
+
 -- lists of one length, in which the items at each position stand in the relation
 pub record AreAlike {A : Type 0} (default : A) (IsAlike : A → A → Type 0) (before after : List A) : Type 0 where
   pub as_many : length after ≡ length before

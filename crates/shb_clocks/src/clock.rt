@@ -1,6 +1,6 @@
 //! Clocks: one number for each thread.
 
-ghost use Rattle.std.specs.Prelude.{◌≡◌, ℕ, ◌+◌, ◌*◌, ◌<◌, ◌≤◌, List, IfOk, length, max, replicate, set, slice_index_or};
+ghost use Rattle.std.specs.Prelude.{◌≡◌, ℕ, ◌+◌, ◌*◌, ◌<◌, ◌≤◌, List, IfOk, true, length, max, replicate, set, slice_index_or};
 ghost use Rattle.shb_clocks.specs.Rows.{row_at};
 
 use shb_io::NoMemory;
@@ -136,6 +136,19 @@ pub fn entry(clock: &[u32], t: u32) -> u32
         Some(number) => *number,
         None => 0,
     }
+}
+
+/// Whether no entry of a clock is above that of another.
+pub fn is_below(clock: &[u32], other: &[u32]) -> bool
+    requires { length other.now ≡ length clock.now }
+    ensures { result ≡ true → (t : ℕ) → slice_index_or clock.now t 0 ≤ slice_index_or other.now t 0 }
+{
+    for t in 0..clock.len() {
+        if clock[t] > other[t] {
+            return false;
+        }
+    }
+    true
 }
 
 /// As many zeros as this.

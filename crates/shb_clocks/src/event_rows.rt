@@ -38,8 +38,10 @@ impl<'a> Model for EventRows<'a> {
 
 /// The order of a trace at the accesses of open variables, those whose flag isn't false, found by one
 /// forward pass up to the last of them. Memory: four bytes for each event up to there, and four bytes
-/// a thread for each row that is kept: one for such an access where its thread knows something new
-/// since its last one. While it runs, also what a [`Sweep`](crate::Sweep) takes.
+/// a thread for each row that is kept. Accesses of one thread share a row where it learns nothing in
+/// between, and threads that read one write share a row where all that they knew is below the write.
+/// After a move of the rows in use each of them is kept anew. While it runs, also four bytes for each row
+/// in use, and what a [`Sweep`](crate::Sweep) takes.
 ///
 /// # Errors
 ///

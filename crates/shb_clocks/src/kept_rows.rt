@@ -5,9 +5,11 @@ ghost use Rattle.std.specs.List.Sorted.{IsStrictlyIncreasing};
 ghost use Rattle.shb_lines.specs.events.Events.{thread_at};
 ghost use Rattle.shb_lines.specs.events.Order.{BelowPred};
 ghost use Rattle.shb_clocks.specs.KeptRows.{AreKeptRows, AreListedRows};
+ghost use Rattle.shb_clocks.specs.Moved.{AreCopies};
 ghost use Rattle.shb_clocks.specs.Stamps.{HasGrown, HasOpenRows, IsRowFor, IsSwept};
 
-use crate::clock::zeros;
+use crate::clock::entry;
+use crate::copies::{forget_moved, note_copy};
 use crate::open::{asked_end, is_asked};
 use crate::rows::Rows;
 use crate::stamps::Stamps;
@@ -22,33 +24,37 @@ pub struct KeptRows {
     /// For each event that can be asked about the number of the row of what its thread knew before
     /// it, and 0 for any other.
     pub before: Vec<u32>,
-    /// For each thread the number of the row that was kept last.
-    pub last: Vec<u32>,
+    /// For each row of the stamps the number of the kept row that is its copy, plus 1, or 0 where none
+    /// is; none is past the end.
+    pub copies: Vec<u32>,
 }
 
 /// The number of a kept row of what the thread of e, the next event, knows before it. A row is added
-/// where the one that was kept last for this thread is another clock.
+/// where none is a copy of the row of the stamps.
 fn keep(
     linked: &Linked<'_>,
     e: u32,
     stamps: &Stamps,
     rows: &mut Rows,
-    last: &mut Vec<u32>,
+    copies: &mut Vec<u32>,
 ) -> Result<u32, NoMemory>
     requires in_range { e < length linked.now.events.now }
     requires swept { IsSwept linked.now.events.now e linked.now.sizes stamps.now }
     requires width { rows.old.width ≡ linked.now.sizes.threads }
     requires few { length rows.old.rows + 1 < 2 ^ 32 }
-    requires as_many { length last.old.items ≡ linked.now.sizes.threads }
-    ensures as_many { OnOk result (length last.new.items ≡ linked.now.sizes.threads) }
+    requires copies { AreCopies stamps.now.rows.rows rows.old.rows copies.old.items }
+    ensures copies { OnOk result (AreCopies stamps.now.rows.rows rows.new.rows copies.new.items) }
     ensures grown { OnOk result (HasGrown rows.old rows.new) }
     ensures row { (t : ℕ) → thread_at linked.now.events.now e ≡ Some t
         → IfOk result (IsRowFor linked.now.events.now rows.new.rows t (λ k. BelowPred linked.now.events.now k e)) }
 {
-    let thread = linked.events.thread(e);
     let before = stamps.row_before(linked, e);
-    let number = rows.number_like(last[thread as usize], stamps.rows.row(before))?;
-    last[thread as usize] = number;
+    let known = entry(copies.as_slice(), before);
+    if known > 0 {
+        return Ok(known - 1);
+    }
+    let number = rows.push(stamps.rows.row(before))?;
+    note_copy(copies, before, number)?;
     Ok(number)
 }
 
@@ -57,11 +63,12 @@ impl KeptRows {
     pub fn new(alloc: Global, linked: &Linked<'_>) -> Result<Self, NoMemory>
         ensures by_flags { (flags : List Bool) → IfOk result (AreKeptRows linked.now.events.now flags 0 linked.now.sizes) }
         ensures listed { (events : List ℕ) → IfOk result (AreListedRows linked.now.events.now events 0 linked.now.sizes) }
+        ensures copies { (rows : List (List ℕ)) → IfOk result (λ kept. AreCopies rows kept.rows.rows kept.copies.items) }
     {
         Ok(KeptRows {
             rows: Rows::new(alloc, linked.sizes.threads),
             before: Vec::new(alloc),
-            last: zeros(alloc, linked.sizes.threads)?,
+            copies: Vec::new(alloc),
         })
     }
 
@@ -76,13 +83,15 @@ impl KeptRows {
         requires in_range { e < length linked.now.events.now }
         requires swept { IsSwept linked.now.events.now e linked.now.sizes stamps.now }
         requires kept { AreKeptRows linked.now.events.now flags.now e linked.now.sizes self.old }
-        ensures { OnOk result (AreKeptRows linked.now.events.now flags.now (e + 1) linked.now.sizes self.new) }
+        requires copies { AreCopies stamps.now.rows.rows self.old.rows.rows self.old.copies.items }
+        ensures kept { OnOk result (AreKeptRows linked.now.events.now flags.now (e + 1) linked.now.sizes self.new) }
+        ensures copies { OnOk result (AreCopies stamps.now.rows.rows self.new.rows.rows self.new.copies.items) }
     {
         if !is_asked(linked, flags, e) {
             self.before.push(0)?;
             return Ok(());
         }
-        let number = keep(linked, e, stamps, &mut self.rows, &mut self.last)?;
+        let number = keep(linked, e, stamps, &mut self.rows, &mut self.copies)?;
         self.before.push(number)?;
         Ok(())
     }
@@ -100,10 +109,12 @@ impl KeptRows {
         requires of_trace { slice_index_or events.now at 0 < length linked.now.events.now }
         requires swept { IsSwept linked.now.events.now (slice_index_or events.now at 0) linked.now.sizes stamps.now }
         requires kept { AreListedRows linked.now.events.now events.now at linked.now.sizes self.old }
-        ensures { OnOk result (AreListedRows linked.now.events.now events.now (at + 1) linked.now.sizes self.new) }
+        requires copies { AreCopies stamps.now.rows.rows self.old.rows.rows self.old.copies.items }
+        ensures kept { OnOk result (AreListedRows linked.now.events.now events.now (at + 1) linked.now.sizes self.new) }
+        ensures copies { OnOk result (AreCopies stamps.now.rows.rows self.new.rows.rows self.new.copies.items) }
     {
         let e = events[at];
-        let number = keep(linked, e, stamps, &mut self.rows, &mut self.last)?;
+        let number = keep(linked, e, stamps, &mut self.rows, &mut self.copies)?;
         self.before.push(number)?;
         Ok(())
     }
@@ -118,7 +129,8 @@ pub fn kept_rows(alloc: Global, linked: &Linked<'_>, flags: &[bool]) -> Result<K
     let mut kept = KeptRows::new(alloc, linked)?;
     for e in 0..asked_end(linked, flags) {
         kept.note(linked, flags, &stamps, e)?;
-        stamps.pass(alloc, linked, e)?;
+        let moved = stamps.pass(alloc, linked, e)?;
+        forget_moved(&mut kept.copies, moved);
     }
     Ok(kept)
 }

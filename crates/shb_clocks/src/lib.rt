@@ -20,15 +20,19 @@
 //! are an event's clock; one is kept for the last release of each lock and the last write of each shared
 //! variable, and for each thread the row of what it knows. An acquire, a read or a join asks whether its
 //! thread's row has the stamp's local time already, and adds a row only where it hasn't. A fork adds the
-//! forked thread's first row. Rows are never changed. When there are many, `compact` moves those that these
-//! tables name to new ones, and the memory of the old ones is used the next time. `kept_rows` copies the
-//! row before each access of an open variable to rows that stay, one for all accesses of a thread between
-//! which it learns nothing.
+//! forked thread's first row. Where all that a thread knew is below a write that it reads, its new row is
+//! the write's clock. The stamp of the write names that row from then on, so other readers take over its
+//! number, and no row is made for them. Rows are never changed. When there are many, `compact` moves those
+//! that these tables name to new ones, and the memory of the old ones is used the next time. `kept_rows`
+//! copies the row before each access of an open variable to rows that stay. A table of copies has the
+//! number of each row's copy, so a row is copied once, whichever threads share it. When rows were moved
+//! the table is emptied.
 #![tactic(auto)]
 
 mod clock;
 mod compact;
 mod compared;
+mod copies;
 mod event_rows;
 mod kept_rows;
 pub mod laws;

@@ -74,7 +74,7 @@ fn listed_rows(alloc: Global, linked: &Linked<'_>, events: &[u32]) -> Result<Kep
     let mut next = 0;
     for at in 0..events.len() {
         let e = events[at];
-        stamps.pass_up_to(alloc, linked, next, e)?;
+        stamps.pass_up_to(alloc, linked, next, e, &mut kept.copies)?;
         kept.note_listed(linked, &stamps, events, at)?;
         next = e;
     }
@@ -82,8 +82,8 @@ fn listed_rows(alloc: Global, linked: &Linked<'_>, events: &[u32]) -> Result<Kep
 }
 
 /// The order of a trace at these events, in any order, found by one forward pass up to the last of
-/// them. Memory: eight bytes for each of them, and four bytes a thread for each row that is kept: one
-/// for such an event where its thread knows something new since the one before it. While it runs, also
+/// them. Memory: eight bytes for each of them, and four bytes a thread for each row that is kept. Events
+/// share rows as in [`by_event`](crate::by_event). While it runs, also four bytes for each row in use, and
 /// what a [`Sweep`](crate::Sweep) takes.
 ///
 /// # Errors

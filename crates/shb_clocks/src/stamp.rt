@@ -1,9 +1,9 @@
 //! Stamps: the clock of an event in twelve bytes, over a row that others share.
 
-ghost use Rattle.std.specs.Prelude.{◌≡◌, ℕ, ◌+◌, ◌<◌, ◌≤◌, ◌⊎◌, ◌^◌, ◌↔◌, [], IsTrue, IfOk, OnOk, length, max, set, slice_index_or};
+ghost use Rattle.std.specs.Prelude.{◌≡◌, ℕ, ◌+◌, ◌<◌, ◌≤◌, ◌⊎◌, ◌^◌, ◌↔◌, [], IsTrue, true, IfOk, OnOk, length, max, set, slice_index_or};
 ghost use Rattle.shb_clocks.specs.Stamps.{HasGrown, KnowsStamp, empty_stamp};
 
-use crate::clock::{Clock, EventClock, entry};
+use crate::clock::{Clock, EventClock, entry, is_below};
 use crate::rows::Rows;
 use shb_io::NoMemory;
 
@@ -36,8 +36,41 @@ impl Stamp {
     }
 }
 
-/// Adds a row: that of the given number, raised to the clock of the stamp. The clock is space to work
-/// in.
+/// Whether a row is the clock of the stamp that names it, and a given row is below it. Then that clock
+/// is the given row raised to it.
+fn is_joined(given: &[u32], row: &[u32], stamp: Stamp) -> bool
+    requires { length row.now ≡ length given.now }
+    ensures { result ≡ true → (slice_index_or row.now stamp.thread 0 ≡ stamp.time)
+        × ((t : ℕ) → slice_index_or given.now t 0 ≤ slice_index_or row.now t 0) }
+{
+    if entry(row, stamp.thread) != stamp.time {
+        return false;
+    }
+    is_below(given, row)
+}
+
+/// Whether the row of this number, which is the newest, is the clock of the stamp, whose row is another.
+/// The clock that is given is space to work in.
+pub fn is_new_clock(rows: &Rows, clock: &mut Clock, row: u32, stamp: Stamp) -> bool
+    requires row { row < length rows.now.rows }
+    requires long { length clock.old ≡ rows.now.width }
+    ensures long { length clock.new ≡ length clock.old }
+    ensures wide { result ≡ true → stamp.thread < length (slice_index_or rows.now.rows stamp.row []) }
+    ensures clock { result ≡ true → slice_index_or rows.now.rows row []
+        ≡ set (slice_index_or rows.now.rows stamp.row []) stamp.thread stamp.time }
+{
+    if stamp.row >= row || rows.count() - row > 1 {
+        return false;
+    }
+    if stamp.thread >= rows.width() {
+        return false;
+    }
+    clock.copy_event(&EventClock::new(rows.row(stamp.row), stamp.thread, stamp.time));
+    rows.row(row) == clock.as_slice()
+}
+
+/// The number of a row: that of the given number, raised to the clock of the stamp. It is added, or it
+/// is the stamp's own row. The clock is space to work in.
 pub fn push_joined(
     rows: &mut Rows,
     clock: &mut Clock,
@@ -57,6 +90,11 @@ pub fn push_joined(
         ≡ max (slice_index_or (slice_index_or rows.old.rows given []) t 0)
         (slice_index_or (set (slice_index_or rows.old.rows stamp.row []) stamp.thread stamp.time) t 0)) }
 {
+    let known = rows.row(given);
+    let row = rows.row(stamp.row);
+    if is_joined(known, row, stamp) {
+        return Ok(stamp.row);
+    }
     clock.copy(rows.row(given));
     clock.join_event(&EventClock::new(rows.row(stamp.row), stamp.thread, stamp.time));
     rows.push(clock.as_slice())

@@ -1,17 +1,19 @@
 //! What a sweep by stamps keeps: rows that never change, and stamps that name them.
 
-ghost use Rattle.std.specs.Prelude.{◌≡◌, ℕ, ◌+◌, ◌<◌, ◌≤◌, ◌^◌, List, [], ◌∷◌, Some, IfOk, OnOk, length, replicate, slice_index_or};
+ghost use Rattle.std.specs.Prelude.{◌≡◌, ℕ, ◌+◌, ◌<◌, ◌≤◌, ◌^◌, List, [], ◌∷◌, Some, false, IfOk, OnOk, length, replicate, slice_index_or};
 ghost use Rattle.shb_lines.specs.declared.event.Op.TheVariants.{Join};
 ghost use Rattle.shb_lines.specs.events.Events.{op_at, thread_at};
 ghost use Rattle.shb_lines.specs.events.Order.{BelowPred, IsBelowPredCount, ShbBelow};
 ghost use Rattle.shb_links.specs.Latest.{ReleasesLock};
+ghost use Rattle.shb_clocks.specs.Moved.{AreCopies};
 ghost use Rattle.shb_clocks.specs.Rows.{AreMore};
 ghost use Rattle.shb_clocks.specs.Stamps.{AreCurrent, AreStamps, HasGrown, IsRowFor, IsSource, IsStampOf, IsSwept, KnowsStamp, WritesShared, empty_stamp};
 
 use crate::clock::{Clock, entry, zeros};
 use crate::compact::compacted;
+use crate::copies::forget_moved;
 use crate::rows::Rows;
-use crate::stamp::{Stamp, push_joined, push_stamp};
+use crate::stamp::{Stamp, is_new_clock, push_joined, push_stamp};
 use shb_io::NoMemory;
 use shb_lines::Op;
 use shb_links::Linked;
@@ -155,6 +157,38 @@ fn note_write(linked: &Linked<'_>, e: u32, stamp: Stamp, variables: &mut Vec<Sta
     }
 }
 
+/// Where e is a read and the newest row, which was made for it, is the clock of the variable's last
+/// write, names this row in the write's stamp. So the next reads of it need no row of their own.
+fn note_read(
+    rows: &Rows,
+    clock: &mut Clock,
+    linked: &Linked<'_>,
+    e: u32,
+    row: u32,
+    variables: &mut Vec<Stamp>,
+)
+    requires in_range { e < length linked.now.events.now }
+    requires width { rows.now.width ≡ linked.now.sizes.threads }
+    requires long { length clock.old ≡ linked.now.sizes.threads }
+    requires row { row < length rows.now.rows }
+    requires stamps { AreStamps linked.now.events.now rows.now.rows (WritesShared linked.now.events.now) e
+        linked.now.sizes.variables variables.old.items }
+    ensures long { length clock.new ≡ linked.now.sizes.threads }
+    ensures stamps { AreStamps linked.now.events.now rows.now.rows (WritesShared linked.now.events.now) e
+        linked.now.sizes.variables variables.new.items }
+{
+    if let Op::Read(variable) = linked.events.op(e) {
+        let stamp = variables[variable as usize];
+        if is_new_clock(rows, clock, row, stamp) {
+            variables[variable as usize] = Stamp {
+                row,
+                thread: stamp.thread,
+                time: stamp.time,
+            };
+        }
+    }
+}
+
 impl Stamps {
     /// What is known before the first event.
     pub fn new(alloc: Global, linked: &Linked<'_>) -> Result<Self, NoMemory>
@@ -238,6 +272,14 @@ impl Stamps {
         let before = self.row_before(linked, e);
         let source = self.source(linked, e);
         let row = row_after(&mut self.rows, &mut self.clock, linked, e, before, source)?;
+        note_read(
+            &self.rows,
+            &mut self.clock,
+            linked,
+            e,
+            row,
+            &mut self.variables,
+        );
         let stamp = Stamp {
             row,
             thread,
@@ -256,33 +298,41 @@ impl Stamps {
         Ok(())
     }
 
-    /// Takes the event e. Where there are many rows then, those that nothing names are freed.
-    pub fn pass(&mut self, alloc: Global, linked: &Linked<'_>, e: u32) -> Result<(), NoMemory>
+    /// Takes the event e. Where there are many rows then, those that nothing names are freed. Says
+    /// whether the rows were moved for that, and so have other numbers.
+    pub fn pass(&mut self, alloc: Global, linked: &Linked<'_>, e: u32) -> Result<bool, NoMemory>
         requires in_range { e < length linked.now.events.now }
         requires swept { IsSwept linked.now.events.now e linked.now.sizes self.old }
-        ensures { OnOk result (IsSwept linked.now.events.now (e + 1) linked.now.sizes self.new) }
+        ensures swept { OnOk result (IsSwept linked.now.events.now (e + 1) linked.now.sizes self.new) }
+        ensures more { IfOk result (λ moved. moved ≡ false → AreMore self.old.rows.rows self.new.rows.rows) }
     {
         self.take(linked, e)?;
-        if self.rows.count() >= self.limit {
-            self.compact(alloc, linked, e + 1)?;
+        if self.rows.count() < self.limit {
+            return Ok(false);
         }
-        Ok(())
+        self.compact(alloc, linked, e + 1)?;
+        Ok(true)
     }
 
-    /// Takes the events from n on up to the end, without the end.
+    /// Takes the events from n on up to the end, without the end. Copies of rows that were moved are
+    /// forgotten.
     pub fn pass_up_to(
         &mut self,
         alloc: Global,
         linked: &Linked<'_>,
         n: u32,
         end: u32,
+        copies: &mut Vec<u32>,
     ) -> Result<(), NoMemory>
         requires in_range { (n ≤ end) × (end ≤ length linked.now.events.now) }
         requires swept { IsSwept linked.now.events.now n linked.now.sizes self.old }
-        ensures { OnOk result (IsSwept linked.now.events.now end linked.now.sizes self.new) }
+        ensures swept { OnOk result (IsSwept linked.now.events.now end linked.now.sizes self.new) }
+        ensures copies { (kept : List (List ℕ)) → AreCopies self.old.rows.rows kept copies.old.items
+            → OnOk result (AreCopies self.new.rows.rows kept copies.new.items) }
     {
         for e in n..end {
-            self.pass(alloc, linked, e)?;
+            let moved = self.pass(alloc, linked, e)?;
+            forget_moved(copies, moved);
         }
         Ok(())
     }

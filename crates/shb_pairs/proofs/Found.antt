@@ -23,8 +23,8 @@ use Rattle.shb_pairs.specs.Accesses.{accesses_at, is_selected, selected_at, occu
 use Rattle.shb_pairs.specs.Ranges.{sorted}
 use Rattle.shb_pairs.specs.Search.{AreRivals, racing}
 use Rattle.shb_pairs.proofs.ByThread.{accessed_selected, op_in, op_in_at, occurs_filter, occurs_none, occurs_once, selected_item, variable_in}
-use Rattle.shb_pairs.proofs.Counting.{access_from_test, test_from_access}
-use Rattle.shb_pairs.proofs.Merging.{occurs_contains, sorted_occurs, sorted_rises, sorted_same}
+use Rattle.shb_pairs.proofs.Counting.{access_from_test, numbers_few, test_from_access}
+use Rattle.shb_pairs.proofs.Merging.{occurs_contains, sorted_length, sorted_occurs, sorted_rises, sorted_same}
 use Rattle.shb_pairs.proofs.Runs.{race_accesses}
 
 -- a member of the accesses by thread
@@ -147,3 +147,13 @@ found_of_write trace x j both start found none one of_both = of_write both of_bo
 
 pub found_of_read : (trace : List Event) (x j : ℕ) (op : Op) (writes start found : List ℕ) → j < length trace → op_at trace j ≡ Some op → is_write op ≡ false → start ≡ [] → found ≡ start ++ racing trace j writes → IsByThread trace Writes x writes → HasFound trace x j found
 found_of_read trace x j op writes start found lt is_op reading none one of_writes = of_read writes of_writes (ap is_write (op_of_item trace j _ op lt is_op) ∙ reading) (one ∙ ap (λ (ks : List ℕ). ks ++ racing trace j writes) none)
+
+-- accesses by thread are no more than events
+pub by_thread_few : (trace : List Event) (which : Which) (x : ℕ) (list : List ℕ) → IsByThread trace which x list → length list ≤ length trace
+by_thread_few trace which x list h =
+    let own = λ (k : ℕ). selected_at trace which k && accesses_at trace x k in
+    let same : sorted list ≡ numbers_where own (length trace) = sorted_same (sorted list) (numbers_where own (length trace)) (sorted_rises list) (numbers_rise own (length trace)) (λ v. sorted_occurs v list ∙ h.same v) in
+    let long = ap length same in
+    let size = sorted_length list in
+    let few = numbers_few own (length trace) in
+    omega (arith, long, size, few)

@@ -180,3 +180,14 @@ run_small trace flags p run =
 pub run_value : (trace seen : List Event) (p : Piece) (found : List (ℕ × ℕ)) → trace ≡ seen → found ≡ flat_map (races_with trace) (slice_range (accesses_in trace p.variable) p.from p.to) → found ≡ races_of seen p
 unfolding races_of
 run_value trace seen p found same so = so ∙ ap (λ (tr : List Event). flat_map (races_with tr) (slice_range (accesses_in tr p.variable) p.from p.to)) same
+
+-- the races of a piece, by the accesses of its run
+pub piece_races : (a : OpenTrace) (k : ℕ) (p : Piece) → races_at a k ≡ races_of a.trace p → races_at a k ≡ flat_map (races_with a.trace) (slice_range (accesses_in a.trace p.variable) p.from p.to)
+unfolding races_of
+piece_races a k p is = is
+
+-- the races of a run of one access
+pub one_access : (trace : List Event) (xs : List ℕ) (q : ℕ) → q < length xs → flat_map (races_with trace) (slice_range xs q (q + 1)) ≡ races_with trace (get_or xs q 0)
+one_access trace xs q lt =
+    let none : flat_map (races_with trace) (take (q - q) (drop q xs)) ≡ [] = sym (run_first trace xs [] q refl) in
+    run_more trace xs q q (omega arith) lt ∙ ap (λ (ps : List (ℕ × ℕ)). ps ++ races_with trace (get_or xs q 0)) none

@@ -1,10 +1,11 @@
 //! The races of a trace as work in pieces.
 
-ghost use Rattle.std.specs.Prelude.{◌≡◌, ◌<◌, length, map};
+ghost use Rattle.std.specs.Prelude.{◌≡◌, ◌<◌, ◌≤◌, flat_map, length, map, slice_range};
 ghost use Rattle.shb_clocks.specs.Open.{OpenTrace};
+ghost use Rattle.shb_pairs.specs.Accesses.{accesses_in};
 ghost use Rattle.shb_pairs.specs.Open.{AsksOpen};
 ghost use Rattle.shb_pairs.specs.Pieces.{pieces_in};
-ghost use Rattle.shb_pairs.specs.Races.{joined, piece_at, races_at};
+ghost use Rattle.shb_pairs.specs.Races.{joined, piece_at, races_at, races_with};
 ghost use Rattle.shb_lines.specs.events.Race.{ends};
 
 use crate::accesses::Accesses;
@@ -74,6 +75,39 @@ impl<'a, O: Order> RangeJob<'a, O> {
             accesses,
             pieces,
         }
+    }
+
+    /// The piece with this number, from 0. Its value is the races of the accesses in its run.
+    pub fn piece(&self, k: u64) -> Piece
+        requires { k < length (pieces_in self.now) }
+        ensures value { result ≡ piece_at (pieces_in self.now) k }
+        ensures forward { result.from ≤ result.to }
+        ensures within { result.to ≤ length (accesses_in self.now.trace result.variable) }
+        ensures races { races_at self.now k ≡ flat_map (races_with self.now.trace)
+            (slice_range (accesses_in self.now.trace result.variable) result.from result.to) }
+    {
+        piece_with(self.pieces, k)
+    }
+
+    /// What the search for the races of the piece with this number goes by.
+    pub fn search(&self, k: u64) -> Search<'_, 'a, O>
+        requires { k < length (pieces_in self.now) }
+        ensures variable { result.variable ≡ (piece_at (pieces_in self.now) k).variable }
+        ensures of_trace { result.ordered.now.trace.now.events.now ≡ self.now.trace }
+    {
+        let piece = piece_with(self.pieces, k);
+        Search {
+            ordered: &self.ordered,
+            accesses: self.accesses,
+            variable: piece.variable,
+        }
+    }
+
+    /// How many events the trace has.
+    pub fn events(&self) -> u32
+        ensures { result ≡ length self.now.trace }
+    {
+        self.ordered.trace.events.len() as u32
     }
 }
 

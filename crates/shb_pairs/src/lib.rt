@@ -11,9 +11,9 @@
 //! of each thread that has races with it. [`PairJob`] is the same with lists of pairs.
 //!
 //! The search for a later access j goes over the threads that write its variable (that access it,
-//! where j writes). In the accesses of a thread it finds by binary search where j stands, and back from
-//! there, one by one and then by halving, the first whose local time is above what the order answers:
-//! the races are the range between the two. A write without a race that is SHB-below the predecessor
+//! where j writes). In the accesses of a thread it finds where j stands, and back from there the first
+//! whose local time is above what the order answers: the races are the range between the two. It tries
+//! first what the last search of the variable found ([`Cursors`]), and else halves. A write without a race that is SHB-below the predecessor
 //! of j orders all accesses before it; then only those after it are tested, one by one, until one races.
 //! So accesses that are ordered cost about one look-up each, and races cost their ranges.
 #![tactic(auto)]
@@ -27,12 +27,17 @@ mod race;
 mod races;
 mod ranges;
 mod rivals;
+mod run_ends;
 mod screen;
 mod search;
+mod spans;
 
-pub use accesses::{Accesses, accesses_of, accesses_of_open};
+pub use accesses::{Accesses, Which, accesses_of, accesses_of_open};
 pub use job::{PairJob, RangeJob};
 pub use piece::{Piece, pieces};
 pub use race::is_race;
 pub use ranges::RaceRanges;
+pub use rivals::Cursors;
 pub use screen::open_variables;
+pub use search::Search;
+pub use spans::{Span, racing_spans};

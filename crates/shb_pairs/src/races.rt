@@ -24,7 +24,7 @@ fn add_races<'a, O: Order>(
     alloc: Global,
     races: &mut RaceRanges<'a>,
     search: &Search<'_, 'a, O>,
-    cursors: &mut Cursors,
+    cursors: &mut Cursors<'_>,
     second: u32,
 ) -> Result<(), NoMemory>
     requires accessed { variable_at search.now.ordered.now.trace.now.events.now second ≡ Some search.now.variable }
@@ -147,7 +147,7 @@ fn add_races_at<'a, O: Order>(
     alloc: Global,
     races: &mut RaceRanges<'a>,
     search: &Search<'_, 'a, O>,
-    cursors: &mut Cursors,
+    cursors: &mut Cursors<'_>,
     free_write: Option<usize>,
     index: usize,
 ) -> Result<(), NoMemory>
@@ -188,7 +188,7 @@ pub(crate) fn races_in<'a, O: Order>(
 {
     let accesses = search.accesses.of(search.variable);
     let mut races = RaceRanges::new(alloc);
-    let mut cursors = Cursors::new(alloc);
+    let mut cursors = Cursors::new(alloc, search);
     let mut free_write = None;
     for index in from..to {
         let count = races.len();

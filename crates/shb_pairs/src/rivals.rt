@@ -1,6 +1,6 @@
 //! The accesses that race with a later one, as ranges, found thread by thread.
 
-ghost use Rattle.std.specs.Prelude.{◌≡◌, ◌++◌, ℕ, ◌+◌, ◌<◌, ◌≤◌, true, Some, All, AllPairs, IfOk, length, slice_index_or};
+ghost use Rattle.std.specs.Prelude.{◌≡◌, ◌++◌, ℕ, ◌+◌, ◌<◌, ◌≤◌, true, Some, All, AllPairs, IfOk, IsTrue, OnOk, length, slice_index_or, slice_range};
 ghost use Rattle.shb_lines.specs.events.Discipline.{local_time};
 ghost use Rattle.shb_lines.specs.events.Events.{thread_at};
 ghost use Rattle.shb_lines.specs.events.Race.{variable_at};
@@ -14,7 +14,9 @@ ghost use Rattle.shb_pairs.specs.declared.buckets.Key.TheVariants.{Thread};
 
 use crate::buckets::part;
 use crate::ranges::Range;
+use crate::run_ends::RunEnd;
 use crate::search::Search;
+use crate::spans::Span;
 use shb_clocks::{Order, Ordered};
 use shb_io::NoMemory;
 use shb_lines::Events;
@@ -24,42 +26,91 @@ use std::alloc::Global;
 /// So many of a thread's accesses are looked at one by one before the others are halved.
 const NEAR: usize = 8;
 
-/// What a search found of one thread's accesses: where they end among the positions by thread, and how
-/// many of them stand before the later access. The search for the next access tries these first. They say
-/// where to look, and not what is there: nothing is known of them, and each is checked before it is used.
+/// What a search found of one thread's accesses: where they end among the positions by thread, how many of
+/// them stand before the later access, and where among them those start that race with it. The search for
+/// the next access tries these first. They say where to look, and not what is there: nothing is known of
+/// them, and each is checked before it is used.
 #[derive(Clone, Copy)]
-struct Cursor {
-    end: usize,
+pub(crate) struct Cursor {
+    pub(crate) end: usize,
     before: usize,
+    start: usize,
 }
 
-/// The cursors of a search for the races of one variable, by threads in order: for its writes, and for all
-/// its accesses.
-pub(crate) struct Cursors {
-    writes: Vec<Cursor>,
-    both: Vec<Cursor>,
+/// The cursors of a search in one list of positions by thread, by threads in order. Where a thread has no
+/// cursor yet, an end that was found when the list was made is tried.
+pub(crate) struct ThreadCursors<'a> {
+    pub(crate) cursors: Vec<Cursor>,
+    ends: &'a [RunEnd],
 }
 
-// By hand: a derived one stands in each function that drops cursors, with a step for each vector.
-impl Drop for Cursors {
+// By hand: a derived one stands in each function that drops cursors, with a step for the vector.
+impl<'a> Drop for ThreadCursors<'a> {
+    fn drop(self) {
+        let ThreadCursors {
+            cursors: _,
+            ends: _,
+        } = self;
+    }
+}
+
+impl<'a> ThreadCursors<'a> {
+    /// No cursors yet.
+    fn new(alloc: Global, ends: &'a [RunEnd]) -> ThreadCursors<'a> {
+        ThreadCursors {
+            cursors: Vec::new(alloc),
+            ends,
+        }
+    }
+
+    /// Adds the cursor of a run of one thread, if it is the first run without one.
+    pub(crate) fn reach(&mut self, run: usize) -> Result<(), NoMemory>
+        requires { run ≤ length self.old.cursors.items }
+        ensures { OnOk result (run < length self.new.cursors.items) }
+    {
+        if run == self.cursors.len() {
+            let end = match self.ends.get(run) {
+                Some(found) => found.end,
+                None => 0,
+            };
+            // No access has these cursors, so both are searched for.
+            self.cursors.push(Cursor {
+                end,
+                before: usize::MAX,
+                start: usize::MAX,
+            })?;
+        }
+        Ok(())
+    }
+}
+
+/// The cursors of a search for the races of one variable: for its writes, and for all its accesses.
+pub struct Cursors<'a> {
+    pub(crate) writes: ThreadCursors<'a>,
+    pub(crate) both: ThreadCursors<'a>,
+}
+
+// By hand: a derived one stands in each function that drops cursors, with a step for each part.
+impl<'a> Drop for Cursors<'a> {
     fn drop(self) {
         let Cursors { writes: _, both: _ } = self;
     }
 }
 
-impl Cursors {
-    /// No cursors yet.
-    pub(crate) fn new(alloc: Global) -> Cursors {
+impl<'a> Cursors<'a> {
+    /// The cursors of a search that has found nothing yet.
+    pub fn new<O: Order>(alloc: Global, search: &Search<'_, 'a, O>) -> Cursors<'a> {
+        let accesses = search.accesses;
         Cursors {
-            writes: Vec::new(alloc),
-            both: Vec::new(alloc),
+            writes: ThreadCursors::new(alloc, accesses.write_ends(search.variable)),
+            both: ThreadCursors::new(alloc, accesses.both_ends(search.variable)),
         }
     }
 }
 
 /// Where positions of one thread end that start at an index, among positions by thread. A guess up to which
 /// all are of that thread is taken as it is; without one the end of all its positions is found.
-fn run_end(events: &Events, positions: &[u32], start: usize, guess: usize) -> usize
+pub(crate) fn run_end(events: &Events, positions: &[u32], start: usize, guess: usize) -> usize
     requires in_range { All (λ k. k < length events.now) positions.now }
     requires sorted { AllPairs (IsBeforeByThread events.now) positions.now }
     requires inside { start < length positions.now }
@@ -149,6 +200,43 @@ fn tail_start(links: &Links<'_>, positions: &[u32], end: usize, below: u32) -> u
     halved_start(links, positions, near, below)
 }
 
+/// Whether the position before an index, if there is one, is among the first `below` events of its thread.
+fn is_under_before(links: &Links<'_>, positions: &[u32], index: usize, below: u32) -> bool
+    requires in_range { All (λ k. k < length links.now) positions.now }
+    requires within { index ≤ length positions.now }
+    ensures { IsTrue result → (t k : ℕ) → k + 1 ≡ index → thread_at links.now (slice_index_or positions.now k 0) ≡ Some t
+        → local_time links.now t (slice_index_or positions.now k 0) ≤ below }
+{
+    index == 0 || links.local(positions[index - 1]) <= below
+}
+
+/// The same, where it is tried first whether there are any, and then whether they start at a guess.
+fn guessed_start(
+    links: &Links<'_>,
+    positions: &[u32],
+    end: usize,
+    guess: usize,
+    below: u32,
+) -> usize
+    requires one_thread { IsOfOneThread links.now positions.now }
+    requires within { end ≤ length positions.now }
+    ensures start { result ≤ end }
+    ensures above { (t k : ℕ) → result ≤ k → k < end → thread_at links.now (slice_index_or positions.now k 0) ≡ Some t
+        → below < local_time links.now t (slice_index_or positions.now k 0) }
+    ensures under { (t k : ℕ) → k + 1 ≡ result → thread_at links.now (slice_index_or positions.now k 0) ≡ Some t
+        → local_time links.now t (slice_index_or positions.now k 0) ≤ below }
+{
+    if is_under_before(links, positions, end, below) {
+        return end;
+    }
+    if guess < end && is_under_before(links, positions, guess, below) {
+        if links.local(positions[guess]) > below {
+            return guess;
+        }
+    }
+    tail_start(links, positions, end, below)
+}
+
 /// Adds a range, unless it is empty.
 fn add_range<'p>(found: &mut Vec<Range<'p>>, firsts: &'p [u32]) -> Result<(), NoMemory>
     ensures { IfOk result (λ _. in_ranges found.new.items ≡ in_ranges found.old.items ++ firsts.now) }
@@ -159,14 +247,47 @@ fn add_range<'p>(found: &mut Vec<Range<'p>>, firsts: &'p [u32]) -> Result<(), No
     Ok(())
 }
 
+/// Those positions, all of one thread, that race with a later access. Local times rise with positions, so
+/// the races are the last ones before it: those after the events of the thread that are SHB-below its
+/// predecessor.
+pub(crate) fn tail_of<O: Order>(
+    ordered: &Ordered<'_, O>,
+    positions: &[u32],
+    cursor: &mut Cursor,
+    second: u32,
+) -> Span
+    requires in_range { second < length ordered.now.trace.now.events.now }
+    requires asked { O.asks ordered.now.order.now second ≡ true }
+    requires some { 0 < length positions.now }
+    requires rivals { AreRivals ordered.now.trace.now.events.now second positions.now }
+    requires one_thread { IsOfOneThread ordered.now.trace.now.events.now positions.now }
+    ensures ordered { result.from ≤ result.to }
+    ensures within { result.to ≤ length positions.now }
+    ensures races { slice_range positions.now result.from result.to
+        ≡ racing ordered.now.trace.now.events.now second positions.now }
+{
+    let thread = ordered.trace.events.thread(positions[0]);
+    // The accesses of its own thread are ordered before it: the order isn't asked.
+    if thread == ordered.trace.events.thread(second) {
+        return Span { from: 0, to: 0 };
+    }
+    let end = count_before(positions, cursor.before, second);
+    cursor.before = end;
+    let below = ordered.order.below_pred(second, thread);
+    let start = guessed_start(ordered.links, positions, end, cursor.start, below);
+    cursor.start = start;
+    Span {
+        from: start,
+        to: end,
+    }
+}
+
 /// Adds the range of those positions, all of one thread, that race with a later access, if there are any.
-/// Local times rise with positions, so the races are the last ones before it: those after the events of
-/// the thread that are SHB-below its predecessor.
 fn add_tail<'p, O: Order>(
     found: &mut Vec<Range<'p>>,
     ordered: &Ordered<'_, O>,
     positions: &'p [u32],
-    before: &mut usize,
+    cursor: &mut Cursor,
     second: u32,
 ) -> Result<(), NoMemory>
     requires in_range { second < length ordered.now.trace.now.events.now }
@@ -177,16 +298,8 @@ fn add_tail<'p, O: Order>(
     ensures { IfOk result (λ _. in_ranges found.new.items
         ≡ in_ranges found.old.items ++ racing ordered.now.trace.now.events.now second positions.now) }
 {
-    let thread = ordered.trace.events.thread(positions[0]);
-    // The accesses of its own thread are ordered before it: the order isn't asked.
-    if thread == ordered.trace.events.thread(second) {
-        return Ok(());
-    }
-    let end = count_before(positions, *before, second);
-    *before = end;
-    let below = ordered.order.below_pred(second, thread);
-    let start = tail_start(ordered.links, positions, end, below);
-    add_range(found, part(positions, start, end))
+    let tail = tail_of(ordered, positions, cursor, second);
+    add_range(found, part(positions, tail.from, tail.to))
 }
 
 /// Adds the ranges of those positions, by thread, that race with a later access.
@@ -194,7 +307,7 @@ fn add_rivals<'p, O: Order>(
     found: &mut Vec<Range<'p>>,
     ordered: &Ordered<'_, O>,
     positions: &'p [u32],
-    cursors: &mut Vec<Cursor>,
+    cursors: &mut ThreadCursors<'_>,
     second: u32,
 ) -> Result<(), NoMemory>
     requires in_range { second < length ordered.now.trace.now.events.now }
@@ -208,18 +321,12 @@ fn add_rivals<'p, O: Order>(
     let mut start = 0;
     let mut run = 0;
     while start < positions.len() {
-        if run == cursors.len() {
-            // Neither can be right, so both are searched for.
-            cursors.push(Cursor {
-                end: 0,
-                before: usize::MAX,
-            })?;
-        }
-        let cursor = &mut cursors[run];
+        cursors.reach(run)?;
+        let cursor = &mut cursors.cursors[run];
         let end = run_end(ordered.trace.events, positions, start, cursor.end);
         cursor.end = end;
         let of_thread = part(positions, start, end);
-        add_tail(found, ordered, of_thread, &mut cursor.before, second)?;
+        add_tail(found, ordered, of_thread, cursor, second)?;
         start = end;
         run += 1;
     }
@@ -231,7 +338,7 @@ fn add_rivals<'p, O: Order>(
 pub(crate) fn rivals_of<'a, O: Order>(
     alloc: Global,
     search: &Search<'_, 'a, O>,
-    cursors: &mut Cursors,
+    cursors: &mut Cursors<'_>,
     second: u32,
 ) -> Result<Vec<Range<'a>>, NoMemory>
     requires accessed { variable_at search.now.ordered.now.trace.now.events.now second ≡ Some search.now.variable }

@@ -1,23 +1,70 @@
 //! What the search for the races of one variable goes by.
 
-ghost use Rattle.std.specs.Prelude.{◌≡◌, ◌<◌, true};
-ghost use Rattle.shb_pairs.specs.Accesses.{variables_in};
+ghost use Rattle.std.specs.Prelude.{◌≡◌, ◌<◌, true, IfOk, length, map, slice_index_or};
+ghost use Rattle.shb_lines.specs.events.Race.{ends};
+ghost use Rattle.shb_pairs.specs.Accesses.{IsByThread, accesses_in, variables_in};
 ghost use Rattle.shb_clocks.specs.Open.{is_open};
 ghost use Rattle.shb_pairs.specs.Open.{AsksOpen};
+ghost use Rattle.shb_pairs.specs.Races.{races_with};
+ghost use Rattle.shb_pairs.specs.declared.accesses.Which.TheVariants.{Both, Writes};
 
 use crate::accesses::Accesses;
+use crate::races::races_in;
 use shb_clocks::{Order, Ordered};
+use shb_io::NoMemory;
+use shb_lines::Pair;
+use std::alloc::Global;
 
 /// What the search for the races of one variable goes by: an ordered trace, the accesses of its open
 /// variables, and one of these variables. That the accesses are of this trace and list the variable,
 /// and that the order can be asked about each of them, is part of the type.
 #[derive(Drop)]
-pub(crate) struct Search<'s, 'a, O: Order> {
-    pub(crate) ordered: &'s Ordered<'a, O>,
-    pub(crate) accesses: &'a Accesses<'a>,
-    pub(crate) variable: u32,
-    pub(crate) ghost of_trace: { accesses.now.trace ≡ ordered.now.trace.now.events.now },
-    pub(crate) ghost listed: { is_open accesses.now.flags variable ≡ true },
-    pub(crate) ghost asked: { AsksOpen (O.asks ordered.now.order.now) accesses.now.flags ordered.now.trace.now.events.now },
-    pub(crate) ghost accessed: { variable < variables_in ordered.now.trace.now.events.now },
+pub struct Search<'s, 'a, O: Order> {
+    /// The trace, with its links and its order.
+    pub ordered: &'s Ordered<'a, O>,
+    /// The accesses of its open variables.
+    pub accesses: &'a Accesses<'a>,
+    /// The number of the variable.
+    pub variable: u32,
+    pub ghost of_trace: { accesses.now.trace ≡ ordered.now.trace.now.events.now },
+    pub ghost listed: { is_open accesses.now.flags variable ≡ true },
+    pub ghost asked: { AsksOpen (O.asks ordered.now.order.now) accesses.now.flags ordered.now.trace.now.events.now },
+    pub ghost accessed: { variable < variables_in ordered.now.trace.now.events.now },
+}
+
+impl<'s, 'a, O: Order> Search<'s, 'a, O> {
+    /// The accesses of the variable: their positions from 0, in trace order.
+    pub fn in_order(&self) -> &'a [u32]
+        ensures { result.now ≡ accesses_in self.now.ordered.now.trace.now.events.now self.now.variable }
+    {
+        self.accesses.of(self.variable)
+    }
+
+    /// The accesses of the variable by thread: their positions from 0, those of one thread in trace order.
+    pub fn both_by_thread(&self) -> &'a [u32]
+        ensures { IsByThread self.now.ordered.now.trace.now.events.now Both self.now.variable result.now }
+    {
+        self.accesses.both_by_thread(self.variable)
+    }
+
+    /// The writes of the variable by thread: their positions from 0, those of one thread in trace order.
+    pub fn writes_by_thread(&self) -> &'a [u32]
+        ensures { IsByThread self.now.ordered.now.trace.now.events.now Writes self.now.variable result.now }
+    {
+        self.accesses.writes_by_thread(self.variable)
+    }
+
+    /// The races whose later access has this index among the accesses in trace order, by the earlier access.
+    ///
+    /// # Errors
+    ///
+    /// `NoMemory` where a growth was refused.
+    pub fn races_at(&self, alloc: Global, index: usize) -> Result<Vec<Pair>, NoMemory>
+        requires { index < length (accesses_in self.now.ordered.now.trace.now.events.now self.now.variable) }
+        ensures { IfOk result (λ v. map ends v.items ≡ races_with self.now.ordered.now.trace.now.events.now
+            (slice_index_or (accesses_in self.now.ordered.now.trace.now.events.now self.now.variable) index 0)) }
+    {
+        let races = races_in(alloc, self, index, index + 1)?;
+        races.expanded(alloc)
+    }
 }

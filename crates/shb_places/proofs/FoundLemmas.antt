@@ -1,12 +1,12 @@
 -- The races that are found, one more at a time.
-use Rattle.std.proofs.Common.{◌≡◌, ◌≢◌, ℕ, zero, suc, ◌+◌, ◌<◌, ◌≤◌, ◌⊎◌, inl, inr, Bool, true, false, List, [], ◌∷◌, ◌++◌, Option, Some, None, length, get_or, slice_get, arith, refl, subst, ap, sym, ◌∙◌}
+use Rattle.std.proofs.Common.{◌≡◌, ℕ, ◌<◌, ◌≤◌, ◌⊎◌, inl, inr, List, [], ◌∷◌, ◌++◌, Option, Some, length, get_or, slice_get, arith, refl, subst, ap, sym, ◌∙◌}
 use Rattle.std.specs.Prelude.{Contains}
 use Rattle.std.proofs.Math.ListN.{set, length-set}
 use Rattle.std.proofs.lemmas.Bool.{cases_eq, cases_lt}
 use Rattle.std.proofs.lemmas.List.{length-append}
 use Rattle.std.proofs.lemmas.Option.{slice_get_within, slice_get-get_or}
 use Rattle.shb_lines.specs.declared.event.Pair.{Pair}
-use Rattle.shb_lines.specs.events.Race.{KeyBefore, Race, variable_at}
+use Rattle.shb_lines.specs.events.Race.{KeyBefore, variable_at}
 use Rattle.shb_lines.specs.text.TraceData.{TraceData}
 use Rattle.shb_report.specs.Leading.{place_at}
 use Rattle.shb_report.specs.Places.{location_at}
@@ -14,6 +14,7 @@ use Rattle.shb_places.specs.declared.found.Place.{Place}
 use Rattle.shb_places.specs.declared.notes.Access.{Access}
 use Rattle.shb_places.specs.Access.{IsAccess}
 use Rattle.shb_places.specs.Covering.{IsCovered}
+use Rattle.shb_places.specs.Known.{IsKnown}
 use Rattle.shb_places.specs.Found.{AreFound, Improves, IsFound, IsOffered, IsPlace, NotAfter}
 use Rattle.shb_places.proofs.Lists.{contains_get, get_cases, get_contains, get_last, get_more, get_set, get_set_other, same_entry}
 
@@ -91,13 +92,21 @@ same_places trace i j k l a b = ap (λ (t : List ℕ). pair_of t (location_at tr
     pair_of a b = (a, b)
 
 -- a place that is known before an access
-pub known_covers : (trace : TraceData) (n : ℕ) (places : List Place) (races : List Pair) (first q i : ℕ) (race : Pair) (access : Access) → AreFound trace n places races → IsAccess trace access → (is : IsPlace places first access.location q) → slice_get races q ≡ Some race → (is.place.variable < access.variable) ⊎ ((is.place.variable ≡ access.variable) × (race.second < access.event)) → location_at trace i ≡ location_at trace first → IsCovered trace races i access.event
-known_covers trace n places races first q i race access found own is at early located =
-    let h = found.each q is.place race is.there at in
-    covered_by trace races race i access.event is.place.variable access.variable (get_contains races q race at)
-    (same_places trace race.first race.second i access.event (h.first_is ∙ (ap (λ (l : ℕ). location_at trace l) is.first_is ∙ sym located)) (h.second_is ∙ (ap (λ (l : ℕ). location_at trace l) is.second_is ∙ sym own.location)))
-    h.variable_is own.variable
-    (elim early [ inl lt ↦ inl lt | inr rest ↦ inr (rest.0, inl rest.1) ])
+pub known_covers : (trace : TraceData) (n : ℕ) (places : List Place) (races : List Pair) (first q : ℕ) (race : Pair) (access : Access) → AreFound trace n places races → IsAccess trace access → (is : IsPlace places first access.location q) → slice_get races q ≡ Some race → (is.place.variable < access.variable) ⊎ ((is.place.variable ≡ access.variable) × (race.second < access.event)) → IsKnown trace races access.variable first access.location access.event
+known_covers trace n places races first q race access found own is at early = record {
+  covers = λ i j later of_j first_is second_is. (
+      let h = found.each q is.place race is.there at in
+      covered_by trace races race i j is.place.variable access.variable (get_contains races q race at)
+      (same_places trace race.first race.second i j (h.first_is ∙ (ap (λ (l : ℕ). location_at trace l) is.first_is ∙ sym first_is)) (h.second_is ∙ (ap (λ (l : ℕ). location_at trace l) is.second_is ∙ sym second_is)))
+      h.variable_is of_j
+      (elim early [ inl lt ↦ inl lt | inr rest ↦ inr (rest.0, inl (let lt = rest.1 in omega (arith, lt, later))) ]));
+}
+
+-- a place that is known stays so, for later races and for a list that improves
+pub known_then : (trace : TraceData) (n : ℕ) (places : List Place) (old new : List Pair) (x l m k next : ℕ) → AreFound trace n places old → Improves trace old new → k ≤ next → IsKnown trace old x l m k → IsKnown trace new x l m next
+known_then trace n places old new x l m k next found improves later known = record {
+  covers = λ i j lt of_j first_is second_is. covered_then trace n places old new i j found improves (known.covers i j (omega (arith, later, lt)) of_j first_is second_is);
+}
 
 -- a race in the place of a later one
 pub kept_earlier : (trace : TraceData) (n : ℕ) (places : List Place) (races : List Pair) (q : ℕ) (known place : Place) (kept race : Pair) → AreFound trace n places races → IsFound trace n place race → slice_get places q ≡ Some known → slice_get races q ≡ Some kept → known.first ≡ place.first → known.second ≡ place.second → KeyBefore (place.variable, race.second, race.first) (known.variable, kept.second, kept.first) → IsOffered trace n (set places q place) races (set races q race) race

@@ -10,3 +10,5 @@ pub mod SearchLemmas
 pub mod SiteLemmas
 mod SortedEntries
 pub mod StepLemmas
+pub mod TakeLemmas
+pub mod WantedLemmas

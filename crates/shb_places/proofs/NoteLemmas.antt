@@ -1,6 +1,6 @@
 -- What is kept of the accesses, an access at a time.
-use Rattle.std.proofs.Common.{◌≡◌, ◌≢◌, ℕ, zero, suc, ◌+◌, ◌<◌, ◌≤◌, ◌⊎◌, inl, inr, Bool, true, false, List, [], ◌∷◌, ◌++◌, Option, Some, None, length, get_or, slice_get, arith, refl, subst, ap, sym, ◌∙◌}
-use Rattle.std.specs.Prelude.{option_and_then, ◌↔◌}
+use Rattle.std.proofs.Common.{◌≡◌, ◌≢◌, ℕ, ◌+◌, ◌<◌, ◌≤◌, ◌⊎◌, inl, inr, Bool, true, false, List, [], ◌∷◌, ◌++◌, Option, Some, None, length, get_or, slice_get, arith, refl, subst, ap, sym, ◌∙◌}
+use Rattle.std.specs.Prelude.{option_and_then}
 use Rattle.std.proofs.Math.ListN.{set, length-set}
 use Rattle.std.proofs.lemmas.Bool.{cases_eq, cases_Bool}
 use Rattle.std.proofs.lemmas.List.{length-append}
@@ -13,17 +13,16 @@ use Rattle.shb_lines.specs.events.Events.{thread_at, op_at, variable_of}
 use Rattle.shb_lines.specs.events.Order.{IsBelowPredCount}
 use Rattle.shb_lines.specs.events.Race.{Conflict, Race, variable_at}
 use Rattle.shb_lines.specs.text.TraceData.{TraceData}
-use Rattle.shb_report.specs.Places.{location_at}
 use Rattle.shb_pairs.proofs.Found.{accessed_within}
-use Rattle.shb_pairs.proofs.Tails.{IsRival, rival_races, times_rise}
+use Rattle.shb_pairs.proofs.Tails.{rival_races, times_rise}
 use Rattle.shb_places.specs.declared.notes.Access.{Access}
 use Rattle.shb_places.specs.declared.notes.Class.{Class}
 use Rattle.shb_places.specs.declared.notes.Link.{Link}
 use Rattle.shb_places.specs.declared.notes.Newest.{Newest}
 use Rattle.shb_places.specs.declared.sites.Site.{Site}
-use Rattle.shb_places.specs.Access.{IsAccess, IsAccessOf}
+use Rattle.shb_places.specs.Access.{IsAccess, IsAccessOf, writes_at}
 use Rattle.shb_places.specs.Lists.{Reaches, here, further, class_next, link_previous, none}
-use Rattle.shb_places.specs.Notes.{AreAlike, AreKept, AreLinked, InChain, IsAddable, IsAdded, IsBegun, IsClass, IsClassOf, IsEarliestAt, IsEarliestIn, IsExtended, IsNotedAt, RacesAt, Tables}
+use Rattle.shb_places.specs.Notes.{AreAlike, AreKept, AreLinked, InChain, IsAddable, IsAdded, IsClass, IsClassOf, IsEarliestAt, IsEarliestIn, IsNotedAt, RacesAt, Tables}
 use Rattle.shb_places.proofs.Lists.{get_cases, get_last, get_more, get_set, get_set_other, reaches_end, reaches_more, reaches_next, reaches_within, same_entry}
 
 -- where a chain ends
@@ -82,6 +81,7 @@ access_alike trace t x l writes e f alike access = record {
   location = alike.location ∙ access.location;
   write = λ is. alike.op ∙ access.write is;
   read = λ is op. access.read is (sym alike.op ∙ op);
+  kind = access.kind;
 }
 
 -- the events of a class are accesses of it, and their local times are no higher than that of the newest
@@ -563,4 +563,21 @@ added_more trace sites old new s e heads added = record {
     at_newest = noted.at_newest;
     chain = noted.chain;
   });
+}
+
+-- a truth value is not both
+pub not_both : (known : Bool) → known ≡ false → known ≡ true → ⊥
+not_both known isnt is = let f : true ≡ false = sym is ∙ isnt in (let none : ⊥ = cc in none)
+
+-- a read doesn't race with an access at a site of reads
+pub reads_alone : (trace : TraceData) (sites : List Site) (notes : Tables) (s : ℕ) (site : Site) (access : Access) → AreKept trace sites notes access.event → IsAccess trace access → slice_get sites s ≡ Some site → access.writes ≡ false → writes_at trace.events site.location ≡ false → IsEarliestAt trace sites notes s access none
+reads_alone trace sites notes s site access kept own at_site reads no_write = record {
+  least = λ e noted race.
+      let at : slice_get sites noted.class.site ≡ Some site = subst (λ (k : ℕ). slice_get sites k ≡ Some site) (sym noted.site_is) at_site in
+      let other = (class_access trace sites notes access.event noted.number e noted.class noted.newest site kept noted.there noted.at_newest at noted.chain).0 in
+      absurd (elim (race_class trace noted.class.thread site.variable site.location e noted.class.writes access own other race).1 [
+        | inl w ↦ not_both (writes_at trace.events site.location) no_write (other.kind w)
+        | inr w ↦ not_both access.writes reads w
+      ]);
+  races = λ ne. absurd (ne refl);
 }

@@ -1,7 +1,6 @@
 -- The search, an access at a time.
-use Rattle.std.proofs.Common.{◌≡◌, ◌≢◌, ℕ, ◌+◌, ◌<◌, ◌≤◌, ◌⊎◌, inl, inr, Bool, true, false, List, [], ◌∷◌, ◌++◌, Option, Some, None, length, get_or, slice_get, arith, refl, subst, ap, sym, ◌∙◌}
-use Rattle.std.specs.Prelude.{All, Contains}
-use Rattle.std.proofs.lemmas.Bool.{cases_Bool, cases_eq}
+use Rattle.std.proofs.Common.{◌≡◌, ◌≢◌, ℕ, ◌+◌, ◌<◌, ◌≤◌, ◌⊎◌, inl, inr, Bool, true, false, List, [], Option, Some, None, length, get_or, slice_get, arith, refl, subst, ap, sym, ◌∙◌}
+use Rattle.std.proofs.lemmas.Bool.{cases_eq}
 use Rattle.std.proofs.lemmas.List.Elements.{Contains-get_or}
 use Rattle.std.proofs.lemmas.Option.{slice_get_within}
 use Rattle.shb_clocks.specs.Open.{is_open}
@@ -9,31 +8,30 @@ use Rattle.shb_lines.specs.declared.event.Pair.{Pair}
 use Rattle.shb_lines.specs.events.Discipline.{local_time}
 use Rattle.shb_lines.specs.events.Race.{Race, variable_at}
 use Rattle.shb_lines.specs.text.TraceData.{TraceData}
-use Rattle.shb_report.specs.Leading.{place_at}
 use Rattle.shb_report.specs.Places.{location_at}
 use Rattle.shb_pairs.specs.Open.{AreOpen}
 use Rattle.shb_pairs.proofs.Found.{accessed_within}
 use Rattle.shb_places.specs.declared.found.Found.{Found}
 use Rattle.shb_places.specs.declared.found.Place.{Place}
 use Rattle.shb_places.specs.declared.notes.Access.{Access}
-use Rattle.shb_places.specs.declared.notes.Class.{Class}
 use Rattle.shb_places.specs.declared.notes.Link.{Link}
 use Rattle.shb_places.specs.declared.notes.Notes.{Notes}
 use Rattle.shb_places.specs.declared.sites.Site.{Site}
 use Rattle.shb_places.specs.declared.sites.Sites.{Sites}
-use Rattle.shb_places.specs.Access.{IsAccess, IsAccessOf}
+use Rattle.shb_places.specs.Access.{IsAccess}
 use Rattle.shb_places.specs.Covering.{Covers, IsCovered}
+use Rattle.shb_places.specs.Known.{IsKnown}
 use Rattle.shb_places.specs.Found.{AreFound, Improves, IsFound, IsOffered}
 use Rattle.shb_places.specs.Lists.{Reaches, none, site_previous}
-use Rattle.shb_places.specs.Notes.{AreKept, AreLinked, IsAddable, IsAdded, IsClass, IsEarliestAt, IsNotedAt, RacesAt, Tables, tables_of}
-use Rattle.shb_places.specs.Searched.{IsAsked, IsAskedAll, IsNoted, IsSearched}
+use Rattle.shb_places.specs.Notes.{AreKept, IsAddable, IsAdded, IsEarliestAt, IsNotedAt, Tables, tables_of}
+use Rattle.shb_places.specs.Searched.{IsAsked, IsAskedAll, IsSearched}
 use Rattle.shb_places.specs.Sites.{AreMore, AreSites, IsSite}
 use Rattle.shb_places.proofs.FoundLemmas.{covered_by, covered_self, covered_then, found_variable, key_then, key_to, same_places}
-use Rattle.shb_places.proofs.Lists.{contains_get, reaches_end, reaches_next, same_entry}
-use Rattle.shb_places.proofs.NoteLemmas.{IsIn, chain_in}
+use Rattle.shb_places.proofs.Lists.{reaches_end, reaches_next, same_entry}
+use Rattle.shb_places.proofs.NoteLemmas.{chain_in}
 
 -- an access that is kept at a site is one of its variable and location
-noted_in : (trace : TraceData) (sites : List Site) (notes : Tables) (s i n : ℕ) (site : Site) → AreKept trace sites notes n → slice_get sites s ≡ Some site → IsNotedAt notes s i → (variable_at trace.events i ≡ Some site.variable) × (location_at trace i ≡ location_at trace site.location)
+pub noted_in : (trace : TraceData) (sites : List Site) (notes : Tables) (s i n : ℕ) (site : Site) → AreKept trace sites notes n → slice_get sites s ≡ Some site → IsNotedAt notes s i → (variable_at trace.events i ≡ Some site.variable) × (location_at trace i ≡ location_at trace site.location)
 noted_in trace sites notes s i n site kept at_site noted =
     let f = chain_in trace sites notes s noted.number i n noted.class noted.newest kept noted.there noted.at_newest noted.site_is noted.chain in
     let same = same_entry sites s f.site site f.at_site at_site in
@@ -45,7 +43,7 @@ race_variable trace i x access own of_i race =
     let b : Some race.conflict.variable ≡ Some access.variable = sym race.conflict.second_accesses ∙ own.variable in
     cc
 
-found_same : (trace : TraceData) (n : ℕ) (places : List Place) (races : List Pair) → AreFound trace n places races → Improves trace races races
+pub found_same : (trace : TraceData) (n : ℕ) (places : List Place) (races : List Pair) → AreFound trace n places races → Improves trace races races
 found_same trace n places races found race there = let v = found_variable trace n places races race found there in covered_self trace races race v.0.variable there v.1.variable_is
 
 -- the site is of another variable
@@ -57,11 +55,11 @@ asked_other trace sites notes access s site places races own kept at_site found 
 }
 
 -- the place is known
-pub asked_known : (trace : TraceData) (sites : List Site) (notes : Tables) (access : Access) (s : ℕ) (site : Site) (places : List Place) (races : List Pair) → AreKept trace sites notes access.event → slice_get sites s ≡ Some site → AreFound trace (access.event + 1) places races → ((i : ℕ) → location_at trace i ≡ location_at trace site.location → IsCovered trace races i access.event) → IsAsked trace notes access s races places races
-asked_known trace sites notes access s site places races kept at_site found known = record {
+pub asked_known : (trace : TraceData) (sites : List Site) (notes : Tables) (access : Access) (s : ℕ) (site : Site) (places : List Place) (races : List Pair) → IsAccess trace access → AreKept trace sites notes access.event → slice_get sites s ≡ Some site → AreFound trace (access.event + 1) places races → IsKnown trace races access.variable site.location access.location access.event → IsAsked trace notes access s races places races
+asked_known trace sites notes access s site places races own kept at_site found known = record {
   found = found;
   improves = found_same trace (access.event + 1) places races found;
-  covers = λ i noted race. known i (noted_in trace sites notes s i access.event site kept at_site noted).1;
+  covers = λ i noted race. known.covers i access.event (omega arith) own.variable (noted_in trace sites notes s i access.event site kept at_site noted).1 own.location;
 }
 
 -- no access there races

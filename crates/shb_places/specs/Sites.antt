@@ -1,7 +1,7 @@
 -- The sites of each variable.
-use Rattle.std.specs.Prelude.{◌≡◌, ◌≢◌, ℕ, ◌≤◌, ◌<◌, true, Bool, List, Some, length, slice_get}
+use Rattle.std.specs.Prelude.{◌≡◌, ℕ, List, Some, length, slice_get}
 use Rattle.shb_places.specs.declared.sites.Site.{Site}
-use Rattle.shb_places.specs.Lists.{Reaches, none, site_previous}
+use Rattle.shb_places.specs.Lists.{Reaches, site_previous}
 
 -- each site is in the list of its variable
 abbrev pub AreSites : List ℕ → List Site → Type 0

@@ -3,10 +3,9 @@
 ghost use Rattle.std.specs.Prelude.{◌≡◌, ◌⊎◌, ◌<◌, ◌+◌, ℕ, IfOk, IfSome, IsTrue, OnOk, [], length, slice_get};
 ghost use Rattle.shb_lines.specs.events.Race.{KeyBefore, variable_at};
 ghost use Rattle.shb_lines.specs.text.TraceData.{TraceData};
-ghost use Rattle.shb_report.specs.Places.{location_at};
 ghost use Rattle.shb_places.specs.Access.{IsAccess};
-ghost use Rattle.shb_places.specs.Covering.{IsCovered};
 ghost use Rattle.shb_places.specs.Found.{AreFound, IsFound, IsOffered, IsPlace, NotAfter};
+ghost use Rattle.shb_places.specs.Known.{IsKnown};
 
 use crate::hints::{Hints, MOST_TRIED};
 use crate::notes::Access;
@@ -112,7 +111,7 @@ impl Found {
     pub fn knows(&self, first: u32, access: Access) -> bool
         requires as_many { length self.now.races.items ≡ length self.now.places.items }
         ensures { (trace : TraceData) (n : ℕ) → AreFound trace n self.now.places.items self.now.races.items → IsAccess trace access
-            → IsTrue result → (i : ℕ) → location_at trace i ≡ location_at trace first → IsCovered trace self.now.races.items i access.event }
+            → IsTrue result → IsKnown trace self.now.races.items access.variable first access.location access.event }
     {
         let Some(q) = self.number_of(first, access.location) else {
             return false;

@@ -21,6 +21,7 @@ mod notes;
 mod numbers;
 mod search;
 mod sites;
+mod wanted;
 
 use crate::leading::leading_of_found;
 use crate::search::covering_races;

@@ -1,13 +1,14 @@
-//! Numbers of locations: the number of a location is that of an event that has it.
+//! Numbers of locations: the number of a location is that of an event that has it. Reads and writes have
+//! numbers of their own, so that reads needn't ask reads.
 
-ghost use Rattle.std.specs.Prelude.{◌≡◌, ◌<◌, IfOk, IfSome, IsTrue, length};
-ghost use Rattle.shb_places.specs.Access.{IsLocatedAt};
+ghost use Rattle.std.specs.Prelude.{◌≡◌, ◌<◌, true, IfOk, IfSome, IsTrue, length};
+ghost use Rattle.shb_places.specs.Access.{IsLocatedAt, writes_at};
 ghost use Rattle.shb_report.specs.Places.{location_at};
 
 use crate::hints::{Hints, MOST_TRIED};
 use crate::numbers::{NONE, mixed};
+use shb_discipline::Disciplined;
 use shb_io::NoMemory;
-use shb_lines::Trace;
 use std::alloc::Global;
 
 /// For so many threads the last four locations are kept; threads beyond share those of others.
@@ -20,16 +21,18 @@ pub struct Locations {
     recent: Vec<[u32; 4]>,
 }
 
-/// Whether an event has this location.
-fn has_location(trace: &Trace, e: u32, text: &[u8]) -> bool
-    ensures { IsTrue result → IsLocatedAt trace.now e text.now }
+/// Whether an event has this location, and is a write or isn't.
+fn has_location(trace: &Disciplined<'_>, e: u32, text: &[u8], writes: bool) -> bool
+    ensures { IsTrue result → IsLocatedAt trace.now.trace.now e text.now writes }
 {
-    e < trace.len() && trace.location(e) == text
+    e < trace.trace.len()
+        && trace.events.op(e).is_write() == writes
+        && trace.trace.location(e) == text
 }
 
-/// A hash of some bytes.
-fn hash_of(text: &[u8]) -> u32 {
-    let mut hash = 0;
+/// A hash of a location of reads or of writes.
+fn hash_of(text: &[u8], writes: bool) -> u32 {
+    let mut hash = u32::from(writes);
     for byte in text {
         hash = mixed(hash, u32::from(*byte));
     }
@@ -47,14 +50,14 @@ impl Locations {
     }
 
     /// The event with this location among the last four locations of a thread.
-    fn recent(&self, trace: &Trace, text: &[u8], thread: u32) -> Option<u32>
-        ensures { IfSome result (λ e. IsLocatedAt trace.now e text.now) }
+    fn recent(&self, trace: &Disciplined<'_>, text: &[u8], writes: bool, thread: u32) -> Option<u32>
+        ensures { IfSome result (λ e. IsLocatedAt trace.now.trace.now e text.now writes) }
     {
         let Some(recent) = self.recent.get((thread % KEPT) as usize) else {
             return None;
         };
         for e in recent {
-            if has_location(trace, *e, text) {
+            if has_location(trace, *e, text, writes) {
                 return Some(*e);
             }
         }
@@ -62,14 +65,14 @@ impl Locations {
     }
 
     /// The event with this location that was noted under a hash.
-    fn noted(&self, trace: &Trace, text: &[u8], hash: u32) -> Option<u32>
-        ensures { IfSome result (λ e. IsLocatedAt trace.now e text.now) }
+    fn noted(&self, trace: &Disciplined<'_>, text: &[u8], writes: bool, hash: u32) -> Option<u32>
+        ensures { IfSome result (λ e. IsLocatedAt trace.now.trace.now e text.now writes) }
     {
         for k in 0..MOST_TRIED {
             let Some(e) = self.hints.candidate(hash, k) else {
                 return None;
             };
-            if has_location(trace, e, text) {
+            if has_location(trace, e, text, writes) {
                 return Some(e);
             }
         }
@@ -83,7 +86,8 @@ impl Locations {
         }
     }
 
-    /// The number of an event's location, which is an event with the same location.
+    /// The number of an event's location, which is an event with the same location; of a write, one that
+    /// writes.
     ///
     /// # Errors
     ///
@@ -91,19 +95,20 @@ impl Locations {
     pub fn number_of(
         &mut self,
         alloc: Global,
-        trace: &Trace,
+        trace: &Disciplined<'_>,
         e: u32,
         thread: u32,
     ) -> Result<u32, NoMemory>
-        requires { e < length trace.now.events }
-        ensures { IfOk result (λ l. (l < length trace.now.events) × (location_at trace.now l ≡ location_at trace.now e)) }
+        requires { e < length trace.now.trace.now.events }
+        ensures { IfOk result (λ l. IsLocatedAt trace.now.trace.now l (location_at trace.now.trace.now e) (writes_at trace.now.trace.now.events e)) }
     {
-        let text = trace.location(e);
-        if let Some(l) = self.recent(trace, text, thread) {
+        let text = trace.trace.location(e);
+        let writes = trace.events.op(e).is_write();
+        if let Some(l) = self.recent(trace, text, writes, thread) {
             return Ok(l);
         }
-        let hash = hash_of(text);
-        if let Some(l) = self.noted(trace, text, hash) {
+        let hash = hash_of(text, writes);
+        if let Some(l) = self.noted(trace, text, writes, hash) {
             self.keep(thread, l);
             return Ok(l);
         }

@@ -1,12 +1,12 @@
 //! The accesses so far, by site, thread and kind.
 
-ghost use Rattle.std.specs.Prelude.{◌≡◌, ◌≢◌, ◌⊎◌, ◌↔◌, ◌∷◌, [], ◌++◌, ◌+◌, ℕ, ◌<◌, ◌≤◌, true, IfOk, IfSome, IsTrue, List, OnOk, Some, length, slice_get};
+ghost use Rattle.std.specs.Prelude.{◌≡◌, ◌≢◌, ◌⊎◌, ◌↔◌, ◌∷◌, [], ◌++◌, ◌+◌, ℕ, ◌<◌, ◌≤◌, false, true, IfOk, IfSome, IsTrue, List, OnOk, Some, length, slice_get};
 ghost use Rattle.shb_lines.specs.events.Discipline.{local_time};
 ghost use Rattle.shb_lines.specs.events.Events.{thread_at};
 ghost use Rattle.shb_lines.specs.events.Race.{Race};
 ghost use Rattle.shb_lines.specs.text.TraceData.{TraceData};
 ghost use Rattle.shb_report.specs.Places.{location_at};
-ghost use Rattle.shb_places.specs.Access.{IsAccess};
+ghost use Rattle.shb_places.specs.Access.{IsAccess, writes_at};
 ghost use Rattle.shb_places.specs.Lists.{Reaches, class_next, none};
 ghost use Rattle.shb_places.specs.Notes.{AreKept, AreLinked, InChain, IsAddable, IsAdded, IsBegun, IsClassOf, IsEarliestAt, IsEarliestIn, IsExtended, IsNotedAt, tables_of};
 ghost use Rattle.shb_places.specs.declared.sites.Site.{Site};
@@ -14,7 +14,9 @@ ghost use Rattle.shb_places.specs.declared.notes.Newest.{Newest};
 
 use crate::hints::{Hints, MOST_TRIED};
 use crate::numbers::{NONE, mixed, next_number};
+use crate::sites::Site;
 use shb_clocks::{Order, Ordered};
+use shb_discipline::Disciplined;
 use shb_io::NoMemory;
 use std::alloc::Global;
 
@@ -142,6 +144,13 @@ fn can_race(class: Class, access: Access) -> bool
     ensures { IsTrue result ↔ ((class.thread ≢ access.thread) × ((class.writes ≡ true) ⊎ (access.writes ≡ true))) }
 {
     class.thread != access.thread && (class.writes || access.writes)
+}
+
+/// Whether an event may be a write: it is one, or isn't an event of the trace.
+fn may_write(trace: &Disciplined<'_>, e: u32) -> bool
+    ensures { result ≡ false → writes_at trace.now.trace.now.events e ≡ false }
+{
+    e >= trace.trace.len() || trace.events.op(e).is_write()
 }
 
 impl Notes {
@@ -315,8 +324,8 @@ impl Notes {
         earliest_from(ordered, self.links.as_slice(), newest.link, bound)
     }
 
-    /// The earliest access at a site that races with an access, or `NONE`.
-    pub fn earliest_at<O: Order>(&self, ordered: &Ordered<'_, O>, s: u32, access: Access) -> u32
+    /// The same of all classes of the site.
+    fn earliest_at<O: Order>(&self, ordered: &Ordered<'_, O>, s: u32, access: Access) -> u32
         requires access { IsAccess ordered.now.trace.now.trace.now access }
         requires asked { O.asks ordered.now.order.now access.event ≡ true }
         requires in_range { (k : ℕ) (link : Link) → slice_get self.now.links.items k ≡ Some link → link.event < length ordered.now.trace.now.trace.now.events }
@@ -335,5 +344,26 @@ impl Notes {
             }
             at = class.next;
         }
+    }
+
+    /// The earliest access at a site that races with an access, or `NONE`. A read doesn't ask a site of reads.
+    pub fn earliest_of<O: Order>(
+        &self,
+        ordered: &Ordered<'_, O>,
+        s: u32,
+        site: Site,
+        access: Access,
+    ) -> u32
+        requires access { IsAccess ordered.now.trace.now.trace.now access }
+        requires asked { O.asks ordered.now.order.now access.event ≡ true }
+        requires in_range { (k : ℕ) (link : Link) → slice_get self.now.links.items k ≡ Some link → link.event < length ordered.now.trace.now.trace.now.events }
+        ensures { (sites : List Site) → AreKept ordered.now.trace.now.trace.now sites (tables_of self.now) access.event
+            → slice_get sites s ≡ Some site
+            → IsEarliestAt ordered.now.trace.now.trace.now sites (tables_of self.now) s access result }
+    {
+        if !access.writes && !may_write(ordered.trace, site.location) {
+            return NONE;
+        }
+        self.earliest_at(ordered, s, access)
     }
 }

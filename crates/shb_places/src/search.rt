@@ -1,6 +1,9 @@
 //! The search for a race of each place.
+//!
+//! An access asks the sites of its variable. A site that is new, or whose variable has few, asks all of them.
+//! Else the site has a list of those whose place with it isn't known ([`crate::wanted`]), and asks these.
 
-ghost use Rattle.std.specs.Prelude.{◌≡◌, ◌+◌, ◌<◌, ℕ, Bool, true, IfOk, List, OnOk, Some, length, slice_get};
+ghost use Rattle.std.specs.Prelude.{◌≡◌, ◌+◌, ◌<◌, ℕ, Bool, false, true, IfOk, List, OnOk, Some, length, slice_get};
 ghost use Rattle.shb_clocks.specs.Open.{is_open as open_flag};
 ghost use Rattle.shb_lines.specs.events.Race.{variable_at};
 ghost use Rattle.shb_lines.specs.text.TraceData.{TraceData};
@@ -9,8 +12,8 @@ ghost use Rattle.shb_places.specs.Access.{IsAccess};
 ghost use Rattle.shb_places.specs.Covering.{Covers};
 ghost use Rattle.shb_places.specs.Found.{AreFound};
 ghost use Rattle.shb_places.specs.Notes.{AreKept, tables_of};
-ghost use Rattle.shb_places.specs.Searched.{IsAsked, IsAskedAll, IsSearched};
-ghost use Rattle.shb_places.specs.Sites.{AreSites};
+ghost use Rattle.shb_places.specs.Searched.{AreSearched, AreToldFrom, IsAskable, IsAsked, IsAskedAll, IsAskedBy, IsTold, IsToldOf};
+ghost use Rattle.shb_places.specs.Sites.{AreSites, IsSite};
 ghost use Rattle.shb_places.specs.declared.notes.Link.{Link};
 
 use crate::found::{Found, Place};
@@ -18,6 +21,7 @@ use crate::locations::Locations;
 use crate::notes::{Access, Notes};
 use crate::numbers::NONE;
 use crate::sites::{Site, Sites};
+use crate::wanted::{WantedLists, look, remove_if};
 use shb_clocks::{Order, Ordered, Sweep};
 use shb_discipline::Disciplined;
 use shb_io::NoMemory;
@@ -30,6 +34,7 @@ use std::alloc::Global;
 struct Search {
     sites: Sites,
     notes: Notes,
+    wanted: WantedLists,
     found: Found,
 }
 
@@ -43,8 +48,58 @@ fn is_open(flags: &[bool], x: u32) -> bool
     }
 }
 
-/// Asks whether an access at a site races with an access, where no race of their place is known, and takes
-/// the earliest that does.
+/// Whether one of the first variables is open.
+fn any_open(flags: &[bool], variables: u32) -> bool
+    ensures { result ≡ false → (x : ℕ) → x < variables → open_flag flags.now x ≡ false }
+{
+    for x in 0..variables {
+        if is_open(flags, x) {
+            return true;
+        }
+    }
+    false
+}
+
+/// Asks whether an access at a site of its variable races with an access, and takes the earliest that does.
+/// The answer is whether there was one: then the place is known for all accesses to come.
+fn ask_unknown<O: Order>(
+    alloc: Global,
+    ordered: &Ordered<'_, O>,
+    notes: &Notes,
+    found: &mut Found,
+    s: u32,
+    site: Site,
+    access: Access,
+) -> Result<bool, NoMemory>
+    requires access { IsAccess ordered.now.trace.now.trace.now access }
+    requires asked { O.asks ordered.now.order.now access.event ≡ true }
+    requires in_range { (k : ℕ) (link : Link) → slice_get notes.now.links.items k ≡ Some link → link.event < length ordered.now.trace.now.trace.now.events }
+    requires as_many { length found.old.races.items ≡ length found.old.places.items }
+    requires variable { site.variable ≡ access.variable }
+    ensures as_many { OnOk result (length found.new.races.items ≡ length found.new.places.items) }
+    ensures told { (sites : List Site) → AreKept ordered.now.trace.now.trace.now sites (tables_of notes.now) access.event
+        → slice_get sites s ≡ Some site
+        → AreFound ordered.now.trace.now.trace.now (access.event + 1) found.old.places.items found.old.races.items
+        → IfOk result (λ known. IsTold ordered.now.trace.now.trace.now (tables_of notes.now) access s site known found.old.races.items found.new.places.items found.new.races.items) }
+{
+    let earliest = notes.earliest_of(ordered, s, site, access);
+    if earliest == NONE {
+        return Ok(false);
+    }
+    let place = Place {
+        first: site.location,
+        second: access.location,
+        variable: access.variable,
+    };
+    let race = Pair {
+        first: earliest,
+        second: access.event,
+    };
+    found.offer(alloc, place, race)?;
+    Ok(true)
+}
+
+/// Asks a site, where no race of its place with an access is known.
 fn ask_site<O: Order>(
     alloc: Global,
     ordered: &Ordered<'_, O>,
@@ -70,20 +125,8 @@ fn ask_site<O: Order>(
     if found.knows(site.location, access) {
         return Ok(());
     }
-    let earliest = notes.earliest_at(ordered, s, access);
-    if earliest == NONE {
-        return Ok(());
-    }
-    let place = Place {
-        first: site.location,
-        second: access.location,
-        variable: access.variable,
-    };
-    let race = Pair {
-        first: earliest,
-        second: access.event,
-    };
-    found.offer(alloc, place, race)
+    ask_unknown(alloc, ordered, notes, found, s, site, access)?;
+    Ok(())
 }
 
 /// Asks about each site of the variable of an access.
@@ -117,18 +160,139 @@ fn ask<O: Order>(
     }
 }
 
+/// Asks a site of a list. The answer is whether its place is known from now on.
+fn ask_wanted<O: Order>(
+    alloc: Global,
+    ordered: &Ordered<'_, O>,
+    sites: &Sites,
+    notes: &Notes,
+    found: &mut Found,
+    s: u32,
+    access: Access,
+) -> Result<bool, NoMemory>
+    requires access { IsAccess ordered.now.trace.now.trace.now access }
+    requires asked { O.asks ordered.now.order.now access.event ≡ true }
+    requires in_range { (k : ℕ) (link : Link) → slice_get notes.now.links.items k ≡ Some link → link.event < length ordered.now.trace.now.trace.now.events }
+    requires as_many { length found.old.races.items ≡ length found.old.places.items }
+    ensures as_many { OnOk result (length found.new.races.items ≡ length found.new.places.items) }
+    ensures told { AreKept ordered.now.trace.now.trace.now sites.now.sites.items (tables_of notes.now) access.event
+        → AreFound ordered.now.trace.now.trace.now (access.event + 1) found.old.places.items found.old.races.items
+        → IfOk result (λ known. IsToldOf ordered.now.trace.now.trace.now sites.now.sites.items (tables_of notes.now) access s known found.old.races.items found.new.places.items found.new.races.items) }
+{
+    let Some(site) = sites.sites.get(s as usize) else {
+        return Ok(false);
+    };
+    if site.variable != access.variable {
+        return Ok(false);
+    }
+    ask_unknown(alloc, ordered, notes, found, s, *site, access)
+}
+
+/// Asks each site of a list, and takes those out of it whose place is known from now on.
+fn ask_list<O: Order>(
+    alloc: Global,
+    ordered: &Ordered<'_, O>,
+    sites: &Sites,
+    notes: &Notes,
+    found: &mut Found,
+    list: &mut Vec<u32>,
+    access: Access,
+) -> Result<(), NoMemory>
+    requires access { IsAccess ordered.now.trace.now.trace.now access }
+    requires asked { O.asks ordered.now.order.now access.event ≡ true }
+    requires in_range { (k : ℕ) (link : Link) → slice_get notes.now.links.items k ≡ Some link → link.event < length ordered.now.trace.now.trace.now.events }
+    requires as_many { length found.old.races.items ≡ length found.old.places.items }
+    ensures { AreKept ordered.now.trace.now.trace.now sites.now.sites.items (tables_of notes.now) access.event
+        → AreFound ordered.now.trace.now.trace.now (access.event + 1) found.old.places.items found.old.races.items
+        → OnOk result (AreToldFrom ordered.now.trace.now.trace.now sites.now.sites.items (tables_of notes.now) access 0 list.old.items list.new.items found.old.races.items found.new.places.items found.new.races.items) }
+{
+    let mut left = list.len();
+    while left > 0 {
+        left -= 1;
+        let known = ask_wanted(alloc, ordered, sites, notes, found, list[left], access)?;
+        remove_if(list, left, known);
+    }
+    Ok(())
+}
+
 impl Search {
     /// Before the first event.
     fn new(alloc: Global, variables: u32) -> Result<Search, NoMemory>
         ensures { (trace : TraceData) (flags : List Bool) → ((e x : ℕ) → variable_at trace.events e ≡ Some x → x < variables)
-            → IfOk result (λ search. IsSearched trace flags search.sites search.notes search.found 0) }
+            → IfOk result (λ search. AreSearched trace flags search.sites search.notes search.wanted search.found 0) }
     {
         let sites = Sites::new(alloc, variables)?;
         Ok(Search {
             sites,
             notes: Notes::new(alloc),
+            wanted: WantedLists::new(alloc),
             found: Found::new(alloc),
         })
+    }
+
+    /// Asks the sites of the list of a site.
+    fn ask_by_list<O: Order>(
+        &mut self,
+        alloc: Global,
+        ordered: &Ordered<'_, O>,
+        s: u32,
+        access: Access,
+    ) -> Result<(), NoMemory>
+        requires access { IsAccess ordered.now.trace.now.trace.now access }
+        requires asked { O.asks ordered.now.order.now access.event ≡ true }
+        requires in_range { (k : ℕ) (link : Link) → slice_get self.old.notes.links.items k ≡ Some link → link.event < length ordered.now.trace.now.trace.now.events }
+        requires as_many { length self.old.found.races.items ≡ length self.old.found.places.items }
+        ensures sites { self.new.sites ≡ self.old.sites }
+        ensures notes { self.new.notes ≡ self.old.notes }
+        ensures asked { IsSite self.old.sites.sites.items access.variable access.location s
+            → IsAskable ordered.now.trace.now.trace.now self.old.sites self.old.notes self.old.wanted self.old.found access
+            → OnOk result (IsAskedBy ordered.now.trace.now.trace.now self.old.sites self.old.notes self.new.wanted self.old.found self.new.found access) }
+    {
+        let k = self.wanted.number_of(alloc, s)?;
+        let list = &mut self.wanted.lists[k as usize];
+        look(list, &self.sites, &self.found, access)?;
+        ask_list(
+            alloc,
+            ordered,
+            &self.sites,
+            &self.notes,
+            &mut self.found,
+            &mut list.sites,
+            access,
+        )
+    }
+
+    /// Asks the sites of the variable of an access, which is at the site `s`.
+    fn ask<O: Order>(
+        &mut self,
+        alloc: Global,
+        ordered: &Ordered<'_, O>,
+        s: u32,
+        is_new: bool,
+        access: Access,
+    ) -> Result<(), NoMemory>
+        requires access { IsAccess ordered.now.trace.now.trace.now access }
+        requires asked { O.asks ordered.now.order.now access.event ≡ true }
+        requires in_range { (k : ℕ) (link : Link) → slice_get self.old.notes.links.items k ≡ Some link → link.event < length ordered.now.trace.now.trace.now.events }
+        requires as_many { length self.old.found.races.items ≡ length self.old.found.places.items }
+        ensures sites { self.new.sites ≡ self.old.sites }
+        ensures notes { self.new.notes ≡ self.old.notes }
+        ensures asked { IsSite self.old.sites.sites.items access.variable access.location s
+            → IsAskable ordered.now.trace.now.trace.now self.old.sites self.old.notes self.old.wanted self.old.found access
+            → OnOk result (IsAskedBy ordered.now.trace.now.trace.now self.old.sites self.old.notes self.new.wanted self.old.found self.new.found access) }
+    {
+        let all = is_new | !self.sites.has_many(access.variable);
+        if !all {
+            return self.ask_by_list(alloc, ordered, s, access);
+        }
+        ask(
+            alloc,
+            ordered,
+            &self.sites,
+            &self.notes,
+            &mut self.found,
+            access,
+        )
     }
 
     /// Takes an access of an open variable: looks for races with it, and adds it to those before.
@@ -140,21 +304,16 @@ impl Search {
     ) -> Result<(), NoMemory>
         requires access { IsAccess ordered.now.trace.now.trace.now access }
         requires asked { O.asks ordered.now.order.now access.event ≡ true }
-        requires searched { (flags : List Bool) × IsSearched ordered.now.trace.now.trace.now flags self.old.sites self.old.notes self.old.found access.event }
-        ensures { (flags : List Bool) → open_flag flags access.variable ≡ true → IsSearched ordered.now.trace.now.trace.now flags self.old.sites self.old.notes self.old.found access.event
-            → OnOk result (IsSearched ordered.now.trace.now.trace.now flags self.new.sites self.new.notes self.new.found (access.event + 1)) }
+        requires searched { (flags : List Bool) × AreSearched ordered.now.trace.now.trace.now flags self.old.sites self.old.notes self.old.wanted self.old.found access.event }
+        ensures { (flags : List Bool) → open_flag flags access.variable ≡ true → AreSearched ordered.now.trace.now.trace.now flags self.old.sites self.old.notes self.old.wanted self.old.found access.event
+            → OnOk result (AreSearched ordered.now.trace.now.trace.now flags self.new.sites self.new.notes self.new.wanted self.new.found (access.event + 1)) }
     {
+        let count = self.sites.count();
         let s = self
             .sites
             .number_of(alloc, access.variable, access.location)?;
-        ask(
-            alloc,
-            ordered,
-            &self.sites,
-            &self.notes,
-            &mut self.found,
-            access,
-        )?;
+        let is_new = self.sites.count() > count;
+        self.ask(alloc, ordered, s, is_new, access)?;
         let local = ordered.links.local(access.event);
         self.notes.add(alloc, s, access, local)
     }
@@ -171,8 +330,8 @@ impl Search {
         requires in_range { e < length ordered.now.trace.now.trace.now.events }
         requires asked { O.asks ordered.now.order.now e ≡ true }
         requires settled { AreOpen ordered.now.trace.now.trace.now.events flags.now }
-        requires searched { IsSearched ordered.now.trace.now.trace.now flags.now self.old.sites self.old.notes self.old.found e }
-        ensures { OnOk result (IsSearched ordered.now.trace.now.trace.now flags.now self.new.sites self.new.notes self.new.found (e + 1)) }
+        requires searched { AreSearched ordered.now.trace.now.trace.now flags.now self.old.sites self.old.notes self.old.wanted self.old.found e }
+        ensures { OnOk result (AreSearched ordered.now.trace.now.trace.now flags.now self.new.sites self.new.notes self.new.wanted self.new.found (e + 1)) }
     {
         let op = ordered.trace.events.op(e);
         let Some(variable) = op.variable() else {
@@ -182,7 +341,7 @@ impl Search {
             return Ok(());
         }
         let thread = ordered.trace.events.thread(e);
-        let location = locations.number_of(alloc, ordered.trace.trace, e, thread)?;
+        let location = locations.number_of(alloc, ordered.trace, e, thread)?;
         let access = Access {
             event: e,
             thread,
@@ -196,7 +355,7 @@ impl Search {
 
 /// Races that stand for all races of a trace at their places: for each race of the trace one of the list has its
 /// place, and doesn't stand after it in the race list. One pass over the trace with a [`Sweep`], which is
-/// asked for accesses of open variables alone.
+/// asked for accesses of open variables alone; none where no variable is open.
 ///
 /// # Errors
 ///
@@ -211,6 +370,9 @@ pub fn covering_races<'a>(
     requires settled { AreOpen trace.now.events.now flags.now }
     ensures { IfOk result (λ found. Covers trace.now.trace.now found.items) }
 {
+    if !any_open(flags, trace.sizes.variables) {
+        return Ok(Vec::new(alloc));
+    }
     let mut locations = Locations::new(alloc)?;
     let mut search = Search::new(alloc, trace.sizes.variables)?;
     let mut sweep = Sweep::new(alloc, Linked::new(&*trace, &*links))?;

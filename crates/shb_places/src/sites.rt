@@ -1,6 +1,6 @@
 //! Sites: the locations of each variable.
 
-ghost use Rattle.std.specs.Prelude.{◌≡◌, ◌<◌, ℕ, IfOk, IfSome, IsTrue, OnOk, List, [], Some, length, slice_get};
+ghost use Rattle.std.specs.Prelude.{◌≡◌, ◌<◌, ◌≤◌, ℕ, IfOk, IfSome, IsTrue, OnOk, List, [], Some, length, slice_get};
 ghost use Rattle.shb_places.specs.Sites.{AreMore, AreSites, IsSite};
 
 use crate::hints::{Hints, MOST_TRIED};
@@ -66,7 +66,7 @@ impl Sites {
     }
 
     /// Whether a variable has more sites than are looked at before the hints.
-    fn has_many(&self, variable: u32) -> bool {
+    pub fn has_many(&self, variable: u32) -> bool {
         let mut at = self.newest_of(variable);
         for _ in 0..NEAR {
             at = self.previous_of(at);
@@ -82,6 +82,13 @@ impl Sites {
             Some(newest) => *newest,
             None => NONE,
         }
+    }
+
+    /// How many sites there are, or as many as a number has room for.
+    pub fn count(&self) -> u32
+        ensures { result ≤ length self.now.sites.items }
+    {
+        self.sites.len().min(u32::MAX as usize) as u32
     }
 
     /// The number of the site of the same variable before a site, or `NONE`.

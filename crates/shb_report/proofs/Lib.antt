@@ -1,9 +1,10 @@
 pub mod Increasing
 pub mod Blocks
 pub mod Bad
-mod EntryLemmas
+pub mod EntryLemmas
 pub mod Injective
 pub mod PlaceLemmas
+pub mod ManyPlaces
 pub mod LeadingLemmas
 pub mod LeadingReports
 pub mod WrittenText

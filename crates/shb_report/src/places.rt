@@ -1,8 +1,9 @@
 //! The places of races: pairs of locations.
-ghost use Rattle.std.specs.Prelude.{◌≡◌, ◌+◌, ◌-◌, ◌<◌, ◌≤◌, ◌^◌, [], ℕ, List, All, Some, length, map, option_map, slice_get, IfOk, IfSome, OnOk};
+ghost use Rattle.std.specs.Prelude.{◌≡◌, ◌↔◌, ◌+◌, ◌-◌, ◌<◌, ◌≤◌, ◌^◌, [], ℕ, List, All, Some, false, length, map, option_map, slice_get, slice_index_or, sum, IfOk, IfSome, OnOk};
+ghost use Rattle.std.specs.Bool.{IsTrue};
 ghost use Rattle.std.specs.Option.{option_copied};
 ghost use Rattle.std.specs.List.{AllByRecursion};
-ghost use Rattle.shb_report.specs.Places.{IsPairOf, IsPlaceOf, counts_in, places_after, places_in, places_of_pairs, with_one_more, with_pair};
+ghost use Rattle.shb_report.specs.Places.{HasEach, HasPlace, IsPairOf, IsPlaceOf, counts_in, location_at, location_with, places_after, places_in, places_of_pairs, with_many, with_numbered, with_one_more, with_pair};
 
 use indexmap::IndexMap;
 use shb_io::NoMemory;
@@ -138,6 +139,83 @@ impl<'t> PlaceTable<'t> {
         ensures { OnOk result (self.new ≡ places_after trace.now self.old pairs.now) }
     {
         add_pairs(&mut self.table, trace, pairs)
+    }
+
+    /// Whether a place is in the table: a pair of these two locations was counted.
+    pub fn has(&self, first: &[u8], second: &[u8]) -> bool
+        ensures { IsTrue result ↔ HasPlace self.now first.now second.now }
+    {
+        self.table.contains_key(&(first, second))
+    }
+
+    /// Counts so many pairs more of a place. Where it isn't in the table nothing changes. No count may
+    /// grow beyond 64 bits.
+    pub fn add_many(&mut self, first: &[u8], second: &[u8], more: u64)
+        requires { AllByRecursion (λ place. place.counted.count + more < 2 ^ 64) self.old }
+        ensures { self.new ≡ with_many self.old first.now second.now more }
+    {
+        let Some(at) = self.table.get_index_of(&(first, second)) else {
+            return;
+        };
+        if let Some(counted) = self.table.get_index_mut(at) {
+            counted.count += more;
+        }
+    }
+
+    /// Whether each place of which there are pairs is in the table: the location of the event with each number,
+    /// and `second`.
+    fn has_each(&self, trace: &Trace, events: &[u32], second: &[u8], counts: &[u32]) -> bool
+        requires events { All (λ e. e < length trace.now.events) events.now }
+        requires numbers { length counts.now ≡ length events.now }
+        ensures { IsTrue result → HasEach self.now (location_with trace.now events.now) second.now counts.now (length counts.now) }
+    {
+        for r in 0..counts.len() {
+            if counts[r] > 0 && !self.has(trace.location(events[r]), second) {
+                return false;
+            }
+        }
+        true
+    }
+
+    /// Counts so many pairs more of the location of the event with each number, and `second`.
+    fn add_each(&mut self, trace: &Trace, events: &[u32], second: &[u8], counts: &[u32])
+        requires events { All (λ e. e < length trace.now.events) events.now }
+        requires numbers { length counts.now ≡ length events.now }
+        requires few { AllByRecursion (λ place. place.counted.count + sum counts.now < 2 ^ 64) self.old }
+        ensures { self.new ≡ with_numbered (location_with trace.now events.now) second.now (λ r. slice_index_or counts.now r 0) self.old (length counts.now) }
+    {
+        for r in 0..counts.len() {
+            self.add_many(trace.location(events[r]), second, u64::from(counts[r]));
+        }
+    }
+
+    /// Counts pairs by the number of their first location: `events` has an event of each number, and `counts`
+    /// how many pairs have it. The second location of each pair is that of `second`. Where one of these places
+    /// isn't in the table, the answer is false and nothing changes.
+    ///
+    /// The events must be events of the trace, and no count may grow beyond 64 bits.
+    pub fn add_numbered(
+        &mut self,
+        trace: &Trace,
+        events: &[u32],
+        second: u32,
+        counts: &[u32],
+    ) -> bool
+        requires events { All (λ e. e < length trace.now.events) events.now }
+        requires second { second < length trace.now.events }
+        requires numbers { length counts.now ≡ length events.now }
+        requires few { AllByRecursion (λ place. place.counted.count + sum counts.now < 2 ^ 64) self.old }
+        ensures known { IsTrue result → HasEach self.old (location_with trace.now events.now) (location_at trace.now second) counts.now (length counts.now) }
+        ensures added { IsTrue result → self.new ≡ with_numbered (location_with trace.now events.now) (location_at trace.now second)
+            (λ r. slice_index_or counts.now r 0) self.old (length counts.now) }
+        ensures left { result ≡ false → self.new ≡ self.old }
+    {
+        let location = trace.location(second);
+        if !self.has_each(trace, events, location, counts) {
+            return false;
+        }
+        self.add_each(trace, events, location, counts);
+        true
     }
 
     /// The places so far. `NoMemory` where memory was refused.

@@ -1,23 +1,22 @@
 -- The races of a report.
-use Rattle.std.proofs.Common.{◌≡◌, ℕ, ◌<◌, Bool, true, inl, inr, List, length, map, get_or, All, Contains, Option, Result, Ok, Err, IfOk, sym, subst}
+use Rattle.std.proofs.Common.{◌≡◌, ℕ, ◌<◌, Bool, true, inl, inr, List, length, map, get_or, All, Contains, Option, sym, subst}
 use Rattle.std.proofs.lemmas.Bool.{cases_Bool}
 use Rattle.std.proofs.lemmas.List.{get_or-map, length-map}
 use Rattle.std.proofs.lemmas.List.Elements.{Contains-get_or, All-from_get_or}
 use Rattle.shb_lines.specs.declared.event.Event.{Event}
 use Rattle.shb_lines.specs.declared.event.Pair.{Pair}
-use Rattle.shb_lines.specs.events.Race.{IsRaceList, Race, ends}
+use Rattle.shb_lines.specs.events.Race.{Race, ends}
 use Rattle.shb_lines.specs.text.TraceData.{TraceData}
 use Rattle.shb_clocks.specs.Open.{OpenTrace, accesses_open, is_open}
 use Rattle.shb_clocks.proofs.OpenItems.{asks_open}
 use Rattle.shb_pairs.specs.Open.{AreOpen, AsksOpen}
-use Rattle.shb_report.specs.Report.{IsReportOn, pair_of}
+use Rattle.shb_report.specs.Report.{IsReportOn}
 use Rattle.shb_report.proofs.LeadingReports.{leading_are_races}
 use Rattle.shb_report.proofs.WrittenGood.{all_are_races}
 use Rattle.shb_run.specs.declared.settings.Choice.{Choice}
 use Rattle.shb_run.specs.declared.settings.Choice.TheVariants as choices
 use Rattle.shb_write.specs.Written.{CutsBlocksOn, CutsReportOn, These, WritesReport}
 use Rattle.shb_run.specs.Written.{ListedBy}
-use Rattle.shb_write.proofs.Reports.{pairs_back}
 
 -- each pair that a report of this choice lists is a race
 pub listed_are_races : (choice : Choice) (trace : TraceData) (races : List (ℕ × ℕ)) → ListedBy choice trace races → (i j : ℕ) → Contains races (i, j) → Race trace.events i j
@@ -67,7 +66,3 @@ module _ (Lists : TraceData → List (ℕ × ℕ) → Type 0) (ws : Bool) (trace
 
   pub known_blocks : (old new : Option (List ℕ)) → CutsBlocksOn (These races) ws trace old new → CutsBlocksOn Lists ws trace old new
   known_blocks old new h = record { cut = known_cut old new h.cut; front = h.front }
-
--- all races of a trace, whose events may have another name, and their list too
-pub all_listed : (trace : TraceData) (events : List Event) (races list : List Pair) → events ≡ trace.events → list ≡ races → IsRaceList events (map ends races) → ListedBy choices.All trace (map ends list)
-all_listed trace events races list same is listed = subst (λ (l : List Pair). IsRaceList trace.events (map ends l)) (sym is) (subst (λ e. IsRaceList e (map ends races)) same listed)

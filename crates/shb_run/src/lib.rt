@@ -1,18 +1,17 @@
 //! From the text of a trace to the report of its races.
 //!
-//! [`run`] is four stages over any source and sink: read (`parse`), judge (`judge` of `shb_check`), find
-//! the races (`races`, by workers), write (`write_report` of `shb_write`). [`run_gated`] is the same with
+//! [`run`] is three stages over any source and sink: read (`parse`), judge (`judge` of `shb_check`), find
+//! the races and write them (`write_search` of `shb_write`, by workers). [`run_gated`] is the same with
 //! gates for tests. Both have the main theorem as their contract. [`run_places`] is the same body, and
 //! lists of each place the first race. [`check`], from a trace and a report to a verdict, is that of
 //! `shb_check`, and so are the errors.
 #![tactic(auto)]
 
+mod all;
 pub mod laws;
 mod leading;
-mod list;
 mod pipeline;
 mod places;
-mod races;
 mod screened;
 mod settings;
 mod statuses;

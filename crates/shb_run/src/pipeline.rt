@@ -10,20 +10,19 @@ ghost use Rattle.shb_run.specs.Runs.{FitsU64, HasTrace, IsReported, IsReportedBy
 ghost use Rattle.shb_write.specs.Written.{CutsBlocksOn, CutsReportOn, IsSinkCounted, OnFailedSink, OnNoMemory};
 ghost use Rattle.shb_run.specs.Written.{CutsBlocks, CutsReport, ListedBy, ReportsTrace, summary_of};
 
+use crate::all::report_found;
 use crate::leading::report_leading;
-use crate::list::report_list;
-use crate::races::races_of;
 use crate::screened::Screened;
 use crate::settings::{Choice, Gates, Settings, Summary, Task};
 use shb_check::{RunError, judge};
-use shb_clocks::{Order, Ordered, by_event};
+use shb_clocks::{Ordered, by_event};
 use shb_discipline::Disciplined;
 use shb_fan::{FreeGate, Gate};
 use shb_io::{NoMemory, Sink, Source};
 use shb_lines::{Limits, Trace, parse};
 use shb_links::{Linked, Links, links_of, links_without_tables};
 use shb_pairs::open_variables;
-use shb_write::{BlockPlan, WriteError, write_report};
+use shb_write::WriteError;
 use std::alloc::Global;
 use std::random::RandomSource;
 use std::sync::Wait;
@@ -41,77 +40,6 @@ pub(crate) fn summary_of(trace: &Trace, races: u64) -> Summary
         variables: u64::from(trace.variables()),
         races,
     }
-}
-
-/// Finds all races of an ordered trace, and writes their report, from a list of them.
-fn report_screened<
-    R: Threads + Wait + Sync + RandomSource,
-    K: Sink,
-    O: Order + Sync,
-    P: Gate + Sync,
-    W: Gate + Sync,
->(
-    rt: &R,
-    alloc: Global,
-    sink: &mut K,
-    screened: &Screened<'_, '_, '_, O>,
-    settings: Settings,
-    gates: &Gates<'_, '_, P, W>,
-) -> Result<Summary, WriteError>
-    requires countable { K.failure_count sink.old < 2 ^ 64 - 1 }
-    ensures report { IfOk result (λ summary.
-        ReportsTrace AllRaces settings.schedules screened.now.ordered.now.trace.now.trace.now summary
-        (K.taken sink.old) (K.taken sink.new)) }
-    ensures fits { IfOk result FitsU64 }
-    ensures cut { OnFailedSink result (CutsReport settings.schedules screened.now.ordered.now.trace.now.trace.now
-        (K.taken sink.old) (K.taken sink.new)) }
-    ensures memory { OnNoMemory result ((sink.new ≡ sink.old)
-        ⊎ CutsBlocks settings.schedules screened.now.ordered.now.trace.now.trace.now
-        (K.taken sink.old) (K.taken sink.new)) }
-    ensures counted { IsSinkCounted (K.failure_count sink.old) (K.failure_count sink.new) result }
-{
-    let ordered = screened.ordered;
-    let races = races_of(rt, alloc, screened, gates.pair, settings.workers)?;
-    let plan = BlockPlan {
-        schedules: settings.schedules,
-        workers: settings.workers,
-        gate: gates.witness,
-    };
-    write_report(rt, alloc, sink, ordered, &races, &plan)?;
-    Ok(summary_of(ordered.trace.trace, races.len() as u64))
-}
-
-/// Finds all races of an ordered trace, and writes their report. Without schedules no list of them is made.
-fn report_found<
-    R: Threads + Wait + Sync + RandomSource,
-    K: Sink,
-    O: Order + Sync,
-    P: Gate + Sync,
-    W: Gate + Sync,
->(
-    rt: &R,
-    alloc: Global,
-    sink: &mut K,
-    screened: &Screened<'_, '_, '_, O>,
-    settings: Settings,
-    gates: &Gates<'_, '_, P, W>,
-) -> Result<Summary, WriteError>
-    requires countable { K.failure_count sink.old < 2 ^ 64 - 1 }
-    ensures report { IfOk result (λ summary.
-        ReportsTrace AllRaces settings.schedules screened.now.ordered.now.trace.now.trace.now summary
-        (K.taken sink.old) (K.taken sink.new)) }
-    ensures fits { IfOk result FitsU64 }
-    ensures cut { OnFailedSink result (CutsReport settings.schedules screened.now.ordered.now.trace.now.trace.now
-        (K.taken sink.old) (K.taken sink.new)) }
-    ensures memory { OnNoMemory result ((sink.new ≡ sink.old)
-        ⊎ CutsBlocks settings.schedules screened.now.ordered.now.trace.now.trace.now
-        (K.taken sink.old) (K.taken sink.new)) }
-    ensures counted { IsSinkCounted (K.failure_count sink.old) (K.failure_count sink.new) result }
-{
-    if !settings.schedules {
-        return report_list(rt, alloc, sink, screened, gates.pair, settings.workers);
-    }
-    report_screened(rt, alloc, sink, screened, settings, gates)
 }
 
 /// The links that a report needs: one without schedules asks for no predecessors and no last writes.
@@ -253,8 +181,10 @@ pub fn run<S: Source, K: Sink, R: Threads + Wait + Sync + RandomSource>(
     run_gated(rt, alloc, source, sink, settings, &FreeGate, &FreeGate)
 }
 
-/// [`run`] with gates: a worker passes `pair_gate` before it looks for the races of a piece, and
-/// `witness_gate` before it makes the schedule of a race. Tests hold workers back with them.
+/// [`run`] with gates: `pair_gate` is passed before the races of a piece are looked for, each time that they
+/// are, and `witness_gate` before the schedule of a race is made. Where there are more races than events, the
+/// caller's thread makes the last search for a report with schedules, and `witness_gate` is told the number of
+/// a race in its window. Tests hold workers back with gates.
 ///
 /// # Errors
 ///

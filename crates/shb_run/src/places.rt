@@ -23,9 +23,9 @@ use std::thread::Threads;
 /// of two events, the first race of the race list that has it. That this is one race of each place, and the
 /// first, is this project's rule.
 ///
-/// All races are looked for, as by [`run`](crate::run); the others are let go before any schedule is made. What
-/// is written has the form of a report, numbered from 1, in which each place counts one race, and the
-/// summary's races are those that are listed. Everything else is as with `run`.
+/// No list of all races is made: one pass over the trace looks for a race of each place. What is written has
+/// the form of a report, numbered from 1, in which each place counts one race, and the summary's races are
+/// those that are listed. Everything else is as with [`run`](crate::run).
 ///
 /// # Errors
 ///

@@ -583,7 +583,7 @@ fn runs_are_shared_out(rt: HostRuntime) -> Result<(), Fail> {
     holds(
         &rt,
         !gate.missed.load(Ordering::SeqCst),
-        "nine others entered",
+        "piece 16 entered",
     );
     Ok(())
 }

@@ -1,9 +1,10 @@
-//! That each piece passes its gate before it runs and runs once, and that a stop ends a wait for a slot.
+//! That each piece passes its gate before it runs and runs once, that a stop ends a wait for a slot, and that a
+//! refusal of the taker stops the draw.
 ghost use Rattle.std.specs.Prelude.{◌≤◌, ◌^◌};
 
 use crate::asserting::{holds, same};
 use crate::fixtures::{all_one, zeros};
-use shb_fan::{Gate, Job, Workers, gather};
+use shb_fan::{Gate, Job, StreamError, Taker, Workers, gather, stream};
 use shb_io::NoMemory;
 use std::alloc::Global;
 use std::process::Abort;
@@ -161,5 +162,80 @@ fn stop_ends_a_wait_for_a_slot(rt: HostRuntime) -> Result<(), Fail> {
         !gate.missed.load(Ordering::SeqCst),
         "piece 0 was held no longer",
     );
+    Ok(())
+}
+
+/// Takes values up to piece 6, which it refuses.
+#[derive(Drop)]
+struct Refusing<'a> {
+    refused: &'a AtomicBool,
+}
+
+impl Taker<u64> for Refusing<'_> {
+    type Error = u64;
+
+    ghost takes = { λ _ _ _. Unit {0} };
+
+    ghost may_take = { λ _ _ _. Unit {0} };
+
+    ghost refuses = { λ _ _ _ _ _. Unit {0} };
+
+    ghost nothing = { λ _. tt };
+
+    fn take(&mut self, k: u64, _out: u64) -> Result<(), u64> {
+        if k == 6 {
+            self.refused.store(true, Ordering::SeqCst);
+            return Err(k);
+        }
+        Ok(())
+    }
+}
+
+/// Holds the pieces from 8 on until piece 6 was refused, and then for some turns each.
+#[derive(Drop)]
+struct RefusalSeen<'a> {
+    refused: &'a AtomicBool,
+    entered: AtomicU64,
+}
+
+impl Gate for RefusalSeen<'_> {
+    fn enter<R: Wait>(&self, _rt: &R, k: u64) {
+        self.entered.fetch_add(1, Ordering::SeqCst);
+        if k < 8 {
+            return;
+        }
+        for _ in 0..TURNS {
+            if self.refused.load(Ordering::SeqCst) {
+                break;
+            }
+            yield_now();
+        }
+        for _ in 0..10_000u32 {
+            yield_now();
+        }
+    }
+}
+
+/// Were the draw not stopped, all 70 pieces would be drawn: the 64 that are left find a slot each.
+#[test]
+fn refusal_stops_the_draw(rt: HostRuntime) -> Result<(), Fail> {
+    for workers in [1u32, 4] {
+        let runs = zeros(rt.alloc(), 70)?;
+        let job = make_job(70, runs.as_slice(), None);
+        let refused = AtomicBool::new(false);
+        let gate = RefusalSeen {
+            refused: &refused,
+            entered: AtomicU64::new(0),
+        };
+        let mut taker = Refusing { refused: &refused };
+        let workers = Workers::new(workers).expect(&rt, "1 to 64 workers");
+        let answer = stream(&rt, rt.alloc(), &job, &gate, workers, &mut taker);
+        same(&rt, &answer, &Err(StreamError::Taker(6)), "the answer");
+        holds(
+            &rt,
+            gate.entered.load(Ordering::SeqCst) < 70,
+            "not all pieces were drawn",
+        );
+    }
     Ok(())
 }

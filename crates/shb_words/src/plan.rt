@@ -8,18 +8,22 @@ use clap::{ArgMatches, Error};
 use shb_fan::Workers;
 use std::alloc::{AllocError, AllocFailed, Global};
 
+/// Which races of a trace a report lists.
+#[derive(Clone, Copy, Debug, Drop)]
+pub enum Listing {
+    /// All of them.
+    Races,
+    /// One of each place.
+    Places,
+}
+
 /// What the words ask for.
 #[derive(Debug, Drop)]
 pub enum Plan {
-    /// Write the report of a trace, of standard input where `trace` is `None`; with `list`, without
+    /// Write a report of a trace, of standard input where `trace` is `None`; with `list`, without
     /// schedules.
-    Races {
-        workers: Workers,
-        list: bool,
-        trace: Option<String>,
-    },
-    /// Write the report of one race of each place of a trace, in the same way.
-    Places {
+    Report {
+        listing: Listing,
         workers: Workers,
         list: bool,
         trace: Option<String>,
@@ -81,18 +85,14 @@ fn trace_in(alloc: Global, matches: &ArgMatches<'_>) -> Result<Option<String>, W
     }
 }
 
-/// The plan of the words after `races`.
-fn races_plan(alloc: Global, matches: &ArgMatches<'_>) -> Result<Plan, WordsFault> {
-    Ok(Plan::Races {
-        workers: workers_in(matches),
-        list: matches.get_flag("list"),
-        trace: trace_in(alloc, matches)?,
-    })
-}
-
-/// The plan of the words after `places`.
-fn places_plan(alloc: Global, matches: &ArgMatches<'_>) -> Result<Plan, WordsFault> {
-    Ok(Plan::Places {
+/// The plan of the words after `races` or `places`.
+fn report_plan(
+    alloc: Global,
+    listing: Listing,
+    matches: &ArgMatches<'_>,
+) -> Result<Plan, WordsFault> {
+    Ok(Plan::Report {
+        listing,
         workers: workers_in(matches),
         list: matches.get_flag("list"),
         trace: trace_in(alloc, matches)?,
@@ -132,8 +132,8 @@ fn plan_of_error(alloc: Global, error: &Error) -> Result<Plan, WordsFault> {
 /// The plan of a command line that was read.
 fn plan_in(alloc: Global, matches: &ArgMatches<'_>) -> Result<Plan, WordsFault> {
     match matches.subcommand() {
-        Some(("races", inner)) => races_plan(alloc, inner),
-        Some(("places", inner)) => places_plan(alloc, inner),
+        Some(("races", inner)) => report_plan(alloc, Listing::Races, inner),
+        Some(("places", inner)) => report_plan(alloc, Listing::Places, inner),
         Some(("check", inner)) => check_plan(alloc, inner),
         _ => refused(alloc, "error: no command was given\n"),
     }
@@ -148,11 +148,12 @@ fn plan_in(alloc: Global, matches: &ArgMatches<'_>) -> Result<Plan, WordsFault> 
 /// [`WordsFault::Refused`] where the words ask for nothing of this, with the text that says so;
 /// [`WordsFault::Memory`] where memory was refused. The words stay as they are.
 pub fn plan_of(alloc: Global, words: &[String]) -> Result<Plan, WordsFault>
-    // No words ask for the report of standard input without schedules, by 4 workers, and need no memory.
+    // No words ask for the report of all races of standard input without schedules, by 4 workers, and need no memory.
     ensures no_words { words.now ≡ [] → IsOkAnd result ListsInput }
 {
     if words.is_empty() {
-        return Ok(Plan::Races {
+        return Ok(Plan::Report {
+            listing: Listing::Races,
             workers: default_workers(),
             list: true,
             trace: None,

@@ -1,32 +1,32 @@
 -- Races that are counted and listed piece by piece.
 use Rattle.std.proofs.Common.{◌≡◌, ℕ, zero, suc, ◌+◌, ◌-◌, ◌^◌, ◌<◌, ◌≤◌, ◌⊎◌, inl, inr, false, List, [], ◌∷◌, ◌++◌, length, map, take, drop, get_or, All, Option, None, Some, Result, Ok, Err, IfOk, IfErr, OnOk, IsErrAnd, refl, sym, ap, subst, ◌∙◌, arith, append_assoc, append-nil, Vec, Global}
 use Rattle.std.specs.Prelude.{IfSome, flat_map}
-use Rattle.std.specs.List.{AllByRecursion}
 use Rattle.std.proofs.lemmas.Bool.{cases_lt}
 use Rattle.std.proofs.lemmas.List.{map-append, length-map, length-append, length-take-le, take_all, take_more, take-append-drop}
 use Rattle.std.proofs.Math.Seq.{take-append-add, take-append_seam}
 use Rattle.std.proofs.lemmas.List.Concat.{flat_map-append}
 use Rattle.std.proofs.lemmas.List.Elements.{All-nil, All-map}
-use Rattle.std.proofs.lemmas.List.Sums.{fold-append}
 use Rattle.std.specs.Io.KnownBytes.{Appends}
 use Rattle.shb_io.specs.Devices.{AppendsPrefix}
 use Rattle.shb_io.proofs.Growth.{Appends-nil, Appends-trans, AppendsPrefix-after, AppendsPrefix-front}
 use Rattle.shb_fan.specs.Values.{values_of}
+use Rattle.shb_lines.specs.declared.event.Event.{Event}
 use Rattle.shb_lines.specs.declared.event.Pair.{Pair}
-use Rattle.shb_lines.specs.events.Race.{ends}
+use Rattle.shb_lines.specs.events.Race.{Race, ends}
 use Rattle.shb_lines.specs.text.TraceData.{TraceData}
 use Rattle.shb_pairs.specs.Races.{joined}
-use Rattle.shb_report.specs.Places.{IsPairOf, IsPlaceOf, PlaceOf, counts_in, location_at, places_after, places_of_pairs, with_pair}
+use Rattle.shb_report.specs.Places.{IsPairOf, IsPlaceOf, counts_in, places_of_pairs}
 use Rattle.shb_report.specs.Report.{AreBlocks, HasSchedule, ShownRace, block_bytes, pair_of}
-use Rattle.shb_report.proofs.PlaceLemmas.{places_after_few, places_in_range}
+use Rattle.shb_witness.specs.Schedules.{AreRaces}
+use Rattle.shb_report.proofs.PlaceLemmas.{places_in_range}
 use Rattle.shb_write.specs.declared.counted.Counted.{Counted}
 use Rattle.shb_write.specs.declared.errors.WriteError.{WriteError}
 use Rattle.shb_write.specs.declared.errors.WriteError.TheVariants as errors
-use Rattle.shb_write.specs.declared.race_counter.RaceCounter.{RaceCounter}
 use Rattle.shb_write.specs.declared.race_lister.RaceLister.{RaceLister}
-use Rattle.shb_write.specs.Listed.{HasCounted, HasFailedListing, HasListed, IsCountOf, IsRaceOf, MayCount, MayList, count_after, failures_after, listed_blocks, pairs_in, shown_alone}
+use Rattle.shb_write.specs.Listed.{HasFailedListing, HasKept, HasListed, IsCountOf, IsRaceOf, MayList, count_after, failures_after, listed_blocks, pairs_in, shown_alone}
 use Rattle.shb_write.specs.Written.{AppendsFront, IsSinkCounted, WritesBlocks}
 use Rattle.shb_write.proofs.Blocks.{ends-take, front_of}
+use Rattle.shb_write.proofs.Ranges.{first_in_range, second_in_range}
 use Rattle.shb_write.proofs.Reports.{pairs_back}
 
 -- ---- lists
@@ -77,6 +77,14 @@ pairs_of_trace trace [] h k d lt = All-nil (IsPairOf trace) k d lt
 pairs_of_trace trace (pair ∷ pairs) h zero d lt = let both = h 0 (ends d) (omega arith) in record { first = both.0; second = both.1 }
 pairs_of_trace trace (pair ∷ pairs) h (suc k) d lt = pairs_of_trace trace pairs (λ j e l. h (suc j) e (omega arith)) k d (omega arith)
 
+-- races of a trace, whose events may have another name, are of the trace
+pub of_trace_found : (trace : TraceData) (events : List Event) (races : List (ℕ × ℕ)) → events ≡ trace.events → AreRaces events (map pair_of races) → All (IsRaceOf trace) races
+of_trace_found trace events [] same are k d lt = All-nil (IsRaceOf trace) k d lt
+of_trace_found trace events (race ∷ races) same are zero d lt =
+    let here : Race events race.0 race.1 = are 0 (pair_of d) (omega arith) in
+    (first_in_range events trace.events race.0 race.1 same here, second_in_range events trace.events race.0 race.1 same here)
+of_trace_found trace events (race ∷ races) same are (suc k) d lt = of_trace_found trace events races same (λ j e l. are (suc j) e (omega arith)) k d (omega arith)
+
 -- pieces, each as the races of its later accesses
 pub ends_back : (races : List (ℕ × ℕ)) → map ends (map pair_of races) ≡ races
 ends_back [] = refl
@@ -88,7 +96,7 @@ given_back (v ∷ given) =
     ap (λ (l : List (ℕ × ℕ)). l ∷ map (λ u. map ends (pairs_in u)) given) (ends_back (joined v))
     ∙ ap (λ (l : List (List (ℕ × ℕ))). joined v ∷ l) (given_back given)
 
-pairs_append : (xs ys : List (List (ℕ × ℕ))) → pairs_in (xs ++ ys) ≡ pairs_in xs ++ pairs_in ys
+pub pairs_append : (xs ys : List (List (ℕ × ℕ))) → pairs_in (xs ++ ys) ≡ pairs_in xs ++ pairs_in ys
 pairs_append xs ys = ap (map pair_of) (flat_map-append (λ (l : List (ℕ × ℕ)). l) xs ys) ∙ map-append pair_of (joined xs) (joined ys)
 
 -- the races of the next later access, as they were expanded
@@ -151,93 +159,70 @@ module _ {V : Type 0} (items : V → List Pair) (f : ℕ → List (ℕ × ℕ)) 
       let long : length (joined (values_of f n)) ≡ length ((map ends (flat_map items given) ++ map ends (items out)) ++ stands.0) = ap length stands.1 in
       omega (arith, long, length-append (map ends (flat_map items given) ++ map ends (items out)) stands.0, length-append (map ends (flat_map items given)) (map ends (items out)), length-map (flat_map items given) ends, length-map (items out) ends)
 
--- ---- counting
-
-pub counted_then : (start middle end : RaceCounter) (xs ys : List Pair) → HasCounted start xs middle → HasCounted middle ys end → HasCounted start (xs ++ ys) end
-counted_then start middle end xs ys a b =
-    let step = λ (places : List PlaceOf) (pair : Pair). with_pair places (location_at start.trace.now pair.first) (location_at start.trace.now pair.second) pair in
-    record {
-      same_trace = b.same_trace ∙ a.same_trace;
-      same_most = b.same_most ∙ a.same_most;
-      races = omega (arith, a.races, b.races, count_after-is start.races xs, count_after-is middle.races ys, count_after-is start.races (xs ++ ys), length-append xs ys);
-      places = b.places ∙ ap (λ (t : TraceData). places_after t middle.places ys) a.same_trace
-          ∙ ap (λ (places : List PlaceOf). places_after start.trace.now places ys) a.places
-          ∙ sym (fold-append step start.places xs ys);
-      kept = λ few.
-          let before : middle.races ≤ middle.most_kept = omega (arith, few, b.same_most, b.races, count_after-is middle.races ys) in
-          b.kept few ∙ ap (λ (l : List Pair). l ++ ys) (a.kept before) ∙ append_assoc start.kept.items xs ys;
-    }
-
-pub counted_more : {T E : Type 0} (r : Result T E) (old new : RaceCounter) (pairs : List Pair) → new.trace.now ≡ old.trace.now → new.most_kept ≡ old.most_kept → new.races ≡ old.races + length pairs
-    → new.places ≡ places_after old.trace.now old.places pairs → OnOk r (new.races ≤ new.most_kept → new.kept.items ≡ old.kept.items ++ pairs) → OnOk r (HasCounted old pairs new)
-counted_more (Err e) old new pairs trace most races places kept = tt
-counted_more (Ok x) old new pairs trace most races places kept = record {
-  same_trace = trace;
-  same_most = most;
-  races = races ∙ sym (count_after-is old.races pairs);
-  places = places;
-  kept = kept;
-}
-
--- no place has more races than there are
-pub still_few : (start end : RaceCounter) (pairs : List Pair) → AllByRecursion (λ place. place.counted.count ≤ start.races) start.places → HasCounted start pairs end
-    → AllByRecursion (λ place. place.counted.count ≤ end.races) end.places
-still_few start end pairs few has =
-    let many : end.races ≡ length pairs + start.races = omega (arith, has.races, count_after-is start.races pairs) in
-    subst (λ (n : ℕ). AllByRecursion (λ (place : PlaceOf). place.counted.count ≤ n) end.places) (sym many)
-    (subst (AllByRecursion (λ (place : PlaceOf). place.counted.count ≤ length pairs + start.races)) (sym has.places) (places_after_few start.trace.now start.races start.places pairs few))
-
-pub counted_few : (start end : RaceCounter) (pairs next : List Pair) → MayCount start next → HasCounted start pairs end → AllByRecursion (λ place. place.counted.count ≤ end.races) end.places
-counted_few start end pairs next may has = still_few start end pairs (subst (AllByRecursion (λ (place : PlaceOf). place.counted.count ≤ start.races)) (sym may.no_places) tt) has
-
-pub counted_none : (start : RaceCounter) → HasCounted start [] start
-counted_none start = record { same_trace = refl; same_most = refl; races = refl; places = refl; kept = λ few. sym (append-nil start.kept.items) }
-
-pub counted_next : (start before after : RaceCounter) (piece : List (List (ℕ × ℕ))) (k : ℕ) (here : List Pair) → k < length piece → here ≡ map pair_of (get_or piece k [])
-    → HasCounted start (pairs_in (take k piece)) before → HasCounted before here after → HasCounted start (pairs_in (take (k + 1) piece)) after
-counted_next start before after piece k here lt is has more =
-    subst (λ (l : List Pair). HasCounted start l after) (sym (pairs_next piece k here lt is)) (counted_then start before after (pairs_in (take k piece)) here has more)
-
-pub counted_whole : (start end : RaceCounter) (piece : List (List (ℕ × ℕ))) (k : ℕ) → length piece ≤ k → HasCounted start (pairs_in (take k piece)) end → HasCounted start (pairs_in piece) end
-counted_whole start end piece k le has = subst (λ (l : List (List (ℕ × ℕ))). HasCounted start (pairs_in l) end) (take_all k piece le) has
-
-pub counted_in_range : (start end : RaceCounter) (pairs next : List Pair) → MayCount start next → HasCounted start pairs end → All (IsPairOf end.trace.now) next
-counted_in_range start end pairs next may has = subst (λ (t : TraceData). All (IsPairOf t) next) (sym has.same_trace) may.in_range
-
-pub counted_piece : {V T E : Type 0} (items : V → List Pair) (r : Result T E) (start before after : RaceCounter) (given : List V) (out : V) → HasCounted start (flat_map items given) before
-    → OnOk r (HasCounted before (items out) after) → IfOk r (λ _. HasCounted start (flat_map items (given ++ out ∷ [])) after)
-counted_piece items (Ok x) start before after given out has more =
-    subst (λ (l : List Pair). HasCounted start l after) (sym (flat_push items given out)) (counted_then start before after (flat_map items given) (items out) has more)
-counted_piece items (Err e) start before after given out has more = tt
-
--- what was counted of all pieces
-kept_known : (kept : Option (Vec Pair Global)) (end : RaceCounter) (pairs : List Pair) (races : List (ℕ × ℕ)) → map ends pairs ≡ races → (end.races ≤ end.most_kept → end.kept.items ≡ pairs)
-    → IfSome kept (λ k. (end.races ≤ end.most_kept) × (k.items ≡ end.kept.items)) → IfSome kept (λ k. map ends k.items ≡ races)
-kept_known None end pairs races are all h = tt
-kept_known (Some kept) end pairs races are all h = ap (map ends) (h.1 ∙ all h.0) ∙ are
-
 -- races that were kept
 pub kept_there : (kept : Option (Vec Pair Global)) (v : Vec Pair Global) (races : List (ℕ × ℕ)) → kept ≡ Some v → IfSome kept (λ k. map ends k.items ≡ races) → map ends v.items ≡ races
 kept_there kept v races is h = let there = subst (λ (o : Option (Vec Pair Global)). IfSome o (λ k. map ends k.items ≡ races)) is h in there
 
-pub counted_is : {E : Type 0} (r : Result Counted E) (trace : TraceData) (races : List (ℕ × ℕ)) (start end : RaceCounter) (pairs : List Pair) → map ends pairs ≡ races → All (IsRaceOf trace) races
-    → start.trace.now ≡ trace → start.races ≡ 0 → start.places ≡ [] → start.kept.items ≡ [] → HasCounted start pairs end → IfOk r (λ c. c.races ≡ end.races) → IfOk r (λ c. c.places ≡ counts_in end.places)
-    → IfOk r (λ c. c.races < 2 ^ 64) → IfOk r (λ c. IfSome c.kept (λ kept. (end.races ≤ end.most_kept) × (kept.items ≡ end.kept.items))) → IfOk r (IsCountOf trace races)
-counted_is (Err e) trace races start end pairs are of_trace same none no_places no_kept has many places few kept = tt
-counted_is (Ok c) trace races start end pairs are of_trace same none no_places no_kept has many places few kept =
-    let back : map pair_of races ≡ pairs = ap (map pair_of) (sym are) ∙ pairs_back pairs in
-    let found : c.places ≡ counts_in (places_of_pairs trace (map pair_of races)) =
-    places ∙ ap counts_in (has.places
-    ∙ ap (λ (t : TraceData). places_after t start.places pairs) same
-    ∙ ap (λ (before : List PlaceOf). places_after trace before pairs) no_places
-    ∙ ap (λ (l : List Pair). places_after trace [] l) (sym back)) in
-    let pairs_of : All (IsPairOf trace) (map pair_of races) = subst (All (IsPairOf trace)) (sym back) (pairs_of_trace trace pairs (subst (All (IsRaceOf trace)) (sym are) of_trace)) in
+-- what was counted of a search, of which nothing was kept
+pub many_counted : (trace : TraceData) (races : List (ℕ × ℕ)) (c : Counted) → All (IsRaceOf trace) races → c.races < 2 ^ 64 → c.races ≡ length races → c.places ≡ counts_in (places_of_pairs trace (map pair_of races)) → c.kept ≡ None
+    → IsCountOf trace races c
+many_counted trace races c of_trace few many places none = record {
+  count = many;
+  few = omega (arith, few, many);
+  places_are = places;
+  in_range = subst (All (IsPlaceOf trace)) (sym places) (places_in_range trace (map pair_of races) (pairs_of_trace trace (map pair_of races) (subst (All (IsRaceOf trace)) (sym (ends_back races)) of_trace)));
+  kept_are = none_kept c.kept none;
+}
+  where
+    none_kept : (kept : Option (Vec Pair Global)) → kept ≡ None → IfSome kept (λ k. map ends k.items ≡ races)
+    none_kept None is = tt
+    none_kept (Some v) is = absurd (cc)
+
+-- ---- races that are kept as they come
+
+pub kept_next : (before now after : List Pair) (piece : List (List (ℕ × ℕ))) (k : ℕ) → k < length piece → HasKept before (joined (take k piece)) now → HasKept now (get_or piece k []) after
+    → HasKept before (joined (take (k + 1) piece)) after
+kept_next before now after piece k lt has more =
+    more ∙ ap (λ (l : List (ℕ × ℕ)). l ++ get_or piece k []) has
+    ∙ append_assoc (map ends before) (joined (take k piece)) (get_or piece k [])
+    ∙ ap (λ (l : List (ℕ × ℕ)). map ends before ++ l)
+    (ap (λ (l : List (ℕ × ℕ)). joined (take k piece) ++ l) (sym (append-nil (get_or piece k [])))
+    ∙ sym (flat_map-append (λ (l : List (ℕ × ℕ)). l) (take k piece) (get_or piece k [] ∷ []))
+    ∙ ap (λ (l : List (List (ℕ × ℕ))). joined l) (sym (take_more piece k [] lt)))
+
+pub kept_whole : (before after : List Pair) (piece : List (List (ℕ × ℕ))) (k : ℕ) → length piece ≤ k → HasKept before (joined (take k piece)) after → HasKept before (joined piece) after
+kept_whole before after piece k le has = subst (λ (l : List (List (ℕ × ℕ))). HasKept before (joined l) after) (take_all k piece le) has
+
+-- one piece more
+pub kept_piece : {T E : Type 0} (r : Result T E) (start before after : List Pair) (given : List (List (List (ℕ × ℕ)))) (out : List (List (ℕ × ℕ))) → HasKept start (flat_map joined given) before
+    → OnOk r (HasKept before (joined out) after) → IfOk r (λ _. HasKept start (flat_map joined (given ++ out ∷ [])) after)
+kept_piece (Ok x) start before after given out has more =
+    more ∙ ap (λ (l : List (ℕ × ℕ)). l ++ joined out) has
+    ∙ append_assoc (map ends start) (flat_map joined given) (joined out)
+    ∙ ap (λ (l : List (ℕ × ℕ)). map ends start ++ l)
+    (ap (λ (l : List (ℕ × ℕ)). flat_map joined given ++ l) (sym (append-nil (joined out))) ∙ sym (flat_map-append (λ (l : List (List (ℕ × ℕ))). joined l) given (out ∷ [])))
+kept_piece (Err e) start before after given out has more = tt
+
+-- those of all pieces
+pub kept_all : (given : List (List (List (ℕ × ℕ)))) (values : List (List (ℕ × ℕ))) → map (λ v. joined v) given ≡ values → flat_map joined given ≡ joined values
+kept_all given values are = one_by_one given ∙ ap (λ (l : List (List (ℕ × ℕ))). joined l) are
+  where
+    one_by_one : (vs : List (List (List (ℕ × ℕ)))) → flat_map joined vs ≡ joined (map (λ v. joined v) vs)
+    one_by_one [] = refl
+    one_by_one (v ∷ vs) = ap (λ (l : List (ℕ × ℕ)). joined v ++ l) (one_by_one vs)
+
+-- what is counted of them
+pub kept_counted : (trace : TraceData) (kept : Vec Pair Global) (c : Counted) → length kept.items < 2 ^ 64 → All (IsPairOf trace) kept.items → c.races ≡ length kept.items
+    → c.places ≡ counts_in (places_of_pairs trace kept.items) → c.kept ≡ Some kept → IsCountOf trace (map ends kept.items) c
+kept_counted trace kept c few of_trace many places same =
+    let back : map pair_of (map ends kept.items) ≡ kept.items = pairs_back kept.items in
+    let found : c.places ≡ counts_in (places_of_pairs trace (map pair_of (map ends kept.items))) = places ∙ ap (λ (l : List Pair). counts_in (places_of_pairs trace l)) (sym back) in
     record {
-      count = omega (arith, many, has.races, count_after-is start.races pairs, none, ap length are, length-map pairs ends);
-      few = omega (arith, few, many, has.races, count_after-is start.races pairs, none, ap length are, length-map pairs ends);
+      count = many ∙ sym (length-map kept.items ends);
+      few = omega (arith, few, length-map kept.items ends);
       places_are = found;
-      in_range = subst (All (IsPlaceOf trace)) (sym found) (places_in_range trace (map pair_of races) pairs_of);
-      kept_are = kept_known c.kept end pairs races are (λ less. has.kept less ∙ ap (λ (l : List Pair). l ++ pairs) no_kept) kept;
+      in_range = subst (All (IsPlaceOf trace)) (sym places) (places_in_range trace kept.items of_trace);
+      kept_are = subst (λ (o : Option (Vec Pair Global)). IfSome o (λ k. map ends k.items ≡ map ends kept.items)) (sym same) refl;
     }
 
 -- ---- blocks without schedules
@@ -300,7 +285,7 @@ front_more old new xs ys front = cases (cases_lt front.0 (length xs))
     cases (inl lt) = front_of old new (xs ++ ys) (AppendsPrefix-front old new xs ys (front.0, lt, front.1))
     cases (inr le) = (length xs, subst (Appends old new) (take_all front.0 xs le ∙ sym (take-append_seam xs ys)) front.1)
 
-front_after : (old now new : Option (List ℕ)) (xs ys : List ℕ) → Appends old now xs → AppendsFront now new ys → AppendsFront old new (xs ++ ys)
+pub front_after : (old now new : Option (List ℕ)) (xs ys : List ℕ) → Appends old now xs → AppendsFront now new ys → AppendsFront old new (xs ++ ys)
 front_after old now new xs ys before front = (length xs + front.0, subst (Appends old new) (sym (take-append-add xs ys front.0)) (Appends-trans old now new xs (take front.0 ys) before front.1))
 
 pub whole_front : (old new : Option (List ℕ)) (xs : List ℕ) → Appends old new xs → AppendsFront old new xs

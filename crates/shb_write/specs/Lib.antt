@@ -1,3 +1,4 @@
 pub mod Written
 pub mod Scheduled
 pub mod Listed
+pub mod Windows

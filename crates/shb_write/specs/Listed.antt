@@ -1,5 +1,5 @@
 -- What is counted and written where the races of a search come piece by piece.
-use Rattle.std.specs.Prelude.{◌≡◌, ℕ, ◌+◌, ◌-◌, ◌^◌, ◌<◌, ◌≤◌, List, [], ◌∷◌, ◌++◌, All, length, map, Option, None, IfSome}
+use Rattle.std.specs.Prelude.{◌≡◌, ℕ, ◌+◌, ◌-◌, ◌^◌, ◌<◌, List, [], ◌∷◌, ◌++◌, All, length, map, Option, None, IfSome}
 use Rattle.std.specs.Io.KnownBytes.{Appends}
 use Rattle.shb_fan.specs.Values.{values_of}
 use Rattle.shb_lines.specs.declared.event.Pair.{Pair}
@@ -8,12 +8,11 @@ use Rattle.shb_lines.specs.text.TraceData.{TraceData}
 use Rattle.shb_clocks.specs.Open.{OpenTrace}
 use Rattle.shb_pairs.specs.Pieces.{pieces_in}
 use Rattle.shb_pairs.specs.Races.{joined, races_at}
-use Rattle.shb_report.specs.Places.{IsPairOf, IsPlaceOf, counts_in, places_after, places_of_pairs}
+use Rattle.shb_report.specs.Places.{IsPairOf, IsPlaceOf, counts_in, places_of_pairs}
 use Rattle.shb_report.specs.Report.{ShownRace, blocks_from, pair_of}
 use Rattle.shb_write.specs.declared.counted.Counted.{Counted}
 use Rattle.shb_write.specs.declared.errors.WriteError.{WriteError}
 use Rattle.shb_write.specs.declared.errors.WriteError.TheVariants.{Sink, Memory}
-use Rattle.shb_write.specs.declared.race_counter.RaceCounter.{RaceCounter}
 use Rattle.shb_write.specs.declared.race_lister.RaceLister.{RaceLister}
 use Rattle.shb_write.specs.Written.{AppendsFront}
 
@@ -41,19 +40,9 @@ abbrev pub count_after : ℕ → List Pair → ℕ
 count_after n [] = n
 count_after n (pair ∷ pairs) = count_after (n + 1) pairs
 
--- these races were counted, and kept where there are few in all
-pub record HasCounted (start : RaceCounter) (pairs : List Pair) (end : RaceCounter) : Type 0 where
-  pub same_trace : end.trace.now ≡ start.trace.now
-  pub same_most : end.most_kept ≡ start.most_kept
-  pub races : end.races ≡ count_after start.races pairs
-  pub places : end.places ≡ places_after start.trace.now start.places pairs
-  pub kept : end.races ≤ end.most_kept → end.kept.items ≡ start.kept.items ++ pairs
-
--- nothing is counted yet, and the next races are of the trace
-pub record MayCount (start : RaceCounter) (next : List Pair) : Type 0 where
-  pub no_races : start.races ≡ 0
-  pub no_places : start.places ≡ []
-  pub in_range : All (IsPairOf start.trace.now) next
+-- these races were kept
+abbrev pub HasKept : List Pair → List (ℕ × ℕ) → List Pair → Type 0
+HasKept before races after = map ends after ≡ map ends before ++ races
 
 -- how many races there are, their places, and the races themselves where they were kept
 pub record IsCountOf (trace : TraceData) (races : List (ℕ × ℕ)) (counted : Counted) : Type 0 where

@@ -20,9 +20,13 @@ abbrev pub number_after : ℕ → List (List ℕ) → ℕ
 number_after n [] = n
 number_after n (schedule ∷ schedules) = number_after (n + 1) schedules
 
--- the blocks of the races from number n on, with these schedules; races count from 0, blocks from 1
-abbrev pub scheduled_blocks : TraceData → ℕ → List Pair → List (List ℕ) → List ℕ
-scheduled_blocks trace n races schedules = blocks_from trace (n + 1) (shown_from n races schedules)
+-- the blocks of the races from race n on, with these schedules; races count from 0, and the first of these blocks has this number
+abbrev pub scheduled_blocks : TraceData → ℕ → ℕ → List Pair → List (List ℕ) → List ℕ
+scheduled_blocks trace number n races schedules = blocks_from trace number (shown_from n races schedules)
+
+-- the number of the next block
+abbrev pub next_number : {K : Type 0} → BlockWriter K → ℕ
+next_number writer = writer.earlier + writer.written + 1
 
 -- these schedules and the next are those of the next races, and the sink can count a failure
 pub record MayWrite {K : Type 0} (failures : K → ℕ) (start : BlockWriter K) (schedules : List (List ℕ)) (next : List ℕ) : Type 0 where
@@ -36,13 +40,14 @@ module _ {K : Type 0} (taken : K → Option (List ℕ)) (failures : K → ℕ) w
     pub same_sink : end.sink.ghost_name ≡ start.sink.ghost_name
     pub same_trace : end.trace.now ≡ start.trace.now
     pub same_races : end.races.now ≡ start.races.now
+    pub same_earlier : end.earlier ≡ start.earlier
     pub as_many : end.written ≡ number_after start.written schedules
-    pub appended : Appends (taken start.sink.now) (taken end.sink.now) (scheduled_blocks start.trace.now start.written start.races.now schedules)
+    pub appended : Appends (taken start.sink.now) (taken end.sink.now) (scheduled_blocks start.trace.now (next_number start) start.written start.races.now schedules)
     pub counted : failures end.sink.now ≡ failures start.sink.now
 
   -- the sink failed once, and took the front of the blocks
   pub record HasFailed (start : BlockWriter K) (schedules : List (List ℕ)) (end : BlockWriter K) : Type 0 where
-    pub front : AppendsPrefix (taken start.sink.now) (taken end.sink.now) (scheduled_blocks start.trace.now start.written start.races.now schedules)
+    pub front : AppendsPrefix (taken start.sink.now) (taken end.sink.now) (scheduled_blocks start.trace.now (next_number start) start.written start.races.now schedules)
     pub counted : failures end.sink.now ≡ failures start.sink.now + 1
 
   -- the block of the schedule that was refused isn't whole

@@ -1,13 +1,15 @@
-//! The writing of a report of a trace whose races are known.
+//! The writing of a report of a trace, of races that a search finds or that are known.
 //!
-//! [`write_list`] writes a report without schedules, of the races that a search finds, in two passes of the
-//! search: the first counts them and finds their places (`RaceCounter`), the second writes each block as its
-//! race comes (`RaceLister`). No list of all races is made.
+//! [`write_search`] writes the report of the races that a search finds. A first search keeps them, as long
+//! as there are not more than events (`keep_races`); where there are more, it stops, and they and their
+//! places are counted without keeping them, many of one access at once (`count_many`). Once head and places
+//! are written, the blocks of those kept follow; or another search writes each block as its race comes
+//! (`RaceLister`), or with schedules a window of races at a time (`write_windows`).
 //!
-//! [`write_report`] writes head, places, blocks and tail. Without schedules the blocks go out one after
-//! the other (`write_pairs`); with schedules each goes out as soon as workers have made its schedule
-//! (`write_schedules`), through a taker that writes (`BlockWriter`). The sink is written by the caller's
-//! thread alone and needn't be able to move.
+//! [`write_report`] writes the report of races that are known: head, places, blocks and tail. Without
+//! schedules the blocks go out one after the other (`write_pairs`); with schedules each goes out as soon as
+//! workers have made its schedule (`write_schedules`), through a taker that writes (`BlockWriter`). The sink
+//! is written by the caller's thread alone and needn't be able to move.
 #![tactic(auto)]
 
 mod block_writer;
@@ -15,15 +17,18 @@ mod counted;
 mod errors;
 mod found;
 mod list;
+mod making;
 mod plan;
 mod prepared;
-mod race_counter;
+mod race_keeper;
 mod race_lister;
 mod race_search;
+mod searched;
+mod window;
 mod write;
 
 pub use errors::WriteError;
-pub use list::write_list;
 pub use plan::BlockPlan;
 pub use race_search::RaceSearch;
+pub use searched::write_search;
 pub use write::write_report;

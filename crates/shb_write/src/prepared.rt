@@ -2,8 +2,7 @@
 ghost use Rattle.std.specs.Prelude.{All, IfOk};
 ghost use Rattle.shb_witness.specs.Checkpoints.{IsReached};
 
-use crate::found::Found;
-use shb_clocks::Order;
+use shb_clocks::{Order, Ordered};
 use shb_io::NoMemory;
 use shb_links::Linked;
 use shb_report::NumberTexts;
@@ -19,27 +18,29 @@ pub(crate) struct Prepared {
     pub(crate) points: Vec<Checkpoint>,
 }
 
-/// The texts of numbers for the schedules of these races. Of one schedule the numbers are as quickly
+/// The texts of numbers for so many schedules of a trace. Of one schedule the numbers are as quickly
 /// written one by one.
 fn numbers_for<O: Order>(
     alloc: Global,
-    found: &Found<'_, '_, '_, O>,
+    ordered: &Ordered<'_, O>,
+    schedules: usize,
 ) -> Result<NumberTexts, NoMemory> {
-    if found.races.len() < 2 {
+    if schedules < 2 {
         return NumberTexts::of_first(alloc, 0);
     }
-    NumberTexts::of_first(alloc, found.ordered.trace.events.len() as u32)
+    NumberTexts::of_first(alloc, ordered.trace.events.len() as u32)
 }
 
-/// What the schedules of these races are made and written from.
+/// What so many schedules of a trace, or more, are made and written from.
 pub(crate) fn prepared_for<O: Order>(
     alloc: Global,
-    found: &Found<'_, '_, '_, O>,
+    ordered: &Ordered<'_, O>,
+    schedules: usize,
 ) -> Result<Prepared, NoMemory>
-    ensures { IfOk result (λ prepared. All (IsReached found.now.ordered.now.trace.now.events.now) prepared.points.items) }
+    ensures { IfOk result (λ prepared. All (IsReached ordered.now.trace.now.events.now) prepared.points.items) }
 {
-    let numbers = numbers_for(alloc, found)?;
-    let linked = Linked::new(found.ordered.trace, found.ordered.links);
+    let numbers = numbers_for(alloc, ordered, schedules)?;
+    let linked = Linked::new(ordered.trace, ordered.links);
     let points = checkpoints_of(alloc, &linked)?;
     Ok(Prepared { numbers, points })
 }

@@ -1,14 +1,16 @@
 //! A search for the races of a trace, which can be made again.
 ghost use Rattle.std.specs.Prelude.{◌≡◌};
 
-use shb_clocks::Order;
+use shb_clocks::{Order, Ordered};
 use shb_fan::Workers;
 use shb_pairs::RangeJob;
 
 /// A search for the races of a trace in pieces, and who makes it. It can be made more than once, and finds
 /// the same races each time.
 #[derive(Drop)]
-pub struct RaceSearch<'j, 'a, 'g, O: Order, G> {
+pub struct RaceSearch<'s, 'b, 'j, 'a, 'g, O: Order, G> {
+    /// The trace, with its links and its order.
+    pub ordered: &'s Ordered<'b, O>,
     /// The pieces of the search.
     pub job: &'j RangeJob<'a, O>,
     /// What a worker passes before it looks for the races of a piece, each time that it does.
@@ -17,15 +19,22 @@ pub struct RaceSearch<'j, 'a, 'g, O: Order, G> {
     pub workers: Workers,
 }
 
-impl<'j, 'a, 'g, O: Order, G> RaceSearch<'j, 'a, 'g, O, G> {
-    /// The search in these pieces.
+impl<'s, 'b, 'j, 'a, 'g, O: Order, G> RaceSearch<'s, 'b, 'j, 'a, 'g, O, G> {
+    /// The search for the races of this trace in these pieces.
     pub fn new(
+        ordered: &'s Ordered<'b, O>,
         job: &'j RangeJob<'a, O>,
         gate: &'g G,
         workers: Workers,
-    ) -> RaceSearch<'j, 'a, 'g, O, G>
-        ensures { result.job.now ≡ job.now }
+    ) -> RaceSearch<'s, 'b, 'j, 'a, 'g, O, G>
+        ensures ordered { result.ordered.now ≡ ordered.now }
+        ensures job { result.job.now ≡ job.now }
     {
-        RaceSearch { job, gate, workers }
+        RaceSearch {
+            ordered,
+            job,
+            gate,
+            workers,
+        }
     }
 }

@@ -1,18 +1,20 @@
 //! The report of a trace that lists races which are known.
-ghost use Rattle.std.specs.Prelude.{◌≡◌, ◌⊎◌, ◌-◌, ◌^◌, ◌<◌, ℕ, All, IfOk, List, false, length, map, true};
+ghost use Rattle.std.specs.Prelude.{◌≡◌, ◌⊎◌, ◌+◌, ◌-◌, ◌^◌, ◌<◌, ℕ, All, IfOk, List, false, length, map, true};
 ghost use Rattle.shb_io.specs.Devices.{IsCounted, Writes};
 ghost use Rattle.shb_report.specs.Places.{IsPlaceOf, counts_in, places_of_pairs};
 ghost use Rattle.shb_report.specs.Report.{counts_of, front_bytes, pair_of};
 ghost use Rattle.shb_witness.specs.Checkpoints.{IsReached};
 ghost use Rattle.shb_witness.specs.Schedules.{AreRaces, AsksEach};
 ghost use Rattle.shb_write.specs.Written.{CutsBlocksOn, CutsReportOn, IsSinkCounted, OnFailedSink, OnNoMemory, These, WritesBlocks, WritesReport};
+ghost use Rattle.shb_write.specs.Windows.{WritesBlocksFrom};
 ghost use Rattle.shb_lines.specs.events.Race.{ends};
 
 use crate::block_writer::BlockWriter;
 use crate::errors::WriteError;
 use crate::found::Found;
+use crate::making::Making;
 use crate::plan::BlockPlan;
-use crate::prepared::{Prepared, prepared_for};
+use crate::prepared::prepared_for;
 use shb_clocks::{Order, Ordered};
 use shb_fan::{Gate, StreamError, stream};
 use shb_io::{Failed, Sink};
@@ -43,36 +45,39 @@ fn write_pairs<K: Sink, O: Order>(
     Ok(())
 }
 
-/// Writes the blocks of some races, numbered from 1, each as soon as workers have made its schedule.
-fn write_made<R: Threads + Wait + Sync, K: Sink, O: Order + Sync, G: Gate + Sync>(
+/// Writes the blocks of some races, numbered on from those before, each as soon as workers have made its
+/// schedule.
+pub(crate) fn write_made<R: Threads + Wait + Sync, K: Sink, O: Order + Sync, G: Gate + Sync>(
     rt: &R,
     alloc: Global,
     sink: &mut K,
-    found: &Found<'_, '_, '_, O>,
-    prepared: &Prepared,
-    plan: &BlockPlan<'_, G>,
+    making: &Making<'_, '_, '_, '_, '_, O, G>,
+    earlier: u64,
+    races: &[Pair],
 ) -> Result<(), WriteError>
     requires countable { K.failure_count sink.old < 2 ^ 64 - 1 }
-    requires races { AreRaces found.now.ordered.now.trace.now.events.now found.now.races.now }
-    requires points { All (IsReached found.now.ordered.now.trace.now.events.now) prepared.now.points.items }
-    ensures blocks { WritesBlocks true found.now.ordered.now.trace.now.trace.now (map ends found.now.races.now)
+    requires room { earlier + length races.now < 2 ^ 64 }
+    requires races { AreRaces making.now.ordered.now.trace.now.events.now races.now }
+    requires asked { AsksEach (O.asks making.now.ordered.now.order.now) races.now }
+    requires points { All (IsReached making.now.ordered.now.trace.now.events.now) making.now.prepared.now.points.items }
+    ensures blocks { WritesBlocksFrom making.now.ordered.now.trace.now.trace.now (earlier + 1) races.now
         (K.taken sink.old) (K.taken sink.new) result }
     ensures counted { IsSinkCounted (K.failure_count sink.old) (K.failure_count sink.new) result }
 {
-    let ordered = found.ordered;
-    let job = WitnessJob::new(
-        ordered.order,
-        ordered.trace,
-        ordered.links,
-        found.races,
-    ).with_checkpoints(&prepared.points);
+    let ordered = making.ordered;
+    let prepared = making.prepared;
+    let job = WitnessJob::new(ordered.order, ordered.trace, ordered.links, races).with_checkpoints(
+        &prepared.points,
+    );
     let mut writer = BlockWriter {
         sink: &mut *sink,
         trace: ordered.trace.trace,
-        races: found.races,
+        races,
         numbers: &prepared.numbers,
+        earlier,
         written: 0,
     };
+    let plan = making.plan;
     match stream(rt, alloc, &job, plan.gate, plan.workers, &mut writer) {
         Ok(_) => Ok(()),
         Err(StreamError::Taker(_)) => Err(WriteError::Sink),
@@ -94,12 +99,13 @@ fn write_schedules<R: Threads + Wait + Sync, K: Sink, O: Order + Sync, G: Gate +
         (K.taken sink.old) (K.taken sink.new) result }
     ensures counted { IsSinkCounted (K.failure_count sink.old) (K.failure_count sink.new) result }
 {
-    let prepared = prepared_for(alloc, found)?;
-    write_made(rt, alloc, sink, found, &prepared, plan)
+    let prepared = prepared_for(alloc, found.ordered, found.races.len())?;
+    let making = Making::new(found.ordered, &prepared, plan);
+    write_made(rt, alloc, sink, &making, 0, found.races)
 }
 
 /// Writes the blocks of some races, numbered from 1, with schedules or without.
-fn write_blocks<R: Threads + Wait + Sync, K: Sink, O: Order + Sync, G: Gate + Sync>(
+pub(crate) fn write_blocks<R: Threads + Wait + Sync, K: Sink, O: Order + Sync, G: Gate + Sync>(
     rt: &R,
     alloc: Global,
     sink: &mut K,

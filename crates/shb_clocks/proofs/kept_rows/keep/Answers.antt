@@ -1,29 +1,41 @@
-use Rattle.std.proofs.Common.{List, ◌∙◌, arith}
+use Rattle.std.proofs.Common.{ℕ, List, get_or, ap, ◌∙◌, arith}
 use Rattle.shb_lines.specs.declared.event.Event.{Event}
 use Rattle.shb_lines.specs.events.Order.{BelowPred}
-use Rattle.shb_lines.proofs.events.Items.{thread_within}
+use Rattle.shb_clocks.proofs.CopiesLemmas.{copies_more, copy_known, copy_pushed, row_in_range}
 use Rattle.shb_clocks.proofs.MovedLemmas.{row_moved}
+use Rattle.shb_clocks.proofs.Stamping.{grown_push, grown_same}
 use Rattle.shb_clocks.proofs.kept_rows.keep.Goals as goal
 
-pub index-requires : goal.index-requires
-index-requires c =
-    let low = thread_within c.args.linked.now.events.now c.args.linked.now.sizes c.args.e _ c.args.linked.now.within c.thread-thread.ensures in
-    let many = c.requires.as_many in
-    omega (arith, low, many)
+pub returns-then-known-gt0-clause-grown : goal.returns-then-known-gt0-clause-grown
+returns-then-known-gt0-clause-grown c = grown_same c.args.rows.now
+
+pub returns-then-known-gt0-clause-row : goal.returns-then-known-gt0-clause-row
+returns-then-known-gt0-clause-row c t of_t =
+    let trace : List Event = c.args.linked.now.events.now in
+    row_moved trace c.args.stamps.now.rows.rows c.args.rows.now.rows t c.row_before-before.result _ (λ k. BelowPred trace k c.args.e)
+    (copy_known c.args.stamps.now.rows.rows c.args.rows.now.rows c.args.copies.now.items c.row_before-before.result c.entry-known.result c.requires.copies (c.entry-known.ensures ∙ ap (λ (xs : List ℕ). get_or xs c.row_before-before.result 0) c.as_slice.ensures.value) c.if-known-gt0.true)
+    (c.row_before-before.ensures t of_t)
 
 pub row-requires : goal.row-requires
-row-requires c = (c.row_before-before.ensures _ c.thread-thread.ensures).in_range
+row-requires c = (row_in_range c.args.linked.now.events.now c.args.stamps.now.rows.rows c.args.e c.row_before-before.result c.requires.in_range c.row_before-before.ensures)
 
-pub index_mut-requires : goal.index_mut-requires
-index_mut-requires c =
-    let trace : List Event = c.args.linked.now.events.now in
-    let low = thread_within trace c.args.linked.now.sizes c.args.e c.thread-thread.result c.args.linked.now.within c.thread-thread.ensures in
-    let many = c.requires.as_many in
-    omega (arith, low, many)
+pub note_copy-requires : goal.note_copy-requires
+note_copy-requires c = let few = c.requires.few in let at = c.in_ok-number.ensures.number in omega (arith, few, at)
+
+pub returns-clause-copies : goal.returns-clause-copies
+returns-clause-copies c =
+    let rows = c.args.stamps.now.rows.rows in
+    let grown = grown_push c.args.rows.now c.push.new.self c.row.result.now c.in_ok-number.ensures.width c.in_ok-number.ensures.rows in
+    c.in_ok-note_copy.ensures rows c.push.new.self.rows (row_in_range c.args.linked.now.events.now c.args.stamps.now.rows.rows c.args.e c.row_before-before.result c.requires.in_range c.row_before-before.ensures)
+    (copy_pushed rows c.args.rows.now.rows c.push.new.self.rows c.row_before-before.result c.in_ok-number.number c.row.result.now c.in_ok-number.ensures.rows c.row.ensures.row c.in_ok-number.ensures.number)
+    (copies_more rows c.args.rows.now.rows c.push.new.self.rows c.args.copies.now.items grown.more c.requires.copies)
+
+pub returns-clause-grown : goal.returns-clause-grown
+returns-clause-grown c = grown_push c.args.rows.now c.push.new.self c.row.result.now c.in_ok-number.ensures.width c.in_ok-number.ensures.rows
 
 pub returns-clause-row : goal.returns-clause-row
 returns-clause-row c t of_t =
     let trace : List Event = c.args.linked.now.events.now in
-    row_moved trace c.args.stamps.now.rows.rows c.number_like.new.self.rows t c.row_before-before.result c.in_ok-number.number (λ k. BelowPred trace k c.args.e)
-    (record { in_range = c.in_ok-number.ensures.row.0; same = c.in_ok-number.ensures.row.1 ∙ c.row.ensures.row })
+    row_moved trace c.args.stamps.now.rows.rows c.push.new.self.rows t c.row_before-before.result c.in_ok-number.number (λ k. BelowPred trace k c.args.e)
+    (copy_pushed c.args.stamps.now.rows.rows c.args.rows.now.rows c.push.new.self.rows c.row_before-before.result c.in_ok-number.number c.row.result.now c.in_ok-number.ensures.rows c.row.ensures.row c.in_ok-number.ensures.number)
     (c.row_before-before.ensures t of_t)

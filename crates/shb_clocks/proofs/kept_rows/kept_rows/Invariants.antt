@@ -1,4 +1,5 @@
 use Rattle.shb_clocks.specs.KeptRows.{AreKeptRows}
+use Rattle.shb_clocks.specs.Moved.{AreCopies}
 use Rattle.shb_clocks.specs.Stamps.{IsSwept}
 use Rattle.shb_clocks.proofs.kept_rows.kept_rows.Given as goal
 
@@ -6,4 +7,5 @@ abbrev pub invariant-loop-e : goal.invariant-loop-e
 invariant-loop-e l = record {
   swept : IsSwept l.linked.events.now l.e l.linked.sizes l.stamps;
   kept : AreKeptRows l.linked.events.now l.flags l.e l.linked.sizes l.kept;
+  copies : AreCopies l.stamps.rows.rows l.kept.rows.rows l.kept.copies.items;
 }

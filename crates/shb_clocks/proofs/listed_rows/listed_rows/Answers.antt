@@ -8,16 +8,21 @@ loop-at-init c = record {
   swept = c.in_ok-stamps.ensures;
   passed = λ i low lt. omega arith;
   kept = c.in_ok-kept.ensures.listed c.args.events.now;
+  copies = c.in_ok-kept.ensures.copies c.in_ok-stamps.stamps.rows.rows;
 }
 
 pub note_listed-requires-clause-swept : goal.note_listed-requires-clause-swept
-note_listed-requires-clause-swept c = c.in_ok-pass_up_to.ensures
+note_listed-requires-clause-swept c = c.in_ok-pass_up_to.ensures.swept
+
+pub note_listed-requires-clause-copies : goal.note_listed-requires-clause-copies
+note_listed-requires-clause-copies c = c.in_ok-pass_up_to.ensures.copies c.loop-at.kept.rows.rows c.loop-at.invariant.copies
 
 pub loop-at-preserved : goal.loop-at-preserved
 loop-at-preserved c = record {
-  swept = c.in_ok-pass_up_to.ensures;
+  swept = c.in_ok-pass_up_to.ensures.swept;
   passed = λ i low lt. rising_order c.args.events.now c.requires.rising c.loop-at.at i 0 (omega (arith, low)) lt;
-  kept = c.in_ok-note_listed.ensures;
+  kept = c.in_ok-note_listed.ensures.kept;
+  copies = c.in_ok-note_listed.ensures.copies;
 }
 
 pub returns : goal.returns

@@ -1,5 +1,6 @@
 use Rattle.std.proofs.Common.{ℕ, ◌<◌, ◌≤◌, length, get_or}
 use Rattle.shb_clocks.specs.KeptRows.{AreListedRows}
+use Rattle.shb_clocks.specs.Moved.{AreCopies}
 use Rattle.shb_clocks.specs.Stamps.{IsSwept}
 use Rattle.shb_clocks.proofs.listed_rows.listed_rows.Given as goal
 
@@ -8,4 +9,5 @@ invariant-loop-at l = record {
   swept : IsSwept l.linked.events.now l.next l.linked.sizes l.stamps;
   passed : (i : ℕ) → l.at ≤ i → i < length l.events → l.next ≤ get_or l.events i 0;
   kept : AreListedRows l.linked.events.now l.events l.at l.linked.sizes l.kept;
+  copies : AreCopies l.stamps.rows.rows l.kept.rows.rows l.kept.copies.items;
 }

@@ -1,6 +1,5 @@
-use Rattle.std.proofs.Common.{◌≡◌, ◌⊎◌, inl, inr, ℕ, ◌<◌, List, Some, length, get_or, slice_get, arith, refl, subst, ap, sym, ◌∙◌}
+use Rattle.std.proofs.Common.{inl, inr, length, arith, refl, ap}
 use Rattle.std.proofs.lemmas.Option.{slice_get_read}
-use Rattle.shb_places.specs.declared.notes.Link.{Link}
 use Rattle.shb_places.specs.Lists.{here, link_previous}
 use Rattle.shb_places.proofs.Lists.{reaches_then}
 use Rattle.shb_places.proofs.NoteLemmas.{at_chain, chain_times, in_chain_end, in_chain_next, local_of, within_of}

@@ -1,5 +1,5 @@
-use Rattle.std.proofs.Common.{◌≡◌, ◌++◌, ◌+◌, ◌≤◌, List, [], ◌∷◌, ℕ, length, arith, ap, sym, ◌∙◌}
-use Rattle.std.proofs.lemmas.List.{append-nil, append_assoc, length-append}
+use Rattle.std.proofs.Common.{[], arith, sym}
+use Rattle.std.proofs.lemmas.List.{append-nil}
 use Rattle.shb_places.proofs.notes.make_room.Goals as goal
 
 pub loop-init : goal.loop-init

@@ -1,8 +1,6 @@
-use Rattle.std.proofs.Common.{◌≡◌, ◌⊎◌, inl, inr, ℕ, List, length, arith, refl, ap}
-use Rattle.std.proofs.lemmas.Option.{slice_get_within}
-use Rattle.shb_places.specs.Lists.{site_previous}
+use Rattle.std.proofs.Common.{inl, inr, length, arith, ap}
 use Rattle.shb_places.specs.Notes.{tables_of}
-use Rattle.shb_places.proofs.Lists.{reaches_end, read_same}
+use Rattle.shb_places.proofs.Lists.{read_same}
 use Rattle.shb_places.proofs.SearchLemmas.{asked_end, asked_next, asked_start}
 use Rattle.shb_places.proofs.search.ask.Goals as goal
 

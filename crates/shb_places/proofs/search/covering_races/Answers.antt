@@ -1,7 +1,8 @@
 use Rattle.std.proofs.Common.{◌≡◌, List, Some, length, arith, ap, subst, sym, ◌∙◌}
 use Rattle.shb_lines.specs.declared.event.Event.{Event}
 use Rattle.shb_lines.specs.declared.event.Pair.{Pair}
-use Rattle.shb_lines.specs.events.Race.{variable_at}
+use Rattle.std.proofs.lemmas.List.Elements.{All-nil}
+use Rattle.shb_lines.specs.events.Race.{Race, variable_at}
 use Rattle.shb_clocks.specs.SweepData.{SweepData}
 use Rattle.shb_links.proofs.Owners.{variable_sized}
 use Rattle.shb_pairs.specs.Open.{AreOpen}
@@ -13,10 +14,23 @@ pub loop-e-init : goal.loop-e-init
 loop-e-init c =
     let trace = c.args.trace.now in
     record {
-      of_trace = ap (λ (s : SweepData). s.trace) c.in_ok-sweep.ensures ∙ c.new-3.ensures.events;
+      of_trace = ap (λ (s : SweepData). s.trace) c.in_ok-sweep.ensures ∙ c.new-4.ensures.events;
       next = ap (λ (s : SweepData). s.next) c.in_ok-sweep.ensures;
       searched = c.in_ok-search.ensures trace.trace.now c.args.flags.now (λ e x of_e. (variable_sized trace.events.now trace.sizes e x trace.within (subst (λ (l : List Event). variable_at l e ≡ Some x) (sym trace.of_trace) of_e)).1);
     }
+
+pub returns-then-not-any_open : goal.returns-then-not-any_open
+returns-then-not-any_open c =
+    let trace = c.args.trace.now in
+    let back = sym trace.of_trace in
+    subst (λ (l : List Pair). Covers trace.trace.now l) (sym c.new.ensures.items) (record {
+      races = All-nil (λ (p : Pair). Race trace.trace.now.events p.first p.second);
+      each = λ i j race. absurd (
+          let x = race.conflict.variable in
+          let here : variable_at trace.events.now j ≡ Some x = subst (λ (l : List Event). variable_at l j ≡ Some x) back race.conflict.second_accesses in
+          let shut = c.any_open.ensures c.if-not-any_open.true x (variable_sized trace.events.now trace.sizes j x trace.within here).1 in
+          c.requires.settled x shut i j here (subst (λ (l : List Event). Race l i j) back race));
+    })
 
 pub step-requires-clause-settled : goal.step-requires-clause-settled
 step-requires-clause-settled c = rw c.new-ordered.ensures.trace (subst (λ (l : List Event). AreOpen l c.args.flags.now) c.args.trace.now.of_trace c.requires.settled)
@@ -28,4 +42,4 @@ returns c =
     let all : c.loop-e.e ≡ length trace.events.now = omega arith in
     let same = ap length trace.of_trace in
     subst (λ (l : List Pair). Covers trace.trace.now l) (sym c.into_races.ensures)
-    (searched_all trace.trace.now c.args.flags.now kept.sites kept.notes kept.found c.loop-e.e (omega (arith, all, same)) c.loop-e.invariant.searched)
+    (searched_all trace.trace.now c.args.flags.now kept.sites kept.notes kept.found c.loop-e.e (omega (arith, all, same)) c.loop-e.invariant.searched.searched)

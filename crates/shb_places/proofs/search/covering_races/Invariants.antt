@@ -1,10 +1,10 @@
 use Rattle.std.proofs.Common.{◌≡◌}
-use Rattle.shb_places.specs.Searched.{IsSearched}
+use Rattle.shb_places.specs.Searched.{AreSearched}
 use Rattle.shb_places.proofs.search.covering_races.Given as goal
 
 abbrev pub invariant-loop-e : goal.invariant-loop-e
 invariant-loop-e l = record {
   of_trace : l.sweep.trace ≡ l.trace.events.now;
   next : l.sweep.next ≡ l.e;
-  searched : IsSearched l.trace.trace.now l.flags l.search.sites l.search.notes l.search.found l.e;
+  searched : AreSearched l.trace.trace.now l.flags l.search.sites l.search.notes l.search.wanted l.search.found l.e;
 }

@@ -13,11 +13,10 @@ keep-requires-clause-few c =
     let most = c.args.linked.now.few in
     omega (arith, above, few, within, most)
 
-pub returns : goal.returns
-returns c = record {
+pub returns-clause-kept : goal.returns-clause-kept
+returns-clause-kept c = record {
   width = c.in_ok-number.ensures.grown.width ∙ c.requires.kept.width;
   few = (let few = c.requires.kept.few in let more = c.in_ok-number.ensures.grown.few in omega (arith, few, more));
-  as_many = c.in_ok-number.ensures.as_many;
   before = listed_push c.args.linked.now.events.now c.args.events.now c.keep.new.rows.rows c.args.at c.in_ok-number.number c.args.self.now.before.items c.push.new.self.items
       (λ e t at of_e. subst (λ (m : ℕ). IsRowFor c.args.linked.now.events.now c.keep.new.rows.rows t (λ k. BelowPred c.args.linked.now.events.now k m) c.in_ok-number.number) at
       (c.in_ok-number.ensures.row t (subst (λ (m : ℕ). thread_at c.args.linked.now.events.now m ≡ Some t) (sym at) of_e)))

@@ -8,6 +8,12 @@ use Rattle.shb_clocks.proofs.LearnedLemmas.{local_is}
 use Rattle.shb_clocks.proofs.Stamping.{more_chain, stamp_more, stamps_more}
 use Rattle.shb_clocks.proofs.stamps.Stamps.take.Goals as goal
 
+pub note_read-requires-clause-row : goal.note_read-requires-clause-row
+note_read-requires-clause-row c = (c.in_ok-row.ensures.row c.thread-thread.result c.thread-thread.ensures).in_range
+
+pub note_read-requires-clause-stamps : goal.note_read-requires-clause-stamps
+note_read-requires-clause-stamps c = stamps_more c.args.linked.now.events.now c.args.self.now.rows.rows c.row_after.new.rows.rows (WritesShared c.args.linked.now.events.now) c.args.e c.args.linked.now.sizes.variables c.args.self.now.variables.items c.in_ok-row.ensures.grown.more c.requires.swept.variables
+
 pub pass_on-requires-clause-stamp : goal.pass_on-requires-clause-stamp
 pass_on-requires-clause-stamp c =
     let trace : List Event = c.args.linked.now.events.now in
@@ -35,7 +41,7 @@ returns-clause-swept c =
       few = (let a = first.few in let b = second.few in let prior = old.few in omega (arith, a, b, prior));
       current = c.in_ok-pass_on.ensures.current;
       locks = c.note_release.ensures c.pass_on.new.rows.rows kept (stamps_more trace rows c.pass_on.new.rows.rows (ReleasesLock trace) c.args.e sizes.locks c.args.self.now.locks.items grown old.locks);
-      variables = c.note_write.ensures c.pass_on.new.rows.rows kept (stamps_more trace rows c.pass_on.new.rows.rows (WritesShared trace) c.args.e sizes.variables c.args.self.now.variables.items grown old.variables);
+      variables = c.note_write.ensures c.pass_on.new.rows.rows kept (stamps_more trace c.row_after.new.rows.rows c.pass_on.new.rows.rows (WritesShared trace) c.args.e sizes.variables c.note_read.new.variables.items second.more c.note_read.ensures.stamps);
     }
 
 pub returns-clause-more : goal.returns-clause-more

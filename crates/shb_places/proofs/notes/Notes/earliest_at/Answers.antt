@@ -1,5 +1,4 @@
-use Rattle.std.proofs.Common.{◌≡◌, ◌⊎◌, inl, inr, ℕ, ◌<◌, List, Some, length, get_or, slice_get, arith, refl, subst, ap, sym, ◌∙◌}
-use Rattle.std.proofs.lemmas.Option.{slice_get_read}
+use Rattle.std.proofs.Common.{inl, inr, length, arith, ap}
 use Rattle.shb_places.proofs.Lists.{read_same}
 use Rattle.shb_places.proofs.NoteLemmas.{least_end, least_next, least_start}
 use Rattle.shb_places.proofs.notes.Notes.earliest_at.Goals as goal

@@ -1,7 +1,5 @@
-use Rattle.std.proofs.Common.{◌≡◌, ◌⊎◌, inl, inr, ℕ, ◌<◌, true, false, List, Some, length, get_or, slice_get, arith, refl, subst, ap, sym, ◌∙◌}
-use Rattle.std.proofs.lemmas.Option.{slice_get_read, slice_get_within}
-use Rattle.shb_lines.specs.events.Race.{variable_at}
-use Rattle.shb_pairs.proofs.Found.{accessed_within}
+use Rattle.std.proofs.Common.{◌≡◌, true, false, List, length, arith, refl, subst, ap, sym, ◌∙◌}
+use Rattle.std.proofs.lemmas.Option.{slice_get_within}
 use Rattle.shb_pairs.proofs.Tails.{count_seen}
 use Rattle.shb_places.specs.declared.notes.Link.{Link}
 use Rattle.shb_places.proofs.Lists.{read_same}

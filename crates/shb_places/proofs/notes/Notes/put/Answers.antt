@@ -1,4 +1,4 @@
-use Rattle.std.proofs.Common.{◌≡◌, refl}
+use Rattle.std.proofs.Common.{refl}
 use Rattle.std.proofs.lemmas.Result.{on_ok_weaker}
 use Rattle.shb_places.specs.Notes.{tables_of}
 use Rattle.shb_places.proofs.NoteLemmas.{begun_added, extended_added}

@@ -1,5 +1,5 @@
 use Rattle.std.proofs.Common.{sym, ◌∙◌}
-use Rattle.shb_places.proofs.SearchLemmas.{searched_other}
+use Rattle.shb_places.proofs.TakeLemmas.{passed_other}
 use Rattle.shb_places.proofs.StepLemmas.{access_of, shut_known, shut_none}
 use Rattle.shb_places.proofs.search.Search.step.Goals as goal
 
@@ -7,7 +7,7 @@ pub returns-in_default : goal.returns-in_default
 returns-in_default g c =
     let trace = c.args.ordered.now.trace.now in
     let own = c.args.self.now in
-    searched_other trace.trace.now c.args.flags.now own.sites own.notes own.found c.args.e c.requires.settled
+    passed_other trace.trace.now c.args.flags.now own.sites own.notes own.wanted own.found c.args.e c.requires.settled
     (shut_none trace.trace.now trace.events.now _ c.args.e c.args.flags.now trace.of_trace c.op-op.ensures (sym c.variable.ensures ∙ c.in_default.is))
     c.requires.searched
 
@@ -15,11 +15,11 @@ pub returns-then-not-is_open : goal.returns-then-not-is_open
 returns-then-not-is_open g c =
     let trace = c.args.ordered.now.trace.now in
     let own = c.args.self.now in
-    searched_other trace.trace.now c.args.flags.now own.sites own.notes own.found c.args.e c.requires.settled
+    passed_other trace.trace.now c.args.flags.now own.sites own.notes own.wanted own.found c.args.e c.requires.settled
     (shut_known trace.trace.now trace.events.now _ c.args.e c.in-Some.variable c.args.flags.now trace.of_trace c.op-op.ensures c.in-Some.ensures (sym c.is_open.ensures ∙ c.if-not-is_open.true))
     c.requires.searched
 
 pub take-requires-clause-access : goal.take-requires-clause-access
 take-requires-clause-access g c =
     let trace = c.args.ordered.now.trace.now in
-    access_of trace.trace.now trace.events.now _ _ c.in-Some.variable _ c.args.e _ trace.of_trace c.op-op.ensures c.thread-thread.ensures c.in-Some.ensures c.in_ok-location.ensures.1 c.is_write.ensures
+    access_of trace.trace.now trace.events.now _ _ c.in-Some.variable _ c.args.e _ trace.of_trace c.op-op.ensures c.thread-thread.ensures c.in-Some.ensures c.in_ok-location.ensures c.is_write.ensures

@@ -1,4 +1,4 @@
-use Rattle.std.proofs.Common.{ℕ, List, length, arith, refl, sym, subst, ◌∙◌}
+use Rattle.std.proofs.Common.{ℕ, List, length, refl, sym, subst, ◌∙◌}
 use Rattle.std.proofs.Math.ListN.{set}
 use Rattle.std.proofs.lemmas.Option.{slice_get_read}
 use Rattle.shb_places.specs.declared.sites.Site.{Site}

@@ -1,0 +1,6 @@
+pub mod RowLemmas
+pub mod SpanCounts
+pub mod RacingLemmas
+pub mod NumberLemmas
+pub mod CountedLemmas
+pub mod PieceLemmas

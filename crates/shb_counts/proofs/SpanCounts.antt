@@ -1,0 +1,98 @@
+-- Counts of the numbers of a span, from the counts before its two ends.
+use Rattle.std.proofs.Common.{◌≡◌, ℕ, ◌+◌, ◌-◌, ◌<◌, ◌≤◌, ◌++◌, inl, inr, List, [], ◌∷◌, length, get_or, set, take, drop, refl, arith, ap, sym, ◌∙◌}
+use Rattle.std.specs.Prelude.{◌==◌, All}
+use Rattle.std.proofs.Math.Seq.{take-add}
+use Rattle.std.proofs.lemmas.Bool.{cases_eq}
+use Rattle.std.proofs.lemmas.Grind.{flat_map-append}
+use Rattle.std.proofs.lemmas.List.{append-nil, get_or-set_other, get_or-set_same, length-append, length-set, length-take-le, length-drop, take-append-drop, take_more}
+use Rattle.std.proofs.lemmas.List.Elements.{filter-append}
+use Rattle.std.proofs.lemmas.List.Sums.{count_by-le-length, length-filter}
+use Rattle.shb_pairs.specs.Buckets.{with_key}
+use Rattle.shb_pairs.specs.Spans.{IsSpanOf, in_spans}
+use Rattle.shb_pairs.specs.declared.spans.Span.{Span}
+use Rattle.shb_counts.specs.Counts.{AreCountsBefore, AreCountsOf, HaveGrown, MayGrow}
+
+pub none_grown : (before after old : List ℕ) → HaveGrown before after old 0 old
+none_grown before after old = record { as_many = refl; grown = λ n lt. absurd (omega arith); same = λ n le. refl }
+
+pub one_grown : (before after old new : List ℕ) (k v : ℕ) → k < length old → v ≡ get_or old k 0 + (get_or after k 0 - get_or before k 0) → HaveGrown before after old k new → HaveGrown before after old (k + 1) (set new k v)
+one_grown before after old new k v lt is h = record {
+  as_many = length-set new k v ∙ h.as_many;
+  grown = λ n below. elim (cases_eq n k) [
+    | inl e ↦ rw e (get_or-set_same new k v 0 (let long = h.as_many in omega (arith, long, lt)) ∙ is)
+    | inr ne ↦ get_or-set_other new k n v 0 ne ∙ h.grown n (omega (arith, below, ne))
+  ];
+  same = λ n past. get_or-set_other new k n v 0 (λ e. omega (arith, e, past)) ∙ h.same n (omega (arith, past));
+}
+
+-- how often n stands in the two parts of a list
+times_append : (n : ℕ) (xs ys : List ℕ) → length (with_key (λ k. k) (xs ++ ys) n) ≡ length (with_key (λ k. k) xs n) + length (with_key (λ k. k) ys n)
+times_append n xs ys = ap length (filter-append (λ k. k == n) xs ys) ∙ length-append (with_key (λ k. k) xs n) (with_key (λ k. k) ys n)
+
+times_few : (n : ℕ) (xs : List ℕ) → length (with_key (λ k. k) xs n) ≤ length xs
+times_few n xs = let size = length-filter (λ k. k == n) xs in let few = count_by-le-length (λ k. k == n) xs in omega (arith, size, few)
+
+-- how often n stands before the end of a span
+times_span : (n from to : ℕ) (xs : List ℕ) → from ≤ to → length (with_key (λ k. k) (take to xs) n) ≡ length (with_key (λ k. k) (take from xs) n) + length (with_key (λ k. k) (take (to - from) (drop from xs)) n)
+times_span n from to xs le =
+    let e : from + (to - from) ≡ to = omega arith in
+    ap (λ (ks : List ℕ). length (with_key (λ k. k) ks n)) (ap (λ (m : ℕ). take m xs) (sym e) ∙ take-add from (to - from) xs) ∙ times_append n (take from xs) (take (to - from) (drop from xs))
+
+module _ (classes from to : ℕ) (numbers before after list old : List ℕ) (ordered : from ≤ to) (is_before : AreCountsBefore classes numbers from before) (is_after : AreCountsBefore classes numbers to after) (h : AreCountsOf classes list old) where
+  grows_by : (n : ℕ) → n < classes → (get_or before n 0 ≤ get_or after n 0) × (get_or after n 0 - get_or before n 0 ≡ length (with_key (λ k. k) (take (to - from) (drop from numbers)) n))
+  grows_by n lt = let low = is_before.each n lt in let high = is_after.each n lt in let parts = times_span n from to numbers ordered in (omega (arith, low, high, parts), omega (arith, low, high, parts))
+
+  pub span_may_grow : to ≤ length numbers → length list + (to - from) < 4294967296 → MayGrow before after old
+  span_may_grow within few = record {
+    before_long = is_before.as_many ∙ sym h.as_many;
+    after_long = is_after.as_many ∙ sym h.as_many;
+    rising = λ n lt. (grows_by n (let long = h.as_many in omega (arith, lt, long))).0;
+    few = λ n lt.
+        let long = h.as_many in
+        let lt_classes : n < classes = omega (arith, lt, long) in
+        let by = (grows_by n lt_classes).1 in
+        let was = h.each n lt_classes in
+        let low = times_few n list in
+        let high = times_few n (take (to - from) (drop from numbers)) in
+        let rest = length-drop from numbers in
+        let size = length-take-le (to - from) (drop from numbers) (omega (arith, within, rest)) in
+        omega (arith, by, was, low, high, size, few);
+  }
+
+  pub span_counted : (new : List ℕ) → HaveGrown before after old (length old) new → AreCountsOf classes (list ++ take (to - from) (drop from numbers)) new
+  span_counted new grown = record {
+    as_many = grown.as_many ∙ h.as_many;
+    each = λ n lt.
+        let long = h.as_many in
+        let more = grown.grown n (omega (arith, lt, long)) in
+        let by = (grows_by n lt).1 in
+        let was = h.each n lt in
+        let parts = times_append n list (take (to - from) (drop from numbers)) in
+        omega (arith, more, by, was, parts);
+  }
+
+take_none : (xs : List ℕ) → take 0 xs ≡ []
+take_none [] = refl
+take_none (x ∷ xs) = refl
+
+-- the counts before the first number are those of no number
+pub none_counted : (classes : ℕ) (numbers counts : List ℕ) → AreCountsBefore classes numbers 0 counts → AreCountsOf classes [] counts
+none_counted classes numbers counts h = record { as_many = h.as_many; each = λ n lt. h.each n lt ∙ ap (λ (ks : List ℕ). length (with_key (λ k. k) ks n)) (take_none numbers) }
+
+-- the numbers of one span more
+pub spans_more : (numbers : List ℕ) (spans : List Span) (k : ℕ) (d : Span) → k < length spans → in_spans numbers (take (k + 1) spans) ≡ in_spans numbers (take k spans) ++ take ((get_or spans k d).to - (get_or spans k d).from) (drop (get_or spans k d).from numbers)
+spans_more numbers spans k d lt =
+    ap (λ (ss : List Span). in_spans numbers ss) (take_more spans k d lt)
+    ∙ (flat_map-append (λ (s : Span). take (s.to - s.from) (drop s.from numbers)) (take k spans) (get_or spans k d ∷ [])
+    ∙ ap (λ (ys : List ℕ). in_spans numbers (take k spans) ++ ys) (append-nil (take ((get_or spans k d).to - (get_or spans k d).from) (drop (get_or spans k d).from numbers))))
+
+-- there is room for one span more
+pub spans_room : (numbers : List ℕ) (spans : List Span) (k : ℕ) (d : Span) → k < length spans → All (IsSpanOf (length numbers)) spans → length (in_spans numbers spans) < 4294967296 → length (in_spans numbers (take k spans)) + ((get_or spans k d).to - (get_or spans k d).from) < 4294967296
+spans_room numbers spans k d lt each few =
+    let own = each k d lt in
+    let within = own.within in
+    let whole = ap length (ap (λ (ss : List Span). in_spans numbers ss) (sym (take-append-drop (k + 1) spans)) ∙ flat_map-append (λ (s : Span). take (s.to - s.from) (drop s.from numbers)) (take (k + 1) spans) (drop (k + 1) spans)) ∙ length-append (in_spans numbers (take (k + 1) spans)) (in_spans numbers (drop (k + 1) spans)) in
+    let front = ap length (spans_more numbers spans k d lt) ∙ length-append (in_spans numbers (take k spans)) (take ((get_or spans k d).to - (get_or spans k d).from) (drop (get_or spans k d).from numbers)) in
+    let rest = length-drop (get_or spans k d).from numbers in
+    let size = length-take-le ((get_or spans k d).to - (get_or spans k d).from) (drop (get_or spans k d).from numbers) (omega (arith, within, rest)) in
+    omega (arith, whole, front, size, few)

@@ -1,0 +1,15 @@
+use Rattle.std.proofs.Common.{◌≤◌, length}
+use Rattle.std.specs.Prelude.{IfSome}
+use Rattle.shb_fan.specs.Values.{values_of}
+use Rattle.shb_pairs.specs.Pieces.{pieces_in}
+use Rattle.shb_pairs.specs.Races.{joined, races_at}
+use Rattle.shb_counts.specs.Counted.{HasCounted}
+use Rattle.shb_counts.specs.Tables.{AreTables}
+use Rattle.shb_counts.proofs.counted.count_pieces.Given as goal
+
+abbrev pub invariant-loop-k : goal.invariant-loop-k
+invariant-loop-k g l = record {
+  within : l.k ≤ length (pieces_in l.job);
+  known : IfSome l.known (λ many. AreTables l.job.trace l.located.numbers.now.numbers.items (length l.located.numbers.now.events.items) many.tables.variable many.tables);
+  counted : HasCounted l.located.trace.now (joined (values_of (races_at l.job) l.k)) l.counter;
+}

@@ -1,0 +1,4 @@
+pub mod Counts
+pub mod Numbering
+pub mod Counted
+pub mod Tables

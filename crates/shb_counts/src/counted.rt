@@ -1,0 +1,251 @@
+//! The number of all races of a search, and their places.
+
+ghost use Rattle.std.specs.Prelude.{◌≡◌, ◌++◌, ◌<◌, ◌≤◌, ℕ, List, All, IfOk, IfSome, OnOk, [], length, map, slice_index_or};
+ghost use Rattle.std.specs.Bool.{IsTrue};
+ghost use Rattle.shb_fan.specs.Values.{values_of};
+ghost use Rattle.shb_pairs.specs.Pieces.{pieces_in};
+ghost use Rattle.shb_pairs.specs.Races.{joined, races_at};
+ghost use Rattle.shb_report.specs.Places.{counts_in, places_of_pairs};
+ghost use Rattle.shb_report.specs.Report.{pair_of};
+ghost use Rattle.shb_counts.specs.Counted.{HasCounted};
+ghost use Rattle.shb_counts.specs.Tables.{AreTables};
+
+use crate::accesses::{Run, count_run};
+use crate::counter::{Located, RaceCounter};
+use crate::numbering::{LocationNumbers, location_numbers};
+use crate::racing::Room;
+use crate::tables::{Tables, tables_of};
+use shb_clocks::Order;
+use shb_fan::Job;
+use shb_io::NoMemory;
+use shb_lines::Trace;
+use shb_pairs::{RaceRanges, RangeJob, Search};
+use shb_report::{PlaceTable, Places};
+use std::alloc::Global;
+use std::random::RandomSource;
+
+/// So many races of an access at least are counted by the numbers of their locations.
+const FEWEST_MANY: usize = 16;
+
+/// How many races there are, and their places.
+#[derive(Drop)]
+pub struct RaceCount {
+    /// How many races there are.
+    pub races: u64,
+    /// Their places.
+    pub places: Places,
+}
+
+/// Whether the accesses of a piece have so many races that they are counted by the numbers of their
+/// locations: on the average more races than there are locations. Only where each event of the search is an
+/// event of the trace.
+fn has_many(located: &Located<'_, '_>, events: u32, races: u64, accesses: u32) -> bool
+    ensures { IsTrue result → events ≤ length located.now.trace.now.events }
+{
+    let each = located.numbers.events.len().max(FEWEST_MANY) as u64;
+    events <= located.trace.len() && races / each > u64::from(accesses)
+}
+
+/// What the races of one variable are counted by.
+#[derive(Drop)]
+struct Many<'a> {
+    tables: Tables<'a>,
+    room: Room<'a>,
+    /// Whether the accesses of the piece that was counted last had many races.
+    had_many: bool,
+}
+
+/// What the races of the variable of a search are counted by: what is known, if it is of this variable.
+fn many_of<'a, O: Order>(
+    alloc: Global,
+    numbers: &LocationNumbers,
+    search: &Search<'_, 'a, O>,
+    known: Option<Many<'a>>,
+) -> Result<Many<'a>, NoMemory>
+    requires within { length search.now.ordered.now.trace.now.events.now ≤ length numbers.now.numbers.items }
+    requires numbered { (e : ℕ) → e < length numbers.now.numbers.items → slice_index_or numbers.now.numbers.items e 0 < length numbers.now.events.items }
+    requires known { IfSome known (λ many. AreTables search.now.ordered.now.trace.now.events.now numbers.now.numbers.items
+        (length numbers.now.events.items) many.tables.variable many.tables) }
+    ensures { IfOk result (λ many. AreTables search.now.ordered.now.trace.now.events.now numbers.now.numbers.items
+        (length numbers.now.events.items) search.now.variable many.tables) }
+{
+    if let Some(many) = known {
+        if many.tables.variable == search.variable {
+            return Ok(many);
+        }
+    }
+    let tables = tables_of(alloc, numbers, search)?;
+    Ok(Many {
+        tables,
+        room: Room::new(alloc, search),
+        had_many: true,
+    })
+}
+
+/// Whether the races of a piece are counted by the numbers of their locations before it is known that they
+/// are many: where those of the piece before were, and are of the same variable.
+fn expects_many(
+    known: &Option<Many<'_>>,
+    located: &Located<'_, '_>,
+    events: u32,
+    variable: u32,
+) -> bool
+    ensures { IsTrue result → events ≤ length located.now.trace.now.events }
+{
+    let had_many = match known {
+        Some(many) => many.had_many && many.tables.variable == variable,
+        None => false,
+    };
+    events <= located.trace.len() && had_many
+}
+
+/// Counts the races of a piece one by one.
+fn count_few<'t>(
+    alloc: Global,
+    counter: &mut RaceCounter<'t>,
+    trace: &'t Trace,
+    races: &RaceRanges<'_>,
+) -> Result<(), NoMemory>
+    requires races { All (λ race. (race.0 < length trace.now.events) × (race.1 < length trace.now.events)) (joined races.now) }
+    requires counted { (before : List (ℕ × ℕ)) × HasCounted trace.now before counter.old }
+    ensures { OnOk result ((before : List (ℕ × ℕ)) → HasCounted trace.now before counter.old
+        → HasCounted trace.now (before ++ joined races.now) counter.new) }
+{
+    let pairs = races.expanded(alloc)?;
+    counter.count(trace, pairs.as_slice())
+}
+
+/// Counts the races of a piece by the numbers of their locations. Gives what they were counted by.
+fn count_many<'a, 't, O: Order>(
+    alloc: Global,
+    counter: &mut RaceCounter<'t>,
+    located: &Located<'t, '_>,
+    job: &RangeJob<'a, O>,
+    known: Option<Many<'a>>,
+    k: u64,
+) -> Result<Many<'a>, NoMemory>
+    requires inside { k < length (pieces_in job.now) }
+    requires within { length job.now.trace ≤ length located.now.trace.now.events }
+    requires known { IfSome known (λ many. AreTables job.now.trace located.now.numbers.now.numbers.items
+        (length located.now.numbers.now.events.items) many.tables.variable many.tables) }
+    requires counted { (before : List (ℕ × ℕ)) × HasCounted located.now.trace.now before counter.old }
+    ensures tables { IfOk result (λ many. AreTables job.now.trace located.now.numbers.now.numbers.items
+        (length located.now.numbers.now.events.items) many.tables.variable many.tables) }
+    ensures counted { OnOk result ((before : List (ℕ × ℕ)) → HasCounted located.now.trace.now before counter.old
+        → HasCounted located.now.trace.now (before ++ races_at job.now k) counter.new) }
+{
+    let search = job.search(k);
+    let piece = job.piece(k);
+    let many = many_of(alloc, located.numbers, &search, known)?;
+    let Many {
+        tables,
+        mut room,
+        had_many: _,
+    } = many;
+    let run = Run {
+        from: piece.from as usize,
+        to: piece.to as usize,
+    };
+    let before = counter.races;
+    count_run(&mut room, counter, located, &search, &tables, &run)?;
+    let races = counter.races.saturating_sub(before);
+    let had_many = has_many(located, job.events(), races, piece.to - piece.from);
+    Ok(Many {
+        tables,
+        room,
+        had_many,
+    })
+}
+
+/// Counts the races of a piece. Gives what those of the last piece with many were counted by.
+fn count_piece<'a, 't, O: Order>(
+    alloc: Global,
+    counter: &mut RaceCounter<'t>,
+    located: &Located<'t, '_>,
+    job: &RangeJob<'a, O>,
+    known: Option<Many<'a>>,
+    k: u64,
+) -> Result<Option<Many<'a>>, NoMemory>
+    requires inside { k < length (pieces_in job.now) }
+    requires races { All (λ race. (race.0 < length located.now.trace.now.events) × (race.1 < length located.now.trace.now.events)) (races_at job.now k) }
+    requires known { IfSome known (λ many. AreTables job.now.trace located.now.numbers.now.numbers.items
+        (length located.now.numbers.now.events.items) many.tables.variable many.tables) }
+    requires counted { (before : List (ℕ × ℕ)) × HasCounted located.now.trace.now before counter.old }
+    ensures tables { IfOk result (λ known. IfSome known (λ many. AreTables job.now.trace located.now.numbers.now.numbers.items
+        (length located.now.numbers.now.events.items) many.tables.variable many.tables)) }
+    ensures counted { OnOk result ((before : List (ℕ × ℕ)) → HasCounted located.now.trace.now before counter.old
+        → HasCounted located.now.trace.now (before ++ races_at job.now k) counter.new) }
+{
+    let piece = job.piece(k);
+    if expects_many(&known, located, job.events(), piece.variable) {
+        let many = count_many(alloc, counter, located, job, known, k)?;
+        return Ok(Some(many));
+    }
+    let races = job.run(alloc, k)?;
+    if has_many(located, job.events(), races.len(), piece.to - piece.from) {
+        let many = count_many(alloc, counter, located, job, known, k)?;
+        return Ok(Some(many));
+    }
+    count_few(alloc, counter, located.trace, &races)?;
+    Ok(known)
+}
+
+/// Counts the races of all pieces.
+fn count_pieces<'t, O: Order>(
+    alloc: Global,
+    counter: &mut RaceCounter<'t>,
+    located: &Located<'t, '_>,
+    job: &RangeJob<'_, O>,
+) -> Result<(), NoMemory>
+    requires races { All (λ race. (race.0 < length located.now.trace.now.events) × (race.1 < length located.now.trace.now.events))
+        (joined (values_of (races_at job.now) (length (pieces_in job.now)))) }
+    requires counted { HasCounted located.now.trace.now [] counter.old }
+    ensures { OnOk result (HasCounted located.now.trace.now (joined (values_of (races_at job.now) (length (pieces_in job.now)))) counter.new) }
+{
+    let mut known = None;
+    let count = job.pieces();
+    for k in 0..count {
+        known = count_piece(alloc, counter, located, job, known, k)?;
+    }
+    Ok(())
+}
+
+/// The number of all races that a search finds, and their places. Both events of each race must be events of
+/// the trace.
+///
+/// A piece with few races costs a step for each of them. A piece with many costs, for each of its accesses and
+/// each thread that accesses the variable, a step for each location of the trace; beside that each race of an
+/// access that has the first race of a place costs a step. The memory is about 16 bytes for each access of one
+/// variable, and what the races of one piece with few take.
+///
+/// # Errors
+///
+/// `NoMemory` where a growth was refused, or where there were no random numbers for a table.
+pub fn counted_races<R: RandomSource, O: Order>(
+    rt: &R,
+    alloc: Global,
+    trace: &Trace,
+    job: &RangeJob<'_, O>,
+) -> Result<RaceCount, NoMemory>
+    requires { All (λ race. (race.0 < length trace.now.events) × (race.1 < length trace.now.events))
+        (joined (values_of (races_at job.now) (length (pieces_in job.now)))) }
+    ensures races { IfOk result (λ c. c.races ≡ length (joined (values_of (races_at job.now) (length (pieces_in job.now))))) }
+    ensures places { IfOk result (λ c. c.places ≡ counts_in (places_of_pairs trace.now
+        (map pair_of (joined (values_of (races_at job.now) (length (pieces_in job.now))))))) }
+{
+    let numbers = location_numbers(rt, alloc, trace)?;
+    let located = Located {
+        trace,
+        numbers: &numbers,
+    };
+    let mut counter = RaceCounter {
+        places: PlaceTable::new(rt, alloc)?,
+        races: 0,
+    };
+    count_pieces(alloc, &mut counter, &located, job)?;
+    let places = counter.places.to_places(alloc)?;
+    Ok(RaceCount {
+        races: counter.races,
+        places,
+    })
+}

@@ -1,0 +1,66 @@
+-- Spans of a list of accesses by thread.
+use Rattle.std.proofs.Common.{◌≡◌, ℕ, zero, suc, ◌<◌, ◌≤◌, ◌+◌, ◌-◌, List, [], ◌∷◌, ◌++◌, Some, length, refl, arith, ap, sym, subst, ◌∙◌}
+use Rattle.std.specs.Prelude.{All, take, drop}
+use Rattle.std.proofs.lemmas.Grind.{flat_map-append}
+use Rattle.std.proofs.lemmas.List.{append-nil, drop-drop, drop-take, length-take, take-take}
+use Rattle.std.proofs.lemmas.List.Elements.{All-append}
+use Rattle.shb_lines.specs.declared.event.Event.{Event}
+use Rattle.shb_lines.specs.declared.event.Op.{Op}
+use Rattle.shb_lines.specs.declared.event.Op.TheVariants.{Read, Write}
+use Rattle.shb_lines.specs.events.Events.{op_at}
+use Rattle.shb_lines.specs.events.Race.{variable_at}
+use Rattle.shb_lines.specs.events.Reach.{is_race, numbers_where}
+use Rattle.shb_pairs.specs.declared.spans.Span.{Span}
+use Rattle.shb_pairs.specs.Accesses.{IsByThread}
+use Rattle.shb_pairs.specs.Ranges.{sorted}
+use Rattle.shb_pairs.specs.Search.{AreRivals, racing}
+use Rattle.shb_pairs.specs.Spans.{AreComparedWith, IsSpanOf, compared_with, in_spans}
+use Rattle.shb_pairs.proofs.Tails.{racing_more}
+use Rattle.shb_pairs.proofs.Found.{HasFound, accessed_within, both_are_rivals, found_all, found_of_read, found_of_write, range_by_thread, write_at, writes_are_rivals}
+
+rivals_by_op : (trace : List Event) (j x : ℕ) (op : Op) (list : List ℕ) → variable_at trace j ≡ Some x → op_at trace j ≡ Some op → IsByThread trace (compared_with op) x list → AreRivals trace j list
+rivals_by_op trace j x (Write y) list accesses does h = both_are_rivals trace x j list accesses (write_at trace j x (Write y) does refl accesses) h
+rivals_by_op trace j x (Read y) list accesses does h = writes_are_rivals trace x j list accesses h
+rivals_by_op trace j x _ list accesses does h = writes_are_rivals trace x j list accesses h
+
+pub compared_rivals : (trace : List Event) (j : ℕ) (list : List ℕ) → AreComparedWith trace j list → AreRivals trace j list
+compared_rivals trace j list h = rivals_by_op trace j h.variable h.op list h.accesses h.does h.by_thread
+
+pub compared_range : (trace : List Event) (j : ℕ) (list : List ℕ) → AreComparedWith trace j list → All (λ k. k < length trace) list
+compared_range trace j list h = range_by_thread trace (compared_with h.op) h.variable list h.by_thread
+
+found_by_op : (trace : List Event) (j x : ℕ) (op : Op) (list found : List ℕ) → variable_at trace j ≡ Some x → op_at trace j ≡ Some op → IsByThread trace (compared_with op) x list → found ≡ racing trace j list → HasFound trace x j found
+found_by_op trace j x (Write y) list found accesses does h is = found_of_write trace x j list [] found refl is h
+found_by_op trace j x (Read y) list found accesses does h is = found_of_read trace x j (Read y) list [] found (accessed_within trace j x accesses) does refl refl is h
+found_by_op trace j x op list found accesses does h is = absurd (let f : ⊥ = cc in f)
+
+pub compared_found : (trace : List Event) (j : ℕ) (list found : List ℕ) → AreComparedWith trace j list → found ≡ racing trace j list → sorted found ≡ numbers_where (λ i. is_race trace i j) j
+compared_found trace j list found h is = found_all trace h.variable j h.accesses found (found_by_op trace j h.variable h.op list found h.accesses h.does h.by_thread is)
+
+-- a part of a part
+part_of_part : (start n a b : ℕ) (ks : List ℕ) → a ≤ b → b ≤ n → take ((start + b) - (start + a)) (drop (start + a) ks) ≡ take (b - a) (drop a (take n (drop start ks)))
+part_of_part start n a b ks le within =
+    let size : (start + b) - (start + a) ≡ b - a = omega arith in
+    let long : a + (n - a) ≡ n = omega arith in
+    ap (λ (m : ℕ). take m (drop (start + a) ks)) size
+    ∙ (ap (λ (ys : List ℕ). take (b - a) ys) (sym (drop-drop a start ks))
+    ∙ (sym (take-take (b - a) (n - a) (drop a (drop start ks)) (omega arith))
+    ∙ (ap (λ (ys : List ℕ). take (b - a) ys) (sym (drop-take a (n - a) (drop start ks)))
+    ∙ ap (λ (m : ℕ). take (b - a) (drop a (take m (drop start ks)))) long)))
+
+one_holds : {X : Type 0} (P : X → Type 0) (x : X) → P x → All P (x ∷ [])
+one_holds P x h zero d lt = h
+one_holds P x h (suc k) d lt = absurd (omega arith)
+
+-- the span of the next thread
+pub span_more : (trace : List Event) (j start end a b : ℕ) (ks part : List ℕ) (found new : List Span) → start < end → end ≤ length ks → a ≤ b → b ≤ length part → part ≡ take (end - start) (drop start ks) → take (b - a) (drop a part) ≡ racing trace j part → in_spans ks found ≡ racing trace j (take start ks) → All (IsSpanOf (length ks)) found → new ≡ found ++ record { from = start + a; to = start + b } ∷ [] → (in_spans ks new ≡ racing trace j (take end ks)) × All (IsSpanOf (length ks)) new
+span_more trace j start end a b ks part found new lt within le below is races before each pushed = (
+  ap (λ (ss : List Span). in_spans ks ss) pushed
+      ∙ (flat_map-append (λ (s : Span). take (s.to - s.from) (drop s.from ks)) found (record { from = start + a; to = start + b } ∷ [])
+      ∙ (ap (λ (ys : List ℕ). in_spans ks found ++ ys) (append-nil (take ((start + b) - (start + a)) (drop (start + a) ks)) ∙ (part_of_part start (end - start) a b ks le size ∙ (ap (λ (ys : List ℕ). take (b - a) (drop a ys)) (sym is) ∙ (races ∙ ap (λ (ys : List ℕ). racing trace j ys) is))))
+      ∙ racing_more trace j start end ks [] (in_spans ks found) (omega (arith, lt)) before)),
+  subst (λ (ss : List Span). All (IsSpanOf (length ks)) ss) (sym pushed) (All-append (IsSpanOf (length ks)) found (record { from = start + a; to = start + b } ∷ []) each (one_holds (IsSpanOf (length ks)) (record { from = start + a; to = start + b }) (record { ordered = omega arith; within = omega (arith, size, lt, within) }))),
+)
+  where
+    size : b ≤ end - start
+    size = let long = length-take (end - start) (drop start ks) in let same = ap length is in omega (arith, below, long, same)

@@ -1,0 +1,28 @@
+use Rattle.std.proofs.Common.{◌≡◌, ◌+◌, length, refl, ap, ◌∙◌}
+use Rattle.std.proofs.lemmas.Option.{slice_get_read, slice_get_within}
+use Rattle.std.proofs.lemmas.Result.{on_ok_weaker}
+use Rattle.shb_places.specs.declared.wanted.Wanted.{Wanted}
+use Rattle.shb_places.specs.Notes.{tables_of}
+use Rattle.shb_places.proofs.Lists.{same_entry}
+use Rattle.shb_places.proofs.TakeLemmas.{held_of, lists_asked}
+use Rattle.shb_places.proofs.WantedLemmas.{told_all}
+use Rattle.shb_places.proofs.search.Search.ask_by_list.Goals as goal
+
+pub returns-clause-asked : goal.returns-clause-asked
+returns-clause-asked g c is able =
+    let trace = c.args.ordered.now.trace.now.trace.now in
+    let own = c.args.self.now in
+    let access = c.args.access in
+    let sites = own.sites.sites.items in
+    let lists = c.number_of.new.self.lists.items in
+    let of_s = c.in_ok-k.ensures.list in
+    let before = c.in_ok-k.ensures.wanted trace sites own.found.races.items access.event is.site is.there able.wanted in
+    let list : Wanted = c.index_mut-list.result.now in
+    let at = slice_get_read lists (length lists) c.in_ok-k.k list refl (slice_get_within lists c.in_ok-k.k of_s.list of_s.there) c.index_mut-list.ensures.value in
+    let asker : list.asker ≡ c.args.s = ap (λ (w : Wanted). w.asker) (same_entry lists c.in_ok-k.k list of_s.list at of_s.there) ∙ of_s.asker_is in
+    let held = c.in_ok-look.ensures.held trace (access.event + 1) able.listed able.found c.requires.access (held_of trace sites own.found.races.items access.event access.variable access.location c.args.s list is asker (before c.in_ok-k.k list at)) in
+    let after : Wanted = record { asker = c.look.new.list.asker; looked = c.look.new.list.looked; sites = c.ask_list.new.list } in
+    on_ok_weaker c.ask_list.result (λ told. record {
+      asked = told_all trace sites (tables_of own.notes) access c.look.new.list.sites.items after.sites.items own.found.races.items own.found.places.items c.ask_list.new.found.places.items c.ask_list.new.found.races.items c.requires.access able.kept able.found held told;
+      wanted = lists_asked trace sites (tables_of own.notes) lists c.in_ok-k.k c.args.s list after c.look.new.list.sites.items own.found.places.items c.ask_list.new.found.places.items own.found.races.items c.ask_list.new.found.races.items access able.found at (c.in_ok-look.ensures.asker ∙ asker) is before held told c.in_ok-look.ensures.looked;
+    }) (c.ask_list.ensures able.kept able.found)

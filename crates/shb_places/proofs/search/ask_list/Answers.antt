@@ -1,0 +1,31 @@
+use Rattle.std.proofs.Common.{◌≡◌, ◌+◌, ◌-◌, ℕ, length, arith, refl, subst}
+use Rattle.std.proofs.lemmas.Option.{slice_get_read}
+use Rattle.shb_places.specs.Notes.{tables_of}
+use Rattle.shb_places.specs.Searched.{AreToldFrom}
+use Rattle.shb_places.proofs.WantedLemmas.{told_next}
+use Rattle.shb_places.proofs.search.ask_list.Goals as goal
+
+pub loop-left-preserved : goal.loop-left-preserved
+loop-left-preserved g c = record {
+  as_many = c.in_ok-known.ensures.as_many;
+  long = c.remove_if.ensures.long;
+  told = λ kept found. (
+      let trace = c.args.ordered.now.trace.now.trace.now in
+      let sites = c.args.sites.now.sites.items in
+      let list = c.loop-left.list.items in
+      let k : ℕ = c.loop-left.left - 1 in
+      let long = c.loop-left.invariant.long in
+      let some = c.loop-left-test.true in
+      let is : c.loop-left.left ≡ k + 1 = omega (arith, some) in
+      let at = slice_get_read list (length list) k c.index.result.now refl (omega (arith, long, some)) c.index.ensures in
+      let before = c.loop-left.invariant.told kept found in
+      told_next trace sites (tables_of c.args.notes.now) c.args.access k c.index.result.now c.in_ok-known.known c.args.list.now.items list c.remove_if.new.list.items c.args.found.now.races.items c.loop-left.found.places.items c.ask_wanted.new.found.places.items c.loop-left.found.races.items c.ask_wanted.new.found.races.items at c.remove_if.ensures.stay c.remove_if.ensures.after
+      (c.in_ok-known.ensures.told kept before.found)
+      (subst (λ (n : ℕ). AreToldFrom trace sites (tables_of c.args.notes.now) c.args.access n c.args.list.now.items list c.args.found.now.races.items c.loop-left.found.places.items c.loop-left.found.races.items) is before));
+}
+
+pub returns : goal.returns
+returns g c kept found =
+    let none = c.loop-left-test.false in
+    let is : c.loop-left.left ≡ 0 = omega (arith, none) in
+    subst (λ (n : ℕ). AreToldFrom c.args.ordered.now.trace.now.trace.now c.args.sites.now.sites.items (tables_of c.args.notes.now) c.args.access n c.args.list.now.items c.loop-left.list.items c.args.found.now.races.items c.loop-left.found.places.items c.loop-left.found.races.items) is (c.loop-left.invariant.told kept found)

@@ -1,0 +1,28 @@
+-- The sites that a site still has to ask.
+use Rattle.std.specs.Prelude.{◌≡◌, ℕ, ◌<◌, ◌≤◌, ◌⊎◌, List, Some, Contains, length, slice_get}
+use Rattle.shb_lines.specs.declared.event.Pair.{Pair}
+use Rattle.shb_lines.specs.text.TraceData.{TraceData}
+use Rattle.shb_places.specs.declared.sites.Site.{Site}
+use Rattle.shb_places.specs.declared.wanted.Wanted.{Wanted}
+use Rattle.shb_places.specs.Known.{IsKnown}
+
+-- each site of x with a number below an end is in the list, or its place with the location m is known
+abbrev pub AreHeld : TraceData → List Site → List Pair → List ℕ → ℕ → ℕ → ℕ → ℕ → Type 0
+AreHeld trace sites races list x m n end = (s : ℕ) (site : Site) → s < end → slice_get sites s ≡ Some site → site.variable ≡ x → Contains list s ⊎ IsKnown trace races x site.location m n
+
+-- a list is that of a site, and has the sites that it looked at, but for those whose place is known
+pub record IsWanted (trace : TraceData) (sites : List Site) (races : List Pair) (n : ℕ) (list : Wanted) : Type 0 where
+  pub asker : Site
+  pub at_asker : slice_get sites list.asker ≡ Some asker
+  pub looked : list.looked ≤ length sites
+  pub held : AreHeld trace sites races list.sites.items asker.variable asker.location n list.looked
+
+-- the same of each list
+abbrev pub AreWanted : TraceData → List Site → List Pair → ℕ → List Wanted → Type 0
+AreWanted trace sites races n lists = (k : ℕ) (list : Wanted) → slice_get lists k ≡ Some list → IsWanted trace sites races n list
+
+-- the list k is that of the site s
+pub record IsListOf (lists : List Wanted) (s k : ℕ) : Type 0 where
+  pub list : Wanted
+  pub there : slice_get lists k ≡ Some list
+  pub asker_is : list.asker ≡ s

@@ -1,0 +1,171 @@
+//! The sites that a site still has to ask: those of its variable whose place with it isn't known.
+
+ghost use Rattle.std.specs.Prelude.{◌≡◌, ◌⊎◌, ◌<◌, ◌≤◌, ℕ, true, Contains, IfOk, IfSome, IsTrue, List, OnOk, [], Some, length, slice_get};
+ghost use Rattle.shb_lines.specs.declared.event.Pair.{Pair};
+ghost use Rattle.shb_lines.specs.text.TraceData.{TraceData};
+ghost use Rattle.shb_places.specs.Access.{IsAccess};
+ghost use Rattle.shb_places.specs.Found.{AreFound};
+ghost use Rattle.shb_places.specs.Known.{IsKnown};
+ghost use Rattle.shb_places.specs.Sites.{AreSites};
+ghost use Rattle.shb_places.specs.Wanted.{AreHeld, AreWanted, IsListOf};
+ghost use Rattle.shb_places.specs.declared.sites.Site.{Site};
+
+use crate::found::Found;
+use crate::hints::{Hints, MOST_TRIED};
+use crate::notes::Access;
+use crate::numbers::{mixed, next_number};
+use crate::sites::Sites;
+use shb_io::NoMemory;
+use std::alloc::Global;
+
+/// Of a site that asks: the sites that it still has to ask, among those with numbers below `looked`.
+#[derive(Drop)]
+pub struct Wanted {
+    pub asker: u32,
+    pub looked: u32,
+    pub sites: Vec<u32>,
+}
+
+/// The lists of the sites that have one.
+#[derive(Drop)]
+pub struct WantedLists {
+    pub lists: Vec<Wanted>,
+    pub hints: Hints,
+}
+
+/// Whether the list of this number is that of a site.
+fn is_list(lists: &[Wanted], k: u32, s: u32) -> bool
+    ensures { IsTrue result → IsListOf lists.now s k }
+{
+    match lists.get(k as usize) {
+        Some(list) => list.asker == s,
+        None => false,
+    }
+}
+
+/// Adds a site to a list, unless a race of its place is known that stands before all races of an access.
+fn add_unknown(
+    list: &mut Vec<u32>,
+    found: &Found,
+    s: u32,
+    location: u32,
+    access: Access,
+) -> Result<(), NoMemory>
+    requires as_many { length found.now.races.items ≡ length found.now.places.items }
+    ensures stay { OnOk result ((t : ℕ) → Contains list.old.items t → Contains list.new.items t) }
+    ensures held { (trace : TraceData) (n : ℕ) → AreFound trace n found.now.places.items found.now.races.items → IsAccess trace access
+        → OnOk result (Contains list.new.items s ⊎ IsKnown trace found.now.races.items access.variable location access.location access.event) }
+{
+    if found.knows(location, access) {
+        return Ok(());
+    }
+    list.push(s)?;
+    Ok(())
+}
+
+/// Adds to a list each site of the variable of an access that stands at a number of `looked` or above it,
+/// and whose place isn't known.
+fn look_from(
+    list: &mut Vec<u32>,
+    looked: u32,
+    sites: &Sites,
+    found: &Found,
+    access: Access,
+) -> Result<(), NoMemory>
+    requires as_many { length found.now.races.items ≡ length found.now.places.items }
+    ensures { (trace : TraceData) (n : ℕ) → AreSites sites.now.newest.items sites.now.sites.items → AreFound trace n found.now.places.items found.now.races.items → IsAccess trace access
+        → AreHeld trace sites.now.sites.items found.now.races.items list.old.items access.variable access.location access.event looked
+        → OnOk result (AreHeld trace sites.now.sites.items found.now.races.items list.new.items access.variable access.location access.event (length sites.now.sites.items)) }
+{
+    let mut at = sites.newest_of(access.variable);
+    loop {
+        let Some(site) = sites.sites.get(at as usize) else {
+            return Ok(());
+        };
+        if at < looked {
+            return Ok(());
+        }
+        add_unknown(list, found, at, site.location, access)?;
+        if site.previous >= at {
+            return Ok(());
+        }
+        at = site.previous;
+    }
+}
+
+/// Takes an entry out of a list, if it is known.
+pub fn remove_if(list: &mut Vec<u32>, k: usize, known: bool)
+    requires { k < length list.old.items }
+    ensures stay { (s t : ℕ) → slice_get list.old.items k ≡ Some s → Contains list.old.items t → Contains list.new.items t ⊎ ((s ≡ t) × (known ≡ true)) }
+    ensures after { (j t : ℕ) → k ≤ j → slice_get list.new.items j ≡ Some t → (i : ℕ) × (k ≤ i) × (slice_get list.old.items i ≡ Some t) }
+    ensures long { k ≤ length list.new.items }
+{
+    if known {
+        let _ = list.swap_remove(k);
+    }
+}
+
+/// Sees that a list has each site of the variable of an access whose place isn't known.
+pub fn look(list: &mut Wanted, sites: &Sites, found: &Found, access: Access) -> Result<(), NoMemory>
+    requires as_many { length found.now.races.items ≡ length found.now.places.items }
+    ensures asker { list.new.asker ≡ list.old.asker }
+    ensures looked { OnOk result (list.new.looked ≤ length sites.now.sites.items) }
+    ensures held { (trace : TraceData) (n : ℕ) → AreSites sites.now.newest.items sites.now.sites.items → AreFound trace n found.now.places.items found.now.races.items → IsAccess trace access
+        → AreHeld trace sites.now.sites.items found.now.races.items list.old.sites.items access.variable access.location access.event list.old.looked
+        → OnOk result (AreHeld trace sites.now.sites.items found.now.races.items list.new.sites.items access.variable access.location access.event (length sites.now.sites.items)) }
+{
+    look_from(&mut list.sites, list.looked, sites, found, access)?;
+    list.looked = sites.count();
+    Ok(())
+}
+
+impl WantedLists {
+    /// No list.
+    pub fn new(alloc: Global) -> WantedLists
+        ensures { result.lists.items ≡ [] }
+    {
+        WantedLists {
+            lists: Vec::new(alloc),
+            hints: Hints::new(alloc),
+        }
+    }
+
+    /// The list of a site that was noted under a hash.
+    fn noted(&self, s: u32) -> Option<u32>
+        ensures { IfSome result (IsListOf self.now.lists.items s) }
+    {
+        for i in 0..MOST_TRIED {
+            let Some(k) = self.hints.candidate(mixed(s, 0), i) else {
+                return None;
+            };
+            if is_list(self.lists.as_slice(), k, s) {
+                return Some(k);
+            }
+        }
+        None
+    }
+
+    /// The number of a site's list, which is empty where it is new.
+    ///
+    /// # Errors
+    ///
+    /// `NoMemory` where a growth was refused.
+    pub fn number_of(&mut self, alloc: Global, s: u32) -> Result<u32, NoMemory>
+        ensures list { IfOk result (IsListOf self.new.lists.items s) }
+        ensures wanted { (trace : TraceData) (sites : List Site) (races : List Pair) (n : ℕ) (asker : Site) → slice_get sites s ≡ Some asker
+            → AreWanted trace sites races n self.old.lists.items
+            → OnOk result (AreWanted trace sites races n self.new.lists.items) }
+    {
+        if let Some(k) = self.noted(s) {
+            return Ok(k);
+        }
+        let k = next_number(self.lists.len())?;
+        self.lists.push(Wanted {
+            asker: s,
+            looked: 0,
+            sites: Vec::new(alloc),
+        })?;
+        self.hints.insert(alloc, mixed(s, 0), k)?;
+        Ok(k)
+    }
+}

@@ -1,0 +1,66 @@
+//! The report of all races of a trace.
+ghost use Rattle.std.specs.Prelude.{◌≡◌, ◌⊎◌, ◌-◌, ◌^◌, ◌<◌, IfOk};
+ghost use Rattle.shb_report.specs.Report.{AllRaces};
+ghost use Rattle.shb_run.specs.Runs.{FitsU64};
+ghost use Rattle.shb_run.specs.Written.{CutsBlocks, CutsReport, ReportsTrace};
+ghost use Rattle.shb_write.specs.Written.{IsSinkCounted, OnFailedSink, OnNoMemory};
+
+use crate::pipeline::summary_of;
+use crate::screened::Screened;
+use crate::settings::{Gates, Settings, Summary};
+use shb_clocks::Order;
+use shb_fan::Gate;
+use shb_io::Sink;
+use shb_pairs::{RangeJob, accesses_of_open, pieces};
+use shb_write::{BlockPlan, RaceSearch, WriteError, write_search};
+use std::alloc::Global;
+use std::random::RandomSource;
+use std::sync::Wait;
+use std::thread::Threads;
+
+/// Finds all races of an ordered trace, and writes their report. No list of more races than events is made.
+pub(crate) fn report_found<
+    R: Threads + Wait + Sync + RandomSource,
+    K: Sink,
+    O: Order + Sync,
+    P: Gate + Sync,
+    W: Gate + Sync,
+>(
+    rt: &R,
+    alloc: Global,
+    sink: &mut K,
+    screened: &Screened<'_, '_, '_, O>,
+    settings: Settings,
+    gates: &Gates<'_, '_, P, W>,
+) -> Result<Summary, WriteError>
+    requires countable { K.failure_count sink.old < 2 ^ 64 - 1 }
+    ensures report { IfOk result (λ summary.
+        ReportsTrace AllRaces settings.schedules screened.now.ordered.now.trace.now.trace.now summary
+        (K.taken sink.old) (K.taken sink.new)) }
+    ensures fits { IfOk result FitsU64 }
+    ensures cut { OnFailedSink result (CutsReport settings.schedules screened.now.ordered.now.trace.now.trace.now
+        (K.taken sink.old) (K.taken sink.new)) }
+    ensures memory { OnNoMemory result ((sink.new ≡ sink.old)
+        ⊎ CutsBlocks settings.schedules screened.now.ordered.now.trace.now.trace.now
+        (K.taken sink.old) (K.taken sink.new)) }
+    ensures counted { IsSinkCounted (K.failure_count sink.old) (K.failure_count sink.new) result }
+{
+    let ordered = screened.ordered;
+    let accesses = accesses_of_open(alloc, ordered.trace, screened.flags)?;
+    let pieces = pieces(alloc, &accesses)?;
+    let job = RangeJob::new(
+        ordered.order,
+        ordered.trace,
+        ordered.links,
+        &accesses,
+        &pieces,
+    );
+    let search = RaceSearch::new(ordered, &job, gates.pair, settings.workers);
+    let plan = BlockPlan {
+        schedules: settings.schedules,
+        workers: settings.workers,
+        gate: gates.witness,
+    };
+    let races = write_search(rt, alloc, sink, &search, &plan)?;
+    Ok(summary_of(ordered.trace.trace, races))
+}
