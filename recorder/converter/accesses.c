@@ -1,5 +1,6 @@
 /* Accesses of memory: which blocks and pieces they use, and their events. */
 #include <stdio.h>
+#include <string.h>
 #include "converter.h"
 
 int whole_trace;
@@ -15,11 +16,11 @@ void add_to_list(u32 *list, u32 thread) {
 
 static u64 end_of(u64 i) { return address_of(i) + accessed_bytes(i); }
 
-/* Lies it in a block that one thread alone uses? */
-static int is_private(u64 i) {
-    block *b = block_at(address_of(i));
-    return !whole_trace && b && !b->many_users;
-}
+/* What the passes know of each record, for the next: after the first, the block in which its access begins, plus one;
+   after the second, the same where the block isn't of one thread alone; after the third, the number of its only piece, or
+   where the runs of several begin, with a mark; else 0. */
+#define SEVERAL (1u << 31)
+static u32 *known;
 
 /* ---- 1: users of blocks; a range over several is shared, to be cut at their bounds ---- */
 static void use_block(block *b, u32 t, int with_others) {
@@ -30,8 +31,10 @@ static void use_block(block *b, u32 t, int with_others) {
 
 void find_users(u64 i) {
     u64 end = end_of(i);
+    if (!known) known = zeroed(record_count, sizeof *known);
     if (end == address_of(i)) return;
     block *first = block_at(address_of(i));
+    known[i] = block_number(first) + 1;
     if (in_one_grain(address_of(i), end)) use_block(first, thread_of(i), 0);
     else for (u64 at = address_of(i); at < end; at = next_cut(at, end)) {
         block *b = block_at(at);
@@ -42,102 +45,144 @@ void find_users(u64 i) {
 
 /* ---- 2: cuts ---- */
 void find_cuts(u64 i) {
-    if (!accessed_bytes(i) || is_private(i)) return;
-    cut(address_of(i));
-    if (operation_of(i) != OP_FREE) cut(end_of(i));
+    if (!known[i]) return;
+    block *b = block_of(known[i] - 1);
+    if (b && !b->many_users && !whole_trace) known[i] = 0;
+    else {
+        cut(address_of(i));
+        if (operation_of(i) != OP_FREE) cut(end_of(i));
+    }
 }
 
 /* ---- 3: users of pieces ---- */
-static void share_piece(u64 i, piece *p) {
-    u32 t = thread_of(i);
-    if (!p->user) p->user = t + 1;
-    if (p->user != t + 1) p->many_users = 1;
-    if (writes_plainly(i)) p->written = 1;
-    if (writes_atomically(i)) {
-        u64 before = atomic_writers.count;
-        map_number(&atomic_writers, piece_number(p), t);
-        if (atomic_writers.count > before) add_to_list(&p->atomic_writers, t);
-    }
-    if (operation_of(i) != OP_READ) return;
-    if (!p->reader) p->reader = t + 1;
-    if (p->reader != t + 1) p->many_readers = 1;
+typedef struct { u32 thread; int writes, writes_atomically, reads; } use;
+
+static use use_of(u64 i) {
+    return (use){thread_of(i), writes_plainly(i), writes_atomically(i), operation_of(i) == OP_READ};
 }
 
-/* The pieces of each record, for the next pass: the number of its only one, or where the numbers of several stand. */
-#define SEVERAL (1u << 31)
-static u32 *pieces_of;
-static u32 *several;
-static u64 several_count, several_capacity;
+static void note_atomic_writer(u32 number, u32 thread) {
+    u64 before = atomic_writers.count;
+    map_number(&atomic_writers, number, thread);
+    if (atomic_writers.count > before) add_to_list(&piece_of(number)->atomic_writers, thread);
+    use_of_piece(number)->written_atomically = 1;
+}
+
+static void share_piece(use u, u32 number) {
+    piece_use *p = use_of_piece(number);
+    u32 user = u.thread + 1;
+    if (!p->user) p->user = user;
+    if (p->user != user) p->many_users = 1;
+    if (u.writes) p->written = 1;
+    if (u.writes_atomically) note_atomic_writer(number, u.thread);
+    if (!u.reads) return;
+    if (!p->reader) p->reader = user;
+    if (p->reader != user) p->many_readers = 1;
+}
+
+/* Neighbours mostly have numbers that follow each other: so an access has runs of these, to the last with a mark. */
+typedef struct { u32 first, count; } run;
+static run *runs;
+static u64 run_count, run_capacity;
+
+static void share_run(use u, const run *r) {
+    for (u32 k = 0; k < r->count; k++) share_piece(u, r->first + k);
+}
+
+static u32 following(const u32 *numbers, u32 count) {        /* how many from the first on follow each other */
+    u32 k = 1;
+    while (k < count && numbers[k] == numbers[0] + k) k++;
+    return k;
+}
+
+/* Adds pieces to the runs of an access, which begin at `from`. */
+static void add_to_runs(u64 from, const u32 *numbers, u32 count) {
+    for (u32 length; count; numbers += length, count -= length) {
+        length = following(numbers, count);
+        run *last = run_count > from ? &runs[run_count - 1] : 0;
+        if (last && last->first + last->count == *numbers) last->count += length;
+        else {
+            if (run_count == SEVERAL) die("out of memory");
+            GROW(runs, run_count, run_capacity);
+            runs[run_count++] = (run){*numbers, length};
+        }
+    }
+}
 
 void share_pieces(u64 i) {
-    u64 end = end_of(i), at = address_of(i);
-    if (!pieces_of) pieces_of = zeroed(record_count, sizeof *pieces_of);
-    if (at == end || is_private(i)) return;
-    u64 next = next_cut(at, end);
-    if (next != end) pieces_of[i] = SEVERAL | several_count;
-    for (int one = next == end;; next = next_cut(at, end)) {
-        piece *p = piece_at(at);
-        share_piece(i, p);
-        if (one) pieces_of[i] = piece_number(p);
-        else {
-            if (several_count >= SEVERAL) die("out of memory");
-            GROW(several, several_count, several_capacity);
-            several[several_count++] = piece_number(p);
-        }
-        if (next == end) return;
-        at = next;
+    if (!known[i]) return;
+    u64 at = address_of(i), end = end_of(i), from = run_count;
+    use u = use_of(i);
+    u32 count, *numbers = pieces_at(&at, end, &count);
+    if (count == 1 && at == end) {
+        known[i] = *numbers;
+        share_piece(u, *numbers);
+        return;
     }
+    known[i] = SEVERAL | from;
+    add_to_runs(from, numbers, count);
+    while (at < end) {
+        numbers = pieces_at(&at, end, &count);
+        add_to_runs(from, numbers, count);
+    }
+    for (u64 k = from; k < run_count; k++) share_run(u, &runs[k]);
+    runs[run_count - 1].count |= SEVERAL;
 }
 
 /* ---- 4: events ---- */
 /* The same read, by the same thread at the same place under the same locks, with no write of the variable since, and
    nothing since by which the thread could order another: all that it conflicts with, and all that it orders, the first
    does too. */
-static int repeats(u64 i, const piece *p) {
+static int repeats(u64 i, u32 number) {
     enum { RECENT = 1 << 18 };
-    typedef struct { u64 caller, epoch, locks; u32 piece, thread, writes; } read;
+    typedef struct { u64 caller_and_thread, epoch, locks; u32 piece, writes; } read;
     static read recent[RECENT];
-    u32 t = thread_of(i), number = piece_number(p);
-    read this = {caller_of(i), thread_epoch(t) + 1, held_locks(t), number, t, p->writes};
-    read *last = &recent[mix(number, this.caller ^ (u64)t << 48) & (RECENT - 1)];
-    int same = last->caller == this.caller && last->epoch == this.epoch && last->piece == number && last->thread == t
-        && last->writes == this.writes && last->locks == this.locks;
+    u64 t = thread_of(i);
+    read this = {caller_of(i) | t << 48, thread_epoch(t) + 1, held_locks(t), number, piece_of(number)->writes};
+    read *last = &recent[mix(number, this.caller_and_thread) & (RECENT - 1)];
+    int same = !memcmp(last, &this, sizeof this);
     *last = this;
     return same && !whole_trace;
 }
 
 /* An event of the variable that stands for the atomic writes of p by one thread. */
-static void writer_event(u64 i, u64 at, const char *operation, u32 writer) {
+static void writer_event(u64 i, const piece *p, const char *operation, u32 writer) {
     char tail[100];
     snprintf(tail, sizeof tail, "!%s", thread_name(writer));
-    event(thread_of(i), operation, variable_name(at, block_at(at)), tail, caller_of(i));
+    event(thread_of(i), operation, variable_name(p->at, block_of(p->block)), tail, caller_of(i));
 }
 
 /* An atomic write is a read of X, so that it conflicts with plain writes, and a write of a variable of X and its
    thread alone, which the plain reads of others read too: so it conflicts with these, and never with an atomic access. */
-static void piece_events(u64 i, u64 at, piece *p) {
-    u32 t = thread_of(i);
-    int writes = writes_plainly(i), atomically = writes_atomically(i), shared = p->many_users && p->written;
-    if (!shared && !atomically && !p->atomic_writers && !whole_trace) return;
-    if (!writes && !atomically && repeats(i, p)) return;
-    if (shared || whole_trace) event(t, writes ? "w" : "r", variable_name(at, block_at(at)), "", caller_of(i));
-    if (writes) p->writes++;
-    if (atomically && (p->many_readers || (p->reader && p->reader != t + 1))) {
-        writer_event(i, at, "w", t);
+static void piece_events(u64 i, use u, u32 number) {
+    const piece_use *users = use_of_piece(number);
+    u32 t = u.thread;
+    int shared = users->many_users && users->written;
+    if (!shared && !u.writes_atomically && !users->written_atomically && !whole_trace) return;
+    if (!u.writes && !u.writes_atomically && repeats(i, number)) return;
+    piece *p = piece_of(number);
+    if (shared || whole_trace) event(t, u.writes ? "w" : "r", variable_name(p->at, block_of(p->block)), "", caller_of(i));
+    if (u.writes) p->writes++;
+    if (u.writes_atomically && (users->many_readers || (users->reader && users->reader != t + 1))) {
+        writer_event(i, p, "w", t);
         p->writes++;
     }
-    if (operation_of(i) != OP_READ) return;
+    if (!u.reads) return;
     for (u32 k = p->atomic_writers; k; k = list_entries[k - 1].next)
-        if (list_entries[k - 1].thread != t) writer_event(i, at, "r", list_entries[k - 1].thread);
+        if (list_entries[k - 1].thread != t) writer_event(i, p, "r", list_entries[k - 1].thread);
 }
 
 void access_events(u64 i) {
-    u32 found = pieces_of[i];
+    u32 found = known[i];
+    if (!found) return;
+    use u = use_of(i);
     if (!(found & SEVERAL)) {
-        if (found) piece_events(i, address_of(i), piece_of(found));
+        piece_events(i, u, found);
         return;
     }
-    u64 end = end_of(i);
-    u32 *number = &several[found - SEVERAL];
-    for (u64 at = address_of(i); at < end && !cut_reason; at = next_cut(at, end)) piece_events(i, at, piece_of(*number++));
+    for (const run *r = &runs[found - SEVERAL];; r++) {
+        u32 end = r->first + (r->count & ~SEVERAL);
+        for (u32 number = r->first; number < end && !cut_reason; number++) piece_events(i, u, number);
+        if (r->count & SEVERAL) return;
+    }
 }

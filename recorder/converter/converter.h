@@ -6,6 +6,7 @@
 typedef uint64_t u64;
 typedef uint32_t u32;
 enum { THREADS = 65536 };
+typedef struct { const char *at; u64 length; } part;         /* of a text, without an end of its own */
 
 /* tables.c: arrays that grow, and maps from two words to a number from 1, in the order of asking. */
 typedef struct { u64 a, b; u32 value; } map_entry;
@@ -40,19 +41,23 @@ extern int whole_paths;
 void read_modules(char *header);
 void note_caller(u64 caller);
 void find_places(void);                /* of all callers that were noted */
-const char *place_of(u64 caller);
-u64 place_length(u64 caller);
+part place_of(u64 caller);
 const char *function_name(u64 address, char *buffer, size_t size);       /* "" where it is not known */
 void symbol_name(u64 address, char *buffer, size_t size);
 
 /* memory.c: blocks and pieces. */
 typedef struct { u64 at, size, caller; int stack, many_users; u32 thread, user; } block;
 typedef struct {
-    u32 user, reader;                  /* the first thread that used it, and that read it plainly; plus one */
+    u64 at;
+    u32 block;                         /* its number, or 0 */
     u32 atomic_writers;                /* a list */
     u32 writes;                        /* events so far that wrote it */
-    uint8_t many_users, many_readers, written;
 } piece;
+/* Who uses a piece. It stands apart, for most accesses ask no more, and of several neighbours. */
+typedef struct {
+    u32 user : 17, many_users : 1, written : 1, written_atomically : 1;          /* the first thread that used it, plus one */
+    u32 reader : 17, many_readers : 1;                       /* and that read it plainly */
+} piece_use;
 extern u64 range_steps;                /* in this pass: pages and pieces after the first of each range */
 void begin_memory_pass(void);
 void meet_block(u64 i);                /* each pass calls it for each record: the newest block holds its addresses */
@@ -62,9 +67,11 @@ block *block_of(u32 number);
 void cut(u64 address);
 u64 next_cut(u64 from, u64 end);       /* the first cut after `from`, or the end */
 int in_one_grain(u64 address, u64 end);                      /* then it lies in one block */
-piece *piece_at(u64 cut);              /* the one that begins at this cut; in the third pass; makes it */
-u32 piece_number(const piece *p);      /* from 1 */
+/* The numbers, from 1, of the pieces that begin from a cut on before `end`, but at most those in the cut's stretch of 64
+   bytes; with how many they are, and the next cut, or `end`. In the third pass; makes them. */
+u32 *pieces_at(u64 *cut, u64 end, u32 *count);
 piece *piece_of(u32 number);
+piece_use *use_of_piece(u32 number);
 
 /* accesses.c, objects.c: what the passes do with a record. */
 extern int whole_trace;                /* also what cannot conflict */
@@ -92,8 +99,9 @@ extern u64 event_limit, events;
 extern int into_windows;               /* the events go to windows, and no limit cuts them */
 extern const char *cut_reason;         /* null while the trace goes on */
 void name_thread(u32 t, u64 function);
-const char *thread_name(u32 t);
+const char *thread_name(u32 t);        /* with an end */
 u64 thread_epoch(u32 t);               /* it grows with each event of the thread that could order another */
-const char *variable_name(u64 address, const block *b);
-void event(u32 t, const char *operation, const char *name, const char *tail, u64 caller);
-void hold_event(u32 t, const char *operation, const char *name, const char *tail, u64 caller);   /* orders no thread */
+part name_of_thread(u32 t);
+part variable_name(u64 address, const block *b);             /* it stands until the next call */
+void event(u32 t, const char *operation, part name, const char *tail, u64 caller);
+void hold_event(u32 t, const char *operation, part name, const char *tail, u64 caller);          /* orders no thread */

@@ -35,8 +35,8 @@ static void find_sharing(u64 i) {
 static void write_events(u64 i) {
     enum operation operation = operation_of(i);
     if (operation == OP_FORK && address_of(i) >= SHB_THREADS && !into_windows) cut_reason = "before a thread too many: shb takes 1,024";
-    else if (operation == OP_FORK) event(thread_of(i), "fork", thread_name(address_of(i)), "", caller_of(i));
-    else if (operation == OP_JOIN) event(thread_of(i), "join", thread_name(address_of(i)), "", caller_of(i));
+    else if (operation == OP_FORK) event(thread_of(i), "fork", name_of_thread(address_of(i)), "", caller_of(i));
+    else if (operation == OP_JOIN) event(thread_of(i), "join", name_of_thread(address_of(i)), "", caller_of(i));
     else if (operation == OP_FENCE) fence_events(i);
     else if (is_for_object(i)) object_events(i);
     else access_events(i);

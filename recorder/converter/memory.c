@@ -5,7 +5,8 @@
    overlap, and a long range that nobody cuts is one variable.  A piece is known by its address and its block.
 
    In the third pass there are no new cuts.  Then a page has a slot for each of its cuts, which has the number of the
-   piece that begins there now; a new block empties its slots. */
+   piece that begins there now; a new block empties its slots.  The cuts of 64 bytes stand beside their first slot, so a
+   piece is found by one look at each of the page, these, the slot and the piece. */
 #include <stdlib.h>
 #include <string.h>
 #include "converter.h"
@@ -13,10 +14,10 @@
 enum { PAGE = 4096, GRAIN = 16, MAX_PAGES = 1 << 24 };
 #define MAX_BLOCK (1ull << 32)         /* a longer one is address space held in reserve: no new variables */
 
+typedef struct { u64 cuts; u32 *slots; } stretch;            /* of 64 bytes: a bit for each; the slot of its first cut */
 typedef struct {
     u32 whole, *grains;                /* numbers of blocks */
-    u64 *cuts;                         /* a bit for each byte */
-    uint16_t *before;                  /* for each word of `cuts`: how many cuts stand before it */
+    stretch *stretches;
     u32 *slots, cut_count;
 } page;
 
@@ -24,7 +25,8 @@ u64 range_steps;
 static block *blocks;
 static u64 block_count, block_capacity, met;                 /* met: how many in this pass */
 static piece *pieces;
-static u64 piece_count, piece_capacity;
+static piece_use *piece_uses;
+static u64 piece_count, piece_capacity, use_capacity;
 static page *pages;
 static u64 page_count, page_capacity;
 static map page_map;
@@ -53,24 +55,25 @@ static inline page *page_of(u64 address, int make) {
     return address / PAGE == last_page ? &pages[last_found - 1] : find_page(address / PAGE, make);
 }
 
-/* How many cuts of the page stand before this byte of it. */
-static u32 slot_of(const page *p, u64 byte) {
-    if (byte == PAGE) return p->cut_count;
-    return p->before[byte / 64] + __builtin_popcountll(p->cuts[byte / 64] & ((1ull << byte % 64) - 1));
+/* The slot of the first cut at this byte of the page or behind it. */
+static u32 *slot_of(const page *p, u64 byte) {
+    if (byte == PAGE) return p->slots + p->cut_count;
+    const stretch *s = &p->stretches[byte / 64];
+    return s->slots + __builtin_popcountll(s->cuts & ((1ull << byte % 64) - 1));
 }
 
 static void make_slots(page *p) {
-    p->before = zeroed(PAGE / 64, sizeof *p->before);
-    for (int word = 0; word < PAGE / 64; word++) {
-        p->before[word] = p->cut_count;
-        p->cut_count += __builtin_popcountll(p->cuts[word]);
+    for (int k = 0; k < PAGE / 64; k++) p->cut_count += __builtin_popcountll(p->stretches[k].cuts);
+    u32 *slot = p->slots = zeroed(p->cut_count, sizeof *p->slots);
+    for (int k = 0; k < PAGE / 64; k++) {
+        p->stretches[k].slots = slot;
+        slot += __builtin_popcountll(p->stretches[k].cuts);
     }
-    p->slots = zeroed(p->cut_count, sizeof *p->slots);
 }
 
 static void empty_slots(page *p, u64 from, u64 end) {
-    u32 first = slot_of(p, from);
-    memset(p->slots + first, 0, (slot_of(p, end) - first) * sizeof *p->slots);
+    u32 *first = slot_of(p, from);
+    memset(first, 0, (slot_of(p, end) - first) * sizeof *first);
 }
 
 static void allot(u64 from, u64 end, u32 number) {
@@ -124,17 +127,17 @@ void meet_block(u64 i) {
 
 void cut(u64 address) {
     page *p = page_of(address, 1);
-    if (!p->cuts) p->cuts = zeroed(PAGE / 64, sizeof *p->cuts);
-    p->cuts[address % PAGE / 64] |= 1ull << address % 64;
+    if (!p->stretches) p->stretches = zeroed(PAGE / 64, sizeof *p->stretches);
+    p->stretches[address % PAGE / 64].cuts |= 1ull << address % 64;
 }
 
 u64 next_cut(u64 from, u64 end) {
     u64 at = from + 1;
     while (at < end) {
         page *p = page_of(at, 0);
-        u64 page_end = (at / PAGE + 1) * PAGE;
-        while (p && p->cuts && at < page_end) {
-            u64 bits = p->cuts[at % PAGE / 64] >> at % 64;
+        u64 page_end = (at / PAGE + 1) * PAGE, stop = end < page_end ? end : page_end;
+        while (p && p->stretches && at < stop) {
+            u64 bits = p->stretches[at % PAGE / 64].cuts >> at % 64;
             if (bits) {
                 at += __builtin_ctzll(bits);
                 range_steps += at < end;
@@ -148,17 +151,38 @@ u64 next_cut(u64 from, u64 end) {
     return end;
 }
 
-piece *piece_at(u64 address) {
-    page *p = page_of(address, 1);
-    if (!p->slots) make_slots(p);
-    u32 *slot = &p->slots[slot_of(p, address % PAGE)];
-    if (!*slot) {
+/* The new pieces that begin at the cuts from `from` on, by their slots. */
+static void make_pieces(u64 from, u64 cuts, u32 *slots) {
+    for (; cuts; cuts &= cuts - 1, slots++) {
+        if (*slots) continue;
+        u64 at = from + __builtin_ctzll(cuts);
         GROW(pieces, piece_count, piece_capacity);
-        pieces[piece_count++] = (piece){0};
-        *slot = piece_count;
+        GROW(piece_uses, piece_count, use_capacity);
+        piece_uses[piece_count] = (piece_use){0};
+        pieces[piece_count++] = (piece){.at = at, .block = block_number(block_at(at))};
+        *slots = piece_count;
     }
-    return &pieces[*slot - 1];
 }
 
-u32 piece_number(const piece *p) { return p - pieces + 1; }
+static int has_empty(const u32 *slots, u32 count) {
+    int some = 0;
+    for (u32 k = 0; k < count; k++) some |= !slots[k];
+    return some;
+}
+
+u32 *pieces_at(u64 *cut, u64 end, u32 *count) {
+    u64 from = *cut, stop = (from / 64 + 1) * 64;
+    page *p = page_of(from, 1);
+    if (!p->slots) make_slots(p);
+    u64 cuts = p->stretches[from % PAGE / 64].cuts >> from % 64;
+    if (end < stop) cuts &= (1ull << (end - from)) - 1;
+    u32 *slots = slot_of(p, from % PAGE);
+    *count = __builtin_popcountll(cuts);
+    range_steps += *count - 1;
+    if (has_empty(slots, *count)) make_pieces(from, cuts, slots);
+    *cut = end <= stop ? end : next_cut(from + 63 - __builtin_clzll(cuts), end);
+    return slots;
+}
+
 piece *piece_of(u32 number) { return &pieces[number - 1]; }
+piece_use *use_of_piece(u32 number) { return &piece_uses[number - 1]; }

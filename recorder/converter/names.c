@@ -217,5 +217,7 @@ void find_places(void) {
 }
 
 /* Of a caller that was noted. */
-const char *place_of(u64 caller) { return places[caller_number(caller)].text; }
-u64 place_length(u64 caller) { return places[caller_number(caller)].length; }
+part place_of(u64 caller) {
+    u32 number = caller_number(caller);
+    return (part){places[number].text, places[number].length};
+}

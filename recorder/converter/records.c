@@ -59,12 +59,11 @@ void open_record(const char *path) {
     if (strncmp(file, RECORD_MAGIC, strlen(RECORD_MAGIC))) die("%s is no record", path);
     records = (struct record *)(file + HEADER_BYTES);
     u64 most = (size - HEADER_BYTES) / sizeof *records;
-    for (; record_count < most && records[record_count].what; record_count++)
-        if (record_count && record_count % RECORDS_AT_ONCE == 0) forget_records(record_count - RECORDS_AT_ONCE, record_count);
-    if (record_count && size_follows(record_count - 1)) record_count--;  /* cut in two */
-    for (u64 i = 0; i < record_count; i++) {
+    for (u64 i = 0; i < most && records[i].what; i++) {
+        if (size_follows(i) && (i + 1 == most || !records[i + 1].what)) break;   /* it is cut in two */
         if (!is_good(i)) die("record %lu of %s is damaged", i + 1, path);
         if (i && i % RECORDS_AT_ONCE == 0) forget_records(i - RECORDS_AT_ONCE, i);
+        record_count = i + 1;
     }
     memcpy(header, file, HEADER_BYTES);
     note_how_it_ended(header + ENDED_AT);

@@ -220,8 +220,6 @@ u64 count_windows(void) { return window_count; }
 
 /* ---- one line: what shb would say of it, and what it does ---- */
 enum kind { ACCESS, ACQUIRE, RELEASE, FORK, JOIN, MARK, UNKNOWN };
-typedef struct { const char *at; u64 length; } part;
-
 static int is(part p, const char *word) { return p.length == strlen(word) && !memcmp(p.at, word, p.length); }
 
 static enum kind kind_of(part word) {

@@ -233,17 +233,3 @@ PUBLIC int __cxa_guard_release(char *byte) {
     }
     return real_release(byte);
 }
-
-/* said by the program itself */
-PUBLIC void __tsan_acquire(void *p) { note(OP_WAIT, p, CALLER); }
-PUBLIC void __tsan_release(void *p) { note(OP_POST, p, CALLER); }
-PUBLIC void AnnotateHappensBefore(const char *file, int line, const volatile void *p) { note(OP_POST, p, CALLER); }
-PUBLIC void AnnotateHappensAfter(const char *file, int line, const volatile void *p) { note(OP_WAIT, p, CALLER); }
-
-/* By this the OpenMP run-time's archer sees that somebody listens; it then calls the two above. */
-PUBLIC int RunningOnValgrind(void) { return 0; }
-PUBLIC void AnnotateNewMemory(const char *file, int line, const volatile void *p, unsigned long size) {}
-PUBLIC void AnnotateIgnoreWritesBegin(const char *file, int line) {}
-PUBLIC void AnnotateIgnoreWritesEnd(const char *file, int line) {}
-PUBLIC void AnnotateIgnoreReadsBegin(const char *file, int line) {}
-PUBLIC void AnnotateIgnoreReadsEnd(const char *file, int line) {}

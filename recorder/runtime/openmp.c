@@ -244,21 +244,44 @@ PUBLIC void GOMP_taskgroup_end(void) {
     if (now) note(OP_WAIT, now->team->tasks, CALLER);
 }
 
-/* ---- what isn't seen: said once ---- */
-static void tell(const char *what) {
-    static _Atomic int told;
-    if (!recording || atomic_exchange(&told, 1)) return;
-    const char *texts[] = {"shb recorder: the program uses OpenMP's ", what, ", whose order isn't seen: false races are possible\n"};
-    for (int i = 0; i < 3; i++) syscall(SYS_write, 2, texts[i], strlen(texts[i]));
+/* ---- what isn't seen: each is said once ---- */
+enum unseen { TASKLOOP, DOACROSS, TARGET, TEAMS, UNSEEN };
+static const char *const unseen_texts[UNSEEN] = {
+    "taskloop, whose order isn't seen: false races are possible\n",
+    "doacross loops, whose order isn't seen: false races are possible\n",
+    "target regions. What runs on another device isn't seen, and the order of those with nowait isn't: false races are possible\n",
+    "teams, which gcc's library runs one after the other: races between teams are missed\n",
+};
+
+static void tell(enum unseen what) {
+    static _Atomic int told[UNSEEN];
+    if (!recording || atomic_exchange(&told[what], 1)) return;
+    const char *texts[] = {"shb recorder: the program uses OpenMP's ", unseen_texts[what]};
+    for (int i = 0; i < 2; i++) syscall(SYS_write, 2, texts[i], strlen(texts[i]));
 }
 
 typedef void (*copy_function)(void *, void *);
 PUBLIC void GOMP_taskloop(function f, void *data, copy_function copy, long size, long align, unsigned flags, unsigned long n,
                           int priority, long from, long to, long step) {
-    tell("taskloop");
+    tell(TASKLOOP);
     REAL(GOMP_taskloop)(f, data, copy, size, align, flags, n, priority, from, to, step);
 }
 PUBLIC void GOMP_doacross_post(long *counts) {
-    tell("doacross loops");
+    tell(DOACROSS);
     REAL(GOMP_doacross_post)(counts);
+}
+
+PUBLIC void GOMP_target(int device, function f, const void *unused, size_t count, void **addresses, size_t *sizes,
+                        unsigned char *kinds) {
+    tell(TARGET);
+    REAL(GOMP_target)(device, f, unused, count, addresses, sizes, kinds);
+}
+PUBLIC void GOMP_target_ext(int device, function f, size_t count, void **addresses, size_t *sizes, unsigned short *kinds,
+                            unsigned flags, void **depend, void **arguments) {
+    tell(TARGET);
+    REAL(GOMP_target_ext)(device, f, count, addresses, sizes, kinds, flags, depend, arguments);
+}
+PUBLIC void GOMP_teams_reg(function f, void *data, unsigned teams, unsigned thread_limit, unsigned flags) {
+    tell(TEAMS);
+    REAL(GOMP_teams_reg)(f, data, teams, thread_limit, flags);
 }

@@ -19,6 +19,7 @@ int stall_seconds;
 static char *header;
 static struct record *records;
 static uint64_t written, most_records;
+static const char *most_is = "SHB_RECORDS is reached";      /* why there may be no more */
 static _Atomic uint64_t room;          /* records that the file has disk space for */
 static int file = -1;                  /* -1 also while the record is in memory */
 static char pattern[PATH_MAX];         /* the path of the record, as it was asked for */
@@ -54,7 +55,7 @@ int make_room(thread *t, int count) {
         if (!keep_turn(t)) take_turn(t);
         if (!recording) return 0;
         if (written + count > most_records) {
-            stop_recording("SHB_RECORDS is reached");
+            stop_recording(most_is);
             return 0;
         }
         if (written + count <= atomic_load(&room)) return 1;
@@ -125,6 +126,7 @@ static int fit_size_limit(uint64_t *most) {
     errno = EFBIG;
     if (limit.rlim_cur < 2 * STEP_BYTES) return 0;
     *most = (limit.rlim_cur - STEP_BYTES - HEADER_BYTES) / sizeof *records;
+    most_is = "the limit of a file's size is reached (ulimit -f)";
     return 1;
 }
 

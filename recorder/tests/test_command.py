@@ -174,6 +174,20 @@ class Command(recorder.Case):
         self.assertIn("the recording is not the whole run: SHB_RECORDS is reached", said)
         self.assertIn("0 places with races; not the whole of the run was seen;", said)
 
+    def test_the_page_and_the_text_of_a_part_of_a_run_begin_with_why(self):
+        """The recording ends between the program's two races."""
+        program, why = self.program("long_race.c"), "The recording is not the whole run: SHB_RECORDS is reached."
+        status, _, said = self.record(program, SHB_RECORDS="1000")
+        self.assertEqual(status, 66, said)
+        self.assertIn("shb-record: 1 place with races; not the whole", said)
+        self.assertRegex(said, rf"(?m)^run1.*: .* at .*\n{re.escape(why)}$")  # below the view's first line
+        page, = (self.folder / "long_race.shb").glob("*.html")
+        self.assertRegex(text_of(page), rf"<h1>run1[^<]*</h1><p class=\"verdict bad\">{re.escape(why)}</p>")
+        _, _, said = self.record(program)
+        self.assertNotIn("not the whole run", said)
+        page, = (self.folder / "long_race.shb").glob("*.html")
+        self.assertNotIn("not the whole run", text_of(page))
+
     def test_a_run_of_which_nothing_was_recorded(self):
         refuse, path = self.folder / "refuse.so", recorder.HERE / "refuse_space.c"
         recorder.must(recorder.call("gcc", "-O1", "-fno-builtin", "-fPIC", "-shared", path, "-o", refuse))

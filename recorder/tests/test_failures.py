@@ -1,6 +1,7 @@
 """What fails ends the recording, or the trace, and never the program."""
 
 import re
+import resource
 import signal
 import subprocess
 
@@ -25,6 +26,13 @@ class Failures(recorder.Case):
             limited = "sh", "-c", f"ulimit -f {blocks}; exec {program}"
             ran = recorder.must(recorder.call(*limited, env=recorder.settings(path)))
             self.assertEqual(b"File too large" in ran.stderr, refused)
+
+    def test_a_limit_of_the_size_of_files_that_is_reached_later(self):
+        path, limit = self.folder / "app.rec", (9000000, 9000000)
+        ran = recorder.must(recorder.call(self.program("long_run.c"), env=recorder.settings(path),
+                                          preexec_fn=lambda: resource.setrlimit(resource.RLIMIT_FSIZE, limit)))
+        self.assertIn(b"the limit of a file's size is reached (ulimit -f); the recording ends here", ran.stderr)
+        self.assertIn(b"is not the whole run: the limit of a file's size", recorder.part(recorder.convert(path)).stderr)
 
     def test_a_disk_that_is_full_later(self):
         refuse, path = self.folder / "refuse.so", self.folder / "app.rec"

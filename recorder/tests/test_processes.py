@@ -98,6 +98,13 @@ class Processes(recorder.Case):
         self.assertEqual(ran.stderr, b"shb recorder: the program uses OpenMP's taskloop, whose order isn't seen: "
                          b"false races are possible\n")
 
+    def test_openmp_regions_that_are_not_seen_are_told_once_each(self):
+        ran = recorder.must(recorder.call(self.program("openmp_unseen.c", "-fopenmp"), env=self.settings()))
+        uses = b"shb recorder: the program uses OpenMP's "
+        self.assertEqual(ran.stderr, uses + b"teams, which gcc's library runs one after the other: races between teams are "
+                         b"missed\n" + uses + b"target regions. What runs on another device isn't seen, and the order of those "
+                         b"with nowait isn't: false races are possible\n")
+
     def test_openmp_of_clang_with_archer(self):
         if not shutil.which("clang") or not ARCHER:
             self.skipTest("clang or its libarcher.so isn't installed")

@@ -1,0 +1,106 @@
+/* What a program tells ThreadSanitizer of itself, by the names of its library: so each program that was built for it runs.
+   What orders threads is recorded; what asks for silence (benign races, accesses to be ignored) is not followed. */
+#include <stdlib.h>
+#include "runtime.h"
+
+/* ---- order ---- */
+PUBLIC void __tsan_acquire(void *p) { note(OP_WAIT, p, CALLER); }
+PUBLIC void __tsan_release(void *p) { note(OP_POST, p, CALLER); }
+PUBLIC void AnnotateHappensBefore(const char *file, int line, const volatile void *p) { note(OP_POST, p, CALLER); }
+PUBLIC void AnnotateHappensAfter(const char *file, int line, const volatile void *p) { note(OP_WAIT, p, CALLER); }
+PUBLIC void WTFAnnotateHappensBefore(const char *file, int line, const volatile void *p) { note(OP_POST, p, CALLER); }
+PUBLIC void WTFAnnotateHappensAfter(const char *file, int line, const volatile void *p) { note(OP_WAIT, p, CALLER); }
+
+/* ---- locks that the program makes itself, each as a reader-writer lock ---- */
+enum { READ_LOCK = 1 << 3, TRY_FAILED = 1 << 5 };            /* of the flags */
+
+static void note_taken(const volatile void *lock, int to_write, uint64_t caller) {
+    note(to_write ? OP_WRITE_LOCK : OP_READ_LOCK, lock, caller);
+}
+
+PUBLIC void AnnotateRWLockAcquired(const char *file, int line, const volatile void *lock, long to_write) {
+    note_taken(lock, to_write, CALLER);
+}
+PUBLIC void AnnotateRWLockReleased(const char *file, int line, const volatile void *lock, long to_write) {
+    note(OP_RW_UNLOCK, lock, CALLER);
+}
+PUBLIC void __tsan_mutex_post_lock(void *lock, unsigned flags, int depth) {
+    if (!(flags & TRY_FAILED)) note_taken(lock, !(flags & READ_LOCK), CALLER);
+}
+PUBLIC int __tsan_mutex_pre_unlock(void *lock, unsigned flags) {
+    note(OP_RW_UNLOCK, lock, CALLER);
+    return 1;                          /* how often it was held */
+}
+
+/* ---- fibers: a switch gives what was done before, and the switch to the same fiber takes it ---- */
+enum { NO_ORDER = 1 };
+static __thread void *fiber;
+static __thread char first_fiber;
+PUBLIC void *__tsan_get_current_fiber(void) { return fiber ? fiber : &first_fiber; }
+PUBLIC void *__tsan_create_fiber(unsigned flags) { return malloc(1); }
+PUBLIC void __tsan_destroy_fiber(void *old) { free(old); }
+PUBLIC void __tsan_set_fiber_name(void *which, const char *name) {}
+PUBLIC void __tsan_switch_to_fiber(void *next, unsigned flags) {
+    if (!(flags & NO_ORDER)) {
+        note(OP_POST, next, CALLER);
+        note(OP_WAIT, next, CALLER);
+    }
+    fiber = next;
+}
+
+/* ---- nothing is recorded of these ---- */
+#define IGNORES(name, ...) PUBLIC void name(__VA_ARGS__) {}
+#define IGNORES_AT(name, ...) IGNORES(name, const char *file, int line, ##__VA_ARGS__)
+IGNORES(__tsan_mutex_create, void *lock, unsigned flags)
+IGNORES(__tsan_mutex_destroy, void *lock, unsigned flags)
+IGNORES(__tsan_mutex_pre_lock, void *lock, unsigned flags)
+IGNORES(__tsan_mutex_post_unlock, void *lock, unsigned flags)
+IGNORES(__tsan_mutex_pre_signal, void *lock, unsigned flags)
+IGNORES(__tsan_mutex_post_signal, void *lock, unsigned flags)
+IGNORES(__tsan_mutex_pre_divert, void *lock, unsigned flags)
+IGNORES(__tsan_mutex_post_divert, void *lock, unsigned flags)
+IGNORES(__tsan_flush_memory, void)
+IGNORES(__tsan_external_register_header, void *tag, const char *header)
+IGNORES(__tsan_external_assign_tag, void *p, void *tag)
+IGNORES(__sanitizer_set_report_path, const char *path)
+IGNORES(__sanitizer_set_report_fd, void *descriptor)
+IGNORES(__sanitizer_set_death_callback, void (*function)(void))
+IGNORES(__sanitizer_print_stack_trace, void)
+IGNORES_AT(AnnotateRWLockCreate, const volatile void *lock)
+IGNORES_AT(AnnotateRWLockCreateStatic, const volatile void *lock)
+IGNORES_AT(AnnotateRWLockDestroy, const volatile void *lock)
+IGNORES_AT(AnnotateBenignRace, const volatile void *p, const char *why)
+IGNORES_AT(AnnotateBenignRaceSized, const volatile void *p, unsigned long size, const char *why)
+IGNORES_AT(WTFAnnotateBenignRaceSized, const volatile void *p, unsigned long size, const char *why)
+IGNORES_AT(AnnotateCondVarWait, const volatile void *condition, const volatile void *lock)
+IGNORES_AT(AnnotateCondVarSignal, const volatile void *condition)
+IGNORES_AT(AnnotateCondVarSignalAll, const volatile void *condition)
+IGNORES_AT(AnnotateMutexIsNotPHB, const volatile void *lock)
+IGNORES_AT(AnnotateMutexIsUsedAsCondVar, const volatile void *lock)
+IGNORES_AT(AnnotateEnableRaceDetection, int enable)
+IGNORES_AT(AnnotateExpectRace, const volatile void *p, const char *why)
+IGNORES_AT(AnnotateFlushExpectedRaces)
+IGNORES_AT(AnnotateFlushState)
+IGNORES_AT(AnnotateIgnoreReadsBegin)
+IGNORES_AT(AnnotateIgnoreReadsEnd)
+IGNORES_AT(AnnotateIgnoreWritesBegin)
+IGNORES_AT(AnnotateIgnoreWritesEnd)
+IGNORES_AT(AnnotateIgnoreSyncBegin)
+IGNORES_AT(AnnotateIgnoreSyncEnd)
+IGNORES_AT(AnnotateMemoryIsInitialized, const volatile void *p, unsigned long size)
+IGNORES_AT(AnnotateMemoryIsUninitialized, const volatile void *p, unsigned long size)
+IGNORES_AT(AnnotateNewMemory, const volatile void *p, unsigned long size)
+IGNORES_AT(AnnotateNoOp, const volatile void *p)
+IGNORES_AT(AnnotatePCQCreate, const volatile void *queue)
+IGNORES_AT(AnnotatePCQDestroy, const volatile void *queue)
+IGNORES_AT(AnnotatePCQGet, const volatile void *queue)
+IGNORES_AT(AnnotatePCQPut, const volatile void *queue)
+IGNORES_AT(AnnotatePublishMemoryRange, const volatile void *p, unsigned long size)
+IGNORES_AT(AnnotateUnpublishMemoryRange, const volatile void *p, unsigned long size)
+IGNORES_AT(AnnotateThreadName, const char *name)
+IGNORES_AT(AnnotateTraceMemory, const volatile void *p)
+PUBLIC void *__tsan_external_register_tag(const char *name) { return 0; }
+
+/* By the first the OpenMP run-time's archer sees that somebody listens; it then tells the order as above. */
+PUBLIC int RunningOnValgrind(void) { return 0; }
+PUBLIC double ValgrindSlowdown(void) { return 10; }
