@@ -8,6 +8,7 @@ import shutil
 import signal
 import sys
 import time
+import traceback
 import typing
 
 from shb_farm import engines, files, limits, merging, passes, tables
@@ -192,11 +193,31 @@ def run(options):
     endings = run_passes(farm, work, merging.names_in(work.traces, work.out))
     rows = with_reports(farm, work, merging.rows_of(endings, known_places))
     status = merging.status_of(rows, endings)
-    print(tables.write(pathlib.Path(work.out), rows, endings, status), end="", flush=True)
+    write_out(tables.write(pathlib.Path(work.out), rows, endings, status))
     return status
 
 
+def open_standard_files():
+    """Opens those of standard input, output and error that are closed, for the jobs, too; so no other file takes their place."""
+    for number in range(3):
+        try:
+            os.fstat(number)
+        except OSError:
+            os.set_inheritable(os.open(os.devnull, os.O_RDWR), True)
+    sys.stdout = sys.stdout or open(os.devnull, "w", encoding="utf-8")
+    sys.stderr = sys.stderr or open(os.devnull, "w", encoding="utf-8")
+
+
+def write_out(text):
+    try:
+        print(text, end="", flush=True)
+    except OSError as fault:
+        os.dup2(os.open(os.devnull, os.O_WRONLY), sys.stdout.fileno())  # else Python tries again at its end, with a status of its own
+        raise OSError(fault.errno, fault.strerror, "standard output") from None
+
+
 def main(words):
+    open_standard_files()
     sys.stdout.reconfigure(errors="backslashreplace")
     sys.stderr.reconfigure(errors="backslashreplace")
     for name in (signal.SIGTERM, signal.SIGHUP):
@@ -209,5 +230,7 @@ def main(words):
         said = files.words_of(fault)
     except KeyboardInterrupt:
         return 130
+    except Exception:
+        said = traceback.format_exc().rstrip()      # 1, with which Python would end, says that there is an unknown place
     print(f"shb-farm: {said}", file=sys.stderr)
     return 4

@@ -2,6 +2,7 @@
 
 import os
 import pathlib
+import shutil
 import subprocess
 import sys
 import tempfile
@@ -31,6 +32,7 @@ class Case(unittest.TestCase):
     """A test with a folder of its own, in which are the folders of traces and of outcomes."""
 
     maxDiff = None
+    command = COMMAND
 
     def setUp(self):
         room = tempfile.TemporaryDirectory()
@@ -44,6 +46,11 @@ class Case(unittest.TestCase):
         path.parent.mkdir(parents=True, exist_ok=True)
         path.write_bytes(text)
         return path
+
+    def run_alone(self):
+        """Runs a copy of the command from now on. No other part of the checkout is beside it, so a recorder that was built isn't."""
+        self.command = self.folder / "alone" / "farm" / "shb-farm"
+        shutil.copytree(HERE.parent, self.command.parent, ignore=shutil.ignore_patterns("tests", "__pycache__"))
 
     def script(self, name, text):
         """An executable file."""
@@ -65,10 +72,12 @@ class Case(unittest.TestCase):
         return count
 
     def words(self, *words, out=None):
-        return [sys.executable, str(COMMAND), *map(str, words), str(self.traces), str(out or self.out)]
+        return [sys.executable, str(self.command), *map(str, words), str(self.traces), str(out or self.out)]
 
     def environment(self, shb=None, **settings):
-        return {**os.environ, "SHB": str(shb or SHB), "SHB_WINDOWS": "", **{name: str(value) for name, value in settings.items()}}
+        """The environment of a run, in which Python writes as it does for a user."""
+        own = {name: value for name, value in os.environ.items() if name != "PYTHONUNBUFFERED"}
+        return {**own, "SHB": str(shb or SHB), "SHB_WINDOWS": "", **{name: str(value) for name, value in settings.items()}}
 
     def farm(self, *words, shb=None, out=None, **settings):
         """Runs the farm to its end."""

@@ -3,6 +3,7 @@
 import os
 import shutil
 import subprocess
+import sys
 
 import farm
 from farm import BAD, BAD_WORDS, CLEAN, OTHER_ORDER, RACE
@@ -94,6 +95,29 @@ class Tables(farm.Case):
             self.assertTrue(answer.err.startswith(f"shb-farm: {said}"), answer.err)
         answer = self.farm(shb=self.folder / "none")
         self.assertEqual(answer, (4, "", f"shb-farm: {self.folder}/none: no such program\n"))
+
+    def test_where_standard_output_is_full_or_closed(self):
+        self.trace("race.std", RACE)
+        run = lambda script: subprocess.run(["sh", "-c", script, "sh", *self.words("--jobs", "1")], env=self.environment(),
+                                            stdout=subprocess.PIPE, stderr=subprocess.PIPE, timeout=farm.SECONDS)
+        ran = run('exec "$@" > /dev/full')
+        self.assertEqual((ran.returncode, ran.stderr.splitlines()[-1]), (4, b"shb-farm: standard output: No space left on device"))
+        ran = run('exec "$@" >&-')
+        self.assertEqual((ran.returncode, ran.stderr), (1, b""))     # there is an unknown place; all else stands from the first run
+        ran = run('exec "$@" <&- 2>&-')
+        self.assertEqual((ran.returncode, ran.stdout.splitlines()[0]), (1, b"traces 1 reports 1 refused 0 missing 0"))
+        for path in self.out.rglob("*.outcome"):
+            path.unlink()
+        self.assertEqual(run('exec "$@" <&- >&- 2>&-').returncode, 1)
+        self.assertEqual(self.ends()["race.std"][0], "report")
+
+    def test_a_fault_of_the_farm_itself_is_no_unknown_place(self):
+        script = "import sys\nfrom shb_farm import command\ncommand.run = None\nsys.exit(command.main(sys.argv[1:]))"
+        ran = subprocess.run([sys.executable, "-c", script, *self.words()[2:]], env=self.environment(PYTHONPATH=farm.HERE.parent),
+                             stdout=subprocess.PIPE, stderr=subprocess.PIPE, timeout=farm.SECONDS)
+        self.assertEqual((ran.returncode, ran.stdout), (4, b""))
+        self.assertTrue(ran.stderr.startswith(b"shb-farm: Traceback "), ran.stderr)
+        self.assertTrue(ran.stderr.endswith(b"TypeError: 'NoneType' object is not callable\n"), ran.stderr)
 
     def test_a_folder_that_is_not_there(self):
         self.traces.rmdir()

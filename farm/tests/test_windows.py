@@ -12,6 +12,7 @@ TABLE = b"file\tfirst\tlast\tadded\n"
 class Windows(farm.Case):
     def setUp(self):
         super().setUp()
+        self.run_alone()
         self.trace("long.std", LONG)
         self.trace("race.std", RACE)
 

@@ -48,9 +48,10 @@ def install(options):
 
 
 def missing_folders(place, files):
-    """The folders below the prefix that these files need and that aren't there yet, the innermost first."""
-    folders = {str(folder) for file in files for folder in pathlib.Path(file).parents if str(folder) != "."}
-    return sorted((folder for folder in folders if not (place / folder).exists()), reverse=True)
+    """The folders that these files need and that aren't there yet, the prefix among them, as paths from it; the innermost first."""
+    folders = {folder for file in files for folder in (place / file).parents}
+    missing = sorted((folder for folder in folders if not folder.exists()), reverse=True)
+    return [os.path.relpath(folder, place) for folder in missing]
 
 
 def uninstall(options):
@@ -65,7 +66,7 @@ def uninstall(options):
     for name in tree.OWN:
         shutil.rmtree(place / name, ignore_errors=True)     # Python's compiled modules, too
     for name in lines:
-        folder = place / name
+        folder = pathlib.Path(os.path.normpath(place / name))
         if name.endswith(FOLDER) and folder.is_dir() and not any(folder.iterdir()):
             folder.rmdir()
 

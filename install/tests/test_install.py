@@ -9,7 +9,7 @@ from installing import TOP, call, contents
 
 RACE = "T1|w(x)|a.c:1\nT2|w(x)|b.c:2\n"
 COMMANDS = ("shb", "shb-farm", "shb-record", "shb-std", "shb-view", "shb-windows")
-WITH_HELP = ("shb", "shb-farm", "shb-record", "shb-view", "shb-windows")
+WITH_HELP = ("shb", "shb-farm", "shb-record", "shb-std", "shb-view", "shb-windows")
 WANTED = ([f"bin/{name}" for name in COMMANDS]
           + [f"share/man/man1/{name}.1" for name in (*WITH_HELP, "shb-races", "shb-places", "shb-check")]
           + [f"share/bash-completion/completions/{name}" for name in WITH_HELP]
@@ -112,6 +112,13 @@ class Uninstalled(installing.Case):
         self.assertEqual(list(prefix.iterdir()), [])
         self.make("uninstall", f"PREFIX={prefix}")      # nothing there is no fault
 
+    def test_a_folder_that_is_in_use_stays(self):
+        prefix = self.folder / "not yet" / "there"
+        self.make("install", f"PREFIX={prefix}")
+        (prefix / "mine").touch()
+        self.make("uninstall", f"PREFIX={prefix}")
+        self.assertEqual([str(path.relative_to(prefix)) for path in prefix.rglob("*")], ["mine"])
+
     def test_what_was_there_before_stays(self):
         prefix = self.folder / "prefix"
         for folder in ("bin", "share/man/man1", "share/zsh"):
@@ -136,7 +143,7 @@ class Uninstalled(installing.Case):
         self.assertFalse((prefix / "bin/shb-old").exists())
         self.assertEqual((prefix / "bin/shb").read_bytes(), installing.SHB.read_bytes())
         self.make("uninstall", f"PREFIX={prefix}")
-        self.assertEqual(list(prefix.iterdir()), [])
+        self.assertEqual(list(self.folder.iterdir()), [])
 
     def test_destdir(self):
         self.make("install", "PREFIX=/usr", f"DESTDIR={self.folder}/image")
@@ -145,4 +152,4 @@ class Uninstalled(installing.Case):
         if shutil.which("readelf"):
             self.assertIn("[/usr/lib/shb/libtsan.so]", call("readelf", "-d", self.folder / "image/usr/lib/shb/libtsan.so"))
         self.make("uninstall", "PREFIX=/usr", f"DESTDIR={self.folder}/image")
-        self.assertEqual(contents(self.folder / "image"), {})
+        self.assertEqual(list(self.folder.iterdir()), [])

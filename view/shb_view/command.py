@@ -33,6 +33,8 @@ def arguments(words, program):
     parser.add_argument("--source", metavar="DIR", action="append", default=[],
                         help="show lines of the source files below this folder; may be given again")
     parser.add_argument("--all", action="store_true", help="in the text, add each group's closest race and what comes before it")
+    parser.add_argument("--note", metavar="TEXT", action="append", default=[],
+                        help="say this of the trace below the title, as that it isn't the whole run; may be given again")
     parser.add_argument("--check", action="store_true", help="run `shb check` on the REPORT that is given")
     parser.add_argument("--shb", metavar="PROGRAM", default=os.environ.get("SHB") or program, help="the `shb` to run")
     parser.add_argument("trace", metavar="TRACE", help="a trace, as `shb` reads it")
@@ -78,7 +80,11 @@ def is_coloured(out):
 
 def write_text(lines):
     sys.stdout.reconfigure(errors="backslashreplace")
-    write_parts(sys.stdout, (f"{line}\n" for line in lines), "standard output")
+    try:
+        write_parts(sys.stdout, (f"{line}\n" for line in lines), "standard output")
+    except OSError:
+        os.dup2(os.open(os.devnull, os.O_WRONLY), sys.stdout.fileno())  # else Python tries again at its end, and fails in its own words
+        raise
 
 
 def main(words, program=None):
@@ -87,7 +93,6 @@ def main(words, program=None):
     try:
         return show(options, progress, is_open)
     except BrokenPipeError:
-        os.dup2(os.open(os.devnull, os.O_WRONLY), sys.stdout.fileno())
         return 2
     except Refused as refused:
         status, said = refused.status, str(refused)

@@ -19,7 +19,7 @@ class Pair:
 
 
 class Group(typing.NamedTuple):
-    """`pairs` have most races first. `variables` are those of the races that were read, in the order of these."""
+    """`pairs` and `variables` are in the order in which the report names them, the variables those of the races that were read."""
 
     pairs: typing.Tuple[Pair, ...]
     variables: typing.Tuple[bytes, ...]
@@ -90,7 +90,7 @@ class Gathered:
         for name in self.above:
             if isinstance(name, bytes):
                 found[self.top(name)][1].append(name)
-        return [Group(tuple(sorted(pairs, key=lambda pair: -pair.races)), tuple(variables)) for pairs, variables in found.values()]
+        return [Group(tuple(pairs), tuple(variables)) for pairs, variables in found.values()]
 
 
 def group_name(view, group):

@@ -22,12 +22,15 @@ def new_file(path, inputs):
         handle, temporary = tempfile.mkstemp(prefix=".shb-view-", dir=folder)
     except OSError as fault:
         raise OSError(fault.errno, fault.strerror, path) from None
+    out = open(handle, "w", encoding="utf-8", newline="\n")
     try:
-        with open(handle, "w", encoding="utf-8", newline="\n") as out:
-            yield out
+        yield out
+        out.close()
         os.chmod(temporary, mode_of_new_files())
         os.replace(temporary, os.path.join(folder, name))
     except BaseException:
+        with contextlib.suppress(OSError):
+            out.close()  # fails again, and without the page's name, where the disk is full
         with contextlib.suppress(OSError):
             os.unlink(temporary)
         raise

@@ -22,7 +22,7 @@ ARROW = Markup('<svg class="defs" width="0" height="0" aria-hidden="true"><defs>
 LEGEND = """\
 Each lane is a thread, and time runs down. A solid arrow leads from a release to the acquire after it, from a fork to the thread's
 first event, or from a thread's last event to a join; a dashed arrow from a write to the read that sees it. A bar beside a lane is a
-lock held. Where a lane is dashed, events are left out."""
+lock held, at an event at most the four that were acquired last. Where a lane is dashed, events are left out."""
 
 
 def page_parts(view):
@@ -62,7 +62,8 @@ def header(view):
     races, size = summary(view)
     notes = [element("p", note, class_="verdict good" if view.verdict.is_good and not number else "faint")
              for number, note in enumerate(notes_of(view))]
-    return element("header", *verdict, element("h1", view.title), element("p", races, class_="sum"),
+    given = [element("p", note, class_="verdict bad") for note in view.notes]
+    return element("header", *verdict, element("h1", view.title), *given, element("p", races, class_="sum"),
                    element("p", size, class_="faint"), *notes)
 
 

@@ -36,11 +36,11 @@ def flat(parts):
 
 def text_lines(view, colours, is_whole):
     """The lines of the whole text. `is_whole` adds the report for an issue and the events before the accesses."""
-    verdict = view.verdict
-    if verdict.is_good is False:
-        yield colours.red(f"`shb check` finds the report bad: {verdict.words}. What follows is only what the report says.")
+    if view.verdict.is_good is False:
+        yield colours.red(f"`shb check` finds the report bad: {view.verdict.words}. What follows is only what the report says.")
     races, size = summary(view)
     yield f"{colours.bold(f'{view.title}: {races}')} ({size})"
+    yield from map(colours.red, view.notes)
     yield from notes_of(view)
     for number, section in enumerate(view.sections, 1):
         yield ""
@@ -48,7 +48,7 @@ def text_lines(view, colours, is_whole):
         if is_whole:
             yield ""
             yield from (f"   {line}".rstrip() for line in issue_lines(view, section))
-            yield from window_lines(section.window, view.verdict)
+            yield from window_lines(section.window)
     if view.groups > len(view.sections):
         yield ""
         yield f"and {counted(view.groups - len(view.sections), 'more group')}"
@@ -82,7 +82,7 @@ def site_lines(view, section, site, colours):
         yield f"     races with {flat(partner_parts(site))}"
 
 
-def window_lines(window, verdict):
+def window_lines(window):
     """The events before the accesses of a group's closest race."""
     yield f"   Before the accesses: {'nothing' if not window.before else ''}".rstrip()
     rows = [window.events[event] for event in window.before]

@@ -37,7 +37,8 @@ class Section(typing.NamedTuple):
 
 class View(typing.NamedTuple):
     """All that is shown. `races` is how many the trace has, `listed` how many of these a given report has. `pairs` and `groups` are
-    how many there are, `sections` those that are shown. `is_sample` says that of each place one race is known."""
+    how many there are, `sections` those that are shown. `is_sample` says that of each place one race is known. `notes` are what
+    the caller said of the trace."""
 
     title: str
     counts: Counts
@@ -49,6 +50,7 @@ class View(typing.NamedTuple):
     verdict: Verdict
     is_sample: bool
     source: Source
+    notes: typing.List[str]
 
 
 class Given(typing.NamedTuple):
@@ -85,7 +87,7 @@ def make_view(options, progress):
         source = Source(options.source, os.fstat(file.fileno()).st_mtime)
         is_sample = not options.report and head.races > MOST_LISTED
         return View(title, head.counts, head.races, listed if options.report else head.races, pairs, len(groups), sections,
-                    given.verdict, is_sample, source)
+                    given.verdict, is_sample, source, [shown(os.fsencode(note)) for note in options.note])
 
 
 def open_regular(path):
