@@ -580,10 +580,6 @@ fn runs_are_shared_out(rt: HostRuntime) -> Result<(), Fail> {
         &512,
         "pieces entered",
     );
-    holds(
-        &rt,
-        !gate.missed.load(Ordering::SeqCst),
-        "piece 16 entered",
-    );
+    holds(&rt, !gate.missed.load(Ordering::SeqCst), "piece 16 entered");
     Ok(())
 }

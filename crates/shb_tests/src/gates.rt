@@ -210,7 +210,7 @@ impl Gate for RefusalSeen<'_> {
             }
             yield_now();
         }
-        for _ in 0..10_000u32 {
+        for _ in 0..1_000u32 {
             yield_now();
         }
     }
