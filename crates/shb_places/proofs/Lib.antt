@@ -10,5 +10,7 @@ pub mod SearchLemmas
 pub mod SiteLemmas
 mod SortedEntries
 pub mod StepLemmas
+pub mod StepTables
 pub mod TakeLemmas
+pub mod WalkLemmas
 pub mod WantedLemmas

@@ -1,4 +1,5 @@
 pub mod Access
+pub mod ByThread
 pub mod Covering
 pub mod Found
 pub mod Known

@@ -13,6 +13,8 @@ ghost use Rattle.shb_lines.specs.events.Race.{ends};
 ghost use Rattle.shb_pairs.specs.Open.{AreOpen};
 ghost use Rattle.shb_report.specs.Report.{LeadingRaces};
 
+mod by_thread;
+mod followed;
 mod found;
 mod hints;
 mod leading;
@@ -21,6 +23,7 @@ mod notes;
 mod numbers;
 mod search;
 mod sites;
+mod walk;
 mod wanted;
 
 use crate::leading::leading_of_found;

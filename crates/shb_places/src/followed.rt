@@ -1,0 +1,51 @@
+//! Which variables seem to be accessed at many locations, so that their accesses are kept by thread. No contract
+//! says which: a wrong answer costs time or memory, and no more.
+
+use crate::search::is_open;
+use shb_discipline::Disciplined;
+use shb_io::NoMemory;
+use std::alloc::Global;
+
+/// A variable is followed where its locations have more than so many of 64 ends.
+const FEW: u32 = 8;
+
+/// One of 64 bits, by the last two bytes of a line.
+fn bit_of(line: &[u8]) -> u64 {
+    let last = line.len().saturating_sub(1);
+    let low = line.get(last).copied().unwrap_or(0);
+    let high = line.get(last.saturating_sub(1)).copied().unwrap_or(0);
+    1 << (u32::from(low).wrapping_add(u32::from(high).wrapping_mul(10)) % 64)
+}
+
+/// Of each variable, the ends of the locations at which it is accessed, if it is open.
+fn ends_of(alloc: Global, trace: &Disciplined<'_>, flags: &[bool]) -> Result<Vec<u64>, NoMemory> {
+    let mut ends = vec![in alloc; 0u64; trace.sizes.variables as usize]?;
+    for e in 0..trace.events.len() as u32 {
+        if let Some(x) = trace.events.op(e).variable() {
+            if is_open(flags, x) {
+                if let Some(seen) = ends.get_mut(x as usize) {
+                    *seen = *seen | bit_of(trace.trace.line_text(e));
+                }
+            }
+        }
+    }
+    Ok(ends)
+}
+
+/// For each variable a flag, whether it is followed.
+///
+/// # Errors
+///
+/// `NoMemory` where memory was refused.
+pub fn followed_variables(
+    alloc: Global,
+    trace: &Disciplined<'_>,
+    flags: &[bool],
+) -> Result<Vec<bool>, NoMemory> {
+    let ends = ends_of(alloc, trace, flags)?;
+    let mut followed = Vec::new(alloc);
+    for seen in &ends {
+        followed.push(seen.count_ones() > FEW)?;
+    }
+    Ok(followed)
+}
