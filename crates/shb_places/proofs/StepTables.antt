@@ -119,29 +119,32 @@ module _ (trace : TraceData) (old : ThreadTables) (access : Access) (kept : AreB
         ]
 
     ext_stays : (x e : ℕ) → IsStepOf old x e → IsStepOf extended x e
-    ext_stays x e one = (one.0, elim (cases_eq one.0 c) [
-      | inl same ↦ (
-          let newest_is : one.1.newest ≡ newest = same_entry old.newest c one.1.newest newest (subst (λ (m : ℕ). slice_get old.newest m ≡ Some one.1.newest) same one.1.at_newest) at_newest in
-          let g = kept.entries one.0 one.1.entry one.1.there in
-          let within = g.within in
-          let newest_same : g.newest ≡ one.1.newest = same_entry old.newest one.0 g.newest one.1.newest g.at_newest one.1.at_newest in
-          record {
-            entry = one.1.entry;
-            there = one.1.there;
-            variable_is = one.1.variable_is;
-            newest = length old.steps;
-            at_newest = subst (λ (m : ℕ). slice_get extended.newest m ≡ Some (length old.steps)) (sym same) at_last;
-            chain = step_longer old.steps last e (omega (arith, within, newest_same, newest_is)) (subst (λ (m : ℕ). IsStepFrom old.steps m e) newest_is one.1.chain);
-          })
-      | inr ne ↦ record {
-        entry = one.1.entry;
-        there = one.1.there;
-        variable_is = one.1.variable_is;
-        newest = one.1.newest;
-        at_newest = get_set_other old.newest c one.0 (length old.steps) ne ∙ one.1.at_newest;
-        chain = step_more old.steps (last ∷ []) one.1.newest e one.1.chain;
-      }
-    ])
+    ext_stays x e one = (
+      one.0,
+      elim (cases_eq one.0 c) [
+        | inl same ↦ (
+            let newest_is : one.1.newest ≡ newest = same_entry old.newest c one.1.newest newest (subst (λ (m : ℕ). slice_get old.newest m ≡ Some one.1.newest) same one.1.at_newest) at_newest in
+            let g = kept.entries one.0 one.1.entry one.1.there in
+            let within = g.within in
+            let newest_same : g.newest ≡ one.1.newest = same_entry old.newest one.0 g.newest one.1.newest g.at_newest one.1.at_newest in
+            record {
+              entry = one.1.entry;
+              there = one.1.there;
+              variable_is = one.1.variable_is;
+              newest = length old.steps;
+              at_newest = subst (λ (m : ℕ). slice_get extended.newest m ≡ Some (length old.steps)) (sym same) at_last;
+              chain = step_longer old.steps last e (omega (arith, within, newest_same, newest_is)) (subst (λ (m : ℕ). IsStepFrom old.steps m e) newest_is one.1.chain);
+            })
+        | inr ne ↦ record {
+          entry = one.1.entry;
+          there = one.1.there;
+          variable_is = one.1.variable_is;
+          newest = one.1.newest;
+          at_newest = get_set_other old.newest c one.0 (length old.steps) ne ∙ one.1.at_newest;
+          chain = step_more old.steps (last ∷ []) one.1.newest e one.1.chain;
+        }
+      ],
+    )
 
     ext_more : IsStepMore trace old extended access
     ext_more = record {
@@ -210,14 +213,17 @@ module _ (trace : TraceData) (old : ThreadTables) (access : Access) (kept : AreB
     ]
 
     begun_stays : (x e : ℕ) → IsStepOf old x e → IsStepOf begun x e
-    begun_stays x e one = (one.0, record {
-      entry = one.1.entry;
-      there = get_more old.entries (entry ∷ []) one.0 one.1.entry one.1.there;
-      variable_is = one.1.variable_is;
-      newest = one.1.newest;
-      at_newest = get_more old.newest (length old.steps ∷ []) one.0 one.1.newest one.1.at_newest;
-      chain = step_more old.steps (first ∷ []) one.1.newest e one.1.chain;
-    })
+    begun_stays x e one = (
+      one.0,
+      record {
+        entry = one.1.entry;
+        there = get_more old.entries (entry ∷ []) one.0 one.1.entry one.1.there;
+        variable_is = one.1.variable_is;
+        newest = one.1.newest;
+        at_newest = get_more old.newest (length old.steps ∷ []) one.0 one.1.newest one.1.at_newest;
+        chain = step_more old.steps (first ∷ []) one.1.newest e one.1.chain;
+      },
+    )
 
     begun_is_more : IsStepMore trace old begun access
     begun_is_more = record {
@@ -263,12 +269,15 @@ pub passed_more : (trace : TraceData) (followed : List Bool) (old new : ThreadTa
 passed_more trace followed old new access heads more = record {
   kept = more.kept;
   added = λ is. more.added;
-  stays = λ x e one. more.stays x e (one.0, record {
-    entry = one.1.entry;
-    there = one.1.there;
-    variable_is = one.1.variable_is;
-    newest = one.1.newest;
-    at_newest = one.1.at_newest;
-    chain = one.1.chain;
-  });
+  stays = λ x e one. more.stays x e (
+    one.0,
+    record {
+      entry = one.1.entry;
+      there = one.1.there;
+      variable_is = one.1.variable_is;
+      newest = one.1.newest;
+      at_newest = one.1.at_newest;
+      chain = one.1.chain;
+    },
+  );
 }

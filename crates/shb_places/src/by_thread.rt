@@ -79,7 +79,7 @@ fn add_step(steps: &mut Vec<Step>, access: Access, previous: u32) -> Result<u32,
 }
 
 /// Whether accesses of an entry can race with an access: of another thread, and one of the two writes.
-pub fn can_race(entry: Entry, access: Access) -> bool
+pub fn is_rival(entry: Entry, access: Access) -> bool
     ensures { IsTrue result ↔ ((entry.thread ≢ access.thread) × ((entry.writes ≡ true) ⊎ (access.writes ≡ true))) }
 {
     entry.thread != access.thread && (entry.writes || access.writes)

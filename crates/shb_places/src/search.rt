@@ -317,7 +317,7 @@ impl Search {
             return self.ask_by_list(alloc, ordered, s, access);
         }
         let steps = STEPS_OF_NEW.saturating_mul(u32::from(many));
-        let all = walk_races(
+        let found_all = walk_races(
             alloc,
             ordered,
             &self.by_thread,
@@ -325,7 +325,7 @@ impl Search {
             access,
             steps,
         )?;
-        if all {
+        if found_all {
             return Ok(());
         }
         ask(

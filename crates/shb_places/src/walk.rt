@@ -6,7 +6,7 @@ ghost use Rattle.shb_places.specs.ByThread.{AreByThread, AreRivals, IsStepFrom, 
 ghost use Rattle.shb_places.specs.Found.{AreFound};
 ghost use Rattle.shb_places.specs.declared.by_thread.Step.{Step};
 
-use crate::by_thread::{ByThread, Step, can_race};
+use crate::by_thread::{ByThread, Step, is_rival};
 use crate::found::{Found, Place};
 use crate::notes::Access;
 use shb_clocks::{Order, Ordered};
@@ -98,7 +98,7 @@ fn walk_entry<O: Order>(
     if entry.variable != access.variable {
         return Ok(left);
     }
-    if !can_race(*entry, access) {
+    if !is_rival(*entry, access) {
         return Ok(left);
     }
     let bound = ordered.order.below_pred(access.event, entry.thread);
@@ -107,7 +107,14 @@ fn walk_entry<O: Order>(
         bound,
         left,
     };
-    walk_steps(alloc, ordered, by_thread.steps.as_slice(), found, walk, access)
+    walk_steps(
+        alloc,
+        ordered,
+        by_thread.steps.as_slice(),
+        found,
+        walk,
+        access,
+    )
 }
 
 /// Takes the races of an access, if its variable is followed, in at most so many steps. The answer is whether
@@ -143,7 +150,15 @@ pub fn walk_races<O: Order>(
         let Some(entry) = by_thread.entries.get(at as usize) else {
             return Ok(true);
         };
-        left = walk_entry(alloc, ordered, by_thread, found, at, access, left.saturating_sub(1))?;
+        left = walk_entry(
+            alloc,
+            ordered,
+            by_thread,
+            found,
+            at,
+            access,
+            left.saturating_sub(1),
+        )?;
         if left == 0 {
             return Ok(false);
         }
