@@ -4,6 +4,7 @@ pub mod FoundLemmas
 mod KeyOrder
 mod LeadMembers
 pub mod Lists
+pub mod MarkLemmas
 pub mod NoteLemmas
 mod RacesByNumber
 pub mod SearchLemmas

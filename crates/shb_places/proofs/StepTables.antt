@@ -80,9 +80,9 @@ tables_same a b heads entries newests steps =
 
 module _ (trace : TraceData) (old : ThreadTables) (access : Access) (kept : AreByThread trace old access.event) (own : IsAccess trace access) (few : length old.steps < none) where
   -- an entry gets one step more
-  module _ (c newest : ℕ) (is : IsEntryOf old.entries access c) (at_newest : slice_get old.newest c ≡ Some newest) where
+  module _ (c newest index : ℕ) (is : IsEntryOf old.entries access c) (at_newest : slice_get old.newest c ≡ Some newest) where
     abbrev last : Step
-    last = record { event = access.event; location = access.location; previous = newest }
+    last = record { event = access.event; location = access.location; index = index; previous = newest }
 
     abbrev extended : ThreadTables
     extended = record { heads = old.heads; entries = old.entries; newest = set old.newest c (length old.steps); steps = old.steps ++ last ∷ [] }
@@ -157,9 +157,9 @@ module _ (trace : TraceData) (old : ThreadTables) (access : Access) (kept : AreB
     extended_more new heads entries newests steps = subst (λ (t : ThreadTables). IsStepMore trace old t access) (sym (tables_same new extended heads entries newests steps)) ext_more
 
   -- a new entry
-  module _ (head : ℕ) (at_head : slice_get old.heads access.variable ≡ Some head) where
+  module _ (head index : ℕ) (at_head : slice_get old.heads access.variable ≡ Some head) where
     abbrev first : Step
-    first = record { event = access.event; location = access.location; previous = none }
+    first = record { event = access.event; location = access.location; index = index; previous = none }
 
     abbrev entry : Entry
     entry = record { variable = access.variable; thread = access.thread; writes = access.writes; next = head }

@@ -21,6 +21,7 @@ use Rattle.shb_places.specs.Access.{IsAccess}
 use Rattle.shb_places.specs.ByThread.{AreFollowed, IsPassed, thread_tables}
 use Rattle.shb_places.specs.Covering.{IsCovered}
 use Rattle.shb_places.specs.Found.{AreFound, Improves}
+use Rattle.shb_places.specs.Marks.{AreMarked}
 use Rattle.shb_places.specs.Notes.{IsAdded, Tables, tables_of}
 use Rattle.shb_places.specs.Searched.{AreSearched, AreToldFrom, IsAskable, IsAskedAll, IsAskedBy}
 use Rattle.shb_places.specs.Sites.{AreMore, IsSite}
@@ -38,9 +39,16 @@ held_of trace sites races n x m s list is of_s h =
     subst (λ (l : ℕ). AreHeld trace sites races list.sites.items x l n list.looked) (ap (λ (k : Site). k.location) same ∙ is.location_is)
     (subst (λ (y : ℕ). AreHeld trace sites races list.sites.items y h.asker.location n list.looked) (ap (λ (k : Site). k.variable) same ∙ is.variable_is) h.held)
 
+-- what its marks say
+pub marked_of : (trace : TraceData) (sites : List Site) (races : List Pair) (n x m s : ℕ) (list : Wanted) → IsSite sites x m s → list.asker ≡ s → IsWanted trace sites races n list → AreMarked trace races x m list.marks.items
+marked_of trace sites races n x m s list is of_s h =
+    let same = same_entry sites s h.asker is.site (subst (λ (k : ℕ). slice_get sites k ≡ Some h.asker) of_s h.at_asker) is.there in
+    subst (λ (l : ℕ). AreMarked trace races x l list.marks.items) (ap (λ (k : Site). k.location) same ∙ is.location_is)
+    (subst (λ (y : ℕ). AreMarked trace races y h.asker.location list.marks.items) (ap (λ (k : Site). k.variable) same ∙ is.variable_is) h.marked)
+
 -- the lists after the list k was asked
-pub lists_asked : (trace : TraceData) (sites : List Site) (notes : Tables) (lists : List Wanted) (k s : ℕ) (list after : Wanted) (middle : List ℕ) (start places : List Place) (old new : List Pair) (access : Access) → AreFound trace (access.event + 1) start old → slice_get lists k ≡ Some list → after.asker ≡ s → IsSite sites access.variable access.location s → AreWanted trace sites old access.event lists → AreHeld trace sites old middle access.variable access.location access.event (length sites) → AreToldFrom trace sites notes access 0 middle after.sites.items old places new → after.looked ≤ length sites → AreWanted trace sites new (access.event + 1) (set lists k after)
-lists_asked trace sites notes lists k s list after middle start places old new access found at of_s is before held told few j other at_other = elim (cases_eq j k) [
+pub lists_asked : (trace : TraceData) (sites : List Site) (notes : Tables) (lists : List Wanted) (k s : ℕ) (list after : Wanted) (middle : List ℕ) (start places : List Place) (old new : List Pair) (access : Access) → AreFound trace (access.event + 1) start old → slice_get lists k ≡ Some list → after.asker ≡ s → IsSite sites access.variable access.location s → AreWanted trace sites old access.event lists → AreHeld trace sites old middle access.variable access.location access.event (length sites) → AreToldFrom trace sites notes access 0 middle after.sites.items old places new → after.looked ≤ length sites → AreMarked trace new access.variable access.location after.marks.items → AreWanted trace sites new (access.event + 1) (set lists k after)
+lists_asked trace sites notes lists k s list after middle start places old new access found at of_s is before held told few marks j other at_other = elim (cases_eq j k) [
   | inl same ↦ subst (λ (w : Wanted). IsWanted trace sites new (access.event + 1) w) (same_entry (set lists k after) k after other (get_set lists k after (slice_get_within lists k list at)) (subst (λ (n : ℕ). slice_get (set lists k after) n ≡ Some other) same at_other)) asked
   | inr ne ↦ wanted_then trace sites (access.event + 1) access.event (access.event + 1) start old new other found told.improves (omega arith) (before j other (sym (get_set_other lists k j after ne) ∙ at_other))
 ]
@@ -57,6 +65,7 @@ lists_asked trace sites notes lists k s list after middle start places old new a
       at_asker = subst (λ (n : ℕ). slice_get sites n ≡ Some is.site) (sym of_s) is.there;
       looked = few;
       held = λ t site low at_t same. held_site t site (omega (arith, low, few)) at_t same;
+      marked = subst (λ (l : ℕ). AreMarked trace new is.site.variable l after.marks.items) (sym is.location_is) (subst (λ (x : ℕ). AreMarked trace new x access.location after.marks.items) (sym is.variable_is) marks);
     }
 
 -- an access can be asked when its site is there

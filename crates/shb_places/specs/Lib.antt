@@ -5,6 +5,7 @@ pub mod Found
 pub mod Known
 pub mod ListOrder
 pub mod Lists
+pub mod Marks
 pub mod Notes
 pub mod Searched
 pub mod Sites

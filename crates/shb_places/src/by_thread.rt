@@ -21,12 +21,13 @@ pub struct Entry {
     pub next: u32,
 }
 
-/// An access with the number of its location, and the number of the step of the access before it in its
-/// entry.
+/// An access with the number of its location, which site of its variable that is, and the number of the step
+/// of the access before it in its entry.
 #[derive(Clone, Copy)]
 pub struct Step {
     pub event: u32,
     pub location: u32,
+    pub index: u32,
     pub previous: u32,
 }
 
@@ -65,14 +66,20 @@ fn hash_of(access: Access) -> u32 {
 }
 
 /// Adds a step of an access, before which the step `previous` stands.
-fn add_step(steps: &mut Vec<Step>, access: Access, previous: u32) -> Result<u32, NoMemory>
+fn add_step(
+    steps: &mut Vec<Step>,
+    access: Access,
+    index: u32,
+    previous: u32,
+) -> Result<u32, NoMemory>
     ensures number { IfOk result (λ k. (k ≡ length steps.old.items) × (k < none)) }
-    ensures pushed { OnOk result (steps.new.items ≡ steps.old.items ++ record { event = access.event; location = access.location; previous = previous } ∷ []) }
+    ensures pushed { OnOk result (steps.new.items ≡ steps.old.items ++ record { event = access.event; location = access.location; index = index; previous = previous } ∷ []) }
 {
     let k = next_number(steps.len())?;
     steps.push(Step {
         event: access.event,
         location: access.location,
+        index,
         previous,
     })?;
     Ok(k)
@@ -137,19 +144,19 @@ impl ByThread {
     }
 
     /// Adds an access to its entry.
-    fn extend(&mut self, c: u32, access: Access) -> Result<(), NoMemory>
+    fn extend(&mut self, c: u32, access: Access, index: u32) -> Result<(), NoMemory>
         requires { c < length self.old.newest.items }
         ensures followed { self.new.followed ≡ self.old.followed }
         ensures added { (trace : TraceData) → AreByThread trace (thread_tables self.old) access.event → IsAccess trace access → IsEntryOf self.old.entries.items access c
             → OnOk result (IsStepMore trace (thread_tables self.old) (thread_tables self.new) access) }
     {
-        let k = add_step(&mut self.steps, access, self.newest[c as usize])?;
+        let k = add_step(&mut self.steps, access, index, self.newest[c as usize])?;
         self.newest[c as usize] = k;
         Ok(())
     }
 
     /// Adds an access as the first of a new entry.
-    fn begin(&mut self, access: Access) -> Result<u32, NoMemory>
+    fn begin(&mut self, access: Access, index: u32) -> Result<u32, NoMemory>
         requires { access.variable < length self.old.heads.items }
         ensures followed { self.new.followed ≡ self.old.followed }
         ensures added { (trace : TraceData) → AreByThread trace (thread_tables self.old) access.event → IsAccess trace access
@@ -157,7 +164,7 @@ impl ByThread {
     {
         let c = next_number(self.entries.len())?;
         let next = self.heads[access.variable as usize];
-        let k = add_step(&mut self.steps, access, NONE)?;
+        let k = add_step(&mut self.steps, access, index, NONE)?;
         self.newest.push(k)?;
         self.entries.push(Entry {
             variable: access.variable,
@@ -170,7 +177,7 @@ impl ByThread {
     }
 
     /// Adds an access to its entry, or as the first of a new one.
-    fn put(&mut self, alloc: Global, access: Access) -> Result<(), NoMemory>
+    fn put(&mut self, alloc: Global, access: Access, index: u32) -> Result<(), NoMemory>
         requires room { access.variable < length self.old.heads.items }
         requires as_many { length self.old.newest.items ≡ length self.old.entries.items }
         ensures followed { self.new.followed ≡ self.old.followed }
@@ -178,9 +185,9 @@ impl ByThread {
             → OnOk result (IsStepMore trace (thread_tables self.old) (thread_tables self.new) access) }
     {
         if let Some(c) = self.noted(access) {
-            return self.extend(c, access);
+            return self.extend(c, access, index);
         }
-        let c = self.begin(access)?;
+        let c = self.begin(access, index)?;
         self.hints.insert(alloc, hash_of(access), c)?;
         Ok(())
     }
@@ -190,7 +197,7 @@ impl ByThread {
     /// # Errors
     ///
     /// `NoMemory` where a growth was refused.
-    pub fn add(&mut self, alloc: Global, access: Access) -> Result<(), NoMemory>
+    pub fn add(&mut self, alloc: Global, access: Access, index: u32) -> Result<(), NoMemory>
         requires as_many { length self.old.newest.items ≡ length self.old.entries.items }
         ensures followed { self.new.followed ≡ self.old.followed }
         ensures passed { (trace : TraceData) → AreByThread trace (thread_tables self.old) access.event → IsAccess trace access
@@ -200,6 +207,6 @@ impl ByThread {
             return Ok(());
         }
         make_room(&mut self.heads, access.variable)?;
-        self.put(alloc, access)
+        self.put(alloc, access, index)
     }
 }

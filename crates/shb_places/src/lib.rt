@@ -19,6 +19,7 @@ mod found;
 mod hints;
 mod leading;
 mod locations;
+mod marks;
 mod notes;
 mod numbers;
 mod search;

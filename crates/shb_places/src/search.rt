@@ -21,6 +21,7 @@ use crate::by_thread::ByThread;
 use crate::followed::followed_variables;
 use crate::found::{Found, Place};
 use crate::locations::Locations;
+use crate::marks::make_marks;
 use crate::notes::{Access, Notes};
 use crate::numbers::NONE;
 use crate::sites::{Site, Sites};
@@ -245,6 +246,14 @@ impl Search {
         })
     }
 
+    /// How many marks a site of a variable needs: one for each site of the variable, if it is followed.
+    fn marks_for(&self, x: u32) -> u32 {
+        if !self.by_thread.follows(x) {
+            return 0;
+        }
+        self.sites.count_to(self.sites.newest_of(x))
+    }
+
     /// Asks the sites of the list of a site.
     fn ask_by_list<O: Order>(
         &mut self,
@@ -265,15 +274,18 @@ impl Search {
             → IsAskable ordered.now.trace.now.trace.now self.old.sites self.old.notes self.old.by_thread self.old.wanted self.old.found access
             → OnOk result (IsAskedBy ordered.now.trace.now.trace.now self.old.sites self.old.notes self.new.wanted self.old.found self.new.found access) }
     {
+        let count = self.marks_for(access.variable);
         let k = self.wanted.number_of(alloc, s)?;
         let list = &mut self.wanted.lists[k as usize];
         look(list, &self.sites, &self.found, access)?;
+        make_marks(&mut list.marks, count)?;
         let steps = steps_for(list.sites.len());
         let all = walk_races(
             alloc,
             ordered,
             &self.by_thread,
             &mut self.found,
+            &mut list.marks,
             access,
             steps,
         )?;
@@ -317,11 +329,13 @@ impl Search {
             return self.ask_by_list(alloc, ordered, s, access);
         }
         let steps = STEPS_OF_NEW.saturating_mul(u32::from(many));
+        let mut marks = Vec::new(alloc);
         let found_all = walk_races(
             alloc,
             ordered,
             &self.by_thread,
             &mut self.found,
+            &mut marks,
             access,
             steps,
         )?;
@@ -359,7 +373,8 @@ impl Search {
         self.ask(alloc, ordered, s, is_new, access)?;
         let local = ordered.links.local(access.event);
         self.notes.add(alloc, s, access, local)?;
-        self.by_thread.add(alloc, access)
+        let index = self.sites.index_of(s);
+        self.by_thread.add(alloc, access, index)
     }
 
     /// Takes an event.

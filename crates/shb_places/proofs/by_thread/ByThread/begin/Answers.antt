@@ -14,4 +14,4 @@ returns-clause-added c trace kept own =
     let k_is = number.0 in
     let few = number.1 in
     let c_is = c.in_ok-c.ensures.0 ∙ (c.len.ensures ∙ c.args.self.now.entries.ok.0) in
-    begun_more trace (thread_tables c.args.self.now) c.args.access kept own (omega (arith, k_is, few)) c.index-next.result.now at_head _ (ap (λ (n : ℕ). set heads x n) c_is) c.in_ok-push-2.ensures.items (c.in_ok-push.ensures.items ∙ ap (λ (n : ℕ). c.args.self.now.newest.items ++ n ∷ []) k_is) c.in_ok-k.ensures.pushed
+    begun_more trace (thread_tables c.args.self.now) c.args.access kept own (omega (arith, k_is, few)) c.index-next.result.now c.args.index at_head _ (ap (λ (n : ℕ). set heads x n) c_is) c.in_ok-push-2.ensures.items (c.in_ok-push.ensures.items ∙ ap (λ (n : ℕ). c.args.self.now.newest.items ++ n ∷ []) k_is) c.in_ok-k.ensures.pushed

@@ -12,4 +12,4 @@ returns-clause-added c trace kept own is =
     let number = c.in_ok-k.ensures.number in
     let k_is = number.0 in
     let few = number.1 in
-    extended_more trace (thread_tables c.args.self.now) c.args.access kept own (omega (arith, k_is, few)) c.args.c c.index.result.now is at_newest _ refl refl (ap (λ (n : ℕ). set newest c.args.c n) k_is) c.in_ok-k.ensures.pushed
+    extended_more trace (thread_tables c.args.self.now) c.args.access kept own (omega (arith, k_is, few)) c.args.c c.index.result.now c.args.index is at_newest _ refl refl (ap (λ (n : ℕ). set newest c.args.c n) k_is) c.in_ok-k.ensures.pushed
