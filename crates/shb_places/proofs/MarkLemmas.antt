@@ -1,8 +1,7 @@
 -- Marks of known places, one more at a time.
-use Rattle.std.proofs.Common.{◌≡◌, ℕ, zero, suc, ◌+◌, ◌≤◌, ◌⊎◌, inl, inr, List, [], ◌∷◌, ◌++◌, Some, None, length, slice_get, arith, refl, subst, sym}
+use Rattle.std.proofs.Common.{◌≡◌, ℕ, zero, suc, ◌+◌, ◌≤◌, ◌⊎◌, inl, inr, List, [], ◌∷◌, ◌++◌, Some, None, length, slice_get, arith, subst, sym}
 use Rattle.std.proofs.Math.ListN.{set}
 use Rattle.std.proofs.lemmas.Bool.{cases_eq}
-use Rattle.std.proofs.lemmas.Option.{slice_get_within}
 use Rattle.shb_lines.specs.declared.event.Pair.{Pair}
 use Rattle.shb_lines.specs.events.Race.{variable_at}
 use Rattle.shb_lines.specs.text.TraceData.{TraceData}
@@ -17,7 +16,7 @@ use Rattle.shb_places.specs.Known.{IsKnown}
 use Rattle.shb_places.specs.Lists.{none}
 use Rattle.shb_places.specs.Marks.{AreMarked}
 use Rattle.shb_places.proofs.FoundLemmas.{known_then}
-use Rattle.shb_places.proofs.Lists.{get_cases, get_set, get_set_other, same_entry}
+use Rattle.shb_places.proofs.Lists.{get_cases, get_set_other}
 use Rattle.shb_places.proofs.SearchLemmas.{found_same}
 
 -- a mark of an earlier event

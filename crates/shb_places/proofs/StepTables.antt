@@ -1,5 +1,5 @@
 -- What is kept of the accesses of followed variables, an access at a time.
-use Rattle.std.proofs.Common.{◌≡◌, ◌≢◌, ℕ, ◌+◌, ◌<◌, ◌≤◌, ◌⊎◌, inl, inr, Bool, true, false, List, [], ◌∷◌, ◌++◌, Some, None, length, slice_get, arith, refl, subst, ap, sym, ◌∙◌}
+use Rattle.std.proofs.Common.{◌≡◌, ℕ, ◌+◌, ◌<◌, inl, inr, Bool, false, List, [], ◌∷◌, ◌++◌, Some, length, slice_get, arith, refl, subst, ap, sym, ◌∙◌}
 use Rattle.std.proofs.Math.ListN.{set, length-set}
 use Rattle.std.proofs.lemmas.Bool.{cases_eq}
 use Rattle.std.proofs.lemmas.List.{length-append}
@@ -9,7 +9,7 @@ use Rattle.shb_places.specs.declared.by_thread.Entry.{Entry}
 use Rattle.shb_places.specs.declared.by_thread.Step.{Step}
 use Rattle.shb_places.specs.declared.notes.Access.{Access}
 use Rattle.shb_places.specs.Access.{IsAccess, IsAccessOf}
-use Rattle.shb_places.specs.ByThread.{AreAccessesFrom, AreByThread, AreSteps, IsEntry, IsEntryOf, IsPassed, IsStepFrom, IsStepIn, IsStepMore, IsStepOf, ThreadTables, is_followed}
+use Rattle.shb_places.specs.ByThread.{AreAccessesFrom, AreByThread, AreSteps, IsEntry, IsEntryOf, IsPassed, IsStepFrom, IsStepMore, IsStepOf, ThreadTables, is_followed}
 use Rattle.shb_places.specs.Lists.{Reaches, here, further, entry_next, none, step_previous}
 use Rattle.shb_places.proofs.Lists.{get_cases, get_last, get_less, get_more, get_set, get_set_other, reaches_down, reaches_less, reaches_more, reaches_next, reaches_within, same_entry}
 use Rattle.shb_places.proofs.NoteLemmas.{not_both}

@@ -1,12 +1,10 @@
 -- The races of an access of a followed variable, a step at a time.
 use Rattle.std.proofs.Common.{◌≡◌, ◌≢◌, ℕ, ◌+◌, ◌<◌, ◌≤◌, ◌⊎◌, inl, inr, Bool, true, false, List, [], Some, length, slice_get, arith, refl, subst, ap, sym, ◌∙◌}
-use Rattle.std.specs.Prelude.{Contains}
 use Rattle.std.proofs.lemmas.Bool.{cases_eq}
 use Rattle.std.proofs.lemmas.Option.{slice_get_within}
 use Rattle.shb_clocks.specs.Open.{is_open}
 use Rattle.shb_lines.specs.declared.event.Pair.{Pair}
 use Rattle.shb_lines.specs.events.Discipline.{local_time}
-use Rattle.shb_lines.specs.events.Events.{thread_at}
 use Rattle.shb_lines.specs.events.Order.{IsBelowPredCount}
 use Rattle.shb_lines.specs.events.Race.{Race, variable_at}
 use Rattle.shb_lines.specs.text.TraceData.{TraceData}

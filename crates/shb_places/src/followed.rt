@@ -1,4 +1,4 @@
-//! Which variables seem to be accessed at many locations, so that their accesses are kept by thread. No contract
+//! Which variables seem to be accessed at many locations, so that their accesses are kept by thread too. No contract
 //! says which: a wrong answer costs time or memory, and no more.
 
 use crate::search::is_open;
@@ -17,22 +17,33 @@ fn bit_of(line: &[u8]) -> u64 {
     1 << (u32::from(low).wrapping_add(u32::from(high).wrapping_mul(10)) % 64)
 }
 
-/// Of each variable, the ends of the locations at which it is accessed, if it is open.
+/// Of each variable the ends of the locations at which it is accessed, if it is open.
 fn ends_of(alloc: Global, trace: &Disciplined<'_>, flags: &[bool]) -> Result<Vec<u64>, NoMemory> {
     let mut ends = vec![in alloc; 0u64; trace.sizes.variables as usize]?;
     for e in 0..trace.events.len() as u32 {
-        if let Some(x) = trace.events.op(e).variable() {
-            if is_open(flags, x) {
-                if let Some(seen) = ends.get_mut(x as usize) {
-                    *seen = *seen | bit_of(trace.trace.line_text(e));
-                }
-            }
+        let Some(x) = trace.events.op(e).variable() else {
+            continue;
+        };
+        if !is_open(flags, x) {
+            continue;
+        }
+        if let Some(seen) = ends.get_mut(x as usize) {
+            *seen = *seen | bit_of(trace.trace.line_text(e));
         }
     }
     Ok(ends)
 }
 
-/// For each variable a flag, whether it is followed.
+/// Adds the flag of a variable that is followed, and those of variables before it that have none.
+fn follow(followed: &mut Vec<bool>, x: usize) -> Result<(), NoMemory> {
+    for _ in followed.len()..x {
+        followed.push(false)?;
+    }
+    followed.push(true)?;
+    Ok(())
+}
+
+/// Flags of the variables up to the last one that is followed: whether they are.
 ///
 /// # Errors
 ///
@@ -44,8 +55,10 @@ pub fn followed_variables(
 ) -> Result<Vec<bool>, NoMemory> {
     let ends = ends_of(alloc, trace, flags)?;
     let mut followed = Vec::new(alloc);
-    for seen in &ends {
-        followed.push(seen.count_ones() > FEW)?;
+    for x in 0..ends.len() {
+        if ends[x].count_ones() > FEW {
+            follow(&mut followed, x)?;
+        }
     }
     Ok(followed)
 }

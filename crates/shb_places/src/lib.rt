@@ -4,7 +4,8 @@
 //!
 //! The search is one pass over the accesses of open variables, with a sweep. An access asks, of each
 //! location that its variable was accessed at before it, whether the newest accesses there race with it,
-//! where no race of their place is known that stands before. Look-ups propose numbers, and what a number
+//! where no race of their place is known that stands before. Where its variable has many locations, it asks of
+//! each other thread which of the newest accesses of the variable race with it, if these are fewer. Look-ups propose numbers, and what a number
 //! stands for is compared before it is used, so no contract is needed of a table.
 #![tactic(auto)]
 

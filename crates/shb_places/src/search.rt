@@ -1,7 +1,9 @@
 //! The search for a race of each place.
 //!
 //! An access asks the sites of its variable. A site that is new, or whose variable has few, asks all of them.
-//! Else the site has a list of those whose place with it isn't known ([`crate::wanted`]), and asks these.
+//! Else the site has a list of those whose place with it isn't known ([`crate::wanted`]), and asks these. Where the
+//! variable has many sites and is followed, all races of the access are looked for first ([`crate::walk`]), in about as
+//! many steps as there are sites to be asked; where they are found in these, no site is asked.
 
 ghost use Rattle.std.specs.Prelude.{◌≡◌, ◌+◌, ◌<◌, ℕ, Bool, false, true, IfOk, List, OnOk, Some, length, slice_get};
 ghost use Rattle.shb_clocks.specs.Open.{is_open as open_flag};

@@ -1,4 +1,4 @@
-use Rattle.std.proofs.Common.{◌≡◌, ◌≢◌, ◌+◌, ℕ, inl, inr, true, false, length, arith, refl, ap, sym, ◌∙◌}
+use Rattle.std.proofs.Common.{◌≢◌, inl, inr, false, length, arith, refl, ap}
 use Rattle.shb_places.specs.ByThread.{IsStepIn, IsStepOf, thread_tables}
 use Rattle.shb_places.proofs.Lists.{read_same}
 use Rattle.shb_places.proofs.NoteLemmas.{not_both}

@@ -1,9 +1,9 @@
-use Rattle.std.proofs.Common.{◌≡◌, ◌+◌, ℕ, inl, inr, length, arith, refl}
+use Rattle.std.proofs.Common.{inl, inr, length, arith, refl}
 use Rattle.std.proofs.lemmas.Option.{slice_get_read}
 use Rattle.shb_places.specs.Lists.{here, step_previous}
 use Rattle.shb_places.proofs.Lists.{reaches_then}
 use Rattle.shb_places.proofs.NoteLemmas.{local_of, within_of}
-use Rattle.shb_places.proofs.WalkLemmas.{rival_found, rivals_below, step_end, walked_end, walked_next, walked_part, walked_start}
+use Rattle.shb_places.proofs.WalkLemmas.{rival_found, rivals_below, step_end, walked_end, walked_next, walked_start}
 use Rattle.shb_places.proofs.walk.walk_steps.Goals as goal
 
 pub loop-step-init : goal.loop-step-init
