@@ -102,7 +102,7 @@ wanted_then trace sites m n next places old new list found improves later h = re
 within_more : (old new : List Site) (n : ℕ) → ((s : ℕ) (site : Site) → slice_get old s ≡ Some site → slice_get new s ≡ Some site) → n ≤ length old → n ≤ length new
 within_more old new zero stay le = omega arith
 within_more old new (suc n) stay le =
-    let d : Site = record { variable = 0; location = 0; index = 0; previous = 0 } in
+    let d : Site = record { variable = 0; location = 0; previous = 0 } in
     let low = slice_get_within new n (get_or old n d) (stay n (get_or old n d) (slice_get-get_or old n d (omega (arith, le)))) in
     omega (arith, low)
 
@@ -113,7 +113,7 @@ wanted_grown trace old new races n list stay h = record {
   at_asker = stay list.asker h.asker h.at_asker;
   looked = within_more old new list.looked stay h.looked;
   held = λ s site low at same. (
-      let d : Site = record { variable = 0; location = 0; index = 0; previous = 0 } in
+      let d : Site = record { variable = 0; location = 0; previous = 0 } in
       let few = h.looked in
       let before = slice_get-get_or old s d (omega (arith, low, few)) in
       let is = same_entry new s (get_or old s d) site (stay s (get_or old s d) before) at in

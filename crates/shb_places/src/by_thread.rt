@@ -32,7 +32,7 @@ pub struct Step {
 }
 
 /// The accesses so far of the variables that are followed: for each variable its newest entry, for each
-/// entry its newest step.
+/// entry its newest step. And which of its variable's sites each site is, and how many each variable has.
 #[derive(Drop)]
 pub struct ByThread {
     pub followed: Vec<bool>,
@@ -40,6 +40,8 @@ pub struct ByThread {
     pub entries: Vec<Entry>,
     pub newest: Vec<u32>,
     pub steps: Vec<Step>,
+    pub indexes: Vec<u32>,
+    pub counts: Vec<u32>,
     pub hints: Hints,
 }
 
@@ -85,6 +87,24 @@ fn add_step(
     Ok(k)
 }
 
+/// Which of the sites of a variable a site is, where these are counted as they come.
+fn index_in(
+    indexes: &mut Vec<u32>,
+    counts: &mut Vec<u32>,
+    s: u32,
+    x: u32,
+) -> Result<u32, NoMemory> {
+    make_room(indexes, s)?;
+    make_room(counts, x)?;
+    if indexes[s as usize] == NONE {
+        let count = counts[x as usize];
+        let index = if count == NONE { 0 } else { count };
+        indexes[s as usize] = index;
+        counts[x as usize] = index.saturating_add(1);
+    }
+    Ok(indexes[s as usize])
+}
+
 /// Whether accesses of an entry can race with an access: of another thread, and one of the two writes.
 pub fn is_rival(entry: Entry, access: Access) -> bool
     ensures { IsTrue result ↔ ((entry.thread ≢ access.thread) × ((entry.writes ≡ true) ⊎ (access.writes ≡ true))) }
@@ -103,6 +123,8 @@ impl ByThread {
             entries: Vec::new(alloc),
             newest: Vec::new(alloc),
             steps: Vec::new(alloc),
+            indexes: Vec::new(alloc),
+            counts: Vec::new(alloc),
             hints: Hints::new(alloc),
         }
     }
@@ -114,6 +136,14 @@ impl ByThread {
         match self.followed.get(x as usize) {
             Some(followed) => *followed,
             None => false,
+        }
+    }
+
+    /// How many sites of a variable have been counted.
+    pub fn count_of(&self, x: u32) -> u32 {
+        match self.counts.get(x as usize) {
+            Some(count) if *count != NONE => *count,
+            _ => 0,
         }
     }
 
@@ -192,12 +222,12 @@ impl ByThread {
         Ok(())
     }
 
-    /// Adds an access, if its variable is followed.
+    /// Adds an access at the site `s`, if its variable is followed.
     ///
     /// # Errors
     ///
     /// `NoMemory` where a growth was refused.
-    pub fn add(&mut self, alloc: Global, access: Access, index: u32) -> Result<(), NoMemory>
+    pub fn add(&mut self, alloc: Global, access: Access, s: u32) -> Result<(), NoMemory>
         requires as_many { length self.old.newest.items ≡ length self.old.entries.items }
         ensures followed { self.new.followed ≡ self.old.followed }
         ensures passed { (trace : TraceData) → AreByThread trace (thread_tables self.old) access.event → IsAccess trace access
@@ -206,6 +236,7 @@ impl ByThread {
         if !self.follows(access.variable) {
             return Ok(());
         }
+        let index = index_in(&mut self.indexes, &mut self.counts, s, access.variable)?;
         make_room(&mut self.heads, access.variable)?;
         self.put(alloc, access, index)
     }

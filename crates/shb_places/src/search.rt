@@ -248,14 +248,6 @@ impl Search {
         })
     }
 
-    /// How many marks a site of a variable needs: one for each site of the variable, if it is followed.
-    fn marks_for(&self, x: u32) -> u32 {
-        if !self.by_thread.follows(x) {
-            return 0;
-        }
-        self.sites.count_to(self.sites.newest_of(x))
-    }
-
     /// Asks the sites of the list of a site.
     fn ask_by_list<O: Order>(
         &mut self,
@@ -276,7 +268,7 @@ impl Search {
             → IsAskable ordered.now.trace.now.trace.now self.old.sites self.old.notes self.old.by_thread self.old.wanted self.old.found access
             → OnOk result (IsAskedBy ordered.now.trace.now.trace.now self.old.sites self.old.notes self.new.wanted self.old.found self.new.found access) }
     {
-        let count = self.marks_for(access.variable);
+        let count = self.by_thread.count_of(access.variable);
         let k = self.wanted.number_of(alloc, s)?;
         let list = &mut self.wanted.lists[k as usize];
         look(list, &self.sites, &self.found, access)?;
@@ -375,8 +367,7 @@ impl Search {
         self.ask(alloc, ordered, s, is_new, access)?;
         let local = ordered.links.local(access.event);
         self.notes.add(alloc, s, access, local)?;
-        let index = self.sites.index_of(s);
-        self.by_thread.add(alloc, access, index)
+        self.by_thread.add(alloc, access, s)
     }
 
     /// Takes an event.

@@ -11,13 +11,11 @@ use std::alloc::Global;
 /// So many of the newest sites of a variable are looked at before the hints.
 const NEAR: u32 = 8;
 
-/// A variable, a location of accesses of it, how many sites the variable had before, and the number of the
-/// newest of these.
+/// A variable, a location of accesses of it, and the number of the site of the variable before it.
 #[derive(Clone, Copy)]
 pub struct Site {
     pub variable: u32,
     pub location: u32,
-    pub index: u32,
     pub previous: u32,
 }
 
@@ -101,22 +99,6 @@ impl Sites {
         }
     }
 
-    /// How many sites the variable of a site had before it; 0 where there is no site of this number.
-    pub fn index_of(&self, s: u32) -> u32 {
-        match self.sites.get(s as usize) {
-            Some(site) => site.index,
-            None => 0,
-        }
-    }
-
-    /// How many sites a variable has up to one of them; 0 where there is no site of this number.
-    pub fn count_to(&self, s: u32) -> u32 {
-        match self.sites.get(s as usize) {
-            Some(site) => site.index.saturating_add(1),
-            None => 0,
-        }
-    }
-
     /// The site of a variable and a location that was noted under a hash.
     fn noted(&self, variable: u32, location: u32) -> Option<u32>
         ensures { IfSome result (IsSite self.now.sites.items variable location) }
@@ -140,11 +122,9 @@ impl Sites {
     {
         let s = next_number(self.sites.len())?;
         let previous = self.newest[variable as usize];
-        let index = self.count_to(previous);
         self.sites.push(Site {
             variable,
             location,
-            index,
             previous,
         })?;
         self.newest[variable as usize] = s;

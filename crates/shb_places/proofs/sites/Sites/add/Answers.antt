@@ -10,7 +10,7 @@ pub returns-clause-more : goal.returns-clause-more
 returns-clause-more c =
     let newest = c.args.self.now.newest.items in
     let sites = c.args.self.now.sites.items in
-    let last : Site = record { variable = c.args.variable; location = c.args.location; index = c.count_to-index.result; previous = c.index-previous.result.now } in
+    let last : Site = record { variable = c.args.variable; location = c.args.location; previous = c.index-previous.result.now } in
     let e = site_added newest sites last (slice_get_read newest (length newest) c.args.variable c.index-previous.result.now refl c.requires c.index-previous.ensures) in
     let more : AreMore newest sites (set newest c.args.variable (length sites)) c.push.new.self.items = subst (λ (all : List Site). AreMore newest sites (set newest c.args.variable (length sites)) all) (sym c.in_ok-push.ensures.items) e in
     subst (λ (k : ℕ). AreMore newest sites (set newest c.args.variable k) c.push.new.self.items) (sym (c.in_ok-s.ensures.0 ∙ (c.len.ensures ∙ c.args.self.now.sites.ok.0))) more
