@@ -4,11 +4,14 @@ pub mod FoundLemmas
 mod KeyOrder
 mod LeadMembers
 pub mod Lists
+pub mod MarkLemmas
 pub mod NoteLemmas
 mod RacesByNumber
 pub mod SearchLemmas
 pub mod SiteLemmas
 mod SortedEntries
 pub mod StepLemmas
+pub mod StepTables
 pub mod TakeLemmas
+pub mod WalkLemmas
 pub mod WantedLemmas

@@ -37,7 +37,7 @@ noted_in trace sites notes s i n site kept at_site noted =
     let same = same_entry sites s f.site site f.at_site at_site in
     (subst (λ (k : Site). variable_at trace.events i ≡ Some k.variable) same f.access.variable, subst (λ (k : Site). location_at trace i ≡ location_at trace k.location) same f.access.location)
 
-race_variable : (trace : TraceData) (i x : ℕ) (access : Access) → IsAccess trace access → variable_at trace.events i ≡ Some x → Race trace.events i access.event → x ≡ access.variable
+pub race_variable : (trace : TraceData) (i x : ℕ) (access : Access) → IsAccess trace access → variable_at trace.events i ≡ Some x → Race trace.events i access.event → x ≡ access.variable
 race_variable trace i x access own of_i race =
     let a : Some x ≡ Some race.conflict.variable = sym of_i ∙ race.conflict.first_accesses in
     let b : Some race.conflict.variable ≡ Some access.variable = sym race.conflict.second_accesses ∙ own.variable in

@@ -94,8 +94,8 @@ fn add_link(links: &mut Vec<Link>, event: u32, previous: u32) -> Result<u32, NoM
     Ok(k)
 }
 
-/// Sees that a site has a newest class, or `NONE`.
-fn make_room(heads: &mut Vec<u32>, s: u32) -> Result<(), NoMemory>
+/// Sees that a table of numbers has one at `s`, where `NONE` stands for no number.
+pub fn make_room(heads: &mut Vec<u32>, s: u32) -> Result<(), NoMemory>
     ensures more { OnOk result ((more : List ℕ) × (heads.new.items ≡ heads.old.items ++ more)) }
     ensures room { OnOk result (s < length heads.new.items) }
 {

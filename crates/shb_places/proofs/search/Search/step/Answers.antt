@@ -7,7 +7,7 @@ pub returns-in_default : goal.returns-in_default
 returns-in_default g c =
     let trace = c.args.ordered.now.trace.now in
     let own = c.args.self.now in
-    passed_other trace.trace.now c.args.flags.now own.sites own.notes own.wanted own.found c.args.e c.requires.settled
+    passed_other trace.trace.now c.args.flags.now own.sites own.notes own.by_thread own.wanted own.found c.args.e c.requires.settled
     (shut_none trace.trace.now trace.events.now _ c.args.e c.args.flags.now trace.of_trace c.op-op.ensures (sym c.variable.ensures ∙ c.in_default.is))
     c.requires.searched
 
@@ -15,7 +15,7 @@ pub returns-then-not-is_open : goal.returns-then-not-is_open
 returns-then-not-is_open g c =
     let trace = c.args.ordered.now.trace.now in
     let own = c.args.self.now in
-    passed_other trace.trace.now c.args.flags.now own.sites own.notes own.wanted own.found c.args.e c.requires.settled
+    passed_other trace.trace.now c.args.flags.now own.sites own.notes own.by_thread own.wanted own.found c.args.e c.requires.settled
     (shut_known trace.trace.now trace.events.now _ c.args.e c.in-Some.variable c.args.flags.now trace.of_trace c.op-op.ensures c.in-Some.ensures (sym c.is_open.ensures ∙ c.if-not-is_open.true))
     c.requires.searched
 
