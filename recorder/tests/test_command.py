@@ -129,13 +129,29 @@ class Command(recorder.Case):
         status, _, said = self.record("sh", "-c", "true")
         self.assertEqual((status, "neither it nor a program that it started was compiled" in said), (125, True))
 
-    def test_clang_in_one_step(self):
+    def flags_of_clang(self):
         if not shutil.which("clang"):
             self.skipTest("clang isn't installed")
         help = self.record("--help")[1]
-        flags = re.search(r"link with (-fno-sanitize-link-runtime -L\S+ -ltsan)\.", help)[1].split()
-        status, _, said = self.record(self.program("status.c", *flags, compiler="clang"), "0", "race")
+        return re.search(r"link with (-fno-sanitize-link-runtime -L\S+ -ltsan)\.", help)[1].split()
+
+    def test_clang_in_one_step(self):
+        status, _, said = self.record(self.program("status.c", *self.flags_of_clang(), compiler="clang"), "0", "race")
         self.assertEqual(status, 66, said)
+
+    def check_options(self, *options, compiler):
+        """A program that is built with further options calls further names of the library."""
+        for option in options:
+            status, _, said = self.record(self.program("status.c", *option, compiler=compiler), "0", "race")
+            self.assertEqual(status, 66, said)
+
+    def test_further_options_of_gcc(self):
+        self.check_options(["-fsanitize-coverage=trace-cmp"], ["-fsanitize=undefined"], compiler="gcc")
+
+    def test_further_options_of_clang(self):
+        flags, coverage = self.flags_of_clang(), "trace-pc-guard,trace-cmp,trace-div,trace-gep,indirect-calls,stack-depth"
+        self.check_options([f"-fsanitize-coverage={coverage}", *flags], ["-mllvm", "-tsan-distinguish-volatile", *flags],
+                           compiler="clang")
 
     def test_every_process(self):
         program = self.program()
