@@ -161,6 +161,20 @@ class Command(recorder.Case):
         self.assertEqual(sorted(found), ["1 race", "2 race"])
         self.assertIn("1 place with races; the program's own status: 2;", said)
 
+    def test_make_check(self):
+        """A make that runs test programs side by side: each is a process of its own with its command line."""
+        self.program()
+        self.program("atomic_plain.c")
+        (self.folder / "Makefile").write_text("check: one two three\none:\n\t./status 0 race\n"
+                                              "two:\n\t./status 0\nthree:\n\t./atomic_plain\n")
+        status, out, said = self.record("make", "-j2", "check")
+        self.assertEqual((status, out.count("said by the program")), (66, 2), said)
+        found = re.findall(r"(?m)^shb-record: run 1, process \d+ \((.*)\): .*; (\d+) places? with races$", said)
+        self.assertEqual(sorted(found), [("./atomic_plain", "1"), ("./status 0 race", "1")])
+        self.assertIn("shb-record: 2 places with races; the program's own status: 0;", said)
+        self.assertEqual(self.names("make.shb"), ["places.tsv", *["run1.N.html"] * 2, *["run1.N.report"] * 2, *["run1.N.std"] * 2,
+                                                  "unknown.places"])
+
     def test_a_daemon_is_waited_for(self):
         status, out, said = self.record(self.program("daemon.c"))
         self.assertEqual((status, out), (66, "done\n"), said)
