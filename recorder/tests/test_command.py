@@ -129,6 +129,13 @@ class Command(recorder.Case):
         status, _, said = self.record("sh", "-c", "true")
         self.assertEqual((status, "neither it nor a program that it started was compiled" in said), (125, True))
 
+    def test_clang_with_a_library_of_its_own(self):
+        """What gcc takes, -B, has clang link ThreadSanitizer's library all the same."""
+        if not shutil.which("clang"):
+            self.skipTest("clang isn't installed")
+        status, _, said = self.record(self.program("status.c", f"-B{recorder.BUILT}/lib/", compiler="clang"), "0")
+        self.assertEqual((status, "ThreadSanitizer's own library is linked into it" in said), (125, True), said)
+
     def flags_of_clang(self):
         if not shutil.which("clang"):
             self.skipTest("clang isn't installed")
@@ -160,6 +167,14 @@ class Command(recorder.Case):
         found = re.findall(r"(?m)^shb-record: run 1, process \d+ \(\S+/status (.*)\): .*; 1 place with races$", said)
         self.assertEqual(sorted(found), ["1 race", "2 race"])
         self.assertIn("1 place with races; the program's own status: 2;", said)
+
+    def test_a_pipeline(self):
+        """Its processes run at one time, and none takes the record of another."""
+        program = self.program()
+        status, _, said = self.record("sh", "-c", f"{program} 1 race | {program} 2 race")
+        self.assertEqual(status, 66)
+        found = re.findall(r"(?m)^shb-record: run 1, process \d+ \(\S+/status (.*)\): .*; 1 place with races$", said)
+        self.assertEqual(sorted(found), ["1 race", "2 race"])
 
     def test_make_check(self):
         """A make that runs test programs side by side: each is a process of its own with its command line."""
