@@ -9,6 +9,7 @@ typedef struct { u32 version, giver, locked; } gift;
 
 typedef struct {
     u64 at;
+    const char *mark;                  /* before the versions in its names */
     u32 block, user;                   /* the block's number; the first thread that used it, plus one */
     u32 holder, depth;                 /* of a lock: the thread that took it, plus one, and how often */
     u32 version, head;                 /* how often it gave something; the number of the lock of its updates */
@@ -31,11 +32,14 @@ static u64 seen_count, seen_capacity, noted_capacity;
 static u32 *version_readers;           /* for object and version: the list of those who will read it */
 static u64 version_count, version_capacity;
 
-static object *object_at(u64 address) {
-    u32 block = block_number(block_at(address)), number = map_number(&object_map, address, block);
+/* A program's own lock may have an atomic and what is told of it at one address: these are two objects. */
+static object *object_of(u64 i) {
+    u64 at = address_of(i), of_atomic = (u64)is_atomic(i) << 63, of_other = ~of_atomic & 1ull << 63;
+    u32 block = block_number(block_at(at)), number = map_number(&object_map, at | of_atomic, block);
     if (number > object_count) {
+        const char *mark = map_find(&object_map, at | of_other, block) ? "@@" : "@";
         GROW(objects, object_count, object_capacity);
-        objects[object_count++] = (object){.at = address, .block = block};
+        objects[object_count++] = (object){.at = at, .mark = mark, .block = block};
     }
     return &objects[number - 1];
 }
@@ -184,7 +188,7 @@ static void share_lock(object *o, u32 t, enum operation operation) {
 void share_object(u64 i) {
     u32 t = thread_of(i);
     enum operation operation = operation_of(i);
-    object *o = object_at(address_of(i));
+    object *o = object_of(i);
     if (!o->user) o->user = t + 1;
     if (o->user != t + 1) o->many_users = 1;
     switch (operation) {
@@ -293,33 +297,33 @@ static void pass_lock(object *o, u32 t, const char *tail, u64 caller) {
     lock_event(o, t, "rel", tail, caller);
 }
 
-/* Locks of the object's own: "X@3"; "X@3>T2" (passed to T2), "X@3<T2" (passed by T2). */
-static const char *tail(u32 version) {
+/* Locks of the object's own: "X@3"; "X@3>T2" (passed to T2), "X@3<T2" (passed by T2); "X@@3" of a second one at an address. */
+static const char *tail(const object *o, u32 version) {
     static char text[20];
-    snprintf(text, sizeof text, "@%u", version);
+    snprintf(text, sizeof text, "%s%u", o->mark, version);
     return text;
 }
 
-static const char *thread_tail(u32 version, char sign, u32 t) {
+static const char *thread_tail(const object *o, u32 version, char sign, u32 t) {
     static char text[120];
-    snprintf(text, sizeof text, "@%u%c%s", version, sign, thread_name(t));
+    snprintf(text, sizeof text, "%s%u%c%s", o->mark, version, sign, thread_name(t));
     return text;
 }
 
 static void publish_version(object *o, u32 t, u32 version, u64 caller) {
     u32 number = map_find(&version_map, o - objects, version);
     for (u32 k = number ? version_readers[number - 1] : 0; k; k = list_entries[k - 1].next)
-        pass_lock(o, t, thread_tail(version, '>', list_entries[k - 1].thread), caller);
+        pass_lock(o, t, thread_tail(o, version, '>', list_entries[k - 1].thread), caller);
 }
 
 static void publish(object *o, u32 t, u64 caller) { publish_version(o, t, o->version, caller); }
 
 static void receive(object *o, u32 t, u64 caller) {
-    if (sees_version(o, t)) pass_lock(o, t, thread_tail(o->version, '>', t), caller);
+    if (sees_version(o, t)) pass_lock(o, t, thread_tail(o, o->version, '>', t), caller);
 }
 
 static void take_version(object *o, u32 version, u32 t, u64 caller) {
-    pass_lock(o, t, thread_tail(version, '>', t), caller);
+    pass_lock(o, t, thread_tail(o, version, '>', t), caller);
 }
 
 void fence_events(u64 i) { pass_fence(i, take_version); }
@@ -332,40 +336,40 @@ static void atomic_events(u64 i, object *o) {
     int by_lock = is_by_lock(i) || (stores && gives(i));
     if (!stores) read_value(i, o, by_lock, take_version);
     if (!loads) write_value(i, o);
-    if (by_lock) lock_event(o, t, "acq", tail(o->head), caller);
+    if (by_lock) lock_event(o, t, "acq", tail(o, o->head), caller);
     access_events(i);
-    if (by_lock) lock_event(o, t, "rel", tail(o->head), caller);
+    if (by_lock) lock_event(o, t, "rel", tail(o, o->head), caller);
     if (!loads && gives(i)) publish(o, t, caller);
 }
 
 static void write_lock_events(object *o, u32 t, u64 caller) {
-    pass_lock(o, t, tail(o->version), caller);
-    for (u64 k = 0; k < o->waiter_count; k++) pass_lock(o, t, thread_tail(o->version, '<', o->waiters[k]), caller);
+    pass_lock(o, t, tail(o, o->version), caller);
+    for (u64 k = 0; k < o->waiter_count; k++) pass_lock(o, t, thread_tail(o, o->version, '<', o->waiters[k]), caller);
     o->waiter_count = 0;
     o->holder = t + 1;
 }
 
 static void rw_unlock_events(object *o, u32 t, u64 caller) {
     if (o->holder != t + 1) {          /* a reader */
-        pass_lock(o, t, thread_tail(o->version, '<', t), caller);
+        pass_lock(o, t, thread_tail(o, o->version, '<', t), caller);
         add_waiter(o, t);
         return;
     }
     o->holder = 0;
     new_version(o, t);
-    pass_lock(o, t, tail(o->version), caller);
+    pass_lock(o, t, tail(o, o->version), caller);
     publish(o, t, caller);
 }
 
 static void post_events(object *o, u32 t, u64 caller) {
     o->posts++;
     for (u64 k = 0; k < o->waiter_count; k++)
-        if (o->waiters[k] != t) pass_lock(o, t, thread_tail(o->posts, '>', o->waiters[k]), caller);
+        if (o->waiters[k] != t) pass_lock(o, t, thread_tail(o, o->posts, '>', o->waiters[k]), caller);
 }
 
 static void wait_events(object *o, u32 t, u64 caller) {
     u32 *last = seen_by(o, t);
-    for (u32 k = *last + 1; k <= o->posts && !cut_reason; k++) pass_lock(o, t, thread_tail(k, '>', t), caller);
+    for (u32 k = *last + 1; k <= o->posts && !cut_reason; k++) pass_lock(o, t, thread_tail(o, k, '>', t), caller);
     *last = o->posts;
 }
 
@@ -374,7 +378,7 @@ static void arrive_events(object *o, u32 t, u64 caller) {    /* rounds are told 
     u32 round = has_rounds ? o->arrivals / o->count : 0;
     o->arrivals++;
     *seen_by(o, t) = round;
-    pass_lock(o, t, tail(round), caller);
+    pass_lock(o, t, tail(o, round), caller);
 }
 
 static void order_events(u64 i, object *o) {
@@ -391,14 +395,14 @@ static void order_events(u64 i, object *o) {
     case OP_POST: post_events(o, t, caller); break;
     case OP_WAIT: wait_events(o, t, caller); break;
     case OP_ARRIVE: arrive_events(o, t, caller); break;
-    case OP_DEPART: pass_lock(o, t, tail(*seen_by(o, t)), caller); break;
+    case OP_DEPART: pass_lock(o, t, tail(o, *seen_by(o, t)), caller); break;
     case OP_ATOMIC_LOAD: case OP_ATOMIC_STORE: case OP_ATOMIC_UPDATE: atomic_events(i, o); break;
     default: break;
     }
 }
 
 void object_events(u64 i) {
-    object *o = object_at(address_of(i));
+    object *o = object_of(i);
     int orders = o->many_users || whole_trace;
     holds_before(i, o, !orders);
     if (!is_atomic(i) || !orders) access_events(i);

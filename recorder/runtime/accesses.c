@@ -35,7 +35,11 @@ static void note_write(void *p, uint64_t size, uint64_t caller) {
 #define ACCESSES(kind, n) \
     PUBLIC void __tsan_##kind##read##n(void *p) { note_read(p, n, CALLER); } \
     PUBLIC void __tsan_##kind##write##n(void *p) { note_write(p, n, CALLER); }
-#define ACCESSES_OF(n) ACCESSES(, n) ACCESSES(volatile_, n) ACCESSES(unaligned_, n)
+#define ACCESSES_AT(n) \
+    PUBLIC void __tsan_read##n##_pc(void *p, void *at) { note_read(p, n, (uint64_t)at); } \
+    PUBLIC void __tsan_write##n##_pc(void *p, void *at) { note_write(p, n, (uint64_t)at); }
+#define ACCESSES_OF(n) \
+    ACCESSES(, n) ACCESSES(volatile_, n) ACCESSES(unaligned_, n) ACCESSES(unaligned_volatile_, n) ACCESSES_AT(n)
 ACCESSES_OF(1)
 ACCESSES_OF(2)
 ACCESSES_OF(4)
@@ -44,6 +48,8 @@ ACCESSES_OF(16)
 
 PUBLIC void __tsan_read_range(void *p, unsigned long size) { note_read(p, size, CALLER); }
 PUBLIC void __tsan_write_range(void *p, unsigned long size) { note_write(p, size, CALLER); }
+PUBLIC void __tsan_read_range_pc(void *p, unsigned long size, void *at) { note_read(p, size, (uint64_t)at); }
+PUBLIC void __tsan_write_range_pc(void *p, unsigned long size, void *at) { note_write(p, size, (uint64_t)at); }
 PUBLIC void __tsan_vptr_read(void **p) { note_read(p, 8, CALLER); }
 PUBLIC void __tsan_vptr_update(void **p, void *value) { if (*p != value) note_write(p, 8, CALLER); }
 static void forget_write(void) { if (self) self->written = 0; }
@@ -51,6 +57,26 @@ PUBLIC void __tsan_func_entry(void *caller) { forget_write(); }
 PUBLIC void __tsan_func_exit(void) { forget_write(); }
 PUBLIC void __tsan_ignore_thread_begin(void) {}
 PUBLIC void __tsan_ignore_thread_end(void) {}
+
+/* A program may have these do an access that isn't aligned. */
+#define UNALIGNED(bits) \
+    typedef uint##bits##_t __attribute__((aligned(1))) unaligned##bits; \
+    PUBLIC uint##bits##_t __sanitizer_unaligned_load##bits(const void *p) { \
+        note_read(p, bits / 8, CALLER); \
+        return *(const volatile unaligned##bits *)p; \
+    } \
+    PUBLIC void __sanitizer_unaligned_store##bits(void *p, uint##bits##_t value) { \
+        note_write(p, bits / 8, CALLER); \
+        *(volatile unaligned##bits *)p = value; \
+    }
+UNALIGNED(16)
+UNALIGNED(32)
+UNALIGNED(64)
+
+/* A library that isn't instrumented tells how its object is used: an access of the first byte, by the one who called it. */
+static uint64_t user_of(void *user, uint64_t caller) { return user ? (uint64_t)user : caller; }
+PUBLIC void __tsan_external_read(void *p, void *user, void *tag) { note_read(p, 1, user_of(user, CALLER)); }
+PUBLIC void __tsan_external_write(void *p, void *user, void *tag) { note_write(p, 1, user_of(user, CALLER)); }
 
 /* ---- atomic operations: done here under the turn, and in the strongest order; the record has the one asked for ---- */
 static uint64_t size_and_order(int size, int order) { return size | (order & 7) << ATOMIC_SIZE_BITS; }

@@ -1,6 +1,7 @@
 /* What a program tells ThreadSanitizer of itself, by the names of its library: so each program that was built for it runs.
    What orders threads is recorded; what asks for silence (benign races, accesses to be ignored) is not followed. */
 #include <stdlib.h>
+#include <string.h>
 #include "runtime.h"
 
 /* ---- order ---- */
@@ -10,6 +11,14 @@ PUBLIC void AnnotateHappensBefore(const char *file, int line, const volatile voi
 PUBLIC void AnnotateHappensAfter(const char *file, int line, const volatile void *p) { note(OP_WAIT, p, CALLER); }
 PUBLIC void WTFAnnotateHappensBefore(const char *file, int line, const volatile void *p) { note(OP_POST, p, CALLER); }
 PUBLIC void WTFAnnotateHappensAfter(const char *file, int line, const volatile void *p) { note(OP_WAIT, p, CALLER); }
+
+/* New variables, at an address of the program's own. */
+static void note_object(void *p, size_t size, uint64_t caller) {
+    thread *t = enter(NEVER_YIELD);
+    if (!t) return;
+    put(t, OP_ALLOC, p, size ? size : 1, caller);
+    leave(t);
+}
 
 /* ---- locks that the program makes itself, each as a reader-writer lock ---- */
 enum { READ_LOCK = 1 << 3, TRY_FAILED = 1 << 5 };            /* of the flags */
@@ -31,6 +40,22 @@ PUBLIC int __tsan_mutex_pre_unlock(void *lock, unsigned flags) {
     note(OP_RW_UNLOCK, lock, CALLER);
     return 1;                          /* how often it was held */
 }
+
+/* ---- a virtual machine of Java: objects and locks of its own, by their addresses ---- */
+PUBLIC void __tsan_java_alloc(void *p, size_t size) { note_object(p, size, CALLER); }
+PUBLIC void __tsan_java_move(void *from, void *to, size_t size) { note_object(to, size, CALLER); }
+PUBLIC void __tsan_java_mutex_lock(void *lock) { note_taken(lock, 1, CALLER); }
+PUBLIC void __tsan_java_mutex_lock_rec(void *lock, int depth) { note_taken(lock, 1, CALLER); }
+PUBLIC void __tsan_java_mutex_read_lock(void *lock) { note_taken(lock, 0, CALLER); }
+PUBLIC void __tsan_java_mutex_unlock(void *lock) { note(OP_RW_UNLOCK, lock, CALLER); }
+PUBLIC void __tsan_java_mutex_read_unlock(void *lock) { note(OP_RW_UNLOCK, lock, CALLER); }
+PUBLIC int __tsan_java_mutex_unlock_rec(void *lock) {
+    note(OP_RW_UNLOCK, lock, CALLER);
+    return 1;                          /* how often it was held */
+}
+PUBLIC void __tsan_java_acquire(void *p) { note(OP_WAIT, p, CALLER); }
+PUBLIC void __tsan_java_release(void *p) { note(OP_POST, p, CALLER); }
+PUBLIC void __tsan_java_release_store(void *p) { note(OP_POST, p, CALLER); }
 
 /* ---- fibers: a switch gives what was done before, and the switch to the same fiber takes it ---- */
 enum { NO_ORDER = 1 };
@@ -104,3 +129,4 @@ PUBLIC void *__tsan_external_register_tag(const char *name) { return 0; }
 /* By the first the OpenMP run-time's archer sees that somebody listens; it then tells the order as above. */
 PUBLIC int RunningOnValgrind(void) { return 0; }
 PUBLIC double ValgrindSlowdown(void) { return 10; }
+PUBLIC const char *ThreadSanitizerQuery(const char *what) { return strcmp(what, "pure_happens_before") ? "0" : "1"; }

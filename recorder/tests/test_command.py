@@ -129,13 +129,36 @@ class Command(recorder.Case):
         status, _, said = self.record("sh", "-c", "true")
         self.assertEqual((status, "neither it nor a program that it started was compiled" in said), (125, True))
 
-    def test_clang_in_one_step(self):
+    def test_clang_with_a_library_of_its_own(self):
+        """What gcc takes, -B, has clang link ThreadSanitizer's library all the same."""
+        if not shutil.which("clang"):
+            self.skipTest("clang isn't installed")
+        status, _, said = self.record(self.program("status.c", f"-B{recorder.BUILT}/lib/", compiler="clang"), "0")
+        self.assertEqual((status, "ThreadSanitizer's own library is linked into it" in said), (125, True), said)
+
+    def flags_of_clang(self):
         if not shutil.which("clang"):
             self.skipTest("clang isn't installed")
         help = self.record("--help")[1]
-        flags = re.search(r"link with (-fno-sanitize-link-runtime -L\S+ -ltsan)\.", help)[1].split()
-        status, _, said = self.record(self.program("status.c", *flags, compiler="clang"), "0", "race")
+        return re.search(r"link with (-fno-sanitize-link-runtime -L\S+ -ltsan)\.", help)[1].split()
+
+    def test_clang_in_one_step(self):
+        status, _, said = self.record(self.program("status.c", *self.flags_of_clang(), compiler="clang"), "0", "race")
         self.assertEqual(status, 66, said)
+
+    def check_options(self, *options, compiler):
+        """A program that is built with further options calls further names of the library."""
+        for option in options:
+            status, _, said = self.record(self.program("status.c", *option, compiler=compiler), "0", "race")
+            self.assertEqual(status, 66, said)
+
+    def test_further_options_of_gcc(self):
+        self.check_options(["-fsanitize-coverage=trace-cmp"], ["-fsanitize=undefined"], compiler="gcc")
+
+    def test_further_options_of_clang(self):
+        flags, coverage = self.flags_of_clang(), "trace-pc-guard,trace-cmp,trace-div,trace-gep,indirect-calls,stack-depth"
+        self.check_options([f"-fsanitize-coverage={coverage}", *flags], ["-mllvm", "-tsan-distinguish-volatile", *flags],
+                           compiler="clang")
 
     def test_every_process(self):
         program = self.program()
@@ -144,6 +167,28 @@ class Command(recorder.Case):
         found = re.findall(r"(?m)^shb-record: run 1, process \d+ \(\S+/status (.*)\): .*; 1 place with races$", said)
         self.assertEqual(sorted(found), ["1 race", "2 race"])
         self.assertIn("1 place with races; the program's own status: 2;", said)
+
+    def test_a_pipeline(self):
+        """Its processes run at one time, and none takes the record of another."""
+        program = self.program()
+        status, _, said = self.record("sh", "-c", f"{program} 1 race | {program} 2 race")
+        self.assertEqual(status, 66)
+        found = re.findall(r"(?m)^shb-record: run 1, process \d+ \(\S+/status (.*)\): .*; 1 place with races$", said)
+        self.assertEqual(sorted(found), ["1 race", "2 race"])
+
+    def test_make_check(self):
+        """A make that runs test programs side by side: each is a process of its own with its command line."""
+        self.program()
+        self.program("atomic_plain.c")
+        (self.folder / "Makefile").write_text("check: one two three\none:\n\t./status 0 race\n"
+                                              "two:\n\t./status 0\nthree:\n\t./atomic_plain\n")
+        status, out, said = self.record("make", "-j2", "check")
+        self.assertEqual((status, out.count("said by the program")), (66, 2), said)
+        found = re.findall(r"(?m)^shb-record: run 1, process \d+ \((.*)\): .*; (\d+) places? with races$", said)
+        self.assertEqual(sorted(found), [("./atomic_plain", "1"), ("./status 0 race", "1")])
+        self.assertIn("shb-record: 2 places with races; the program's own status: 0;", said)
+        self.assertEqual(self.names("make.shb"), ["places.tsv", *["run1.N.html"] * 2, *["run1.N.report"] * 2, *["run1.N.std"] * 2,
+                                                  "unknown.places"])
 
     def test_a_daemon_is_waited_for(self):
         status, out, said = self.record(self.program("daemon.c"))

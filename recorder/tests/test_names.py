@@ -1,11 +1,37 @@
-"""Names that people read: of threads, globals, heap blocks, stacks and places."""
+"""Names that people read: of threads, globals, heap blocks, stacks and places; and those that programs are linked with."""
 
+import pathlib
 import re
 
 import recorder
 
+# What a program defines and the library calls, if it is there: nobody calls it by these names.
+FOR_PROGRAMS = re.compile("__(tsan_(default_|on_|symbolize_external|test_only_on_fork)|sancov_default_|"
+                          "sanitizer_(malloc_hook|free_hook|on_print|weak_hook_))")
+INTERFACE = re.compile("(__tsan_|__sanitizer_|__sancov_|Annotate|WTFAnnotate|RunningOnValgrind|ValgrindSlowdown|ThreadSanitizerQuery)")
+
+
+def exported(library):
+    """The names of the interface that a library has."""
+    names = recorder.must(recorder.call("nm", "-D", "--defined-only", library)).stdout.decode().split()[2::3]
+    return {name.split("@")[0] for name in names if INTERFACE.match(name)}
+
+
+def libraries_of_compilers():
+    found = recorder.call("gcc", "-print-file-name=libtsan.so").stdout.decode().strip()
+    yield from [pathlib.Path(found)] if pathlib.Path(found).is_absolute() else []
+    yield from pathlib.Path("/usr/lib").glob("llvm-14/lib/clang/*/lib/linux/libclang_rt.tsan-x86_64.so")
+
 
 class Names(recorder.Case):
+    def test_the_names_that_programs_are_linked_with(self):
+        """All but the hooks of system calls, which the README names."""
+        for library in libraries_of_compilers():
+            wanted = {name for name in exported(library)
+                      if not FOR_PROGRAMS.match(name) and not name.startswith("__sanitizer_syscall_")}
+            self.assertGreater(len(wanted), 200)
+            self.assertEqual(wanted - exported(recorder.BUILT / "lib" / "libtsan.so"), set(), library)
+
     def test_names(self):
         recorder.build(recorder.PROGRAMS / "names.c", "-O1", self.folder / "app")
         recorder.must(recorder.call(self.folder / "app", env=recorder.settings(self.folder / "app.rec")))

@@ -102,15 +102,20 @@ class Order(recorder.Case):
             self.assertEqual([pair for pair in pairs if pair[0] != pair[1]], [])
 
     def test_threads_change_places_after_reads_and_after_writes(self):
-        """In a loop of count++, of which a read follows each write."""
-        last = []
-        for seed in range(4):
+        """In a loop of count++, of which a read follows each write. How often they change hangs on the machine's load."""
+        last, lengths, seed = [], [], 0
+        while (len(last) < 100 or not lengths) and seed < 30:
             text, _ = self.record("loop.c", "-O1", seed)
             steps = re.findall(r"^(T\d)\.work\|(w|r)\(count\)", text, re.M)
-            last += [kind for (thread, kind), (next, _) in zip(steps, steps[1:]) if thread != next]
+            changes = [at for at in range(1, len(steps)) if steps[at - 1][0] != steps[at][0]]
+            last += [steps[at - 1][1] for at in changes]
+            lengths += [end - begin for begin, end in zip(changes, changes[1:])]
+            seed += 1
         self.assertGreater(len(last), 50)
         for kind in "rw":
             self.assertGreater(last.count(kind), len(last) / 5)
+        odd = sum(length % 2 for length in lengths)  # an even run loses no update of its own, or begins and ends inside count++
+        self.assertTrue(len(lengths) / 5 < odd < len(lengths) * 4 / 5, lengths)
 
     def test_each_thread_is_forked_once_and_before_it_starts(self):
         """Threads that fork may sleep in the system and lose the turn: each child has a number of its own all the same."""

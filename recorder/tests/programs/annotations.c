@@ -14,6 +14,7 @@ void __tsan_switch_to_fiber(void *, unsigned), __tsan_destroy_fiber(void *);
 static atomic_int lock, rwlock, ready, given;
 static long told, untold, told_rw, benign, published, in_fiber;
 static void *fiber;
+static __thread long sum;
 
 static void take(atomic_int *l) { while (atomic_exchange_explicit(l, 1, memory_order_relaxed)) sched_yield(); }
 static void give(atomic_int *l) { atomic_store_explicit(l, 0, memory_order_relaxed); }
@@ -26,6 +27,11 @@ static void count(void) {
     __tsan_mutex_pre_unlock(&lock, 0);
     give(&lock);
     __tsan_mutex_post_unlock(&lock, 0);
+    take(&rwlock);                                           /* the lock's own atomic is at its address */
+    AnnotateRWLockAcquired(__FILE__, __LINE__, &rwlock, 0);
+    sum += told_rw;
+    AnnotateRWLockReleased(__FILE__, __LINE__, &rwlock, 0);
+    give(&rwlock);
     take(&rwlock);
     AnnotateRWLockAcquired(__FILE__, __LINE__, &rwlock, 1);
     told_rw++;
@@ -42,7 +48,7 @@ static void *work(void *unused) {
     while (!atomic_load_explicit(&ready, memory_order_relaxed)) sched_yield();
     AnnotateHappensAfter(__FILE__, __LINE__, &ready);
     AnnotateIgnoreReadsBegin(__FILE__, __LINE__);
-    long sum = published;
+    sum += published;
     AnnotateIgnoreReadsEnd(__FILE__, __LINE__);
     while (!atomic_load_explicit(&given, memory_order_relaxed)) sched_yield();
     void *own = __tsan_get_current_fiber();

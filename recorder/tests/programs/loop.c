@@ -1,6 +1,6 @@
 /* A counter without a lock, in a loop: the threads may change places after its read and after its write. */
 #include <pthread.h>
-enum { STEPS = 20000 };
+enum { STEPS = 100000 };
 volatile long count;
 volatile int begun[2];                 /* each waits for the other, so that neither is through before */
 static void *work(void *me) {
