@@ -61,14 +61,14 @@ refused_of read stop error (Err e) is refusal = subst (IsRefusalOf read stop) (s
     told checking.Memory first = tt
 
 -- the fault of a refusal is the first of the text that was read
-pub refusal_first : {T : Type 0} (read : TraceData) (stop : Option LineFault) (n : ℕ) (known left : Option (List ℕ)) (error : RunError) (r : Result T RunError) → IsErrAnd r (λ e. e ≡ error)
-    → ReadsText n known left (λ text. IsReadingOf standard_limits text read stop) → IsRefusalOf read stop error → OnTrace r (λ line fault. ReadsText n known left (λ text. IsFirstFault standard_limits text line fault))
-refusal_first read stop n known left error (Ok x) is reading refusal = absurd is
-refusal_first {T} read stop n known left error (Err e) is reading refusal =
-    subst (λ (x : RunError). OnTrace {T = T} (Err x) (λ line fault. ReadsText n known left (λ text. IsFirstFault standard_limits text line fault))) (sym is) (told error refusal)
+pub refusal_first : {T : Type 0} (read : TraceData) (stop : Option LineFault) (n : ℕ) (known left : Option (List ℕ)) (before given : ℕ) (error : RunError) (r : Result T RunError) → IsErrAnd r (λ e. e ≡ error)
+    → ReadsText n known left before given (λ text. IsReadingOf standard_limits text read stop) → IsRefusalOf read stop error → OnTrace r (λ line fault. ReadsText n known left before given (λ text. IsFirstFault standard_limits text line fault))
+refusal_first read stop n known left before given error (Ok x) is reading refusal = absurd is
+refusal_first {T} read stop n known left before given error (Err e) is reading refusal =
+    subst (λ (x : RunError). OnTrace {T = T} (Err x) (λ line fault. ReadsText n known left before given (λ text. IsFirstFault standard_limits text line fault))) (sym is) (told error refusal)
   where
-    told : (error : RunError) → IsRefusalOf read stop error → OnTrace {T = T} (Err error) (λ line fault. ReadsText n known left (λ text. IsFirstFault standard_limits text line fault))
-    told (Trace line fault) refusal = reads_then n known left (λ text. IsReadingOf standard_limits text read stop) (λ text. IsFirstFault standard_limits text line fault) reading refusal
+    told : (error : RunError) → IsRefusalOf read stop error → OnTrace {T = T} (Err error) (λ line fault. ReadsText n known left before given (λ text. IsFirstFault standard_limits text line fault))
+    told (Trace line fault) refusal = reads_then n known left before given (λ text. IsReadingOf standard_limits text read stop) (λ text. IsFirstFault standard_limits text line fault) reading refusal
     told Source refusal = tt
     told Sink refusal = tt
     told Memory refusal = tt

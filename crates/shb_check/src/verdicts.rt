@@ -50,14 +50,17 @@ pub fn check<S: Source, Q: Source, K: Sink, R: RandomSource>(
     requires sink_countable { K.failure_count sink.old < 2 ^ 64 - 1 }
 
     // The trace has no fault, the verdict is that of the two texts that were read, and its line was written.
-    ensures verdict { IfOk result (λ verdict. ReadsText most_read (S.remaining trace_source.old) (S.remaining trace_source.new) (λ text.
-        ReadsText most_read (Q.remaining report_source.old) (Q.remaining report_source.new) (λ report.
+    ensures verdict { IfOk result (λ verdict. ReadsText most_read (S.remaining trace_source.old) (S.remaining trace_source.new)
+        (S.given_count trace_source.old) (S.given_count trace_source.new) (λ text.
+        ReadsText most_read (Q.remaining report_source.old) (Q.remaining report_source.new)
+        (Q.given_count report_source.old) (Q.given_count report_source.new) (λ report.
         IsChecked text report verdict))) }
     ensures line { IfOk result (λ verdict. Appends (K.taken sink.old) (K.taken sink.new) (verdict_bytes verdict)) }
 
     // A refused trace has this fault first.
     ensures refused { OnTrace result (λ line fault.
-        ReadsText most_read (S.remaining trace_source.old) (S.remaining trace_source.new) (λ text.
+        ReadsText most_read (S.remaining trace_source.old) (S.remaining trace_source.new)
+        (S.given_count trace_source.old) (S.given_count trace_source.new) (λ text.
         IsFirstFault standard_limits text line fault)) }
 
     // What is written where no verdict is. Nothing, where the trace was refused, where a source failed,
@@ -69,8 +72,10 @@ pub fn check<S: Source, Q: Source, K: Sink, R: RandomSource>(
 
     // Where the sink failed the trace has no fault, and less than the line of the verdict was written,
     // the front of it.
-    ensures cut { OnSink result (ReadsText most_read (S.remaining trace_source.old) (S.remaining trace_source.new) (λ text.
-        ReadsText most_read (Q.remaining report_source.old) (Q.remaining report_source.new) (λ report.
+    ensures cut { OnSink result (ReadsText most_read (S.remaining trace_source.old) (S.remaining trace_source.new)
+        (S.given_count trace_source.old) (S.given_count trace_source.new) (λ text.
+        ReadsText most_read (Q.remaining report_source.old) (Q.remaining report_source.new)
+        (Q.given_count report_source.old) (Q.given_count report_source.new) (λ report.
         IsLineCutShort text report (K.taken sink.old) (K.taken sink.new)))) }
 
     // What the sink took before stays as it was.

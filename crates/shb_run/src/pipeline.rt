@@ -143,11 +143,13 @@ pub fn run<S: Source, K: Sink, R: Threads + Wait + Sync + RandomSource>(
         IsReported settings.schedules text summary (K.taken sink.old) (K.taken sink.new))) }
 
     // The same, whether or not the source tells its bytes: of the text that was read.
-    ensures read { IfOk result (λ summary. ReadsText most_read (S.remaining source.old) (S.remaining source.new) (λ text.
+    ensures read { IfOk result (λ summary. ReadsText most_read (S.remaining source.old) (S.remaining source.new)
+        (S.given_count source.old) (S.given_count source.new) (λ text.
         IsReported settings.schedules text summary (K.taken sink.old) (K.taken sink.new))) }
 
     // A refused trace has this fault first.
-    ensures refused { OnTrace result (λ line fault. ReadsText most_read (S.remaining source.old) (S.remaining source.new) (λ text.
+    ensures refused { OnTrace result (λ line fault. ReadsText most_read (S.remaining source.old) (S.remaining source.new)
+        (S.given_count source.old) (S.given_count source.new) (λ text.
         IsFirstFault standard_limits text line fault)) }
 
     // What is written where no report is. Nothing, where the trace was refused or not read, and where
@@ -158,10 +160,12 @@ pub fn run<S: Source, K: Sink, R: Threads + Wait + Sync + RandomSource>(
 
     // Where the sink failed the text has no fault, and less than its report was written, the front of
     // it. Where memory was refused it is the same, with all lines before the first block, or nothing.
-    ensures cut { OnSink result (ReadsText most_read (S.remaining source.old) (S.remaining source.new) (λ text.
+    ensures cut { OnSink result (ReadsText most_read (S.remaining source.old) (S.remaining source.new)
+        (S.given_count source.old) (S.given_count source.new) (λ text.
         HasTrace text (λ trace. CutsReport settings.schedules trace (K.taken sink.old) (K.taken sink.new)))) }
     ensures memory { OnMemory result ((sink.new ≡ sink.old)
-        ⊎ ReadsText most_read (S.remaining source.old) (S.remaining source.new) (λ text.
+        ⊎ ReadsText most_read (S.remaining source.old) (S.remaining source.new)
+        (S.given_count source.old) (S.given_count source.new) (λ text.
         HasTrace text (λ trace. CutsBlocks settings.schedules trace (K.taken sink.old) (K.taken sink.new)))) }
 
     // What the sink took before stays as it was.
@@ -213,11 +217,13 @@ pub fn run_gated<
         IsReported settings.schedules text summary (K.taken sink.old) (K.taken sink.new))) }
 
     // The same, whether or not the source tells its bytes: of the text that was read.
-    ensures read { IfOk result (λ summary. ReadsText most_read (S.remaining source.old) (S.remaining source.new) (λ text.
+    ensures read { IfOk result (λ summary. ReadsText most_read (S.remaining source.old) (S.remaining source.new)
+        (S.given_count source.old) (S.given_count source.new) (λ text.
         IsReported settings.schedules text summary (K.taken sink.old) (K.taken sink.new))) }
 
     // A refused trace has this fault first.
-    ensures refused { OnTrace result (λ line fault. ReadsText most_read (S.remaining source.old) (S.remaining source.new) (λ text.
+    ensures refused { OnTrace result (λ line fault. ReadsText most_read (S.remaining source.old) (S.remaining source.new)
+        (S.given_count source.old) (S.given_count source.new) (λ text.
         IsFirstFault standard_limits text line fault)) }
 
     // What is written where no report is. Nothing, where the trace was refused or not read, and where
@@ -228,10 +234,12 @@ pub fn run_gated<
 
     // Where the sink failed the text has no fault, and less than its report was written, the front of
     // it. Where memory was refused it is the same, with all lines before the first block, or nothing.
-    ensures cut { OnSink result (ReadsText most_read (S.remaining source.old) (S.remaining source.new) (λ text.
+    ensures cut { OnSink result (ReadsText most_read (S.remaining source.old) (S.remaining source.new)
+        (S.given_count source.old) (S.given_count source.new) (λ text.
         HasTrace text (λ trace. CutsReport settings.schedules trace (K.taken sink.old) (K.taken sink.new)))) }
     ensures memory { OnMemory result ((sink.new ≡ sink.old)
-        ⊎ ReadsText most_read (S.remaining source.old) (S.remaining source.new) (λ text.
+        ⊎ ReadsText most_read (S.remaining source.old) (S.remaining source.new)
+        (S.given_count source.old) (S.given_count source.new) (λ text.
         HasTrace text (λ trace. CutsBlocks settings.schedules trace (K.taken sink.old) (K.taken sink.new)))) }
 
     // What the sink took before stays as it was.
@@ -283,11 +291,13 @@ pub(crate) fn run_task<
         IsReportedBy task.choice task.settings.schedules text summary (K.taken sink.old) (K.taken sink.new))) }
 
     // The same, whether or not the source tells its bytes: of the text that was read.
-    ensures read { IfOk result (λ summary. ReadsText most_read (S.remaining source.old) (S.remaining source.new) (λ text.
+    ensures read { IfOk result (λ summary. ReadsText most_read (S.remaining source.old) (S.remaining source.new)
+        (S.given_count source.old) (S.given_count source.new) (λ text.
         IsReportedBy task.choice task.settings.schedules text summary (K.taken sink.old) (K.taken sink.new))) }
 
     // A refused trace has this fault first.
-    ensures refused { OnTrace result (λ line fault. ReadsText most_read (S.remaining source.old) (S.remaining source.new) (λ text.
+    ensures refused { OnTrace result (λ line fault. ReadsText most_read (S.remaining source.old) (S.remaining source.new)
+        (S.given_count source.old) (S.given_count source.new) (λ text.
         IsFirstFault standard_limits text line fault)) }
 
     // What is written where no report is. Nothing, where the trace was refused or not read, and where
@@ -298,10 +308,12 @@ pub(crate) fn run_task<
 
     // Where the sink failed the text has no fault, and less than its report was written, the front of
     // it. Where memory was refused it is the same, with all lines before the first block, or nothing.
-    ensures cut { OnSink result (ReadsText most_read (S.remaining source.old) (S.remaining source.new) (λ text.
+    ensures cut { OnSink result (ReadsText most_read (S.remaining source.old) (S.remaining source.new)
+        (S.given_count source.old) (S.given_count source.new) (λ text.
         HasTrace text (λ trace. CutsReportOn (ListedBy task.choice) task.settings.schedules trace (K.taken sink.old) (K.taken sink.new)))) }
     ensures memory { OnMemory result ((sink.new ≡ sink.old)
-        ⊎ ReadsText most_read (S.remaining source.old) (S.remaining source.new) (λ text.
+        ⊎ ReadsText most_read (S.remaining source.old) (S.remaining source.new)
+        (S.given_count source.old) (S.given_count source.new) (λ text.
         HasTrace text (λ trace. CutsBlocksOn (ListedBy task.choice) task.settings.schedules trace (K.taken sink.old) (K.taken sink.new)))) }
 
     // What the sink took before stays as it was.

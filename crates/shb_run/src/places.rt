@@ -49,11 +49,13 @@ pub fn run_places<S: Source, K: Sink, R: Threads + Wait + Sync + RandomSource>(
         IsPlacesReported settings.schedules text summary (K.taken sink.old) (K.taken sink.new))) }
 
     // The same, whether or not the source tells its bytes: of the text that was read.
-    ensures read { IfOk result (λ summary. ReadsText most_read (S.remaining source.old) (S.remaining source.new) (λ text.
+    ensures read { IfOk result (λ summary. ReadsText most_read (S.remaining source.old) (S.remaining source.new)
+        (S.given_count source.old) (S.given_count source.new) (λ text.
         IsPlacesReported settings.schedules text summary (K.taken sink.old) (K.taken sink.new))) }
 
     // A refused trace has this fault first.
-    ensures refused { OnTrace result (λ line fault. ReadsText most_read (S.remaining source.old) (S.remaining source.new) (λ text.
+    ensures refused { OnTrace result (λ line fault. ReadsText most_read (S.remaining source.old) (S.remaining source.new)
+        (S.given_count source.old) (S.given_count source.new) (λ text.
         IsFirstFault standard_limits text line fault)) }
 
     // What is written where no report is. Nothing, where the trace was refused or not read, and where
@@ -64,10 +66,12 @@ pub fn run_places<S: Source, K: Sink, R: Threads + Wait + Sync + RandomSource>(
 
     // Where the sink failed the text has no fault, and less than its report was written, the front of
     // it. Where memory was refused it is the same, with all lines before the first block, or nothing.
-    ensures cut { OnSink result (ReadsText most_read (S.remaining source.old) (S.remaining source.new) (λ text.
+    ensures cut { OnSink result (ReadsText most_read (S.remaining source.old) (S.remaining source.new)
+        (S.given_count source.old) (S.given_count source.new) (λ text.
         HasTrace text (λ trace. CutsReportOn LeadingRaces settings.schedules trace (K.taken sink.old) (K.taken sink.new)))) }
     ensures memory { OnMemory result ((sink.new ≡ sink.old)
-        ⊎ ReadsText most_read (S.remaining source.old) (S.remaining source.new) (λ text.
+        ⊎ ReadsText most_read (S.remaining source.old) (S.remaining source.new)
+        (S.given_count source.old) (S.given_count source.new) (λ text.
         HasTrace text (λ trace. CutsBlocksOn LeadingRaces settings.schedules trace (K.taken sink.old) (K.taken sink.new)))) }
 
     // What the sink took before stays as it was.

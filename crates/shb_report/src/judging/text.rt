@@ -161,7 +161,8 @@ pub fn judge_report<S: Source, R: RandomSource>(
     source: &mut S,
 ) -> Result<Verdict, ReadError>
     requires countable { S.failure_count source.old < 2 ^ 64 - 1 }
-    ensures verdict { IfOk result (λ verdict. ReadsText most_read (S.remaining source.old) (S.remaining source.new) (λ text.
+    ensures verdict { IfOk result (λ verdict. ReadsText most_read (S.remaining source.old) (S.remaining source.new)
+        (S.given_count source.old) (S.given_count source.new) (λ text.
         IsVerdictFor trace.now.trace.now text verdict)) }
     ensures taken { TakesAtMost most_read (S.remaining source.old) (S.remaining source.new) }
     ensures given { S.given_count source.new ≤ S.given_count source.old + most_read }

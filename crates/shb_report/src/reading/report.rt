@@ -239,9 +239,9 @@ pub fn read_report_within<S: Source>(
     // The text that was read, all bytes of a source that tells them, is that of the report, or this is its
     // bad line. Its first bytes are gone then, up to one more than the limit.
     ensures report { IfOk result (λ report. ReadsText (limit + 1) (S.remaining source.old) (S.remaining source.new)
-        (λ text. IsReportText limit text report)) }
+        (S.given_count source.old) (S.given_count source.new) (λ text. IsReportText limit text report)) }
     ensures bad { IfBadLine result (λ n. ReadsText (limit + 1) (S.remaining source.old) (S.remaining source.new)
-        (λ text. IsBadLine limit text n)) }
+        (S.given_count source.old) (S.given_count source.new) (λ text. IsBadLine limit text n)) }
     // No more than those are gone, whatever is answered.
     ensures taken { TakesAtMost (limit + 1) (S.remaining source.old) (S.remaining source.new) }
     ensures given { S.given_count source.new ≤ S.given_count source.old + (limit + 1) }
@@ -264,9 +264,9 @@ pub fn read_report_within<S: Source>(
 pub fn read_report<S: Source>(alloc: Global, source: &mut S) -> Result<Report, ReportError>
     requires { S.failure_count source.old < 2 ^ 64 - 1 }
     ensures report { IfOk result (λ report. ReadsText most_read (S.remaining source.old) (S.remaining source.new)
-        (λ text. IsReportText most_bytes text report)) }
+        (S.given_count source.old) (S.given_count source.new) (λ text. IsReportText most_bytes text report)) }
     ensures bad { IfBadLine result (λ n. ReadsText most_read (S.remaining source.old) (S.remaining source.new)
-        (λ text. IsBadLine most_bytes text n)) }
+        (S.given_count source.old) (S.given_count source.new) (λ text. IsBadLine most_bytes text n)) }
     ensures taken { TakesAtMost most_read (S.remaining source.old) (S.remaining source.new) }
     ensures given { S.given_count source.new ≤ S.given_count source.old + most_read }
     ensures counted { IsSourceCounted (S.failure_count source.old) (S.failure_count source.new) result }

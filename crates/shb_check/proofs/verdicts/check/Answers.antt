@@ -11,11 +11,13 @@ returns-clause-verdict g c =
     let parsed = c.in_ok-parsed.parsed in
     let known = g.S.Source.remaining c.args.trace_source.now in
     let left = g.S.Source.remaining c.parse.new.source in
-    let reading : ReadsText most_read known left (λ text. IsReadingOf standard_limits text parsed.trace parsed.stop) = rw c.standard.ensures at c.in_ok-parsed.ensures.reading in
+    let before = g.S.Source.given_count c.args.trace_source.now in
+    let given = g.S.Source.given_count c.parse.new.source in
+    let reading : ReadsText most_read known left before given (λ text. IsReadingOf standard_limits text parsed.trace parsed.stop) = rw c.standard.ensures at c.in_ok-parsed.ensures.reading in
     let trace = c.in_ok-trace.trace in
     let told = g.Q.Source.remaining c.args.report_source.now in
     let after = g.Q.Source.remaining c.judge_report.new.source in
-    reads_then most_read known left _ _ reading (λ text r. reads_then most_read told after _ _ c.in_ok-verdict.ensures.verdict (λ report v.
+    reads_then most_read known left _ _ _ _ reading (λ text r. reads_then most_read told after _ _ _ _ c.in_ok-verdict.ensures.verdict (λ report v.
     (checked_of text report parsed.trace parsed.stop trace.events.now trace.trace.now c.in_ok-verdict.verdict trace.meets trace.of_trace c.in_ok-trace.ensures.accepted r v)))
 
 pub returns-in_default-clause-cut : goal.returns-in_default-clause-cut
@@ -23,11 +25,13 @@ returns-in_default-clause-cut g c =
     let parsed = c.in_ok-parsed.parsed in
     let known = g.S.Source.remaining c.args.trace_source.now in
     let left = g.S.Source.remaining c.parse.new.source in
-    let reading : ReadsText most_read known left (λ text. IsReadingOf standard_limits text parsed.trace parsed.stop) = rw c.standard.ensures at c.in_ok-parsed.ensures.reading in
+    let before = g.S.Source.given_count c.args.trace_source.now in
+    let given = g.S.Source.given_count c.parse.new.source in
+    let reading : ReadsText most_read known left before given (λ text. IsReadingOf standard_limits text parsed.trace parsed.stop) = rw c.standard.ensures at c.in_ok-parsed.ensures.reading in
     let trace = c.in_ok-trace.trace in
     let told = g.Q.Source.remaining c.args.report_source.now in
     let after = g.Q.Source.remaining c.judge_report.new.source in
-    reads_then most_read known left _ _ reading (λ text r. reads_then most_read told after _ _ c.in_ok-verdict.ensures.verdict (λ report v.
+    reads_then most_read known left _ _ _ _ reading (λ text r. reads_then most_read told after _ _ _ _ c.in_ok-verdict.ensures.verdict (λ report v.
     record {
       verdict = c.in_ok-verdict.verdict;
       checked = (checked_of text report parsed.trace parsed.stop trace.events.now trace.trace.now c.in_ok-verdict.verdict trace.meets trace.of_trace c.in_ok-trace.ensures.accepted r v);
@@ -39,48 +43,60 @@ returns-in_err-trace-clause-refused g c =
     let parsed = c.in_ok-parsed.parsed in
     let known = g.S.Source.remaining c.args.trace_source.now in
     let left = g.S.Source.remaining c.parse.new.source in
-    let reading : ReadsText most_read known left (λ text. IsReadingOf standard_limits text parsed.trace parsed.stop) = rw c.standard.ensures at c.in_ok-parsed.ensures.reading in
-    refusal_first parsed.trace parsed.stop most_read known left _ c.from_residual-in_err-trace.result c.from_residual-in_err-trace.ensures.1 reading c.in_err-trace.ensures.refused
+    let before = g.S.Source.given_count c.args.trace_source.now in
+    let given = g.S.Source.given_count c.parse.new.source in
+    let reading : ReadsText most_read known left before given (λ text. IsReadingOf standard_limits text parsed.trace parsed.stop) = rw c.standard.ensures at c.in_ok-parsed.ensures.reading in
+    refusal_first parsed.trace parsed.stop most_read known left _ _ _ c.from_residual-in_err-trace.result c.from_residual-in_err-trace.ensures.1 reading c.in_err-trace.ensures.refused
 
 pub returns-in_default-clause-silent : goal.returns-in_default-clause-silent
 returns-in_default-clause-silent g c =
     let parsed = c.in_ok-parsed.parsed in
     let known = g.S.Source.remaining c.args.trace_source.now in
     let left = g.S.Source.remaining c.parse.new.source in
-    let reading : ReadsText most_read known left (λ text. IsReadingOf standard_limits text parsed.trace parsed.stop) = rw c.standard.ensures at c.in_ok-parsed.ensures.reading in
-    none_found parsed.trace parsed.stop c.in_ok-trace.trace.trace.now known _ c.in_ok-trace.ensures.accepted (reads_told most_read known left _ reading)
+    let before = g.S.Source.given_count c.args.trace_source.now in
+    let given = g.S.Source.given_count c.parse.new.source in
+    let reading : ReadsText most_read known left before given (λ text. IsReadingOf standard_limits text parsed.trace parsed.stop) = rw c.standard.ensures at c.in_ok-parsed.ensures.reading in
+    none_found parsed.trace parsed.stop c.in_ok-trace.trace.trace.now known _ c.in_ok-trace.ensures.accepted (reads_told most_read known left _ _ _ reading)
 
 pub returns-clause-silent : goal.returns-clause-silent
 returns-clause-silent g c =
     let parsed = c.in_ok-parsed.parsed in
     let known = g.S.Source.remaining c.args.trace_source.now in
     let left = g.S.Source.remaining c.parse.new.source in
-    let reading : ReadsText most_read known left (λ text. IsReadingOf standard_limits text parsed.trace parsed.stop) = rw c.standard.ensures at c.in_ok-parsed.ensures.reading in
-    none_found parsed.trace parsed.stop c.in_ok-trace.trace.trace.now known _ c.in_ok-trace.ensures.accepted (reads_told most_read known left _ reading)
+    let before = g.S.Source.given_count c.args.trace_source.now in
+    let given = g.S.Source.given_count c.parse.new.source in
+    let reading : ReadsText most_read known left before given (λ text. IsReadingOf standard_limits text parsed.trace parsed.stop) = rw c.standard.ensures at c.in_ok-parsed.ensures.reading in
+    none_found parsed.trace parsed.stop c.in_ok-trace.trace.trace.now known _ c.in_ok-trace.ensures.accepted (reads_told most_read known left _ _ _ reading)
 
 pub returns-in_err-verdict-clause-unread : goal.returns-in_err-verdict-clause-unread
 returns-in_err-verdict-clause-unread g c =
     let parsed = c.in_ok-parsed.parsed in
     let known = g.S.Source.remaining c.args.trace_source.now in
     let left = g.S.Source.remaining c.parse.new.source in
-    let reading : ReadsText most_read known left (λ text. IsReadingOf standard_limits text parsed.trace parsed.stop) = rw c.standard.ensures at c.in_ok-parsed.ensures.reading in
-    none_found parsed.trace parsed.stop c.in_ok-trace.trace.trace.now known _ c.in_ok-trace.ensures.accepted (reads_told most_read known left _ reading)
+    let before = g.S.Source.given_count c.args.trace_source.now in
+    let given = g.S.Source.given_count c.parse.new.source in
+    let reading : ReadsText most_read known left before given (λ text. IsReadingOf standard_limits text parsed.trace parsed.stop) = rw c.standard.ensures at c.in_ok-parsed.ensures.reading in
+    none_found parsed.trace parsed.stop c.in_ok-trace.trace.trace.now known _ c.in_ok-trace.ensures.accepted (reads_told most_read known left _ _ _ reading)
 
 pub returns-in_default-clause-unread : goal.returns-in_default-clause-unread
 returns-in_default-clause-unread g c =
     let parsed = c.in_ok-parsed.parsed in
     let known = g.S.Source.remaining c.args.trace_source.now in
     let left = g.S.Source.remaining c.parse.new.source in
-    let reading : ReadsText most_read known left (λ text. IsReadingOf standard_limits text parsed.trace parsed.stop) = rw c.standard.ensures at c.in_ok-parsed.ensures.reading in
-    none_found parsed.trace parsed.stop c.in_ok-trace.trace.trace.now known _ c.in_ok-trace.ensures.accepted (reads_told most_read known left _ reading)
+    let before = g.S.Source.given_count c.args.trace_source.now in
+    let given = g.S.Source.given_count c.parse.new.source in
+    let reading : ReadsText most_read known left before given (λ text. IsReadingOf standard_limits text parsed.trace parsed.stop) = rw c.standard.ensures at c.in_ok-parsed.ensures.reading in
+    none_found parsed.trace parsed.stop c.in_ok-trace.trace.trace.now known _ c.in_ok-trace.ensures.accepted (reads_told most_read known left _ _ _ reading)
 
 pub returns-clause-unread : goal.returns-clause-unread
 returns-clause-unread g c =
     let parsed = c.in_ok-parsed.parsed in
     let known = g.S.Source.remaining c.args.trace_source.now in
     let left = g.S.Source.remaining c.parse.new.source in
-    let reading : ReadsText most_read known left (λ text. IsReadingOf standard_limits text parsed.trace parsed.stop) = rw c.standard.ensures at c.in_ok-parsed.ensures.reading in
-    none_found parsed.trace parsed.stop c.in_ok-trace.trace.trace.now known _ c.in_ok-trace.ensures.accepted (reads_told most_read known left _ reading)
+    let before = g.S.Source.given_count c.args.trace_source.now in
+    let given = g.S.Source.given_count c.parse.new.source in
+    let reading : ReadsText most_read known left before given (λ text. IsReadingOf standard_limits text parsed.trace parsed.stop) = rw c.standard.ensures at c.in_ok-parsed.ensures.reading in
+    none_found parsed.trace parsed.stop c.in_ok-trace.trace.trace.now known _ c.in_ok-trace.ensures.accepted (reads_told most_read known left _ _ _ reading)
 
 pub returns-in_err-parsed-clause-trace_taken : goal.returns-in_err-parsed-clause-trace_taken
 returns-in_err-parsed-clause-trace_taken g c =
@@ -139,40 +155,48 @@ returns-in_err-trace-clause-trace_left g c =
     let parsed = c.in_ok-parsed.parsed in
     let known = g.S.Source.remaining c.args.trace_source.now in
     let left = g.S.Source.remaining c.parse.new.source in
-    let reading : ReadsText most_read known left (λ text. IsReadingOf standard_limits text parsed.trace parsed.stop) = rw c.standard.ensures at c.in_ok-parsed.ensures.reading in
-    judged _ _ (reads_left most_read known left _ reading)
+    let before = g.S.Source.given_count c.args.trace_source.now in
+    let given = g.S.Source.given_count c.parse.new.source in
+    let reading : ReadsText most_read known left before given (λ text. IsReadingOf standard_limits text parsed.trace parsed.stop) = rw c.standard.ensures at c.in_ok-parsed.ensures.reading in
+    judged _ _ (reads_left most_read known left _ _ _ reading)
 
 pub returns-in_err-verdict-clause-trace_left : goal.returns-in_err-verdict-clause-trace_left
 returns-in_err-verdict-clause-trace_left g c =
     let parsed = c.in_ok-parsed.parsed in
     let known = g.S.Source.remaining c.args.trace_source.now in
     let left = g.S.Source.remaining c.parse.new.source in
-    let reading : ReadsText most_read known left (λ text. IsReadingOf standard_limits text parsed.trace parsed.stop) = rw c.standard.ensures at c.in_ok-parsed.ensures.reading in
-    judged _ _ (reads_left most_read known left _ reading)
+    let before = g.S.Source.given_count c.args.trace_source.now in
+    let given = g.S.Source.given_count c.parse.new.source in
+    let reading : ReadsText most_read known left before given (λ text. IsReadingOf standard_limits text parsed.trace parsed.stop) = rw c.standard.ensures at c.in_ok-parsed.ensures.reading in
+    judged _ _ (reads_left most_read known left _ _ _ reading)
 
 pub returns-in_default-clause-trace_left : goal.returns-in_default-clause-trace_left
 returns-in_default-clause-trace_left g c =
     let parsed = c.in_ok-parsed.parsed in
     let known = g.S.Source.remaining c.args.trace_source.now in
     let left = g.S.Source.remaining c.parse.new.source in
-    let reading : ReadsText most_read known left (λ text. IsReadingOf standard_limits text parsed.trace parsed.stop) = rw c.standard.ensures at c.in_ok-parsed.ensures.reading in
-    reads_left most_read known left _ reading
+    let before = g.S.Source.given_count c.args.trace_source.now in
+    let given = g.S.Source.given_count c.parse.new.source in
+    let reading : ReadsText most_read known left before given (λ text. IsReadingOf standard_limits text parsed.trace parsed.stop) = rw c.standard.ensures at c.in_ok-parsed.ensures.reading in
+    reads_left most_read known left _ _ _ reading
 
 pub returns-clause-trace_left : goal.returns-clause-trace_left
 returns-clause-trace_left g c =
     let parsed = c.in_ok-parsed.parsed in
     let known = g.S.Source.remaining c.args.trace_source.now in
     let left = g.S.Source.remaining c.parse.new.source in
-    let reading : ReadsText most_read known left (λ text. IsReadingOf standard_limits text parsed.trace parsed.stop) = rw c.standard.ensures at c.in_ok-parsed.ensures.reading in
-    reads_left most_read known left _ reading
+    let before = g.S.Source.given_count c.args.trace_source.now in
+    let given = g.S.Source.given_count c.parse.new.source in
+    let reading : ReadsText most_read known left before given (λ text. IsReadingOf standard_limits text parsed.trace parsed.stop) = rw c.standard.ensures at c.in_ok-parsed.ensures.reading in
+    reads_left most_read known left _ _ _ reading
 
 pub returns-in_default-clause-report_left : goal.returns-in_default-clause-report_left
 returns-in_default-clause-report_left g c =
-    reads_left most_read (g.Q.Source.remaining c.args.report_source.now) (g.Q.Source.remaining c.judge_report.new.source) _ c.in_ok-verdict.ensures.verdict
+    reads_left most_read (g.Q.Source.remaining c.args.report_source.now) (g.Q.Source.remaining c.judge_report.new.source) _ _ _ c.in_ok-verdict.ensures.verdict
 
 pub returns-clause-report_left : goal.returns-clause-report_left
 returns-clause-report_left g c =
-    reads_left most_read (g.Q.Source.remaining c.args.report_source.now) (g.Q.Source.remaining c.judge_report.new.source) _ c.in_ok-verdict.ensures.verdict
+    reads_left most_read (g.Q.Source.remaining c.args.report_source.now) (g.Q.Source.remaining c.judge_report.new.source) _ _ _ c.in_ok-verdict.ensures.verdict
 
 pub returns-in_err-parsed-clause-unwritten : goal.returns-in_err-parsed-clause-unwritten
 returns-in_err-parsed-clause-unwritten g c =

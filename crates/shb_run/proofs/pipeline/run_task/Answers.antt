@@ -12,9 +12,11 @@ returns-in-Ok-clause-reported g c =
     let parsed = c.in_ok-parsed.parsed in
     let known = g.S.Source.remaining c.args.source.now in
     let left = g.S.Source.remaining c.parse.new.source in
-    let reading : ReadsText most_read known left (λ text. IsReadingOf standard_limits text parsed.trace parsed.stop) = rw c.standard.ensures at c.in_ok-parsed.ensures.reading in
+    let before = g.S.Source.given_count c.args.source.now in
+    let given = g.S.Source.given_count c.parse.new.source in
+    let reading : ReadsText most_read known left before given (λ text. IsReadingOf standard_limits text parsed.trace parsed.stop) = rw c.standard.ensures at c.in_ok-parsed.ensures.reading in
     let trace = c.in_ok-trace.trace in
-    reads_told most_read known left _ (reads_then most_read known left _ _ reading (λ text. reported_of c.args.task.choice c.args.task.settings.schedules text parsed.trace parsed.stop trace.events.now trace.trace.now _
+    reads_told most_read known left _ _ _ (reads_then most_read known left _ _ _ _ reading (λ text. reported_of c.args.task.choice c.args.task.settings.schedules text parsed.trace parsed.stop trace.events.now trace.trace.now _
     (g.K.Sink.taken c.args.sink.now) (g.K.Sink.taken c.report.new.sink) trace.meets trace.of_trace c.in_ok-trace.ensures.accepted c.in-Ok.ensures.report c.in-Ok.ensures.fits))
 
 pub returns-in-Ok-clause-read : goal.returns-in-Ok-clause-read
@@ -22,9 +24,11 @@ returns-in-Ok-clause-read g c =
     let parsed = c.in_ok-parsed.parsed in
     let known = g.S.Source.remaining c.args.source.now in
     let left = g.S.Source.remaining c.parse.new.source in
-    let reading : ReadsText most_read known left (λ text. IsReadingOf standard_limits text parsed.trace parsed.stop) = rw c.standard.ensures at c.in_ok-parsed.ensures.reading in
+    let before = g.S.Source.given_count c.args.source.now in
+    let given = g.S.Source.given_count c.parse.new.source in
+    let reading : ReadsText most_read known left before given (λ text. IsReadingOf standard_limits text parsed.trace parsed.stop) = rw c.standard.ensures at c.in_ok-parsed.ensures.reading in
     let trace = c.in_ok-trace.trace in
-    reads_then most_read known left _ _ reading (λ text. reported_of c.args.task.choice c.args.task.settings.schedules text parsed.trace parsed.stop trace.events.now trace.trace.now _
+    reads_then most_read known left _ _ _ _ reading (λ text. reported_of c.args.task.choice c.args.task.settings.schedules text parsed.trace parsed.stop trace.events.now trace.trace.now _
     (g.K.Sink.taken c.args.sink.now) (g.K.Sink.taken c.report.new.sink) trace.meets trace.of_trace c.in_ok-trace.ensures.accepted c.in-Ok.ensures.report c.in-Ok.ensures.fits)
 
 pub returns-in-Err-Sink-clause-cut : goal.returns-in-Err-Sink-clause-cut
@@ -32,42 +36,52 @@ returns-in-Err-Sink-clause-cut g c =
     let parsed = c.in_ok-parsed.parsed in
     let known = g.S.Source.remaining c.args.source.now in
     let left = g.S.Source.remaining c.parse.new.source in
-    let reading : ReadsText most_read known left (λ text. IsReadingOf standard_limits text parsed.trace parsed.stop) = rw c.standard.ensures at c.in_ok-parsed.ensures.reading in
+    let before = g.S.Source.given_count c.args.source.now in
+    let given = g.S.Source.given_count c.parse.new.source in
+    let reading : ReadsText most_read known left before given (λ text. IsReadingOf standard_limits text parsed.trace parsed.stop) = rw c.standard.ensures at c.in_ok-parsed.ensures.reading in
     let cut = rw c.in-Err-Sink.field-0-is at c.in-Err-Sink.ensures.cut in
-    reads_then most_read known left _ _ reading (λ text. has_trace text parsed.trace parsed.stop c.in_ok-trace.trace.trace.now _ c.in_ok-trace.ensures.accepted cut)
+    reads_then most_read known left _ _ _ _ reading (λ text. has_trace text parsed.trace parsed.stop c.in_ok-trace.trace.trace.now _ c.in_ok-trace.ensures.accepted cut)
 
 pub returns-clause-memory : goal.returns-clause-memory
 returns-clause-memory g c =
     let parsed = c.in_ok-parsed.parsed in
     let known = g.S.Source.remaining c.args.source.now in
     let left = g.S.Source.remaining c.parse.new.source in
-    let reading : ReadsText most_read known left (λ text. IsReadingOf standard_limits text parsed.trace parsed.stop) = rw c.standard.ensures at c.in_ok-parsed.ensures.reading in
+    let before = g.S.Source.given_count c.args.source.now in
+    let given = g.S.Source.given_count c.parse.new.source in
+    let reading : ReadsText most_read known left before given (λ text. IsReadingOf standard_limits text parsed.trace parsed.stop) = rw c.standard.ensures at c.in_ok-parsed.ensures.reading in
     let refused = rw c.in-Err-Memory.field-0-is at c.in-Err-Memory.ensures.memory in
-    or_then refused (λ cut. reads_then most_read known left _ _ reading (λ text. has_trace text parsed.trace parsed.stop c.in_ok-trace.trace.trace.now _ c.in_ok-trace.ensures.accepted cut))
+    or_then refused (λ cut. reads_then most_read known left _ _ _ _ reading (λ text. has_trace text parsed.trace parsed.stop c.in_ok-trace.trace.trace.now _ c.in_ok-trace.ensures.accepted cut))
 
 pub returns-in-Ok-clause-silent : goal.returns-in-Ok-clause-silent
 returns-in-Ok-clause-silent g c =
     let parsed = c.in_ok-parsed.parsed in
     let known = g.S.Source.remaining c.args.source.now in
     let left = g.S.Source.remaining c.parse.new.source in
-    let reading : ReadsText most_read known left (λ text. IsReadingOf standard_limits text parsed.trace parsed.stop) = rw c.standard.ensures at c.in_ok-parsed.ensures.reading in
-    none_found parsed.trace parsed.stop c.in_ok-trace.trace.trace.now known _ c.in_ok-trace.ensures.accepted (reads_told most_read known left _ reading)
+    let before = g.S.Source.given_count c.args.source.now in
+    let given = g.S.Source.given_count c.parse.new.source in
+    let reading : ReadsText most_read known left before given (λ text. IsReadingOf standard_limits text parsed.trace parsed.stop) = rw c.standard.ensures at c.in_ok-parsed.ensures.reading in
+    none_found parsed.trace parsed.stop c.in_ok-trace.trace.trace.now known _ c.in_ok-trace.ensures.accepted (reads_told most_read known left _ _ _ reading)
 
 pub returns-in-Err-Sink-clause-silent : goal.returns-in-Err-Sink-clause-silent
 returns-in-Err-Sink-clause-silent g c =
     let parsed = c.in_ok-parsed.parsed in
     let known = g.S.Source.remaining c.args.source.now in
     let left = g.S.Source.remaining c.parse.new.source in
-    let reading : ReadsText most_read known left (λ text. IsReadingOf standard_limits text parsed.trace parsed.stop) = rw c.standard.ensures at c.in_ok-parsed.ensures.reading in
-    none_found parsed.trace parsed.stop c.in_ok-trace.trace.trace.now known _ c.in_ok-trace.ensures.accepted (reads_told most_read known left _ reading)
+    let before = g.S.Source.given_count c.args.source.now in
+    let given = g.S.Source.given_count c.parse.new.source in
+    let reading : ReadsText most_read known left before given (λ text. IsReadingOf standard_limits text parsed.trace parsed.stop) = rw c.standard.ensures at c.in_ok-parsed.ensures.reading in
+    none_found parsed.trace parsed.stop c.in_ok-trace.trace.trace.now known _ c.in_ok-trace.ensures.accepted (reads_told most_read known left _ _ _ reading)
 
 pub returns-clause-silent : goal.returns-clause-silent
 returns-clause-silent g c =
     let parsed = c.in_ok-parsed.parsed in
     let known = g.S.Source.remaining c.args.source.now in
     let left = g.S.Source.remaining c.parse.new.source in
-    let reading : ReadsText most_read known left (λ text. IsReadingOf standard_limits text parsed.trace parsed.stop) = rw c.standard.ensures at c.in_ok-parsed.ensures.reading in
-    none_found parsed.trace parsed.stop c.in_ok-trace.trace.trace.now known _ c.in_ok-trace.ensures.accepted (reads_told most_read known left _ reading)
+    let before = g.S.Source.given_count c.args.source.now in
+    let given = g.S.Source.given_count c.parse.new.source in
+    let reading : ReadsText most_read known left before given (λ text. IsReadingOf standard_limits text parsed.trace parsed.stop) = rw c.standard.ensures at c.in_ok-parsed.ensures.reading in
+    none_found parsed.trace parsed.stop c.in_ok-trace.trace.trace.now known _ c.in_ok-trace.ensures.accepted (reads_told most_read known left _ _ _ reading)
 
 pub returns-in_err-parsed-clause-taken : goal.returns-in_err-parsed-clause-taken
 returns-in_err-parsed-clause-taken g c =
@@ -110,24 +124,30 @@ returns-in_err-trace-clause-left g c =
     let parsed = c.in_ok-parsed.parsed in
     let known = g.S.Source.remaining c.args.source.now in
     let left = g.S.Source.remaining c.parse.new.source in
-    let reading : ReadsText most_read known left (λ text. IsReadingOf standard_limits text parsed.trace parsed.stop) = rw c.standard.ensures at c.in_ok-parsed.ensures.reading in
-    judged _ _ (reads_left most_read known left _ reading)
+    let before = g.S.Source.given_count c.args.source.now in
+    let given = g.S.Source.given_count c.parse.new.source in
+    let reading : ReadsText most_read known left before given (λ text. IsReadingOf standard_limits text parsed.trace parsed.stop) = rw c.standard.ensures at c.in_ok-parsed.ensures.reading in
+    judged _ _ (reads_left most_read known left _ _ _ reading)
 
 pub returns-in-Ok-clause-left : goal.returns-in-Ok-clause-left
 returns-in-Ok-clause-left g c =
     let parsed = c.in_ok-parsed.parsed in
     let known = g.S.Source.remaining c.args.source.now in
     let left = g.S.Source.remaining c.parse.new.source in
-    let reading : ReadsText most_read known left (λ text. IsReadingOf standard_limits text parsed.trace parsed.stop) = rw c.standard.ensures at c.in_ok-parsed.ensures.reading in
-    reads_left most_read known left _ reading
+    let before = g.S.Source.given_count c.args.source.now in
+    let given = g.S.Source.given_count c.parse.new.source in
+    let reading : ReadsText most_read known left before given (λ text. IsReadingOf standard_limits text parsed.trace parsed.stop) = rw c.standard.ensures at c.in_ok-parsed.ensures.reading in
+    reads_left most_read known left _ _ _ reading
 
 pub returns-in-Err-Sink-clause-left : goal.returns-in-Err-Sink-clause-left
 returns-in-Err-Sink-clause-left g c =
     let parsed = c.in_ok-parsed.parsed in
     let known = g.S.Source.remaining c.args.source.now in
     let left = g.S.Source.remaining c.parse.new.source in
-    let reading : ReadsText most_read known left (λ text. IsReadingOf standard_limits text parsed.trace parsed.stop) = rw c.standard.ensures at c.in_ok-parsed.ensures.reading in
-    reads_left most_read known left _ reading
+    let before = g.S.Source.given_count c.args.source.now in
+    let given = g.S.Source.given_count c.parse.new.source in
+    let reading : ReadsText most_read known left before given (λ text. IsReadingOf standard_limits text parsed.trace parsed.stop) = rw c.standard.ensures at c.in_ok-parsed.ensures.reading in
+    reads_left most_read known left _ _ _ reading
 
 pub returns-in_err-parsed-clause-grown : goal.returns-in_err-parsed-clause-grown
 returns-in_err-parsed-clause-grown g c =
@@ -156,5 +176,7 @@ returns-in_err-trace-clause-refused g c =
     let parsed = c.in_ok-parsed.parsed in
     let known = g.S.Source.remaining c.args.source.now in
     let left = g.S.Source.remaining c.parse.new.source in
-    let reading : ReadsText most_read known left (λ text. IsReadingOf standard_limits text parsed.trace parsed.stop) = rw c.standard.ensures at c.in_ok-parsed.ensures.reading in
-    refusal_first parsed.trace parsed.stop most_read known left _ c.from_residual-in_err-trace.result c.from_residual-in_err-trace.ensures.1 reading c.in_err-trace.ensures.refused
+    let before = g.S.Source.given_count c.args.source.now in
+    let given = g.S.Source.given_count c.parse.new.source in
+    let reading : ReadsText most_read known left before given (λ text. IsReadingOf standard_limits text parsed.trace parsed.stop) = rw c.standard.ensures at c.in_ok-parsed.ensures.reading in
+    refusal_first parsed.trace parsed.stop most_read known left _ _ _ c.from_residual-in_err-trace.result c.from_residual-in_err-trace.ensures.1 reading c.in_err-trace.ensures.refused
