@@ -2,4 +2,5 @@ pub mod OneReport
 pub mod OwnReport
 pub mod Reports
 pub mod Endings
+pub mod Outcomes
 pub mod Lists

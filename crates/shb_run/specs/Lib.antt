@@ -1,3 +1,4 @@
 pub mod Statuses
 pub mod Written
 pub mod Runs
+pub mod Outcomes

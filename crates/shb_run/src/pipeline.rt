@@ -1,12 +1,9 @@
 //! The whole run: read, judge, find the races, write.
-ghost use Rattle.std.specs.Prelude.{◌≡◌, ◌⊎◌, ◌+◌, ◌-◌, ◌^◌, ◌<◌, ◌≤◌, ℕ, List, Some, IfOk, IfSome, drop};
-ghost use Rattle.shb_discipline.specs.FirstFault.{IsFirstFault};
-ghost use Rattle.shb_lines.specs.declared.fault.Fault.{Fault};
-ghost use Rattle.shb_lines.specs.text.Limits.{most_read, standard_limits};
-ghost use Rattle.shb_lines.specs.text.Taking.{ReadsText, TakesAtMost};
+ghost use Rattle.std.specs.Prelude.{◌≡◌, ◌⊎◌, ◌-◌, ◌^◌, ◌<◌, IfOk};
 ghost use Rattle.shb_report.specs.Report.{AllRaces};
-ghost use Rattle.shb_check.specs.Outcomes.{CountsSink, CountsSource, Grows, OnJudged, OnMemory, OnNoTrace, OnSink, OnTrace};
-ghost use Rattle.shb_run.specs.Runs.{FitsU64, HasTrace, IsReported, IsReportedBy};
+ghost use Rattle.shb_run.specs.declared.settings.Choice.TheVariants.{All};
+ghost use Rattle.shb_run.specs.Outcomes.{IsOutcome};
+ghost use Rattle.shb_run.specs.Runs.{FitsU64};
 ghost use Rattle.shb_write.specs.Written.{CutsBlocksOn, CutsReportOn, IsSinkCounted, OnFailedSink, OnNoMemory};
 ghost use Rattle.shb_run.specs.Written.{CutsBlocks, CutsReport, ListedBy, ReportsTrace, summary_of};
 
@@ -136,51 +133,8 @@ pub fn run<S: Source, K: Sink, R: Threads + Wait + Sync + RandomSource>(
 ) -> Result<Summary, RunError>
     requires source_countable { S.failure_count source.old < 2 ^ 64 - 1 }
     requires sink_countable { K.failure_count sink.old < 2 ^ 64 - 1 }
-
-    // The text has no fault, and its report was written. Each listed pair has a schedule, and a
-    // conflicting pair that isn't listed has none.
-    ensures reported { IfOk result (λ summary. IfSome (S.remaining source.old) (λ text.
-        IsReported settings.schedules text summary (K.taken sink.old) (K.taken sink.new))) }
-
-    // The same, whether or not the source tells its bytes: of the text that was read.
-    ensures read { IfOk result (λ summary. ReadsText most_read (S.remaining source.old) (S.remaining source.new)
-        (S.given_count source.old) (S.given_count source.new) (λ text.
-        IsReported settings.schedules text summary (K.taken sink.old) (K.taken sink.new))) }
-
-    // A refused trace has this fault first.
-    ensures refused { OnTrace result (λ line fault. ReadsText most_read (S.remaining source.old) (S.remaining source.new)
-        (S.given_count source.old) (S.given_count source.new) (λ text.
-        IsFirstFault standard_limits text line fault)) }
-
-    // What is written where no report is. Nothing, where the trace was refused or not read, and where
-    // the text has a fault.
-    ensures unwritten { OnNoTrace result (sink.new ≡ sink.old) }
-    ensures silent { IfSome (S.remaining source.old) (λ text. (line : ℕ) (fault : Fault) →
-        IsFirstFault standard_limits text line fault → sink.new ≡ sink.old) }
-
-    // Where the sink failed the text has no fault, and less than its report was written, the front of
-    // it. Where memory was refused it is the same, with all lines before the first block, or nothing.
-    ensures cut { OnSink result (ReadsText most_read (S.remaining source.old) (S.remaining source.new)
-        (S.given_count source.old) (S.given_count source.new) (λ text.
-        HasTrace text (λ trace. CutsReport settings.schedules trace (K.taken sink.old) (K.taken sink.new)))) }
-    ensures memory { OnMemory result ((sink.new ≡ sink.old)
-        ⊎ ReadsText most_read (S.remaining source.old) (S.remaining source.new)
-        (S.given_count source.old) (S.given_count source.new) (λ text.
-        HasTrace text (λ trace. CutsBlocks settings.schedules trace (K.taken sink.old) (K.taken sink.new)))) }
-
-    // What the sink took before stays as it was.
-    ensures grown { Grows (K.taken sink.old) (K.taken sink.new) }
-
-    // The source lost its first bytes, at most 1,073,741,825, and gave no more than those; it lost
-    // exactly those where the text was judged.
-    ensures taken { TakesAtMost most_read (S.remaining source.old) (S.remaining source.new) }
-    ensures given { S.given_count source.new ≤ S.given_count source.old + most_read }
-    ensures left { OnJudged result (IfSome (S.remaining source.old) (λ text.
-        S.remaining source.new ≡ Some (drop most_read text))) }
-
-    // An error of a device comes with one failure more of that device, and no other answer does.
-    ensures source { CountsSource (S.failure_count source.old) (S.failure_count source.new) result }
-    ensures sink { CountsSink (K.failure_count sink.old) (K.failure_count sink.new) result }
+    ensures { IsOutcome All settings.schedules S.remaining S.given_count S.failure_count source.old source.new
+        K.taken K.failure_count sink.old sink.new result }
 {
     run_gated(rt, alloc, source, sink, settings, &FreeGate, &FreeGate)
 }
@@ -210,51 +164,8 @@ pub fn run_gated<
 ) -> Result<Summary, RunError>
     requires source_countable { S.failure_count source.old < 2 ^ 64 - 1 }
     requires sink_countable { K.failure_count sink.old < 2 ^ 64 - 1 }
-
-    // The text has no fault, and its report was written. Each listed pair has a schedule, and a
-    // conflicting pair that isn't listed has none.
-    ensures reported { IfOk result (λ summary. IfSome (S.remaining source.old) (λ text.
-        IsReported settings.schedules text summary (K.taken sink.old) (K.taken sink.new))) }
-
-    // The same, whether or not the source tells its bytes: of the text that was read.
-    ensures read { IfOk result (λ summary. ReadsText most_read (S.remaining source.old) (S.remaining source.new)
-        (S.given_count source.old) (S.given_count source.new) (λ text.
-        IsReported settings.schedules text summary (K.taken sink.old) (K.taken sink.new))) }
-
-    // A refused trace has this fault first.
-    ensures refused { OnTrace result (λ line fault. ReadsText most_read (S.remaining source.old) (S.remaining source.new)
-        (S.given_count source.old) (S.given_count source.new) (λ text.
-        IsFirstFault standard_limits text line fault)) }
-
-    // What is written where no report is. Nothing, where the trace was refused or not read, and where
-    // the text has a fault.
-    ensures unwritten { OnNoTrace result (sink.new ≡ sink.old) }
-    ensures silent { IfSome (S.remaining source.old) (λ text. (line : ℕ) (fault : Fault) →
-        IsFirstFault standard_limits text line fault → sink.new ≡ sink.old) }
-
-    // Where the sink failed the text has no fault, and less than its report was written, the front of
-    // it. Where memory was refused it is the same, with all lines before the first block, or nothing.
-    ensures cut { OnSink result (ReadsText most_read (S.remaining source.old) (S.remaining source.new)
-        (S.given_count source.old) (S.given_count source.new) (λ text.
-        HasTrace text (λ trace. CutsReport settings.schedules trace (K.taken sink.old) (K.taken sink.new)))) }
-    ensures memory { OnMemory result ((sink.new ≡ sink.old)
-        ⊎ ReadsText most_read (S.remaining source.old) (S.remaining source.new)
-        (S.given_count source.old) (S.given_count source.new) (λ text.
-        HasTrace text (λ trace. CutsBlocks settings.schedules trace (K.taken sink.old) (K.taken sink.new)))) }
-
-    // What the sink took before stays as it was.
-    ensures grown { Grows (K.taken sink.old) (K.taken sink.new) }
-
-    // The source lost its first bytes, at most 1,073,741,825, and gave no more than those; it lost
-    // exactly those where the text was judged.
-    ensures taken { TakesAtMost most_read (S.remaining source.old) (S.remaining source.new) }
-    ensures given { S.given_count source.new ≤ S.given_count source.old + most_read }
-    ensures left { OnJudged result (IfSome (S.remaining source.old) (λ text.
-        S.remaining source.new ≡ Some (drop most_read text))) }
-
-    // An error of a device comes with one failure more of that device, and no other answer does.
-    ensures source { CountsSource (S.failure_count source.old) (S.failure_count source.new) result }
-    ensures sink { CountsSink (K.failure_count sink.old) (K.failure_count sink.new) result }
+    ensures { IsOutcome All settings.schedules S.remaining S.given_count S.failure_count source.old source.new
+        K.taken K.failure_count sink.old sink.new result }
 {
     let task = Task {
         settings,
@@ -285,50 +196,8 @@ pub(crate) fn run_task<
 ) -> Result<Summary, RunError>
     requires source_countable { S.failure_count source.old < 2 ^ 64 - 1 }
     requires sink_countable { K.failure_count sink.old < 2 ^ 64 - 1 }
-
-    // The text has no fault, and the report that is asked for was written.
-    ensures reported { IfOk result (λ summary. IfSome (S.remaining source.old) (λ text.
-        IsReportedBy task.choice task.settings.schedules text summary (K.taken sink.old) (K.taken sink.new))) }
-
-    // The same, whether or not the source tells its bytes: of the text that was read.
-    ensures read { IfOk result (λ summary. ReadsText most_read (S.remaining source.old) (S.remaining source.new)
-        (S.given_count source.old) (S.given_count source.new) (λ text.
-        IsReportedBy task.choice task.settings.schedules text summary (K.taken sink.old) (K.taken sink.new))) }
-
-    // A refused trace has this fault first.
-    ensures refused { OnTrace result (λ line fault. ReadsText most_read (S.remaining source.old) (S.remaining source.new)
-        (S.given_count source.old) (S.given_count source.new) (λ text.
-        IsFirstFault standard_limits text line fault)) }
-
-    // What is written where no report is. Nothing, where the trace was refused or not read, and where
-    // the text has a fault.
-    ensures unwritten { OnNoTrace result (sink.new ≡ sink.old) }
-    ensures silent { IfSome (S.remaining source.old) (λ text. (line : ℕ) (fault : Fault) →
-        IsFirstFault standard_limits text line fault → sink.new ≡ sink.old) }
-
-    // Where the sink failed the text has no fault, and less than its report was written, the front of
-    // it. Where memory was refused it is the same, with all lines before the first block, or nothing.
-    ensures cut { OnSink result (ReadsText most_read (S.remaining source.old) (S.remaining source.new)
-        (S.given_count source.old) (S.given_count source.new) (λ text.
-        HasTrace text (λ trace. CutsReportOn (ListedBy task.choice) task.settings.schedules trace (K.taken sink.old) (K.taken sink.new)))) }
-    ensures memory { OnMemory result ((sink.new ≡ sink.old)
-        ⊎ ReadsText most_read (S.remaining source.old) (S.remaining source.new)
-        (S.given_count source.old) (S.given_count source.new) (λ text.
-        HasTrace text (λ trace. CutsBlocksOn (ListedBy task.choice) task.settings.schedules trace (K.taken sink.old) (K.taken sink.new)))) }
-
-    // What the sink took before stays as it was.
-    ensures grown { Grows (K.taken sink.old) (K.taken sink.new) }
-
-    // The source lost its first bytes, at most 1,073,741,825, and gave no more than those; it lost
-    // exactly those where the text was judged.
-    ensures taken { TakesAtMost most_read (S.remaining source.old) (S.remaining source.new) }
-    ensures given { S.given_count source.new ≤ S.given_count source.old + most_read }
-    ensures left { OnJudged result (IfSome (S.remaining source.old) (λ text.
-        S.remaining source.new ≡ Some (drop most_read text))) }
-
-    // An error of a device comes with one failure more of that device, and no other answer does.
-    ensures source { CountsSource (S.failure_count source.old) (S.failure_count source.new) result }
-    ensures sink { CountsSink (K.failure_count sink.old) (K.failure_count sink.new) result }
+    ensures { IsOutcome task.choice task.settings.schedules S.remaining S.given_count S.failure_count source.old source.new
+        K.taken K.failure_count sink.old sink.new result }
 {
     let parsed = parse(rt, alloc, source, &Limits::standard())?;
     let trace = judge(alloc, &parsed)?;

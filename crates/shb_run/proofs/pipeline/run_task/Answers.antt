@@ -1,182 +1,62 @@
+-- Each exit has its outcome.
 use Rattle.shb_lines.specs.text.Taking.{ReadsText}
 use Rattle.shb_lines.specs.text.TraceData.{IsReadingOf}
-use Rattle.shb_lines.proofs.text.TakingLemmas.{reads_left, reads_then, reads_told}
 use Rattle.shb_lines.specs.text.Limits.{most_read, standard_limits}
-use Rattle.shb_check.proofs.Endings.{Grows-same, judged, none_found, not_judged, refusal_first}
-use Rattle.shb_run.specs.Written.{ListedBy}
-use Rattle.shb_run.proofs.Endings.{grown_of_refused, has_trace, or_then, reported_of}
+use Rattle.shb_lines.specs.declared.read.Parsed.{Parsed}
+use Rattle.shb_run.proofs.Outcomes.{of_failed_sink, of_no_memory, of_refused, of_report, of_unread}
 use Rattle.shb_run.proofs.pipeline.run_task.Goals as goal
 
-pub returns-in-Ok-clause-reported : goal.returns-in-Ok-clause-reported
-returns-in-Ok-clause-reported g c =
+pub returns-in_err-parsed : goal.returns-in_err-parsed
+returns-in_err-parsed g c =
+    let error = c.in_err-parsed.ensures in
+    of_unread c.args.task.choice c.args.task.settings.schedules g.S.Source.remaining g.S.Source.given_count g.S.Source.failure_count c.args.source.now c.parse.new.source
+    g.K.Sink.taken g.K.Sink.failure_count c.args.sink.now (rw c.standard.ensures at error.taken) (rw c.standard.ensures at error.given)
+    Parsed c.in_err-parsed.error c.from_residual.result c.from_residual.ensures.1 error.counted
+
+pub returns-in_err-trace : goal.returns-in_err-trace
+returns-in_err-trace g c =
     let parsed = c.in_ok-parsed.parsed in
-    let known = g.S.Source.remaining c.args.source.now in
-    let left = g.S.Source.remaining c.parse.new.source in
-    let before = g.S.Source.given_count c.args.source.now in
-    let given = g.S.Source.given_count c.parse.new.source in
-    let reading : ReadsText most_read known left before given (λ text. IsReadingOf standard_limits text parsed.trace parsed.stop) = rw c.standard.ensures at c.in_ok-parsed.ensures.reading in
+    let read = c.in_ok-parsed.ensures in
+    let reading : ReadsText most_read (g.S.Source.remaining c.args.source.now) (g.S.Source.remaining c.parse.new.source) (g.S.Source.given_count c.args.source.now) (g.S.Source.given_count c.parse.new.source)
+        (λ text. IsReadingOf standard_limits text parsed.trace parsed.stop) = rw c.standard.ensures at read.reading in
+    of_refused c.args.task.choice c.args.task.settings.schedules g.S.Source.remaining g.S.Source.given_count g.S.Source.failure_count c.args.source.now c.parse.new.source
+    g.K.Sink.taken g.K.Sink.failure_count c.args.sink.now (rw c.standard.ensures at read.taken) (rw c.standard.ensures at read.given)
+    parsed.trace parsed.stop reading read.counted
+    _ c.from_residual-in_err-trace.result c.from_residual-in_err-trace.ensures.1 c.in_err-trace.ensures.refused
+
+pub returns-in-Ok : goal.returns-in-Ok
+returns-in-Ok g c =
+    let parsed = c.in_ok-parsed.parsed in
+    let read = c.in_ok-parsed.ensures in
+    let reading : ReadsText most_read (g.S.Source.remaining c.args.source.now) (g.S.Source.remaining c.parse.new.source) (g.S.Source.given_count c.args.source.now) (g.S.Source.given_count c.parse.new.source)
+        (λ text. IsReadingOf standard_limits text parsed.trace parsed.stop) = rw c.standard.ensures at read.reading in
     let trace = c.in_ok-trace.trace in
-    reads_told most_read known left _ _ _ (reads_then most_read known left _ _ _ _ reading (λ text. reported_of c.args.task.choice c.args.task.settings.schedules text parsed.trace parsed.stop trace.events.now trace.trace.now _
-    (g.K.Sink.taken c.args.sink.now) (g.K.Sink.taken c.report.new.sink) trace.meets trace.of_trace c.in_ok-trace.ensures.accepted c.in-Ok.ensures.report c.in-Ok.ensures.fits))
+    of_report c.args.task.choice c.args.task.settings.schedules g.S.Source.remaining g.S.Source.given_count g.S.Source.failure_count c.args.source.now c.parse.new.source
+    g.K.Sink.taken g.K.Sink.failure_count c.args.sink.now (rw c.standard.ensures at read.taken) (rw c.standard.ensures at read.given)
+    parsed.trace parsed.stop reading read.counted
+    trace.trace.now c.in_ok-trace.ensures.accepted c.report.new.sink
+    trace.events.now _ trace.meets trace.of_trace c.in-Ok.ensures.report c.in-Ok.ensures.fits c.in-Ok.ensures.counted
 
-pub returns-in-Ok-clause-read : goal.returns-in-Ok-clause-read
-returns-in-Ok-clause-read g c =
+pub returns-in-Err-Sink : goal.returns-in-Err-Sink
+returns-in-Err-Sink g c =
     let parsed = c.in_ok-parsed.parsed in
-    let known = g.S.Source.remaining c.args.source.now in
-    let left = g.S.Source.remaining c.parse.new.source in
-    let before = g.S.Source.given_count c.args.source.now in
-    let given = g.S.Source.given_count c.parse.new.source in
-    let reading : ReadsText most_read known left before given (λ text. IsReadingOf standard_limits text parsed.trace parsed.stop) = rw c.standard.ensures at c.in_ok-parsed.ensures.reading in
-    let trace = c.in_ok-trace.trace in
-    reads_then most_read known left _ _ _ _ reading (λ text. reported_of c.args.task.choice c.args.task.settings.schedules text parsed.trace parsed.stop trace.events.now trace.trace.now _
-    (g.K.Sink.taken c.args.sink.now) (g.K.Sink.taken c.report.new.sink) trace.meets trace.of_trace c.in_ok-trace.ensures.accepted c.in-Ok.ensures.report c.in-Ok.ensures.fits)
+    let read = c.in_ok-parsed.ensures in
+    let reading : ReadsText most_read (g.S.Source.remaining c.args.source.now) (g.S.Source.remaining c.parse.new.source) (g.S.Source.given_count c.args.source.now) (g.S.Source.given_count c.parse.new.source)
+        (λ text. IsReadingOf standard_limits text parsed.trace parsed.stop) = rw c.standard.ensures at read.reading in
+    of_failed_sink c.args.task.choice c.args.task.settings.schedules g.S.Source.remaining g.S.Source.given_count g.S.Source.failure_count c.args.source.now c.parse.new.source
+    g.K.Sink.taken g.K.Sink.failure_count c.args.sink.now (rw c.standard.ensures at read.taken) (rw c.standard.ensures at read.given)
+    parsed.trace parsed.stop reading read.counted
+    c.in_ok-trace.trace.trace.now c.in_ok-trace.ensures.accepted c.report.new.sink
+    (rw c.in-Err-Sink.field-0-is at c.in-Err-Sink.ensures.cut) (rw c.in-Err-Sink.field-0-is at c.in-Err-Sink.ensures.counted)
 
-pub returns-in-Err-Sink-clause-cut : goal.returns-in-Err-Sink-clause-cut
-returns-in-Err-Sink-clause-cut g c =
+pub returns : goal.returns
+returns g c =
     let parsed = c.in_ok-parsed.parsed in
-    let known = g.S.Source.remaining c.args.source.now in
-    let left = g.S.Source.remaining c.parse.new.source in
-    let before = g.S.Source.given_count c.args.source.now in
-    let given = g.S.Source.given_count c.parse.new.source in
-    let reading : ReadsText most_read known left before given (λ text. IsReadingOf standard_limits text parsed.trace parsed.stop) = rw c.standard.ensures at c.in_ok-parsed.ensures.reading in
-    let cut = rw c.in-Err-Sink.field-0-is at c.in-Err-Sink.ensures.cut in
-    reads_then most_read known left _ _ _ _ reading (λ text. has_trace text parsed.trace parsed.stop c.in_ok-trace.trace.trace.now _ c.in_ok-trace.ensures.accepted cut)
-
-pub returns-clause-memory : goal.returns-clause-memory
-returns-clause-memory g c =
-    let parsed = c.in_ok-parsed.parsed in
-    let known = g.S.Source.remaining c.args.source.now in
-    let left = g.S.Source.remaining c.parse.new.source in
-    let before = g.S.Source.given_count c.args.source.now in
-    let given = g.S.Source.given_count c.parse.new.source in
-    let reading : ReadsText most_read known left before given (λ text. IsReadingOf standard_limits text parsed.trace parsed.stop) = rw c.standard.ensures at c.in_ok-parsed.ensures.reading in
-    let refused = rw c.in-Err-Memory.field-0-is at c.in-Err-Memory.ensures.memory in
-    or_then refused (λ cut. reads_then most_read known left _ _ _ _ reading (λ text. has_trace text parsed.trace parsed.stop c.in_ok-trace.trace.trace.now _ c.in_ok-trace.ensures.accepted cut))
-
-pub returns-in-Ok-clause-silent : goal.returns-in-Ok-clause-silent
-returns-in-Ok-clause-silent g c =
-    let parsed = c.in_ok-parsed.parsed in
-    let known = g.S.Source.remaining c.args.source.now in
-    let left = g.S.Source.remaining c.parse.new.source in
-    let before = g.S.Source.given_count c.args.source.now in
-    let given = g.S.Source.given_count c.parse.new.source in
-    let reading : ReadsText most_read known left before given (λ text. IsReadingOf standard_limits text parsed.trace parsed.stop) = rw c.standard.ensures at c.in_ok-parsed.ensures.reading in
-    none_found parsed.trace parsed.stop c.in_ok-trace.trace.trace.now known _ c.in_ok-trace.ensures.accepted (reads_told most_read known left _ _ _ reading)
-
-pub returns-in-Err-Sink-clause-silent : goal.returns-in-Err-Sink-clause-silent
-returns-in-Err-Sink-clause-silent g c =
-    let parsed = c.in_ok-parsed.parsed in
-    let known = g.S.Source.remaining c.args.source.now in
-    let left = g.S.Source.remaining c.parse.new.source in
-    let before = g.S.Source.given_count c.args.source.now in
-    let given = g.S.Source.given_count c.parse.new.source in
-    let reading : ReadsText most_read known left before given (λ text. IsReadingOf standard_limits text parsed.trace parsed.stop) = rw c.standard.ensures at c.in_ok-parsed.ensures.reading in
-    none_found parsed.trace parsed.stop c.in_ok-trace.trace.trace.now known _ c.in_ok-trace.ensures.accepted (reads_told most_read known left _ _ _ reading)
-
-pub returns-clause-silent : goal.returns-clause-silent
-returns-clause-silent g c =
-    let parsed = c.in_ok-parsed.parsed in
-    let known = g.S.Source.remaining c.args.source.now in
-    let left = g.S.Source.remaining c.parse.new.source in
-    let before = g.S.Source.given_count c.args.source.now in
-    let given = g.S.Source.given_count c.parse.new.source in
-    let reading : ReadsText most_read known left before given (λ text. IsReadingOf standard_limits text parsed.trace parsed.stop) = rw c.standard.ensures at c.in_ok-parsed.ensures.reading in
-    none_found parsed.trace parsed.stop c.in_ok-trace.trace.trace.now known _ c.in_ok-trace.ensures.accepted (reads_told most_read known left _ _ _ reading)
-
-pub returns-in_err-parsed-clause-taken : goal.returns-in_err-parsed-clause-taken
-returns-in_err-parsed-clause-taken g c =
-    rw c.standard.ensures at c.in_err-parsed.ensures.taken
-
-pub returns-in_err-trace-clause-taken : goal.returns-in_err-trace-clause-taken
-returns-in_err-trace-clause-taken g c =
-    rw c.standard.ensures at c.in_ok-parsed.ensures.taken
-
-pub returns-in-Ok-clause-taken : goal.returns-in-Ok-clause-taken
-returns-in-Ok-clause-taken g c =
-    rw c.standard.ensures at c.in_ok-parsed.ensures.taken
-
-pub returns-in-Err-Sink-clause-taken : goal.returns-in-Err-Sink-clause-taken
-returns-in-Err-Sink-clause-taken g c =
-    rw c.standard.ensures at c.in_ok-parsed.ensures.taken
-
-pub returns-in_err-parsed-clause-given : goal.returns-in_err-parsed-clause-given
-returns-in_err-parsed-clause-given g c =
-    rw c.standard.ensures at c.in_err-parsed.ensures.given
-
-pub returns-in_err-trace-clause-given : goal.returns-in_err-trace-clause-given
-returns-in_err-trace-clause-given g c =
-    rw c.standard.ensures at c.in_ok-parsed.ensures.given
-
-pub returns-in-Ok-clause-given : goal.returns-in-Ok-clause-given
-returns-in-Ok-clause-given g c =
-    rw c.standard.ensures at c.in_ok-parsed.ensures.given
-
-pub returns-in-Err-Sink-clause-given : goal.returns-in-Err-Sink-clause-given
-returns-in-Err-Sink-clause-given g c =
-    rw c.standard.ensures at c.in_ok-parsed.ensures.given
-
-pub returns-in_err-parsed-clause-left : goal.returns-in_err-parsed-clause-left
-returns-in_err-parsed-clause-left g c =
-    not_judged _ c.from_residual.result _ c.from_residual.ensures.1
-
-pub returns-in_err-trace-clause-left : goal.returns-in_err-trace-clause-left
-returns-in_err-trace-clause-left g c =
-    let parsed = c.in_ok-parsed.parsed in
-    let known = g.S.Source.remaining c.args.source.now in
-    let left = g.S.Source.remaining c.parse.new.source in
-    let before = g.S.Source.given_count c.args.source.now in
-    let given = g.S.Source.given_count c.parse.new.source in
-    let reading : ReadsText most_read known left before given (λ text. IsReadingOf standard_limits text parsed.trace parsed.stop) = rw c.standard.ensures at c.in_ok-parsed.ensures.reading in
-    judged _ _ (reads_left most_read known left _ _ _ reading)
-
-pub returns-in-Ok-clause-left : goal.returns-in-Ok-clause-left
-returns-in-Ok-clause-left g c =
-    let parsed = c.in_ok-parsed.parsed in
-    let known = g.S.Source.remaining c.args.source.now in
-    let left = g.S.Source.remaining c.parse.new.source in
-    let before = g.S.Source.given_count c.args.source.now in
-    let given = g.S.Source.given_count c.parse.new.source in
-    let reading : ReadsText most_read known left before given (λ text. IsReadingOf standard_limits text parsed.trace parsed.stop) = rw c.standard.ensures at c.in_ok-parsed.ensures.reading in
-    reads_left most_read known left _ _ _ reading
-
-pub returns-in-Err-Sink-clause-left : goal.returns-in-Err-Sink-clause-left
-returns-in-Err-Sink-clause-left g c =
-    let parsed = c.in_ok-parsed.parsed in
-    let known = g.S.Source.remaining c.args.source.now in
-    let left = g.S.Source.remaining c.parse.new.source in
-    let before = g.S.Source.given_count c.args.source.now in
-    let given = g.S.Source.given_count c.parse.new.source in
-    let reading : ReadsText most_read known left before given (λ text. IsReadingOf standard_limits text parsed.trace parsed.stop) = rw c.standard.ensures at c.in_ok-parsed.ensures.reading in
-    reads_left most_read known left _ _ _ reading
-
-pub returns-in_err-parsed-clause-grown : goal.returns-in_err-parsed-clause-grown
-returns-in_err-parsed-clause-grown g c =
-    Grows-same _
-
-pub returns-in_err-trace-clause-grown : goal.returns-in_err-trace-clause-grown
-returns-in_err-trace-clause-grown g c =
-    Grows-same _
-
-pub returns-in-Ok-clause-grown : goal.returns-in-Ok-clause-grown
-returns-in-Ok-clause-grown g c =
-    (_, c.in-Ok.ensures.report.written)
-
-pub returns-in-Err-Sink-clause-grown : goal.returns-in-Err-Sink-clause-grown
-returns-in-Err-Sink-clause-grown g c =
-    let cut = rw c.in-Err-Sink.field-0-is at c.in-Err-Sink.ensures.cut in
-    (_, cut.written)
-
-pub returns-clause-grown : goal.returns-clause-grown
-returns-clause-grown g c =
-    let refused = rw c.in-Err-Memory.field-0-is at c.in-Err-Memory.ensures.memory in
-    grown_of_refused g.K.Sink.taken (ListedBy c.args.task.choice) c.args.task.settings.schedules c.in_ok-trace.trace.trace.now c.args.sink.now c.report.new.sink refused
-
-pub returns-in_err-trace-clause-refused : goal.returns-in_err-trace-clause-refused
-returns-in_err-trace-clause-refused g c =
-    let parsed = c.in_ok-parsed.parsed in
-    let known = g.S.Source.remaining c.args.source.now in
-    let left = g.S.Source.remaining c.parse.new.source in
-    let before = g.S.Source.given_count c.args.source.now in
-    let given = g.S.Source.given_count c.parse.new.source in
-    let reading : ReadsText most_read known left before given (λ text. IsReadingOf standard_limits text parsed.trace parsed.stop) = rw c.standard.ensures at c.in_ok-parsed.ensures.reading in
-    refusal_first parsed.trace parsed.stop most_read known left _ _ _ c.from_residual-in_err-trace.result c.from_residual-in_err-trace.ensures.1 reading c.in_err-trace.ensures.refused
+    let read = c.in_ok-parsed.ensures in
+    let reading : ReadsText most_read (g.S.Source.remaining c.args.source.now) (g.S.Source.remaining c.parse.new.source) (g.S.Source.given_count c.args.source.now) (g.S.Source.given_count c.parse.new.source)
+        (λ text. IsReadingOf standard_limits text parsed.trace parsed.stop) = rw c.standard.ensures at read.reading in
+    of_no_memory c.args.task.choice c.args.task.settings.schedules g.S.Source.remaining g.S.Source.given_count g.S.Source.failure_count c.args.source.now c.parse.new.source
+    g.K.Sink.taken g.K.Sink.failure_count c.args.sink.now (rw c.standard.ensures at read.taken) (rw c.standard.ensures at read.given)
+    parsed.trace parsed.stop reading read.counted
+    c.in_ok-trace.trace.trace.now c.in_ok-trace.ensures.accepted c.report.new.sink
+    (rw c.in-Err-Memory.field-0-is at c.in-Err-Memory.ensures.memory) (rw c.in-Err-Memory.field-0-is at c.in-Err-Memory.ensures.counted)
