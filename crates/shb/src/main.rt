@@ -9,7 +9,7 @@ mod reports;
 
 use crate::checks::check_report;
 use crate::complaints::{FAILED, WORDS_REFUSED, complain};
-use crate::reports::report;
+use crate::reports::follow_report;
 use shb_run::Settings;
 use shb_words::{Plan, WordsFault, plan_of};
 use std::env;
@@ -39,7 +39,7 @@ fn follow<R: Print + Eprint + Input + AllocGlobal + Files + RandomSource + Threa
                 schedules: !list,
             };
             let path = trace.as_ref().map(|path| path.as_str());
-            report(rt, path, listing, settings)
+            follow_report(rt, path, listing, settings)
         }
         Ok(Plan::Check { trace }) => check_report(rt, trace.as_str()),
         Ok(Plan::Help { text }) => match rt.print(text.as_str()) {

@@ -17,7 +17,7 @@ use std::thread::Threads;
 const REPORT_BUFFER: usize = 1 << 16;
 
 /// Writes the report of a source to standard output, and gives the program's status.
-fn write_report<R: Print + Eprint + AllocGlobal + RandomSource + Threads + Wait + Sync, S: Source>(
+fn run_listing<R: Print + Eprint + AllocGlobal + RandomSource + Threads + Wait + Sync, S: Source>(
     rt: &R,
     source: &mut S,
     listing: Listing,
@@ -39,14 +39,14 @@ fn write_report<R: Print + Eprint + AllocGlobal + RandomSource + Threads + Wait 
 
 /// Writes the report of a file, or of standard input where none is named, to standard output, and gives
 /// the program's status.
-pub(crate) fn report<
+pub(crate) fn follow_report<
     R: Print + Eprint + Input + AllocGlobal + Files + RandomSource + Threads + Wait + Sync,
 >(rt: &R, trace: Option<&str>, listing: Listing, settings: Settings) -> u8 {
     match trace {
         Some(path) => match File::open(rt, path) {
-            Ok(file) => write_report(rt, &mut FromRead::new(file), listing, settings),
+            Ok(file) => run_listing(rt, &mut FromRead::new(file), listing, settings),
             Err(_) => complain(rt, "cannot open", FAILED),
         },
-        None => write_report(rt, &mut FromRead::new(rt.reader()), listing, settings),
+        None => run_listing(rt, &mut FromRead::new(rt.reader()), listing, settings),
     }
 }

@@ -10,7 +10,7 @@ ghost use Rattle.shb_report.specs.Report.{pair_of};
 ghost use Rattle.shb_counts.specs.Counted.{HasCounted};
 ghost use Rattle.shb_counts.specs.Tables.{AreTables};
 
-use crate::accesses::{Run, count_run};
+use crate::accesses::{Indices, count_accesses};
 use crate::counter::{Located, RaceCounter};
 use crate::numbering::{LocationNumbers, location_numbers};
 use crate::racing::Room;
@@ -142,12 +142,12 @@ fn count_many<'a, 't, O: Order>(
         mut room,
         had_many: _,
     } = many;
-    let run = Run {
+    let indices = Indices {
         from: piece.from as usize,
         to: piece.to as usize,
     };
     let before = counter.races;
-    count_run(&mut room, counter, located, &search, &tables, &run)?;
+    count_accesses(&mut room, counter, located, &search, &tables, &indices)?;
     let races = counter.races.saturating_sub(before);
     let had_many = has_many(located, job.events(), races, piece.to - piece.from);
     Ok(Many {

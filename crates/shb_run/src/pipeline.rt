@@ -83,7 +83,7 @@ fn report_all<R: Threads + Wait + Sync + RandomSource, K: Sink, P: Gate + Sync, 
 }
 
 /// Writes the report of a trace that is asked for.
-fn report<R: Threads + Wait + Sync + RandomSource, K: Sink, P: Gate + Sync, W: Gate + Sync>(
+fn report_asked<R: Threads + Wait + Sync + RandomSource, K: Sink, P: Gate + Sync, W: Gate + Sync>(
     rt: &R,
     alloc: Global,
     sink: &mut K,
@@ -201,7 +201,7 @@ pub(crate) fn run_task<
 {
     let parsed = parse(rt, alloc, source, &Limits::standard())?;
     let trace = judge(alloc, &parsed)?;
-    match report(rt, alloc, sink, &trace, task, gates) {
+    match report_asked(rt, alloc, sink, &trace, task, gates) {
         Ok(summary) => Ok(summary),
         Err(WriteError::Sink) => Err(RunError::Sink),
         Err(WriteError::Memory) => Err(RunError::Memory),

@@ -55,7 +55,7 @@ fn write_tail<S: Sink>(rt: &impl Abort, sink: &mut S) -> Result<(), Failed> {
 }
 
 /// Writes the report of a trace with one race, whose place this is.
-fn write_report<S: Sink>(
+fn write_whole<S: Sink>(
     rt: &impl Abort,
     sink: &mut S,
     trace: &Trace,
@@ -156,7 +156,7 @@ fn writes_reports(rt: HostRuntime) -> Result<(), Fail> {
         assert!(rt; are_in_range(&trace, pairs.as_slice()));
         let places = places_of(&rt, rt.alloc(), &trace, pairs.as_slice())?;
         let mut page = Page::new(rt.alloc(), 200, 7, None)?;
-        write_report(&rt, &mut page, &trace, &places, pair, schedule)?;
+        write_whole(&rt, &mut page, &trace, &places, pair, schedule)?;
         same_bytes(&rt, page.bytes(), wanted, "a report");
     }
     Ok(())

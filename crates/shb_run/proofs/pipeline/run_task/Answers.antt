@@ -34,7 +34,7 @@ returns-in-Ok g c =
     of_report c.args.task.choice c.args.task.settings.schedules g.S.Source.remaining g.S.Source.given_count g.S.Source.failure_count c.args.source.now c.parse.new.source
     g.K.Sink.taken g.K.Sink.failure_count c.args.sink.now (rw c.standard.ensures at read.taken) (rw c.standard.ensures at read.given)
     parsed.trace parsed.stop reading read.counted
-    trace.trace.now c.in_ok-trace.ensures.accepted c.report.new.sink
+    trace.trace.now c.in_ok-trace.ensures.accepted c.report_asked.new.sink
     trace.events.now _ trace.meets trace.of_trace c.in-Ok.ensures.report c.in-Ok.ensures.fits c.in-Ok.ensures.counted
 
 pub returns-in-Err-Sink : goal.returns-in-Err-Sink
@@ -46,7 +46,7 @@ returns-in-Err-Sink g c =
     of_failed_sink c.args.task.choice c.args.task.settings.schedules g.S.Source.remaining g.S.Source.given_count g.S.Source.failure_count c.args.source.now c.parse.new.source
     g.K.Sink.taken g.K.Sink.failure_count c.args.sink.now (rw c.standard.ensures at read.taken) (rw c.standard.ensures at read.given)
     parsed.trace parsed.stop reading read.counted
-    c.in_ok-trace.trace.trace.now c.in_ok-trace.ensures.accepted c.report.new.sink
+    c.in_ok-trace.trace.trace.now c.in_ok-trace.ensures.accepted c.report_asked.new.sink
     (rw c.in-Err-Sink.field-0-is at c.in-Err-Sink.ensures.cut) (rw c.in-Err-Sink.field-0-is at c.in-Err-Sink.ensures.counted)
 
 pub returns : goal.returns
@@ -58,5 +58,5 @@ returns g c =
     of_no_memory c.args.task.choice c.args.task.settings.schedules g.S.Source.remaining g.S.Source.given_count g.S.Source.failure_count c.args.source.now c.parse.new.source
     g.K.Sink.taken g.K.Sink.failure_count c.args.sink.now (rw c.standard.ensures at read.taken) (rw c.standard.ensures at read.given)
     parsed.trace parsed.stop reading read.counted
-    c.in_ok-trace.trace.trace.now c.in_ok-trace.ensures.accepted c.report.new.sink
+    c.in_ok-trace.trace.trace.now c.in_ok-trace.ensures.accepted c.report_asked.new.sink
     (rw c.in-Err-Memory.field-0-is at c.in-Err-Memory.ensures.memory) (rw c.in-Err-Memory.field-0-is at c.in-Err-Memory.ensures.counted)
