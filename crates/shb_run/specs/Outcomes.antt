@@ -15,7 +15,6 @@ use Rattle.shb_run.specs.Written.{ListedBy}
 -- of a source: the bytes still to come, how many bytes it has given, and how many reads have failed, at the start and at the end; of a sink: the bytes that it took, and how many writes have failed
 module _ {A B : Type 0} (choice : Choice) (with_schedules : Bool) (remaining : A → Option (List ℕ)) (given failed_reads : A → ℕ) (source left : A)
     (taken : B → Option (List ℕ)) (failed_writes : B → ℕ) (sink written : B) where
-
   -- P holds of the text that was read
   abbrev pub OnText : (List ℕ → Type 0) → Type 0
   OnText P = ReadsText most_read (remaining source) (remaining left) (given source) (given left) P

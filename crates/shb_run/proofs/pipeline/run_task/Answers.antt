@@ -18,7 +18,7 @@ returns-in_err-trace g c =
     let parsed = c.in_ok-parsed.parsed in
     let read = c.in_ok-parsed.ensures in
     let reading : ReadsText most_read (g.S.Source.remaining c.args.source.now) (g.S.Source.remaining c.parse.new.source) (g.S.Source.given_count c.args.source.now) (g.S.Source.given_count c.parse.new.source)
-        (λ text. IsReadingOf standard_limits text parsed.trace parsed.stop) = rw c.standard.ensures at read.reading in
+    (λ text. IsReadingOf standard_limits text parsed.trace parsed.stop) = rw c.standard.ensures at read.reading in
     of_refused c.args.task.choice c.args.task.settings.schedules g.S.Source.remaining g.S.Source.given_count g.S.Source.failure_count c.args.source.now c.parse.new.source
     g.K.Sink.taken g.K.Sink.failure_count c.args.sink.now (rw c.standard.ensures at read.taken) (rw c.standard.ensures at read.given)
     parsed.trace parsed.stop reading read.counted
@@ -29,7 +29,7 @@ returns-in-Ok g c =
     let parsed = c.in_ok-parsed.parsed in
     let read = c.in_ok-parsed.ensures in
     let reading : ReadsText most_read (g.S.Source.remaining c.args.source.now) (g.S.Source.remaining c.parse.new.source) (g.S.Source.given_count c.args.source.now) (g.S.Source.given_count c.parse.new.source)
-        (λ text. IsReadingOf standard_limits text parsed.trace parsed.stop) = rw c.standard.ensures at read.reading in
+    (λ text. IsReadingOf standard_limits text parsed.trace parsed.stop) = rw c.standard.ensures at read.reading in
     let trace = c.in_ok-trace.trace in
     of_report c.args.task.choice c.args.task.settings.schedules g.S.Source.remaining g.S.Source.given_count g.S.Source.failure_count c.args.source.now c.parse.new.source
     g.K.Sink.taken g.K.Sink.failure_count c.args.sink.now (rw c.standard.ensures at read.taken) (rw c.standard.ensures at read.given)
@@ -42,7 +42,7 @@ returns-in-Err-Sink g c =
     let parsed = c.in_ok-parsed.parsed in
     let read = c.in_ok-parsed.ensures in
     let reading : ReadsText most_read (g.S.Source.remaining c.args.source.now) (g.S.Source.remaining c.parse.new.source) (g.S.Source.given_count c.args.source.now) (g.S.Source.given_count c.parse.new.source)
-        (λ text. IsReadingOf standard_limits text parsed.trace parsed.stop) = rw c.standard.ensures at read.reading in
+    (λ text. IsReadingOf standard_limits text parsed.trace parsed.stop) = rw c.standard.ensures at read.reading in
     of_failed_sink c.args.task.choice c.args.task.settings.schedules g.S.Source.remaining g.S.Source.given_count g.S.Source.failure_count c.args.source.now c.parse.new.source
     g.K.Sink.taken g.K.Sink.failure_count c.args.sink.now (rw c.standard.ensures at read.taken) (rw c.standard.ensures at read.given)
     parsed.trace parsed.stop reading read.counted
@@ -54,7 +54,7 @@ returns g c =
     let parsed = c.in_ok-parsed.parsed in
     let read = c.in_ok-parsed.ensures in
     let reading : ReadsText most_read (g.S.Source.remaining c.args.source.now) (g.S.Source.remaining c.parse.new.source) (g.S.Source.given_count c.args.source.now) (g.S.Source.given_count c.parse.new.source)
-        (λ text. IsReadingOf standard_limits text parsed.trace parsed.stop) = rw c.standard.ensures at read.reading in
+    (λ text. IsReadingOf standard_limits text parsed.trace parsed.stop) = rw c.standard.ensures at read.reading in
     of_no_memory c.args.task.choice c.args.task.settings.schedules g.S.Source.remaining g.S.Source.given_count g.S.Source.failure_count c.args.source.now c.parse.new.source
     g.K.Sink.taken g.K.Sink.failure_count c.args.sink.now (rw c.standard.ensures at read.taken) (rw c.standard.ensures at read.given)
     parsed.trace parsed.stop reading read.counted
