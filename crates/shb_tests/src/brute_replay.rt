@@ -3,7 +3,7 @@
 ghost use Rattle.std.specs.Prelude.{◌≡◌, ◌<◌, ◌≤◌, length};
 ghost use Rattle.shb_lines.specs.text.Limits.{most_events};
 
-use crate::asserting::same;
+use shb_asserting::same;
 use crate::fixtures::{Question, asked, pair};
 use shb_discipline::Disciplined;
 use shb_lines::{Event, Events, Op};

@@ -1,7 +1,7 @@
 //! Checkpoints of a longer trace. They only save time, so no clause says that they are there or that
 //! the last one is found.
 
-use crate::asserting::same;
+use shb_asserting::same;
 use crate::fixtures::{Question, asked};
 use shb_discipline::Disciplined;
 use shb_links::{Linked, Links};

@@ -2,7 +2,7 @@
 
 ghost use Rattle.std.specs.Prelude.{◌<◌, length};
 
-use crate::asserting::same;
+use shb_asserting::same;
 use crate::fixtures::{Question, asked, pair};
 use shb_discipline::Disciplined;
 use shb_lines::Pair;

@@ -2,7 +2,7 @@
 ghost use Rattle.std.specs.Prelude.{All};
 ghost use Rattle.shb_report.specs.Places.{IsPlaceOf};
 
-use crate::asserting::{same, same_bytes};
+use shb_asserting::{same, same_bytes};
 use crate::fixtures::{pair, parsed};
 use crate::places::are_in_range;
 use shb_io::{Failed, NoMemory, Page, Sink};

@@ -2,7 +2,7 @@
 //! their number changes nothing.
 ghost use Rattle.std.specs.Prelude.{◌<◌};
 
-use crate::asserting::{holds, same, same_bytes};
+use shb_asserting::{holds, same, same_bytes};
 use crate::run::{Devices, ample, done, expect_run, failed, settings};
 use shb_io::{Failed, NoMemory, Page, Sink, Text};
 use shb_run::{FreeGate, Gate, Settings, run_gated};
