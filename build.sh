@@ -6,9 +6,9 @@ set -eu
 cd "$(dirname "$0")"
 room=$(mktemp -d)
 trap 'rm -rf "$room"' EXIT
-grep -v '^shb_tests ' crates.txt > "$room/crates.txt"
+grep -vE '^shb_(run_tests|tests|asserting)[: ]' crates.txt > "$room/crates.txt"
 cp HANDLES "$room"
-tar -c --exclude=out --exclude=must-fail --exclude=shb_tests crates | tar -x -C "$room"
+tar -c --exclude=out --exclude=must-fail --exclude=shb_tests --exclude=shb_run_tests --exclude=shb_asserting crates | tar -x -C "$room"
 (cd "$room" && rt ci)
 mkdir -p bin
 cp "$room/crates/shb/out/shb" bin/shb

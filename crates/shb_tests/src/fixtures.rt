@@ -1,4 +1,4 @@
-//! What the tests of several crates begin with.
+//! What the tests of several crates begin with: traces, their links, and made texts.
 ghost use Rattle.std.specs.Prelude.{◌≡◌};
 
 use shb_discipline::{Disciplined, check};
@@ -6,7 +6,6 @@ use shb_io::{NoMemory, Text};
 use shb_lines::{Limits, Pair, Parsed, ReadError, parse};
 use shb_links::{Links, links_of, links_without_tables};
 use std::alloc::Global;
-use std::sync::atomic::{AtomicU64, Ordering};
 use std::test::Fail;
 
 /// A text, read whole.
@@ -19,25 +18,6 @@ pub fn pair(first: u32, second: u32) -> Pair
     ensures { (result.first ≡ first) × (result.second ≡ second) }
 {
     Pair { first, second }
-}
-
-/// So many counters at zero.
-pub fn zeros(alloc: Global, count: u32) -> Result<Vec<AtomicU64>, NoMemory> {
-    let mut all = Vec::new(alloc);
-    for _ in 0..count {
-        all.push(AtomicU64::new(0))?;
-    }
-    Ok(all)
-}
-
-/// Whether each counter is at one.
-pub fn all_one(counters: &[AtomicU64]) -> bool {
-    for times in counters {
-        if times.load(Ordering::SeqCst) != 1 {
-            return false;
-        }
-    }
-    true
 }
 
 /// What a test asks of a trace and its links.

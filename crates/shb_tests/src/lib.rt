@@ -1,22 +1,15 @@
-//! The tests of all crates, on top of them, so that no crate is proved a second time for its tests.
+//! The tests of the crates that read and judge traces, find races and schedules and write reports, on top
+//! of them, so that no crate is proved a second time for its tests. Those of threads, devices, whole runs
+//! and the reading of reports are in `shb_run_tests`.
 //!
 //! Each module has the tests of one crate, and has its name: `links` those of `shb_links`. They use
-//! public items alone. A test of a private item stays in its crate, in `src/tests.rt`.
-//!
-//! A test is proved like any function, and an assertion written in it costs some 9 seconds of
-//! proof. So a test calls the functions of `asserting`: `same(&rt, &found, &wanted, "what it is")`,
-//! and `same_in_row` in a loop over a table. Where later calls rest on what was asserted, as a look-up
-//! on a length, there is one with an `ensures`, as `has_length`. Fixtures that several modules need
+//! public items alone. Assertions are calls of `shb_asserting`. Fixtures that several modules need
 //! stand in `fixtures`. A table is a `const` or a local array above its loop, one row a line; rows
 //! that need the whole program stand in `tests/*.py`.
 #![tactic(auto)]
 
 #[cfg(test)]
-mod asserting;
-#[cfg(test)]
 mod brute_replay;
-#[cfg(test)]
-mod check;
 #[cfg(test)]
 mod checkpoints;
 #[cfg(test)]
@@ -24,19 +17,7 @@ mod clocks;
 #[cfg(test)]
 mod discipline;
 #[cfg(test)]
-mod endings;
-#[cfg(test)]
-mod fan;
-#[cfg(test)]
-mod fan_machine;
-#[cfg(test)]
 mod fixtures;
-#[cfg(test)]
-mod gates;
-#[cfg(test)]
-mod io;
-#[cfg(test)]
-mod leading;
 #[cfg(test)]
 mod lines;
 #[cfg(test)]
@@ -50,10 +31,4 @@ mod replay;
 #[cfg(test)]
 mod report;
 #[cfg(test)]
-mod report_reading;
-#[cfg(test)]
-mod run;
-#[cfg(test)]
 mod witness;
-#[cfg(test)]
-mod workers;

@@ -1,0 +1,27 @@
+//! The tests of threads, devices, whole runs and the reading of reports, on top of the crates that they
+//! test. They are laid out as those of `shb_tests`, and are a crate of their own, so that both are checked
+//! at once.
+#![tactic(auto)]
+
+#[cfg(test)]
+mod check;
+#[cfg(test)]
+mod counters;
+#[cfg(test)]
+mod endings;
+#[cfg(test)]
+mod fan;
+#[cfg(test)]
+mod fan_machine;
+#[cfg(test)]
+mod gates;
+#[cfg(test)]
+mod io;
+#[cfg(test)]
+mod leading;
+#[cfg(test)]
+mod report_reading;
+#[cfg(test)]
+mod run;
+#[cfg(test)]
+mod workers;
