@@ -13,8 +13,8 @@ use Rattle.atomic_table.specs.declared.shared.Seat.{Seat}
 use Rattle.shb_fan.specs.declared.ticket_table.Plan.{Plan}
 use Rattle.shb_fan.specs.declared.ticket_table.PassView.{PassView}
 use Rattle.shb_fan.specs.Numbers.{weight, times, once_below, total}
-use Rattle.shb_fan.specs.Drawing.{parts_of, spent_of, halted_of, seen_of, times_of, Holds, Kept}
-use Rattle.shb_fan.specs.Passes.{Source, PassState, is_positive, state_of, times_in, halted_in, seen_in, spent_in, IsPass}
+use Rattle.shb_fan.specs.Drawing.{parts_of, spent_of, halted_of, seen_of, times_of, Holds, KeepsDrawing}
+use Rattle.shb_fan.specs.Passes.{TicketSource, PassState, is_positive, state_of, times_in, halted_in, seen_in, spent_in, IsPass}
 use Rattle.shb_fan.proofs.Counts.{total-whole}
 
 pub counted : (f : PassState → ℕ) (rest ys : List PassState) (p : PassState) (n m k : ℕ) → rest ≡ ys ++ p ∷ [] → n + sum_by f rest ≡ m → f p ≡ k → (n + k) + sum_by f ys ≡ m
@@ -78,7 +78,7 @@ told plan t z views r id v at whole =
       ended = (let f = r.ended in omega arith);
     }
 
-pub closes : (plan : Plan) (id : ℕ) (v : PassView) (ws : List ℕ) (xs : List (Unit {0})) → Final (Seen (Kept plan) id v) ws xs → v.parts ≡ plan.passes
+pub closes : (plan : Plan) (id : ℕ) (v : PassView) (ws : List ℕ) (xs : List (Unit {0})) → Final (Seen (KeepsDrawing plan) id v) ws xs → v.parts ≡ plan.passes
     → (t z : ℕ) → get_elem? ws 0 ≡ some t → get_elem? ws 1 ≡ some z → Told plan v t z
 closes plan id v ws xs f whole t z first second = let s = f.0 in
     subst (λ (w : ℕ × ℕ). Told plan v w.0 w.1) (λ i. ((ap (λ (l : List ℕ). get_or l 0 0) f.2 ∙ index-at ws 0 t first) i, (ap (λ (l : List ℕ). get_or l 1 0) f.2 ∙ index-at ws 1 z second) i))
@@ -101,7 +101,7 @@ pub any_to : (f : PassState → Bool) (xs : List PassState) → Any (λ p. IsTru
 any_to f xs a = let le = get_or-le-sum_by (λ (p : PassState). weight (f p)) xs a.0 a.1 a.2 in
     let one : weight (f (get_or xs a.0 a.1)) ≡ 1 = ap (λ (p : PassState). weight (f p)) a.3 ∙ ap weight a.4 in omega arith
 
-pub ours_before : (z : Source) (xs ys : List PassState) (p : PassState) → xs ≡ ys ++ p ∷ [] → All (λ q. q.source ≡ z) xs → All (λ q. q.source ≡ z) ys × (p.source ≡ z)
+pub ours_before : (z : TicketSource) (xs ys : List PassState) (p : PassState) → xs ≡ ys ++ p ∷ [] → All (λ q. q.source ≡ z) xs → All (λ q. q.source ≡ z) ys × (p.source ≡ z)
 ours_before z xs ys p longer all = All-pop (λ (q : PassState). q.source ≡ z) xs ys (Some p) longer all
 
 pub low : (drawn ticket planned limit : ℕ) → drawn ≡ min ticket planned → planned ≡ limit → drawn ≤ limit

@@ -2,8 +2,8 @@
 use Rattle.std.proofs.Common.{◌≡◌, ℕ, List, [], ◌∷◌, ◌++◌, length, map, sym, refl, ap, ◌∙◌, arith, append-nil, append_assoc}
 use Rattle.std.specs.Prelude.{flat_map}
 use Rattle.shb_fan.specs.Values.{AreJoined, values_of}
-use Rattle.shb_fan.specs.Runs.{run_count, run_value}
-use Rattle.shb_fan.proofs.RunValues.{kept_runs}
+use Rattle.shb_fan.specs.Batches.{batch_count, batch_value}
+use Rattle.shb_fan.proofs.BatchValues.{kept_batches}
 
 module _ {V T : Type 0} (items : V → List T) where
   -- the first of the lists goes to what is joined
@@ -19,12 +19,12 @@ module _ {V T : Type 0} (items : V → List T) where
   joined_all [] joined all none before = sym (append-nil joined) ∙ before
   joined_all (v ∷ lists) joined all none before = absurd (omega (arith, none))
 
-  -- the lists of all runs, joined to none
-  pub joined_runs : {W M : Type 0} (runs : W → List V) (meaning : V → M) (f : ℕ → M) (n count : ℕ) (given : List W) (start end : List T)
-      → map (λ r. map meaning (runs r)) given ≡ values_of (run_value f n) (run_count n) → end ≡ start ++ flat_map items (flat_map runs given) → start ≡ [] → n ≡ count
+  -- the lists of all batches, joined to none
+  pub joined_batches : {W M : Type 0} (batches : W → List V) (meaning : V → M) (f : ℕ → M) (n count : ℕ) (given : List W) (start end : List T)
+      → map (λ r. map meaning (batches r)) given ≡ values_of (batch_value f n) (batch_count n) → end ≡ start ++ flat_map items (flat_map batches given) → start ≡ [] → n ≡ count
       → AreJoined items meaning (values_of f count) end
-  joined_runs runs meaning f n count given start end all kept none_before is = (
-    flat_map runs given,
-    kept_runs runs meaning f n count given [] (flat_map runs given) all refl refl is,
-    kept ∙ ap (λ (l : List T). l ++ flat_map items (flat_map runs given)) none_before,
+  joined_batches batches meaning f n count given start end all kept none_before is = (
+    flat_map batches given,
+    kept_batches batches meaning f n count given [] (flat_map batches given) all refl refl is,
+    kept ∙ ap (λ (l : List T). l ++ flat_map items (flat_map batches given)) none_before,
   )

@@ -8,7 +8,7 @@ use Rattle.atomic_table.specs.Table.{State, Me, step, keeps, stepped, opening, A
 use Rattle.shb_fan.specs.declared.ticket_table.Plan.{Plan}
 use Rattle.shb_fan.specs.declared.ticket_table.PassView.{PassView}
 use Rattle.shb_fan.specs.Numbers.{once_below, total}
-use Rattle.shb_fan.specs.Drawing.{pass_view, parts_of, spent_of, halted_of, seen_of, times_of, Sound, Holds, Kept, gained, used_up, warned, drew, saw, looked, stopped, left_over, one_part, joined, spent_pass_view}
+use Rattle.shb_fan.specs.Drawing.{pass_view, parts_of, spent_of, halted_of, seen_of, times_of, Sound, Holds, KeepsDrawing, gained, used_up, warned, drew, saw, looked, stopped, left_over, one_part, joined, spent_pass_view}
 use Rattle.atomic_table.proofs.Lists.{set_again, set_else}
 use Rattle.shb_fan.proofs.Counts.{total-set, total-snoc, total-at, total-le, sound-set, sound-snoc, times-append, times-snoc, once_below-more, once_below-min, once_below-nothing, all-below}
 
@@ -20,13 +20,13 @@ M = Me (Unit {0}) PassView
 
 module _ (plan : Plan) where
   -- a step on the ticket, and one on the stop word
-  on_ticket : (s : St) → length s.words ≡ 2 → (n id : ℕ) (me : M) (w : PassView) → Holds plan n (get_or s.words 1 0) (set s.views id w) → Kept plan (stepped s 0 n id me.1 w keeps)
+  on_ticket : (s : St) → length s.words ≡ 2 → (n id : ℕ) (me : M) (w : PassView) → Holds plan n (get_or s.words 1 0) (set s.views id w) → KeepsDrawing plan (stepped s 0 n id me.1 w keeps)
   on_ticket s wide n id me w h = (
     length-set s.words 0 n ∙ wide,
     subst (λ (z : ℕ × ℕ). Holds plan z.0 z.1 (set s.views id w)) (λ i. (sym (get_or-set_same s.words 0 n 0 (omega arith)) i, sym (get_or-set_other s.words 0 1 n 0 (omega arith)) i)) h,
   )
 
-  on_stop : (s : St) → length s.words ≡ 2 → (n id : ℕ) (me : M) (w : PassView) → Holds plan (get_or s.words 0 0) n (set s.views id w) → Kept plan (stepped s 1 n id me.1 w keeps)
+  on_stop : (s : St) → length s.words ≡ 2 → (n id : ℕ) (me : M) (w : PassView) → Holds plan (get_or s.words 0 0) n (set s.views id w) → KeepsDrawing plan (stepped s 1 n id me.1 w keeps)
   on_stop s wide n id me w h = (
     length-set s.words 1 n ∙ wide,
     subst (λ (z : ℕ × ℕ). Holds plan z.0 z.1 (set s.views id w)) (λ i. (sym (get_or-set_other s.words 1 0 n 0 (omega arith)) i, sym (get_or-set_same s.words 1 n 0 (omega arith)) i)) h,
@@ -104,7 +104,7 @@ module _ (plan : Plan) where
   nothing_joined v w a b e = let p = a.nothing (omega arith) in let q = b.nothing (omega arith) in ((λ i. p.0 i ++ q.0 i), (let m = p.1 in let n = q.1 in omega arith), (let m = p.2 in let n = q.2 in omega arith))
 
   pub draws : (slots id : ℕ) (me : M) → 0 < me.0.parts → me.0.spent ≡ 0 → me.0.plan.limit ≡ plan.limit
-      → Allows (Kept plan) slots id me 0 (λ n. (n + 1) % 2 ^ 64) (drew (step slots 0 1 0 none) me)
+      → Allows (KeepsDrawing plan) slots id me 0 (λ n. (n + 1) % 2 ^ 64) (drew (step slots 0 1 0 none) me)
   draws slots id me one unspent same s r _ at _ = let v : PassView = me.0 in let t : ℕ = get_or s.words 0 0 in let z : ℕ = get_or s.words 1 0 in let h = r.1 in
       let few = spent_few t z s.views h id v at in let low : t ≤ plan.limit + total spent_of s.views = h.low in let small = h.small in
       let up : t + 1 ≡ (t + 1) % 18446744073709551616 = omega arith in dite (dec_lt t plan.limit)
@@ -112,14 +112,14 @@ module _ (plan : Plan) where
         gained v t,
         keeps,
         tt,
-        subst (λ (n : ℕ). Kept plan (stepped s 0 n id me.1 (gained v t) keeps)) up (on_ticket s r.0 (t + 1) id me (gained v t) (gains t z s.views h id v at room one)),
+        subst (λ (n : ℕ). KeepsDrawing plan (stepped s 0 n id me.1 (gained v t) keeps)) up (on_ticket s r.0 (t + 1) id me (gained v t) (gains t z s.views h id v at room one)),
         ((λ _. (drawn_below t z s.views h id v at, refl)), λ full. absurd (omega arith)),
       ))
       (λ full. (
         used_up v,
         keeps,
         tt,
-        subst (λ (n : ℕ). Kept plan (stepped s 0 n id me.1 (used_up v) keeps)) up (on_ticket s r.0 (t + 1) id me (used_up v) (ends t z s.views h id v at (t + 1) one unspent (omega arith) (omega arith) (omega arith) (λ _. omega arith))),
+        subst (λ (n : ℕ). KeepsDrawing plan (stepped s 0 n id me.1 (used_up v) keeps)) up (on_ticket s r.0 (t + 1) id me (used_up v) (ends t z s.views h id v at (t + 1) one unspent (omega arith) (omega arith) (omega arith) (λ _. omega arith))),
         ((λ room. absurd (omega arith)), λ _. refl),
       ))
 
@@ -127,7 +127,7 @@ module _ (plan : Plan) where
   seen_halted : (t z : ℕ) (views : List PassView) → Holds plan t z views → (id : ℕ) (v : PassView) → get_elem? views id ≡ some v → z ≡ 0 → v.halted ≡ 0
   seen_halted t z views r id v at unset = dite (ℕ_discrete v.halted 0) (λ e. e) (λ e. let least = total-at halted_of views id v at in let h = r.halted (omega arith) in absurd (omega arith))
 
-  pub sees : (slots id : ℕ) (me : M) → 0 < me.0.parts → me.0.spent ≡ 0 → Allows (Kept plan) slots id me 1 (λ n. n) (saw (step slots 1 0 0 none) me)
+  pub sees : (slots id : ℕ) (me : M) → 0 < me.0.parts → me.0.spent ≡ 0 → Allows (KeepsDrawing plan) slots id me 1 (λ n. n) (saw (step slots 1 0 0 none) me)
   sees slots id me one unspent s r _ at _ = let v : PassView = me.0 in let t : ℕ = get_or s.words 0 0 in let z : ℕ = get_or s.words 1 0 in let h = r.1 in dite (ℕ_discrete z 0)
       (λ unset. (v, keeps, tt, on_stop s r.0 z id me v (stays t z s.views h id v at), ((λ _. (seen_halted t z s.views h id v at unset, refl)), λ more. absurd (omega arith))))
       (λ more. (
@@ -142,12 +142,12 @@ module _ (plan : Plan) where
   seen_before : (t z : ℕ) (views : List PassView) → Holds plan t z views → (id : ℕ) (v : PassView) → get_elem? views id ≡ some v → z ≡ 0 → v.seen ≡ 0
   seen_before t z views r id v at unset = let least = total-at seen_of views id v at in let h = r.seen unset in omega arith
 
-  pub looks : (slots id : ℕ) (me : M) → 0 < me.0.parts → Allows (Kept plan) slots id me 1 (λ n. n) (looked (step slots 1 0 0 none) me)
+  pub looks : (slots id : ℕ) (me : M) → 0 < me.0.parts → Allows (KeepsDrawing plan) slots id me 1 (λ n. n) (looked (step slots 1 0 0 none) me)
   looks slots id me one s r _ at _ = let v : PassView = me.0 in let t : ℕ = get_or s.words 0 0 in let z : ℕ = get_or s.words 1 0 in let h = r.1 in dite (ℕ_discrete z 0)
       (λ unset. (v, keeps, tt, on_stop s r.0 z id me v (stays t z s.views h id v at), ((λ _. (seen_halted t z s.views h id v at unset, seen_before t z s.views h id v at unset, refl)), λ more. absurd (omega arith))))
       (λ more. (warned v, keeps, tt, on_stop s r.0 z id me (warned v) (warns t z s.views h id v at one more), ((λ e. absurd (more e)), λ _. refl)))
 
-  pub stops : (slots id : ℕ) (me : M) → 0 < me.0.parts → Allows (Kept plan) slots id me 1 (λ _. 1) (λ _. stopped (step slots 1 1 0 none) me 1)
+  pub stops : (slots id : ℕ) (me : M) → 0 < me.0.parts → Allows (KeepsDrawing plan) slots id me 1 (λ _. 1) (λ _. stopped (step slots 1 1 0 none) me 1)
   stops slots id me one s r _ at _ = let v : PassView = me.0 in let t : ℕ = get_or s.words 0 0 in let z : ℕ = get_or s.words 1 0 in
       (pass_view v.parts v.plan v.drawn v.spent 1 v.seen, keeps, tt, on_stop s r.0 1 id me (pass_view v.parts v.plan v.drawn v.spent 1 v.seen) (halts t z s.views r.1 id v at one), refl)
 
@@ -182,14 +182,14 @@ module _ (plan : Plan) where
         sound = sound-set made other spent_pass_view (record { once = omega arith; nothing = λ _. (refl, refl, refl) }) (sound-set views id u both r.sound);
       }
 
-  pub cuts : (id : ℕ) (v : PassView) → 1 < v.parts → v.spent ≡ 0 → Splits (Kept plan) id v (left_over v) (one_part v)
+  pub cuts : (id : ℕ) (v : PassView) → 1 < v.parts → v.spent ≡ 0 → Splits (KeepsDrawing plan) id v (left_over v) (one_part v)
   cuts id v more unspent s r at = (r.0, cut_views (get_or s.words 0 0) (get_or s.words 1 0) s.views r.1 id v at more unspent)
 
-  pub merges : (id : ℕ) (v : PassView) (other : ℕ) (w : PassView) → Joins (Kept plan) id v other w (joined v w) spent_pass_view
+  pub merges : (id : ℕ) (v : PassView) (other : ℕ) (w : PassView) → Joins (KeepsDrawing plan) id v other w (joined v w) spent_pass_view
   merges id v other w s r at apart there = (r.0, merge_views (get_or s.words 0 0) (get_or s.words 1 0) s.views r.1 id v at other w apart there)
 
   -- the table as it opens
-  pub opens : plan.limit ≤ 2 ^ 60 → plan.passes ≤ 65 → 0 < plan.passes → Kept plan (opening (0 ∷ 0 ∷ []) [] (pass_view plan.passes plan [] 0 0 0))
+  pub opens : plan.limit ≤ 2 ^ 60 → plan.passes ≤ 65 → 0 < plan.passes → KeepsDrawing plan (opening (0 ∷ 0 ∷ []) [] (pass_view plan.passes plan [] 0 0 0))
   opens low few some_pass = (
     refl,
     record {

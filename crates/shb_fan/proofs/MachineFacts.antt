@@ -15,7 +15,7 @@ use Rattle.shb_fan.proofs.Counts.{times-snoc, weight-most, once_below-more, once
 use Rattle.shb_fan.proofs.Spans.{span, span-list, span-window}
 
 -- what each step keeps
-record Kept (s : State) : Type 0 where
+record MachineInvariant (s : State) : Type 0 where
   each_once : (x : ℕ) → sum_by (λ a. times x a.drawn) s.actors ≡ once_below x (min s.next (length s.pieces))
   in_order : (k : ℕ) → is_taken (piece_of s k) ≡ ltb k s.taken
   -- a piece is claimed once the piece 64 before it is freed
@@ -39,8 +39,8 @@ drew x next n a h = ap (λ (b : Bool). times x (cond b (record a { drawn = a.dra
 drew_none : (x next n : ℕ) (a : ActorState) → n ≤ next → times x (after_draw next n a).drawn ≡ times x a.drawn
 drew_none x next n a h = ap (λ (b : Bool). times x (cond b (record a { drawn = a.drawn ++ next ∷ [] }) (record a { spent = true })).drawn) (ltb-false next n h)
 
-module _ (s : State) (r : Kept s) where
-  draws : (a : ℕ) → a < length s.actors → Kept (after s (Draw a))
+module _ (s : State) (r : MachineInvariant s) where
+  draws : (a : ℕ) → a < length s.actors → MachineInvariant (after s (Draw a))
   draws a inside = let n = length s.pieces in let y : ActorState = after_draw s.next n (actor_of s a) in record {
     each_once = λ x. let t = sum_by-set (λ (b : ActorState). times x b.drawn) s.actors a y new_actor inside in let e = r.each_once x in dite (dec_lt s.next n)
         (λ l. let more = drew x s.next n (actor_of s a) l in let up = once_below-more x s.next in
@@ -54,7 +54,7 @@ module _ (s : State) (r : Kept s) where
 
   -- piece k becomes p, which isn't empty
   moves : (k : ℕ) (p : PieceState) (taken : ℕ) → k < length s.pieces → piece_of s k ≢ Freed → ((j : ℕ) → j + 64 ≡ k → piece_of s j ≡ Freed) → is_taken p ≡ ltb k taken → ((j : ℕ) → j ≢ k → ltb j s.taken ≡ ltb j taken)
-      → Kept (record (with_piece s k p) { taken = taken })
+      → MachineInvariant (record (with_piece s k p) { taken = taken })
   moves k p taken inside unfreed before mine others = record {
     each_once = λ x. r.each_once x ∙ ap (λ (n : ℕ). once_below x (min s.next n)) (sym (length-set s.pieces k p));
     in_order = λ j. dite (ℕ_discrete j k)
@@ -72,7 +72,7 @@ module _ (s : State) (r : Kept s) where
   waits : (k : ℕ) → is_taken (piece_of s k) ≡ false → false ≡ ltb k s.taken
   waits k e = sym e ∙ r.in_order k
 
-steps_keep : (s : State) (x : Step) → Kept s → Allowed s x → Kept (after s x)
+steps_keep : (s : State) (x : Step) → MachineInvariant s → Allowed s x → MachineInvariant (after s x)
 steps_keep s (Draw a) r h = draws s r a h.0
 steps_keep s (Claim a k) r h = moves s r k (Claimed a) s.taken h.1
     (λ f. absurd (true-apart (is_taken (piece_of s k)) (ap is_taken f) (ap is_taken h.3)))
@@ -93,8 +93,8 @@ steps_keep s (Free k) r h = moves s r k Freed s.taken h.0
     (sym (ap is_taken h.1) ∙ r.in_order k) (λ j ne. refl)
 steps_keep s (Stop a) r h = record { each_once = r.each_once; in_order = r.in_order; freed_first = r.freed_first }
 
-runs_keep : (xs : List Step) (s t : State) → Kept s → Runs s xs t → Kept t
-runs_keep [] s t r h = subst Kept (sym h) r
+runs_keep : (xs : List Step) (s t : State) → MachineInvariant s → Runs s xs t → MachineInvariant t
+runs_keep [] s t r h = subst MachineInvariant (sym h) r
 runs_keep (x ∷ xs) s t r h = runs_keep xs (after s x) t (steps_keep s x r h.0) h.1
 
 none_drawn : (x n : ℕ) → sum_by (λ (a : ActorState). times x a.drawn) (replicate n new_actor) ≡ 0
@@ -106,14 +106,14 @@ all_empty zero k = refl
 all_empty (suc n) zero = refl
 all_empty (suc n) (suc k) = all_empty n k
 
-starts : (actors pieces : ℕ) → Kept (start actors pieces)
+starts : (actors pieces : ℕ) → MachineInvariant (start actors pieces)
 starts actors pieces = record {
   each_once = λ x. let z = once_below-nothing x (min 0 (length (replicate pieces Empty))) (omega arith) in let n = none_drawn x actors in omega arith;
   in_order = λ k. ap is_taken (all_empty pieces k) ∙ sym (ltb-false k 0 (omega arith));
   freed_first = λ k some_piece. absurd (some_piece (all_empty pieces (k + 64)));
 }
 
-module _ (s : State) (r : Kept s) where
+module _ (s : State) (r : MachineInvariant s) where
   busy : ℕ → ℕ
   busy k = weight (is_busy (piece_of s k))
 

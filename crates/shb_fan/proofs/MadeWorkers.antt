@@ -3,14 +3,14 @@ use Rattle.std.proofs.Common.{◌≡◌, ℕ, zero, suc, ◌+◌, ◌<◌, ◌�
 use Rattle.std.proofs.lemmas.List.{length-replicate}
 use Rattle.std.proofs.lemmas.List.Elements.{All-push, All-pop, All-same, All-replicate}
 use Rattle.shb_fan.specs.declared.shares.Ring.{Ring}
-use Rattle.shb_fan.specs.declared.shares.Seat.{Seat}
+use Rattle.shb_fan.specs.declared.shares.RingSeat.{RingSeat}
 use Rattle.shb_fan.specs.declared.crew.Worker.{Worker}
-use Rattle.shb_fan.specs.Passes.{Source, PassState, fresh}
+use Rattle.shb_fan.specs.Passes.{TicketSource, PassState, fresh}
 use Rattle.shb_fan.specs.Seated.{IsNewSeat, IsSeatOf, claimed_of}
 use Rattle.shb_fan.specs.Streamed.{AreBack, HasAccounts, HasLifted, HasWorked, IsIdle, IsNew}
 use Rattle.shb_fan.proofs.Accounts.{accounts_none, balanced_none, balanced_more}
 
-pub last_pass : (z : Source) (passes rest : List PassState) (pass : PassState) → passes ≡ rest ++ pass ∷ [] → All (λ p. p ≡ fresh z) passes → All (λ p. p ≡ fresh z) rest × (pass ≡ fresh z)
+pub last_pass : (z : TicketSource) (passes rest : List PassState) (pass : PassState) → passes ≡ rest ++ pass ∷ [] → All (λ p. p ≡ fresh z) passes → All (λ p. p ≡ fresh z) rest × (pass ≡ fresh z)
 last_pass z passes rest pass cut all = All-pop (λ (p : PassState). p ≡ fresh z) passes rest (Some pass) cut all
 
 -- what is written back to a list of that length
@@ -20,8 +20,8 @@ take_written A zero (x ∷ xs) rest long = absurd (omega (arith, long))
 take_written A (suc n) [] rest long = absurd (omega (arith, long))
 take_written A (suc n) (x ∷ xs) rest long = ap (λ (l : List A). x ∷ l) (take_written A n xs rest (omega (arith, long)))
 
-module _ {T M J : Type 0} (value : J → ℕ → M) (count : J → ℕ) (z : Source) (ring : Ring T M J) where
-  pub last_seat : (seats rest : List (Seat T M)) (seat : Seat T M) → seats ≡ rest ++ seat ∷ [] → All (IsNewSeat value count ring) seats → All (IsNewSeat value count ring) rest × IsNewSeat value count ring seat
+module _ {T M J : Type 0} (value : J → ℕ → M) (count : J → ℕ) (z : TicketSource) (ring : Ring T M J) where
+  pub last_seat : (seats rest : List (RingSeat T M)) (seat : RingSeat T M) → seats ≡ rest ++ seat ∷ [] → All (IsNewSeat value count ring) seats → All (IsNewSeat value count ring) rest × IsNewSeat value count ring seat
   last_seat seats rest seat cut all = All-pop (IsNewSeat value count ring) seats rest (Some seat) cut all
 
   pub one_made : (workers longer : List (Worker T M)) (worker : Worker T M) → longer ≡ workers ++ worker ∷ [] → worker.pass ≡ fresh z → IsNewSeat value count ring worker.seat
@@ -42,14 +42,14 @@ module _ {T M J : Type 0} (value : J → ℕ → M) (count : J → ℕ) (z : Sou
       let both = All-pop (IsNew value count z ring) workers rest (Some worker) cut all in
       ((λ k d inside. (new_worked _ (both.0 k d inside)).0), new_worked worker both.1)
 
-  abbrev IsHome : Seat T M → Type 0
+  abbrev IsHome : RingSeat T M → Type 0
   IsHome s = IsSeatOf value count ring s × (claimed_of s ≡ [])
 
   pub worked_last : (workers rest : List (Worker T M)) (worker : Worker T M) → workers ≡ rest ++ worker ∷ [] → All (HasWorked value count z ring) workers
       → All (HasWorked value count z ring) rest × HasWorked value count z ring worker
   worked_last workers rest worker cut all = All-pop (HasWorked value count z ring) workers rest (Some worker) cut all
 
-  pub back_none : (passes : List PassState) (seats : List (Seat T M)) → passes ≡ [] → All (IsNewSeat value count ring) seats → AreBack value count z ring passes seats
+  pub back_none : (passes : List PassState) (seats : List (RingSeat T M)) → passes ≡ [] → All (IsNewSeat value count ring) seats → AreBack value count z ring passes seats
   back_none passes seats empty all = record {
     our_passes = λ k d inside. absurd (let long = ap length empty in omega (arith, long, inside));
     our_seats = λ k d inside. let s = all k d inside in (s.0, s.1);
@@ -59,10 +59,10 @@ module _ {T M J : Type 0} (value : J → ℕ → M) (count : J → ℕ) (z : Sou
   pub passes_more : (passes more : List PassState) (p : PassState) → more ≡ passes ++ p ∷ [] → All (λ q. q.source ≡ z) passes → p.source ≡ z → All (λ q. q.source ≡ z) more
   passes_more passes more p longer all one = All-same (λ (q : PassState). q.source ≡ z) more (passes ++ p ∷ []) longer (All-push (λ (q : PassState). q.source ≡ z) passes p all one)
 
-  pub seats_more : (seats others : List (Seat T M)) (s : Seat T M) → others ≡ seats ++ s ∷ [] → All IsHome seats → IsHome s → All (λ u. IsSeatOf value count ring u × (claimed_of u ≡ [])) others
+  pub seats_more : (seats others : List (RingSeat T M)) (s : RingSeat T M) → others ≡ seats ++ s ∷ [] → All IsHome seats → IsHome s → All (λ u. IsSeatOf value count ring u × (claimed_of u ≡ [])) others
   seats_more seats others s wider all one = All-same IsHome others (seats ++ s ∷ []) wider (All-push IsHome seats s all one)
 
-  pub back_more : (passes more : List PassState) (seats others : List (Seat T M)) (worker : Worker T M) → AreBack value count z ring passes seats → HasWorked value count z ring worker
+  pub back_more : (passes more : List PassState) (seats others : List (RingSeat T M)) (worker : Worker T M) → AreBack value count z ring passes seats → HasWorked value count z ring worker
       → more ≡ passes ++ worker.pass ∷ [] → others ≡ seats ++ worker.seat ∷ [] → AreBack value count z ring more others
   back_more passes more seats others worker back worked longer wider = record {
     our_passes = passes_more passes more worker.pass longer back.our_passes worked.0.0;
@@ -73,7 +73,7 @@ module _ {T M J : Type 0} (value : J → ℕ → M) (count : J → ℕ) (z : Sou
 -- ---- how many passes and seats there are in `stream`
 
 -- the passes that the tickets made, of so many threads
-module _ (z : Source) (threads : ℕ) (passes : List PassState) (made : passes ≡ replicate threads (fresh z)) where
+module _ (z : TicketSource) (threads : ℕ) (passes : List PassState) (made : passes ≡ replicate threads (fresh z)) where
   pub all_fresh : All (λ p. p ≡ fresh z) passes
   all_fresh = All-same (λ (p : PassState). p ≡ fresh z) passes (replicate threads (fresh z)) made (All-replicate (λ (p : PassState). p ≡ fresh z) threads (fresh z) refl)
 

@@ -13,7 +13,7 @@ use Rattle.atomic_table.specs.Table.{State, Me, Act, step, keeps, takes, gives, 
 use Rattle.atomic_table.proofs.Lists.{at_set, at_snoc, some_there, set_here, set_else, exchanged}
 use Rattle.shb_fan.specs.declared.ring_table.SeatView.{SeatView}
 use Rattle.shb_fan.specs.Numbers.{weight, times, total}
-use Rattle.shb_fan.specs.Slots.{is_claimed, is_placed, is_lifting, is_lifted, seat_view, parts_of, claimed_by, placed_by, lifting_by, lifted_by, Counts, HasNothing, SlotKept, Kept, claiming, placing, raising, freeing, left_over, one_part, joined, spent_seat_view, claimed, placed, raised, freed}
+use Rattle.shb_fan.specs.Slots.{is_claimed, is_placed, is_lifting, is_lifted, seat_view, parts_of, claimed_by, placed_by, lifting_by, lifted_by, Counts, HasNothing, SlotKept, KeepsSlots, claiming, placing, raising, freeing, left_over, one_part, joined, spent_seat_view, claimed, placed, raised, freed}
 use Rattle.shb_fan.proofs.Counts.{weight-most, total-set, total-snoc, total-at, total-whole, times-append, times-snoc}
 use Rattle.shb_fan.proofs.Words.{equal_one, unequal_none, equal_from, reached_one, unreached_none, claim_apart, lift_apart, lifted_apart, placed_apart}
 
@@ -67,14 +67,14 @@ module _ {M : Type 0} where
     abbrev Seated : Type 0
     Seated = Me (Option T) (SeatView M)
 
-    module _ (s : St) (r : Kept meaning wanted s) (id : ℕ) (v : SeatView M) (at : get_elem? s.views id ≡ some v) (k : ℕ) where
+    module _ (s : St) (r : KeepsSlots meaning wanted s) (id : ℕ) (v : SeatView M) (at : get_elem? s.views id ≡ some v) (k : ℕ) where
       abbrev found : ℕ
       found = get_or s.words (k % 64) 0
 
       -- the seat's view changes by a step on the word of piece k and its slot
       moved : (new : ℕ) (w : SeatView M) (homes' : Homes) → length homes' ≡ 64 → ((j : ℕ) → j ≢ k % 64 → get_elem? homes' j ≡ get_elem? s.homes j) → Fits homes' (k % 64) new → w.parts ≡ v.parts → w.wanted ≡ v.wanted → HasNothing w
           → Counts claimed_by is_claimed (set s.words (k % 64) new) (set s.views id w) → Counts placed_by is_placed (set s.words (k % 64) new) (set s.views id w) → Counts lifting_by is_lifting (set s.words (k % 64) new) (set s.views id w) → Counts lifted_by is_lifted (set s.words (k % 64) new) (set s.views id w)
-          → Kept meaning wanted (record { words = set s.words (k % 64) new; homes = homes'; views = set s.views id w })
+          → KeepsSlots meaning wanted (record { words = set s.words (k % 64) new; homes = homes'; views = set s.views id w })
       moved new w homes' deep others mine parts values empty claims places_ lifts lifted = record {
         wide = length-set s.words (k % 64) new ∙ r.wide;
         deep = deep;
@@ -95,7 +95,7 @@ module _ {M : Type 0} where
       }
 
       -- nothing changes
-      stays : Kept meaning wanted (record { words = set s.words (k % 64) found; homes = s.homes; views = set s.views id v })
+      stays : KeepsSlots meaning wanted (record { words = set s.words (k % 64) found; homes = s.homes; views = set s.views id v })
       stays = let w = r.wide in moved found v s.homes r.deep (λ j ne. refl) (r.slots (k % 64) (omega arith)) refl refl (r.nothing id v at)
           (recount claimed_by is_claimed s.words s.views id v v k found at r.wide r.claims refl (λ x ne. refl) (λ x ne e. refl))
           (recount placed_by is_placed s.words s.views id v v k found at r.wide r.each_placed refl (λ x ne. refl) (λ x ne e. refl))
@@ -105,7 +105,7 @@ module _ {M : Type 0} where
       others_set : (h : maybe.Option (Option T)) (j : ℕ) → j ≢ k % 64 → get_elem? (set s.homes (k % 64) h) j ≡ get_elem? s.homes j
       others_set h j ne = set_else s.homes (k % 64) j h ne
 
-      gets_claimed : found ≡ 4 * k → v.claimed ≡ [] → Kept meaning wanted (record { words = set s.words (k % 64) (4 * k + 1); homes = set s.homes (k % 64) none; views = set s.views id (claiming v k) })
+      gets_claimed : found ≡ 4 * k → v.claimed ≡ [] → KeepsSlots meaning wanted (record { words = set s.words (k % 64) (4 * k + 1); homes = set s.homes (k % 64) none; views = set s.views id (claiming v k) })
       gets_claimed is free = let none_here : times k v.claimed ≡ 0 = ap (times k) free in let one = times_one k in
           moved (4 * k + 1) (claiming v k) (set s.homes (k % 64) none) (length-set s.homes (k % 64) none ∙ r.deep) (others_set none)
           (record { here = ap (λ (n : ℕ). n % 64) (let q : (4 * k + 1) / 4 ≡ k = omega arith in q); empty = λ z. absurd (omega arith); full = λ z. absurd (omega arith) }) refl refl (r.nothing id v at)
@@ -132,7 +132,7 @@ module _ {M : Type 0} where
           equal_from found (4 * k + 1) (omega arith)
 
       gets_placed : 0 < v.parts → v.claimed ≡ k ∷ [] → (x : T) → slice_get wanted k ≡ Some (meaning x)
-          → Kept meaning wanted (record { words = set s.words (k % 64) (4 * k + 2); homes = set s.homes (k % 64) (some (Some x)); views = set s.views id (placing v) })
+          → KeepsSlots meaning wanted (record { words = set s.words (k % 64) (4 * k + 2); homes = set s.homes (k % 64) (some (Some x)); views = set s.views id (placing v) })
       gets_placed some_part mine x right = let is : found ≡ 4 * k + 1 = finds_claimed mine in let piece : (4 * k + 2) / 4 ≡ k = omega arith in let d = r.deep in
           moved (4 * k + 2) (placing v) (set s.homes (k % 64) (some (Some x))) (length-set s.homes (k % 64) (some (Some x)) ∙ r.deep) (others_set (some (Some x)))
           (record {
@@ -157,7 +157,7 @@ module _ {M : Type 0} where
           (λ x ne. refl)
           (λ x ne same. lifted_apart x k found (4 * k + 2) ne same (omega arith) (omega arith) (omega arith) (omega arith)))
 
-      gets_raised : 0 < v.parts → found ≡ 4 * k + 2 → v.lifting ≡ [] → Kept meaning wanted (record { words = set s.words (k % 64) (4 * k + 3); homes = set s.homes (k % 64) none; views = set s.views id (raising v k) })
+      gets_raised : 0 < v.parts → found ≡ 4 * k + 2 → v.lifting ≡ [] → KeepsSlots meaning wanted (record { words = set s.words (k % 64) (4 * k + 3); homes = set s.homes (k % 64) none; views = set s.views id (raising v k) })
       gets_raised some_part is free = let none_here : times k v.lifting ≡ 0 = ap (times k) free in let one = times_one k in
           moved (4 * k + 3) (raising v k) (set s.homes (k % 64) none) (length-set s.homes (k % 64) none ∙ r.deep) (others_set none)
           (record { here = ap (λ (n : ℕ). n % 64) (let q : (4 * k + 3) / 4 ≡ k = omega arith in q); empty = λ z. absurd (omega arith); full = λ z. absurd (omega arith) }) refl refl (λ e. absurd (omega (arith, e, some_part)))
@@ -186,7 +186,7 @@ module _ {M : Type 0} where
       finds_raised mine = let here : times k v.lifting ≡ 1 = ap (times k) mine ∙ times_one k in let c = r.lifts k in let least = total-at (λ u. times k (lifting_by u)) s.views id v at in
           equal_from found (4 * k + 3) (omega arith)
 
-      gets_freed : v.lifting ≡ k ∷ [] → (x : Option T) → Kept meaning wanted (record { words = set s.words (k % 64) (4 * (k + 64)); homes = set s.homes (k % 64) (some x); views = set s.views id (freeing v) })
+      gets_freed : v.lifting ≡ k ∷ [] → (x : Option T) → KeepsSlots meaning wanted (record { words = set s.words (k % 64) (4 * (k + 64)); homes = set s.homes (k % 64) (some x); views = set s.views id (freeing v) })
       gets_freed mine x = let is : found ≡ 4 * k + 3 = finds_raised mine in let piece : 4 * (k + 64) / 4 ≡ k + 64 = omega arith in let d = r.deep in
           moved (4 * (k + 64)) (freeing v) (set s.homes (k % 64) (some x)) (length-set s.homes (k % 64) (some x) ∙ r.deep) (others_set (some x))
           (record {
@@ -212,7 +212,7 @@ module _ {M : Type 0} where
           (λ x ne same. lifted_apart x k found (4 * (k + 64)) ne same (omega arith) (omega arith) (omega arith) (omega arith)))
 
     abbrev Holds : St → Type 0
-    Holds = Kept meaning wanted
+    Holds = KeepsSlots meaning wanted
 
     -- what `Allows` asks for at the state s, where the word i becomes n
     abbrev Stepped : St → ℕ → ℕ → ℕ → Seated → (Seated → Type 0) → Type 0

@@ -7,7 +7,7 @@ use Rattle.atomic_table.specs.Table.{Me}
 use Rattle.atomic_table.specs.Seated.{TableId}
 use Rattle.atomic_table.specs.declared.shared.Seat as table_seat
 use Rattle.shb_fan.specs.declared.ring_table.SeatView.{SeatView}
-use Rattle.shb_fan.specs.declared.shares.Seat.{Seat}
+use Rattle.shb_fan.specs.declared.shares.RingSeat.{RingSeat}
 use Rattle.shb_fan.specs.Slots.{claiming}
 use Rattle.shb_fan.specs.Seated.{Sits, claimed_of, placed_of, lifted_of}
 
@@ -35,7 +35,7 @@ unequal_when : (a b : ℕ) → eqb a b ≡ false → a ≢ b
 unequal_when a b h = grind (arith, nat_tests)
 
 -- where the word was found empty the seat has claimed the piece, and else it is as before
-module _ {T M : Type 0} (old : Seat T M) (place : TableSeat T M) (k r : ℕ)
+module _ {T M : Type 0} (old : RingSeat T M) (place : TableSeat T M) (k r : ℕ)
     (won : r ≡ 4 * k → (x : Option T) × (place.me ≡ (claiming old.place.me.0 (4 * k / 4), (k % 64, x) ∷ old.place.me.1)))
     (lost : r ≢ 4 * k → place.me ≡ old.place.me) where
   piece : 4 * k / 4 ≡ k

@@ -7,7 +7,7 @@ use Rattle.shb_fan.specs.declared.step.PieceState.TheVariants.{Empty}
 use Rattle.shb_fan.specs.declared.step.Step.{Step}
 use Rattle.shb_fan.specs.Numbers.{weight}
 use Rattle.shb_fan.specs.Machine.{ActorState, State, Allowed, HasAdvanced, IsInBounds, Runs, after, new_actor, spent_among, start}
-use Rattle.shb_fan.specs.Replays.{IsRefusedAt}
+use Rattle.shb_fan.specs.RunSteps.{IsRefusedAt}
 use Rattle.shb_fan.proofs.Counts.{weight-most}
 
 -- no more actors are spent than there are

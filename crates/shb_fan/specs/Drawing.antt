@@ -46,8 +46,8 @@ pub record Holds (plan : Plan) (ticket stop : ℕ) (views : List PassView) : Typ
   pub ended : 0 < total spent_of views → stop ≡ 0 → plan.limit ≤ ticket
   pub sound : (id : ℕ) (v : PassView) → get_elem? views id ≡ some v → Sound v
 
-abbrev pub Kept : Plan → State (Unit {0}) PassView → Type 0
-Kept plan s = (length s.words ≡ 2) × Holds plan (slice_index s.words 0) (slice_index s.words 1) s.views
+abbrev pub KeepsDrawing : Plan → State (Unit {0}) PassView → Type 0
+KeepsDrawing plan s = (length s.words ≡ 2) × Holds plan (slice_index s.words 0) (slice_index s.words 1) s.views
 
 abbrev M : Type 0
 M = Me (Unit {0}) PassView

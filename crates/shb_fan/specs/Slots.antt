@@ -59,7 +59,7 @@ module _ {M : Type 0} where
       pub full : word % 4 ≡ 2 → (x : T) × (get_elem? homes i ≡ some (some (Some x))) × (slice_get wanted (word / 4) ≡ Some (meaning x))
 
     -- what holds between any two steps
-    pub record Kept (wanted : List M) (s : State (Option T) (SeatView M)) : Type 0 where
+    pub record KeepsSlots (wanted : List M) (s : State (Option T) (SeatView M)) : Type 0 where
       pub wide : length s.words ≡ 64
       pub deep : length s.homes ≡ 64
       pub slots : (i : ℕ) → i < 64 → SlotKept wanted s.homes i (slice_index s.words i)

@@ -1,14 +1,14 @@
 -- What a taker was given.
 use Rattle.std.specs.Prelude.{◌≡◌, ℕ, ◌<◌, ◌≤◌, Bool, false, IsTrue, All, Any, sum_by, List, [], map, Result, Ok, Err, IfSome}
 use Rattle.shb_fan.specs.declared.shares.Ring.{Ring}
-use Rattle.shb_fan.specs.declared.shares.Seat.{Seat}
+use Rattle.shb_fan.specs.declared.shares.RingSeat.{RingSeat}
 use Rattle.shb_fan.specs.declared.crew.Worker.{Worker}
 use Rattle.shb_fan.specs.declared.streaming.Caller.{Caller}
 use Rattle.shb_fan.specs.declared.streaming.Shared.{Shared}
 use Rattle.shb_fan.specs.declared.taker.StreamError.{StreamError}
 use Rattle.shb_fan.specs.declared.taker.StreamError.TheVariants.{Memory, Taker}
 use Rattle.shb_fan.specs.Values.{values_of}
-use Rattle.shb_fan.specs.Passes.{Source, PassState, fresh, times_in}
+use Rattle.shb_fan.specs.Passes.{TicketSource, PassState, fresh, times_in}
 use Rattle.shb_fan.specs.Numbers.{times}
 use Rattle.shb_fan.specs.Seated.{IsSeatOf, IsNewSeat, job_of, claimed_of, placed_of, lifted_of}
 
@@ -35,25 +35,25 @@ module _ {T M : Type 0} where
 
 module _ {T M : Type 0} where
   -- no piece was placed more often than it was drawn, and where a pass stopped the draw some piece was placed less often
-  pub record Balanced (passes : List PassState) (seats : List (Seat T M)) : Type 0 where
+  pub record Balanced (passes : List PassState) (seats : List (RingSeat T M)) : Type 0 where
     pub within : (k : ℕ) → sum_by (λ s. times k (placed_of s)) seats ≤ sum_by (times_in k) passes
     pub owed : Any (λ p. IsTrue p.halted) passes → (k : ℕ) × (sum_by (λ s. times k (placed_of s)) seats < sum_by (times_in k) passes)
 
 module _ {T M J : Type 0} (value : J → ℕ → M) (count : J → ℕ) where
   -- a worker of these tickets and this ring that has claimed nothing
-  abbrev pub IsIdle : Source → Ring T M J → Worker T M → Type 0
+  abbrev pub IsIdle : TicketSource → Ring T M J → Worker T M → Type 0
   IsIdle tickets ring worker = (worker.pass.source ≡ tickets) × IsSeatOf value count ring worker.seat × (claimed_of worker.seat ≡ [])
 
   -- and whose accounts are in order
-  abbrev pub HasWorked : Source → Ring T M J → Worker T M → Type 0
+  abbrev pub HasWorked : TicketSource → Ring T M J → Worker T M → Type 0
   HasWorked tickets ring worker = IsIdle tickets ring worker × HasAccounts worker
 
   -- a worker that has drawn, placed and stopped nothing
-  abbrev pub IsNew : Source → Ring T M J → Worker T M → Type 0
+  abbrev pub IsNew : TicketSource → Ring T M J → Worker T M → Type 0
   IsNew tickets ring worker = (worker.pass ≡ fresh tickets) × IsNewSeat value count ring worker.seat
 
   -- passes and seats that have come back from workers, or were never given out
-  pub record AreBack (tickets : Source) (ring : Ring T M J) (passes : List PassState) (seats : List (Seat T M)) : Type 0 where
+  pub record AreBack (tickets : TicketSource) (ring : Ring T M J) (passes : List PassState) (seats : List (RingSeat T M)) : Type 0 where
     pub our_passes : All (λ p. p.source ≡ tickets) passes
     pub our_seats : All (λ s. IsSeatOf value count ring s × (claimed_of s ≡ [])) seats
     pub balanced : Balanced passes seats
@@ -61,9 +61,9 @@ module _ {T M J : Type 0} (value : J → ℕ → M) (count : J → ℕ) where
 module _ {T M J G : Type 0} (value : J → ℕ → M) (count : J → ℕ) where
   -- the tickets and the ring are those of the job's pieces
   pub record IsShared (shared : Shared T M J G) : Type 0 where
-    pub ring : job_of shared.desk.now.ring ≡ shared.task.job.now
-    pub tickets : shared.desk.now.tickets.limit ≡ count shared.task.job.now
-    pub pieces : shared.pieces ≡ count shared.task.job.now
+    pub ring : job_of shared.desk.now.ring ≡ shared.gated.job.now
+    pub tickets : shared.desk.now.tickets.limit ≡ count shared.gated.job.now
+    pub pieces : shared.pieces ≡ count shared.gated.job.now
 
   -- the worker is one of these, and has claimed nothing
   abbrev pub IsReady : Shared T M J G → Worker T M → Type 0

@@ -2,9 +2,9 @@
 ghost use Rattle.std.specs.Prelude.{◌≡◌, IfOk, map};
 ghost use Rattle.shb_fan.specs.Values.{values_of};
 
+use crate::batches::{BATCH, BatchGate, Batches};
 use crate::gate::Gate;
 use crate::job::Job;
-use crate::runs::{RUN, RunGate, Runs};
 use crate::streaming::stream;
 use crate::taker::Taker;
 use crate::workers::Workers;
@@ -13,12 +13,12 @@ use std::alloc::Global;
 use std::sync::Wait;
 use std::thread::Threads;
 
-/// How many runs for each worker there are at least, where pieces are drawn in runs.
-const RUNS_EACH: u64 = 16;
+/// How many batches for each worker there are at least, where pieces are drawn in batches.
+const BATCHES_EACH: u64 = 16;
 
-/// Whether there are so many pieces that they are drawn in runs.
+/// Whether there are so many pieces that they are drawn in batches.
 pub(crate) fn has_many(pieces: u64, workers: Workers) -> bool {
-    u64::from(workers.get()) * (RUN * RUNS_EACH) <= pieces
+    u64::from(workers.get()) * (BATCH * BATCHES_EACH) <= pieces
 }
 
 /// Keeps what it is given.
@@ -49,17 +49,17 @@ impl<T: Drop> Taker<T> for Keeper<T> {
 
 /// Keeps the values of the lists that it is given, one list after the other.
 #[derive(Drop)]
-pub(crate) struct RunKeeper<T: Drop> {
+pub(crate) struct ListKeeper<T: Drop> {
     pub(crate) values: Vec<T>,
 }
 
-impl<T: Drop> Taker<Vec<T>> for RunKeeper<T> {
+impl<T: Drop> Taker<Vec<T>> for ListKeeper<T> {
     ghost use Rattle.std.specs.Prelude.{◌≡◌, ◌++◌, flat_map};
     ghost use Rattle.std.proofs.Common.{sym, append-nil};
 
     type Error = NoMemory;
 
-    ghost takes = { λ start given end. end.values.items ≡ start.values.items ++ flat_map (λ run. run.items) given };
+    ghost takes = { λ start given end. end.values.items ≡ start.values.items ++ flat_map (λ list. list.items) given };
 
     ghost may_take = { λ _ _ _. Unit {0} };
 
@@ -93,8 +93,8 @@ fn gather_pieces<
     Ok(values)
 }
 
-/// The values of all pieces in order, run by run.
-fn gather_runs<
+/// The values of all pieces in order, batch by batch.
+fn gather_batches<
     R: Threads + Wait + Sync,
     T: Drop + Send,
     M,
@@ -104,22 +104,22 @@ fn gather_runs<
     ensures { IfOk result (λ v. map J.meaning v.items ≡ values_of (J.value job.now) (J.count job.now)) }
 {
     let pieces = job.pieces();
-    let runs = Runs { job, pieces };
-    let run_gate = RunGate { gate, pieces };
-    let mut keeper = RunKeeper {
+    let batches = Batches { job, pieces };
+    let batch_gate = BatchGate { gate, pieces };
+    let mut keeper = ListKeeper {
         values: Vec::with_capacity(alloc, pieces as usize)?,
     };
-    let Ok(_) = stream(rt, alloc, &runs, &run_gate, workers, &mut keeper) else {
+    let Ok(_) = stream(rt, alloc, &batches, &batch_gate, workers, &mut keeper) else {
         return Err(NoMemory);
     };
-    let RunKeeper { values } = keeper;
+    let ListKeeper { values } = keeper;
     Ok(values)
 }
 
 /// The values of all pieces in order, by workers that run pieces at once.
 ///
-/// Where there are many pieces a worker draws 16 neighbours at once, so that a small piece costs little
-/// more than its run; it passes their gates one after the other and then runs them. `NoMemory` where
+/// Where there are many pieces a worker draws a batch of 16 neighbours at once, so that a small piece costs
+/// little more than to run it; it passes their gates one after the other and then runs them. `NoMemory` where
 /// memory was refused, here or to a piece.
 pub fn gather<
     R: Threads + Wait + Sync,
@@ -131,7 +131,7 @@ pub fn gather<
     ensures { IfOk result (λ v. map J.meaning v.items ≡ values_of (J.value job.now) (J.count job.now)) }
 {
     if has_many(job.pieces(), workers) {
-        return gather_runs(rt, alloc, job, gate, workers);
+        return gather_batches(rt, alloc, job, gate, workers);
     }
     gather_pieces(rt, alloc, job, gate, workers)
 }

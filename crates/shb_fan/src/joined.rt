@@ -2,10 +2,10 @@
 ghost use Rattle.std.specs.Prelude.{◌≡◌, ◌++◌, IfOk, flat_map};
 ghost use Rattle.shb_fan.specs.Values.{AreJoined, values_of};
 
+use crate::batches::{BatchGate, Batches};
 use crate::gate::Gate;
-use crate::gathered::{RunKeeper, has_many};
+use crate::gathered::{ListKeeper, has_many};
 use crate::job::Job;
-use crate::runs::{RunGate, Runs};
 use crate::streaming::stream;
 use crate::taker::Taker;
 use crate::workers::Workers;
@@ -24,20 +24,20 @@ fn append_all<T: Drop>(joined: &mut Vec<T>, lists: Vec<Vec<T>>) -> Result<(), No
     Ok(())
 }
 
-/// Joins the lists of the runs that it is given.
+/// Joins the lists of the batches that it is given.
 #[derive(Drop)]
-struct RunJoiner<T: Drop> {
+struct BatchJoiner<T: Drop> {
     joined: Vec<T>,
 }
 
-impl<T: Drop> Taker<Vec<Vec<T>>> for RunJoiner<T> {
+impl<T: Drop> Taker<Vec<Vec<T>>> for BatchJoiner<T> {
     ghost use Rattle.std.specs.Prelude.{◌≡◌, ◌++◌, flat_map};
     ghost use Rattle.std.proofs.Common.{sym, append-nil};
 
     type Error = NoMemory;
 
     ghost takes = { λ start given end. end.joined.items ≡ start.joined.items
-        ++ flat_map (λ list. list.items) (flat_map (λ run. run.items) given) };
+        ++ flat_map (λ list. list.items) (flat_map (λ batch. batch.items) given) };
 
     ghost may_take = { λ _ _ _. Unit {0} };
 
@@ -60,18 +60,18 @@ fn join_pieces<
 >(rt: &R, alloc: Global, job: &J, gate: &G, workers: Workers) -> Result<Vec<T>, NoMemory>
     ensures { IfOk result (λ v. AreJoined (λ list. list.items) J.meaning (values_of (J.value job.now) (J.count job.now)) v.items) }
 {
-    let mut keeper = RunKeeper {
+    let mut keeper = ListKeeper {
         values: Vec::new(alloc),
     };
     let Ok(_) = stream(rt, alloc, job, gate, workers, &mut keeper) else {
         return Err(NoMemory);
     };
-    let RunKeeper { values } = keeper;
+    let ListKeeper { values } = keeper;
     Ok(values)
 }
 
-/// The lists of all pieces joined, run by run.
-fn join_runs<
+/// The lists of all pieces joined, batch by batch.
+fn join_batches<
     R: Threads + Wait + Sync,
     T: Drop + Send,
     M,
@@ -81,15 +81,15 @@ fn join_runs<
     ensures { IfOk result (λ v. AreJoined (λ list. list.items) J.meaning (values_of (J.value job.now) (J.count job.now)) v.items) }
 {
     let pieces = job.pieces();
-    let runs = Runs { job, pieces };
-    let run_gate = RunGate { gate, pieces };
-    let mut joiner = RunJoiner {
+    let batches = Batches { job, pieces };
+    let batch_gate = BatchGate { gate, pieces };
+    let mut joiner = BatchJoiner {
         joined: Vec::new(alloc),
     };
-    let Ok(_) = stream(rt, alloc, &runs, &run_gate, workers, &mut joiner) else {
+    let Ok(_) = stream(rt, alloc, &batches, &batch_gate, workers, &mut joiner) else {
         return Err(NoMemory);
     };
-    let RunJoiner { joined } = joiner;
+    let BatchJoiner { joined } = joiner;
     Ok(joined)
 }
 
@@ -107,7 +107,7 @@ pub fn gather_joined<
     ensures { IfOk result (λ v. AreJoined (λ list. list.items) J.meaning (values_of (J.value job.now) (J.count job.now)) v.items) }
 {
     if has_many(job.pieces(), workers) {
-        return join_runs(rt, alloc, job, gate, workers);
+        return join_batches(rt, alloc, job, gate, workers);
     }
     join_pieces(rt, alloc, job, gate, workers)
 }

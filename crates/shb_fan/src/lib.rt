@@ -5,17 +5,17 @@
 //! thread that made it to the one that takes it: piece k by slot k % 64, with one word a slot that
 //! says how far its piece is (4k empty, 4k + 1 claimed, 4k + 2 placed, 4k + 3 lifted, 4(k + 64)
 //! freed). [`stream`] hands the values of all pieces to a [`Taker`] in order while workers run
-//! pieces; [`gather`] is `stream` into a list, over runs of sixteen neighbours where there are many
-//! pieces, and [`gather_joined`] is the same for pieces that give lists, into one list of all their
-//! elements.
+//! pieces; [`gather`] is `stream` into a list, over batches of sixteen neighbours where there are
+//! many pieces, and [`gather_joined`] is the same for pieces that give lists, into one list of all
+//! their elements.
 //!
 //! All that threads share is words and slots of two tables of `atomic_table`, each with a rule that
 //! every single step keeps; there is no lock. `ticket_table` and `ring_table` are the two rules,
 //! `ticket_steps` and `ring_steps` the kinds of step. [`machine`] is the same core without threads:
 //! a state, the steps, and what holds after every list of allowed steps. `Tickets::close` says that
 //! what the passes drew is a run of that machine; no record of what the threads did is kept for it.
-//! `Ring::close` says of the pieces only what was placed and lifted. `stream` closes both before it
-//! answers (`crew`).
+//! `Ring::close` says of the pieces only what was placed and lifted. `stream` closes both once
+//! its threads have ended (`crew`).
 //!
 //! How `stream` works: there is a pass and a seat for each worker and one for the caller. A worker
 //! draws, runs, claims and places until there is no more, memory runs out or a stop is seen; the
@@ -26,6 +26,7 @@
 //! microseconds; it wakes by time alone.
 #![tactic(auto)]
 
+mod batches;
 mod crew;
 mod gate;
 mod gathered;
@@ -36,7 +37,6 @@ mod pass;
 mod ring;
 mod ring_steps;
 mod ring_table;
-mod runs;
 mod shares;
 mod sides;
 mod step;
@@ -52,8 +52,8 @@ pub use gathered::gather;
 pub use job::Job;
 pub use joined::gather_joined;
 pub use pass::Pass;
-pub use shares::{Ring, Seat};
+pub use shares::{Ring, RingSeat};
 pub use streaming::stream;
 pub use taker::{StreamError, Taker};
-pub use tickets::{Closed, Tickets};
+pub use tickets::{DrawEnd, Tickets};
 pub use workers::Workers;

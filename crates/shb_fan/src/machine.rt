@@ -6,7 +6,7 @@ ghost use Rattle.shb_fan.specs.declared.step.PieceState.TheVariants.{Empty};
 ghost use Rattle.shb_fan.specs.declared.step.Step.TheVariants.{Claim, Draw, Free, Lift, Place, Stop};
 ghost use Rattle.shb_fan.specs.Machine.{Facts, HasAdvanced, IsInBounds, Runs, State, actor_of, after_draw, new_actor, piece_of, start, state_from};
 ghost use Rattle.shb_fan.specs.Turns.{AreDrawn, AreDraws, drawn_state};
-ghost use Rattle.shb_fan.specs.Replays.{HasFacts, HasReplayed};
+ghost use Rattle.shb_fan.specs.RunSteps.{HasFacts, HasRunSteps};
 
 pub use crate::step::{PieceState, Step};
 use shb_io::NoMemory;
@@ -234,7 +234,7 @@ impl Fan {
 
 /// What became of a list of steps.
 #[derive(Drop)]
-pub enum Replayed {
+pub enum StepsRun {
     /// All were allowed, and led here.
     Ended(Fan),
     /// The index of the first step that isn't allowed.
@@ -292,20 +292,25 @@ fn new_fan(alloc: Global, actors: u32, pieces: u64) -> Result<Fan, NoMemory>
 
 /// Takes all steps from the start, up to the first that isn't allowed. Of the state that they end in
 /// the facts of [`what_holds`] hold. `NoMemory` where memory was refused.
-pub fn replay(alloc: Global, actors: u32, pieces: u64, steps: &[Step]) -> Result<Replayed, NoMemory>
+pub fn run_steps(
+    alloc: Global,
+    actors: u32,
+    pieces: u64,
+    steps: &[Step],
+) -> Result<StepsRun, NoMemory>
     requires some { 1 ≤ actors }
     requires actors { actors ≤ 65 }
     requires pieces { pieces ≤ 2 ^ 60 }
-    ensures steps { IfOk result (HasReplayed actors pieces steps.now) }
+    ensures steps { IfOk result (HasRunSteps actors pieces steps.now) }
     ensures facts { IfOk result HasFacts }
 {
     let mut fan = new_fan(alloc, actors, pieces)?;
     for at in 0..steps.len() {
         if !advance(&mut fan, steps[at])? {
-            return Ok(Replayed::Refused { at });
+            return Ok(StepsRun::Refused { at });
         }
     }
-    Ok(Replayed::Ended(fan))
+    Ok(StepsRun::Ended(fan))
 }
 
 /// What holds after every list of allowed steps: no number is in two lists or twice in one, and the

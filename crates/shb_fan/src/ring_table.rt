@@ -28,9 +28,9 @@ pub struct Slots<J> {
 impl<T: Drop, M, J: Job<Out = T, Meaning = M>> TableRule<Option<T>, SeatView<M>, J> for Slots<J> {
     ghost use Rattle.std.specs.Prelude.{[]};
     ghost use Rattle.shb_fan.specs.Values.{values_of};
-    ghost use Rattle.shb_fan.specs.Slots.{Kept, seat_view};
+    ghost use Rattle.shb_fan.specs.Slots.{KeepsSlots, seat_view};
 
-    ghost holds = { λ job. Kept J.meaning (values_of (J.value job) (J.count job)) };
+    ghost holds = { λ job. KeepsSlots J.meaning (values_of (J.value job) (J.count job)) };
 
     ghost first = { λ job. seat_view 65 (values_of (J.value job) (J.count job)) [] [] [] [] };
 }

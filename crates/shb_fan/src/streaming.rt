@@ -3,13 +3,13 @@ ghost use Rattle.std.specs.Prelude.{◌≡◌, ◌∷◌, ◌++◌, ◌+◌, ◌
 ghost use Rattle.shb_fan.specs.Seated.{IsSeatOf, job_of, claimed_of, placed_of, lifted_of};
 ghost use Rattle.shb_fan.specs.Streamed.{IsIdle, IsReady, HasWorked, HasAccounts, HasLifted, CanWork, CanMake, CanTake, MayTake, Ended};
 
-use crate::crew::{Desk, Worker, close_both, make_workers, take_back};
+use crate::crew::{Desk, Worker};
 use crate::gate::Gate;
 use crate::job::Job;
 use crate::shares::Ring;
 use crate::sides::{CallerSide, WorkerSide, run_both_sides};
 use crate::taker::{StreamError, Taker};
-use crate::tickets::{Closed, Tickets};
+use crate::tickets::{DrawEnd, Tickets};
 use crate::workers::Workers;
 use std::alloc::Global;
 use std::sync::Wait;
@@ -25,7 +25,7 @@ pub(crate) struct Caller<T, M> {
 
 /// What is run: the pieces of a job, each once its gate lets it pass.
 #[derive(Drop)]
-pub(crate) struct Task<'a, J, G> {
+pub(crate) struct GatedJob<'a, J, G> {
     pub(crate) job: &'a J,
     pub(crate) gate: &'a G,
     pub(crate) alloc: Global,
@@ -34,7 +34,7 @@ pub(crate) struct Task<'a, J, G> {
 /// What all workers and the caller share. `begun` says that some worker has begun; it is a hint alone.
 #[derive(Drop)]
 pub(crate) struct Shared<'a, T: Drop, M, J: Job<Out = T, Meaning = M>, G> {
-    pub(crate) task: Task<'a, J, G>,
+    pub(crate) gated: GatedJob<'a, J, G>,
     pub(crate) desk: &'a Desk<T, M, J>,
     pub(crate) begun: &'a AtomicBool,
     pub(crate) pieces: u64,
@@ -48,7 +48,7 @@ fn wait_to_claim<R: Wait, T: Drop, M, J: Job<Out = T, Meaning = M>, G: Gate>(
     k: u64,
 ) -> bool
     requires ready { IsReady J.value J.count shared.now worker.old }
-    requires piece { k < J.count shared.now.task.job.now }
+    requires piece { k < J.count shared.now.gated.job.now }
     ensures pass { (worker.new.pass.source ≡ worker.old.pass.source) × (worker.new.pass.drawn ≡ worker.old.pass.drawn)
         × (worker.new.pass.halted ≡ worker.old.pass.halted) }
     ensures seat { IsSeatOf J.value J.count shared.now.desk.now.ring worker.new.seat }
@@ -79,13 +79,13 @@ fn make<R: Wait, T: Drop, M, J: Job<Out = T, Meaning = M>, G: Gate>(
     k: u64,
 ) -> bool
     requires ready { CanMake J.value J.count shared.now worker.old k }
-    requires piece { k < J.count shared.now.task.job.now }
+    requires piece { k < J.count shared.now.gated.job.now }
     ensures ready { CanWork J.value J.count shared.now worker.new }
     ensures running { IsTrue result → worker.new.pass.halted ≡ false }
     ensures lifted { lifted_of worker.new.seat ≡ lifted_of worker.old.seat }
 {
-    shared.task.gate.enter(rt, k);
-    let Ok(out) = shared.task.job.run(shared.task.alloc, k) else {
+    shared.gated.gate.enter(rt, k);
+    let Ok(out) = shared.gated.job.run(shared.gated.alloc, k) else {
         shared.desk.tickets.stop(&mut worker.pass);
         return false;
     };
@@ -144,7 +144,7 @@ fn make_kept<R: Wait, T: Drop, M, J: Job<Out = T, Meaning = M>, G: Gate>(
     k: u64,
 ) -> bool
     requires ready { CanTake J.value J.count shared.now caller.old }
-    requires piece { k < J.count shared.now.task.job.now }
+    requires piece { k < J.count shared.now.gated.job.now }
     ensures ready { CanWork J.value J.count shared.now caller.new.own }
     ensures running { IsTrue result → CanTake J.value J.count shared.now caller.new }
     ensures lifted { lifted_of caller.new.own.seat ≡ lifted_of caller.old.own.seat }
@@ -167,9 +167,9 @@ fn wait_to_lift<R: Wait, T: Drop, M, J: Job<Out = T, Meaning = M>, G: Gate>(
     k: u64,
 ) -> Option<T>
     requires ready { CanTake J.value J.count shared.now caller.old }
-    requires piece { k < J.count shared.now.task.job.now }
+    requires piece { k < J.count shared.now.gated.job.now }
     ensures ready { CanWork J.value J.count shared.now caller.new.own }
-    ensures value { IfSome result (λ out. (J.meaning out ≡ J.value shared.now.task.job.now k)
+    ensures value { IfSome result (λ out. (J.meaning out ≡ J.value shared.now.gated.job.now k)
         × CanTake J.value J.count shared.now caller.new
         × (lifted_of caller.new.own.seat ≡ lifted_of caller.old.own.seat ++ k ∷ [])) }
 {
@@ -203,11 +203,11 @@ fn take_all<R: Wait, T: Drop, M, J: Job<Out = T, Meaning = M>, G: Gate, E, K: Ta
     taker: &mut K,
 ) -> Result<(), StreamError<E>>
     requires ready { CanTake J.value J.count shared.now caller.old }
-    requires may_take { MayTake J.meaning (J.value shared.now.task.job.now) K.may_take (J.count shared.now.task.job.now) taker.old }
-    ensures ended { Ended J.meaning (J.value shared.now.task.job.now) K.takes K.refuses (J.count shared.now.task.job.now)
+    requires may_take { MayTake J.meaning (J.value shared.now.gated.job.now) K.may_take (J.count shared.now.gated.job.now) taker.old }
+    ensures ended { Ended J.meaning (J.value shared.now.gated.job.now) K.takes K.refuses (J.count shared.now.gated.job.now)
         taker.old result taker.new }
     ensures idle { IsIdle J.value J.count shared.now.desk.now.tickets shared.now.desk.now.ring caller.new.own }
-    ensures all { IfOk result (λ _. HasAccounts caller.new.own × HasLifted caller.new.own (J.count shared.now.task.job.now)) }
+    ensures all { IfOk result (λ _. HasAccounts caller.new.own × HasLifted caller.new.own (J.count shared.now.gated.job.now)) }
 {
     for k in 0..shared.pieces {
         let Some(out) = wait_to_lift(rt, shared, caller, k) else {
@@ -246,14 +246,14 @@ impl<'a, T: Drop, M, J: Job<Out = T, Meaning = M>, G: Gate, E, K: Taker<T, Error
     type Answer = Result<(), StreamError<E>>;
 
     ghost can_take = { λ shared caller taker. CanTake J.value J.count shared caller
-        × MayTake J.meaning (J.value shared.task.job.now) K.may_take (J.count shared.task.job.now) taker };
+        × MayTake J.meaning (J.value shared.gated.job.now) K.may_take (J.count shared.gated.job.now) taker };
 
     ghost leaves = { λ shared answer caller.
         IsIdle J.value J.count shared.desk.now.tickets shared.desk.now.ring caller.own
-        × IfOk answer (λ _. HasAccounts caller.own × HasLifted caller.own (J.count shared.task.job.now)) };
+        × IfOk answer (λ _. HasAccounts caller.own × HasLifted caller.own (J.count shared.gated.job.now)) };
 
     ghost gives = { λ shared start answer end.
-        Ended J.meaning (J.value shared.task.job.now) K.takes K.refuses (J.count shared.task.job.now) start answer end };
+        Ended J.meaning (J.value shared.gated.job.now) K.takes K.refuses (J.count shared.gated.job.now) start answer end };
 
     fn take<R: Wait>(
         &self,
@@ -276,28 +276,28 @@ fn work_and_take<
     K: Taker<T, Error = E>,
 >(
     rt: &R,
-    task: Task<'_, J, G>,
+    gated: GatedJob<'_, J, G>,
     desk: &Desk<T, M, J>,
     workers: &mut [Worker<T, M>],
     caller: &mut Caller<T, M>,
     taker: &mut K,
 ) -> Result<(), StreamError<E>>
-    requires tickets { desk.now.tickets.limit ≡ J.count task.job.now }
-    requires ring { job_of desk.now.ring ≡ task.job.now }
+    requires tickets { desk.now.tickets.limit ≡ J.count gated.job.now }
+    requires ring { job_of desk.now.ring ≡ gated.job.now }
     requires workers { All (HasWorked J.value J.count desk.now.tickets desk.now.ring) workers.old }
     requires caller { HasWorked J.value J.count desk.now.tickets desk.now.ring caller.old.own
         × (caller.old.own.pass.halted ≡ false) × (caller.old.kept ≡ None) }
-    requires may_take { MayTake J.meaning (J.value task.job.now) K.may_take (J.count task.job.now) taker.old }
-    ensures ended { Ended J.meaning (J.value task.entry.job.now) K.takes K.refuses (J.count task.entry.job.now) taker.old result taker.new }
+    requires may_take { MayTake J.meaning (J.value gated.job.now) K.may_take (J.count gated.job.now) taker.old }
+    ensures ended { Ended J.meaning (J.value gated.entry.job.now) K.takes K.refuses (J.count gated.entry.job.now) taker.old result taker.new }
     ensures workers { (length workers.new ≡ length workers.old)
         × All (HasWorked J.value J.count desk.now.tickets desk.now.ring) workers.new }
     ensures idle { IsIdle J.value J.count desk.now.tickets desk.now.ring caller.new.own }
-    ensures all { IfOk result (λ _. HasAccounts caller.new.own × HasLifted caller.new.own (J.count task.entry.job.now)) }
+    ensures all { IfOk result (λ _. HasAccounts caller.new.own × HasLifted caller.new.own (J.count gated.entry.job.now)) }
 {
     let begun = AtomicBool::new(false);
-    let pieces = task.job.pieces();
+    let pieces = gated.job.pieces();
     let shared = Shared {
-        task,
+        gated,
         desk,
         begun: &begun,
         pieces,
@@ -316,8 +316,8 @@ fn work_and_take<
 /// piece; `Taker` where the taker refused a value. After an error the taker was given the values of the
 /// first pieces, no call follows one that it refused, and values that it wasn't given are dropped.
 ///
-/// All passes and seats have come back when it answers, and the tickets and the ring are closed. What the
-/// draw came to is the answer: every piece was drawn once, and nobody stopped.
+/// On Ok the answer is how the draw ended: `drawn` is the number of the pieces, and nobody stopped. Of how
+/// far the draw came before an error no clause speaks.
 pub fn stream<
     R: Threads + Wait + Sync,
     T: Drop + Send,
@@ -333,10 +333,10 @@ pub fn stream<
     gate: &G,
     workers: Workers,
     taker: &mut K,
-) -> Result<Closed, StreamError<E>>
+) -> Result<DrawEnd, StreamError<E>>
     requires { MayTake J.meaning (J.value job.now) K.may_take (J.count job.now) taker.old }
     ensures ended { Ended J.meaning (J.value job.now) K.takes K.refuses (J.count job.now) taker.old result taker.new }
-    ensures drawn { IfOk result (λ closed. (closed.drawn ≡ J.count job.now) × (closed.stopped ≡ false)) }
+    ensures drawn { IfOk result (λ end. (end.drawn ≡ J.count job.now) × (end.stopped ≡ false)) }
 {
     let threads = workers.get() + 1;
     let Ok((tickets, mut passes)) = Tickets::new(alloc, job.pieces(), threads) else {
@@ -346,18 +346,20 @@ pub fn stream<
         return Err(StreamError::Memory);
     };
     let desk = Desk { tickets, ring };
-    let Ok(mut workers) = make_workers(alloc, &desk, &mut passes, &mut seats) else {
+    let Ok(mut workers) = desk.make_workers(alloc, &mut passes, &mut seats) else {
         return Err(StreamError::Memory);
     };
     let Some(own) = workers.pop() else {
         unreachable!()
     };
     let mut caller = Caller { own, kept: None };
-    let task = Task { job, gate, alloc };
-    let answer = work_and_take(rt, task, &desk, workers.as_mut_slice(), &mut caller, taker);
+    let gated = GatedJob { job, gate, alloc };
+    let answer = work_and_take(rt, gated, &desk, workers.as_mut_slice(), &mut caller, taker);
     let Caller { own, .. } = caller;
-    take_back(&desk, workers, &mut passes, &mut seats);
-    let closed = close_both(desk, passes, seats, own);
+    // From here on it is the same for a success and an error: all passes and seats come back, and the tickets
+    // and the ring are closed. Of an error this is what the code does, and no clause says it.
+    desk.take_back(workers, &mut passes, &mut seats);
+    let end = desk.close_both(passes, seats, own);
     answer?;
-    Ok(closed)
+    Ok(end)
 }

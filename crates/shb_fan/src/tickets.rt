@@ -7,7 +7,7 @@ ghost use Rattle.shb_fan.specs.Passes.{fresh};
 ghost use Rattle.shb_fan.specs.Turns.{IsMachineRun};
 
 use crate::pass::Pass;
-use crate::ticket_steps::{Cut, Draw, Look, Merge, See, Stop};
+use crate::ticket_steps::{Cut, Draw, Look, Merge, See, StopDraw};
 use crate::ticket_table::{Draws, PassView, Plan};
 use atomic_table::Table;
 use shb_io::NoMemory;
@@ -27,9 +27,9 @@ pub struct Tickets {
 
 impl Model for Tickets {
     ghost use Rattle.std.specs.Prelude.{◌≡◌, ◌≤◌, ◌<◌, ◌^◌};
-    ghost use Rattle.shb_fan.specs.Passes.{Source, source_coded, source_of};
+    ghost use Rattle.shb_fan.specs.Passes.{TicketSource, source_coded, source_of};
 
-    ghost Value = { Source };
+    ghost Value = { TicketSource };
 
     ghost coded = { source_coded };
 
@@ -41,7 +41,7 @@ impl Model for Tickets {
 
 /// What is known once every pass has come back.
 #[derive(Debug, Drop, Clone, Copy, PartialEq, Eq)]
-pub struct Closed {
+pub struct DrawEnd {
     /// The numbers that were drawn are those below it, each once.
     pub drawn: u64,
     /// Whether some pass stopped the draw.
@@ -111,7 +111,7 @@ impl Tickets {
         requires { pass.old.source ≡ self.now }
         ensures { pass.new ≡ record pass.old { halted = true } }
     {
-        self.table.shared.store::<Stop>(&mut pass.seat, STOP, 1);
+        self.table.shared.store::<StopDraw>(&mut pass.seat, STOP, 1);
     }
 
     /// Whether a stop is seen: always by a pass that stopped the draw itself or has seen a stop before, and
@@ -126,7 +126,7 @@ impl Tickets {
     }
 
     /// Ends the draw, once all passes have come back, and says how far it came.
-    pub fn close(self, mut passes: Vec<Pass>) -> Closed
+    pub fn close(self, mut passes: Vec<Pass>) -> DrawEnd
         requires all { length passes.items ≡ self.passes }
         requires ours { All (λ p. p.source ≡ self) passes.items }
         ensures each_once { (x : ℕ) → sum_by (λ p. times x p.drawn) passes.items ≡ once_below x result.drawn }
@@ -153,7 +153,7 @@ impl Tickets {
         let ticket = words.word(TICKET);
         let stop = words.word(STOP);
         words.free();
-        Closed {
+        DrawEnd {
             drawn: ticket.min(plan.limit),
             stopped: stop != 0,
         }

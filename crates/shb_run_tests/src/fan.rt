@@ -68,7 +68,7 @@ fn two(alloc: Global, limit: u32) -> Result<(Tickets, Pass, Pass), NoMemory>
     Ok((tickets, a, b))
 }
 
-fn close_two(alloc: Global, tickets: Tickets, a: Pass, b: Pass) -> Result<Closed, NoMemory>
+fn close_two(alloc: Global, tickets: Tickets, a: Pass, b: Pass) -> Result<DrawEnd, NoMemory>
     requires { (tickets.passes ≡ 2) × (a.source ≡ tickets) × (b.source ≡ tickets) }
 {
     let mut passes = Vec::new(alloc);
@@ -77,8 +77,8 @@ fn close_two(alloc: Global, tickets: Tickets, a: Pass, b: Pass) -> Result<Closed
     Ok(tickets.close(passes))
 }
 
-fn expect_closed(rt: &impl Abort, closed: Closed, drawn: u64, stopped: bool) {
-    same(rt, &closed, &Closed { drawn, stopped }, "what was drawn");
+fn expect_end(rt: &impl Abort, end: DrawEnd, drawn: u64, stopped: bool) {
+    same(rt, &end, &DrawEnd { drawn, stopped }, "what was drawn");
 }
 
 /// Draws by a pass, and asserts what comes.
@@ -97,8 +97,8 @@ fn draws_in_turn(rt: HostRuntime) -> Result<(), Fail> {
     expect_draw(&rt, &tickets, &mut a, Some(2));
     expect_draw(&rt, &tickets, &mut b, None);
     expect_draw(&rt, &tickets, &mut a, None);
-    let closed = close_two(rt.alloc(), tickets, a, b)?;
-    expect_closed(&rt, closed, 3, false);
+    let end = close_two(rt.alloc(), tickets, a, b)?;
+    expect_end(&rt, end, 3, false);
     Ok(())
 }
 
@@ -121,8 +121,8 @@ fn stops_between(rt: HostRuntime) -> Result<(), Fail> {
     );
     expect_draw(&rt, &tickets, &mut a, None);
     expect_draw(&rt, &tickets, &mut b, None);
-    let closed = close_two(rt.alloc(), tickets, a, b)?;
-    expect_closed(&rt, closed, 1, true);
+    let end = close_two(rt.alloc(), tickets, a, b)?;
+    expect_end(&rt, end, 1, true);
     Ok(())
 }
 
@@ -135,7 +135,7 @@ fn draws_from_nothing(rt: HostRuntime) -> Result<(), Fail> {
     expect_draw(&rt, &tickets, &mut a, None);
     expect_draw(&rt, &tickets, &mut a, None);
     passes.push(a)?;
-    expect_closed(&rt, tickets.close(passes), 0, false);
+    expect_end(&rt, tickets.close(passes), 0, false);
     Ok(())
 }
 
@@ -150,8 +150,8 @@ fn stops_after_each_draw(rt: HostRuntime) -> Result<(), Fail> {
         expect_draw(&rt, &tickets, &mut a, None);
         expect_draw(&rt, &tickets, &mut b, None);
         expect_draw(&rt, &tickets, &mut a, None);
-        let closed = close_two(rt.alloc(), tickets, a, b)?;
-        expect_closed(&rt, closed, drawn, true);
+        let end = close_two(rt.alloc(), tickets, a, b)?;
+        expect_end(&rt, end, drawn, true);
     }
     Ok(())
 }
@@ -209,7 +209,7 @@ fn four_threads_draw(rt: HostRuntime) -> Result<(), Fail> {
     let (tickets, mut passes) = Tickets::new(rt.alloc(), 1000, 4)?;
     draw_each(&rt, &tickets, passes.as_mut_slice(), seen.as_slice());
     holds(&rt, all_one(seen.as_slice()), "one draw of each number");
-    expect_closed(&rt, tickets.close(passes), 1000, false);
+    expect_end(&rt, tickets.close(passes), 1000, false);
     Ok(())
 }
 
@@ -265,8 +265,8 @@ fn is_count(values: &[u64], len: u64) -> bool {
 }
 
 /// How a draw ends where all pieces were drawn.
-fn all_of(drawn: u64) -> Result<Closed, StreamError<u64>> {
-    Ok(Closed {
+fn all_of(drawn: u64) -> Result<DrawEnd, StreamError<u64>> {
+    Ok(DrawEnd {
         drawn,
         stopped: false,
     })
@@ -361,10 +361,10 @@ fn job_refuses_each(rt: HostRuntime) {
             "values in order",
         );
         holds(&rt, fails_to_gather(&rt, &job, 3), "a gather of 70 pieces");
-        let runs = count_to(300, Some(k));
+        let batches = count_to(300, Some(k));
         holds(
             &rt,
-            fails_to_gather(&rt, &runs, 1),
+            fails_to_gather(&rt, &batches, 1),
             "a gather of 300 pieces",
         );
     }
@@ -537,15 +537,15 @@ fn seven_are_held(rt: HostRuntime) -> Result<(), Fail> {
     Ok(())
 }
 
-/// Holds piece 0 until piece 16 has entered, the first of the second run of neighbours.
+/// Holds piece 0 until piece 16 has entered, the first of the second batch.
 #[derive(Drop)]
-struct RunHeld {
+struct BatchHeld {
     second: AtomicBool,
     entered: AtomicU64,
     missed: AtomicBool,
 }
 
-impl Gate for RunHeld {
+impl Gate for BatchHeld {
     fn enter<R: Wait>(&self, _rt: &R, k: u64) {
         self.entered.fetch_add(1, Ordering::SeqCst);
         if k == 16 {
@@ -565,9 +565,9 @@ impl Gate for RunHeld {
 }
 
 #[test]
-fn runs_are_shared_out(rt: HostRuntime) -> Result<(), Fail> {
+fn batches_are_shared_out(rt: HostRuntime) -> Result<(), Fail> {
     let job = count_to(512, None);
-    let gate = RunHeld {
+    let gate = BatchHeld {
         second: AtomicBool::new(false),
         entered: AtomicU64::new(0),
         missed: AtomicBool::new(false),

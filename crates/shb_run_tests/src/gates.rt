@@ -79,7 +79,7 @@ impl Gate for Watching<'_> {
     }
 }
 
-/// 20 pieces are drawn one by one, and 600 by one worker or two in runs of neighbours.
+/// 20 pieces are drawn one by one, and 600 by one worker or two in batches of neighbours.
 #[test]
 fn each_passes_its_gate_and_runs_once(rt: HostRuntime) -> Result<(), Fail> {
     for pieces in [20u32, 600] {

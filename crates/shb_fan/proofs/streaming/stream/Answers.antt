@@ -55,11 +55,11 @@ take_back-requires-clause-seats g c =
           (one_each _ _ _ c.in-Ok.ensures.2) made.seats.1 seats.0 seats.2 made.seats.2,
     )
 
-pub close_both-closed-requires-clause-back : goal.close_both-closed-requires-clause-back
-close_both-closed-requires-clause-back g c = c.take_back.ensures.back
+pub close_both-end-requires-clause-back : goal.close_both-end-requires-clause-back
+close_both-end-requires-clause-back g c = c.take_back.ensures.back
 
-pub close_both-closed-requires-clause-passes : goal.close_both-closed-requires-clause-passes
-close_both-closed-requires-clause-passes g c =
+pub close_both-end-requires-clause-passes : goal.close_both-end-requires-clause-passes
+close_both-end-requires-clause-passes g c =
     let made = c.in-Ok-make_workers.ensures in
     let came = c.take_back.ensures.passes in
     let back = c.work_and_take-answer.ensures.workers.0 in (
@@ -67,8 +67,8 @@ close_both-closed-requires-clause-passes g c =
       came.1,
     )
 
-pub close_both-closed-requires-clause-seats : goal.close_both-closed-requires-clause-seats
-close_both-closed-requires-clause-seats g c =
+pub close_both-end-requires-clause-seats : goal.close_both-end-requires-clause-seats
+close_both-end-requires-clause-seats g c =
     let made = c.in-Ok-make_workers.ensures in
     let came = c.take_back.ensures.seats in
     let back = c.work_and_take-answer.ensures.workers.0 in (
@@ -77,11 +77,11 @@ close_both-closed-requires-clause-seats g c =
       came.1,
     )
 
-pub close_both-closed-requires-clause-own : goal.close_both-closed-requires-clause-own
-close_both-closed-requires-clause-own g c = c.work_and_take-answer.ensures.idle
+pub close_both-end-requires-clause-own : goal.close_both-end-requires-clause-own
+close_both-end-requires-clause-own g c = c.work_and_take-answer.ensures.idle
 
 pub returns-clause-ended : goal.returns-clause-ended
 returns-clause-ended g c = c.in_ok-answer.ensures.ended
 
 pub returns-clause-drawn : goal.returns-clause-drawn
-returns-clause-drawn g c = closed_whole c.work_and_take-answer.new.caller.own _ _ _ _ (c.in-Ok.ensures.0 ∙ c.pieces.ensures.exact) c.close_both-closed.ensures c.in_ok-answer.ensures.all
+returns-clause-drawn g c = closed_whole c.work_and_take-answer.new.caller.own _ _ _ _ (c.in-Ok.ensures.0 ∙ c.pieces.ensures.exact) c.close_both-end.ensures c.in_ok-answer.ensures.all

@@ -25,7 +25,7 @@ loop-preserved g c = let left = c.loop.invariant.left in let cut = c.split_seat-
 pub returns-clause-seats : goal.returns-clause-seats
 returns-clause-seats g c = let key = c.in_ok-table.ensures.5 in (
   (let l = one_longer _ _ _ _ c.in_ok-push-2.ensures.items c.loop.invariant.count in omega arith),
-  new_seats g.J.Job.value g.J.Job.count _ _ _ _ key (let most = c.pieces.ensures.most in let e = c.pieces.ensures.exact in omega arith)
+  new_seats g.J.Job.value g.J.Job.count _ _ _ _ key (let most = c.pieces-few.ensures.most in let e = c.pieces-few.ensures.exact in omega arith)
       (one_seat_more _ _ _ _ _ c.in_ok-push-2.ensures.items c.loop.invariant.sit c.loop.invariant.table (last_left _ _ _ _ (omega arith) c.loop.invariant.left)),
   search rules,
 )

@@ -3,7 +3,7 @@ use Rattle.atomic_table.specs.Table.{Me}
 use Rattle.shb_fan.specs.declared.ticket_table.PassView.{PassView}
 use Rattle.shb_fan.specs.declared.ticket_table.Plan.{Plan}
 use Rattle.shb_fan.specs.Numbers.{times, once_below}
-use Rattle.shb_fan.specs.Passes.{Source, PassState, times_in, halted_in, seen_in, spent_in}
+use Rattle.shb_fan.specs.Passes.{TicketSource, PassState, times_in, halted_in, seen_in, spent_in}
 use Rattle.shb_fan.proofs.Counts.{times-append}
 use Rattle.shb_fan.proofs.Keeps.{merges}
 use Rattle.shb_fan.proofs.Ends.{counted, first_counted, times-shown, halted-shown, seen-shown, spent-shown, rising-shown, all_rising, none_rising, Told, closes, ours_before, low, sum_nothing, each_once, stop_seen, stop_set, seen_set, all_drawn}
@@ -15,7 +15,7 @@ loop-pass-init c = let longer = c.in-Some.ensures.items in let is = c.first.inva
   table = search rules;
   slots = is.slots;
   parts = search rules;
-  ours = subst (λ (z : Source). All (λ (p : PassState). p.source ≡ z) c.pop.new.self.items) (sym c.self.view_is) (ours_before _ _ _ _ longer c.requires.ours).0;
+  ours = subst (λ (z : TicketSource). All (λ (p : PassState). p.source ≡ z) c.pop.new.self.items) (sym c.self.view_is) (ours_before _ _ _ _ longer c.requires.ours).0;
   rising = all_rising _ _ _ _ longer (rising-shown _ _ _ is shown) (λ h. h);
   drawn = λ x. first_counted (times_in x) _ _ _ _ longer (times-shown _ _ _ is shown x);
   halted = first_counted halted_in _ _ _ _ longer (halted-shown _ _ _ is shown);
@@ -26,7 +26,7 @@ loop-pass-init c = let longer = c.in-Some.ensures.items in let is = c.first.inva
 pub join_seat-requires : goal.join_seat-requires
 join_seat-requires c = (
   c.loop-pass.invariant.table,
-  ap (λ (p : PassState). p.source.table) c.pass.view_is ∙ ap (λ (z : Source). z.table) (ours_before _ _ _ _ c.in-Some-pop.ensures.items c.loop-pass.invariant.ours).1,
+  ap (λ (p : PassState). p.source.table) c.pass.view_is ∙ ap (λ (z : TicketSource). z.table) (ours_before _ _ _ _ c.in-Some-pop.ensures.items c.loop-pass.invariant.ours).1,
   c.pass.invariant.slots,
   search rules,
   merges _ _ _ _ _,
@@ -62,7 +62,7 @@ all_in : (c : goal.After-drop-passes) (f : PassState → ℕ) (n : ℕ) → n + 
 all_in c f n h = let z = sum_nothing f c.loop-pass.passes.items (left_none c) in omega arith
 
 pub returns-clause-few : goal.returns-clause-few
-returns-clause-few c = low _ _ _ _ c.min.ensures (ap (λ (z : Source). z.limit) c.self.view_is)
+returns-clause-few c = low _ _ _ _ c.min.ensures (ap (λ (z : TicketSource). z.limit) c.self.view_is)
 
 pub returns-clause-rising : goal.returns-clause-rising
 returns-clause-rising c = none_rising _ _ (left_none c) c.loop-pass.invariant.rising
@@ -77,10 +77,10 @@ pub returns-clause-seen : goal.returns-clause-seen
 returns-clause-seen c = seen_set _ _ _ _ c.args.passes.items (told c) (all_in c seen_in _ c.loop-pass.invariant.seen)
 
 pub returns-clause-ended : goal.returns-clause-ended
-returns-clause-ended c = λ unset some_spent. c.min.ensures ∙ (all_drawn _ _ _ _ c.args.passes.items (told c) (all_in c spent_in _ c.loop-pass.invariant.spent) unset some_spent ∙ ap (λ (z : Source). z.limit) c.self.view_is)
+returns-clause-ended c = λ unset some_spent. c.min.ensures ∙ (all_drawn _ _ _ _ c.args.passes.items (told c) (all_in c spent_in _ c.loop-pass.invariant.spent) unset some_spent ∙ ap (λ (z : TicketSource). z.limit) c.self.view_is)
 
 pub returns-clause-machine : goal.returns-clause-machine
 returns-clause-machine c =
     let is = c.min.ensures in
-    let same = ap (λ (z : Source). z.limit) c.self.view_is in
+    let same = ap (λ (z : TicketSource). z.limit) c.self.view_is in
     machine_run c.args.passes.items _ _ (returns-clause-each_once c) (returns-clause-rising c) (omega (arith, is, same)) _ (returns-clause-stopped c).0 (λ unset some_spent. returns-clause-ended c unset some_spent)

@@ -3,7 +3,7 @@ use Rattle.atomic_table.specs.Table.{Me}
 use Rattle.shb_fan.specs.declared.ticket_table.PassView.{PassView}
 use Rattle.shb_fan.specs.declared.ticket_table.Plan.{Plan}
 use Rattle.shb_fan.specs.Numbers.{weight}
-use Rattle.shb_fan.specs.Passes.{Source, PassState}
+use Rattle.shb_fan.specs.Passes.{TicketSource, PassState}
 use Rattle.shb_fan.proofs.Keeps.{sees, draws}
 use Rattle.shb_fan.proofs.tickets.Tickets.draw.Goals as goal
 
@@ -23,13 +23,13 @@ fetch_add-number-requires c =
           (ap (λ (m : Me (Unit {0}) PassView). m.0.spent) same ∙ (c.pass.invariant.flag ∙ ap weight c.if-pass.false))
           (ap (λ (m : Me (Unit {0}) PassView). m.0.plan.limit) same
           ∙ (ap (λ (p : PassState). p.source.limit) c.pass.view_is
-          ∙ (ap (λ (z : Source). z.limit) c.requires
-          ∙ (sym (ap (λ (z : Source). z.limit) c.self.view_is) ∙ sym (ap (λ (q : Plan). q.limit) c.self.invariant.2))))),
+          ∙ (ap (λ (z : TicketSource). z.limit) c.requires
+          ∙ (sym (ap (λ (z : TicketSource). z.limit) c.self.view_is) ∙ sym (ap (λ (q : Plan). q.limit) c.self.invariant.2))))),
     )
 
 pub returns-then-number-self-clause-some : goal.returns-then-number-self-clause-some
 returns-then-number-self-clause-some c =
-    let limit = ap (λ (z : Source). z.limit) c.self.view_is in (
+    let limit = ap (λ (z : TicketSource). z.limit) c.self.view_is in (
       omega (arith, c.if-number-self.true, limit),
       search rules,
       search rules,

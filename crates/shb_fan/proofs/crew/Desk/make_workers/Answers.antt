@@ -1,12 +1,12 @@
 use Rattle.std.proofs.Common.{arith, rules, ap, ◌∙◌, length, length-append, ◌∷◌, []}
 use Rattle.shb_fan.proofs.MadeWorkers.{last_pass, last_seat, one_made}
-use Rattle.shb_fan.proofs.crew.make_workers.Goals as goal
+use Rattle.shb_fan.proofs.crew.Desk.make_workers.Goals as goal
 
 pub loop-pass-preserved : goal.loop-pass-preserved
 loop-pass-preserved g c =
     let i = c.loop-pass.invariant in
-    let pass = last_pass c.args._desk.now.tickets _ _ _ c.in-Some.ensures.items i.passes in
-    let seat = last_seat g.J.Job.value g.J.Job.count c.args._desk.now.tickets c.args._desk.now.ring _ _ _ c.in-Some-pop.ensures.items i.seats in
+    let pass = last_pass c.args.self.now.tickets _ _ _ c.in-Some.ensures.items i.passes in
+    let seat = last_seat g.J.Job.value g.J.Job.count c.args.self.now.tickets c.args.self.now.ring _ _ _ c.in-Some-pop.ensures.items i.seats in
     let fewer = ap length c.in-Some.ensures.items ∙ length-append c.pop.new.self.items (c.in-Some.pass ∷ []) in
     let less = ap length c.in-Some-pop.ensures.items ∙ length-append c.pop-in-Some.new.self.items (c.in-Some-pop.seat ∷ []) in
     let more = ap length c.in_ok-push.ensures.items ∙ length-append c.loop-pass.workers.items (record { pass = c.in-Some.pass; seat = c.in-Some-pop.seat } ∷ []) in
@@ -15,7 +15,7 @@ loop-pass-preserved g c =
       seats = seat.0;
       left = omega arith;
       used = omega arith;
-      made = one_made g.J.Job.value g.J.Job.count c.args._desk.now.tickets c.args._desk.now.ring _ _ _ c.in_ok-push.ensures.items pass.1 seat.1 i.made;
+      made = one_made g.J.Job.value g.J.Job.count c.args.self.now.tickets c.args.self.now.ring _ _ _ c.in_ok-push.ensures.items pass.1 seat.1 i.made;
       pass_room = search rules;
       seat_room = search rules;
     }

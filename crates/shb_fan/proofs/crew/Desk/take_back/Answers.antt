@@ -1,6 +1,6 @@
 use Rattle.std.proofs.Common.{◌≡◌, ◌++◌, arith, rules, ap, ◌∙◌, length, length-append, ◌∷◌, []}
 use Rattle.shb_fan.proofs.MadeWorkers.{back_more, back_none, worked_last}
-use Rattle.shb_fan.proofs.crew.take_back.Goals as goal
+use Rattle.shb_fan.proofs.crew.Desk.take_back.Goals as goal
 
 pub loop-worker-init : goal.loop-worker-init
 loop-worker-init g c =
@@ -17,7 +17,7 @@ loop-worker-init g c =
 pub loop-worker-preserved : goal.loop-worker-preserved
 loop-worker-preserved g c =
     let i = c.loop-worker.invariant in
-    let tickets = c.args._desk.now.tickets in let ring = c.args._desk.now.ring in
+    let tickets = c.args.self.now.tickets in let ring = c.args.self.now.ring in
     let cut = worked_last g.J.Job.value g.J.Job.count tickets ring _ _ _ c.in-Some.ensures.items i.left in
     let longer : c.push.new.self.items ≡ c.loop-worker.passes.items ++ c.in-Some.worker.pass ∷ [] = search rules in
     let wider : c.push-in-Some.new.self.items ≡ c.loop-worker.seats.items ++ c.in-Some.worker.seat ∷ [] = search rules in

@@ -1,6 +1,6 @@
 use Rattle.std.proofs.Common.{◌≡◌, ◌++◌, ◌∷◌, [], rules}
 use Rattle.shb_fan.proofs.Accounts.{balanced_more, drawn_whole, unstopped}
-use Rattle.shb_fan.proofs.crew.close_both.Goals as goal
+use Rattle.shb_fan.proofs.crew.Desk.close_both.Goals as goal
 
 pub returns : goal.returns
 returns g c = λ accounts lifted.
