@@ -1,7 +1,6 @@
 -- From what the parts of a run answer to its outcome, exit by exit.
-use Rattle.std.proofs.Common.{◌≡◌, ◌⊎◌, ◌+◌, ◌≤◌, ℕ, inl, inr, Bool, List, Option, Result, Ok, Err, IfSome, IsErrAnd, refl, sym, subst}
+use Rattle.std.proofs.Common.{◌≡◌, ◌⊎◌, ◌+◌, ◌≤◌, ℕ, inl, Bool, List, Option, Result, Ok, Err, IsErrAnd, refl, sym, subst}
 use Rattle.shb_lines.specs.declared.event.Event.{Event}
-use Rattle.shb_lines.specs.declared.fault.Fault.{Fault}
 use Rattle.shb_lines.specs.declared.fault.LineFault.{LineFault}
 use Rattle.shb_lines.specs.declared.read.ReadError.{ReadError}
 use Rattle.shb_lines.specs.declared.read.ReadError.TheVariants as reading

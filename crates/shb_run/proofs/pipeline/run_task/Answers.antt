@@ -11,7 +11,7 @@ returns-in_err-parsed g c =
     let error = c.in_err-parsed.ensures in
     of_unread c.args.task.choice c.args.task.settings.schedules g.S.Source.remaining g.S.Source.given_count g.S.Source.failure_count c.args.source.now c.parse.new.source
     g.K.Sink.taken g.K.Sink.failure_count c.args.sink.now (rw c.standard.ensures at error.taken) (rw c.standard.ensures at error.given)
-    Parsed c.in_err-parsed.error c.from_residual.result c.from_residual.ensures.1 error.counted
+    Parsed _ c.from_residual.result c.from_residual.ensures.1 error.counted
 
 pub returns-in_err-trace : goal.returns-in_err-trace
 returns-in_err-trace g c =
