@@ -1,5 +1,5 @@
 -- What a taker was given.
-use Rattle.std.specs.Prelude.{◌≡◌, ℕ, ◌<◌, ◌≤◌, Bool, false, IsTrue, All, Any, sum_by, List, [], map, Result, Ok, Err, IfSome}
+use Rattle.std.specs.Prelude.{◌≡◌, ℕ, ◌<◌, ◌≤◌, ◌⊎◌, Bool, false, IsTrue, All, Any, sum_by, List, [], map, Result, Ok, Err, IfSome}
 use Rattle.shb_fan.specs.declared.shares.Ring.{Ring}
 use Rattle.shb_fan.specs.declared.shares.RingSeat.{RingSeat}
 use Rattle.shb_fan.specs.declared.crew.Worker.{Worker}
@@ -28,6 +28,10 @@ module _ {T M : Type 0} where
 
   abbrev pub Owes : Worker T M → ℕ → Type 0
   Owes worker k = IsOwed worker.pass.drawn (placed_of worker.seat) k
+
+  -- the pass has stopped the draw, or has seen that it is stopped
+  abbrev pub KnowsStop : Worker T M → Type 0
+  KnowsStop worker = IsTrue worker.pass.halted ⊎ IsTrue worker.pass.seen
 
   -- the seat has lifted each of the first pieces
   abbrev pub HasLifted : Worker T M → ℕ → Type 0

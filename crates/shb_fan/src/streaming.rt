@@ -1,7 +1,7 @@
 //! Results in the order of their pieces, while others are computed.
-ghost use Rattle.std.specs.Prelude.{◌≡◌, ◌∷◌, ◌++◌, ◌+◌, ◌<◌, [], None, false, All, IfOk, IfSome, IsTrue, IsFalse, length};
+ghost use Rattle.std.specs.Prelude.{◌≡◌, ◌∷◌, ◌++◌, ◌+◌, ◌<◌, [], None, false, All, IfOk, IfErr, IfSome, IfNone, IsTrue, IsFalse, length};
 ghost use Rattle.shb_fan.specs.Seated.{IsSeatOf, job_of, claimed_of, placed_of, lifted_of};
-ghost use Rattle.shb_fan.specs.Streamed.{IsIdle, IsReady, HasWorked, HasAccounts, HasLifted, CanWork, CanMake, CanTake, MayTake, Ended};
+ghost use Rattle.shb_fan.specs.Streamed.{IsIdle, IsReady, HasWorked, HasAccounts, HasLifted, KnowsStop, CanWork, CanMake, CanTake, MayTake, Ended};
 
 use crate::crew::{Desk, Worker};
 use crate::gate::Gate;
@@ -55,7 +55,7 @@ fn wait_to_claim<R: Wait, T: Drop, M, J: Job<Out = T, Meaning = M>, G: Gate>(
     ensures placed { placed_of worker.new.seat ≡ placed_of worker.old.seat }
     ensures lifted { lifted_of worker.new.seat ≡ lifted_of worker.old.seat }
     ensures won { IsTrue result → claimed_of worker.new.seat ≡ k ∷ [] }
-    ensures stopped { IsFalse result → claimed_of worker.new.seat ≡ [] }
+    ensures stopped { IsFalse result → (claimed_of worker.new.seat ≡ []) × IsTrue worker.new.pass.seen }
 {
     let mut turns = 0u32;
     for _ in rt.forever() {
@@ -82,6 +82,7 @@ fn make<R: Wait, T: Drop, M, J: Job<Out = T, Meaning = M>, G: Gate>(
     requires piece { k < J.count shared.now.gated.job.now }
     ensures ready { CanWork J.value J.count shared.now worker.new }
     ensures running { IsTrue result → worker.new.pass.halted ≡ false }
+    ensures stopped { IsFalse result → KnowsStop worker.new }
     ensures lifted { lifted_of worker.new.seat ≡ lifted_of worker.old.seat }
 {
     shared.gated.gate.enter(rt, k);
@@ -147,6 +148,7 @@ fn make_kept<R: Wait, T: Drop, M, J: Job<Out = T, Meaning = M>, G: Gate>(
     requires piece { k < J.count shared.now.gated.job.now }
     ensures ready { CanWork J.value J.count shared.now caller.new.own }
     ensures running { IsTrue result → CanTake J.value J.count shared.now caller.new }
+    ensures stopped { IsFalse result → KnowsStop caller.new.own }
     ensures lifted { lifted_of caller.new.own.seat ≡ lifted_of caller.old.own.seat }
 {
     if caller.kept != Some(k) {
@@ -172,6 +174,7 @@ fn wait_to_lift<R: Wait, T: Drop, M, J: Job<Out = T, Meaning = M>, G: Gate>(
     ensures value { IfSome result (λ out. (J.meaning out ≡ J.value shared.now.gated.job.now k)
         × CanTake J.value J.count shared.now caller.new
         × (lifted_of caller.new.own.seat ≡ lifted_of caller.old.own.seat ++ k ∷ [])) }
+    ensures stopped { IfNone result (KnowsStop caller.new.own) }
 {
     let mut turns = 0u32;
     for _ in rt.forever() {
@@ -195,7 +198,8 @@ fn wait_to_lift<R: Wait, T: Drop, M, J: Job<Out = T, Meaning = M>, G: Gate>(
     unreachable!()
 }
 
-/// Hands all results to the taker, in order, unless it refuses one, memory runs out or a stop is seen.
+/// Hands all results to the taker, in order, unless it refuses one, memory runs out or a stop is seen. An error
+/// comes only once the caller's pass has stopped the draw or has seen that it is stopped.
 fn take_all<R: Wait, T: Drop, M, J: Job<Out = T, Meaning = M>, G: Gate, E, K: Taker<T, Error = E>>(
     rt: &R,
     shared: &Shared<'_, T, M, J, G>,
@@ -208,6 +212,7 @@ fn take_all<R: Wait, T: Drop, M, J: Job<Out = T, Meaning = M>, G: Gate, E, K: Ta
         taker.old result taker.new }
     ensures idle { IsIdle J.value J.count shared.now.desk.now.tickets shared.now.desk.now.ring caller.new.own }
     ensures all { IfOk result (λ _. HasAccounts caller.new.own × HasLifted caller.new.own (J.count shared.now.gated.job.now)) }
+    ensures stopped { IfErr result (λ _. KnowsStop caller.new.own) }
 {
     for k in 0..shared.pieces {
         let Some(out) = wait_to_lift(rt, shared, caller, k) else {
@@ -240,8 +245,8 @@ impl<'a, T: Drop, M, J: Job<Out = T, Meaning = M>, G: Gate, E, K: Taker<T, Error
     Caller<T, M>,
     K,
 > for Shared<'a, T, M, J, G> {
-    ghost use Rattle.std.specs.Prelude.{IfOk};
-    ghost use Rattle.shb_fan.specs.Streamed.{CanTake, MayTake, Ended, IsIdle, HasAccounts, HasLifted};
+    ghost use Rattle.std.specs.Prelude.{IfOk, IfErr};
+    ghost use Rattle.shb_fan.specs.Streamed.{CanTake, MayTake, Ended, IsIdle, HasAccounts, HasLifted, KnowsStop};
 
     type Answer = Result<(), StreamError<E>>;
 
@@ -250,7 +255,8 @@ impl<'a, T: Drop, M, J: Job<Out = T, Meaning = M>, G: Gate, E, K: Taker<T, Error
 
     ghost leaves = { λ shared answer caller.
         IsIdle J.value J.count shared.desk.now.tickets shared.desk.now.ring caller.own
-        × IfOk answer (λ _. HasAccounts caller.own × HasLifted caller.own (J.count shared.gated.job.now)) };
+        × IfOk answer (λ _. HasAccounts caller.own × HasLifted caller.own (J.count shared.gated.job.now))
+        × IfErr answer (λ _. KnowsStop caller.own) };
 
     ghost gives = { λ shared start answer end.
         Ended J.meaning (J.value shared.gated.job.now) K.takes K.refuses (J.count shared.gated.job.now) start answer end };
@@ -293,6 +299,7 @@ fn work_and_take<
         × All (HasWorked J.value J.count desk.now.tickets desk.now.ring) workers.new }
     ensures idle { IsIdle J.value J.count desk.now.tickets desk.now.ring caller.new.own }
     ensures all { IfOk result (λ _. HasAccounts caller.new.own × HasLifted caller.new.own (J.count gated.entry.job.now)) }
+    ensures stopped { IfErr result (λ _. KnowsStop caller.new.own) }
 {
     let begun = AtomicBool::new(false);
     let pieces = gated.job.pieces();

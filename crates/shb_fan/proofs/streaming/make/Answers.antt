@@ -1,4 +1,4 @@
-use Rattle.std.proofs.Common.{◌∷◌, ◌++◌, [], ℕ, List, ap, sym, ◌∙◌}
+use Rattle.std.proofs.Common.{◌∷◌, ◌++◌, [], ℕ, List, ap, sym, ◌∙◌, rules}
 use Rattle.shb_fan.specs.declared.crew.Worker.{Worker}
 use Rattle.shb_fan.proofs.Accounts.{placed_at}
 use Rattle.shb_fan.proofs.streaming.make.Goals as goal
@@ -15,3 +15,6 @@ returns-clause-ready g c =
 
 pub place-requires-clause-value : goal.place-requires-clause-value
 place-requires-clause-value g c = c.in-Ok.ensures ∙ ap (λ (j : g.row.J.Denot). g.J.Job.value j c.args.k) (sym c.requires.ready.0.0.0.ring)
+
+pub returns-in_default-clause-stopped : goal.returns-in_default-clause-stopped
+returns-in_default-clause-stopped g c = search rules

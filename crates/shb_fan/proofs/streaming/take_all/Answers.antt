@@ -1,4 +1,4 @@
-use Rattle.std.proofs.Common.{◌<◌, [], ◌∷◌, ◌++◌, refl, arith}
+use Rattle.std.proofs.Common.{◌<◌, [], ◌∷◌, ◌++◌, refl, arith, rules}
 use Rattle.shb_fan.proofs.Accounts.{lifted_more}
 use Rattle.shb_fan.proofs.Streams.{first-long, first-more}
 use Rattle.shb_fan.proofs.streaming.take_all.Goals as goal
@@ -36,3 +36,6 @@ pub returns-in_default-clause-ended : goal.returns-in_default-clause-ended
 returns-in_default-clause-ended g c =
     let inside : c.loop-k.k < g.J.Job.count c.args.shared.now.gated.job.now = omega (arith, c.loop-k-test.true, c.requires.ready.0.0.0.pieces) in
     (c.loop-k.k, omega (arith, inside), c.loop-k.invariant.taken)
+
+pub returns-in-Err-clause-stopped : goal.returns-in-Err-clause-stopped
+returns-in-Err-clause-stopped g c = search rules
