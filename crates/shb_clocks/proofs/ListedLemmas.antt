@@ -26,6 +26,7 @@ rising_order xs rising i j d le lt = go (cases_lt i j)
     go : (i < j) ⊎ (j ≤ i) → get_or xs i d ≤ get_or xs j d
     go (inl low) = let less = AllPairs-from_increasing xs rising i j d low lt in omega (arith, less)
     go (inr ge) = let same : i ≡ j = omega (arith, le, ge) in subst (λ (k : ℕ). get_or xs i d ≤ get_or xs k d) same (omega arith)
+
 -- numbers that rise are at least their positions
 pub rising_above : (xs : List ℕ) → IsStrictlyIncreasing xs → (i : ℕ) → i < length xs → i ≤ get_or xs i 0
 rising_above xs rising zero lt = omega arith

@@ -1,14 +1,13 @@
 -- The local time of an event rises along the thread.
-use Rattle.std.proofs.Common.{◌≡◌, ◌≢◌, ℕ, ◌+◌, ◌<◌, ◌≤◌, ◌⊎◌, inl, inr, true, false, List, Some, length, take, arith, subst, ap, ◌∙◌}
-use Rattle.std.specs.Prelude.{count_by, slice_get}
-use Rattle.std.proofs.lemmas.Bool.{cases_lt, cases_Bool}
+use Rattle.std.proofs.Common.{◌≡◌, ℕ, ◌+◌, ◌<◌, ◌≤◌, ◌⊎◌, inl, inr, List, Some, length, take, arith, subst, ap}
+use Rattle.std.specs.Prelude.{count_by}
+use Rattle.std.proofs.lemmas.Bool.{cases_lt}
 use Rattle.std.proofs.lemmas.List.{take_all}
 use Rattle.shb_lines.specs.declared.event.Event.{Event}
 use Rattle.shb_lines.specs.events.Events.{thread_at}
 use Rattle.shb_lines.specs.events.Discipline.{is_of, local_time}
 use Rattle.shb_lines.proofs.events.Counts.{count_more_yes, count_mono}
-use Rattle.shb_lines.proofs.events.Events.{event_of_thread, is_of_true, thread_is}
-use Rattle.shb_lines.proofs.events.Prefix.{is_of_thread}
+use Rattle.shb_lines.proofs.events.Events.{event_of_thread, is_of_true}
 
 module _ (trace : List Event) (t : ℕ) where
   pub time_at : (k : ℕ) → thread_at trace k ≡ Some t → local_time trace t k ≡ count_by (is_of t) (take k trace) + 1

@@ -14,9 +14,11 @@ row_end threads time n lt =
 pub row_long : (threads time n : ℕ) (clocks : List ℕ) → time < n → length clocks ≡ n * threads → length (row_at threads clocks time) ≡ threads
 unfolding row_at
 row_long threads time n clocks lt long = length-take-le threads (drop (time * threads) clocks) (simp length-drop (let fits = row_end threads time n lt in omega (arith, fits, long)))
+
 -- a row that the code reads
 pub row_fits : (threads time n : ℕ) (clocks : List ℕ) → time < n → length clocks ≡ n * threads → (time + 1) * threads ≤ length clocks
 row_fits threads time n clocks lt long = let fits = row_end threads time n lt in let more = suc-mul time threads in omega (arith, fits, more, long)
+
 -- the flat list as a list of rows
 pub rows_long : (w n : ℕ) (entries : List ℕ) → length (rows_in w n entries) ≡ n
 unfolding rows_in

@@ -1,9 +1,9 @@
 -- The clocks that are kept where a thread may learn, event by event.
-use Rattle.std.proofs.Common.{◌≡◌, ◌≢◌, ℕ, ◌+◌, ◌-◌, ◌<◌, ◌≤◌, ◌⊎◌, inl, inr, true, false, List, [], ◌∷◌, ◌++◌, Some, length, get_or, arith, subst, ap, sym, ◌∙◌, refl, get_or-set_same, get_or-set_other}
+use Rattle.std.proofs.Common.{◌≡◌, ◌≢◌, ℕ, ◌+◌, ◌<◌, ◌≤◌, ◌⊎◌, inl, inr, true, false, List, [], ◌∷◌, ◌++◌, Some, length, get_or, arith, subst, ap, sym, ◌∙◌, refl, get_or-set_same, get_or-set_other}
 use Rattle.std.specs.Prelude.{◌↔◌, Contains, replicate}
 use Rattle.std.proofs.Math.ListN.{set, length-set, get_or-append, length-replicate, get_or-replicate}
 use Rattle.std.proofs.lemmas.Bool.{cases_lt, cases_eq, cases_Bool}
-use Rattle.std.proofs.lemmas.List.{get_or_push, length_push, get_or_read, get_or_past}
+use Rattle.std.proofs.lemmas.List.{get_or_push, length_push, get_or_read}
 use Rattle.std.proofs.lemmas.List.Elements.{Contains-get_or}
 use Rattle.shb_lines.specs.declared.event.Event.{Event}
 use Rattle.shb_lines.specs.events.Events.{thread_at}
@@ -15,7 +15,7 @@ use Rattle.shb_lines.proofs.events.Events.{event_of_thread}
 use Rattle.shb_lines.proofs.events.Listed.{IsListed, listed_more_yes, listed_more_no}
 use Rattle.shb_lines.proofs.events.Prefix.{is_of_thread}
 use Rattle.shb_lines.proofs.events.Schedulable.{thread_below_pred}
-use Rattle.shb_clocks.specs.Fronts.{IsFront, Learns, by_acquire, by_join, by_read, StrictlyBelow, IsFrontBut}
+use Rattle.shb_clocks.specs.Fronts.{Learns, by_acquire, by_join, by_read, StrictlyBelow, IsFrontBut}
 use Rattle.shb_orders.specs.Learned.{IsLearning, first, acquires, joins, reads, LearnsAt, ThreadClocksData, nothing_kept, IsClockUpTo, number_before, IsKept, AreKept}
 use Rattle.shb_clocks.proofs.Fronts.{thread_same, front_but_same}
 use Rattle.shb_clocks.proofs.Locals.{time_at, time_rises, time_order}

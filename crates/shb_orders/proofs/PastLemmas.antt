@@ -1,16 +1,15 @@
 -- One step of the sweep: clocks of events, lock clocks, and the clock of an event.
-use Rattle.std.proofs.Common.{◌≡◌, ◌≢◌, ℕ, suc, ◌+◌, ◌*◌, ◌<◌, ◌≤◌, ◌⊎◌, inl, inr, List, [], ◌++◌, Option, Some, None, length, get_or, take, drop, arith, subst, ap, sym, ◌∙◌, refl, get_or-set_same, get_or-set_other, ◌∷◌}
+use Rattle.std.proofs.Common.{◌≡◌, ◌≢◌, ℕ, ◌+◌, ◌<◌, ◌≤◌, ◌⊎◌, inl, inr, List, [], ◌++◌, Option, Some, None, length, get_or, arith, subst, ap, sym, ◌∙◌, refl, get_or-set_same, get_or-set_other, ◌∷◌}
 use Rattle.std.specs.Prelude.{◌↔◌, max, replicate}
 use Rattle.std.proofs.Math.ListN.{set, length-set, get_or-append, length-replicate, get_or-replicate}
 use Rattle.std.proofs.lemmas.Bool.{cases_lt, cases_eq}
 use Rattle.std.proofs.lemmas.List.{get_or_push, length_push, get_or_read}
 use Rattle.shb_lines.specs.declared.event.Event.{Event}
-use Rattle.shb_lines.specs.declared.event.Op.{Op}
-use Rattle.shb_lines.specs.declared.event.Op.TheVariants.{Read, Release, Join}
+use Rattle.shb_lines.specs.declared.event.Op.TheVariants.{Read, Release}
 use Rattle.shb_lines.specs.events.Events.{thread_at, op_at}
 use Rattle.shb_lines.specs.events.Discipline.{IsDisciplined, local_time}
-use Rattle.shb_lines.specs.events.Order.{LastWrite, ShbBelow, here, step, same_thread, happens_before, IsPred, BelowPred, IsBelowPredCount}
-use Rattle.shb_lines.proofs.events.Decide.{pred_unique, last_write_unique}
+use Rattle.shb_lines.specs.events.Order.{LastWrite, ShbBelow, IsPred, BelowPred, IsBelowPredCount}
+use Rattle.shb_lines.proofs.events.Decide.{pred_unique}
 use Rattle.shb_lines.proofs.events.Schedulable.{pred_earlier}
 use Rattle.shb_links.specs.Latest.{Latest, OfThread}
 use Rattle.shb_links.specs.Links.{Exactly}
@@ -19,7 +18,6 @@ use Rattle.shb_lines.specs.declared.event.Sizes.{Sizes}
 use Rattle.shb_lines.proofs.events.Items.{thread_within}
 use Rattle.shb_clocks.specs.Fronts.{IsFront, BelowRelease, Learns, StrictlyBelow}
 use Rattle.shb_orders.specs.Past.{AreFronts, HasClocks, HasLockClocks}
-use Rattle.shb_lines.proofs.events.Events.{join_later}
 use Rattle.shb_orders.proofs.FrontLemmas.{front_none, front_same, front_join, number_from_front}
 use Rattle.shb_clocks.proofs.Fronts.{front_own, thread_in_range, zero_entry}
 use Rattle.shb_clocks.proofs.Sources.{path_append, strictly_below_below, below_cases, learns_read, read_learns}

@@ -1,4 +1,4 @@
-use Rattle.std.proofs.Common.{ℕ, List, length, ◌∙◌, subst, sym, arith}
+use Rattle.std.proofs.Common.{ℕ, List, ◌∙◌, subst, sym, arith}
 use Rattle.shb_lines.specs.declared.event.Event.{Event}
 use Rattle.shb_lines.specs.events.Order.{IsPred, ShbBelow}
 use Rattle.shb_orders.proofs.PastLemmas.{item_front, count_from_clock, count_without_pred, clock_pred_range}

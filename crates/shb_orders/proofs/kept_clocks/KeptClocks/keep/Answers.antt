@@ -1,4 +1,4 @@
-use Rattle.std.proofs.Common.{List, ℕ, [], ◌∷◌, ◌++◌, length, ap, subst, sym, ◌∙◌, arith}
+use Rattle.std.proofs.Common.{ℕ, [], ◌∷◌, ◌++◌, length, ap, subst, sym, ◌∙◌, arith}
 use Rattle.shb_lines.specs.events.Order.{ShbBelow}
 use Rattle.shb_lines.proofs.events.Items.{thread_within}
 use Rattle.shb_clocks.specs.Fronts.{IsFrontBut}

@@ -1,4 +1,4 @@
-use Rattle.std.proofs.Common.{ℕ, List, Some, length, ◌∙◌, sym, ap, subst, arith, ◌<◌}
+use Rattle.std.proofs.Common.{ℕ, List, Some, ◌∙◌, sym, ap, subst, arith, ◌<◌}
 use Rattle.shb_lines.specs.declared.event.Event.{Event}
 use Rattle.shb_lines.specs.events.Order.{LastWrite, ShbBelow}
 use Rattle.shb_lines.proofs.events.Items.{op_known, op_within_at}
