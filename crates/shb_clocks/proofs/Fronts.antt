@@ -1,9 +1,9 @@
--- Clocks as fronts of threads: the empty one, joins, an own entry, and the number that an entry is.
+-- Clocks as fronts of threads: an own entry, and the number that an entry is.
 use Rattle.std.proofs.Common.{◌≡◌, ◌≢◌, ℕ, zero, suc, ◌+◌, ◌<◌, ◌≤◌, ◌⊎◌, inl, inr, true, false, List, Some, length, get_or, take, arith, subst, ap, sym, ◌∙◌, add-one, get_or-set_same, get_or-set_other}
-use Rattle.std.specs.Prelude.{◌↔◌, count_by, min, max, slice_get}
-use Rattle.std.proofs.Math.ListN.{set}
+use Rattle.std.specs.Prelude.{◌↔◌, count_by, min, replicate, slice_get}
+use Rattle.std.proofs.Math.ListN.{set, length-replicate, get_or-replicate}
 use Rattle.std.proofs.lemmas.Bool.{cases_lt, cases_eq, cases_Bool}
-use Rattle.std.proofs.lemmas.List.{take_all}
+use Rattle.std.proofs.lemmas.List.{take_all, get_or_past}
 use Rattle.std.proofs.lemmas.Option.{slice_get_cases, slice_get_within}
 use Rattle.shb_lines.specs.declared.event.Event.{Event}
 use Rattle.shb_lines.specs.events.Events.{thread_at}
@@ -14,39 +14,13 @@ use Rattle.shb_lines.proofs.events.Events.{event_of_thread, thread_is, is_of_tru
 use Rattle.shb_lines.proofs.events.Prefix.{is_of_thread}
 use Rattle.shb_lines.proofs.events.Listed.{number_none, number_same, number_more_yes, number_more_no}
 use Rattle.shb_lines.proofs.events.Schedulable.{path_forward}
-use Rattle.shb_clocks.specs.Fronts.{IsFront}
+use Rattle.shb_clocks.specs.Fronts.{IsFront, IsFrontBut}
 use Rattle.shb_clocks.proofs.Locals.{time_at, time_rises, time_order, time_within}
 
 pub thread_in_range : (trace : List Event) (k t : ℕ) → thread_at trace k ≡ Some t → k < length trace
 thread_in_range trace k t of_k = let e = event_of_thread trace k t of_k in slice_get_within trace k e.0 e.1
 
 module _ (trace : List Event) where
-  pub front_none : (P : ℕ → Type 0) (clock : List ℕ) → ((k : ℕ) → P k → ⊥) → ((t : ℕ) → get_or clock t 0 ≡ 0) → IsFront trace P clock
-  front_none P clock none zeros = record {
-    within = λ t. (let z = zeros t in omega (arith, z));
-    exact = λ t k of_k. ((λ le. absurd (let p = time_at trace t k of_k in let z = zeros t in omega (arith, p, z, le))), (λ h. absurd (none k h)));
-  }
-
-  pub front_same : (P Q : ℕ → Type 0) (clock : List ℕ) → ((k : ℕ) → P k ↔ Q k) → IsFront trace P clock → IsFront trace Q clock
-  front_same P Q clock same front = record {
-    within = front.within;
-    exact = λ t k of_k. (let old = front.exact t k of_k in ((λ le. (same k).0 (old.0 le)), (λ h. old.1 ((same k).1 h))));
-  }
-
-  pub front_join : (P Q : ℕ → Type 0) (one other clock : List ℕ) → IsFront trace P one → IsFront trace Q other → ((t : ℕ) → get_or clock t 0 ≡ max (get_or one t 0) (get_or other t 0)) → IsFront trace (λ k. P k ⊎ Q k) clock
-  front_join P Q one other clock first second each = record {
-    within = λ t. (let a = first.within t in let b = second.within t in let m = each t in omega (arith, a, b, m));
-    exact = λ t k of_k. ((λ le. up t k of_k (cases_lt (get_or one t 0) (local_time trace t k)) le), down t k of_k);
-  }
-    where
-      up : (t k : ℕ) → thread_at trace k ≡ Some t → (get_or one t 0 < local_time trace t k) ⊎ (local_time trace t k ≤ get_or one t 0) → local_time trace t k ≤ get_or clock t 0 → P k ⊎ Q k
-      up t k of_k (inr low) le = inl ((first.exact t k of_k).0 low)
-      up t k of_k (inl high) le = inr ((second.exact t k of_k).0 (let m = each t in omega (arith, m, high, le)))
-
-      down : (t k : ℕ) → thread_at trace k ≡ Some t → P k ⊎ Q k → local_time trace t k ≤ get_or clock t 0
-      down t k of_k (inl p) = let le = (first.exact t k of_k).1 p in let m = each t in omega (arith, m, le)
-      down t k of_k (inr q) = let le = (second.exact t k of_k).1 q in let m = each t in omega (arith, m, le)
-
   -- the clock of an event is that of all strictly below it, with its own local time as its thread's entry
   pub front_own : (P : ℕ → Type 0) (e u : ℕ) (clock : List ℕ) → thread_at trace e ≡ Some u → u < length clock → ((t k : ℕ) → thread_at trace k ≡ Some t → t ≢ u → P k ↔ ShbBelow trace k e) → ((t : ℕ) → t ≢ u → get_or clock t 0 ≤ count_by (is_of t) trace) → ((t k : ℕ) → thread_at trace k ≡ Some t → t ≢ u → (local_time trace t k ≤ get_or clock t 0) ↔ P k) → IsFront trace (λ k. ShbBelow trace k e) (set clock u (local_time trace u e))
   front_own P e u clock of_e within same low old = record {
@@ -124,9 +98,19 @@ module _ (trace : List Event) where
       let total : min n (count_by (is_of t) (take (length trace) trace)) ≡ n = omega (arith, whole, le) in
       number_same _ _ n (λ k. ((λ h. h.1), (λ h. (thread_in_range trace k t h.0, h)))) (subst (λ c. IsNumberOf (λ k. (k < length trace) × ((thread_at trace k ≡ Some t) × (local_time trace t k ≤ n))) c) total all)
 
-  -- an entry is the number of the thread's events that have the property
-  pub number_from_front : (P : ℕ → Type 0) (clock : List ℕ) (t : ℕ) → IsFront trace P clock → IsNumberOf (λ k. (thread_at trace k ≡ Some t) × P k) (get_or clock t 0)
-  number_from_front P clock t front = number_same _ _ _ (λ k. (
-    (λ h. (h.0, (front.exact t k h.0).0 h.1)),
-    (λ h. (h.0, (front.exact t k h.0).1 h.1)),
-  )) (number_up_to t (get_or clock t 0) (front.within t))
+  -- the clock of an event, from a row without the entry of its thread
+  pub front_whole : (b u : ℕ) (row : List ℕ) → thread_at trace b ≡ Some u → u < length row → IsFrontBut trace u (λ k. ShbBelow trace k b) row → IsFront trace (λ k. ShbBelow trace k b) (set row u (local_time trace u b))
+  front_whole b u row of_b lt but = front_own (λ k. ShbBelow trace k b) b u row of_b lt (λ t k of_k ne. ((λ h. h), (λ h. h))) but.within but.exact
+
+  pub front_but_same : (u : ℕ) (P Q : ℕ → Type 0) (clock : List ℕ) → ((t k : ℕ) → thread_at trace k ≡ Some t → t ≢ u → P k ↔ Q k) → IsFrontBut trace u P clock → IsFrontBut trace u Q clock
+  front_but_same u P Q clock same but = record {
+    within = but.within;
+    exact = λ t k of_k ne. (let old = but.exact t k of_k ne in let s = same t k of_k ne in ((λ le. s.0 (old.0 le)), (λ q. old.1 (s.1 q))));
+  }
+
+  pub thread_same : (k t u : ℕ) → thread_at trace k ≡ Some t → thread_at trace k ≡ Some u → t ≡ u
+  thread_same k t u of_t of_u = let s : Some t ≡ Some u = sym of_t ∙ of_u in cc
+
+-- an entry of a clock of zeros
+pub zero_entry : (n t : ℕ) → ◌≡◌ {A = ℕ} (get_or (replicate n 0) t 0) 0
+zero_entry n t = elim (cases_lt t n) [ inl lt ↦ get_or-replicate n t 0 0 lt | inr le ↦ get_or_past (replicate n 0) t 0 (let long = length-replicate {A = ℕ} n 0 in omega (arith, long, le)) ]

@@ -1,11 +1,6 @@
 pub mod Fronts
-pub mod KeptLemmas
-pub mod LearnedLemmas
 pub mod ListedLemmas
 pub mod Locals
-pub mod MarksLemmas
-pub mod MayLearn
-pub mod PastLemmas
 pub mod Renamed
 pub mod RowsLemmas
 pub mod MovedLemmas

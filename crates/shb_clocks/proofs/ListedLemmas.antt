@@ -1,8 +1,8 @@
 -- Listed events, each once and rising, and the rows that are kept of them.
-use Rattle.std.proofs.Common.{◌≡◌, ℕ, zero, suc, ◌+◌, ◌<◌, ◌≤◌, inl, inr, true, List, [], ◌∷◌, ◌++◌, Some, length, get_or, arith, subst, ap, sym, ◌∙◌}
+use Rattle.std.proofs.Common.{◌≡◌, ℕ, zero, suc, ◌+◌, ◌<◌, ◌≤◌, ◌⊎◌, inl, inr, true, List, [], ◌∷◌, ◌++◌, Some, length, get_or, arith, subst, ap, sym, ◌∙◌}
 use Rattle.std.specs.Prelude.{All, Contains, Err}
 use Rattle.std.proofs.Math.Dec.{eqb}
-use Rattle.std.specs.List.Sorted.{IsStrictlyIncreasing, IsBinarySearchResult}
+use Rattle.std.specs.List.Sorted.{IsStrictlyIncreasing, IsNonDecreasing, IsBinarySearchResult}
 use Rattle.std.specs.Ordering.{nat_cmp}
 use Rattle.std.proofs.lemmas.Bool.{cases_lt, eqb-true}
 use Rattle.std.proofs.lemmas.Cmp.{nat_eq_equiv}
@@ -17,8 +17,15 @@ use Rattle.shb_lines.specs.events.Order.{BelowPred}
 use Rattle.shb_clocks.specs.Listed.{HasListedRows, is_listed}
 use Rattle.shb_clocks.specs.Rows.{AreMore}
 use Rattle.shb_clocks.specs.Stamps.{IsRowFor}
-use Rattle.shb_clocks.proofs.KeptLemmas.{rising_order}
 use Rattle.shb_clocks.proofs.Stamping.{row_more}
+
+-- numbers that rise don't fall
+pub rising_order : (xs : List ℕ) → IsStrictlyIncreasing xs → IsNonDecreasing xs
+rising_order xs rising i j d le lt = go (cases_lt i j)
+  where
+    go : (i < j) ⊎ (j ≤ i) → get_or xs i d ≤ get_or xs j d
+    go (inl low) = let less = AllPairs-from_increasing xs rising i j d low lt in omega (arith, less)
+    go (inr ge) = let same : i ≡ j = omega (arith, le, ge) in subst (λ (k : ℕ). get_or xs i d ≤ get_or xs k d) same (omega arith)
 
 -- numbers that rise are at least their positions
 pub rising_above : (xs : List ℕ) → IsStrictlyIncreasing xs → (i : ℕ) → i < length xs → i ≤ get_or xs i 0

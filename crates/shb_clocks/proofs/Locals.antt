@@ -1,14 +1,13 @@
 -- The local time of an event rises along the thread.
-use Rattle.std.proofs.Common.{◌≡◌, ◌≢◌, ℕ, ◌+◌, ◌<◌, ◌≤◌, ◌⊎◌, inl, inr, true, false, List, Some, length, take, arith, ap, ◌∙◌}
-use Rattle.std.specs.Prelude.{count_by, slice_get}
-use Rattle.std.proofs.lemmas.Bool.{cases_lt, cases_Bool}
+use Rattle.std.proofs.Common.{◌≡◌, ℕ, ◌+◌, ◌<◌, ◌≤◌, ◌⊎◌, inl, inr, List, Some, length, take, arith, subst, ap}
+use Rattle.std.specs.Prelude.{count_by}
+use Rattle.std.proofs.lemmas.Bool.{cases_lt}
 use Rattle.std.proofs.lemmas.List.{take_all}
 use Rattle.shb_lines.specs.declared.event.Event.{Event}
 use Rattle.shb_lines.specs.events.Events.{thread_at}
 use Rattle.shb_lines.specs.events.Discipline.{is_of, local_time}
-use Rattle.shb_lines.proofs.events.Counts.{count_more_yes, count_mono, count_gap}
-use Rattle.shb_lines.proofs.events.Events.{event_of_thread, is_of_true, thread_is}
-use Rattle.shb_lines.proofs.events.Prefix.{is_of_thread}
+use Rattle.shb_lines.proofs.events.Counts.{count_more_yes, count_mono}
+use Rattle.shb_lines.proofs.events.Events.{event_of_thread, is_of_true}
 
 module _ (trace : List Event) (t : ℕ) where
   pub time_at : (k : ℕ) → thread_at trace k ≡ Some t → local_time trace t k ≡ count_by (is_of t) (take k trace) + 1
@@ -33,16 +32,6 @@ module _ (trace : List Event) (t : ℕ) where
       let whole = ap (count_by (is_of t)) (take_all (length trace) trace (omega arith)) in
       omega (arith, more, whole)
 
-  -- no event of the thread stands between
-  gap : (a b : ℕ) → a ≤ b → ((m : ℕ) → a ≤ m → m < b → thread_at trace m ≢ Some t) → count_by (is_of t) (take b trace) ≡ count_by (is_of t) (take a trace)
-  gap a b le none = count_gap (is_of t) trace a b le (λ k d low high at_k. other k d low high at_k (cases_Bool (is_of t d)))
-    where
-      other : (k : ℕ) (d : Event) → a ≤ k → k < b → slice_get trace k ≡ Some d → (is_of t d ≡ true) ⊎ (is_of t d ≡ false) → is_of t d ≡ false
-      other k d low high at_k (inr fails) = fails
-      other k d low high at_k (inl is) = absurd (none k low high (thread_is trace k d at_k ∙ ap (λ x. Some x) (is_of_thread t d is)))
-
-  pub time_first : (e : ℕ) → thread_at trace e ≡ Some t → ((m : ℕ) → m < e → thread_at trace m ≢ Some t) → local_time trace t e ≡ 1
-  time_first e of_e none = let before = gap 0 e (omega arith) (λ m low high. none m high) in let own = time_at e of_e in omega (arith, before, own)
-
-  pub time_after : (p e : ℕ) → thread_at trace e ≡ Some t → p < e → ((m : ℕ) → p < m → m < e → thread_at trace m ≢ Some t) → local_time trace t e ≡ local_time trace t p + 1
-  time_after p e of_e lt none = let between = gap (p + 1) e (omega (arith, lt)) (λ m low high. none m (omega (arith, low)) high) in let own = time_at e of_e in omega (arith, between, own)
+-- the local time of an event, by the links
+pub local_is : (trace links : List Event) (e x u : ℕ) → links ≡ trace → ((t : ℕ) → thread_at links e ≡ Some t → x ≡ local_time links t e) → thread_at trace e ≡ Some u → x ≡ local_time trace u e
+local_is trace links e x u same time of_e = subst (λ (tr : List Event). (t : ℕ) → thread_at tr e ≡ Some t → x ≡ local_time tr t e) same time u of_e

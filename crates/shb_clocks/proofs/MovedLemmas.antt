@@ -12,7 +12,7 @@ use Rattle.shb_clocks.specs.declared.stamp.Stamp.{Stamp}
 use Rattle.shb_lines.specs.declared.event.Event.{Event}
 use Rattle.shb_lines.specs.events.Discipline.{local_time}
 use Rattle.shb_lines.specs.events.Order.{ShbBelow}
-use Rattle.shb_clocks.specs.Learned.{IsFrontBut}
+use Rattle.shb_clocks.specs.Fronts.{IsFrontBut}
 use Rattle.shb_clocks.specs.Stamps.{AreCurrent, AreStamps, IsLatestStamp, of_event, of_none, IsRowFor, empty_stamp}
 use Rattle.shb_clocks.proofs.Locals.{time_at}
 use Rattle.shb_clocks.proofs.Stamping.{more_push}

@@ -9,7 +9,7 @@ use Rattle.shb_lines.specs.events.Order.{ShbBelow}
 use Rattle.shb_clocks.specs.Fronts.{IsFront}
 use Rattle.shb_clocks.specs.Stamps.{AreStamps, IsLatestStamp, of_event, of_none, IsStampOf, empty_stamp}
 use Rattle.shb_clocks.specs.declared.stamp.Stamp.{Stamp}
-use Rattle.shb_clocks.proofs.LearnedLemmas.{front_whole}
+use Rattle.shb_clocks.proofs.Fronts.{front_whole}
 
 -- a clock that is below another as far as it goes
 pub below_all : (clock other : List ℕ) (n t : ℕ) → length clock ≤ n → ((k : ℕ) → k < n → get_or clock k 0 ≤ get_or other k 0) → get_or clock t 0 ≤ get_or other t 0

@@ -1,9 +1,25 @@
--- The clocks of a flat list, as a list of clocks.
+-- The clocks of a flat list, and the list as a list of clocks.
 use Rattle.std.proofs.Common.{◌≡◌, ℕ, zero, suc, ◌+◌, ◌*◌, ◌<◌, ◌≤◌, List, [], ◌∷◌, ◌++◌, length, get_or, take, drop, arith, ap, sym, ◌∙◌, refl, add-one, length-drop}
-use Rattle.std.proofs.Math.Nat.{suc-mul, zero-mul}
-use Rattle.std.proofs.lemmas.List.{take-append-le, drop-append-le, take_all, drop-drop, nil_from_length}
+use Rattle.std.proofs.Math.Nat.{mul-le-mul_right, suc-mul, zero-mul}
+use Rattle.std.proofs.lemmas.List.{length-take-le, take-append-le, drop-append-le, take_all, drop-drop, nil_from_length}
 use Rattle.shb_clocks.specs.Rows.{RowsData, row_at, rows_data, rows_in}
 
+-- where a row stands in the flat list
+pub row_end : (threads time n : ℕ) → time < n → time * threads + threads ≤ n * threads
+row_end threads time n lt =
+    let le = mul-le-mul_right {m = suc time} {n = n} threads (omega arith) in
+    let more = suc-mul time threads in
+    omega (arith, le, more)
+
+pub row_long : (threads time n : ℕ) (clocks : List ℕ) → time < n → length clocks ≡ n * threads → length (row_at threads clocks time) ≡ threads
+unfolding row_at
+row_long threads time n clocks lt long = length-take-le threads (drop (time * threads) clocks) (simp length-drop (let fits = row_end threads time n lt in omega (arith, fits, long)))
+
+-- a row that the code reads
+pub row_fits : (threads time n : ℕ) (clocks : List ℕ) → time < n → length clocks ≡ n * threads → (time + 1) * threads ≤ length clocks
+row_fits threads time n clocks lt long = let fits = row_end threads time n lt in let more = suc-mul time threads in omega (arith, fits, more, long)
+
+-- the flat list as a list of rows
 pub rows_long : (w n : ℕ) (entries : List ℕ) → length (rows_in w n entries) ≡ n
 unfolding rows_in
 rows_long w zero entries = refl

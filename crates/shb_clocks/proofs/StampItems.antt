@@ -7,7 +7,7 @@ use Rattle.shb_lines.specs.declared.event.Event.{Event}
 use Rattle.shb_clocks.specs.Stamps.{AreCurrent, AreStamps, IsKnown, IsLatestStamp, IsRowFor, empty_stamp}
 use Rattle.shb_clocks.specs.declared.stamp.Stamp.{Stamp}
 use Rattle.shb_clocks.proofs.Locals.{time_at}
-use Rattle.shb_clocks.proofs.PastLemmas.{zero_entry}
+use Rattle.shb_clocks.proofs.Fronts.{zero_entry}
 
 -- whether a stamp is known, as the code tests it
 pub known_read : (stamp : Stamp) (u t : ℕ) (seen row : List ℕ) → u ≡ t → seen ≡ row → (stamp.thread ≡ u) ⊎ (stamp.time ≤ get_or seen stamp.thread 0) → (stamp.thread ≡ t) ⊎ (stamp.time ≤ get_or row stamp.thread 0)

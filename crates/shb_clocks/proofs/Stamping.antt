@@ -15,16 +15,13 @@ use Rattle.shb_lines.proofs.events.Events.{thread_is, op_is, event_of_op, fork_a
 use Rattle.shb_lines.proofs.events.Schedulable.{thread_below_pred, fork_below_pred, pred_earlier}
 use Rattle.shb_links.specs.Latest.{IsLatestBefore, OfThread, ReleasesLock}
 use Rattle.shb_links.proofs.Balance.{HasHolder, IsPassing, balanced, disciplined_below, holder_after, some_counted}
-use Rattle.shb_clocks.specs.Fronts.{IsFront, BelowRelease, Learns, StrictlyBelow}
-use Rattle.shb_clocks.specs.Learned.{IsFrontBut}
+use Rattle.shb_clocks.specs.Fronts.{IsFront, BelowRelease, Learns, StrictlyBelow, IsFrontBut}
 use Rattle.shb_clocks.specs.Open.{accesses_open}
 use Rattle.shb_clocks.specs.Rows.{AreMore, RowsData}
 use Rattle.shb_clocks.specs.Stamps.{AreCurrent, AreStamps, HasGrown, HasRowsBefore, IsKnown, IsLatestStamp, of_event, of_none, IsRowFor, IsSource, from_event, nothing_new, IsStampOf, WritesShared, empty_stamp}
 use Rattle.shb_clocks.specs.declared.stamp.Stamp.{Stamp}
-use Rattle.shb_clocks.proofs.Fronts.{thread_in_range}
-use Rattle.shb_clocks.proofs.LearnedLemmas.{front_but_same, front_whole, thread_same}
-use Rattle.shb_clocks.proofs.PastLemmas.{acquire_learns, join_learns, latest_join, join_learns_nothing, learns_read, read_learns}
-use Rattle.shb_clocks.proofs.Sources.{path_append, edge_path, strictly_below_below, below_cases}
+use Rattle.shb_clocks.proofs.Fronts.{thread_in_range, front_but_same, front_whole, thread_same}
+use Rattle.shb_clocks.proofs.Sources.{acquire_learns, join_learns, latest_join, join_learns_nothing, learns_read, read_learns, path_append, edge_path, strictly_below_below, below_cases}
 
 -- rows that grow
 pub more_same : (rows : List (List ℕ)) → AreMore rows rows

@@ -1,5 +1,5 @@
 -- Clocks: for each thread, how many of its events, from its first on, have a property.
-use Rattle.std.specs.Prelude.{◌≡◌, ℕ, ◌<◌, ◌≤◌, ◌↔◌, ◌⊎◌, List, Some, slice_index_or, count_by}
+use Rattle.std.specs.Prelude.{◌≡◌, ◌≢◌, ℕ, ◌<◌, ◌≤◌, ◌↔◌, ◌⊎◌, List, Some, slice_index_or, count_by}
 use Rattle.shb_lines.specs.declared.event.Event.{Event}
 use Rattle.shb_lines.specs.declared.event.Op.TheVariants.{Acquire, Release, Join}
 use Rattle.shb_lines.specs.events.Events.{thread_at, op_at}
@@ -10,6 +10,11 @@ use Rattle.shb_lines.specs.events.Order.{LastWrite, ShbBelow, BelowPred}
 pub record IsFront (trace : List Event) (P : ℕ → Type 0) (clock : List ℕ) : Type 0 where
   pub within : (t : ℕ) → slice_index_or clock t 0 ≤ count_by (is_of t) trace
   pub exact : (t k : ℕ) → thread_at trace k ≡ Some t → (local_time trace t k ≤ slice_index_or clock t 0) ↔ P k
+
+-- the entries of all threads but u are those of a clock of the events with the property
+pub record IsFrontBut (trace : List Event) (u : ℕ) (P : ℕ → Type 0) (clock : List ℕ) : Type 0 where
+  pub within : (t : ℕ) → t ≢ u → slice_index_or clock t 0 ≤ count_by (is_of t) trace
+  pub exact : (t k : ℕ) → thread_at trace k ≡ Some t → t ≢ u → (local_time trace t k ≤ slice_index_or clock t 0) ↔ P k
 
 -- k is below a release of the lock before n
 pub record BelowRelease (trace : List Event) (lock n k : ℕ) : Type 0 where

@@ -1,12 +1,8 @@
 pub mod Fronts
 pub mod KeptRows
-pub mod Learned
 pub mod Listed
-pub mod Marks
 pub mod Moved
 pub mod Open
-pub mod Past
 pub mod Rows
 pub mod Stamps
 pub mod SweepData
-pub mod Sweeps

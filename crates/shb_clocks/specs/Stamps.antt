@@ -8,8 +8,7 @@ use Rattle.shb_lines.specs.events.Discipline.{local_time}
 use Rattle.shb_lines.specs.events.Order.{ShbBelow, BelowPred}
 use Rattle.shb_links.specs.Latest.{IsLatestBefore, ReleasesLock}
 use Rattle.shb_links.specs.Sharing.{IsShared}
-use Rattle.shb_clocks.specs.Fronts.{Learns}
-use Rattle.shb_clocks.specs.Learned.{IsFrontBut}
+use Rattle.shb_clocks.specs.Fronts.{Learns, IsFrontBut}
 use Rattle.shb_clocks.specs.Open.{accesses_open}
 use Rattle.shb_clocks.specs.Rows.{AreMore, RowsData}
 use Rattle.shb_clocks.specs.declared.stamp.Stamp.{Stamp}

@@ -29,29 +29,12 @@ impl Clock {
         })
     }
 
-    /// Sets all entries to zero.
-    pub fn clear(&mut self)
-        ensures long { length self.new ≡ length self.old }
-        ensures zeros { (t : ℕ) → slice_index_or self.new t 0 ≡ 0 }
-    {
-        clear(self.entries.as_mut_slice());
-    }
-
     /// Takes over the entries of another clock.
     pub fn copy(&mut self, other: &[u32])
         requires { length other.now ≡ length self.old }
         ensures { self.new ≡ other.now }
     {
         self.entries.copy_from_slice(other);
-    }
-
-    /// Raises each entry to that of another clock, where that is greater.
-    pub fn join(&mut self, other: &[u32])
-        requires { length other.now ≡ length self.old }
-        ensures long { length self.new ≡ length self.old }
-        ensures joined { (t : ℕ) → slice_index_or self.new t 0 ≡ max (slice_index_or self.old t 0) (slice_index_or other.now t 0) }
-    {
-        join(self.entries.as_mut_slice(), other);
     }
 
     /// Takes over the entries of an event's clock.
@@ -72,14 +55,6 @@ impl Clock {
         let own = self.entries[other.thread as usize].max(other.time);
         join(self.entries.as_mut_slice(), other.row);
         self.entries[other.thread as usize] = own;
-    }
-
-    /// Sets one entry.
-    pub fn put(&mut self, t: usize, value: u32)
-        requires { t < length self.old }
-        ensures { self.new ≡ set self.old t value }
-    {
-        self.entries[t] = value;
     }
 
     /// The entries.
@@ -115,17 +90,6 @@ impl<'a> EventClock<'a> {
     {
         EventClock { row, thread, time }
     }
-
-    /// The entry of a thread, 0 where the clock has none.
-    pub fn entry(&self, t: u32) -> u32
-        ensures { result ≡ slice_index_or self.now t 0 }
-    {
-        if t == self.thread {
-            self.time
-        } else {
-            entry(self.row, t)
-        }
-    }
 }
 
 /// The entry of a thread, 0 where the clock has none.
@@ -156,16 +120,6 @@ pub fn zeros(alloc: Global, size: u32) -> Result<Vec<u32>, NoMemory>
     ensures { IfOk result (λ zeros. zeros.items ≡ replicate size 0) }
 {
     Ok(vec![in alloc; 0; size as usize]?)
-}
-
-/// Sets all entries of a clock to zero.
-fn clear(clock: &mut [u32])
-    ensures long { length clock.new ≡ length clock.old }
-    ensures zeros { (t : ℕ) → slice_index_or clock.new t 0 ≡ 0 }
-{
-    for t in 0..clock.len() {
-        clock[t] = 0;
-    }
 }
 
 /// Raises each entry of a clock to that of another.

@@ -5,11 +5,8 @@
 //! asked about the next event alone, so it keeps only what later events may need. [`EventRows`] can be
 //! asked about each access of an open variable, one whose flag isn't false, and finds a row of clocks by
 //! its number without a search. [`ListedRows`] can be asked about the events of a list, so it keeps rows
-//! for these alone, found by binary search. Three more can be asked about each event and stand in `compared`:
-//! [`PlainOrder`], marks by a backward sweep, for small traces and tests; [`FullClocks`], a vector clock
-//! for each event; [`ClockVersions`], a clock only where a thread may learn of others (its first event,
-//! an acquire, a join, a read that has a last write), found by binary search. [`Ordered`] is a trace
-//! with its links and an order of it, which are of one trace by its type.
+//! for these alone, found by binary search. Orders that can be asked about each event are in `shb_orders`,
+//! for tests. [`Ordered`] is a trace with its links and an order of it, which are of one trace by its type.
 //!
 //! A vector clock of a property of events has for each thread the number of its events, from the
 //! first on, that have the property (`IsFront`). Clocks are rows of one flat list, and a row says
@@ -31,7 +28,6 @@
 
 mod clock;
 mod compact;
-mod compared;
 mod copies;
 mod event_rows;
 mod kept_rows;
@@ -45,7 +41,6 @@ mod stamp;
 mod stamps;
 mod sweep;
 
-pub use compared::{ClockVersions, FullClocks, PlainOrder, full, plain, versions};
 pub use event_rows::{EventRows, by_event};
 pub use listed_rows::{ListedRows, at_events};
 pub use open::is_open;

@@ -1,6 +1,6 @@
 //! Clocks of one width in one flat list.
 
-ghost use Rattle.std.specs.Prelude.{◌≡◌, ℕ, ◌+◌, ◌*◌, ◌<◌, ◌≤◌, ◌^◌, [], ◌∷◌, ◌++◌, IfOk, OnOk, length, slice_index_or};
+ghost use Rattle.std.specs.Prelude.{◌≡◌, ◌+◌, ◌*◌, ◌<◌, ◌^◌, [], ◌∷◌, ◌++◌, IfOk, OnOk, length, slice_index_or};
 ghost use Rattle.shb_clocks.specs.Rows.{RowsData, rows_data};
 
 use crate::clock::row;
@@ -89,22 +89,5 @@ impl Rows {
         self.entries.extend_from_slice(clock)?;
         self.count += 1;
         Ok(self.count - 1)
-    }
-
-    /// The number of a row that is this clock: the given one, or a new one. The given number may name
-    /// no row.
-    pub fn number_like(&mut self, given: u32, clock: &[u32]) -> Result<u32, NoMemory>
-        requires long { length clock.now ≡ self.old.width }
-        requires few { length self.old.rows + 1 < 2 ^ 32 }
-        ensures width { OnOk result (self.new.width ≡ self.old.width) }
-        ensures more { OnOk result ((length self.old.rows ≤ length self.new.rows) × (length self.new.rows ≤ length self.old.rows + 1)) }
-        ensures kept { (i : ℕ) → i < length self.old.rows
-            → OnOk result (slice_index_or self.new.rows i [] ≡ slice_index_or self.old.rows i []) }
-        ensures row { IfOk result (λ number. (number < length self.new.rows) × (slice_index_or self.new.rows number [] ≡ clock.now)) }
-    {
-        if given < self.count() && self.row(given) == clock {
-            return Ok(given);
-        }
-        self.push(clock)
     }
 }

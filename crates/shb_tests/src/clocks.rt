@@ -4,10 +4,11 @@ ghost use Rattle.shb_clocks.specs.Open.{OpenTrace};
 
 use crate::fixtures::{Mixture, Question, asked, push_line, push_mixed_lines};
 use shb_asserting::{same, same_in_row};
-use shb_clocks::{EventRows, Order, PlainOrder, Sweep, at_events, by_event, full, plain, versions};
+use shb_clocks::{EventRows, Order, Sweep, at_events, by_event};
 use shb_discipline::Disciplined;
 use shb_io::NoMemory;
 use shb_links::{Linked, Links};
+use shb_orders::{PlainOrder, full, plain, versions};
 use std::alloc::Global;
 use std::test::Fail;
 

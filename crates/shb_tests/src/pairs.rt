@@ -4,12 +4,13 @@ ghost use Rattle.shb_pairs.specs.Open.{AsksOpen};
 
 use crate::fixtures::{Mixture, Question, asked, pair, push_mixed_lines};
 use shb_asserting::{holds, same, same_in_row};
-use shb_clocks::{FullClocks, Order, Ordered, full, versions};
+use shb_clocks::{Order, Ordered};
 use shb_discipline::Disciplined;
 use shb_fan::Job;
 use shb_io::NoMemory;
 use shb_lines::Pair;
 use shb_links::Links;
+use shb_orders::{FullClocks, full, versions};
 use shb_pairs::{
     Accesses, PairJob, Piece, accesses_of, accesses_of_open, is_race, open_variables, pieces,
 };

@@ -1,10 +1,10 @@
 //! The schedules of worked traces.
 use crate::fixtures::{Question, asked, pair};
 use shb_asserting::same_in_row;
-use shb_clocks::full;
 use shb_discipline::Disciplined;
 use shb_fan::Job;
 use shb_links::Links;
+use shb_orders::full;
 use shb_pairs::is_race;
 use shb_witness::WitnessJob;
 use std::alloc::Global;

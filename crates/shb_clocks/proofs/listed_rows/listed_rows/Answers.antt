@@ -1,6 +1,6 @@
 use Rattle.std.proofs.Common.{◌≡◌, ℕ, length, arith, subst}
 use Rattle.shb_clocks.specs.KeptRows.{AreListedRows}
-use Rattle.shb_clocks.proofs.KeptLemmas.{rising_order}
+use Rattle.shb_clocks.proofs.ListedLemmas.{rising_order}
 use Rattle.shb_clocks.proofs.listed_rows.listed_rows.Goals as goal
 
 pub loop-at-init : goal.loop-at-init

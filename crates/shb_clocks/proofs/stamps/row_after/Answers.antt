@@ -1,7 +1,7 @@
 use Rattle.std.proofs.Common.{◌≡◌, ◌≤◌, ◌⊎◌, ℕ, List, [], get_or, refl, sym, arith}
 use Rattle.shb_lines.specs.declared.event.Event.{Event}
 use Rattle.shb_lines.proofs.events.Items.{thread_within}
-use Rattle.shb_clocks.proofs.LearnedLemmas.{thread_same}
+use Rattle.shb_clocks.proofs.Fronts.{thread_same}
 use Rattle.shb_clocks.proofs.StampItems.{known_read}
 use Rattle.shb_clocks.proofs.Stamping.{row_joined, row_known, source_new}
 use Rattle.shb_clocks.proofs.stamps.row_after.Goals as goal

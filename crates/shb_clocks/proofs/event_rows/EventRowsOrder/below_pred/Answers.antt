@@ -1,8 +1,7 @@
 use Rattle.std.proofs.Common.{◌≡◌, ◌<◌, ℕ, true, List, length, ap, sym, subst, arith}
 use Rattle.shb_lines.specs.declared.event.Event.{Event}
 use Rattle.shb_clocks.specs.Open.{OpenTrace, accesses_open}
-use Rattle.shb_clocks.proofs.LearnedLemmas.{local_is}
-use Rattle.shb_clocks.proofs.Locals.{time_at}
+use Rattle.shb_clocks.proofs.Locals.{local_is, time_at}
 use Rattle.shb_clocks.proofs.Counting.{count_other, count_own, row_read}
 use Rattle.shb_clocks.proofs.event_rows.EventRowsOrder.below_pred.Goals as goal
 

@@ -1,9 +1,8 @@
 use Rattle.std.proofs.Common.{◌≡◌, ◌<◌, ℕ, List, get_or, length, ap, subst, arith}
 use Rattle.shb_lines.specs.declared.event.Event.{Event}
 use Rattle.shb_clocks.specs.Listed.{ListedTrace}
-use Rattle.shb_clocks.proofs.LearnedLemmas.{local_is}
+use Rattle.shb_clocks.proofs.Locals.{local_is, time_at}
 use Rattle.shb_clocks.proofs.ListedLemmas.{listed_read}
-use Rattle.shb_clocks.proofs.Locals.{time_at}
 use Rattle.shb_clocks.proofs.Counting.{count_other, count_own}
 use Rattle.shb_clocks.proofs.listed_rows.ListedRowsOrder.below_pred.Goals as goal
 

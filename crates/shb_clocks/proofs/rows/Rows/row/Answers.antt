@@ -1,6 +1,5 @@
 use Rattle.std.proofs.Common.{ap, sym, ◌∙◌, length, arith}
-use Rattle.shb_clocks.proofs.PastLemmas.{row_fits, row_long}
-use Rattle.shb_clocks.proofs.RowsLemmas.{value_width, value_long, value_row}
+use Rattle.shb_clocks.proofs.RowsLemmas.{row_fits, row_long, value_width, value_long, value_row}
 use Rattle.shb_clocks.proofs.rows.Rows.row.Goals as goal
 
 pub row-requires : goal.row-requires

@@ -1,7 +1,6 @@
 use Rattle.std.proofs.Common.{ℕ, List, refl, arith}
 use Rattle.shb_lines.specs.declared.event.Event.{Event}
-use Rattle.shb_clocks.proofs.LearnedLemmas.{local_is}
-use Rattle.shb_clocks.proofs.Locals.{time_at}
+use Rattle.shb_clocks.proofs.Locals.{local_is, time_at}
 use Rattle.shb_clocks.proofs.Counting.{count_other, count_own}
 use Rattle.shb_clocks.proofs.stamps.Stamps.below_pred.Goals as goal
 

@@ -2,7 +2,7 @@ use Rattle.std.proofs.Common.{List, length, refl, subst, arith}
 use Rattle.shb_lines.specs.declared.event.Event.{Event}
 use Rattle.shb_lines.proofs.events.Items.{op_within_at}
 use Rattle.shb_links.specs.Latest.{IsLatestBefore, OfThread}
-use Rattle.shb_clocks.proofs.LearnedLemmas.{local_is}
+use Rattle.shb_clocks.proofs.Locals.{local_is}
 use Rattle.shb_clocks.proofs.StampItems.{current_item}
 use Rattle.shb_clocks.proofs.Stamping.{source_join}
 use Rattle.shb_clocks.proofs.stamps.Stamps.join_source.Goals as goal

@@ -3,7 +3,7 @@ use Rattle.shb_lines.specs.declared.event.Event.{Event}
 use Rattle.shb_lines.specs.events.Order.{BelowPred}
 use Rattle.shb_lines.proofs.events.Items.{thread_within}
 use Rattle.shb_clocks.specs.Stamps.{IsKnown, IsRowFor}
-use Rattle.shb_clocks.proofs.LearnedLemmas.{thread_same}
+use Rattle.shb_clocks.proofs.Fronts.{thread_same}
 use Rattle.shb_clocks.proofs.StampItems.{current_item}
 use Rattle.shb_clocks.proofs.Stamping.{known_pred, row_same}
 use Rattle.shb_clocks.proofs.stamps.Stamps.row_before.Goals as goal

@@ -1,11 +1,10 @@
 use Rattle.std.proofs.Common.{List, ap, ◌<◌, arith}
 use Rattle.shb_lines.specs.declared.event.Event.{Event}
 use Rattle.shb_links.specs.Latest.{ReleasesLock}
-use Rattle.shb_clocks.specs.Stamps.{WritesShared}
+use Rattle.shb_clocks.specs.Stamps.{WritesShared, nothing_new}
 use Rattle.shb_lines.proofs.events.Items.{op_known, op_within_at}
-use Rattle.shb_clocks.specs.Stamps.{nothing_new}
 use Rattle.shb_clocks.specs.declared.stamp.Stamp.{Stamp}
-use Rattle.shb_clocks.proofs.PastLemmas.{learns_nothing}
+use Rattle.shb_clocks.proofs.Sources.{learns_nothing}
 use Rattle.shb_clocks.proofs.StampItems.{stamp_item}
 use Rattle.shb_clocks.proofs.Stamping.{source_acquire, source_read}
 use Rattle.shb_clocks.proofs.stamps.Stamps.source.Goals as goal

@@ -1,10 +1,9 @@
 use Rattle.std.proofs.Common.{ℕ, List, ◌∙◌, arith}
 use Rattle.shb_lines.specs.declared.event.Event.{Event}
 use Rattle.shb_links.specs.Latest.{ReleasesLock}
-use Rattle.shb_clocks.specs.Stamps.{WritesShared}
-use Rattle.shb_clocks.specs.Stamps.{IsStampOf}
+use Rattle.shb_clocks.specs.Stamps.{WritesShared, IsStampOf}
 use Rattle.shb_clocks.specs.declared.stamp.Stamp.{Stamp}
-use Rattle.shb_clocks.proofs.LearnedLemmas.{local_is}
+use Rattle.shb_clocks.proofs.Locals.{local_is}
 use Rattle.shb_clocks.proofs.Stamping.{more_chain, stamp_more, stamps_more}
 use Rattle.shb_clocks.proofs.stamps.Stamps.take.Goals as goal
 

@@ -1,7 +1,0 @@
-use Rattle.std.proofs.Common.{false, ap, ◌∙◌}
-use Rattle.std.specs.Prelude.{replicate}
-use Rattle.shb_clocks.proofs.MarksLemmas.{marks_start}
-use Rattle.shb_clocks.proofs.compared.plain_order.marks_below.Goals as goal
-
-pub loop-a-init : goal.loop-a-init
-loop-a-init c = marks_start c.args.linked.now.events.now c.args.p c.in_ok-marks.marks.items c.requires.in_range (c.in_ok-marks.ensures ∙ ap (λ n. replicate n false) c.len.ensures)

@@ -1,5 +1,0 @@
-use Rattle.shb_clocks.proofs.MarksLemmas.{rows_more}
-use Rattle.shb_clocks.proofs.compared.plain_order.plain.Goals as goal
-
-pub loop-e-preserved : goal.loop-e-preserved
-loop-e-preserved c = rw c.in_ok-push.ensures.items (rows_more c.new-linked.result.events.now c.loop-e.e c.loop-e.rows.items c.in_ok-row_of.field-0 c.loop-e.invariant c.in_ok-row_of.ensures)

@@ -1,6 +1,0 @@
-use Rattle.std.proofs.Common.{◌≡◌, ℕ, ◌<◌, true, false, get_or}
-use Rattle.shb_lines.specs.events.Order.{ShbEdge}
-use Rattle.shb_clocks.proofs.compared.plain_order.reaches.Given as goal
-
-abbrev pub invariant-loop-b : goal.invariant-loop-b
-invariant-loop-b l = (m : ℕ) → l.a < m → m < l.b → get_or l.marks m false ≡ true → ShbEdge l.linked.events.now l.a m → ⊥

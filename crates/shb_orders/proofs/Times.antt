@@ -1,0 +1,26 @@
+-- The local time of a first event, and of one just after another of its thread.
+use Rattle.std.proofs.Common.{◌≡◌, ◌≢◌, ℕ, ◌+◌, ◌<◌, ◌≤◌, ◌⊎◌, inl, inr, true, false, List, Some, take, arith, ap, ◌∙◌}
+use Rattle.std.specs.Prelude.{count_by, slice_get}
+use Rattle.std.proofs.lemmas.Bool.{cases_Bool}
+use Rattle.shb_lines.specs.declared.event.Event.{Event}
+use Rattle.shb_lines.specs.events.Events.{thread_at}
+use Rattle.shb_lines.specs.events.Discipline.{is_of, local_time}
+use Rattle.shb_lines.proofs.events.Counts.{count_gap}
+use Rattle.shb_lines.proofs.events.Events.{thread_is}
+use Rattle.shb_lines.proofs.events.Prefix.{is_of_thread}
+use Rattle.shb_clocks.proofs.Locals.{time_at}
+
+module _ (trace : List Event) (t : ℕ) where
+  -- no event of the thread stands between
+  gap : (a b : ℕ) → a ≤ b → ((m : ℕ) → a ≤ m → m < b → thread_at trace m ≢ Some t) → count_by (is_of t) (take b trace) ≡ count_by (is_of t) (take a trace)
+  gap a b le none = count_gap (is_of t) trace a b le (λ k d low high at_k. other k d low high at_k (cases_Bool (is_of t d)))
+    where
+      other : (k : ℕ) (d : Event) → a ≤ k → k < b → slice_get trace k ≡ Some d → (is_of t d ≡ true) ⊎ (is_of t d ≡ false) → is_of t d ≡ false
+      other k d low high at_k (inr fails) = fails
+      other k d low high at_k (inl is) = absurd (none k low high (thread_is trace k d at_k ∙ ap (λ x. Some x) (is_of_thread t d is)))
+
+  pub time_first : (e : ℕ) → thread_at trace e ≡ Some t → ((m : ℕ) → m < e → thread_at trace m ≢ Some t) → local_time trace t e ≡ 1
+  time_first e of_e none = let before = gap 0 e (omega arith) (λ m low high. none m high) in let own = time_at trace t e of_e in omega (arith, before, own)
+
+  pub time_after : (p e : ℕ) → thread_at trace e ≡ Some t → p < e → ((m : ℕ) → p < m → m < e → thread_at trace m ≢ Some t) → local_time trace t e ≡ local_time trace t p + 1
+  time_after p e of_e lt none = let between = gap (p + 1) e (omega (arith, lt)) (λ m low high. none m (omega (arith, low)) high) in let own = time_at trace t e of_e in omega (arith, between, own)

@@ -1,0 +1,5 @@
+use Rattle.shb_orders.specs.Marks.{MarksFrom}
+use Rattle.shb_orders.proofs.plain_order.marks_below.Given as goal
+
+abbrev pub invariant-loop-a : goal.invariant-loop-a
+invariant-loop-a l = MarksFrom l.linked.events.now l.p l.a l.marks.items

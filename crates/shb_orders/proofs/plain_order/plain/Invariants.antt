@@ -1,0 +1,5 @@
+use Rattle.shb_orders.specs.Marks.{HasRows}
+use Rattle.shb_orders.proofs.plain_order.plain.Given as goal
+
+abbrev pub invariant-loop-e : goal.invariant-loop-e
+invariant-loop-e l = HasRows l.linked.events.now l.e l.rows.items

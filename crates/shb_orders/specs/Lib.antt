@@ -1,0 +1,4 @@
+pub mod Learned
+pub mod Marks
+pub mod Past
+pub mod Sweeps

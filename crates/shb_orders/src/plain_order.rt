@@ -1,0 +1,131 @@
+//! An order by one row of marks for each event, for small traces and tests.
+
+ghost use Rattle.std.specs.Prelude.{◌≡◌, ℕ, ◌+◌, ◌<◌, ◌≤◌, ◌^◌, Bool, true, false, List, IsTrue, IfOk, ◌↔◌, length, slice_index_or, replicate};
+ghost use Rattle.shb_lines.specs.declared.event.Event.{Event};
+ghost use Rattle.shb_lines.specs.events.Events.{thread_at};
+ghost use Rattle.shb_lines.specs.events.Order.{ShbBelow, IsNumberOf};
+ghost use Rattle.shb_orders.specs.Marks.{MarksFrom, IsRowOf, HasRows};
+
+use crate::edges::is_edge;
+use crate::marks::Marks;
+use shb_clocks::Order;
+use shb_discipline::Disciplined;
+use shb_io::NoMemory;
+use shb_lines::Events;
+use shb_links::{Linked, Links};
+use std::alloc::Global;
+use std::marker::Model;
+
+/// An order by marks: which events are SHB-below the predecessor of each event. Contracts see it as
+/// the list of events of the trace that it orders. It may be shared between threads.
+#[derive(Drop)]
+pub struct PlainOrder<'a> {
+    linked: Linked<'a>,
+    rows: Vec<Marks>,
+}
+
+impl<'a> Model for PlainOrder<'a> {
+    ghost Value = { List Event };
+
+    ghost view = { λ o. o.linked.events.now };
+
+    ghost invariant = { λ o. HasRows o.linked.events.now (length o.linked.events.now) o.rows.items };
+}
+
+/// No marks.
+fn unmarked(alloc: Global, n: usize) -> Result<Vec<bool>, NoMemory>
+    ensures { IfOk result (λ marks. marks.items ≡ replicate n false) }
+{
+    Ok(vec![in alloc; false; n]?)
+}
+
+/// Whether a is SHB-below p, from the marks after a.
+fn reaches(linked: &Linked<'_>, marks: &[bool], a: u32, p: u32) -> bool
+    requires earlier { a < p }
+    requires in_range { p < length linked.now.events.now }
+    requires as_long { length marks.now ≡ length linked.now.events.now }
+    requires known { (k : ℕ) → a < k → k < length linked.now.events.now → (slice_index_or marks.now k false ≡ true)
+        ↔ ShbBelow linked.now.events.now k p }
+    ensures { IsTrue result ↔ ShbBelow linked.now.events.now a p }
+{
+    for b in a + 1..p + 1 {
+        if marks[b as usize] && is_edge(linked, a, b) {
+            return true;
+        }
+    }
+    false
+}
+
+/// Marks the events that are SHB-below p, by a backward sweep.
+fn marks_below(alloc: Global, linked: &Linked<'_>, p: u32) -> Result<Vec<bool>, NoMemory>
+    requires in_range { p < length linked.now.events.now }
+    ensures { IfOk result (λ marks. MarksFrom linked.now.events.now p 0 marks.items) }
+{
+    let mut marks = unmarked(alloc, linked.events.len())?;
+    marks[p as usize] = true;
+    for a in (0..p).rev() {
+        if reaches(linked, marks.as_slice(), a, p) {
+            marks[a as usize] = true;
+        }
+    }
+    Ok(marks)
+}
+
+/// The marks of one event.
+fn row_of(alloc: Global, linked: &Linked<'_>, e: u32) -> Result<Marks, NoMemory>
+    requires in_range { e < length linked.now.events.now }
+    ensures { IfOk result (λ row. IsRowOf linked.now.events.now e row) }
+{
+    match linked.links.pred(e) {
+        Some(p) => Ok(Marks::new(marks_below(alloc, linked, p)?)),
+        None => Ok(Marks::new(unmarked(alloc, linked.events.len())?)),
+    }
+}
+
+/// The order of a trace by a row of marks for each event, which a backward sweep over the SHB edges
+/// sets. Its time may grow with the cube of the trace's length and its memory grows with the square:
+/// it is for small traces and tests.
+///
+/// # Errors
+///
+/// `NoMemory` where memory is refused; nothing is kept then.
+pub fn plain<'a>(
+    alloc: Global,
+    trace: &'a Disciplined<'a>,
+    links: &'a Links<'a>,
+) -> Result<PlainOrder<'a>, NoMemory>
+    requires { links.now ≡ trace.now.events.now }
+    ensures { IfOk result (λ order. order ≡ trace.now.events.now) }
+{
+    let linked = Linked::new(trace, links);
+    let mut rows = Vec::new(alloc);
+    for e in 0..linked.events.len() as u32 {
+        rows.push(row_of(alloc, &linked, e)?)?;
+    }
+    Ok(PlainOrder { linked, rows })
+}
+
+/// How many events of a thread are marked.
+fn count_marked(events: &Events, row: &Marks, t: u32) -> u32
+    requires as_long { length row.now ≡ length events.now }
+    requires small { length events.now < 2 ^ 32 }
+    ensures { IsNumberOf (λ k. (thread_at events.now k ≡ Some t) × (slice_index_or row.now k false ≡ true)) result }
+{
+    let mut count = 0;
+    for k in 0..events.len() as u32 {
+        if events.thread(k) == t && row.is_marked(k as usize) {
+            count += 1;
+        }
+    }
+    count
+}
+
+impl<'a> Order for PlainOrder<'a> {
+    ghost trace = { λ o. o };
+
+    ghost asks = { λ _ _. true };
+
+    fn below_pred(&self, e: u32, t: u32) -> u32 {
+        count_marked(self.linked.events, &self.rows[e as usize], t)
+    }
+}
