@@ -12,7 +12,7 @@ use std::rt::Files;
 /// Judges the report on standard input against the trace of a file, writes the verdict to standard
 /// output, and gives the program's status. Of a report that is longer than a check reads, standard error
 /// says so beside the verdict, which is a bad line.
-pub(crate) fn check_report<R: Print + Eprint + Input + AllocGlobal + Files + RandomSource>(
+pub(crate) fn follow_check<R: Print + Eprint + Input + AllocGlobal + Files + RandomSource>(
     rt: &R,
     trace: &str,
 ) -> u8 {

@@ -7,7 +7,7 @@ mod complaints;
 mod output;
 mod reports;
 
-use crate::checks::check_report;
+use crate::checks::follow_check;
 use crate::complaints::{FAILED, WORDS_REFUSED, complain};
 use crate::reports::follow_report;
 use shb_run::Settings;
@@ -41,7 +41,7 @@ fn follow<R: Print + Eprint + Input + AllocGlobal + Files + RandomSource + Threa
             let path = trace.as_ref().map(|path| path.as_str());
             follow_report(rt, path, listing, settings)
         }
-        Ok(Plan::Check { trace }) => check_report(rt, trace.as_str()),
+        Ok(Plan::Check { trace }) => follow_check(rt, trace.as_str()),
         Ok(Plan::Help { text }) => match rt.print(text.as_str()) {
             Ok(()) => 0,
             Err(_) => complain(rt, "cannot write", FAILED),

@@ -21,8 +21,8 @@ use Rattle.shb_check.specs.declared.errors.RunError.TheVariants.{Trace, Source, 
 use Rattle.shb_lines.specs.declared.read.ReadError.{ReadError}
 use Rattle.shb_lines.specs.declared.read.ReadError.TheVariants as reading
 use Rattle.shb_lines.specs.text.Limits.{standard_limits}
-use Rattle.shb_report.specs.declared.judging.verdict.Verdict.{Verdict}
-use Rattle.shb_report.specs.Checks.{IsVerdictFor}
+use Rattle.shb_judging.specs.declared.verdict.Verdict.{Verdict}
+use Rattle.shb_judging.specs.Checks.{IsVerdictFor}
 use Rattle.shb_check.specs.Checks.{CountsSources, IsChecked}
 use Rattle.shb_check.specs.Errors.{error_of_checking, error_of_reading}
 use Rattle.shb_check.specs.Judged.{IsAccepted, IsRefusalOf}

@@ -5,14 +5,14 @@ use Rattle.shb_lines.specs.events.Discipline.{IsDisciplined}
 use Rattle.shb_lines.specs.text.Limits.{most_bytes}
 use Rattle.shb_lines.specs.text.Text.{lines_of}
 use Rattle.shb_lines.specs.text.TraceData.{TraceData}
-use Rattle.shb_report.specs.declared.judging.verdict.Verdict.{Verdict}
-use Rattle.shb_report.specs.declared.judging.verdict.Verdict.TheVariants.{Good, BadLine, BadCounts, BadRace, BadPlaces}
-use Rattle.shb_report.specs.Reading.{IsBadLine}
-use Rattle.shb_report.specs.Verdicts.{IsVerdict}
-use Rattle.shb_report.proofs.Bad.{bad_line_unique}
-use Rattle.shb_report.proofs.Injective.{report_same}
-use Rattle.shb_report.proofs.VerdictLaws.{one_verdict}
-use Rattle.shb_report.specs.Checks.{IsJudged, IsVerdictFor}
+use Rattle.shb_judging.specs.declared.verdict.Verdict.{Verdict}
+use Rattle.shb_judging.specs.declared.verdict.Verdict.TheVariants.{Good, BadLine, BadCounts, BadRace, BadPlaces}
+use Rattle.shb_reading.specs.Reading.{IsBadLine}
+use Rattle.shb_judging.specs.Verdicts.{IsVerdict}
+use Rattle.shb_reading.proofs.Bad.{bad_line_unique}
+use Rattle.shb_reading.proofs.Injective.{report_same}
+use Rattle.shb_judging.proofs.VerdictLaws.{one_verdict}
+use Rattle.shb_judging.specs.Checks.{IsJudged, IsVerdictFor}
 use Rattle.shb_check.specs.Checks.{IsGoodFor, IsVerdictOf}
 use Rattle.shb_check.proofs.OneTrace.{one_whole_trace}
 

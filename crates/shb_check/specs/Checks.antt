@@ -6,11 +6,11 @@ use Rattle.shb_lines.specs.text.Limits.{most_bytes, standard_limits}
 use Rattle.shb_lines.specs.text.Text.{lines_of}
 use Rattle.shb_lines.specs.text.TraceData.{IsTraceOf, TraceData}
 use Rattle.shb_discipline.specs.FirstFault.{HasNoFault}
-use Rattle.shb_report.specs.declared.judging.verdict.Verdict.{Verdict}
-use Rattle.shb_report.specs.Checks.{IsVerdictFor}
-use Rattle.shb_report.specs.Reading.{IsReportText}
+use Rattle.shb_judging.specs.declared.verdict.Verdict.{Verdict}
+use Rattle.shb_judging.specs.Checks.{IsVerdictFor}
+use Rattle.shb_reading.specs.Reading.{IsReportText}
 use Rattle.shb_report.specs.Value.{ReportValue}
-use Rattle.shb_report.specs.Verdicts.{IsGoodReport, verdict_bytes}
+use Rattle.shb_judging.specs.Verdicts.{IsGoodReport, verdict_bytes}
 use Rattle.shb_check.specs.declared.errors.RunError.{RunError}
 use Rattle.shb_check.specs.declared.errors.RunError.TheVariants.{Source}
 

@@ -1,8 +1,8 @@
 -- What a program says of an error, and the status that it ends with.
 use Rattle.std.specs.Prelude.{ℕ, List, ◌++◌, codes, decimal, Result, Ok, Err}
 use Rattle.shb_lines.specs.text.Messages.{message_of}
-use Rattle.shb_report.specs.declared.judging.verdict.Verdict.{Verdict}
-use Rattle.shb_report.specs.declared.judging.verdict.Verdict.TheVariants.{Good}
+use Rattle.shb_judging.specs.declared.verdict.Verdict.{Verdict}
+use Rattle.shb_judging.specs.declared.verdict.Verdict.TheVariants.{Good}
 use Rattle.shb_check.specs.declared.errors.RunError.{RunError}
 use Rattle.shb_check.specs.declared.errors.RunError.TheVariants.{Trace, Source, Sink, Memory}
 

@@ -2,8 +2,8 @@
 //! its contract is the law.
 ghost use Rattle.std.specs.Prelude.{◌≡◌, ◌↔◌, ℕ, List};
 ghost use Rattle.shb_lines.specs.text.TraceData.{IsTraceOf, TraceData};
-ghost use Rattle.shb_report.specs.declared.judging.verdict.Verdict.{Verdict};
-ghost use Rattle.shb_report.specs.declared.judging.verdict.Verdict.TheVariants.{Good};
+ghost use Rattle.shb_judging.specs.declared.verdict.Verdict.{Verdict};
+ghost use Rattle.shb_judging.specs.declared.verdict.Verdict.TheVariants.{Good};
 ghost use Rattle.shb_check.specs.Checks.{IsGoodFor, IsVerdictOf};
 
 /// Some lines have at most one trace, with its names, their numbers and its lines.

@@ -13,6 +13,6 @@ mod verdicts;
 
 pub use errors::RunError;
 pub use judging::judge;
-pub use shb_report::{RaceFault, Verdict};
+pub use shb_judging::{RaceFault, Verdict};
 pub use statuses::{end_of_check, exit_status, fault_line, status_of_check, tell_error};
 pub use verdicts::check;

@@ -4,7 +4,7 @@ ghost use Rattle.shb_check.specs.Statuses.{check_status_of, exit_status_of, faul
 
 use crate::errors::RunError;
 use shb_io::NoMemory;
-use shb_report::Verdict;
+use shb_judging::Verdict;
 use std::alloc::Global;
 
 /// The status with which a program ends: 2 for a refused trace, 4 for a device or the memory.

@@ -5,15 +5,15 @@ ghost use Rattle.shb_discipline.specs.FirstFault.{IsFirstFault};
 ghost use Rattle.shb_lines.specs.text.Taking.{ReadsText, TakesAtMost};
 ghost use Rattle.shb_lines.specs.declared.fault.Fault.{Fault};
 ghost use Rattle.shb_lines.specs.text.Limits.{most_read, standard_limits};
-ghost use Rattle.shb_report.specs.Verdicts.{verdict_bytes};
+ghost use Rattle.shb_judging.specs.Verdicts.{verdict_bytes};
 ghost use Rattle.shb_check.specs.Checks.{CountsSources, IsChecked, IsLineCutShort};
 ghost use Rattle.shb_check.specs.Outcomes.{CountsSink, Grows, OnJudged, OnMemory, OnNoTrace, OnSink, OnTrace, OnWriting};
 
 use crate::errors::RunError;
 use crate::judging::judge;
 use shb_io::{Sink, Source};
+use shb_judging::{Verdict, judge_report, verdict_line};
 use shb_lines::{Limits, parse};
-use shb_report::{Verdict, judge_report, verdict_line};
 use std::alloc::Global;
 use std::random::RandomSource;
 
@@ -25,7 +25,7 @@ use std::random::RandomSource;
 ///
 /// The time is linear in the two texts, whatever the number of blocks: the tables that schedules are
 /// judged by are made once. Both texts are kept; what a report takes beside its text is told at
-/// `judge_report` of `shb_report`.
+/// `judge_report` of `shb_judging`.
 ///
 /// # Errors
 ///

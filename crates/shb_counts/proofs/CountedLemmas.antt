@@ -18,7 +18,7 @@ use Rattle.shb_pairs.proofs.Counting.{numbers_few}
 use Rattle.shb_pairs.proofs.Sorting.{sum_whole}
 use Rattle.shb_report.specs.Places.{HasEach, IsNumbered, IsPairOf, PlaceOf, location_at, location_with, places_after, places_of_pairs, with_numbered, with_pair}
 use Rattle.shb_report.specs.Report.{pair_of}
-use Rattle.shb_report.proofs.EntryLemmas.{each-weaker}
+use Rattle.shb_report.proofs.EachLemmas.{each-weaker}
 use Rattle.shb_report.proofs.ManyPlaces.{by_number}
 use Rattle.shb_report.proofs.PlaceLemmas.{places_after_few}
 use Rattle.shb_counts.specs.Counted.{HasCounted}

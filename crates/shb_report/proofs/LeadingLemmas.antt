@@ -18,8 +18,8 @@ use Rattle.shb_lines.proofs.events.Increasing.{increasing_equal}
 use Rattle.shb_report.specs.declared.places.PlaceCount.{PlaceCount}
 use Rattle.shb_report.specs.Leading.{AreLeading, HasOnce, Leads, place_at}
 use Rattle.shb_report.specs.Places.{PlaceOf, counts_in, location_at, places_of_pairs, with_one_more, with_pair}
-use Rattle.shb_report.proofs.EntryLemmas.{each-weaker}
-use Rattle.shb_report.proofs.judging.GoodBlocks.{each_at}
+use Rattle.shb_report.proofs.EachLemmas.{each-weaker}
+use Rattle.shb_report.proofs.EachLemmas.{each_at}
 
 -- the first pairs of places
 abbrev pub firsts : List PlaceOf → List Pair

@@ -1,12 +1,8 @@
-pub mod Increasing
+pub mod EachLemmas
+pub mod LineLemmas
 pub mod Blocks
-pub mod Bad
-pub mod EntryLemmas
-pub mod Injective
 pub mod PlaceLemmas
 pub mod ManyPlaces
 pub mod LeadingLemmas
 pub mod LeadingReports
 pub mod WrittenText
-pub mod WrittenGood
-pub mod VerdictLaws

@@ -12,7 +12,7 @@ use Rattle.shb_lines.specs.declared.event.Pair.{Pair}
 use Rattle.shb_lines.specs.text.TraceData.{TraceData}
 use Rattle.shb_report.specs.declared.places.PlaceCount.{PlaceCount}
 use Rattle.shb_report.specs.Places.{HasPlace, IsNumbered, PlaceOf, has_locations, location_at, place_of_entry, places_after, places_in, with_many, with_numbered, with_pair}
-use Rattle.shb_report.proofs.EntryLemmas.{each-weaker}
+use Rattle.shb_report.proofs.EachLemmas.{each-weaker}
 use Rattle.shb_report.proofs.PlaceLemmas.{Key, same_key}
 
 -- what is counted of a place with so many pairs more

@@ -11,7 +11,7 @@ use Rattle.shb_report.specs.Places.{counts_in, places_of_pairs, section_bytes, s
 use Rattle.shb_report.specs.Report.{AllRaces, HasSchedule, IsReport, IsReportOn, ShownRace, block_bytes, blocks_from, counts_of, head_bytes, pair_of, tail_bytes}
 use Rattle.shb_report.specs.Value.{block_lines, counts_line, lines_text, places_section, races_line, report_text}
 use Rattle.shb_report.specs.Written.{block_of, written_report}
-use Rattle.shb_report.proofs.EntryLemmas.{lines_text-append}
+use Rattle.shb_report.proofs.LineLemmas.{lines_text-append}
 
 -- the lines of the head and of the places
 abbrev head_lines : Counts → ℕ → List (List ℕ)

@@ -1,7 +1,7 @@
 -- The pieces that the writer of a block puts one after another.
 use Rattle.std.specs.Prelude.{ℕ, ◌+◌, List, [], ◌++◌, length, flat_map, codes, decimal, Option, None, Some}
 use Rattle.shb_lines.specs.text.TraceData.{TraceData}
-use Rattle.shb_report.specs.Report.{line_at}
+use Rattle.shb_report.specs.Report.{line_of_event}
 
 -- a label, a text and a line feed
 abbrev pub labelled_line : List ℕ → List ℕ → List ℕ
@@ -33,4 +33,4 @@ schedule_bytes (Some events) = schedule_line events
 
 -- the lines of the two events
 abbrev pub event_lines : TraceData → ℕ × ℕ → List ℕ
-event_lines trace pair = labelled_line (codes "first ") (line_at trace pair.0) ++ labelled_line (codes "second ") (line_at trace pair.1)
+event_lines trace pair = labelled_line (codes "first ") (line_of_event trace pair.0) ++ labelled_line (codes "second ") (line_of_event trace pair.1)

@@ -15,8 +15,8 @@ abbrev pub head_bytes : Counts → ℕ → List ℕ
 head_bytes counts races = lines_text (codes "shb-report 2" ∷ (counts_line counts ∷ (races_line races ∷ [])))
 
 -- the line of an event as the text has it; every event of a trace has one
-abbrev pub line_at : TraceData → ℕ → List ℕ
-line_at trace event = unwrap_or (slice_get trace.lines event) []
+abbrev pub line_of_event : TraceData → ℕ → List ℕ
+line_of_event trace event = unwrap_or (slice_get trace.lines event) []
 
 -- the line of a schedule if there is one: how many events it has, and their numbers, which are counted from 1
 abbrev pub schedule_lines : Option (List ℕ) → List (List ℕ)
@@ -27,7 +27,7 @@ schedule_lines (Some events) = numbers_line (map (λ event. event + 1) events) �
 abbrev pub block_bytes : TraceData → ℕ → ℕ × ℕ → Option (List ℕ) → List ℕ
 block_bytes trace number pair schedule =
     lines_text (race_numbers_line number (pair.0 + 1) (pair.1 + 1)
-    ∷ ((codes "first " ++ line_at trace pair.0) ∷ ((codes "second " ++ line_at trace pair.1) ∷ schedule_lines schedule)))
+    ∷ ((codes "first " ++ line_of_event trace pair.0) ∷ ((codes "second " ++ line_of_event trace pair.1) ∷ schedule_lines schedule)))
 
 abbrev pub tail_bytes : List ℕ
 tail_bytes = codes "end\n"

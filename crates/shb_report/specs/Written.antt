@@ -4,7 +4,7 @@ use Rattle.std.specs.List.{AllByRecursion}
 use Rattle.shb_lines.specs.text.Text.{IsLineText}
 use Rattle.shb_lines.specs.text.TraceData.{TraceData}
 use Rattle.shb_report.specs.Places.{counts_in, places_of_pairs, shown_places}
-use Rattle.shb_report.specs.Report.{ShownRace, counts_of, line_at, pair_of}
+use Rattle.shb_report.specs.Report.{ShownRace, counts_of, line_of_event, pair_of}
 use Rattle.shb_report.specs.Value.{AreShown, Block, ReportValue}
 
 -- what the grammar of reports asks of a trace: its numbers can be shown, and each event has a line, of few bytes and no line feed
@@ -18,8 +18,8 @@ abbrev pub block_of : TraceData → ShownRace → Block
 block_of trace race = record {
   first = race.pair.0 + 1;
   second = race.pair.1 + 1;
-  first_line = line_at trace race.pair.0;
-  second_line = line_at trace race.pair.1;
+  first_line = line_of_event trace race.pair.0;
+  second_line = line_of_event trace race.pair.1;
   schedule = map (λ event. event + 1) (unwrap_or race.schedule []);
 }
 

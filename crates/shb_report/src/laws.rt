@@ -1,20 +1,15 @@
 //! The laws of reports, over the definitions alone. Each function does nothing: its contract is the
 //! law.
-ghost use Rattle.std.specs.Prelude.{◌≡◌, ◌↔◌, ◌-◌, ◌<◌, ℕ, All, Bool, Contains, List, count_by, length, map, nat_eq, true};
-ghost use Rattle.std.specs.List.{AllByRecursion};
+ghost use Rattle.std.specs.Prelude.{◌≡◌, ◌<◌, ℕ, All, Bool, Contains, List, count_by, map, nat_eq, true};
 ghost use Rattle.shb_lines.specs.declared.event.Pair.{Pair};
 ghost use Rattle.shb_lines.specs.events.Discipline.{IsDisciplined};
-ghost use Rattle.shb_lines.specs.events.Race.{IsRaceList, Race};
+ghost use Rattle.shb_lines.specs.events.Race.{IsRaceList};
 ghost use Rattle.shb_lines.specs.text.TraceData.{TraceData};
 ghost use Rattle.shb_report.specs.Leading.{AreLeading, HasOnce, place_at};
 ghost use Rattle.shb_report.specs.Places.{IsNumbered, PlaceOf, places_after, with_numbered};
-ghost use Rattle.shb_report.specs.Reading.{IsBadLine, IsReportText};
-ghost use Rattle.shb_report.specs.Report.{AreBlocks, HasSchedule, IsReport, ShownRace};
-ghost use Rattle.shb_report.specs.Value.{IsReportValue, IsShown, ReportValue, report_text};
-ghost use Rattle.shb_report.specs.Verdicts.{IsGoodReport, IsVerdict};
-ghost use Rattle.shb_report.specs.Written.{IsShowable, written_report};
-ghost use Rattle.shb_report.specs.declared.judging.verdict.Verdict.{Verdict};
-ghost use Rattle.shb_report.specs.declared.judging.verdict.Verdict.TheVariants.{Good};
+ghost use Rattle.shb_report.specs.Report.{HasSchedule, IsReport, ShownRace};
+ghost use Rattle.shb_report.specs.Value.{report_text};
+ghost use Rattle.shb_report.specs.Written.{written_report};
 
 /// A trace has at most one report in each form.
 pub fn report_is_unique()
@@ -29,20 +24,6 @@ pub fn report_exists()
         → (bytes : List ℕ) × IsReport with_schedules trace bytes }
 {}
 
-/// A text is the text of at most one report in the grammar. So what is read of the text of a report is
-/// that report.
-pub fn report_of_a_text_is_unique()
-    ensures { (report other : ReportValue) → IsReportValue report → IsReportValue other
-        → report_text report ≡ report_text other → report ≡ other }
-{}
-
-/// A text has at most one bad line, and none where it is a report within the limit.
-pub fn bad_line_is_unique()
-    ensures one { (limit : ℕ) (text : List ℕ) (m n : ℕ) → IsBadLine limit text m → IsBadLine limit text n → m ≡ n }
-    ensures no_report { (limit : ℕ) (text : List ℕ) (n : ℕ) (report : ReportValue) → IsReportText limit text report
-        → IsBadLine limit text n → ⊥ }
-{}
-
 /// The report of a trace that the writer's parts are, with schedules, is the text of a report as it is
 /// read: of version 2, with the counts of the trace, the places of its race list and a block for each
 /// of its races.
@@ -50,38 +31,6 @@ pub fn written_report_is_a_text()
     ensures { (trace : TraceData) (bytes : List ℕ) → IsReport true trace bytes → (shown : List ShownRace)
         × IsRaceList trace.events (map (λ race. race.pair) shown) × All (HasSchedule true trace) shown
         × (bytes ≡ report_text (written_report trace shown)) }
-{}
-
-/// The report of a disciplined trace that the writer's parts are, with schedules, is the text of a report
-/// in the grammar, and its verdict is `Good` with the number of its races. Asked of the trace: its
-/// numbers have 64 bits, and each event has a line, of few bytes and no line feed. Every trace that was
-/// read is so.
-pub fn written_report_is_good()
-    ensures { (trace : TraceData) (bytes : List ℕ) → IsDisciplined trace.events → IsShowable trace
-        → (report : IsReport true trace bytes) → IsShown (length report.races)
-        → (value : ReportValue) × IsReportValue value × (bytes ≡ report_text value) × IsVerdict trace value (Good (length report.races)) }
-{}
-
-/// What is said of a report is `Good`, with the number of its races, exactly where it is good for the
-/// trace: its counts are those of the trace; each block is about two events that conflict, the earlier
-/// one first, has their lines and a schedule of the two; and its places, where it has any, are those of
-/// the listed pairs.
-pub fn good_reports_are_called_good()
-    ensures { (trace : TraceData) (report : ReportValue) (verdict : Verdict) → IsDisciplined trace.events → IsVerdict trace report verdict
-        → (verdict ≡ Good (length report.blocks)) ↔ IsGoodReport trace report }
-{}
-
-/// Each listed pair of a good report is a race. Its block has the numbers of the two events, which count
-/// from 1.
-pub fn good_reports_list_races()
-    ensures { (trace : TraceData) (report : ReportValue) → IsGoodReport trace report
-        → AllByRecursion (λ block. Race trace.events (block.first - 1) (block.second - 1)) report.blocks }
-{}
-
-/// A report has at most one verdict.
-pub fn verdict_is_one()
-    ensures { (trace : TraceData) (report : ReportValue) (verdict other : Verdict) → IsDisciplined trace.events
-        → IsVerdict trace report verdict → IsVerdict trace report other → verdict ≡ other }
 {}
 
 /// A list has at most one list of leading races.

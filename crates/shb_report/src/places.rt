@@ -70,7 +70,7 @@ fn add_pairs<'t>(table: &mut Table<'t>, trace: &'t Trace, pairs: &[Pair]) -> Res
 }
 
 /// The places in a table.
-fn counts_of(alloc: Global, table: &Table) -> Result<Vec<PlaceCount>, NoMemory>
+fn place_counts(alloc: Global, table: &Table) -> Result<Vec<PlaceCount>, NoMemory>
     ensures { IfOk result (λ counts. counts.items ≡ map (λ e. e.1) table.now.entries) }
 {
     let mut counts = Vec::with_capacity(alloc, table.len())?;
@@ -223,7 +223,7 @@ impl<'t> PlaceTable<'t> {
         ensures { IfOk result (λ places. places ≡ counts_in self.now) }
     {
         Ok(Places {
-            counts: counts_of(alloc, &self.table)?,
+            counts: place_counts(alloc, &self.table)?,
         })
     }
 }

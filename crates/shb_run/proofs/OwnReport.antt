@@ -12,19 +12,19 @@ use Rattle.shb_lines.specs.text.TraceData.{IsTraceOf, TraceData}
 use Rattle.shb_lines.proofs.text.LineTexts.{held_texts}
 use Rattle.shb_lines.specs.text.Limits.{most_bytes, standard_limits}
 use Rattle.shb_discipline.specs.FirstFault.{HasNoFault}
-use Rattle.shb_report.specs.declared.judging.verdict.Verdict.{Verdict}
-use Rattle.shb_report.specs.declared.judging.verdict.Verdict.TheVariants.{Good, BadLine, BadCounts, BadRace, BadPlaces}
-use Rattle.shb_report.specs.Reading.{IsReportText}
+use Rattle.shb_judging.specs.declared.verdict.Verdict.{Verdict}
+use Rattle.shb_judging.specs.declared.verdict.Verdict.TheVariants.{Good, BadLine, BadCounts, BadRace, BadPlaces}
+use Rattle.shb_reading.specs.Reading.{IsReportText}
 use Rattle.shb_report.specs.Report.{AllRaces, IsReportOnText, LeadingRaces, counts_of}
 use Rattle.shb_report.proofs.LeadingReports.{leading_are_races}
 use Rattle.shb_report.specs.Value.{AreShown, IsReportValue, IsShown, ReportValue, report_text}
-use Rattle.shb_report.specs.Verdicts.{IsVerdict}
+use Rattle.shb_judging.specs.Verdicts.{IsVerdict}
 use Rattle.shb_report.specs.Written.{IsShowable}
-use Rattle.shb_report.proofs.Injective.{report_same}
-use Rattle.shb_report.proofs.VerdictLaws.{one_verdict}
-use Rattle.shb_report.proofs.WrittenGood.{all_are_races, written_good}
+use Rattle.shb_reading.proofs.Injective.{report_same}
+use Rattle.shb_judging.proofs.VerdictLaws.{one_verdict}
+use Rattle.shb_judging.proofs.WrittenGood.{all_are_races, written_good}
 use Rattle.shb_run.specs.declared.settings.Summary.{Summary}
-use Rattle.shb_report.specs.Checks.{IsJudged, IsVerdictFor}
+use Rattle.shb_judging.specs.Checks.{IsJudged, IsVerdictFor}
 use Rattle.shb_check.specs.Checks.{IsVerdictOf}
 use Rattle.shb_run.specs.Runs.{FitsU64, IsPlacesReported, IsReported}
 use Rattle.shb_run.specs.Written.{summary_of}

@@ -12,7 +12,7 @@ use Rattle.shb_clocks.proofs.OpenItems.{asks_open}
 use Rattle.shb_pairs.specs.Open.{AreOpen, AsksOpen}
 use Rattle.shb_report.specs.Report.{IsReportOn}
 use Rattle.shb_report.proofs.LeadingReports.{leading_are_races}
-use Rattle.shb_report.proofs.WrittenGood.{all_are_races}
+use Rattle.shb_judging.proofs.WrittenGood.{all_are_races}
 use Rattle.shb_run.specs.declared.settings.Choice.{Choice}
 use Rattle.shb_run.specs.declared.settings.Choice.TheVariants as choices
 use Rattle.shb_write.specs.Written.{CutsBlocksOn, CutsReportOn, These, WritesReport}

@@ -4,9 +4,9 @@ ghost use Rattle.std.specs.Prelude.{◌≡◌, ◌≤◌, ℕ, Bool, List, Optio
 ghost use Rattle.shb_lines.specs.text.Limits.{most_bytes};
 ghost use Rattle.shb_report.specs.Report.{IsPlacesReportOf, IsReportOf};
 ghost use Rattle.shb_report.specs.Value.{IsReportValue, ReportValue, report_text};
-ghost use Rattle.shb_report.specs.Verdicts.{IsVerdict};
-ghost use Rattle.shb_report.specs.declared.judging.verdict.Verdict.{Verdict};
-ghost use Rattle.shb_report.specs.declared.judging.verdict.Verdict.TheVariants.{Good};
+ghost use Rattle.shb_judging.specs.Verdicts.{IsVerdict};
+ghost use Rattle.shb_judging.specs.declared.verdict.Verdict.{Verdict};
+ghost use Rattle.shb_judging.specs.declared.verdict.Verdict.TheVariants.{Good};
 ghost use Rattle.shb_check.specs.Checks.{IsVerdictOf};
 ghost use Rattle.shb_run.specs.Runs.{IsPlacesReported, IsReported};
 ghost use Rattle.shb_run.specs.declared.settings.Summary.{Summary};

@@ -3,7 +3,7 @@
 use shb_asserting::{holds, same, same_bytes};
 use shb_io::{Failed, Page, Sink, Text, ToWrite};
 use shb_lines::Fault;
-use shb_report::{ReportError, read_report_within};
+use shb_reading::{ReportError, read_report_within};
 use shb_run::{RunError, check, fault_line};
 use std::io::{self, Write};
 use std::test::Fail;

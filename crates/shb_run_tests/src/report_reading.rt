@@ -2,7 +2,7 @@
 use shb_asserting::{has_length, same, same_bytes, same_in_row};
 use shb_io::{Source, Text};
 use shb_lines::MOST_BYTES;
-use shb_report::{Report, ReportError, read_report_within};
+use shb_reading::{Report, ReportError, read_report_within};
 use std::test::Fail;
 
 const ROW_2: &[u8] = b"shb-report 1\n\

@@ -4,7 +4,7 @@ use Rattle.std.specs.Fmt.{decimal}
 use Rattle.std.proofs.lemmas.List.{length-map}
 use Rattle.shb_lines.specs.text.TraceData.{TraceData}
 use Rattle.shb_report.specs.Pieces.{event_lines, event_numbers, race_line, schedule_bytes}
-use Rattle.shb_report.specs.Report.{block_bytes, line_at, schedule_lines}
+use Rattle.shb_report.specs.Report.{block_bytes, line_of_event, schedule_lines}
 use Rattle.shb_report.specs.Value.{lines_text, listed}
 
 numbers_are : (events : List ℕ) → event_numbers events ≡ listed (map (λ event. event + 1) events)
@@ -34,4 +34,4 @@ pub block_is : (trace : TraceData) (number : ℕ) (pair : ℕ × ℕ) (schedule 
 block_is trace number pair schedule line is =
     ap (λ l. l ++ (event_lines trace pair ++ schedule_bytes schedule)) is
     ∙ ap (λ s. race_line number pair ++ (event_lines trace pair ++ s)) (schedule_is schedule)
-    ∙ block_pieces (decimal number) (decimal (pair.0 + 1)) (decimal (pair.1 + 1)) (line_at trace pair.0) (line_at trace pair.1) (lines_text (schedule_lines schedule))
+    ∙ block_pieces (decimal number) (decimal (pair.0 + 1)) (decimal (pair.1 + 1)) (line_of_event trace pair.0) (line_of_event trace pair.1) (lines_text (schedule_lines schedule))

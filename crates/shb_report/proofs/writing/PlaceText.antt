@@ -7,7 +7,7 @@ use Rattle.shb_report.specs.declared.places.PlaceCount.{PlaceCount}
 use Rattle.shb_report.specs.Pieces.{labelled_line}
 use Rattle.shb_report.specs.Places.{place_bytes, places_bytes, section_bytes, shown_place, shown_places}
 use Rattle.shb_report.specs.Value.{Place, lines_text, place_line, place_lines, places_line}
-use Rattle.shb_report.proofs.EntryLemmas.{lines_text-append, place_lines-append}
+use Rattle.shb_report.proofs.LineLemmas.{lines_text-append, place_lines-append}
 
 -- a line after its label
 one_labelled : (label text rest : List ℕ) → labelled_line label text ++ rest ≡ (label ++ text) ++ (10 ∷ rest)

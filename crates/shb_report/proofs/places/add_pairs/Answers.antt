@@ -5,7 +5,7 @@ use Rattle.std.proofs.lemmas.List.{take_all}
 use Rattle.shb_lines.specs.declared.event.Pair.{Pair}
 use Rattle.shb_report.specs.Places.{PlaceOf, places_after, places_in, with_pair}
 use Rattle.shb_report.proofs.PlaceLemmas.{located, one_pair_more, with_pair_few}
-use Rattle.shb_report.proofs.EntryLemmas.{each-weaker}
+use Rattle.shb_report.proofs.EachLemmas.{each-weaker}
 use Rattle.shb_report.proofs.places.add_pairs.Goals as goal
 
 pub loop-pair-preserved : goal.loop-pair-preserved

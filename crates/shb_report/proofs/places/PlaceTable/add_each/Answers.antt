@@ -3,7 +3,7 @@ use Rattle.std.proofs.Common.{◌≡◌, ◌+◌, ◌<◌, ◌^◌, ℕ, List, a
 use Rattle.std.specs.Prelude.{drop, slice_index_or, sum}
 use Rattle.std.specs.List.{AllByRecursion}
 use Rattle.shb_report.specs.Places.{PlaceOf, location_with}
-use Rattle.shb_report.proofs.EntryLemmas.{each-weaker}
+use Rattle.shb_report.proofs.EachLemmas.{each-weaker}
 use Rattle.shb_report.proofs.ManyPlaces.{many_within, numbered_next, sum_left}
 use Rattle.shb_report.proofs.PlaceLemmas.{located}
 use Rattle.shb_report.proofs.places.PlaceTable.add_each.Goals as goal

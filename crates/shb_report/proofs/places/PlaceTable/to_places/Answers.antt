@@ -5,4 +5,4 @@ use Rattle.shb_report.proofs.PlaceLemmas.{counts_are}
 use Rattle.shb_report.proofs.places.PlaceTable.to_places.Goals as goal
 
 pub returns : goal.returns
-returns c = c.in_ok-counts_of.ensures ∙ counts_are c.self.inside.table.entries ∙ ap counts_in c.self.view_is
+returns c = c.in_ok-place_counts.ensures ∙ counts_are c.self.inside.table.entries ∙ ap counts_in c.self.view_is

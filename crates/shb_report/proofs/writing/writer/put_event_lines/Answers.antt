@@ -1,6 +1,6 @@
 use Rattle.std.proofs.Common.{◌++◌, codes}
 use Rattle.shb_report.specs.Pieces.{labelled_line}
-use Rattle.shb_report.specs.Report.{line_at}
+use Rattle.shb_report.specs.Report.{line_of_event}
 use Rattle.shb_report.proofs.writing.HeldLemmas.{PutsPrefix-front, Puts-then, Puts-err}
 use Rattle.shb_report.proofs.writing.writer.put_event_lines.Goals as goal
 
@@ -8,7 +8,7 @@ pub returns-in_err-put_line-clause-put : goal.returns-in_err-put_line-clause-put
 returns-in_err-put_line-clause-put g c =
     let held = c.args.held.now in
     let first = labelled_line (codes "first ") c.line_text.result.now in
-    let second = labelled_line (codes "second ") (line_at c.args.trace.now c.args.pair.second) in
+    let second = labelled_line (codes "second ") (line_of_event c.args.trace.now c.args.pair.second) in
     rw c.line_text.ensures.line
     (Puts-err _ _ _ _ held _ (first ++ second) c.from_residual.ensures.1 (PutsPrefix-front _ _ held first second c.in_err-put_line.ensures.put))
 

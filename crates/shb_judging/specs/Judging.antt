@@ -1,0 +1,66 @@
+-- What the parts of a judgement find.
+use Rattle.std.specs.Prelude.{◌≡◌, ◌+◌, ◌-◌, ◌<◌, ◌≤◌, ℕ, All, IfSome, List, length, map, take, Option, Some, None}
+use Rattle.std.specs.List.{AllByRecursion}
+use Rattle.shb_lines.specs.events.Race.{Conflict}
+use Rattle.shb_lines.specs.text.TraceData.{TraceData}
+use Rattle.shb_lines.specs.declared.event.Pair.{Pair}
+use Rattle.shb_judging.specs.declared.judged.BadBlock.{BadBlock}
+use Rattle.shb_judging.specs.declared.judged.JudgedBlocks.{JudgedBlocks}
+use Rattle.shb_reading.specs.declared.position.Position.{Position}
+use Rattle.shb_judging.specs.declared.verdict.RaceFault.{RaceFault}
+use Rattle.shb_judging.specs.declared.verdict.Verdict.{Verdict}
+use Rattle.shb_report.specs.declared.counts.Counts.{Counts}
+use Rattle.shb_reading.specs.Parts.{IsTextOf, TakesBlocks}
+use Rattle.shb_report.specs.Places.{IsPairOf, counts_in, places_of_pairs, shown_places}
+use Rattle.shb_report.specs.Report.{line_of_event}
+use Rattle.shb_report.specs.Value.{Block, Place, ReportValue}
+use Rattle.shb_judging.specs.Verdicts.{IsFirstBadBlock, IsGoodBlock, IsLowestFault, IsVerdict, pair_in, positions_of}
+
+-- a block that is good but perhaps for its schedule
+pub record HasGoodPair (trace : TraceData) (block : Block) : Type 0 where
+  pub first_counts : 1 ≤ block.first
+  pub in_range : block.second ≤ length trace.events
+  pub earlier : block.first < block.second
+  pub conflict : Conflict trace.events (block.first - 1) (block.second - 1)
+  pub first_line : block.first_line ≡ line_of_event trace (block.first - 1)
+  pub second_line : block.second_line ≡ line_of_event trace (block.second - 1)
+
+-- the positions that are kept of a schedule: the first ones, at most one more than the trace has events
+abbrev pub first_positions : TraceData → List ℕ → List ℕ
+first_positions trace numbers = take (length trace.events + 1) (positions_of trace numbers)
+
+-- the lowest of the faults 1 to 4, or none of them
+abbrev pub IsPairFault : TraceData → Block → Option RaceFault → Type 0
+IsPairFault trace block None = HasGoodPair trace block
+IsPairFault trace block (Some why) = IsLowestFault trace block why
+
+-- all blocks are good, and these are their pairs; or this is the first that is bad
+abbrev pub AreFound : TraceData → List Block → List Pair → Option BadBlock → Type 0
+AreFound trace blocks pairs None = AllByRecursion (IsGoodBlock trace) blocks × (pairs ≡ map pair_in blocks)
+AreFound trace blocks pairs (Some bad) = IsFirstBadBlock trace blocks bad.race bad.why
+
+-- what is known of these blocks once they were judged
+pub record AreJudged (trace : TraceData) (blocks : List Block) (judged : JudgedBlocks) : Type 0 where
+  pub pairs_in : All (IsPairOf trace) judged.pairs.items
+  pub found : AreFound trace blocks judged.pairs.items judged.bad
+
+-- the places, where there are any, are those of the pairs
+abbrev pub HasPlacesOf : TraceData → Option (List Place) → List Pair → Type 0
+HasPlacesOf trace listed pairs = IfSome listed (λ places. places ≡ shown_places trace (counts_in (places_of_pairs trace pairs)))
+
+-- this is the verdict on each report with these counts, these places and blocks that were judged so
+abbrev pub IsVerdictOnJudged : TraceData → Counts → Option (List Place) → JudgedBlocks → Verdict → Type 0
+IsVerdictOnJudged trace counts places judged verdict =
+    (report : ReportValue) → report.counts ≡ counts → report.places ≡ places → AreJudged trace report.blocks judged → IsVerdict trace report verdict
+
+-- these blocks stand between the positions, so many, and were judged so
+pub record JudgesBlocks (trace : TraceData) (text : List ℕ) (old new : Position) (count : ℕ) (judged : JudgedBlocks) : Type 0 where
+  pub blocks : List Block
+  pub taken : TakesBlocks text old new count blocks
+  pub are_judged : AreJudged trace blocks judged
+
+-- the text is that of a report, and this is its verdict
+pub record IsJudgedText (trace : TraceData) (text : List ℕ) (lines : ℕ) (verdict : Verdict) : Type 0 where
+  pub report : ReportValue
+  pub text_is : IsTextOf text report lines
+  pub verdict_is : IsVerdict trace report verdict

@@ -1,0 +1,156 @@
+//! Judges the blocks of a report one after another.
+ghost use Rattle.std.specs.Prelude.{◌≡◌, ◌+◌, ◌-◌, ◌<◌, ◌≤◌, ◌↔◌, ◌^◌, ◌++◌, ◌∷◌, [], ℕ, List, None, IfErr, IfOk, IsTrue, OnOk, map, take};
+ghost use Rattle.shb_judging.specs.Judging.{AreJudged, IsPairFault, first_positions};
+ghost use Rattle.shb_reading.specs.BlockLines.{block_with};
+ghost use Rattle.shb_report.specs.Value.{Block};
+ghost use Rattle.shb_judging.specs.Verdicts.{IsGoodBlock, IsLowestFault, pair_in, position_of};
+
+use crate::positions::position_of;
+use crate::verdict::RaceFault;
+use shb_discipline::Disciplined;
+use shb_io::NoMemory;
+use shb_lines::{Pair, Trace, conflicts};
+use shb_reading::BlockLines;
+use shb_replay::Judge;
+use std::alloc::Global;
+
+/// The first bad block: its number, counted from 1, and its lowest fault.
+#[derive(Clone, Copy)]
+pub(crate) struct BadBlock {
+    pub race: u64,
+    pub why: RaceFault,
+}
+
+/// What is known of the blocks that were judged so far: the first bad one, and the pairs of those
+/// before it.
+#[derive(Drop)]
+pub(crate) struct JudgedBlocks {
+    pub pairs: Vec<Pair>,
+    pub bad: Option<BadBlock>,
+}
+
+/// Whether two texts are the same.
+pub(crate) fn same_bytes(a: &[u8], b: &[u8]) -> bool
+    ensures { IsTrue result ↔ a.now ≡ b.now }
+{
+    a == b
+}
+
+/// Puts the positions that the numbers of a schedule stand for, of one number more than there are events,
+/// instead of those of another.
+pub(crate) fn set_positions(
+    positions: &mut Vec<u32>,
+    count: u32,
+    numbers: &[u64],
+) -> Result<(), NoMemory>
+    ensures { OnOk result (positions.new.items ≡ take (count + 1) (map (position_of count) numbers.now)) }
+{
+    positions.clear();
+    let (first, _) = numbers.split_at((count as usize + 1).min(numbers.len()));
+    for number in first {
+        positions.push(position_of(count, *number))?;
+    }
+    Ok(())
+}
+
+/// The two events of a block, whose numbers must not be 0 or above the number of events.
+fn pair_in(listed: BlockLines<'_>) -> Pair
+    requires first { listed.first < 2 ^ 32 }
+    requires second { listed.second < 2 ^ 32 }
+    requires first_counts { 1 ≤ listed.first }
+    requires second_counts { 1 ≤ listed.second }
+    ensures { result ≡ pair_in (block_with listed.entry []) }
+{
+    Pair {
+        first: (listed.first - 1) as u32,
+        second: (listed.second - 1) as u32,
+    }
+}
+
+/// The lowest fault of a block, but for that of its schedule.
+fn pair_fault(trace: &Trace, listed: BlockLines<'_>) -> Option<RaceFault>
+    ensures { (numbers : List ℕ) → IsPairFault trace.now (block_with listed.entry numbers) result }
+{
+    let count = u64::from(trace.len());
+    if listed.first == 0 || listed.first > count || listed.second == 0 || listed.second > count {
+        return Some(RaceFault::Absent);
+    }
+    let pair = pair_in(listed);
+    if listed.first >= listed.second || !conflicts(trace, pair.first, pair.second) {
+        return Some(RaceFault::NoConflict);
+    }
+    if !same_bytes(listed.first_line, trace.line_text(pair.first)) {
+        return Some(RaceFault::FirstLine);
+    }
+    if !same_bytes(listed.second_line, trace.line_text(pair.second)) {
+        return Some(RaceFault::SecondLine);
+    }
+    None
+}
+
+/// The two events of a good block with numbers of which these are the first positions; else its lowest
+/// fault.
+fn judge_lines(
+    judge: &mut Judge<'_>,
+    trace: &Disciplined<'_>,
+    listed: BlockLines<'_>,
+    positions: &[u32],
+) -> Result<Pair, RaceFault>
+    requires { judge.old ≡ trace.now.trace.now.events }
+    ensures kept { judge.new ≡ judge.old }
+    ensures pair { IfOk result (λ pair. pair ≡ pair_in (block_with listed.entry [])) }
+    ensures good { (numbers : List ℕ) → positions.now ≡ first_positions trace.now.trace.now numbers
+        → OnOk result (IsGoodBlock trace.now.trace.now (block_with listed.entry numbers)) }
+    ensures fault { (numbers : List ℕ) → positions.now ≡ first_positions trace.now.trace.now numbers
+        → IfErr result (IsLowestFault trace.now.trace.now (block_with listed.entry numbers)) }
+{
+    if let Some(why) = pair_fault(trace.trace, listed) {
+        return Err(why);
+    }
+    let pair = pair_in(listed);
+    match judge.replay(positions, pair) {
+        Some(broken) => Err(RaceFault::Schedule(broken)),
+        None => Ok(pair),
+    }
+}
+
+impl JudgedBlocks {
+    /// What is known before any block was judged.
+    pub(crate) fn new(alloc: Global) -> JudgedBlocks
+        ensures pairs { result.pairs.items ≡ [] }
+        ensures bad { result.bad ≡ None }
+    {
+        JudgedBlocks {
+            pairs: Vec::new(alloc),
+            bad: None,
+        }
+    }
+}
+
+/// Judges the next block, unless one before it is bad. The positions are those that the first numbers of
+/// its schedule stand for, one more than there are events.
+pub(crate) fn judge_block(
+    judged: &mut JudgedBlocks,
+    judge: &mut Judge<'_>,
+    trace: &Disciplined<'_>,
+    listed: BlockLines<'_>,
+    positions: &[u32],
+) -> Result<(), NoMemory>
+    requires { judge.old ≡ trace.now.trace.now.events }
+    ensures kept { judge.new ≡ judge.old }
+    ensures judged { (blocks : List Block) (numbers : List ℕ) → positions.now ≡ first_positions trace.now.trace.now numbers
+        → AreJudged trace.now.trace.now blocks judged.old
+        → OnOk result (AreJudged trace.now.trace.now (blocks ++ block_with listed.entry numbers ∷ []) judged.new) }
+{
+    if judged.bad.is_some() {
+        return Ok(());
+    }
+    match judge_lines(judge, trace, listed, positions) {
+        Ok(pair) => judged.pairs.push(pair)?,
+        Err(why) => {
+            let race = judged.pairs.len() as u64 + 1;
+            judged.bad = Some(BadBlock { race, why });
+        }
+    }
+    Ok(())
+}

@@ -1,0 +1,131 @@
+-- The parts of a report, one after another.
+use Rattle.std.proofs.Common.{◌≡◌, inl, inr, ℕ, zero, suc, ◌+◌, ◌-◌, ◌*◌, ◌^◌, ◌<◌, ◌≤◌, Bool, true, false, List, [], ◌∷◌, ◌++◌, length, codes, take, refl, sym, ap, subst, ◌∙◌, arith, append_assoc, append-nil, length-append, length-drop}
+use Rattle.std.proofs.lemmas.List.{length-map, take_all}
+use Rattle.std.specs.List.{AllByRecursion}
+use Rattle.shb_lines.specs.text.Limits.{most_bytes}
+use Rattle.shb_reading.specs.declared.position.Position.{Position}
+use Rattle.shb_reading.specs.declared.parts.PlaceEntry.{PlaceEntry}
+use Rattle.shb_reading.specs.declared.parts.Parts.{Parts}
+use Rattle.shb_report.specs.declared.counts.Counts.{Counts}
+use Rattle.shb_reading.specs.Forms.{Form, Version, CountsForm, Races, RacesBeforePlaces, Places, block_forms}
+use Rattle.shb_reading.specs.Lines.{IsBadAt, Lacks, Passes, TakesLine, bytes_from}
+use Rattle.shb_reading.specs.Parts.{IsPlaceIn, IsScanned, IsTextOf, KeepsFirst, ReadsBlocks, ReadsPlaces, ReadsSection, TakesBlocks, blocks_at, places_at, places_form, races_form, section_at, version_text}
+use Rattle.shb_report.specs.Value.{AreShown, Block, IsShown, Place, block_lines, counts_line, lines_text, place_lines, places_line, places_section, races_line, version_line}
+use Rattle.shb_reading.proofs.Machine.{bad_after}
+use Rattle.shb_reading.proofs.Passing.{bad_at, passes_by, passes_races, passes_races_before}
+use Rattle.shb_report.proofs.EachLemmas.{each-take}
+use Rattle.shb_report.proofs.LineLemmas.{joined}
+
+-- the version decides which forms follow
+
+pub passes_version : (forms : List Form) (text : List ℕ) (old new : Position) (with_places : Bool) → TakesLine text old new (version_text with_places) → Passes text old new (Version ∷ forms) (CountsForm ∷ (races_form with_places ∷ forms))
+passes_version forms text old new true taken = passes_by Version (CountsForm ∷ (RacesBeforePlaces ∷ [])) forms text old new _ taken (inr (refl, refl))
+passes_version forms text old new false taken = passes_by Version (CountsForm ∷ (Races ∷ [])) forms text old new _ taken (inl (refl, refl))
+
+pub passes_race_count : (forms : List Form) (text : List ℕ) (old new : Position) (with_places : Bool) (n : ℕ) → TakesLine text old new (races_line n) → IsShown n
+    → Passes text old new (races_form with_places ∷ forms) (places_form with_places ++ (block_forms 1 n ++ forms))
+passes_race_count forms text old new true n taken shown = passes_races_before forms text old new n taken shown
+passes_race_count forms text old new false n taken shown = passes_races forms text old new n taken shown
+
+pub bad_race_count : (forms : List Form) (text : List ℕ) (old new : Position) (with_places : Bool) → new ≡ old → Lacks Races (bytes_from text old) → Lacks RacesBeforePlaces (bytes_from text old) → IsBadAt text old (races_form with_places ∷ forms) (new.lines + 1)
+bad_race_count forms text old new true same races before = bad_at RacesBeforePlaces forms text old new same before
+bad_race_count forms text old new false same races before = bad_at Races forms text old new same races
+
+-- the places, or none
+
+none_of_none : {A : Type 0} (most : ℕ) (kept : List A) → kept ≡ [] → kept ≡ take most []
+none_of_none zero kept none = none
+none_of_none (suc most) kept none = none
+
+pub none_read : (most : ℕ) (text : List ℕ) (at : Position) (with_places : Bool) (kept : List PlaceEntry) → with_places ≡ false → kept ≡ [] → KeepsFirst most (ReadsSection text at at with_places) kept
+none_read most text at true kept e none = absurd (cc)
+none_read most text at false kept e none =
+    record { all = []; holds = record { in_grammar = tt; few = omega arith; bytes = refl; entries_in = tt; lines = omega arith }; kept_is = none_of_none most kept none }
+
+length-place_lines : (number : ℕ) (places : List Place) → length (place_lines number places) ≡ 3 * length places
+length-place_lines number [] = refl
+length-place_lines number (p ∷ places) = omega (arith, length-place_lines (number + 1) places)
+
+pub length-block_lines : (number : ℕ) (blocks : List Block) → length (block_lines number blocks) ≡ 4 * length blocks
+length-block_lines number [] = refl
+length-block_lines number (b ∷ blocks) = omega (arith, length-block_lines (number + 1) blocks)
+
+section_of : (text : List ℕ) (old mid new : Position) (with_places : Bool) (count : ℕ) (entries : List PlaceEntry) → with_places ≡ true → TakesLine text old mid (places_line count) → IsShown count → ReadsPlaces text mid new count entries
+    → ReadsSection text old new with_places entries
+section_of text old mid new false count entries e taken shown h = absurd (cc)
+section_of text old mid new true count entries e taken shown h =
+    let places = places_at text entries in
+    let counted : length places ≡ count = length-map entries _ ∙ h.count_is in
+    let first : bytes_from text old ≡ lines_text (places_line count ∷ []) ++ bytes_from text mid = taken.begins.bytes_are ∙ sym (append_assoc (places_line count) (10 ∷ []) (bytes_from text mid)) in record {
+      in_grammar = record { each = h.in_grammar; few = subst IsShown (sym counted) shown };
+      few = subst IsShown (sym h.count_is) shown;
+      bytes = joined (places_line count ∷ []) (place_lines 1 places) _ _ _ first h.bytes ∙ ap (λ n. lines_text (places_line n ∷ place_lines 1 places) ++ bytes_from text new) (sym counted);
+      entries_in = h.entries_in;
+      lines = omega (arith, taken.counted, h.lines, length-place_lines 1 places, counted);
+    }
+
+pub section_read : (most : ℕ) (text : List ℕ) (old mid new : Position) (with_places : Bool) (count : ℕ) (kept : List PlaceEntry) → with_places ≡ true → TakesLine text old mid (places_line count) → IsShown count
+    → KeepsFirst most (ReadsPlaces text mid new count) kept → KeepsFirst most (ReadsSection text old new with_places) kept
+section_read most text old mid new with_places count kept e taken shown h =
+    record { all = h.all; holds = section_of text old mid new with_places count h.all e taken shown h.holds; kept_is = h.kept_is }
+
+-- where as many are kept as can be shown, all are
+pub whole_section : (text : List ℕ) (old new : Position) (with_places : Bool) (kept : List PlaceEntry) → KeepsFirst (2 ^ 64 - 1) (ReadsSection text old new with_places) kept → ReadsSection text old new with_places kept
+whole_section text old new with_places kept h =
+    let few = h.holds.few in
+    subst (ReadsSection text old new with_places) (sym (h.kept_is ∙ take_all (2 ^ 64 - 1) h.all (omega (arith, few)))) h.holds
+
+-- the entries that are kept lie in the text
+pub kept_in : (most : ℕ) (text : List ℕ) (old new : Position) (with_places : Bool) (kept : List PlaceEntry) → KeepsFirst most (ReadsSection text old new with_places) kept → AllByRecursion (IsPlaceIn text) kept
+kept_in most text old new with_places kept h = subst (AllByRecursion (IsPlaceIn text)) (sym h.kept_is) (each-take (IsPlaceIn text) most h.all h.holds.entries_in)
+
+pub passes_none : (text : List ℕ) (at : Position) (with_places : Bool) (forms : List Form) → with_places ≡ false → Passes text at at (places_form with_places ++ forms) forms
+passes_none text at true forms e = absurd (cc)
+passes_none text at false forms e = λ n b. b
+
+pub with_section : (text : List ℕ) (old : Position) (with_places : Bool) (forms : List Form) (n : ℕ) → with_places ≡ true → IsBadAt text old (Places ∷ forms) n → IsBadAt text old (places_form with_places ++ forms) n
+with_section text old true forms n e b = b
+with_section text old false forms n e b = absurd (cc)
+
+-- bytes after the last line
+
+pub bad_tail : (text : List ℕ) (at : Position) → at.start < length text → IsBadAt text at [] (at.lines + 1)
+bad_tail text at more = bad_after at.lines (bytes_from text at) (omega (arith, length-drop at.start text))
+
+-- the whole
+
+version_is : (text : List ℕ) (with_places : Bool) (entries : List PlaceEntry) → version_text with_places ≡ version_line (section_at text with_places entries)
+version_is text true entries = refl
+version_is text false entries = refl
+
+pub whole_text : (text : List ℕ) (a b c : Position) (with_places : Bool) (counts : Counts) (entries : List PlaceEntry) (blocks : List Block) (races lines : ℕ)
+    → AreShown counts → IsShown races
+    → text ≡ lines_text (version_text with_places ∷ (counts_line counts ∷ (races_line races ∷ []))) ++ bytes_from text a → a.lines ≡ 3
+    → ReadsSection text a b with_places entries → TakesBlocks text b c races blocks
+    → bytes_from text c ≡ lines_text (codes "end" ∷ []) → lines ≡ c.lines + 1
+    → IsTextOf text (record { counts = counts; places = section_at text with_places entries; blocks = blocks }) lines
+whole_text text a b c with_places counts entries blocks races lines shown_counts shown head third section taken tail last =
+    let section_lines = places_section (section_at text with_places entries) in
+    let end : List (List ℕ) = codes "end" ∷ [] in
+    let counted : length blocks ≡ races = taken.count_is in
+    let from_c : bytes_from text c ≡ lines_text end ++ [] = tail ∙ sym (append-nil (lines_text end)) in
+    let from_b = joined (block_lines 1 blocks) end _ _ _ taken.bytes from_c in
+    let from_a = joined section_lines (block_lines 1 blocks ++ end) _ _ _ section.bytes from_b in
+    let whole = joined (version_text with_places ∷ (counts_line counts ∷ (races_line races ∷ []))) (section_lines ++ (block_lines 1 blocks ++ end)) _ _ _ head from_a in
+    let first = version_is text with_places entries in record {
+      in_grammar = record { counts = shown_counts; places = section.in_grammar; blocks = taken.in_grammar; few = subst IsShown (sym counted) shown };
+      text_is = whole ∙ append-nil _
+          ∙ ap (λ v. lines_text (v ∷ (counts_line counts ∷ (races_line races ∷ (section_lines ++ (block_lines 1 blocks ++ end)))))) first
+          ∙ ap (λ n. lines_text (version_line (section_at text with_places entries) ∷ (counts_line counts ∷ (races_line n ∷ (section_lines ++ (block_lines 1 blocks ++ end)))))) (sym counted);
+      lines_are = omega (arith, last, taken.lines, section.lines, third, counted, length-block_lines 1 blocks, length-append section_lines (block_lines 1 blocks ++ end), length-append (block_lines 1 blocks) end);
+    }
+
+pub scanned : (text : List ℕ) (a b c : Position) (parts : Parts) (races lines : ℕ)
+    → length text ≤ most_bytes → AreShown parts.counts → IsShown races
+    → text ≡ lines_text (version_text parts.with_places ∷ (counts_line parts.counts ∷ (races_line races ∷ []))) ++ bytes_from text a → a.lines ≡ 3
+    → ReadsSection text a b parts.with_places parts.places.items → ReadsBlocks text b c races parts.numbers.items parts.races.items
+    → bytes_from text c ≡ lines_text (codes "end" ∷ []) → lines ≡ c.lines + 1 → IsScanned text parts lines
+scanned text a b c parts races lines short counts shown head third section blocks tail last = record {
+  parts_in = record { short = short; places = section.entries_in; races = blocks.entries_in };
+  whole = whole_text text a b c parts.with_places parts.counts parts.places.items (blocks_at text parts.numbers.items parts.races.items) races lines counts shown head third section blocks.taken tail last;
+}

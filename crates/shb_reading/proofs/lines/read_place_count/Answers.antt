@@ -1,0 +1,8 @@
+-- Another line stands at the front.
+use Rattle.shb_reading.proofs.LineEnds.{lacks_by}
+use Rattle.std.proofs.Common.{refl}
+use Rattle.shb_reading.specs.Forms.{Places}
+use Rattle.shb_reading.proofs.lines.read_place_count.Goals as goal
+
+pub returns-in_err-count : goal.returns-in_err-count
+returns-in_err-count c = rw c.from_residual-in_err-count.ensures (refl, lacks_by Places _ _ _ c.in_ok-line.ensures.begins (λ added h. c.in_err-count.ensures h.0 h.1 h.2))

@@ -1,0 +1,40 @@
+-- Which text is a report, and which of its lines is the first bad one.
+use Rattle.std.specs.Prelude.{◌≡◌, ℕ, ◌+◌, ◌<◌, ◌≤◌, List, ◌++◌, length, take, Result, Ok, Err}
+use Rattle.shb_reading.specs.declared.report.ReportError.{ReportError}
+use Rattle.shb_reading.specs.declared.report.ReportError.TheVariants as errors
+use Rattle.shb_report.specs.Value.{IsReportValue, ReportValue, lines_text, report_lines, report_text}
+
+-- the text of a report in the grammar, not longer than the limit
+pub record IsReportText (limit : ℕ) (text : List ℕ) (report : ReportValue) : Type 0 where
+  pub in_grammar : IsReportValue report
+  pub text_is : text ≡ report_text report
+  pub short : length text ≤ limit
+
+-- the first n lines of the text, which lie whole within the limit, are the first n lines of some report
+pub record BeginsReport (limit : ℕ) (text : List ℕ) (n : ℕ) : Type 0 where
+  pub report : ReportValue
+  pub in_grammar : IsReportValue report
+  pub enough : n ≤ length (report_lines report)
+  pub rest : List ℕ
+  pub begins : text ≡ lines_text (take n (report_lines report)) ++ rest
+  pub within : length (lines_text (take n (report_lines report))) ≤ limit
+
+-- the text is no report, and n is the least number such that its first n lines begin none
+pub record IsBadLine (limit : ℕ) (text : List ℕ) (n : ℕ) : Type 0 where
+  pub no_report : (report : ReportValue) → IsReportText limit text report → ⊥
+  pub good : (k : ℕ) → k < n → BeginsReport limit text k
+  pub bad : BeginsReport limit text n → ⊥
+
+-- the number of the bad line, where that is the answer
+abbrev pub IfBadLine : {T : Type 0} → Result T ReportError → (ℕ → Type 0) → Type 0
+IfBadLine (Ok report) P = Unit {0}
+IfBadLine (Err (errors.BadLine n)) P = P n
+IfBadLine (Err errors.Source) P = Unit {0}
+IfBadLine (Err errors.Memory) P = Unit {0}
+
+-- the source failed once where that is the answer, and else not at all
+abbrev pub IsSourceCounted : {T : Type 0} → ℕ → ℕ → Result T ReportError → Type 0
+IsSourceCounted old new (Ok report) = new ≡ old
+IsSourceCounted old new (Err (errors.BadLine n)) = new ≡ old
+IsSourceCounted old new (Err errors.Source) = new ≡ old + 1
+IsSourceCounted old new (Err errors.Memory) = new ≡ old

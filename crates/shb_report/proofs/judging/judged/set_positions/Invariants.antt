@@ -1,6 +1,0 @@
-use Rattle.std.proofs.Common.{◌≡◌, map, take}
-use Rattle.shb_report.specs.Verdicts.{position_of}
-use Rattle.shb_report.proofs.judging.judged.set_positions.Given as goal
-
-abbrev pub invariant-loop-number : goal.invariant-loop-number
-invariant-loop-number l = l.positions.items ≡ map (position_of l.count) (take l.number-index l.first)

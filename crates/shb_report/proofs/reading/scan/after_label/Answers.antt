@@ -1,7 +1,0 @@
--- What std says of the prefix, as an equation.
-use Rattle.std.proofs.lemmas.Bool.Decides.{Decides-eqb}
-use Rattle.std.proofs.lemmas.Slice.Eq.{strip_prefix_is}
-use Rattle.shb_report.proofs.reading.scan.after_label.Goals as goal
-
-pub returns : goal.returns
-returns c = strip_prefix_is Decides-eqb _ _ _ c.strip_prefix.ensures.cases

@@ -1,9 +1,0 @@
-use Rattle.std.proofs.Common.{◌≡◌, ◌<◌, ◌^◌, take}
-use Rattle.std.specs.Str.Parse.{digits_value}
-use Rattle.shb_report.proofs.reading.scan.value_of.Given as goal
-
-abbrev pub invariant-loop-digit : goal.invariant-loop-digit
-invariant-loop-digit l = record {
-  small : l.value < 2 ^ 64;
-  value : l.value ≡ digits_value 10 (take l.digit-index l.digits);
-}
