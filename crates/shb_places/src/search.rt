@@ -14,6 +14,7 @@ ghost use Rattle.shb_places.specs.Access.{IsAccess};
 ghost use Rattle.shb_places.specs.Covering.{Covers};
 ghost use Rattle.shb_places.specs.Found.{AreFound};
 ghost use Rattle.shb_places.specs.Notes.{AreKept, tables_of};
+ghost use Rattle.shb_places.specs.Numbered.{AreNumbered};
 ghost use Rattle.shb_places.specs.Searched.{AreSearched, AreToldFrom, IsAskable, IsAsked, IsAskedAll, IsAskedBy, IsTold, IsToldOf};
 ghost use Rattle.shb_places.specs.Sites.{AreSites, IsSite};
 ghost use Rattle.shb_places.specs.declared.by_thread.Step.{Step};
@@ -383,7 +384,9 @@ impl Search {
         requires asked { O.asks ordered.now.order.now e ≡ true }
         requires settled { AreOpen ordered.now.trace.now.trace.now.events flags.now }
         requires searched { AreSearched ordered.now.trace.now.trace.now flags.now self.old.sites self.old.notes self.old.by_thread self.old.wanted self.old.found e }
-        ensures { OnOk result (AreSearched ordered.now.trace.now.trace.now flags.now self.new.sites self.new.notes self.new.by_thread self.new.wanted self.new.found (e + 1)) }
+        requires numbered { AreNumbered ordered.now.trace.now.trace.now locations.old.numbered.items }
+        ensures searched { OnOk result (AreSearched ordered.now.trace.now.trace.now flags.now self.new.sites self.new.notes self.new.by_thread self.new.wanted self.new.found (e + 1)) }
+        ensures numbered { OnOk result (AreNumbered ordered.now.trace.now.trace.now locations.new.numbered.items) }
     {
         let op = ordered.trace.events.op(e);
         let Some(variable) = op.variable() else {
