@@ -161,13 +161,7 @@ impl Locations {
     }
 
     /// The number of an event's location, which is looked for in its line.
-    fn look(
-        &mut self,
-        alloc: Global,
-        trace: &Disciplined<'_>,
-        e: u32,
-        thread: u32,
-    ) -> Result<u32, NoMemory>
+    fn look(&mut self, trace: &Disciplined<'_>, e: u32, thread: u32) -> Result<u32, NoMemory>
         requires { e < length trace.now.trace.now.events }
         ensures numbered { self.new.numbered ≡ self.old.numbered }
         ensures located { IfOk result (λ l. IsLocatedAt trace.now.trace.now l (location_at trace.now.trace.now e) (writes_at trace.now.trace.now.events e)) }
@@ -182,7 +176,7 @@ impl Locations {
             self.keep(thread, l);
             return Ok(l);
         }
-        self.hints.insert(alloc, hash, e)?;
+        self.hints.insert(hash, e)?;
         self.keep(thread, e);
         Ok(e)
     }
@@ -195,7 +189,6 @@ impl Locations {
     /// `NoMemory` where a growth was refused.
     pub fn number_of(
         &mut self,
-        alloc: Global,
         trace: &Disciplined<'_>,
         e: u32,
         thread: u32,
@@ -211,7 +204,7 @@ impl Locations {
         if let Some(l) = self.kept(trace, slot, op, line) {
             return Ok(l);
         }
-        let l = self.look(alloc, trace, e, thread)?;
+        let l = self.look(trace, e, thread)?;
         self.note(slot, e, l);
         Ok(l)
     }
