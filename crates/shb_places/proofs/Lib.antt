@@ -6,6 +6,7 @@ mod LeadMembers
 pub mod Lists
 pub mod MarkLemmas
 pub mod NoteLemmas
+pub mod NumberedLemmas
 mod RacesByNumber
 pub mod SearchLemmas
 pub mod SiteLemmas

@@ -7,6 +7,7 @@ pub mod ListOrder
 pub mod Lists
 pub mod Marks
 pub mod Notes
+pub mod Numbered
 pub mod Searched
 pub mod Sites
 pub mod Wanted

@@ -207,7 +207,7 @@ impl ByThread {
     }
 
     /// Adds an access to its entry, or as the first of a new one.
-    fn put(&mut self, alloc: Global, access: Access, index: u32) -> Result<(), NoMemory>
+    fn put(&mut self, access: Access, index: u32) -> Result<(), NoMemory>
         requires room { access.variable < length self.old.heads.items }
         requires as_many { length self.old.newest.items ≡ length self.old.entries.items }
         ensures followed { self.new.followed ≡ self.old.followed }
@@ -218,7 +218,7 @@ impl ByThread {
             return self.extend(c, access, index);
         }
         let c = self.begin(access, index)?;
-        self.hints.insert(alloc, hash_of(access), c)?;
+        self.hints.insert(hash_of(access), c)?;
         Ok(())
     }
 
@@ -227,7 +227,7 @@ impl ByThread {
     /// # Errors
     ///
     /// `NoMemory` where a growth was refused.
-    pub fn add(&mut self, alloc: Global, access: Access, s: u32) -> Result<(), NoMemory>
+    pub fn add(&mut self, access: Access, s: u32) -> Result<(), NoMemory>
         requires as_many { length self.old.newest.items ≡ length self.old.entries.items }
         ensures followed { self.new.followed ≡ self.old.followed }
         ensures passed { (trace : TraceData) → AreByThread trace (thread_tables self.old) access.event → IsAccess trace access
@@ -238,6 +238,6 @@ impl ByThread {
         }
         let index = index_in(&mut self.indexes, &mut self.counts, s, access.variable)?;
         make_room(&mut self.heads, access.variable)?;
-        self.put(alloc, access, index)
+        self.put(access, index)
     }
 }

@@ -138,7 +138,7 @@ impl Found {
     }
 
     /// Adds a place with its first race.
-    fn add(&mut self, alloc: Global, place: Place, race: Pair) -> Result<(), NoMemory>
+    fn add(&mut self, place: Place, race: Pair) -> Result<(), NoMemory>
         requires as_many { length self.old.races.items ≡ length self.old.places.items }
         ensures offered { (trace : TraceData) (n : ℕ) → AreFound trace n self.old.places.items self.old.races.items → IsFound trace n place race
             → OnOk result (IsOffered trace n self.new.places.items self.old.races.items self.new.races.items race) }
@@ -147,8 +147,7 @@ impl Found {
         let q = next_number(self.places.len())?;
         self.places.push(place)?;
         self.races.push(race)?;
-        self.hints
-            .insert(alloc, mixed(place.first, place.second), q)?;
+        self.hints.insert(mixed(place.first, place.second), q)?;
         Ok(())
     }
 
@@ -158,7 +157,7 @@ impl Found {
     /// # Errors
     ///
     /// `NoMemory` where a growth was refused.
-    pub fn offer(&mut self, alloc: Global, place: Place, race: Pair) -> Result<(), NoMemory>
+    pub fn offer(&mut self, place: Place, race: Pair) -> Result<(), NoMemory>
         requires as_many { length self.old.races.items ≡ length self.old.places.items }
         ensures offered { (trace : TraceData) (n : ℕ) → AreFound trace n self.old.places.items self.old.races.items → IsFound trace n place race
             → OnOk result (IsOffered trace n self.new.places.items self.old.races.items self.new.races.items race) }
@@ -168,6 +167,6 @@ impl Found {
             self.keep_earlier(q, place, race);
             return Ok(());
         }
-        self.add(alloc, place, race)
+        self.add(place, race)
     }
 }

@@ -23,6 +23,7 @@ struct Hint {
 pub struct Hints {
     slots: Vec<Hint>,
     taken: usize,
+    alloc: Global,
 }
 
 /// A table without numbers.
@@ -58,6 +59,7 @@ impl Hints {
         Hints {
             slots: Vec::new(alloc),
             taken: 0,
+            alloc,
         }
     }
 
@@ -87,9 +89,9 @@ impl Hints {
     /// # Errors
     ///
     /// `NoMemory` where a growth was refused.
-    pub fn insert(&mut self, alloc: Global, hash: u32, number: u32) -> Result<(), NoMemory> {
+    pub fn insert(&mut self, hash: u32, number: u32) -> Result<(), NoMemory> {
         if self.taken >= self.slots.len() / 4 * 3 {
-            self.grow(alloc)?;
+            self.grow()?;
         }
         put(self.slots.as_mut_slice(), Hint { hash, number });
         self.taken = self.taken.saturating_add(1);
@@ -97,8 +99,8 @@ impl Hints {
     }
 
     /// Moves all hints into twice as many slots.
-    fn grow(&mut self, alloc: Global) -> Result<(), NoMemory> {
-        let mut slots = empty(alloc, self.slots.len().saturating_mul(2).max(LEAST))?;
+    fn grow(&mut self) -> Result<(), NoMemory> {
+        let mut slots = empty(self.alloc, self.slots.len().saturating_mul(2).max(LEAST))?;
         for hint in &self.slots {
             if hint.number != NONE {
                 put(slots.as_mut_slice(), *hint);

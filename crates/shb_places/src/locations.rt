@@ -1,24 +1,63 @@
 //! Numbers of locations: the number of a location is that of an event that has it. Reads and writes have
 //! numbers of their own, so that reads needn't ask reads.
+//!
+//! An event mostly has the same line as an earlier one. So whole lines are compared first, and a location is looked
+//! for in its line where none is known to be the same.
 
-ghost use Rattle.std.specs.Prelude.{◌≡◌, ◌<◌, true, IfOk, IfSome, IsTrue, length};
+ghost use Rattle.std.specs.Prelude.{◌≡◌, ◌<◌, ◌≤◌, true, IfOk, IfSome, IsTrue, OnOk, length};
+ghost use Rattle.shb_lines.specs.events.Tests.{is_write};
+ghost use Rattle.shb_lines.specs.text.TraceData.{TraceData, location_of};
 ghost use Rattle.shb_places.specs.Access.{IsLocatedAt, writes_at};
+ghost use Rattle.shb_places.specs.Lists.{none};
+ghost use Rattle.shb_places.specs.Numbered.{AreNumbered, HasLine};
 ghost use Rattle.shb_report.specs.Places.{location_at};
 
 use crate::hints::{Hints, MOST_TRIED};
 use crate::numbers::{NONE, mixed};
 use shb_discipline::Disciplined;
 use shb_io::NoMemory;
+use shb_lines::Op;
 use std::alloc::Global;
+
+/// So many events are kept for their lines.
+const LINES: usize = 4096;
+
+/// So many of the last bytes of a line say where its event is kept.
+const LAST: usize = 4;
 
 /// For so many threads the last four locations are kept; threads beyond share those of others.
 const KEPT: u32 = 64;
 
-/// Events by their locations.
+/// An event, and the number of its location.
+#[derive(Clone, Copy)]
+pub struct Numbered {
+    pub event: u32,
+    pub number: u32,
+}
+
+/// Events by their lines and by their locations.
 #[derive(Drop)]
 pub struct Locations {
+    pub numbered: Vec<Numbered>,
     hints: Hints,
     recent: Vec<[u32; 4]>,
+}
+
+/// Whether an event has this operation and this line.
+fn has_line(trace: &Disciplined<'_>, e: u32, op: Op, line: &[u8]) -> bool
+    ensures { IsTrue result → HasLine trace.now.trace.now e op line.now }
+{
+    e < trace.trace.len() && trace.events.op(e) == op && trace.trace.line_text(e) == line
+}
+
+/// Where the event of a line is kept: by its thread, its operation and its last bytes.
+fn slot_of(thread: u32, op: Op, line: &[u8]) -> usize {
+    let kind = u32::from(op.is_write());
+    let mut last = thread.wrapping_mul(2).wrapping_add(kind);
+    for byte in &line[line.len().saturating_sub(LAST)..] {
+        last = last.wrapping_mul(31).wrapping_add(u32::from(*byte));
+    }
+    mixed(op.variable().unwrap_or(0), last) as usize % LINES
 }
 
 /// Whether an event has this location, and is a write or isn't.
@@ -40,13 +79,46 @@ fn hash_of(text: &[u8], writes: bool) -> u32 {
 }
 
 impl Locations {
-    /// No location.
-    pub fn new(alloc: Global) -> Result<Locations, NoMemory> {
+    /// No event.
+    pub fn new(alloc: Global) -> Result<Locations, NoMemory>
+        ensures { (trace : TraceData) → length trace.events ≤ none → IfOk result (λ locations. AreNumbered trace locations.numbered.items) }
+    {
+        let free = Numbered {
+            event: NONE,
+            number: NONE,
+        };
+        let numbered = vec![in alloc; free; LINES]?;
         let recent = vec![in alloc; [NONE; 4]; KEPT as usize]?;
         Ok(Locations {
+            numbered,
             hints: Hints::new(alloc),
             recent,
         })
+    }
+
+    /// The number of the location of a line, if the event that is kept has the same line.
+    fn kept(&self, trace: &Disciplined<'_>, slot: usize, op: Op, line: &[u8]) -> Option<u32>
+        requires { AreNumbered trace.now.trace.now self.now.numbered.items }
+        ensures { IfSome result (λ l. IsLocatedAt trace.now.trace.now l (location_of line.now) (is_write op)) }
+    {
+        let Some(one) = self.numbered.get(slot) else {
+            return None;
+        };
+        if has_line(trace, one.event, op, line) {
+            return Some(one.number);
+        }
+        None
+    }
+
+    /// Keeps an event for its line, with the number of its location.
+    fn note(&mut self, slot: usize, e: u32, number: u32)
+        ensures { (trace : TraceData) → AreNumbered trace self.old.numbered.items
+            → IsLocatedAt trace number (location_at trace e) (writes_at trace.events e)
+            → AreNumbered trace self.new.numbered.items }
+    {
+        if slot < self.numbered.len() {
+            self.numbered[slot] = Numbered { event: e, number };
+        }
     }
 
     /// The event with this location among the last four locations of a thread.
@@ -80,27 +152,19 @@ impl Locations {
     }
 
     /// Keeps an event as the last location of a thread.
-    fn keep(&mut self, thread: u32, e: u32) {
+    fn keep(&mut self, thread: u32, e: u32)
+        ensures { self.new.numbered ≡ self.old.numbered }
+    {
         if let Some(recent) = self.recent.get_mut((thread % KEPT) as usize) {
             *recent = [e, recent[0], recent[1], recent[2]];
         }
     }
 
-    /// The number of an event's location, which is an event with the same location; of a write, one that
-    /// writes.
-    ///
-    /// # Errors
-    ///
-    /// `NoMemory` where a growth was refused.
-    pub fn number_of(
-        &mut self,
-        alloc: Global,
-        trace: &Disciplined<'_>,
-        e: u32,
-        thread: u32,
-    ) -> Result<u32, NoMemory>
+    /// The number of an event's location, which is looked for in its line.
+    fn look(&mut self, trace: &Disciplined<'_>, e: u32, thread: u32) -> Result<u32, NoMemory>
         requires { e < length trace.now.trace.now.events }
-        ensures { IfOk result (λ l. IsLocatedAt trace.now.trace.now l (location_at trace.now.trace.now e) (writes_at trace.now.trace.now.events e)) }
+        ensures numbered { self.new.numbered ≡ self.old.numbered }
+        ensures located { IfOk result (λ l. IsLocatedAt trace.now.trace.now l (location_at trace.now.trace.now e) (writes_at trace.now.trace.now.events e)) }
     {
         let text = trace.trace.location(e);
         let writes = trace.events.op(e).is_write();
@@ -112,8 +176,36 @@ impl Locations {
             self.keep(thread, l);
             return Ok(l);
         }
-        self.hints.insert(alloc, hash, e)?;
+        self.hints.insert(hash, e)?;
         self.keep(thread, e);
         Ok(e)
+    }
+
+    /// The number of an event's location, which is an event with the same location; of a write, one that
+    /// writes.
+    ///
+    /// # Errors
+    ///
+    /// `NoMemory` where a growth was refused.
+    pub fn number_of(
+        &mut self,
+        trace: &Disciplined<'_>,
+        e: u32,
+        thread: u32,
+    ) -> Result<u32, NoMemory>
+        requires in_range { e < length trace.now.trace.now.events }
+        requires numbered { AreNumbered trace.now.trace.now self.old.numbered.items }
+        ensures located { IfOk result (λ l. IsLocatedAt trace.now.trace.now l (location_at trace.now.trace.now e) (writes_at trace.now.trace.now.events e)) }
+        ensures numbered { OnOk result (AreNumbered trace.now.trace.now self.new.numbered.items) }
+    {
+        let op = trace.events.op(e);
+        let line = trace.trace.line_text(e);
+        let slot = slot_of(thread, op, line);
+        if let Some(l) = self.kept(trace, slot, op, line) {
+            return Ok(l);
+        }
+        let l = self.look(trace, e, thread)?;
+        self.note(slot, e, l);
+        Ok(l)
     }
 }

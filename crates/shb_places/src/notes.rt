@@ -266,7 +266,7 @@ impl Notes {
     }
 
     /// Adds an access at a site to its class, or as the first of a new one.
-    fn put(&mut self, alloc: Global, s: u32, access: Access, local: u32) -> Result<(), NoMemory>
+    fn put(&mut self, s: u32, access: Access, local: u32) -> Result<(), NoMemory>
         requires room { s < length self.old.heads.items }
         requires as_many { length self.old.newest.items ≡ length self.old.classes.items }
         ensures { (trace : TraceData) (sites : List Site) → IsAddable trace sites (tables_of self.old) s access local
@@ -278,7 +278,7 @@ impl Notes {
         let many = self.has_many(s);
         let c = self.begin(s, access, local)?;
         if many {
-            self.hints.insert(alloc, hash_of(s, access), c)?;
+            self.hints.insert(hash_of(s, access), c)?;
         }
         Ok(())
     }
@@ -288,13 +288,13 @@ impl Notes {
     /// # Errors
     ///
     /// `NoMemory` where a growth was refused.
-    pub fn add(&mut self, alloc: Global, s: u32, access: Access, local: u32) -> Result<(), NoMemory>
+    pub fn add(&mut self, s: u32, access: Access, local: u32) -> Result<(), NoMemory>
         requires as_many { length self.old.newest.items ≡ length self.old.classes.items }
         ensures { (trace : TraceData) (sites : List Site) → IsAddable trace sites (tables_of self.old) s access local
             → OnOk result (IsAdded trace sites (tables_of self.old) (tables_of self.new) s access.event) }
     {
         make_room(&mut self.heads, s)?;
-        self.put(alloc, s, access, local)
+        self.put(s, access, local)
     }
 
     /// The access of a class of a site that races with an access, the earliest one, or `NONE`.

@@ -14,6 +14,7 @@ ghost use Rattle.shb_places.specs.Access.{IsAccess};
 ghost use Rattle.shb_places.specs.Covering.{Covers};
 ghost use Rattle.shb_places.specs.Found.{AreFound};
 ghost use Rattle.shb_places.specs.Notes.{AreKept, tables_of};
+ghost use Rattle.shb_places.specs.Numbered.{AreNumbered};
 ghost use Rattle.shb_places.specs.Searched.{AreSearched, AreToldFrom, IsAskable, IsAsked, IsAskedAll, IsAskedBy, IsTold, IsToldOf};
 ghost use Rattle.shb_places.specs.Sites.{AreSites, IsSite};
 ghost use Rattle.shb_places.specs.declared.by_thread.Step.{Step};
@@ -74,7 +75,6 @@ fn any_open(flags: &[bool], variables: u32) -> bool
 /// Asks whether an access at a site of its variable races with an access, and takes the earliest that does.
 /// The answer is whether there was one: then the place is known for all accesses to come.
 fn ask_unknown<O: Order>(
-    alloc: Global,
     ordered: &Ordered<'_, O>,
     notes: &Notes,
     found: &mut Found,
@@ -106,13 +106,12 @@ fn ask_unknown<O: Order>(
         first: earliest,
         second: access.event,
     };
-    found.offer(alloc, place, race)?;
+    found.offer(place, race)?;
     Ok(true)
 }
 
 /// Asks a site, where no race of its place with an access is known.
 fn ask_site<O: Order>(
-    alloc: Global,
     ordered: &Ordered<'_, O>,
     notes: &Notes,
     found: &mut Found,
@@ -136,13 +135,12 @@ fn ask_site<O: Order>(
     if found.knows(site.location, access) {
         return Ok(());
     }
-    ask_unknown(alloc, ordered, notes, found, s, site, access)?;
+    ask_unknown(ordered, notes, found, s, site, access)?;
     Ok(())
 }
 
 /// Asks about each site of the variable of an access.
 fn ask<O: Order>(
-    alloc: Global,
     ordered: &Ordered<'_, O>,
     sites: &Sites,
     notes: &Notes,
@@ -163,7 +161,7 @@ fn ask<O: Order>(
         let Some(site) = sites.sites.get(at as usize) else {
             return Ok(());
         };
-        ask_site(alloc, ordered, notes, found, at, *site, access)?;
+        ask_site(ordered, notes, found, at, *site, access)?;
         if site.previous >= at {
             return Ok(());
         }
@@ -173,7 +171,6 @@ fn ask<O: Order>(
 
 /// Asks a site of a list. The answer is whether its place is known from now on.
 fn ask_wanted<O: Order>(
-    alloc: Global,
     ordered: &Ordered<'_, O>,
     sites: &Sites,
     notes: &Notes,
@@ -196,12 +193,11 @@ fn ask_wanted<O: Order>(
     if site.variable != access.variable {
         return Ok(false);
     }
-    ask_unknown(alloc, ordered, notes, found, s, *site, access)
+    ask_unknown(ordered, notes, found, s, *site, access)
 }
 
 /// Asks each site of a list, and takes those out of it whose place is known from now on.
 fn ask_list<O: Order>(
-    alloc: Global,
     ordered: &Ordered<'_, O>,
     sites: &Sites,
     notes: &Notes,
@@ -220,7 +216,7 @@ fn ask_list<O: Order>(
     let mut left = list.len();
     while left > 0 {
         left -= 1;
-        let known = ask_wanted(alloc, ordered, sites, notes, found, list[left], access)?;
+        let known = ask_wanted(ordered, sites, notes, found, list[left], access)?;
         remove_if(list, left, known);
     }
     Ok(())
@@ -275,7 +271,6 @@ impl Search {
         make_marks(&mut list.marks, count)?;
         let steps = steps_for(list.sites.len());
         let all = walk_races(
-            alloc,
             ordered,
             &self.by_thread,
             &mut self.found,
@@ -287,7 +282,6 @@ impl Search {
             return Ok(());
         }
         ask_list(
-            alloc,
             ordered,
             &self.sites,
             &self.notes,
@@ -325,7 +319,6 @@ impl Search {
         let steps = STEPS_OF_NEW.saturating_mul(u32::from(many));
         let mut marks = Vec::new(alloc);
         let found_all = walk_races(
-            alloc,
             ordered,
             &self.by_thread,
             &mut self.found,
@@ -336,14 +329,7 @@ impl Search {
         if found_all {
             return Ok(());
         }
-        ask(
-            alloc,
-            ordered,
-            &self.sites,
-            &self.notes,
-            &mut self.found,
-            access,
-        )
+        ask(ordered, &self.sites, &self.notes, &mut self.found, access)
     }
 
     /// Takes an access of an open variable: looks for races with it, and adds it to those before.
@@ -360,14 +346,12 @@ impl Search {
             → OnOk result (AreSearched ordered.now.trace.now.trace.now flags self.new.sites self.new.notes self.new.by_thread self.new.wanted self.new.found (access.event + 1)) }
     {
         let count = self.sites.count();
-        let s = self
-            .sites
-            .number_of(alloc, access.variable, access.location)?;
+        let s = self.sites.number_of(access.variable, access.location)?;
         let is_new = self.sites.count() > count;
         self.ask(alloc, ordered, s, is_new, access)?;
         let local = ordered.links.local(access.event);
-        self.notes.add(alloc, s, access, local)?;
-        self.by_thread.add(alloc, access, s)
+        self.notes.add(s, access, local)?;
+        self.by_thread.add(access, s)
     }
 
     /// Takes an event.
@@ -383,7 +367,9 @@ impl Search {
         requires asked { O.asks ordered.now.order.now e ≡ true }
         requires settled { AreOpen ordered.now.trace.now.trace.now.events flags.now }
         requires searched { AreSearched ordered.now.trace.now.trace.now flags.now self.old.sites self.old.notes self.old.by_thread self.old.wanted self.old.found e }
-        ensures { OnOk result (AreSearched ordered.now.trace.now.trace.now flags.now self.new.sites self.new.notes self.new.by_thread self.new.wanted self.new.found (e + 1)) }
+        requires numbered { AreNumbered ordered.now.trace.now.trace.now locations.old.numbered.items }
+        ensures searched { OnOk result (AreSearched ordered.now.trace.now.trace.now flags.now self.new.sites self.new.notes self.new.by_thread self.new.wanted self.new.found (e + 1)) }
+        ensures numbered { OnOk result (AreNumbered ordered.now.trace.now.trace.now locations.new.numbered.items) }
     {
         let op = ordered.trace.events.op(e);
         let Some(variable) = op.variable() else {
@@ -393,7 +379,7 @@ impl Search {
             return Ok(());
         }
         let thread = ordered.trace.events.thread(e);
-        let location = locations.number_of(alloc, ordered.trace, e, thread)?;
+        let location = locations.number_of(ordered.trace, e, thread)?;
         let access = Access {
             event: e,
             thread,

@@ -137,12 +137,7 @@ impl Sites {
     /// # Errors
     ///
     /// `NoMemory` where a growth was refused.
-    pub fn number_of(
-        &mut self,
-        alloc: Global,
-        variable: u32,
-        location: u32,
-    ) -> Result<u32, NoMemory>
+    pub fn number_of(&mut self, variable: u32, location: u32) -> Result<u32, NoMemory>
         requires { variable < length self.old.newest.items }
         ensures site { IfOk result (IsSite self.new.sites.items variable location) }
         ensures more { OnOk result (AreMore self.old.newest.items self.old.sites.items self.new.newest.items self.new.sites.items) }
@@ -157,7 +152,7 @@ impl Sites {
             return Ok(s);
         }
         let s = self.add(variable, location)?;
-        self.hints.insert(alloc, mixed(variable, location), s)?;
+        self.hints.insert(mixed(variable, location), s)?;
         Ok(s)
     }
 }

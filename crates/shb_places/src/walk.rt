@@ -5,7 +5,7 @@ ghost use Rattle.shb_lines.specs.text.TraceData.{TraceData};
 ghost use Rattle.shb_places.specs.Access.{IsAccess};
 ghost use Rattle.shb_places.specs.ByThread.{AreByThread, AreRivals, IsStepFrom, IsStepIn, IsStepOf, IsWalked, is_followed, thread_tables};
 ghost use Rattle.shb_places.specs.Found.{AreFound, IsFound};
-ghost use Rattle.shb_places.specs.Marks.{AreMarked, IsTaken};
+ghost use Rattle.shb_places.specs.Marks.{AreMarked, AreReady, IsTaken};
 ghost use Rattle.shb_places.specs.declared.by_thread.Step.{Step};
 
 use crate::by_thread::{ByThread, Step, is_rival};
@@ -15,7 +15,6 @@ use crate::notes::Access;
 use shb_clocks::{Order, Ordered};
 use shb_io::NoMemory;
 use shb_lines::Pair;
-use std::alloc::Global;
 
 /// Where a walk stands: at a step, with a bound on local times, and with so many steps left.
 #[derive(Clone, Copy)]
@@ -25,9 +24,15 @@ struct Walk {
     left: u32,
 }
 
+/// Where a walk by entries stands: at an entry, and with so many steps left.
+#[derive(Clone, Copy)]
+struct Turn {
+    entry: u32,
+    left: u32,
+}
+
 /// Takes the race of an access with that of a step, and marks its place, unless it is marked already.
 fn take_step(
-    alloc: Global,
     found: &mut Found,
     marks: &mut Vec<Mark>,
     step: Step,
@@ -52,7 +57,7 @@ fn take_step(
         first: step.event,
         second: access.event,
     };
-    found.offer(alloc, place, race)?;
+    found.offer(place, race)?;
     mark_known(marks, step, access);
     Ok(())
 }
@@ -60,7 +65,6 @@ fn take_step(
 /// Takes the races of an access with the accesses from a step back whose local times are above the bound.
 /// The answer is how many steps are left, or 0 where they did not suffice.
 fn walk_steps<O: Order>(
-    alloc: Global,
     ordered: &Ordered<'_, O>,
     steps: &[Step],
     found: &mut Found,
@@ -73,12 +77,10 @@ fn walk_steps<O: Order>(
     requires as_many { length found.old.races.items ≡ length found.old.places.items }
     ensures as_many { OnOk result (length found.new.races.items ≡ length found.new.places.items) }
     ensures walked { AreRivals ordered.now.trace.now.trace.now steps.now access walk.step walk.bound
-        → AreFound ordered.now.trace.now.trace.now (access.event + 1) found.old.places.items found.old.races.items
-        → AreMarked ordered.now.trace.now.trace.now found.old.races.items access.variable access.location marks.old.items
+        → AreReady ordered.now.trace.now.trace.now access found.old.places.items found.old.races.items marks.old.items
         → IfOk result (λ left. IsWalked ordered.now.trace.now.trace.now access (IsStepFrom steps.now walk.step) (left ≢ 0) found.old.races.items found.new.places.items found.new.races.items) }
     ensures marked { AreRivals ordered.now.trace.now.trace.now steps.now access walk.step walk.bound
-        → AreFound ordered.now.trace.now.trace.now (access.event + 1) found.old.places.items found.old.races.items
-        → AreMarked ordered.now.trace.now.trace.now found.old.races.items access.variable access.location marks.old.items
+        → AreReady ordered.now.trace.now.trace.now access found.old.places.items found.old.races.items marks.old.items
         → OnOk result (AreMarked ordered.now.trace.now.trace.now found.new.races.items access.variable access.location marks.new.items) }
 {
     let mut left = walk.left;
@@ -94,7 +96,7 @@ fn walk_steps<O: Order>(
         if left == 0 {
             return Ok(0);
         }
-        take_step(alloc, found, marks, *step, access)?;
+        take_step(found, marks, *step, access)?;
         if step.previous >= at {
             return Ok(left);
         }
@@ -104,14 +106,12 @@ fn walk_steps<O: Order>(
 
 /// The same for the accesses of an entry.
 fn walk_entry<O: Order>(
-    alloc: Global,
     ordered: &Ordered<'_, O>,
     by_thread: &ByThread,
     found: &mut Found,
     marks: &mut Vec<Mark>,
-    c: u32,
+    turn: Turn,
     access: Access,
-    left: u32,
 ) -> Result<u32, NoMemory>
     requires access { IsAccess ordered.now.trace.now.trace.now access }
     requires asked { O.asks ordered.now.order.now access.event ≡ true }
@@ -119,34 +119,31 @@ fn walk_entry<O: Order>(
     requires as_many { length found.old.races.items ≡ length found.old.places.items }
     ensures as_many { OnOk result (length found.new.races.items ≡ length found.new.places.items) }
     ensures walked { AreByThread ordered.now.trace.now.trace.now (thread_tables by_thread.now) access.event
-        → AreFound ordered.now.trace.now.trace.now (access.event + 1) found.old.places.items found.old.races.items
-        → AreMarked ordered.now.trace.now.trace.now found.old.races.items access.variable access.location marks.old.items
-        → IfOk result (λ left. IsWalked ordered.now.trace.now.trace.now access (IsStepIn (thread_tables by_thread.now) access.variable c) (left ≢ 0) found.old.races.items found.new.places.items found.new.races.items) }
+        → AreReady ordered.now.trace.now.trace.now access found.old.places.items found.old.races.items marks.old.items
+        → IfOk result (λ left. IsWalked ordered.now.trace.now.trace.now access (IsStepIn (thread_tables by_thread.now) access.variable turn.entry) (left ≢ 0) found.old.races.items found.new.places.items found.new.races.items) }
     ensures marked { AreByThread ordered.now.trace.now.trace.now (thread_tables by_thread.now) access.event
-        → AreFound ordered.now.trace.now.trace.now (access.event + 1) found.old.places.items found.old.races.items
-        → AreMarked ordered.now.trace.now.trace.now found.old.races.items access.variable access.location marks.old.items
+        → AreReady ordered.now.trace.now.trace.now access found.old.places.items found.old.races.items marks.old.items
         → OnOk result (AreMarked ordered.now.trace.now.trace.now found.new.races.items access.variable access.location marks.new.items) }
 {
-    let Some(entry) = by_thread.entries.get(c as usize) else {
-        return Ok(left);
+    let Some(entry) = by_thread.entries.get(turn.entry as usize) else {
+        return Ok(turn.left);
     };
-    let Some(newest) = by_thread.newest.get(c as usize) else {
-        return Ok(left);
+    let Some(newest) = by_thread.newest.get(turn.entry as usize) else {
+        return Ok(turn.left);
     };
     if entry.variable != access.variable {
-        return Ok(left);
+        return Ok(turn.left);
     }
     if !is_rival(*entry, access) {
-        return Ok(left);
+        return Ok(turn.left);
     }
     let bound = ordered.order.below_pred(access.event, entry.thread);
     let walk = Walk {
         step: *newest,
         bound,
-        left,
+        left: turn.left,
     };
     walk_steps(
-        alloc,
         ordered,
         by_thread.steps.as_slice(),
         found,
@@ -163,7 +160,6 @@ fn walk_entry<O: Order>(
 ///
 /// `NoMemory` where a growth was refused.
 pub fn walk_races<O: Order>(
-    alloc: Global,
     ordered: &Ordered<'_, O>,
     by_thread: &ByThread,
     found: &mut Found,
@@ -178,12 +174,10 @@ pub fn walk_races<O: Order>(
     ensures as_many { OnOk result (length found.new.races.items ≡ length found.new.places.items) }
     ensures followed { IfOk result (λ all. all ≡ true → is_followed by_thread.now.followed.items access.variable ≡ true) }
     ensures walked { AreByThread ordered.now.trace.now.trace.now (thread_tables by_thread.now) access.event
-        → AreFound ordered.now.trace.now.trace.now (access.event + 1) found.old.places.items found.old.races.items
-        → AreMarked ordered.now.trace.now.trace.now found.old.races.items access.variable access.location marks.old.items
+        → AreReady ordered.now.trace.now.trace.now access found.old.places.items found.old.races.items marks.old.items
         → IfOk result (λ all. IsWalked ordered.now.trace.now.trace.now access (IsStepOf (thread_tables by_thread.now) access.variable) (all ≡ true) found.old.races.items found.new.places.items found.new.races.items) }
     ensures marked { AreByThread ordered.now.trace.now.trace.now (thread_tables by_thread.now) access.event
-        → AreFound ordered.now.trace.now.trace.now (access.event + 1) found.old.places.items found.old.races.items
-        → AreMarked ordered.now.trace.now.trace.now found.old.races.items access.variable access.location marks.old.items
+        → AreReady ordered.now.trace.now.trace.now access found.old.places.items found.old.races.items marks.old.items
         → OnOk result (AreMarked ordered.now.trace.now.trace.now found.new.races.items access.variable access.location marks.new.items) }
 {
     if steps == 0 || !by_thread.follows(access.variable) {
@@ -195,16 +189,11 @@ pub fn walk_races<O: Order>(
         let Some(entry) = by_thread.entries.get(at as usize) else {
             return Ok(true);
         };
-        left = walk_entry(
-            alloc,
-            ordered,
-            by_thread,
-            found,
-            marks,
-            at,
-            access,
-            left.saturating_sub(1),
-        )?;
+        let turn = Turn {
+            entry: at,
+            left: left.saturating_sub(1),
+        };
+        left = walk_entry(ordered, by_thread, found, marks, turn, access)?;
         if left == 0 {
             return Ok(false);
         }

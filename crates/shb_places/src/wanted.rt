@@ -170,7 +170,7 @@ impl WantedLists {
             sites: Vec::new(alloc),
             marks: Vec::new(alloc),
         })?;
-        self.hints.insert(alloc, mixed(s, 0), k)?;
+        self.hints.insert(mixed(s, 0), k)?;
         Ok(k)
     }
 }

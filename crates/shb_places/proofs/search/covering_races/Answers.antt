@@ -1,12 +1,15 @@
-use Rattle.std.proofs.Common.{◌≡◌, List, Some, length, arith, ap, subst, sym, ◌∙◌}
+use Rattle.std.proofs.Common.{◌≡◌, ◌+◌, ℕ, List, Some, length, arith, ap, subst, sym, ◌∙◌}
 use Rattle.shb_lines.specs.declared.event.Event.{Event}
 use Rattle.shb_lines.specs.declared.event.Pair.{Pair}
 use Rattle.std.proofs.lemmas.List.Elements.{All-nil}
 use Rattle.shb_lines.specs.events.Race.{Race, variable_at}
+use Rattle.shb_lines.specs.text.TraceData.{TraceData}
 use Rattle.shb_clocks.specs.SweepData.{SweepData}
 use Rattle.shb_links.proofs.Owners.{variable_sized}
 use Rattle.shb_pairs.specs.Open.{AreOpen}
 use Rattle.shb_places.specs.Covering.{Covers}
+use Rattle.shb_places.specs.Numbered.{AreNumbered}
+use Rattle.shb_places.specs.Searched.{AreSearched}
 use Rattle.shb_places.proofs.SearchLemmas.{searched_all}
 use Rattle.shb_places.proofs.search.covering_races.Goals as goal
 
@@ -17,6 +20,21 @@ loop-e-init c =
       of_trace = ap (λ (s : SweepData). s.trace) c.in_ok-sweep.ensures ∙ c.new-4.ensures.events;
       next = ap (λ (s : SweepData). s.next) c.in_ok-sweep.ensures;
       searched = c.in_ok-search.ensures trace.trace.now c.args.flags.now (λ e x of_e. (variable_sized trace.events.now trace.sizes e x trace.within (subst (λ (l : List Event). variable_at l e ≡ Some x) (sym trace.of_trace) of_e)).1);
+      numbered = (
+          let few = trace.few in
+          let long = ap length trace.of_trace in
+          c.in_ok-locations.ensures trace.trace.now (omega (arith, few, long)));
+    }
+
+pub loop-e-preserved : goal.loop-e-preserved
+loop-e-preserved c =
+    let same = ap (λ d. d.trace.now) c.new-ordered.ensures.trace in
+    let next = c.step.new.self in
+    record {
+      of_trace = ap (λ (s : SweepData). s.trace) c.in_ok-pass.ensures ∙ c.loop-e.invariant.of_trace;
+      next = ap (λ (s : SweepData). s.next) c.in_ok-pass.ensures ∙ ap (λ (n : ℕ). n + 1) c.loop-e.invariant.next;
+      searched = subst (λ (t : TraceData). AreSearched t c.args.flags.now next.sites next.notes next.by_thread next.wanted next.found (c.loop-e.e + 1)) same c.in_ok-step.ensures.searched;
+      numbered = subst (λ (t : TraceData). AreNumbered t c.step.new.locations.numbered.items) same c.in_ok-step.ensures.numbered;
     }
 
 pub returns-then-not-any_open : goal.returns-then-not-any_open
@@ -34,6 +52,9 @@ returns-then-not-any_open c =
 
 pub step-requires-clause-settled : goal.step-requires-clause-settled
 step-requires-clause-settled c = rw c.new-ordered.ensures.trace (subst (λ (l : List Event). AreOpen l c.args.flags.now) c.args.trace.now.of_trace c.requires.settled)
+
+pub step-requires-clause-numbered : goal.step-requires-clause-numbered
+step-requires-clause-numbered c = rw c.new-ordered.ensures.trace c.loop-e.invariant.numbered
 
 pub returns : goal.returns
 returns c =

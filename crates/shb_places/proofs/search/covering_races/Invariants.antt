@@ -1,4 +1,5 @@
 use Rattle.std.proofs.Common.{◌≡◌}
+use Rattle.shb_places.specs.Numbered.{AreNumbered}
 use Rattle.shb_places.specs.Searched.{AreSearched}
 use Rattle.shb_places.proofs.search.covering_races.Given as goal
 
@@ -7,4 +8,5 @@ invariant-loop-e l = record {
   of_trace : l.sweep.trace ≡ l.trace.events.now;
   next : l.sweep.next ≡ l.e;
   searched : AreSearched l.trace.trace.now l.flags l.search.sites l.search.notes l.search.by_thread l.search.wanted l.search.found l.e;
+  numbered : AreNumbered l.trace.trace.now l.locations.numbered.items;
 }

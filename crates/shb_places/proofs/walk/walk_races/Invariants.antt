@@ -1,7 +1,6 @@
-use Rattle.std.proofs.Common.{◌≡◌, ◌+◌, length}
+use Rattle.std.proofs.Common.{◌≡◌, length}
 use Rattle.shb_places.specs.ByThread.{AreByThread, thread_tables}
-use Rattle.shb_places.specs.Found.{AreFound}
-use Rattle.shb_places.specs.Marks.{AreMarked}
+use Rattle.shb_places.specs.Marks.{AreMarked, AreReady}
 use Rattle.shb_places.proofs.WalkLemmas.{AreWalkedTo}
 use Rattle.shb_places.proofs.walk.walk_races.Given as goal
 
@@ -9,12 +8,10 @@ abbrev pub invariant-loop-entry : goal.invariant-loop-entry
 invariant-loop-entry g l = record {
   as_many : length l.found.races.items ≡ length l.found.places.items;
   walked : AreByThread l.ordered.trace.now.trace.now (thread_tables l.by_thread) l.access.event
-      → AreFound l.ordered.trace.now.trace.now (l.access.event + 1) l.fn.found.places.items l.fn.found.races.items
-      → AreMarked l.ordered.trace.now.trace.now l.fn.found.races.items l.access.variable l.access.location l.fn.marks.items
+      → AreReady l.ordered.trace.now.trace.now l.access l.fn.found.places.items l.fn.found.races.items l.fn.marks.items
       → AreWalkedTo l.ordered.trace.now.trace.now (thread_tables l.by_thread) l.access l.fn.found.races.items l.found.places.items l.found.races.items l.at;
   marked : AreByThread l.ordered.trace.now.trace.now (thread_tables l.by_thread) l.access.event
-      → AreFound l.ordered.trace.now.trace.now (l.access.event + 1) l.fn.found.places.items l.fn.found.races.items
-      → AreMarked l.ordered.trace.now.trace.now l.fn.found.races.items l.access.variable l.access.location l.fn.marks.items
+      → AreReady l.ordered.trace.now.trace.now l.access l.fn.found.places.items l.fn.found.races.items l.fn.marks.items
       → AreMarked l.ordered.trace.now.trace.now l.found.races.items l.access.variable l.access.location l.marks.items;
 }
 

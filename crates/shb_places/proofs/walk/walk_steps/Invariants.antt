@@ -1,8 +1,7 @@
-use Rattle.std.proofs.Common.{◌≡◌, ◌+◌, length}
+use Rattle.std.proofs.Common.{◌≡◌, length}
 use Rattle.shb_places.specs.ByThread.{AreRivals}
-use Rattle.shb_places.specs.Found.{AreFound}
 use Rattle.shb_places.specs.Lists.{Reaches, step_previous}
-use Rattle.shb_places.specs.Marks.{AreMarked}
+use Rattle.shb_places.specs.Marks.{AreMarked, AreReady}
 use Rattle.shb_places.proofs.WalkLemmas.{IsWalkedTo}
 use Rattle.shb_places.proofs.walk.walk_steps.Given as goal
 
@@ -11,12 +10,10 @@ invariant-loop-step g l = record {
   as_many : length l.found.races.items ≡ length l.found.places.items;
   reached : Reaches step_previous l.steps l.at l.walk.step;
   walked : AreRivals l.ordered.trace.now.trace.now l.steps l.access l.walk.step l.walk.bound
-      → AreFound l.ordered.trace.now.trace.now (l.access.event + 1) l.fn.found.places.items l.fn.found.races.items
-      → AreMarked l.ordered.trace.now.trace.now l.fn.found.races.items l.access.variable l.access.location l.fn.marks.items
+      → AreReady l.ordered.trace.now.trace.now l.access l.fn.found.places.items l.fn.found.races.items l.fn.marks.items
       → IsWalkedTo l.ordered.trace.now.trace.now l.steps l.access l.walk.step l.fn.found.races.items l.found.places.items l.found.races.items l.at;
   marked : AreRivals l.ordered.trace.now.trace.now l.steps l.access l.walk.step l.walk.bound
-      → AreFound l.ordered.trace.now.trace.now (l.access.event + 1) l.fn.found.places.items l.fn.found.races.items
-      → AreMarked l.ordered.trace.now.trace.now l.fn.found.races.items l.access.variable l.access.location l.fn.marks.items
+      → AreReady l.ordered.trace.now.trace.now l.access l.fn.found.places.items l.fn.found.races.items l.fn.marks.items
       → AreMarked l.ordered.trace.now.trace.now l.found.races.items l.access.variable l.access.location l.marks.items;
 }
 

@@ -13,7 +13,7 @@ returns-then-found_all-clause-asked g c is able =
     let own = c.args.self.now in
     let access = c.args.access in
     let next = c.walk_races.new.found in
-    let walked = c.in_ok-found_all.ensures.walked able.rivals.kept able.found (marked_none trace own.found.races.items access.variable access.location c.new-marks.result.items c.new-marks.ensures.items) in
+    let walked = c.in_ok-found_all.ensures.walked able.rivals.kept (record { found = able.found; marked = marked_none trace own.found.races.items access.variable access.location c.new-marks.result.items c.new-marks.ensures.items }) in
     record {
       asked = walked_asked trace own.sites.sites.items (tables_of own.notes) access next.places.items own.found.races.items next.races.items walked.found walked.improves
           (walked_all trace own.by_thread access _ own.found.races.items next.places.items next.races.items able.rivals (c.in_ok-found_all.ensures.followed c.if-found_all.true) c.if-found_all.true walked);
@@ -27,7 +27,7 @@ returns-clause-asked g c is able =
     let access = c.args.access in
     let middle = c.walk_races.new.found in
     let next = c.ask.new.found in
-    let walked = c.in_ok-found_all.ensures.walked able.rivals.kept able.found (marked_none trace own.found.races.items access.variable access.location c.new-marks.result.items c.new-marks.ensures.items) in
+    let walked = c.in_ok-found_all.ensures.walked able.rivals.kept (record { found = able.found; marked = marked_none trace own.found.races.items access.variable access.location c.new-marks.result.items c.new-marks.ensures.items }) in
     on_ok_weaker c.ask.result (λ asked.
     let then = asked_then trace own.sites.sites.items (tables_of own.notes) access middle.places.items next.places.items own.found.races.items middle.races.items next.races.items walked.found walked.improves asked in
     record {

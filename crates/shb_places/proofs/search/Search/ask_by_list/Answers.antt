@@ -31,8 +31,8 @@ returns-then-all-clause-asked g c is able =
     let long = ap length c.args.ordered.now.trace.now.of_trace in
     let marks = subst (λ (ms : List Mark). AreMarked trace own.found.races.items access.variable access.location ms) (sym (ap (λ v. v.items) c.in_ok-look.ensures.marks)) (marked_of trace sites own.found.races.items access.event access.variable access.location c.args.s list is asker (before c.in_ok-k.k list at)) in
     let made = c.in_ok-make_marks.ensures trace own.found.races.items access.variable access.location (omega (arith, few, long)) marks in
-    let walked = c.in_ok-all.ensures.walked able.rivals.kept able.found made in
-    let marked = c.in_ok-all.ensures.marked able.rivals.kept able.found made in
+    let walked = c.in_ok-all.ensures.walked able.rivals.kept (record { found = able.found; marked = made }) in
+    let marked = c.in_ok-all.ensures.marked able.rivals.kept (record { found = able.found; marked = made }) in
     let covers = walked_all trace own.by_thread access _ own.found.races.items next.places.items next.races.items able.rivals (c.in_ok-all.ensures.followed c.if-all.true) c.if-all.true walked in
     record {
       asked = walked_asked trace sites (tables_of own.notes) access next.places.items own.found.races.items next.races.items walked.found walked.improves covers;
@@ -60,8 +60,8 @@ returns-clause-asked g c is able =
     let long = ap length c.args.ordered.now.trace.now.of_trace in
     let marks = subst (λ (ms : List Mark). AreMarked trace own.found.races.items access.variable access.location ms) (sym (ap (λ v. v.items) c.in_ok-look.ensures.marks)) (marked_of trace sites own.found.races.items access.event access.variable access.location c.args.s list is asker (before c.in_ok-k.k list at)) in
     let made = c.in_ok-make_marks.ensures trace own.found.races.items access.variable access.location (omega (arith, few, long)) marks in
-    let walked = c.in_ok-all.ensures.walked able.rivals.kept able.found made in
-    let marked = c.in_ok-all.ensures.marked able.rivals.kept able.found made in
+    let walked = c.in_ok-all.ensures.walked able.rivals.kept (record { found = able.found; marked = made }) in
+    let marked = c.in_ok-all.ensures.marked able.rivals.kept (record { found = able.found; marked = made }) in
     let held_now = held_then trace sites (access.event + 1) access.event access.event access.variable access.location (length sites) own.found.places.items own.found.races.items middle.races.items c.look.new.list.sites.items able.found walked.improves (omega arith) held in
     on_ok_weaker c.ask_list.result (λ told. record {
       asked = asked_then trace sites (tables_of own.notes) access middle.places.items next.places.items own.found.races.items middle.races.items next.races.items walked.found walked.improves

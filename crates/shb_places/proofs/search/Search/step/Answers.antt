@@ -3,16 +3,16 @@ use Rattle.shb_places.proofs.TakeLemmas.{passed_other}
 use Rattle.shb_places.proofs.StepLemmas.{access_of, shut_known, shut_none}
 use Rattle.shb_places.proofs.search.Search.step.Goals as goal
 
-pub returns-in_default : goal.returns-in_default
-returns-in_default g c =
+pub returns-in_default-clause-searched : goal.returns-in_default-clause-searched
+returns-in_default-clause-searched g c =
     let trace = c.args.ordered.now.trace.now in
     let own = c.args.self.now in
     passed_other trace.trace.now c.args.flags.now own.sites own.notes own.by_thread own.wanted own.found c.args.e c.requires.settled
     (shut_none trace.trace.now trace.events.now _ c.args.e c.args.flags.now trace.of_trace c.op-op.ensures (sym c.variable.ensures ∙ c.in_default.is))
     c.requires.searched
 
-pub returns-then-not-is_open : goal.returns-then-not-is_open
-returns-then-not-is_open g c =
+pub returns-then-not-is_open-clause-searched : goal.returns-then-not-is_open-clause-searched
+returns-then-not-is_open-clause-searched g c =
     let trace = c.args.ordered.now.trace.now in
     let own = c.args.self.now in
     passed_other trace.trace.now c.args.flags.now own.sites own.notes own.by_thread own.wanted own.found c.args.e c.requires.settled
@@ -22,4 +22,4 @@ returns-then-not-is_open g c =
 pub take-requires-clause-access : goal.take-requires-clause-access
 take-requires-clause-access g c =
     let trace = c.args.ordered.now.trace.now in
-    access_of trace.trace.now trace.events.now _ _ c.in-Some.variable _ c.args.e _ trace.of_trace c.op-op.ensures c.thread-thread.ensures c.in-Some.ensures c.in_ok-location.ensures c.is_write.ensures
+    access_of trace.trace.now trace.events.now _ _ c.in-Some.variable _ c.args.e _ trace.of_trace c.op-op.ensures c.thread-thread.ensures c.in-Some.ensures c.in_ok-location.ensures.located c.is_write.ensures
