@@ -14,7 +14,7 @@ writes_by old new (Err e) bytes ok err = err
 
 pub returns-in-BadCounts-clause-written : goal.returns-in-BadCounts-clause-written
 returns-in-BadCounts-clause-written g c =
-    let write = c.write_all-in-BadCounts in
+    let write = c.write_all in
     let old = g.S.Sink.taken c.args.sink.now in
     let new = g.S.Sink.taken write.new.sink in
     subst (λ (v : Verdict). Writes old new write.result (verdict_bytes v)) (sym c.in-BadCounts.is) (writes_by old new write.result (verdict_bytes BadCounts) write.ensures.ok write.ensures.err)
