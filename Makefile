@@ -8,7 +8,7 @@ SHB = bin/shb
 
 # What the program is made of.
 SOURCES = crates.txt HANDLES $(shell find crates -path '*/out' -prune -o -path '*/must-fail' -prune \
-	-o -path "crates/shb_*tests" -prune -o -path crates/shb_asserting -prune -o -path crates/shb_orders -prune \
+	-o -path "crates/shb_*tests" -prune -o -path crates/shb_orders -prune \
 	-o -type f -print)
 
 # Proves and builds the program where a source is newer than it.

@@ -1,6 +1,6 @@
 //! Whole checks of broken reports, with the reason of each verdict, and with devices that fail.
 //! More reports and their lines are in `tests/test_checks.py`, which runs the built program.
-use shb_asserting::{holds, same, same_bytes};
+use crate::asserting::{holds, same, same_bytes};
 use shb_io::{NoMemory, Page, Sink, Source, Text};
 use shb_replay::{Broken, Why};
 use shb_run::{RaceFault, RunError, Verdict, check, fault_line};

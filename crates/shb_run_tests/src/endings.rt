@@ -1,6 +1,6 @@
 //! What is answered where a source fails after the first fault or a writer takes nothing, and that
 //! errors show themselves in the words of `fault_line`.
-use shb_asserting::{holds, same, same_bytes};
+use crate::asserting::{holds, same, same_bytes};
 use shb_io::{Failed, Page, Sink, Text, ToWrite};
 use shb_lines::Fault;
 use shb_reading::{ReportError, read_report_within};

@@ -3,8 +3,8 @@ ghost use Rattle.std.specs.Prelude.{◌≡◌, ℕ, ◌∷◌, ◌<◌, ◌≤�
 ghost use Rattle.shb_fan.specs.Passes.{fresh};
 ghost use Rattle.shb_fan.specs.Seated.{IsNewSeat, job_of};
 
+use crate::asserting::{holds, is_false, is_true, same};
 use crate::counters::{all_one, zeros};
-use shb_asserting::{holds, is_false, is_true, same};
 use shb_fan::*;
 use shb_io::NoMemory;
 use std::alloc::Global;

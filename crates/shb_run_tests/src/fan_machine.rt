@@ -1,6 +1,6 @@
 //! Worked lists of steps.
 
-use shb_asserting::{same, same_in_row};
+use crate::asserting::{same, same_in_row};
 use shb_fan::machine::*;
 use std::process::Abort;
 use std::test::Fail;

@@ -2,8 +2,8 @@
 //! refusal of the taker stops the draw.
 ghost use Rattle.std.specs.Prelude.{◌≤◌, ◌^◌};
 
+use crate::asserting::{holds, same};
 use crate::counters::{all_one, zeros};
-use shb_asserting::{holds, same};
 use shb_fan::{Gate, Job, StreamError, Taker, Workers, gather, stream};
 use shb_io::NoMemory;
 use std::alloc::Global;

@@ -1,6 +1,6 @@
 //! What no contract says: that calls succeed, which errors of a reader or a writer are tried again, what a
 //! flush that fails answers, and the bytes that arrive after a writer that is let go.
-use shb_asserting::{same, same_bytes};
+use crate::asserting::{same, same_bytes};
 use shb_io::{Endless, Failed, FromRead, Page, Sink, Source, Text, ToWrite, write_all};
 use std::io::{self, BufWriter, ErrorKind, Read, Write};
 use std::process::Abort;

@@ -1,5 +1,5 @@
 //! Runs that list one race of each place, over texts in memory: worked rows, and devices that fail.
-use shb_asserting::same;
+use crate::asserting::same;
 use shb_io::{NoMemory, Page, Text};
 use shb_run::{Settings, Workers, run_places, status_of_run};
 use std::process::Abort;

@@ -1,5 +1,5 @@
 //! That reports worked by hand are read, and which lines of broken ones are bad.
-use shb_asserting::{has_length, same, same_bytes, same_in_row};
+use crate::asserting::{has_length, same, same_bytes, same_in_row};
 use shb_io::{Source, Text};
 use shb_lines::MOST_BYTES;
 use shb_reading::{Report, ReportError, read_report_within};

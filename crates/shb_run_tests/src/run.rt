@@ -1,6 +1,6 @@
 //! Whole runs over texts in memory: read and written byte by byte, and with devices that fail.
 //! The reports of many traces are in `tests/rows`, on which the built program is run.
-use shb_asserting::{same, same_bytes};
+use crate::asserting::{same, same_bytes};
 use shb_io::{NoMemory, Page, Text};
 use shb_lines::Fault;
 use shb_run::{RunError, Settings, Summary, Workers, exit_status, fault_line, run};

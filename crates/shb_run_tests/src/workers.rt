@@ -2,8 +2,8 @@
 //! their number changes nothing.
 ghost use Rattle.std.specs.Prelude.{◌<◌};
 
+use crate::asserting::{holds, same, same_bytes};
 use crate::run::{Devices, ample, done, expect_run, failed, settings};
-use shb_asserting::{holds, same, same_bytes};
 use shb_io::{Failed, NoMemory, Page, Sink, Text};
 use shb_run::{FreeGate, Gate, Settings, run_gated};
 use std::alloc::Global;

@@ -3,8 +3,8 @@
 ghost use Rattle.std.specs.Prelude.{◌≡◌, ◌<◌, ◌≤◌, length};
 ghost use Rattle.shb_lines.specs.text.Limits.{most_events};
 
+use crate::asserting::same;
 use crate::fixtures::{Question, asked, pair};
-use shb_asserting::same;
 use shb_discipline::Disciplined;
 use shb_lines::{Event, Events, Op};
 use shb_links::Links;

@@ -1,8 +1,8 @@
 //! Checkpoints of a longer trace. They only save time, so no clause says that they are there or that
 //! the last one is found.
 
+use crate::asserting::same;
 use crate::fixtures::{Question, asked};
-use shb_asserting::same;
 use shb_discipline::Disciplined;
 use shb_links::{Linked, Links};
 use shb_witness::{checkpoints_of, front_of};

@@ -2,8 +2,8 @@
 ghost use Rattle.std.specs.Prelude.{◌≡◌, ℕ, true, []};
 ghost use Rattle.shb_clocks.specs.Open.{OpenTrace};
 
+use crate::asserting::{same, same_in_row};
 use crate::fixtures::{Mixture, Question, asked, push_line, push_mixed_lines};
-use shb_asserting::{same, same_in_row};
 use shb_clocks::{EventRows, Order, Sweep, at_events, by_event};
 use shb_discipline::Disciplined;
 use shb_io::NoMemory;

@@ -1,7 +1,7 @@
 //! Texts whose first fault is known.
 ghost use Rattle.shb_lines.specs.text.Limits.{AreStandard};
 
-use shb_asserting::same_in_row;
+use crate::asserting::same_in_row;
 use shb_discipline::{CheckError, check};
 use shb_io::Text;
 use shb_lines::{Fault, Limits, parse};

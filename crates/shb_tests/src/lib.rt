@@ -3,11 +3,13 @@
 //! and the reading of reports are in `shb_run_tests`.
 //!
 //! Each module has the tests of one crate, and has its name: `links` those of `shb_links`. They use
-//! public items alone. Assertions are calls of `shb_asserting`. Fixtures that several modules need
+//! public items alone. Fixtures that several modules need
 //! stand in `fixtures`. A table is a `const` or a local array above its loop, one row a line; rows
 //! that need the whole program stand in `tests/*.py`.
 #![tactic(auto)]
 
+#[cfg(test)]
+mod asserting;
 #[cfg(test)]
 mod brute_replay;
 #[cfg(test)]

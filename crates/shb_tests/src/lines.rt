@@ -3,7 +3,7 @@
 ghost use Rattle.std.specs.Prelude.{◌≡◌, ◌<◌};
 ghost use Rattle.shb_lines.specs.text.Limits.{AreStandard};
 
-use shb_asserting::{has_length, holds, same, same_bytes, same_in_row};
+use crate::asserting::{has_length, holds, same, same_bytes, same_in_row};
 use shb_io::{Endless, Source, Text};
 use shb_lines::Fault::{
     BadOperand, EmptyThread, LineTooLong, MissingField, TextTooLong, TooManyEvents, TooManyThreads,

@@ -1,8 +1,8 @@
 //! The links of a worked trace, and of a made one against the plain definitions.
 ghost use Rattle.std.specs.Prelude.{◌≡◌, ◌<◌, length};
 
+use crate::asserting::same;
 use crate::fixtures::{Question, asked, asked_by_search};
-use shb_asserting::same;
 use shb_discipline::Disciplined;
 use shb_lines::Op;
 use shb_links::Links;

@@ -2,8 +2,8 @@
 ghost use Rattle.std.specs.Prelude.{◌≡◌, ◌<◌, ◌≤◌, length};
 ghost use Rattle.shb_pairs.specs.Open.{AsksOpen};
 
+use crate::asserting::{holds, same, same_in_row};
 use crate::fixtures::{Mixture, Question, asked, pair, push_mixed_lines};
-use shb_asserting::{holds, same, same_in_row};
 use shb_clocks::{Order, Ordered};
 use shb_discipline::Disciplined;
 use shb_fan::Job;

@@ -2,8 +2,8 @@
 ghost use Rattle.std.specs.Prelude.{◌≡◌, ◌<◌, ℕ, All, IsTrue, length};
 ghost use Rattle.shb_report.specs.Places.{IsPairOf};
 
+use crate::asserting::same_in_row;
 use crate::fixtures::{pair, parsed};
-use shb_asserting::same_in_row;
 use shb_io::{NoMemory, Page, Sink};
 use shb_lines::{Pair, Trace};
 use shb_report::{place_lines, places_of};

@@ -2,8 +2,8 @@
 
 ghost use Rattle.std.specs.Prelude.{◌<◌, length};
 
+use crate::asserting::same;
 use crate::fixtures::{Question, asked, pair};
-use shb_asserting::same;
 use shb_discipline::Disciplined;
 use shb_lines::Pair;
 use shb_links::{Linked, Links};

@@ -2,9 +2,9 @@
 ghost use Rattle.std.specs.Prelude.{All};
 ghost use Rattle.shb_report.specs.Places.{IsPlaceOf};
 
+use crate::asserting::{same, same_bytes};
 use crate::fixtures::{pair, parsed};
 use crate::places::are_in_range;
-use shb_asserting::{same, same_bytes};
 use shb_io::{Failed, NoMemory, Page, Sink};
 use shb_lines::{Pair, ReadError, Trace};
 use shb_positions::Positions;

@@ -1,6 +1,6 @@
 //! The schedules of worked traces.
+use crate::asserting::same_in_row;
 use crate::fixtures::{Question, asked, pair};
-use shb_asserting::same_in_row;
 use shb_discipline::Disciplined;
 use shb_fan::Job;
 use shb_links::Links;
