@@ -1,6 +1,7 @@
 //! The tests of threads, devices, whole runs and the reading of reports, on top of the crates that they
 //! test. They are laid out as those of `shb_tests`, and are a crate of their own, so that both are checked
-//! at once.
+//! at once. Functions that may end the process, as assertions do, may stand in tests alone: so each of the
+//! two has its own `asserting`.
 #![tactic(auto)]
 
 #[cfg(test)]

@@ -3,7 +3,12 @@
 //! and the reading of reports are in `shb_run_tests`.
 //!
 //! Each module has the tests of one crate, and has its name: `links` those of `shb_links`. They use
-//! public items alone. Fixtures that several modules need
+//! public items alone.
+//!
+//! A test is proved like any function, and an assertion written in it costs some 9 seconds of
+//! proof. So a test calls the functions of `asserting`: `same(&rt, &found, &wanted, "what it is")`,
+//! and `same_in_row` in a loop over a table. Where later calls rest on what was asserted, as a look-up
+//! on a length, there is one with an `ensures`, as `has_length`. Fixtures that several modules need
 //! stand in `fixtures`. A table is a `const` or a local array above its loop, one row a line; rows
 //! that need the whole program stand in `tests/*.py`.
 #![tactic(auto)]
