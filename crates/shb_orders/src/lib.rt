@@ -3,8 +3,8 @@
 //!
 //! [`PlainOrder`] has marks by a backward sweep over the edges, for small traces. [`FullClocks`] has a
 //! vector clock for each event. [`ClockVersions`] has a clock only where a thread may learn of others (its
-//! first event, an acquire, a join, a read that has a last write), found by binary search. Each keeps a
-//! clock for each lock while its pass runs, where `shb_clocks` has a stamp, so little of the code is shared.
+//! first event, an acquire, a join, a read that has a last write), found by binary search. The passes that
+//! make these two keep a clock for each lock, where `shb_clocks` has a stamp.
 #![tactic(auto)]
 
 mod clock;
