@@ -22,12 +22,6 @@ use std::alloc::Global;
 /// So many events are kept for their lines.
 const LINES: usize = 4096;
 
-/// So many of the last bytes of a line say where its event is kept.
-const LAST: usize = 4;
-
-/// For so many threads the last four locations are kept; threads beyond share those of others.
-const KEPT: u32 = 64;
-
 /// An event, and the number of its location.
 #[derive(Clone, Copy)]
 pub struct Numbered {
@@ -40,7 +34,6 @@ pub struct Numbered {
 pub struct Locations {
     pub numbered: Vec<Numbered>,
     hints: Hints,
-    recent: Vec<[u32; 4]>,
 }
 
 /// Whether an event has this operation and this line.
@@ -50,14 +43,18 @@ fn has_line(trace: &Disciplined<'_>, e: u32, op: Op, line: &[u8]) -> bool
     e < trace.trace.len() && trace.events.op(e) == op && trace.trace.line_text(e) == line
 }
 
-/// Where the event of a line is kept: by its thread, its operation and its last bytes.
+/// Where the event of a line is kept: by its thread, its operation and its last two bytes.
 fn slot_of(thread: u32, op: Op, line: &[u8]) -> usize {
-    let kind = u32::from(op.is_write());
-    let mut last = thread.wrapping_mul(2).wrapping_add(kind);
-    for byte in &line[line.len().saturating_sub(LAST)..] {
-        last = last.wrapping_mul(31).wrapping_add(u32::from(*byte));
-    }
-    mixed(op.variable().unwrap_or(0), last) as usize % LINES
+    let last = line.len().saturating_sub(1);
+    let low = u32::from(line.get(last).copied().unwrap_or(0));
+    let high = u32::from(line.get(last.saturating_sub(1)).copied().unwrap_or(0));
+    let access = op
+        .variable()
+        .unwrap_or(0)
+        .wrapping_mul(2)
+        .wrapping_add(u32::from(op.is_write()));
+    let end = thread.wrapping_mul(65536).wrapping_add(high * 256 + low);
+    mixed(access, end) as usize % LINES
 }
 
 /// Whether an event has this location, and is a write or isn't.
@@ -88,11 +85,9 @@ impl Locations {
             number: NONE,
         };
         let numbered = vec![in alloc; free; LINES]?;
-        let recent = vec![in alloc; [NONE; 4]; KEPT as usize]?;
         Ok(Locations {
             numbered,
             hints: Hints::new(alloc),
-            recent,
         })
     }
 
@@ -121,21 +116,6 @@ impl Locations {
         }
     }
 
-    /// The event with this location among the last four locations of a thread.
-    fn recent(&self, trace: &Disciplined<'_>, text: &[u8], writes: bool, thread: u32) -> Option<u32>
-        ensures { IfSome result (λ e. IsLocatedAt trace.now.trace.now e text.now writes) }
-    {
-        let Some(recent) = self.recent.get((thread % KEPT) as usize) else {
-            return None;
-        };
-        for e in recent {
-            if has_location(trace, *e, text, writes) {
-                return Some(*e);
-            }
-        }
-        None
-    }
-
     /// The event with this location that was noted under a hash.
     fn noted(&self, trace: &Disciplined<'_>, text: &[u8], writes: bool, hash: u32) -> Option<u32>
         ensures { IfSome result (λ e. IsLocatedAt trace.now.trace.now e text.now writes) }
@@ -151,33 +131,19 @@ impl Locations {
         None
     }
 
-    /// Keeps an event as the last location of a thread.
-    fn keep(&mut self, thread: u32, e: u32)
-        ensures { self.new.numbered ≡ self.old.numbered }
-    {
-        if let Some(recent) = self.recent.get_mut((thread % KEPT) as usize) {
-            *recent = [e, recent[0], recent[1], recent[2]];
-        }
-    }
-
     /// The number of an event's location, which is looked for in its line.
-    fn look(&mut self, trace: &Disciplined<'_>, e: u32, thread: u32) -> Result<u32, NoMemory>
+    fn look(&mut self, trace: &Disciplined<'_>, e: u32) -> Result<u32, NoMemory>
         requires { e < length trace.now.trace.now.events }
         ensures numbered { self.new.numbered ≡ self.old.numbered }
         ensures located { IfOk result (λ l. IsLocatedAt trace.now.trace.now l (location_at trace.now.trace.now e) (writes_at trace.now.trace.now.events e)) }
     {
         let text = trace.trace.location(e);
         let writes = trace.events.op(e).is_write();
-        if let Some(l) = self.recent(trace, text, writes, thread) {
-            return Ok(l);
-        }
         let hash = hash_of(text, writes);
         if let Some(l) = self.noted(trace, text, writes, hash) {
-            self.keep(thread, l);
             return Ok(l);
         }
         self.hints.insert(hash, e)?;
-        self.keep(thread, e);
         Ok(e)
     }
 
@@ -204,7 +170,7 @@ impl Locations {
         if let Some(l) = self.kept(trace, slot, op, line) {
             return Ok(l);
         }
-        let l = self.look(trace, e, thread)?;
+        let l = self.look(trace, e)?;
         self.note(slot, e, l);
         Ok(l)
     }
