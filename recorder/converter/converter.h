@@ -2,11 +2,11 @@
 #include <stddef.h>
 #include <stdint.h>
 #include "../record.h"
+#include "windows.h"
 
 typedef uint64_t u64;
 typedef uint32_t u32;
 enum { THREADS = 65536 };
-typedef struct { const char *at; u64 length; } part;         /* of a text, without an end of its own */
 
 /* tables.c: arrays that grow, and maps from two words to a number from 1, in the order of asking. */
 typedef struct { u64 a, b; u32 value; } map_entry;
@@ -107,3 +107,4 @@ part name_of_thread(u32 t);
 part variable_name(u64 address, const block *b);             /* it stands until the next call */
 void event(u32 t, const char *operation, part name, const char *tail, u64 caller);
 void hold_event(u32 t, const char *operation, part name, const char *tail, u64 caller);          /* orders no thread */
+void write_lines(void);                /* the last of the trace */

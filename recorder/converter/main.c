@@ -11,7 +11,6 @@
 #include <string.h>
 #include <unistd.h>
 #include "converter.h"
-#include "windows.h"
 
 enum { SHB_THREADS = 1024, SHB_EVENTS = 4194304, NOT_WHOLE = 3 };   /* the status where the trace is a part of the run */
 #define MAX_RANGE_STEPS (1ull << 27)   /* in a pass: seconds */
@@ -108,6 +107,7 @@ static void prepare_windows(void) {
 
 static void end_trace(void) {
     if (windows_folder) end_windows();
+    write_lines();
     if (fflush(stdout) || ferror(stdout)) die("cannot write the trace: %s", strerror(errno));
     fprintf(stderr, "shb-std: %lu records, %u threads, %lu events", record_count, thread_count, events);
     if (windows_folder) fprintf(stderr, ", %lu windows", count_windows());
