@@ -141,14 +141,15 @@ void share_pieces(u64 i) {
 /* The same read, by the same thread at the same place under the same locks, with no write of the variable since, and
    nothing since by which the thread could order another: all that it conflicts with, and all that it orders, the first
    does too. */
-static int repeats(u64 i, u32 number) {
+static int repeats(u64 i, use u, u32 number) {
     enum { RECENT = 1 << 18 };
-    typedef struct { u64 caller_and_thread, epoch, locks; u32 piece, writes; } read;
-    static read recent[RECENT];
-    u64 t = thread_of(i);
-    read this = {caller_of(i) | t << 48, thread_epoch(t) + 1, held_locks(t), number, piece_of(number)->writes};
-    read *last = &recent[mix(number, this.caller_and_thread) & (RECENT - 1)];
-    int same = !memcmp(last, &this, sizeof this);
+    typedef struct { u64 site, epoch, locks; u32 piece, writes; } read;
+    static read *recent;
+    if (!recent) recent = zeroed(RECENT, sizeof *recent);
+    read this = {caller_of(i) | (u64)u.thread << 48, thread_epoch(u.thread) + 1, held_locks(u.thread), number, piece_of(number)->writes};
+    read *last = &recent[(mix(this.site, 0) + number) & (RECENT - 1)];           /* neighbours stand side by side */
+    int same = last->site == this.site && last->piece == number && last->writes == this.writes && last->epoch == this.epoch
+        && last->locks == this.locks;
     *last = this;
     return same && !whole_trace;
 }
@@ -167,7 +168,7 @@ static void piece_events(u64 i, use u, u32 number) {
     u32 t = u.thread;
     int shared = users->many_users && users->written;
     if (!shared && !u.writes_atomically && !users->written_atomically && !whole_trace) return;
-    if (!u.writes && !u.writes_atomically && repeats(i, number)) return;
+    if (!u.writes && !u.writes_atomically && repeats(i, u, number)) return;
     piece *p = piece_of(number);
     if (shared || whole_trace) event(t, u.writes ? "w" : "r", variable_name(p->at, block_of(p->block)), "", caller_of(i));
     if (u.writes) p->writes++;
