@@ -16,11 +16,11 @@ void add_to_list(u32 *list, u32 thread) {
 
 static u64 end_of(u64 i) { return address_of(i) + accessed_bytes(i); }
 
-/* What the passes know of each record, for the next: after the first, the block in which its access begins, plus one;
-   after the second, the same where the block isn't of one thread alone; after the third, the number of its only piece, or
-   where the runs of several begin, with a mark; else 0. */
-#define SEVERAL (1u << 31)
-static u32 *known;
+/* What the passes know of each record, for the next. After the first: the block in which its access begins, plus one; after
+   the second, the same where the block isn't of one thread alone. After the third, the number of its only piece, or where
+   the runs of several begin, with the mark. Without an access 0, or the mark alone where the record means more than that. */
+#define MARK (1u << 31)
+u32 *known;
 
 /* ---- 1: users of blocks; a range over several is shared, to be cut at their bounds ---- */
 static void use_block(block *b, u32 t, int with_others) {
@@ -29,12 +29,18 @@ static void use_block(block *b, u32 t, int with_others) {
     if (b->user != t + 1 || with_others) b->many_users = 1;
 }
 
+static int means_more(u64 i) {
+    enum operation operation = operation_of(i);
+    return operation > OP_WRITE && operation != OP_FREE && operation != OP_USE && operation != OP_DESTROY;
+}
+
 void find_users(u64 i) {
     u64 end = end_of(i);
     if (!known) known = zeroed(record_count, sizeof *known);
+    known[i] = means_more(i) ? MARK : 0;
     if (end == address_of(i)) return;
     block *first = block_at(address_of(i));
-    known[i] = block_number(first) + 1;
+    known[i] |= block_number(first) + 1;
     if (in_one_grain(address_of(i), end)) use_block(first, thread_of(i), 0);
     else for (u64 at = address_of(i); at < end; at = next_cut(at, end)) {
         block *b = block_at(at);
@@ -45,10 +51,12 @@ void find_users(u64 i) {
 
 /* ---- 2: cuts ---- */
 void find_cuts(u64 i) {
-    if (!known[i]) return;
-    block *b = block_of(known[i] - 1);
-    if (b && !b->many_users && !whole_trace) known[i] = 0;
+    u32 begins_in = known[i] & ~MARK;
+    if (!begins_in) return;
+    block *b = block_of(begins_in - 1);
+    if (b && !b->many_users && !whole_trace) known[i] &= MARK;
     else {
+        note_caller(caller_of(i));
         cut(address_of(i));
         if (operation_of(i) != OP_FREE) cut(end_of(i));
     }
@@ -102,7 +110,7 @@ static void add_to_runs(u64 from, const u32 *numbers, u32 count) {
         run *last = run_count > from ? &runs[run_count - 1] : 0;
         if (last && last->first + last->count == *numbers) last->count += length;
         else {
-            if (run_count == SEVERAL) die("out of memory");
+            if (run_count == MARK - 1) die("out of memory");
             GROW(runs, run_count, run_capacity);
             runs[run_count++] = (run){*numbers, length};
         }
@@ -110,7 +118,7 @@ static void add_to_runs(u64 from, const u32 *numbers, u32 count) {
 }
 
 void share_pieces(u64 i) {
-    if (!known[i]) return;
+    if (!(known[i] & ~MARK)) return;
     u64 at = address_of(i), end = end_of(i), from = run_count;
     use u = use_of(i);
     u32 count, *numbers = pieces_at(&at, end, &count);
@@ -119,28 +127,29 @@ void share_pieces(u64 i) {
         share_piece(u, *numbers);
         return;
     }
-    known[i] = SEVERAL | from;
+    known[i] = MARK | (from + 1);
     add_to_runs(from, numbers, count);
     while (at < end) {
         numbers = pieces_at(&at, end, &count);
         add_to_runs(from, numbers, count);
     }
     for (u64 k = from; k < run_count; k++) share_run(u, &runs[k]);
-    runs[run_count - 1].count |= SEVERAL;
+    runs[run_count - 1].count |= MARK;
 }
 
 /* ---- 4: events ---- */
 /* The same read, by the same thread at the same place under the same locks, with no write of the variable since, and
    nothing since by which the thread could order another: all that it conflicts with, and all that it orders, the first
    does too. */
-static int repeats(u64 i, u32 number) {
+static int repeats(u64 i, use u, u32 number) {
     enum { RECENT = 1 << 18 };
-    typedef struct { u64 caller_and_thread, epoch, locks; u32 piece, writes; } read;
-    static read recent[RECENT];
-    u64 t = thread_of(i);
-    read this = {caller_of(i) | t << 48, thread_epoch(t) + 1, held_locks(t), number, piece_of(number)->writes};
-    read *last = &recent[mix(number, this.caller_and_thread) & (RECENT - 1)];
-    int same = !memcmp(last, &this, sizeof this);
+    typedef struct { u64 site, epoch, locks; u32 piece, writes; } read;
+    static read *recent;
+    if (!recent) recent = zeroed(RECENT, sizeof *recent);
+    read this = {caller_of(i) | (u64)u.thread << 48, thread_epoch(u.thread) + 1, held_locks(u.thread), number, piece_of(number)->writes};
+    read *last = &recent[(mix(this.site, 0) + number) & (RECENT - 1)];           /* neighbours stand side by side */
+    int same = last->site == this.site && last->piece == number && last->writes == this.writes && last->epoch == this.epoch
+        && last->locks == this.locks;
     *last = this;
     return same && !whole_trace;
 }
@@ -159,7 +168,7 @@ static void piece_events(u64 i, use u, u32 number) {
     u32 t = u.thread;
     int shared = users->many_users && users->written;
     if (!shared && !u.writes_atomically && !users->written_atomically && !whole_trace) return;
-    if (!u.writes && !u.writes_atomically && repeats(i, number)) return;
+    if (!u.writes && !u.writes_atomically && repeats(i, u, number)) return;
     piece *p = piece_of(number);
     if (shared || whole_trace) event(t, u.writes ? "w" : "r", variable_name(p->at, block_of(p->block)), "", caller_of(i));
     if (u.writes) p->writes++;
@@ -174,15 +183,15 @@ static void piece_events(u64 i, use u, u32 number) {
 
 void access_events(u64 i) {
     u32 found = known[i];
-    if (!found) return;
+    if (!(found & ~MARK)) return;
     use u = use_of(i);
-    if (!(found & SEVERAL)) {
+    if (!(found & MARK)) {
         piece_events(i, u, found);
         return;
     }
-    for (const run *r = &runs[found - SEVERAL];; r++) {
-        u32 end = r->first + (r->count & ~SEVERAL);
+    for (const run *r = &runs[(found & ~MARK) - 1];; r++) {
+        u32 end = r->first + (r->count & ~MARK);
         for (u32 number = r->first; number < end && !cut_reason; number++) piece_events(i, u, number);
-        if (r->count & SEVERAL) return;
+        if (r->count & MARK) return;
     }
 }

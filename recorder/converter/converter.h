@@ -2,11 +2,11 @@
 #include <stddef.h>
 #include <stdint.h>
 #include "../record.h"
+#include "windows.h"
 
 typedef uint64_t u64;
 typedef uint32_t u32;
 enum { THREADS = 65536 };
-typedef struct { const char *at; u64 length; } part;         /* of a text, without an end of its own */
 
 /* tables.c: arrays that grow, and maps from two words to a number from 1, in the order of asking. */
 typedef struct { u64 a, b; u32 value; } map_entry;
@@ -22,9 +22,10 @@ u32 map_number(map *m, u64 a, u64 b);
 u64 mix(u64 a, u64 b);
 
 /* records.c: the record. */
-extern u64 record_count;
+extern u64 record_count;               /* before the first pass: no more than these */
 extern const char *recording_cut;      /* why the record is not that of the whole run; or null */
 void open_record(const char *path);
+int is_record(u64 i);                  /* in the first pass; after it there are `record_count` */
 enum { RECORDS_AT_ONCE = 1 << 20 };    /* a multiple of a page's; so many are in memory at a time */
 void forget_records(u64 from, u64 end);
 enum operation operation_of(u64 i);
@@ -75,6 +76,7 @@ piece_use *use_of_piece(u32 number);
 
 /* accesses.c, objects.c: what the passes do with a record. */
 extern int whole_trace;                /* also what cannot conflict */
+extern u32 *known;                     /* of each record: 0 where the passes that follow pass over it (accesses.c) */
 void find_users(u64 i);
 void find_cuts(u64 i);
 void share_pieces(u64 i);
@@ -105,3 +107,4 @@ part name_of_thread(u32 t);
 part variable_name(u64 address, const block *b);             /* it stands until the next call */
 void event(u32 t, const char *operation, part name, const char *tail, u64 caller);
 void hold_event(u32 t, const char *operation, part name, const char *tail, u64 caller);          /* orders no thread */
+void write_lines(void);                /* the last of the trace */

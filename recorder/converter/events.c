@@ -3,7 +3,6 @@
 #include <stdio.h>
 #include <string.h>
 #include "converter.h"
-#include "windows.h"
 
 enum { SHB_EVENTS = 4194304, SHB_LINE = 4096, SHB_BYTES = 1 << 30 };
 
@@ -11,7 +10,7 @@ u64 event_limit = SHB_EVENTS, events;
 int into_windows;
 const char *cut_reason;
 static u64 bytes;
-static struct { char name[THREAD_BYTES]; u32 length; u64 epoch; } threads[THREADS];
+static struct { char name[THREAD_BYTES]; u32 length, in_windows; u64 epoch; } threads[THREADS];   /* in_windows: its number there */
 
 void name_thread(u32 t, u64 function) {
     char of_function[60];
@@ -33,12 +32,20 @@ const char *thread_name(u32 t) { return name_of_thread(t).at; }
 u64 thread_epoch(u32 t) { return threads[t].epoch; }
 
 /* ---- texts: each adds to what is written before `to`, and gives where the next may stand ---- */
-static char *add(char *to, part text) {
-    memcpy(to, text.at, text.length);
-    return to + text.length;
+/* Most are short: a few words, copied where they stand, cost less than a call. */
+static inline char *add(char *to, part text) {
+    u64 n = text.length;
+    if (n >= 8 && n <= 16) {
+        memcpy(to, text.at, 8);
+        memcpy(to + n - 8, text.at + n - 8, 8);
+    } else if (n > 16 && n <= 32) {
+        memcpy(to, text.at, 16);
+        memcpy(to + n - 16, text.at + n - 16, 16);
+    } else memcpy(to, text.at, n);
+    return to + n;
 }
 
-static char *add_text(char *to, const char *text) {
+static inline char *add_text(char *to, const char *text) {
     while (*text) *to++ = *text++;
     return to;
 }
@@ -51,14 +58,28 @@ static inline char *add_number(char *to, u64 number, u64 base) {
 }
 
 /* ---- names of variables ---- */
+/* "file.c:12#3": the short ones of recent blocks are in a table. */
+static char *add_block(char *to, const block *b) {
+    enum { RECENT = 4096, SHORT = 56 };
+    static struct { u32 block, length; char name[SHORT]; } recent[RECENT];
+    u32 number = block_number(b), at = number & (RECENT - 1);
+    if (recent[at].block == number) return add(to, (part){recent[at].name, recent[at].length});
+    char *end = add(to, place_of(b->caller));
+    *end++ = '#';
+    end = add_number(end, number, 10);
+    if (end - to > SHORT) return end;
+    recent[at].block = number;
+    recent[at].length = end - to;
+    memcpy(recent[at].name, to, end - to);
+    return end;
+}
+
 static char *add_block_name(char *to, u64 address, const block *b) {
     if (b->stack) {
         to = add(add_text(to, "stack."), name_of_thread(b->thread));
         return add_number(add_text(to, "-0x"), b->at + b->size - address, 16);
     }
-    to = add(to, place_of(b->caller));
-    *to++ = '#';
-    to = add_number(to, block_number(b), 10);
+    to = add_block(to, b);
     if (address == b->at) return to;
     *to++ = '+';
     return add_number(to, address - b->at, 10);
@@ -94,8 +115,16 @@ part variable_name(u64 address, const block *b) {
 }
 
 /* ---- events ---- */
-void hold_event(u32 t, const char *operation, part name, const char *tail, u64 caller) {
-    char line[SHB_LINE], *to = line;
+/* The lines of the trace, until they are many. */
+static char lines[1 << 16];
+static u64 lines_bytes;
+
+void write_lines(void) {
+    fwrite_unlocked(lines, 1, lines_bytes, stdout);
+    lines_bytes = 0;
+}
+
+static char *add_line(char *to, u32 t, const char *operation, part name, const char *tail, part place) {
     to = add(to, name_of_thread(t));
     *to++ = '|';
     to = add_text(to, operation);
@@ -103,20 +132,40 @@ void hold_event(u32 t, const char *operation, part name, const char *tail, u64 c
     to = add(to, name);
     to = add_text(to, tail);
     to = add_text(to, ")|");
-    to = add(to, place_of(caller));
+    to = add(to, place);
     *to++ = '\n';
+    return to;
+}
+
+static enum window_kind kind_of(const char *operation) {
+    if (!operation[1]) return WINDOW_ACCESS;
+    return *operation == 'a' ? WINDOW_ACQUIRE : *operation == 'r' ? WINDOW_RELEASE : *operation == 'f' ? WINDOW_FORK : WINDOW_JOIN;
+}
+
+static void event_in_window(u32 t, const char *operation, part name, const char *tail, part place) {
+    char line[SHB_LINE], *end = add_line(line, t, operation, name, tail, place);
+    part thread = name_of_thread(t);
+    if (!threads[t].in_windows) threads[t].in_windows = window_thread(thread.at, thread.length);
+    const char *operand = line + thread.length + strlen(operation) + 2;
+    const char *fault = window_event(line, end - line - 1, kind_of(operation), threads[t].in_windows,
+                                     (part){operand, end - operand - place.length - 3}, place);
+    if (fault) die("event %lu, %.*s: %s", events + 1, (int)(end - line - 1), line, fault);
+    events++;
+}
+
+void hold_event(u32 t, const char *operation, part name, const char *tail, u64 caller) {
     if (into_windows) {
-        const char *fault = window_line(line, to - line);
-        if (fault) die("event %lu, %.*s: %s", events + 1, (int)(to - line - 1), line, fault);
-        events++;
+        event_in_window(t, operation, name, tail, place_of(caller));
         return;
     }
+    if (lines_bytes > sizeof lines - SHB_LINE) write_lines();
+    char *line = lines + lines_bytes, *end = add_line(line, t, operation, name, tail, place_of(caller));
     if (events == event_limit) cut_reason = "at the limit of events";
-    else if (bytes + (to - line) > SHB_BYTES) cut_reason = "at 1 GiB of text";
+    else if (bytes + (end - line) > SHB_BYTES) cut_reason = "at 1 GiB of text";
     if (cut_reason) return;
     events++;
-    bytes += to - line;
-    fwrite_unlocked(line, 1, to - line, stdout);
+    bytes += end - line;
+    lines_bytes += end - line;
 }
 
 /* `name` and `tail` may lie in buffers that the writing of another event uses. */
@@ -128,5 +177,5 @@ void event(u32 t, const char *operation, part name, const char *tail, u64 caller
         write_holds(t);
         hold_event(t, operation, (part){own_name, name.length}, own_tail, caller);
     } else hold_event(t, operation, name, tail, caller);
-    if (strcmp(operation, "r")) threads[t].epoch++;
+    if (*operation != 'r' || operation[1]) threads[t].epoch++;
 }

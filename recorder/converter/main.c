@@ -11,18 +11,19 @@
 #include <string.h>
 #include <unistd.h>
 #include "converter.h"
-#include "windows.h"
 
 enum { SHB_THREADS = 1024, SHB_EVENTS = 4194304, NOT_WHOLE = 3 };   /* the status where the trace is a part of the run */
 #define MAX_RANGE_STEPS (1ull << 27)   /* in a pass: seconds */
 
 static u32 thread_count = 1;
 
-static void find_threads_and_cuts(u64 i) {
+static void meet_record(u64 i) {
+    enum operation operation = operation_of(i);
+    find_users(i);
+    if (operation == OP_READ || operation == OP_WRITE) return;
+    if (operation == OP_FENCE) has_fences = 1;
+    if (operation == OP_FORK && address_of(i) >= thread_count) thread_count = address_of(i) + 1;
     note_caller(caller_of(i));
-    if (operation_of(i) == OP_FENCE) has_fences = 1;
-    if (operation_of(i) == OP_FORK && address_of(i) >= thread_count) thread_count = address_of(i) + 1;
-    find_cuts(i);
 }
 
 static void find_sharing(u64 i) {
@@ -45,10 +46,16 @@ static void write_events(u64 i) {
 /* A record of ranges so long and so many that no pass would end soon is cut: its beginning is a record too. */
 static const char *shortened;
 
-static void pass(void (*step)(u64)) {
+/* One step with each record that is of use. Inline, for a step that is called by its address costs more than most do. */
+static inline __attribute__((always_inline)) void pass(void (*step)(u64), int is_first) {
     begin_memory_pass();
     for (u64 i = 0; i < record_count && !cut_reason; i++) {
         if (i && i % RECORDS_AT_ONCE == 0) forget_records(i - RECORDS_AT_ONCE, i);
+        if (!is_first && !known[i]) continue;
+        if (is_first && !is_record(i)) {
+            record_count = i;
+            break;
+        }
         if (operation_of(i) == OP_SIZE) continue;
         meet_block(i);
         step(i);
@@ -100,6 +107,7 @@ static void prepare_windows(void) {
 
 static void end_trace(void) {
     if (windows_folder) end_windows();
+    write_lines();
     if (fflush(stdout) || ferror(stdout)) die("cannot write the trace: %s", strerror(errno));
     fprintf(stderr, "shb-std: %lu records, %u threads, %lu events", record_count, thread_count, events);
     if (windows_folder) fprintf(stderr, ", %lu windows", count_windows());
@@ -110,12 +118,12 @@ int main(int count, char **words) {
     read_words(count, words);
     open_record(words[optind]);
     if (windows_folder) prepare_windows();
-    pass(find_users);
-    pass(find_threads_and_cuts);
+    pass(meet_record, 1);
+    pass(find_cuts, 0);
     find_places();
-    pass(find_sharing);
+    pass(find_sharing, 0);
     forget_states();
-    pass(write_events);
+    pass(write_events, 0);
     end_trace();
     if (!cut_reason) cut_reason = shortened;
     if (recording_cut) fprintf(stderr, "shb-std: the recording is not the whole run: %s\n", recording_cut);

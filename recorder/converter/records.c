@@ -11,6 +11,7 @@ enum { MAX_FREED = 1024 };
 #define MAX_SIZE (1ull << 36)
 
 static struct record *records;
+static const char *record_path;
 u64 record_count;
 
 enum operation operation_of(u64 i) { return records[i].what >> 48 & 63; }
@@ -28,6 +29,12 @@ static int is_good(u64 i) {
     if (operation == OP_SIZE) return i > 0 && size_follows(i - 1) && !size_follows(i);
     if (size_follows(i) && (operation_of(i + 1) != OP_SIZE || size_of(i) >= MAX_SIZE)) return 0;
     return (operation != OP_FORK && operation != OP_JOIN) || address_of(i) < THREADS;
+}
+
+int is_record(u64 i) {
+    if (!records[i].what || (size_follows(i) && (i + 1 == record_count || !records[i + 1].what))) return 0;   /* or is cut in two */
+    if (!is_good(i)) die("record %lu of %s is damaged", i + 1, record_path);
+    return 1;
 }
 
 static char *map_file(const char *path, u64 *size) {
@@ -58,13 +65,8 @@ void open_record(const char *path) {
     char *file = map_file(path, &size);
     if (strncmp(file, RECORD_MAGIC, strlen(RECORD_MAGIC))) die("%s is no record", path);
     records = (struct record *)(file + HEADER_BYTES);
-    u64 most = (size - HEADER_BYTES) / sizeof *records;
-    for (u64 i = 0; i < most && records[i].what; i++) {
-        if (size_follows(i) && (i + 1 == most || !records[i + 1].what)) break;   /* it is cut in two */
-        if (!is_good(i)) die("record %lu of %s is damaged", i + 1, path);
-        if (i && i % RECORDS_AT_ONCE == 0) forget_records(i - RECORDS_AT_ONCE, i);
-        record_count = i + 1;
-    }
+    record_path = path;
+    record_count = (size - HEADER_BYTES) / sizeof *records;
     memcpy(header, file, HEADER_BYTES);
     note_how_it_ended(header + ENDED_AT);
     header[ENDED_AT] = 0;
@@ -106,9 +108,10 @@ static u64 freed_bytes(u64 address) {
 }
 
 u64 accessed_bytes(u64 i) {
-    switch (operation_of(i)) {
-    case OP_READ: case OP_WRITE: return size_of(i);
-    case OP_ATOMIC_LOAD: case OP_ATOMIC_STORE: case OP_ATOMIC_UPDATE: return size_of(i) & ((1 << ATOMIC_SIZE_BITS) - 1);
+    enum operation operation = operation_of(i);
+    if (operation == OP_READ || operation == OP_WRITE) return size_of(i);
+    if (is_atomic(i)) return size_of(i) & ((1 << ATOMIC_SIZE_BITS) - 1);
+    switch (operation) {
     case OP_FREE: return freed_bytes(address_of(i));
     case OP_DESTROY: return 1;
     default: return uses_object(i);

@@ -8,7 +8,6 @@
 #include <sys/stat.h>
 #include <unistd.h>
 #include "converter.h"
-#include "windows.h"
 
 enum { SHB_LINE = 4096, SHB_THREADS = 1024, SHB_BYTES = 1 << 30, HALF_THREADS = SHB_THREADS / 2, HALF_BYTES = SHB_BYTES / 2 };
 
@@ -63,7 +62,7 @@ static hold *holds;                    /* from 1; in a list in the order of the 
 static u64 thread_capacity, lock_capacity, hold_count, hold_capacity;
 static u32 oldest, newest, free_holds;
 
-static u32 thread_number(const char *text, u64 length) {
+u32 window_thread(const char *text, u64 length) {
     static u32 last;
     name *known = last ? &thread_names.list[last - 1] : 0;
     if (known && known->length == length && !memcmp(known->text, text, length)) return last;
@@ -115,16 +114,25 @@ static void end_hold(u32 l) {
 }
 
 /* ---- windows ---- */
+enum { BUFFER_BYTES = 1 << 16 };
 typedef struct { u64 first, last, added; } window;
 static char folder[PATH_MAX - 40];
 static window *windows;
 static u64 window_count, window_capacity;
 static FILE *older, *newer;            /* of the two windows that the present half is in */
+static char lines[BUFFER_BYTES];       /* of it, until they are many */
+static u64 lines_bytes;
 static u64 half_events, half_bytes, half_threads, halves, most_in_half, events_so_far;
 
 static void window_path(char *path, u64 number) { snprintf(path, PATH_MAX, "%s/window-%04lu.std", folder, number); }
 
 static void cannot_write(void) { die("cannot write to %s: %s", folder, strerror(errno)); }
+
+static void write_lines_of_half(void) {
+    fwrite_unlocked(lines, 1, lines_bytes, newer);
+    if (older) fwrite_unlocked(lines, 1, lines_bytes, older);
+    lines_bytes = 0;
+}
 
 static void end_file(FILE *file) {
     if (file && (fflush(file) || ferror(file))) cannot_write();
@@ -152,6 +160,7 @@ static void write_hold(const hold *h) {
 static void begin_half(void) {
     char path[PATH_MAX];
     if (window_count > 1) windows[window_count - 2].last = events_so_far;
+    if (newer) write_lines_of_half();
     end_file(older);
     older = newer;
     halves++;
@@ -172,11 +181,10 @@ static int fits(u64 length, u32 t, u32 other) {
 static void write_line(const char *line, u64 length, u32 t, u32 other) {
     if (!fits(length + 1, t, other)) begin_half();
     if (!fits(length + 1, t, other)) die("a window has no room for the locks that are held at event %lu", events_so_far + 1);
-    FILE *in[] = {newer, older};
-    for (int i = 0; i < 2 && in[i]; i++) {
-        fwrite_unlocked(line, 1, length, in[i]);
-        putc_unlocked('\n', in[i]);
-    }
+    if (lines_bytes + length + 1 > BUFFER_BYTES) write_lines_of_half();
+    memcpy(lines + lines_bytes, line, length);
+    lines[lines_bytes + length] = '\n';
+    lines_bytes += length + 1;
     count_thread(t);
     if (other) count_thread(other);
     half_events++;
@@ -197,6 +205,7 @@ void begin_windows(const char *folder_, u64 most_events) {
 /* The last window that was begun has one half, which the one before has too; its file goes, and those of an earlier call. */
 static void end_last_window(void) {
     char path[PATH_MAX];
+    write_lines_of_half();
     end_file(older);
     end_file(newer);
     if (window_count > 1) window_count--;
@@ -219,16 +228,15 @@ void end_windows(void) {
 u64 count_windows(void) { return window_count; }
 
 /* ---- one line: what shb would say of it, and what it does ---- */
-enum kind { ACCESS, ACQUIRE, RELEASE, FORK, JOIN, MARK, UNKNOWN };
-static int is(part p, const char *word) { return p.length == strlen(word) && !memcmp(p.at, word, p.length); }
+static inline int is(part p, const char *word) { return p.length == strlen(word) && !memcmp(p.at, word, strlen(word)); }
 
-static enum kind kind_of(part word) {
-    if (is(word, "r") || is(word, "w")) return ACCESS;
-    if (is(word, "acq")) return ACQUIRE;
-    if (is(word, "rel")) return RELEASE;
-    if (is(word, "fork")) return FORK;
-    if (is(word, "join")) return JOIN;
-    return is(word, "begin") || is(word, "end") ? MARK : UNKNOWN;
+static enum window_kind kind_of(part word) {
+    if (is(word, "r") || is(word, "w")) return WINDOW_ACCESS;
+    if (is(word, "acq")) return WINDOW_ACQUIRE;
+    if (is(word, "rel")) return WINDOW_RELEASE;
+    if (is(word, "fork")) return WINDOW_FORK;
+    if (is(word, "join")) return WINDOW_JOIN;
+    return is(word, "begin") || is(word, "end") ? WINDOW_MARK : WINDOW_UNKNOWN;
 }
 
 /* The part before the first such byte; `rest` gets what is behind that. */
@@ -240,7 +248,8 @@ static part before(part p, char byte, part *rest) {
 }
 
 /* An event: its thread, its operation, and the lock that it takes or releases or the thread that it forks or joins. */
-typedef struct { enum kind kind; u32 t, lock, other; part place; } operation;
+static const char too_long[] = "the line is longer than 4096 bytes";
+typedef struct { enum window_kind kind; u32 t, lock, other; part place; } operation;
 
 static const char *fork_fault(u32 t, u32 child) {
     if (t == child) return "a thread cannot fork itself";
@@ -252,18 +261,25 @@ static const char *fork_fault(u32 t, u32 child) {
 static const char *fault_of(operation o) {
     u32 holder = o.lock ? locks[o.lock].holder : 0;
     if (threads[o.t].joined) return "the thread was joined before";
-    if (o.kind == ACQUIRE && holder && holder != o.t) return "the lock is held by another thread";
-    if (o.kind == RELEASE && holder != o.t) return "the lock is not held by this thread";
-    if (o.kind == FORK) return fork_fault(o.t, o.other);
-    return o.kind == JOIN && o.other == o.t ? "a thread cannot join itself" : 0;
+    if (o.kind == WINDOW_ACQUIRE && holder && holder != o.t) return "the lock is held by another thread";
+    if (o.kind == WINDOW_RELEASE && holder != o.t) return "the lock is not held by this thread";
+    if (o.kind == WINDOW_FORK) return fork_fault(o.t, o.other);
+    return o.kind == WINDOW_JOIN && o.other == o.t ? "a thread cannot join itself" : 0;
 }
 
 static void take(operation o) {
     threads[o.t].started = 1;
-    if (o.kind == ACQUIRE) add_hold(o.t, o.lock, o.place.at, o.place.length);
-    if (o.kind == RELEASE) end_hold(o.lock);
-    if (o.kind == FORK) threads[o.other].forked = 1;
-    if (o.kind == JOIN) threads[o.other].joined = 1;
+    if (o.kind == WINDOW_ACQUIRE) add_hold(o.t, o.lock, o.place.at, o.place.length);
+    if (o.kind == WINDOW_RELEASE) end_hold(o.lock);
+    if (o.kind == WINDOW_FORK) threads[o.other].forked = 1;
+    if (o.kind == WINDOW_JOIN) threads[o.other].joined = 1;
+}
+
+static operation operation_of_parts(enum window_kind kind, u32 t, part operand, part place) {
+    operation o = {.kind = kind, .t = t, .place = place};
+    if (kind == WINDOW_ACQUIRE || kind == WINDOW_RELEASE) o.lock = lock_number(operand.at, operand.length);
+    if (kind == WINDOW_FORK || kind == WINDOW_JOIN) o.other = window_thread(operand.at, operand.length);
+    return o;
 }
 
 /* The fields of a line without its end; what is wrong with them comes in the order in which shb answers it. */
@@ -272,28 +288,35 @@ static const char *read_fields(part all, operation *found) {
     part word = before(whole, '(', &operand);
     if (name.length == all.length) return "the line has no operation field";
     if (!name.length) return "the thread name is empty";
-    enum kind kind = kind_of(word);
-    if (kind == UNKNOWN) return "the operation is not known";
+    enum window_kind kind = kind_of(word);
+    if (kind == WINDOW_UNKNOWN) return "the operation is not known";
     int closed = operand.length && operand.at[operand.length - 1] == ')';
     int bare = word.length == whole.length;
-    if (kind == MARK ? !bare && !closed : !closed || operand.length < 2) return "the operand is not a name in parentheses";
+    if (kind == WINDOW_MARK ? !bare && !closed : !closed || operand.length < 2) return "the operand is not a name in parentheses";
     operand.length -= closed;
-    *found = (operation){.kind = kind, .t = thread_number(name.at, name.length), .place = place};
-    if (kind == ACQUIRE || kind == RELEASE) found->lock = lock_number(operand.at, operand.length);
-    if (kind == FORK || kind == JOIN) found->other = thread_number(operand.at, operand.length);
+    *found = operation_of_parts(kind, window_thread(name.at, name.length), operand, place);
     return 0;
+}
+
+static const char *add_operation(const char *line, u64 length, operation o) {
+    const char *fault = fault_of(o);
+    if (fault) return fault;
+    write_line(line, length, o.t, o.other);
+    take(o);
+    return 0;
+}
+
+const char *window_event(const char *line, u64 length, enum window_kind kind, u32 thread, part operand, part place) {
+    if (length > SHB_LINE) return too_long;
+    return add_operation(line, length, operation_of_parts(kind, thread, operand, place));
 }
 
 const char *window_line(const char *line, u64 length) {
     operation o;
     part all = {line, length - (length && line[length - 1] == '\n')};
-    if (all.length > SHB_LINE) return "the line is longer than 4096 bytes";
+    if (all.length > SHB_LINE) return too_long;
     all.length -= all.length && line[all.length - 1] == '\r';
     if (!all.length) return 0;
     const char *fault = read_fields(all, &o);
-    if (!fault) fault = fault_of(o);
-    if (fault) return fault;
-    write_line(line, all.length, o.t, o.other);
-    take(o);
-    return 0;
+    return fault ? fault : add_operation(line, all.length, o);
 }

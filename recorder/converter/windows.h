@@ -7,7 +7,13 @@
 #include <stddef.h>
 #include <stdint.h>
 
+typedef struct { const char *at; uint64_t length; } part;    /* of a text, without an end of its own */
+enum window_kind { WINDOW_ACCESS, WINDOW_ACQUIRE, WINDOW_RELEASE, WINDOW_FORK, WINDOW_JOIN, WINDOW_MARK, WINDOW_UNKNOWN };
+
 void begin_windows(const char *folder, uint64_t most_events);        /* in a window */
 const char *window_line(const char *line, size_t length);            /* gives what is wrong with it, in shb's words, or null */
+/* The same of a line without its end whose parts are known: no need to look for them. */
+const char *window_event(const char *line, size_t length, enum window_kind kind, uint32_t thread, part operand, part place);
+uint32_t window_thread(const char *name, size_t length);     /* its number, from 1 */
 void end_windows(void);                /* ends the last window and writes the table of all, windows.tsv */
 uint64_t count_windows(void);

@@ -15,7 +15,7 @@ static int ends_copy(const thread *t, uint64_t size, uint64_t caller) {
 
 static void note_read(const void *p, uint64_t size, uint64_t caller) {
     thread *t = self;
-    if (!others || !size || !t || !enter(ends_copy(t, size, caller) ? NEVER_YIELD : MAY_YIELD)) return;
+    if (!others || !size || !t || !enter_access(ends_copy(t, size, caller) ? NEVER_YIELD : MAY_YIELD)) return;
     t->written = 0;
     put(t, OP_READ, p, size, caller);
     note_spin(t, read_at(p, caller));
@@ -23,7 +23,7 @@ static void note_read(const void *p, uint64_t size, uint64_t caller) {
 }
 
 static void note_write(void *p, uint64_t size, uint64_t caller) {
-    thread *t = others && size ? enter(MAY_YIELD) : 0;
+    thread *t = others && size ? enter_access(MAY_YIELD) : 0;
     if (!t) return;
     t->written = size;
     t->write_caller = caller;

@@ -23,6 +23,8 @@ static const char *most_is = "SHB_RECORDS is reached";      /* why there may be 
 static _Atomic uint64_t room;          /* records that the file has disk space for */
 static int file = -1;                  /* -1 also while the record is in memory */
 static char pattern[PATH_MAX];         /* the path of the record, as it was asked for */
+enum { COMMAND_BYTES = 1024 };
+static char command[COMMAND_BYTES];    /* its line of the header */
 
 /* ---- disk space: taken before it is written, for a full disk would be a SIGBUS at the write ---- */
 static int add_space(uint64_t from, uint64_t bytes) {
@@ -162,6 +164,29 @@ static void numbered(char *path) {     /* a program that execs keeps its number:
     }
 }
 
+/* The command line, in which nothing may look like a line of the header. */
+static void read_command(void) {
+    strcpy(command, "command ");
+    size_t at = strlen(command);
+    int f = open("/proc/self/cmdline", O_RDONLY | O_CLOEXEC);
+    ssize_t n = f < 0 ? 0 : read(f, command + at, sizeof command - at - 2);
+    if (f >= 0) close(f);
+    if (n > 0 && !command[at + n - 1]) n--;                  /* the end of the last word */
+    for (ssize_t i = 0; i < n; i++)
+        if ((unsigned char)command[at + i] < ' ') command[at + i] = ' ';
+    strcpy(command + at + (n > 0 ? n : 0), "\n");
+}
+
+/* Whose record stands in the file, where it isn't one of this command: a script that runs two would lose it in silence. */
+static void tell_what_is_replaced(const char *path) {
+    char text[sizeof RECORD_MAGIC + COMMAND_BYTES] = "", *line = text + strlen(RECORD_MAGIC);
+    if (pread(file, text, sizeof text - 1, 0) < 0 || strncmp(text, RECORD_MAGIC "command ", strlen(RECORD_MAGIC "command "))) return;
+    if (!strncmp(line, command, strlen(command))) return;
+    line[strcspn(line, "\n")] = 0;
+    fprintf(stderr, "shb recorder: in %s the record of another command is replaced (%s); %%p in the path gives each process a "
+            "record of its own\n", path, line + strlen("command "));
+}
+
 /* Opens the file and locks it: cut by a second process it would be a SIGBUS in the first. */
 static int open_file(void) {
     char path[PATH_MAX];
@@ -173,6 +198,7 @@ static int open_file(void) {
                 "each process a record of its own)\n", path);
         return 0;
     }
+    if (!has_number()) tell_what_is_replaced(path);
     if ((ftruncate(file, 0) && errno != EINVAL) || !add_space(0, HEADER_BYTES)) return refuse(path);
     return 1;
 }
@@ -187,27 +213,15 @@ static int map_record(void *at, int flags) {
     return 1;
 }
 
-/* The command line, in which nothing may look like a line of the header. */
-static void note_command(void) {
-    char line[1024] = "command ";
-    size_t at = strlen(line);
-    int f = open("/proc/self/cmdline", O_RDONLY | O_CLOEXEC);
-    ssize_t n = f < 0 ? 0 : read(f, line + at, sizeof line - at - 2);
-    if (f >= 0) close(f);
-    for (ssize_t i = 0; i < n; i++)
-        if ((unsigned char)line[at + i] < ' ') line[at + i] = ' ';
-    strcpy(line + at + (n > 0 ? n : 0), "\n");
-    note_text(line);
-}
-
 int open_recording(const char *path, uint64_t most) {
     if (!can_look_at_threads()) return 0;
     if (!fit_size_limit(&most) || !keep_path(path)) return refuse(path);
+    read_command();
     if (!open_file()) return 0;
     most_records = most;
     if (!map_record(0, MAP_SHARED)) return refuse(path);
     note_text(RECORD_MAGIC);
-    note_command();
+    note_text(command);
     return 1;
 }
 

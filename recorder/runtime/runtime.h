@@ -42,6 +42,7 @@ thread *new_thread(void);
 int number_thread(thread *t);
 thread *thread_of(pthread_t handle);
 thread *enter(enum yields yields);
+thread *enter_access(enum yields yields);                    /* to put one record, and nothing before */
 void leave(thread *t);
 void give_turn(thread *t);
 void take_turn(thread *t);

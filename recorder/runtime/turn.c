@@ -180,12 +180,18 @@ void take_turn(thread *t) {
 }
 
 /* ---- hooks ---- */
-thread *enter(enum yields yields) {
+/* Without the turn: put asks for it. */
+thread *enter_access(enum yields yields) {
     thread *t = self;
     if (!t || !recording || t->inside) return 0;
     t->inside = 1;
     if (--t->quantum <= 0 && yields && waiters) give_turn(t);
-    if (!keep_turn(t)) take_turn(t);
+    return t;
+}
+
+thread *enter(enum yields yields) {
+    thread *t = enter_access(yields);
+    if (t && !keep_turn(t)) take_turn(t);
     return t;
 }
 

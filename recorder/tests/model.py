@@ -1,7 +1,7 @@
 """The protocol of turn.c as a model, and a search through all interleavings of small programs.
 
 A program is a word for each thread; its letters are
-  h  a hook and the access after it                 s  a system call that sleeps, not wrapped
+  h  a hook of either kind and the access after it  s  a system call that sleeps, not wrapped
   b  a wrapped blocking call, recorded after it     c  a computation of more than 100 ms without a hook
   x  the end of the recording
 Properties, in every state:
@@ -94,9 +94,10 @@ class Step:
             return
         first = {"h": ("keep", ""), "b": ("give", "blocked"), "x": ("stop", ""), "s": ("away", ""), "c": ("away", "")}
         step, after = first[program[self.thread.at]]
-        yield self.to(step, after=after)
-        if step == "keep" and self.state.waiting:  # its quantum is used up
-            yield self.to("give", after="keep")
+        for step in ("keep", "put") if step == "keep" else (step,):  # enter; enter_access
+            yield self.to(step, after=after)
+            if step in ("keep", "put") and self.state.waiting:  # its quantum is used up
+                yield self.to("give", after=step)
 
     def away(self):
         yield self.to("next", at=self.thread.at + 1)
@@ -104,7 +105,7 @@ class Step:
     def blocked(self):
         yield self.to("take", after="put")
 
-    # keep_turn, in enter and in put
+    # keep_turn, in enter (enter_access has none) and in put
     def keep(self):
         yield from self.ask("put")
 

@@ -79,6 +79,18 @@ class Processes(recorder.Case):
         self.assertEqual(command_of(self.folder / "one.rec"), [os.fsencode(program)])
         self.assertEqual(racing_lines(self.folder / "one.rec", recorder.part), {"deadlock.c:9"})
 
+    def test_a_record_of_another_command_is_not_replaced_in_silence(self):
+        program, other, how = self.program("status.c"), self.program("mutex_ok.c"), self.settings("one.rec")
+        for words, replaced in (([program, "0", "race"], None), ([program, "0", "race"], None),  # a run again
+                                ([program, "5", "race"], b"/status 0 race"), ([other], b"/status 5 race")):
+            said = recorder.call(*words, env=how).stderr
+            if replaced is None:
+                self.assertEqual(said, b"")
+            else:
+                self.assertRegex(said, rb"^shb recorder: in \S+/one.rec the record of another command is replaced "
+                                 rb"\(\S*" + replaced + rb"\); %p in the path gives each process a record of its own\n$")
+            self.assertEqual(command_of(self.folder / "one.rec"), [os.fsencode(str(word)) for word in words])
+
     def test_a_library_in_cxx_loaded_by_a_program_in_c(self):
         library = self.program("plugin.cc", "-shared", "-fPIC", compiler="g++")
         program = self.program("plugin_host.c", "-ldl")

@@ -5,7 +5,6 @@
 #include <string.h>
 #include <unistd.h>
 #include "../converter/converter.h"
-#include "../converter/windows.h"
 
 enum { SHB_EVENTS = 4194304, REFUSED = 2, BAD_WORDS = 3, FAILED = 4, LINE_ROOM = 1 << 20 };
 
