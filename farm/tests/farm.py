@@ -28,6 +28,12 @@ class Answer(typing.NamedTuple):
     err: str
 
 
+def put_program(source, target, text=None):
+    """Copies a program by a process of its own: tests run side by side, and one that is just starting a program would
+    still hold a file that this process writes, which the system then refuses to run."""
+    subprocess.run(["install", "-m", "755", source, target], input=text, check=True)
+
+
 class Case(unittest.TestCase):
     """A test with a folder of its own, in which are the folders of traces and of outcomes."""
 
@@ -51,13 +57,13 @@ class Case(unittest.TestCase):
         """Runs a copy of the command from now on. No other part of the checkout is beside it, so a recorder that was built isn't."""
         self.command = self.folder / "alone" / "farm" / "shb-farm"
         shutil.copytree(HERE.parent, self.command.parent, ignore=shutil.ignore_patterns("tests", "__pycache__"))
+        put_program(HERE.parent / "shb-farm", self.command)
 
     def script(self, name, text):
         """An executable file."""
         path = self.folder / name
         path.parent.mkdir(parents=True, exist_ok=True)
-        path.write_text("#!/bin/sh\n" + text)
-        path.chmod(0o755)
+        put_program("/dev/stdin", path, ("#!/bin/sh\n" + text).encode())
         return path
 
     def counting(self):

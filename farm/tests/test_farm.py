@@ -200,7 +200,7 @@ class Installed(farm.Case):
             shutil.copytree(here / "shb_farm", root / package)
             for name, source in ((command, here / "shb-farm"), ("bin/shb", farm.SHB)):
                 (root / name).parent.mkdir(parents=True, exist_ok=True)
-                shutil.copy(source, root / name)
+                farm.put_program(source, root / name)
             link = self.folder / f"link-{root.name}"
             link.symlink_to(root / command)
             environment = {name: value for name, value in os.environ.items() if name not in ("SHB", "SHB_WINDOWS")}
