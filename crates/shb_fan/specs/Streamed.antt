@@ -33,6 +33,10 @@ module _ {T M : Type 0} where
   abbrev pub KnowsStop : Worker T M → Type 0
   KnowsStop worker = IsTrue worker.pass.halted ⊎ IsTrue worker.pass.seen
 
+  -- the pass was told that there is no more, or knows a stop
+  abbrev pub HasEnded : Worker T M → Type 0
+  HasEnded worker = IsTrue worker.pass.spent ⊎ KnowsStop worker
+
   -- the seat has lifted each of the first pieces
   abbrev pub HasLifted : Worker T M → ℕ → Type 0
   HasLifted worker count = (k : ℕ) → k < count → 0 < times k (lifted_of worker.seat)

@@ -9,9 +9,11 @@ use std::thread::{Threads, join_mut};
 pub(crate) trait WorkerSide<W> {
     ghost ready: { Self → W → Type 0 };
 
+    ghost has_worked: { Self → W → Type 0 };
+
     fn work<R: Wait>(&self, rt: &R, worker: &mut W)
         requires { ready self.now worker.old }
-        ensures { ready self.now worker.new };
+        ensures { has_worked self.now worker.new };
 }
 
 /// What the caller does with a taker `K` in the meantime, with what it has of its own, `O`.
@@ -30,16 +32,6 @@ pub(crate) trait CallerSide<O, K> {
         ensures own { leaves self.now result own.new };
 }
 
-/// The workers of one thread, one after the other.
-fn work_each<R: Wait, W, C: WorkerSide<W>>(rt: &R, side: &C, workers: &mut [W])
-    requires { All (C.ready side.now) workers.old }
-    ensures { (length workers.new ≡ length workers.old) × All (C.ready side.now) workers.new }
-{
-    for worker in workers.iter_mut() {
-        side.work(rt, worker);
-    }
-}
-
 /// Each worker works, at once with the others.
 #[cycle(halves)]
 fn work_all<R: Threads + Wait + Sync, W: Send, C: WorkerSide<W> + Sync>(
@@ -48,10 +40,13 @@ fn work_all<R: Threads + Wait + Sync, W: Send, C: WorkerSide<W> + Sync>(
     workers: &mut [W],
 )
     requires { All (C.ready side.now) workers.old }
-    ensures { (length workers.new ≡ length workers.old) × All (C.ready side.now) workers.new }
+    ensures { (length workers.new ≡ length workers.old) × All (C.has_worked side.now) workers.new }
 {
-    if workers.len() < 2 {
-        work_each(rt, side, workers);
+    if workers.is_empty() {
+        return;
+    }
+    if workers.len() == 1 {
+        side.work(rt, &mut workers[0]);
         return;
     }
     let (front, back) = workers.split_at_mut(workers.len() / 2);
@@ -67,16 +62,16 @@ fn both_halves<R: Threads + Wait + Sync, W: Send, C: WorkerSide<W> + Sync>(
 )
     requires front { (0 < length front.old) × All (C.ready side.now) front.old }
     requires back { (0 < length back.old) × All (C.ready side.now) back.old }
-    ensures front { (length front.new ≡ length front.old) × All (C.ready side.now) front.new }
-    ensures back { (length back.new ≡ length back.old) × All (C.ready side.now) back.new }
+    ensures front { (length front.new ≡ length front.old) × All (C.has_worked side.now) front.new }
+    ensures back { (length back.new ≡ length back.old) × All (C.has_worked side.now) back.new }
 {
     let mut left = ||
         requires { IsSync R.row × IsSync C.row × IsSend W.row × All (C.ready side.now) front.now }
-        ensures { (length front.exit.now ≡ length front.entry.now) × All (C.ready side.entry.now) front.exit.now }
+        ensures { (length front.exit.now ≡ length front.entry.now) × All (C.has_worked side.entry.now) front.exit.now }
     { work_all(rt, side, front) };
     let mut right = ||
         requires { IsSync R.row × IsSync C.row × IsSend W.row × All (C.ready side.now) back.now }
-        ensures { (length back.exit.now ≡ length back.entry.now) × All (C.ready side.entry.now) back.exit.now }
+        ensures { (length back.exit.now ≡ length back.entry.now) × All (C.has_worked side.entry.now) back.exit.now }
     { work_all(rt, side, back) };
     join_mut(rt, &mut left, &mut right);
 }
@@ -93,13 +88,13 @@ pub(crate) fn run_both_sides<
 >(rt: &R, side: &C, workers: &mut [W], caller: &L, own: &mut O, taker: &mut K) -> L::Answer
     requires ready { All (C.ready side.now) workers.old }
     requires own { L.can_take caller.now own.old taker.old }
-    ensures workers { (length workers.new ≡ length workers.old) × All (C.ready side.now) workers.new }
+    ensures workers { (length workers.new ≡ length workers.old) × All (C.has_worked side.now) workers.new }
     ensures answer { L.gives caller.now taker.old result taker.new }
     ensures own { L.leaves caller.now result own.new }
 {
     let mut work = ||
         requires { IsSync R.row × IsSync C.row × IsSend W.row × All (C.ready side.now) workers.now }
-        ensures { (length workers.exit.now ≡ length workers.entry.now) × All (C.ready side.entry.now) workers.exit.now }
+        ensures { (length workers.exit.now ≡ length workers.entry.now) × All (C.has_worked side.entry.now) workers.exit.now }
     { work_all(rt, side, workers) };
     let mut take = ||
         requires { L.can_take caller.now own.now taker.now }

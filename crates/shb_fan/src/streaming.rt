@@ -1,7 +1,7 @@
 //! Results in the order of their pieces, while others are computed.
 ghost use Rattle.std.specs.Prelude.{◌≡◌, ◌∷◌, ◌++◌, ◌+◌, ◌<◌, [], None, false, All, IfOk, IfErr, IfSome, IfNone, IsTrue, IsFalse, length};
 ghost use Rattle.shb_fan.specs.Seated.{IsSeatOf, job_of, claimed_of, placed_of, lifted_of};
-ghost use Rattle.shb_fan.specs.Streamed.{IsIdle, IsReady, HasWorked, HasAccounts, HasLifted, KnowsStop, CanWork, CanMake, CanTake, MayTake, Ended};
+ghost use Rattle.shb_fan.specs.Streamed.{IsIdle, IsReady, HasWorked, HasAccounts, HasLifted, HasEnded, KnowsStop, CanWork, CanMake, CanTake, MayTake, Ended};
 
 use crate::crew::{Desk, Worker};
 use crate::gate::Gate;
@@ -97,14 +97,15 @@ fn make<R: Wait, T: Drop, M, J: Job<Out = T, Meaning = M>, G: Gate>(
     true
 }
 
-/// Draws, runs and places pieces until there is no more, memory runs out, or a stop is seen.
+/// Draws, runs and places pieces, until there is no more, memory runs out or a stop is seen.
 fn work<R: Wait, T: Drop, M, J: Job<Out = T, Meaning = M>, G: Gate>(
     rt: &R,
     shared: &Shared<'_, T, M, J, G>,
     worker: &mut Worker<T, M>,
 )
     requires { CanWork J.value J.count shared.now worker.old }
-    ensures { CanWork J.value J.count shared.now worker.new }
+    ensures worked { CanWork J.value J.count shared.now worker.new }
+    ensures ended { HasEnded worker.new }
 {
     for _ in rt.forever() {
         let Some(k) = shared.desk.tickets.draw(&mut worker.pass) else {
@@ -231,9 +232,11 @@ fn take_all<R: Wait, T: Drop, M, J: Job<Out = T, Meaning = M>, G: Gate, E, K: Ta
 
 impl<'a, T: Drop, M, J: Job<Out = T, Meaning = M>, G: Gate> WorkerSide<Worker<T, M>>
     for Shared<'a, T, M, J, G> {
-    ghost use Rattle.shb_fan.specs.Streamed.{CanWork};
+    ghost use Rattle.shb_fan.specs.Streamed.{CanWork, HasEnded};
 
     ghost ready = { λ shared worker. CanWork J.value J.count shared worker };
+
+    ghost has_worked = { λ shared worker. CanWork J.value J.count shared worker × HasEnded worker };
 
     fn work<R: Wait>(&self, rt: &R, worker: &mut Worker<T, M>) {
         self.begun.store(true, Ordering::SeqCst);
@@ -297,6 +300,7 @@ fn work_and_take<
     ensures ended { Ended J.meaning (J.value gated.entry.job.now) K.takes K.refuses (J.count gated.entry.job.now) taker.old result taker.new }
     ensures workers { (length workers.new ≡ length workers.old)
         × All (HasWorked J.value J.count desk.now.tickets desk.now.ring) workers.new }
+    ensures worked { All HasEnded workers.new }
     ensures idle { IsIdle J.value J.count desk.now.tickets desk.now.ring caller.new.own }
     ensures all { IfOk result (λ _. HasAccounts caller.new.own × HasLifted caller.new.own (J.count gated.entry.job.now)) }
     ensures stopped { IfErr result (λ _. KnowsStop caller.new.own) }

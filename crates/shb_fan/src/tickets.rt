@@ -39,13 +39,27 @@ impl Model for Tickets {
         × (t.table.shared.key ≡ t.plan) × (0 < t.plan.passes) };
 }
 
-/// What is known once every pass has come back.
+/// What is known once every pass has come back. Only [`Tickets::close`] gives it.
 #[derive(Debug, Drop, Clone, Copy, PartialEq, Eq)]
 pub struct DrawEnd {
+    drawn: u64,
+    stopped: bool,
+}
+
+impl DrawEnd {
     /// The numbers that were drawn are those below it, each once.
-    pub drawn: u64,
+    pub fn drawn(self) -> u64
+        ensures { result ≡ self.drawn }
+    {
+        self.drawn
+    }
+
     /// Whether some pass stopped the draw.
-    pub stopped: bool,
+    pub fn stopped(self) -> bool
+        ensures { result ≡ self.stopped }
+    {
+        self.stopped
+    }
 }
 
 impl Tickets {

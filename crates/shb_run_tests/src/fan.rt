@@ -78,7 +78,8 @@ fn close_two(alloc: Global, tickets: Tickets, a: Pass, b: Pass) -> Result<DrawEn
 }
 
 fn expect_end(rt: &impl Abort, end: DrawEnd, drawn: u64, stopped: bool) {
-    same(rt, &end, &DrawEnd { drawn, stopped }, "what was drawn");
+    same(rt, &end.drawn(), &drawn, "what was drawn");
+    same(rt, &end.stopped(), &stopped, "whether the draw was stopped");
 }
 
 /// Draws by a pass, and asserts what comes.
@@ -264,12 +265,15 @@ fn is_count(values: &[u64], len: u64) -> bool {
     values.len() as u64 == len
 }
 
-/// How a draw ends where all pieces were drawn.
-fn all_of(drawn: u64) -> Result<DrawEnd, StreamError<u64>> {
-    Ok(DrawEnd {
-        drawn,
-        stopped: false,
-    })
+/// Asserts the answer of a stream: the error, or how many pieces were drawn, with no stop.
+fn expect_answer(
+    rt: &impl Abort,
+    answer: Result<DrawEnd, StreamError<u64>>,
+    wanted: Result<u64, StreamError<u64>>,
+) {
+    let drawn = answer.map(|end| (end.drawn(), end.stopped()));
+    let wanted = wanted.map(|pieces| (pieces, false));
+    same(rt, &drawn, &wanted, "the answer of a stream");
 }
 
 fn so_many<R: Abort>(rt: &R, workers: u32) -> Workers {
@@ -296,8 +300,8 @@ fn expect_stream<R: Threads + Wait + Sync + AllocGlobal + Abort>(
     let mut taker = make_keeper(rt.alloc(), refused);
     let workers = so_many(rt, workers);
     let answer = stream(rt, rt.alloc(), &job, &FreeGate, workers, &mut taker);
-    let wanted = refused.map_or(all_of(u64::from(pieces)), |k| Err(StreamError::Taker(k)));
-    same(rt, &answer, &wanted, "the answer of a stream");
+    let wanted = refused.map_or(Ok(u64::from(pieces)), |k| Err(StreamError::Taker(k)));
+    expect_answer(rt, answer, wanted);
     let kept = if refused.is_some() {
         given.saturating_sub(1)
     } else {
@@ -527,7 +531,7 @@ fn seven_are_held(rt: HostRuntime) -> Result<(), Fail> {
     let gate = seven_held();
     let mut taker = make_keeper(rt.alloc(), None);
     let answer = stream(&rt, rt.alloc(), &job, &gate, so_many(&rt, 8), &mut taker);
-    same(&rt, &answer, &all_of(16), "the answer");
+    expect_answer(&rt, answer, Ok(16));
     holds(&rt, is_count(taker.values.as_slice(), 16), "values taken");
     holds(
         &rt,
