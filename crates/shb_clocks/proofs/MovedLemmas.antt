@@ -1,5 +1,5 @@
 -- Rows that are moved, one after the other.
-use Rattle.std.proofs.Common.{◌≡◌, ℕ, suc, ◌+◌, ◌-◌, ◌<◌, ◌≤◌, ◌⊎◌, inl, inr, List, [], ◌∷◌, ◌++◌, Some, length, get_or, arith, subst, ap, sym, ◌∙◌, refl, get_or-set_same, get_or-set_other}
+use Rattle.std.proofs.Common.{◌≡◌, ℕ, suc, ◌+◌, ◌-◌, ◌<◌, ◌≤◌, ◌⊎◌, inl, inr, List, [], ◌∷◌, ◌++◌, Some, length, get_or, arith, subst, ap, sym, ◌∙◌, get_or-set_same, get_or-set_other}
 use Rattle.std.specs.Prelude.{replicate, sum_by}
 use Rattle.std.proofs.Math.ListN.{set, length-set, length-replicate, get_or-replicate}
 use Rattle.std.proofs.lemmas.Bool.{cases_eq}
@@ -89,28 +89,8 @@ pub record PartAlike {A : Type 0} (default : A) (IsAlike : A → A → Type 0) (
   pub rest : (y : ℕ) → x ≤ y → get_or after y default ≡ get_or before y default
 
 module _ {A : Type 0} (default : A) where
-  pub part_start : (IsAlike : A → A → Type 0) (before : List A) → PartAlike default IsAlike before before 0
-  part_start IsAlike before = record { as_many = refl; done = λ y lt. absurd (omega (arith, lt)); rest = λ y le. refl }
-
   pub part_item : (IsAlike : A → A → Type 0) (before after : List A) (x : ℕ) (item : A) → PartAlike default IsAlike before after x → x < length before → item ≡ get_or after x item → item ≡ get_or before x default
   part_item IsAlike before after x item part lt is = get_or_read after x item (let many = part.as_many in omega (arith, many, lt)) is default ∙ part.rest x (omega arith)
-
-  pub part_next : (IsAlike IsMoreAlike : A → A → Type 0) (before after : List A) (x : ℕ) (item given : A) → ((a b : A) → IsAlike a b → IsMoreAlike a b) → x < length before → given ≡ get_or before x default → IsMoreAlike given item → PartAlike default IsAlike before after x → PartAlike default IsMoreAlike before (set after x item) (x + 1)
-  part_next IsAlike IsMoreAlike before after x item given weaker lt is alike part = record {
-    as_many = length-set after x item ∙ part.as_many;
-    done = λ y below. go y below (cases_eq y x);
-    rest = λ y le. get_or-set_other after x y item default (λ same. omega (arith, le, same)) ∙ part.rest y (omega (arith, le));
-  }
-    where
-      go : (y : ℕ) → y < x + 1 → (y ≡ x) ⊎ (y ≡ x → ⊥) → IsMoreAlike (get_or before y default) (get_or (set after x item) y default)
-      go y below (inl same) = rw same (rw (get_or-set_same after x item default (let many = part.as_many in omega (arith, many, lt))) (subst (λ (a : A). IsMoreAlike a item) is alike))
-      go y below (inr ne) = rw (get_or-set_other after x y item default ne) (weaker (get_or before y default) (get_or after y default) (part.done y (omega (arith, below, ne))))
-
-  pub part_whole : (IsAlike : A → A → Type 0) (before after : List A) (x : ℕ) → length before ≤ x → PartAlike default IsAlike before after x → AreAlike default IsAlike before after
-  part_whole IsAlike before after x past part = record { as_many = part.as_many; each = λ y lt. part.done y (omega (arith, lt, past)) }
-
-  pub alike_more : (IsAlike IsMoreAlike : A → A → Type 0) (before after : List A) → ((a b : A) → IsAlike a b → IsMoreAlike a b) → AreAlike default IsAlike before after → AreAlike default IsMoreAlike before after
-  alike_more IsAlike IsMoreAlike before after weaker h = record { as_many = h.as_many; each = λ x lt. weaker _ _ (h.each x lt) }
 
 -- what the tables name is the same among the new rows
 module _ (trace : List Event) (old new : List (List ℕ)) where

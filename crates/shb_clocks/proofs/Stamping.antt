@@ -20,8 +20,8 @@ use Rattle.shb_clocks.specs.Open.{accesses_open}
 use Rattle.shb_clocks.specs.Rows.{AreMore, RowsData}
 use Rattle.shb_clocks.specs.Stamps.{AreCurrent, AreStamps, HasGrown, HasRowsBefore, IsKnown, IsLatestStamp, of_event, of_none, IsRowFor, IsSource, from_event, nothing_new, IsStampOf, WritesShared, empty_stamp}
 use Rattle.shb_clocks.specs.declared.stamp.Stamp.{Stamp}
-use Rattle.shb_clocks.proofs.Fronts.{thread_in_range, front_but_same, front_whole, thread_same}
-use Rattle.shb_clocks.proofs.Sources.{acquire_learns, join_learns, latest_join, join_learns_nothing, learns_read, read_learns, path_append, edge_path, strictly_below_below, below_cases}
+use Rattle.shb_clocks.proofs.Fronts.{front_but_same, front_whole, thread_same}
+use Rattle.shb_clocks.proofs.Sources.{acquire_learns, join_learns, latest_join, learns_read, read_learns, path_append, edge_path, strictly_below_below, below_cases}
 
 -- rows that grow
 pub more_same : (rows : List (List ℕ)) → AreMore rows rows
@@ -71,9 +71,6 @@ module _ (trace : List Event) where
     ];
   }
 
-  pub current_more : (rows more : List (List ℕ)) (n threads : ℕ) (current : List ℕ) → AreMore rows more → AreCurrent trace rows n threads current → AreCurrent trace more n threads current
-  current_more rows more n threads current grown h = record { as_many = h.as_many; each = λ t lt. row_more rows more t _ _ grown (h.each t lt) }
-
   pub stamp_more : (rows more : List (List ℕ)) (e : ℕ) (stamp : Stamp) → AreMore rows more → IsStampOf trace rows e stamp → IsStampOf trace more e stamp
   stamp_more rows more e stamp grown h = record { of_thread = h.of_thread; time_is = h.time_is; row_is = row_more rows more stamp.thread stamp.row _ grown h.row_is }
 
@@ -112,9 +109,6 @@ module _ (trace : List Event) where
     as_many = ap length is ∙ length-replicate size empty_stamp;
     each = λ x lt. subst (IsLatestStamp trace rows (P x) 0) (sym (ap (λ (xs : List Stamp). get_or xs x empty_stamp) is ∙ get_or-replicate size x empty_stamp empty_stamp lt)) (of_none (λ k below h. absurd (omega (arith, below))) refl);
   }
-
-  pub before_start : (flags : List Bool) (rows : List (List ℕ)) (before : List ℕ) → before ≡ [] → HasRowsBefore trace flags rows 0 before
-  before_start flags rows before is = record { as_many = ap length is; each = λ e t lt asked of_e. absurd (omega (arith, lt)) }
 
 module _ (trace : List Event) (disciplined : IsDisciplined trace) where
   -- a later release of a lock is above an earlier one
@@ -277,9 +271,6 @@ module _ (trace : List Event) (disciplined : IsDisciplined trace) where
         time_is = time ∙ ap (λ (n : ℕ). local_time trace n last) (sym thread);
         row_is = subst (λ (n : ℕ). IsRowFor trace rows n (λ k. ShbBelow trace k last) stamp.row) (sym thread) (row_same trace rows v stamp.row (IsKnown trace v e) (λ k. ShbBelow trace k last) (λ s k of_k ne. known_latest e last v so_far k) row);
       }) (λ k. join_learns trace disciplined e v last k joins so_far)
-
-  pub source_join_nothing : (rows : List (List ℕ)) (e v : ℕ) (stamp : Stamp) → op_at trace e ≡ Some (Join v) → ((k : ℕ) → k < length trace → thread_at trace k ≢ Some v) → stamp.time ≡ 0 → IsSource trace rows e stamp
-  source_join_nothing rows e v stamp joins none zero = nothing_new (λ k learns. absurd (join_learns_nothing trace disciplined e v k joins (λ m lt of_m. none m (thread_in_range trace m v of_m) of_m) learns)) zero
 
   -- the row after an event of thread u
   module _ (rows : List (List ℕ)) (e u before : ℕ) (of_e : thread_at trace e ≡ Some u) (row : IsRowFor trace rows u (λ k. BelowPred trace k e) before) where

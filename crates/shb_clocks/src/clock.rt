@@ -1,6 +1,6 @@
 //! Clocks: one number for each thread.
 
-ghost use Rattle.std.specs.Prelude.{◌≡◌, ℕ, ◌+◌, ◌*◌, ◌<◌, ◌≤◌, List, IfOk, true, length, max, replicate, set, slice_index_or};
+ghost use Rattle.std.specs.Prelude.{◌≡◌, ℕ, ◌+◌, ◌*◌, ◌<◌, ◌≤◌, List, IfOk, true, false, length, max, replicate, set, slice_index_or};
 ghost use Rattle.shb_clocks.specs.Rows.{row_at};
 
 use shb_io::NoMemory;
@@ -105,7 +105,8 @@ pub fn entry(clock: &[u32], t: u32) -> u32
 /// Whether no entry of a clock is above that of another.
 pub fn is_below(clock: &[u32], other: &[u32]) -> bool
     requires { length other.now ≡ length clock.now }
-    ensures { result ≡ true → (t : ℕ) → slice_index_or clock.now t 0 ≤ slice_index_or other.now t 0 }
+    ensures below { result ≡ true → (t : ℕ) → slice_index_or clock.now t 0 ≤ slice_index_or other.now t 0 }
+    ensures above { result ≡ false → (t : ℕ) × (slice_index_or other.now t 0 < slice_index_or clock.now t 0) }
 {
     for t in 0..clock.len() {
         if clock[t] > other[t] {

@@ -1,6 +1,6 @@
 //! Which rows have a copy among other rows.
 
-ghost use Rattle.std.specs.Prelude.{◌≡◌, ◌+◌, ◌<◌, ◌^◌, List, ℕ, false, OnOk, length};
+ghost use Rattle.std.specs.Prelude.{◌≡◌, ◌+◌, ◌<◌, ◌^◌, List, ℕ, false, OnOk, length, slice_index_or};
 ghost use Rattle.shb_clocks.specs.Moved.{AreCopies, IsMovedRow};
 ghost use Rattle.shb_clocks.specs.Rows.{AreMore};
 
@@ -9,7 +9,8 @@ use shb_io::NoMemory;
 /// Notes the number of a row's copy.
 pub fn note_copy(copies: &mut Vec<u32>, row: u32, number: u32) -> Result<(), NoMemory>
     requires { number + 1 < 2 ^ 32 }
-    ensures { (rows kept : List (List ℕ)) → row < length rows → IsMovedRow rows kept row number → AreCopies rows kept copies.old.items
+    ensures noted { OnOk result (slice_index_or copies.new.items row 0 ≡ number + 1) }
+    ensures copies { (rows kept : List (List ℕ)) → row < length rows → IsMovedRow rows kept row number → AreCopies rows kept copies.old.items
         → OnOk result (AreCopies rows kept copies.new.items) }
 {
     let size = copies.len().max(row as usize + 1);

@@ -1,6 +1,6 @@
 //! Which accesses an order is asked about.
 
-ghost use Rattle.std.specs.Prelude.{◌≡◌, ℕ, ◌<◌, ◌≤◌, true, length};
+ghost use Rattle.std.specs.Prelude.{◌≡◌, ℕ, ◌-◌, ◌<◌, ◌≤◌, true, length};
 ghost use Rattle.shb_clocks.specs.Open.{accesses_open, is_open as is_open_in};
 
 use shb_links::Linked;
@@ -29,6 +29,7 @@ pub fn is_asked(linked: &Linked<'_>, flags: &[bool], e: u32) -> bool
 /// How many events there are up to the last access of an open variable.
 pub fn asked_end(linked: &Linked<'_>, flags: &[bool]) -> u32
     ensures within { result ≤ length linked.now.events.now }
+    ensures last { 0 < result → accesses_open flags.now linked.now.events.now (result - 1) ≡ true }
     ensures all { (e : ℕ) → e < length linked.now.events.now → accesses_open flags.now linked.now.events.now e ≡ true → e < result }
 {
     for e in (0..linked.events.len() as u32).rev() {

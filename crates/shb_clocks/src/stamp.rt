@@ -1,6 +1,6 @@
 //! Stamps: the clock of an event in twelve bytes, over a row that others share.
 
-ghost use Rattle.std.specs.Prelude.{◌≡◌, ℕ, ◌+◌, ◌<◌, ◌≤◌, ◌⊎◌, ◌^◌, ◌↔◌, [], IsTrue, true, IfOk, OnOk, length, max, set, slice_index_or};
+ghost use Rattle.std.specs.Prelude.{◌≡◌, ℕ, ◌+◌, ◌<◌, ◌≤◌, ◌⊎◌, ◌^◌, ◌↔◌, ◌≢◌, [], IsTrue, true, false, IfOk, OnOk, length, max, set, slice_index_or};
 ghost use Rattle.shb_clocks.specs.Stamps.{HasGrown, KnowsStamp, empty_stamp};
 
 use crate::clock::{Clock, EventClock, entry, is_below};
@@ -58,6 +58,8 @@ pub fn is_new_clock(rows: &Rows, clock: &mut Clock, row: u32, stamp: Stamp) -> b
     ensures wide { result ≡ true → stamp.thread < length (slice_index_or rows.now.rows stamp.row []) }
     ensures clock { result ≡ true → slice_index_or rows.now.rows row []
         ≡ set (slice_index_or rows.now.rows stamp.row []) stamp.thread stamp.time }
+    ensures another { result ≡ false → stamp.row < row → length rows.now.rows ≤ row + 1 → stamp.thread < rows.now.width
+        → slice_index_or rows.now.rows row [] ≢ set (slice_index_or rows.now.rows stamp.row []) stamp.thread stamp.time }
 {
     if stamp.row >= row || rows.count() - row > 1 {
         return false;

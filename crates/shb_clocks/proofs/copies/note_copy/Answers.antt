@@ -2,8 +2,8 @@ use Rattle.std.proofs.Common.{refl, arith}
 use Rattle.shb_clocks.proofs.CopiesLemmas.{copy_noted}
 use Rattle.shb_clocks.proofs.copies.note_copy.Goals as goal
 
-pub returns : goal.returns
-returns c rows kept low moved are =
+pub returns-clause-copies : goal.returns-clause-copies
+returns-clause-copies c rows kept low moved are =
     let size = c.in_ok-resize.ensures.len in
     let index = c.in_ok-resize.ensures.by_index in
     copy_noted rows kept c.args.copies.now.items c.resize.new.self.items c.args.row c.args.number c.max-size.result low moved (omega arith) (omega arith) (omega (arith, size))

@@ -26,7 +26,7 @@ pub returns-clause-copies : goal.returns-clause-copies
 returns-clause-copies c =
     let rows = c.args.stamps.now.rows.rows in
     let grown = grown_push c.args.rows.now c.push.new.self c.row.result.now c.in_ok-number.ensures.width c.in_ok-number.ensures.rows in
-    c.in_ok-note_copy.ensures rows c.push.new.self.rows (row_in_range c.args.linked.now.events.now c.args.stamps.now.rows.rows c.args.e c.row_before-before.result c.requires.in_range c.row_before-before.ensures)
+    c.in_ok-note_copy.ensures.copies rows c.push.new.self.rows (row_in_range c.args.linked.now.events.now c.args.stamps.now.rows.rows c.args.e c.row_before-before.result c.requires.in_range c.row_before-before.ensures)
     (copy_pushed rows c.args.rows.now.rows c.push.new.self.rows c.row_before-before.result c.in_ok-number.number c.row.result.now c.in_ok-number.ensures.rows c.row.ensures.row c.in_ok-number.ensures.number)
     (copies_more rows c.args.rows.now.rows c.push.new.self.rows c.args.copies.now.items grown.more c.requires.copies)
 
