@@ -4,7 +4,7 @@
 //! An event mostly has the same line as an earlier one. So whole lines are compared first, and a location is looked
 //! for in its line where none is known to be the same.
 
-ghost use Rattle.std.specs.Prelude.{◌≡◌, ◌<◌, ◌≤◌, true, IfOk, IfSome, IsTrue, OnOk, length};
+ghost use Rattle.std.specs.Prelude.{◌≡◌, ◌<◌, ◌≤◌, true, IfOk, IfSome, IsTrue, OnOk, Some, length, slice_get};
 ghost use Rattle.shb_lines.specs.events.Tests.{is_write};
 ghost use Rattle.shb_lines.specs.text.TraceData.{TraceData, location_of};
 ghost use Rattle.shb_places.specs.Access.{IsLocatedAt, writes_at};
@@ -16,17 +16,18 @@ use crate::hints::{Hints, MOST_TRIED};
 use crate::numbers::{NONE, mixed};
 use shb_discipline::Disciplined;
 use shb_io::NoMemory;
-use shb_lines::Op;
+use shb_lines::{Op, location_in};
 use std::alloc::Global;
 
 /// So many events are kept for their lines.
 const LINES: usize = 4096;
 
-/// An event, and the number of its location.
+/// An event, the number of its location, and the key of its line.
 #[derive(Clone, Copy)]
 pub struct Numbered {
     pub event: u32,
     pub number: u32,
+    pub key: u32,
 }
 
 /// Events by their lines and by their locations.
@@ -43,8 +44,9 @@ fn has_line(trace: &Disciplined<'_>, e: u32, op: Op, line: &[u8]) -> bool
     e < trace.trace.len() && trace.events.op(e) == op && trace.trace.line_text(e) == line
 }
 
-/// Where the event of a line is kept: by its thread, its operation and its last two bytes.
-fn slot_of(thread: u32, op: Op, line: &[u8]) -> usize {
+/// The key of a line, by its thread, its operation and its last two bytes. Lines with other keys differ, so that most
+/// lines needn't be compared.
+fn key_of(thread: u32, op: Op, line: &[u8]) -> u32 {
     let last = line.len().saturating_sub(1);
     let low = u32::from(line.get(last).copied().unwrap_or(0));
     let high = u32::from(line.get(last.saturating_sub(1)).copied().unwrap_or(0));
@@ -54,7 +56,12 @@ fn slot_of(thread: u32, op: Op, line: &[u8]) -> usize {
         .wrapping_mul(2)
         .wrapping_add(u32::from(op.is_write()));
     let end = thread.wrapping_mul(65536).wrapping_add(high * 256 + low);
-    mixed(access, end) as usize % LINES
+    mixed(access, end)
+}
+
+/// Where the event of a line with this key is kept.
+fn slot_of(key: u32) -> usize {
+    key as usize % LINES
 }
 
 /// Whether an event has this location, and is a write or isn't.
@@ -83,6 +90,7 @@ impl Locations {
         let free = Numbered {
             event: NONE,
             number: NONE,
+            key: 0,
         };
         let numbered = vec![in alloc; free; LINES]?;
         Ok(Locations {
@@ -91,28 +99,37 @@ impl Locations {
         })
     }
 
-    /// The number of the location of a line, if the event that is kept has the same line.
-    fn kept(&self, trace: &Disciplined<'_>, slot: usize, op: Op, line: &[u8]) -> Option<u32>
+    /// The number of the location of a line with this key, if the event that is kept has the same line.
+    fn kept(&self, trace: &Disciplined<'_>, key: u32, op: Op, line: &[u8]) -> Option<u32>
         requires { AreNumbered trace.now.trace.now self.now.numbered.items }
         ensures { IfSome result (λ l. IsLocatedAt trace.now.trace.now l (location_of line.now) (is_write op)) }
     {
+        let slot = slot_of(key);
         let Some(one) = self.numbered.get(slot) else {
             return None;
         };
+        if one.key != key {
+            return None;
+        }
         if has_line(trace, one.event, op, line) {
             return Some(one.number);
         }
         None
     }
 
-    /// Keeps an event for its line, with the number of its location.
-    fn note(&mut self, slot: usize, e: u32, number: u32)
+    /// Keeps an event for its line, which has this key, with the number of its location.
+    fn note(&mut self, key: u32, e: u32, number: u32)
         ensures { (trace : TraceData) → AreNumbered trace self.old.numbered.items
             → IsLocatedAt trace number (location_at trace e) (writes_at trace.events e)
             → AreNumbered trace self.new.numbered.items }
     {
+        let slot = slot_of(key);
         if slot < self.numbered.len() {
-            self.numbered[slot] = Numbered { event: e, number };
+            self.numbered[slot] = Numbered {
+                event: e,
+                number,
+                key,
+            };
         }
     }
 
@@ -132,12 +149,13 @@ impl Locations {
     }
 
     /// The number of an event's location, which is looked for in its line.
-    fn look(&mut self, trace: &Disciplined<'_>, e: u32) -> Result<u32, NoMemory>
-        requires { e < length trace.now.trace.now.events }
+    fn look(&mut self, trace: &Disciplined<'_>, e: u32, line: &[u8]) -> Result<u32, NoMemory>
+        requires in_range { e < length trace.now.trace.now.events }
+        requires line { slice_get trace.now.trace.now.lines e ≡ Some line.now }
         ensures numbered { self.new.numbered ≡ self.old.numbered }
         ensures located { IfOk result (λ l. IsLocatedAt trace.now.trace.now l (location_at trace.now.trace.now e) (writes_at trace.now.trace.now.events e)) }
     {
-        let text = trace.trace.location(e);
+        let text = location_in(line);
         let writes = trace.events.op(e).is_write();
         let hash = hash_of(text, writes);
         if let Some(l) = self.noted(trace, text, writes, hash) {
@@ -166,12 +184,12 @@ impl Locations {
     {
         let op = trace.events.op(e);
         let line = trace.trace.line_text(e);
-        let slot = slot_of(thread, op, line);
-        if let Some(l) = self.kept(trace, slot, op, line) {
+        let key = key_of(thread, op, line);
+        if let Some(l) = self.kept(trace, key, op, line) {
             return Ok(l);
         }
-        let l = self.look(trace, e)?;
-        self.note(slot, e, l);
+        let l = self.look(trace, e, line)?;
+        self.note(key, e, l);
         Ok(l)
     }
 }
