@@ -1,5 +1,5 @@
 -- From what the parts of a check answer to what the check says of the texts.
-use Rattle.std.proofs.Common.{◌≡◌, ◌+◌, ◌≤◌, ℕ, List, [], None, Some, Option, Result, Ok, Err, IfSome, IfErr, IsErrAnd, refl, sym, subst, arith}
+use Rattle.std.proofs.Common.{◌≡◌, ◌+◌, ◌≤◌, inl, ℕ, List, [], None, Some, Option, Result, Ok, Err, IfSome, IfErr, IsErrAnd, refl, sym, subst, arith}
 use Rattle.std.proofs.lemmas.Option.{IfSome_then}
 use Rattle.std.specs.Io.KnownBytes.{Consumes}
 use Rattle.shb_io.proofs.Growth.{Appends-nil}
@@ -151,7 +151,7 @@ counted_judged {T} read stop error (Err e) old new old_report new_report is refu
     subst (λ (x : RunError). CountsSources {T = T} old new old_report new_report (Err x)) (sym is) (told error refusal)
   where
     told : (error : RunError) → IsRefusalOf read stop error → CountsSources {T = T} old new old_report new_report (Err error)
-    told (Trace line fault) refusal = (same, same_report)
+    told (Trace line fault) refusal = inl (same, same_report)
     told Source refusal = absurd refusal
-    told Sink refusal = (same, same_report)
-    told Memory refusal = (same, same_report)
+    told Sink refusal = inl (same, same_report)
+    told Memory refusal = inl (same, same_report)

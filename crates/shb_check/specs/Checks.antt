@@ -1,6 +1,6 @@
 -- What a check says of the texts of a trace and of a report, and what it leaves in the sink.
-use Rattle.std.specs.Prelude.{◌≡◌, ℕ, ◌+◌, ◌⊎◌, List, length, Option, Result, Err}
-use Rattle.shb_io.specs.Devices.{AppendsPrefix}
+use Rattle.std.specs.Prelude.{◌≡◌, ℕ, ◌⊎◌, List, length, Option, Result}
+use Rattle.shb_io.specs.Devices.{AppendsPrefix, CountsFailure}
 use Rattle.shb_lines.specs.events.Discipline.{IsDisciplined}
 use Rattle.shb_lines.specs.text.Limits.{most_bytes, standard_limits}
 use Rattle.shb_lines.specs.text.Text.{lines_of}
@@ -12,7 +12,7 @@ use Rattle.shb_reading.specs.Reading.{IsReportText}
 use Rattle.shb_report.specs.Value.{ReportValue}
 use Rattle.shb_judging.specs.Verdicts.{IsGoodReport, verdict_bytes}
 use Rattle.shb_check.specs.declared.errors.RunError.{RunError}
-use Rattle.shb_check.specs.declared.errors.RunError.TheVariants.{Source}
+use Rattle.shb_check.specs.Outcomes.{source_failed}
 
 -- the verdict on the text of a report against the trace of all lines of a text, which is disciplined
 pub record IsVerdictOf (text report : List ℕ) (verdict : Verdict) : Type 0 where
@@ -41,7 +41,7 @@ pub record IsLineCutShort (text report : List ℕ) (old new : Option (List ℕ))
   pub checked : IsChecked text report verdict
   pub written : AppendsPrefix old new (verdict_bytes verdict)
 
--- one of the two sources failed once where that is the answer, and else none
+-- one of the two sources counts the failure where that is the answer, and the other count stays
 abbrev pub CountsSources : {T : Type 0} → ℕ → ℕ → ℕ → ℕ → Result T RunError → Type 0
-CountsSources old new old_report new_report (Err Source) = ((new ≡ old + 1) × (new_report ≡ old_report)) ⊎ ((new ≡ old) × (new_report ≡ old_report + 1))
-CountsSources old new old_report new_report _ = (new ≡ old) × (new_report ≡ old_report)
+CountsSources old new old_report new_report answer =
+    (CountsFailure source_failed old new answer × (new_report ≡ old_report)) ⊎ ((new ≡ old) × CountsFailure source_failed old_report new_report answer)

@@ -1,5 +1,5 @@
 -- What a run and a check say of their devices, by what they answer.
-use Rattle.std.specs.Prelude.{◌≡◌, ℕ, ◌+◌, List, Option, Result, Ok, Err, ⊤}
+use Rattle.std.specs.Prelude.{ℕ, Bool, true, false, List, Option, Result, Ok, Err, ⊤}
 use Rattle.std.specs.Io.KnownBytes.{Appends}
 use Rattle.shb_lines.specs.declared.fault.Fault.{Fault}
 use Rattle.shb_check.specs.declared.errors.RunError.{RunError}
@@ -43,12 +43,12 @@ OnWriting _ P = ⊤
 abbrev pub Grows : Option (List ℕ) → Option (List ℕ) → Type 0
 Grows old new = (bytes : List ℕ) × Appends old new bytes
 
--- the source failed once where that is the answer, and else not at all
-abbrev pub CountsSource : {T : Type 0} → ℕ → ℕ → Result T RunError → Type 0
-CountsSource old new (Err Source) = new ≡ old + 1
-CountsSource old new _ = new ≡ old
+-- the error that names a source
+abbrev pub source_failed : RunError → Bool
+source_failed Source = true
+source_failed _ = false
 
--- the sink failed once where that is the answer, and else not at all
-abbrev pub CountsSink : {T : Type 0} → ℕ → ℕ → Result T RunError → Type 0
-CountsSink old new (Err Sink) = new ≡ old + 1
-CountsSink old new _ = new ≡ old
+-- the error that names the sink
+abbrev pub sink_failed : RunError → Bool
+sink_failed Sink = true
+sink_failed _ = false

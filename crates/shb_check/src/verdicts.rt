@@ -1,13 +1,14 @@
 //! The check of a report: read the trace, judge it, read the report, judge it, write the verdict.
 ghost use Rattle.std.specs.Prelude.{◌≡◌, ◌+◌, ◌-◌, ◌^◌, ◌<◌, ◌≤◌, ℕ, Some, IfOk, IfSome, drop};
 ghost use Rattle.std.specs.Io.KnownBytes.{Appends};
+ghost use Rattle.shb_io.specs.Devices.{CountsFailure};
 ghost use Rattle.shb_discipline.specs.FirstFault.{IsFirstFault};
 ghost use Rattle.shb_lines.specs.text.Taking.{ReadsText, TakesAtMost};
 ghost use Rattle.shb_lines.specs.declared.fault.Fault.{Fault};
 ghost use Rattle.shb_lines.specs.text.Limits.{most_read, standard_limits};
 ghost use Rattle.shb_judging.specs.Verdicts.{verdict_bytes};
 ghost use Rattle.shb_check.specs.Checks.{CountsSources, IsChecked, IsLineCutShort};
-ghost use Rattle.shb_check.specs.Outcomes.{CountsSink, Grows, OnJudged, OnMemory, OnNoTrace, OnSink, OnTrace, OnWriting};
+ghost use Rattle.shb_check.specs.Outcomes.{Grows, OnJudged, OnMemory, OnNoTrace, OnSink, OnTrace, OnWriting, sink_failed};
 
 use crate::errors::RunError;
 use crate::judging::judge;
@@ -103,7 +104,7 @@ pub fn check<S: Source, Q: Source, K: Sink, R: RandomSource>(
     // An error of a device comes with one failure more of that device, and no other answer does.
     ensures sources { CountsSources (S.failure_count trace_source.old) (S.failure_count trace_source.new)
         (Q.failure_count report_source.old) (Q.failure_count report_source.new) result }
-    ensures sink { CountsSink (K.failure_count sink.old) (K.failure_count sink.new) result }
+    ensures sink { CountsFailure sink_failed (K.failure_count sink.old) (K.failure_count sink.new) result }
 {
     let parsed = parse(rt, alloc, trace_source, &Limits::standard())?;
     let trace = judge(alloc, &parsed)?;

@@ -14,11 +14,11 @@ pub struct Ordered<'a, O: Order> {
     /// How far each thread is SHB-below the predecessor of an event.
     pub order: &'a O,
     /// The trace, which keeps the discipline of locks, forks and joins.
-    pub trace: &'a Disciplined<'a>,
+    pub disciplined: &'a Disciplined<'a>,
     /// The links of its events: local time, predecessor, last write.
     pub links: &'a Links<'a>,
-    pub ghost of_trace: { O.trace order.now ≡ trace.now.events.now },
-    pub ghost linked: { links.now ≡ trace.now.events.now },
+    pub ghost of_trace: { O.trace order.now ≡ disciplined.now.events.now },
+    pub ghost linked: { links.now ≡ disciplined.now.events.now },
 }
 
 impl<'a, O: Order> Ordered<'a, O> {
@@ -26,12 +26,12 @@ impl<'a, O: Order> Ordered<'a, O> {
     pub fn new(order: &'a O, trace: &'a Disciplined<'a>, links: &'a Links<'a>) -> Ordered<'a, O>
         requires of_trace { O.trace order.now ≡ trace.now.events.now }
         requires linked { links.now ≡ trace.now.events.now }
-        ensures trace { result.trace.now ≡ trace.now }
+        ensures disciplined { result.disciplined.now ≡ trace.now }
         ensures order { result.order.now ≡ order.now }
     {
         Ordered {
             order,
-            trace,
+            disciplined: trace,
             links,
         }
     }

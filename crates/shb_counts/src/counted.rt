@@ -62,11 +62,11 @@ fn many_of<'a, O: Order>(
     search: &Search<'_, 'a, O>,
     known: Option<Many<'a>>,
 ) -> Result<Many<'a>, NoMemory>
-    requires within { length search.now.ordered.now.trace.now.events.now ≤ length numbers.now.numbers.items }
+    requires within { length search.now.ordered.now.disciplined.now.events.now ≤ length numbers.now.numbers.items }
     requires numbered { (e : ℕ) → e < length numbers.now.numbers.items → slice_index_or numbers.now.numbers.items e 0 < length numbers.now.events.items }
-    requires known { IfSome known (λ many. AreTables search.now.ordered.now.trace.now.events.now numbers.now.numbers.items
+    requires known { IfSome known (λ many. AreTables search.now.ordered.now.disciplined.now.events.now numbers.now.numbers.items
         (length numbers.now.events.items) many.tables.variable many.tables) }
-    ensures { IfOk result (λ many. AreTables search.now.ordered.now.trace.now.events.now numbers.now.numbers.items
+    ensures { IfOk result (λ many. AreTables search.now.ordered.now.disciplined.now.events.now numbers.now.numbers.items
         (length numbers.now.events.items) search.now.variable many.tables) }
 {
     if let Some(many) = known {

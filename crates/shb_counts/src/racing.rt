@@ -77,10 +77,10 @@ pub fn racing_counts<O: Order>(
     second: u32,
 ) -> Result<(), NoMemory>
     requires asked { O.asks ordered.now.order.now second ≡ true }
-    requires compared { AreComparedWith ordered.now.trace.now.events.now second positions.now }
+    requires compared { AreComparedWith ordered.now.disciplined.now.events.now second positions.now }
     requires numbered { (numbers : List ℕ) × (table.now.1 ≡ map (number_in numbers) positions.now) }
     ensures { OnOk result ((numbers : List ℕ) → table.now.1 ≡ map (number_in numbers) positions.now
-        → AreRacingCounts ordered.now.trace.now.events.now numbers second table.now.0 room.new.rows.counts.items) }
+        → AreRacingCounts ordered.now.disciplined.now.events.now numbers second table.now.0 room.new.rows.counts.items) }
 {
     racing_spans(
         ordered,

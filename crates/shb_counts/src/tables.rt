@@ -72,9 +72,9 @@ pub(crate) fn tables_of<'a, O: Order>(
     numbers: &LocationNumbers,
     search: &Search<'_, 'a, O>,
 ) -> Result<Tables<'a>, NoMemory>
-    requires within { length search.now.ordered.now.trace.now.events.now ≤ length numbers.now.numbers.items }
+    requires within { length search.now.ordered.now.disciplined.now.events.now ≤ length numbers.now.numbers.items }
     requires numbered { (e : ℕ) → e < length numbers.now.numbers.items → number_in numbers.now.numbers.items e < length numbers.now.events.items }
-    ensures { IfOk result (λ t. AreTables search.now.ordered.now.trace.now.events.now numbers.now.numbers.items
+    ensures { IfOk result (λ t. AreTables search.now.ordered.now.disciplined.now.events.now numbers.now.numbers.items
         (length numbers.now.events.items) search.now.variable t) }
 {
     let both = compared_of(alloc, numbers, search.both_by_thread())?;

@@ -22,7 +22,7 @@ use Rattle.shb_judging.specs.Judging.{HasGoodPair, first_positions}
 use Rattle.shb_report.specs.Report.{line_of_event}
 use Rattle.shb_report.specs.Value.{Block}
 use Rattle.shb_judging.specs.Verdicts.{HasRaceFault, IsGoodBlock, IsLowestFault, IsNoEvent, fault_number, pair_in, position_of, positions_of}
-use Rattle.shb_report.proofs.EachLemmas.{each-push, each_at, each_of}
+use Rattle.shb_report.proofs.EachLemmas.{each-push, each_of}
 use Rattle.shb_judging.proofs.LongSchedules.{broken_by_front, schedule_by_front}
 
 -- lists

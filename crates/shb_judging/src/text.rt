@@ -1,7 +1,8 @@
 //! Judges the text of a report while it is read.
 ghost use Rattle.std.specs.Prelude.{◌≡◌, ◌+◌, ◌<◌, ◌≤◌, ◌-◌, ◌^◌, ◌++◌, ◌∷◌, [], ℕ, List, IfOk, OnOk, length};
+ghost use Rattle.shb_io.specs.Devices.{CountsFailure};
 ghost use Rattle.shb_lines.specs.text.Limits.{most_bytes, most_read};
-ghost use Rattle.shb_lines.specs.text.Taking.{IsSourceCounted, ReadsText, TakesAtMost};
+ghost use Rattle.shb_lines.specs.text.Taking.{ReadsText, TakesAtMost, read_failed};
 ghost use Rattle.shb_judging.specs.Checks.{IsVerdictFor};
 ghost use Rattle.shb_reading.specs.Forms.{End, Form, IsBadFrom, Version, block_forms};
 ghost use Rattle.shb_judging.specs.Judging.{IsJudgedText, JudgesBlocks};
@@ -166,7 +167,7 @@ pub fn judge_report<S: Source, R: RandomSource>(
         IsVerdictFor trace.now.trace.now text verdict)) }
     ensures taken { TakesAtMost most_read (S.remaining source.old) (S.remaining source.new) }
     ensures given { S.given_count source.new ≤ S.given_count source.old + most_read }
-    ensures counted { IsSourceCounted (S.failure_count source.old) (S.failure_count source.new) result }
+    ensures counted { CountsFailure read_failed (S.failure_count source.old) (S.failure_count source.new) result }
 {
     let text = read_whole(alloc, source, MOST_BYTES)?;
     match verdict_of(rt, alloc, trace, text.as_slice()) {

@@ -1,8 +1,9 @@
 //! Reads the bytes of a source.
 ghost use Rattle.std.specs.Prelude.{◌≡◌, ◌+◌, ◌-◌, ◌^◌, ◌<◌, ◌≤◌, ◌++◌, ℕ, List, length, vec_len, IfOk};
 ghost use Rattle.std.specs.Io.KnownBytes.{Consumes, IsAtEnd};
+ghost use Rattle.shb_io.specs.Devices.{CountsFailure};
 ghost use Rattle.shb_lines.specs.text.Limits.{most_bytes};
-ghost use Rattle.shb_lines.specs.text.Taking.{HasGiven, IsSourceCounted, TakesAtMost};
+ghost use Rattle.shb_lines.specs.text.Taking.{HasGiven, TakesAtMost, read_failed};
 
 use crate::read::ReadError;
 use shb_io::{NoMemory, Source};
@@ -36,7 +37,7 @@ fn read_onto<S: Source>(
     ensures taken { TakesAtMost room (S.remaining source.old) (S.remaining source.new) }
     ensures given { S.given_count source.new ≤ S.given_count source.old + room }
     ensures given_ok { IfOk result (HasGiven (S.given_count source.old) (S.given_count source.new)) }
-    ensures counted { IsSourceCounted (S.failure_count source.old) (S.failure_count source.new) result }
+    ensures counted { CountsFailure read_failed (S.failure_count source.old) (S.failure_count source.new) result }
 {
     let Ok(count) = source.read(&mut piece[..room]) else {
         return Err(ReadError::Source);
@@ -61,7 +62,7 @@ pub fn read_whole<S: Source>(
     ensures taken { TakesAtMost (limit + 1) (S.remaining source.old) (S.remaining source.new) }
     ensures given { S.given_count source.new ≤ S.given_count source.old + (limit + 1) }
     ensures given_ok { IfOk result (λ text. HasGiven (S.given_count source.old) (S.given_count source.new) (vec_len text)) }
-    ensures counted { IsSourceCounted (S.failure_count source.old) (S.failure_count source.new) result }
+    ensures counted { CountsFailure read_failed (S.failure_count source.old) (S.failure_count source.new) result }
 {
     let most = limit as usize + 1;
     let mut text = Vec::new(alloc);

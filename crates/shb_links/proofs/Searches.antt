@@ -1,5 +1,5 @@
 -- A search for the latest position, from the end on backwards.
-use Rattle.std.proofs.Common.{◌≡◌, ℕ, ◌+◌, ◌-◌, ◌<◌, ◌≤◌, inl, inr, Option, Some, None, arith, subst}
+use Rattle.std.proofs.Common.{ℕ, ◌-◌, ◌<◌, ◌≤◌, inl, inr, arith, subst}
 use Rattle.std.proofs.lemmas.Bool.{cases_eq}
 use Rattle.shb_links.specs.Latest.{IsLatestBefore}
 

@@ -43,8 +43,8 @@ impl<'a, O: Order> Model for RangeJob<'a, O> {
 
     ghost view = { λ j. j.accesses.now };
 
-    ghost invariant = { λ j. (j.accesses.now.trace ≡ j.ordered.trace.now.events.now) × (j.pieces.now ≡ pieces_in j.accesses.now)
-        × AsksOpen (O.asks j.ordered.order.now) j.accesses.now.flags j.ordered.trace.now.events.now };
+    ghost invariant = { λ j. (j.accesses.now.trace ≡ j.ordered.disciplined.now.events.now) × (j.pieces.now ≡ pieces_in j.accesses.now)
+        × AsksOpen (O.asks j.ordered.order.now) j.accesses.now.flags j.ordered.disciplined.now.events.now };
 }
 
 impl<'a, O: Order> RangeJob<'a, O> {
@@ -67,7 +67,7 @@ impl<'a, O: Order> RangeJob<'a, O> {
     {
         let ordered = Ordered {
             order,
-            trace,
+            disciplined: trace,
             links,
         };
         RangeJob {
@@ -93,7 +93,7 @@ impl<'a, O: Order> RangeJob<'a, O> {
     pub fn search(&self, k: u64) -> Search<'_, 'a, O>
         requires { k < length (pieces_in self.now) }
         ensures variable { result.variable ≡ (piece_at (pieces_in self.now) k).variable }
-        ensures of_trace { result.ordered.now.trace.now.events.now ≡ self.now.trace }
+        ensures of_trace { result.ordered.now.disciplined.now.events.now ≡ self.now.trace }
     {
         let piece = piece_with(self.pieces, k);
         Search {
@@ -107,7 +107,7 @@ impl<'a, O: Order> RangeJob<'a, O> {
     pub fn events(&self) -> u32
         ensures { result ≡ length self.now.trace }
     {
-        self.ordered.trace.events.len() as u32
+        self.ordered.disciplined.events.len() as u32
     }
 }
 

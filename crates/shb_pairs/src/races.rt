@@ -27,10 +27,10 @@ fn add_races<'a, O: Order>(
     cursors: &mut Cursors<'_>,
     second: u32,
 ) -> Result<(), NoMemory>
-    requires accessed { variable_at search.now.ordered.now.trace.now.events.now second ≡ Some search.now.variable }
+    requires accessed { variable_at search.now.ordered.now.disciplined.now.events.now second ≡ Some search.now.variable }
     requires room { length (joined races.old) + 2 ^ 32 < 2 ^ 64 }
     ensures { IfOk result (λ _. joined races.new ≡ joined races.old
-        ++ races_with search.now.ordered.now.trace.now.events.now second) }
+        ++ races_with search.now.ordered.now.disciplined.now.events.now second) }
 {
     let ranges = rivals_of(alloc, search, cursors, second)?;
     races.add(second, ranges)
@@ -38,10 +38,10 @@ fn add_races<'a, O: Order>(
 
 /// Whether one of some earlier accesses races with a later one.
 fn has_race_among<O: Order>(ordered: &Ordered<'_, O>, firsts: &[u32], second: u32) -> bool
-    requires in_range { second < length ordered.now.trace.now.events.now }
+    requires in_range { second < length ordered.now.disciplined.now.events.now }
     requires asked { O.asks ordered.now.order.now second ≡ true }
     requires earlier { All (λ i. i < second) firsts.now }
-    ensures { IsFalse result → racing ordered.now.trace.now.events.now second firsts.now ≡ [] }
+    ensures { IsFalse result → racing ordered.now.disciplined.now.events.now second firsts.now ≡ [] }
 {
     for first in firsts {
         if is_race_by(ordered, *first, second) {
@@ -54,12 +54,12 @@ fn has_race_among<O: Order>(ordered: &Ordered<'_, O>, firsts: &[u32], second: u3
 /// Whether an earlier access is SHB-below the predecessor of a later one.
 fn is_ordered<O: Order>(ordered: &Ordered<'_, O>, first: u32, second: u32) -> bool
     requires earlier { first < second }
-    requires in_range { second < length ordered.now.trace.now.events.now }
+    requires in_range { second < length ordered.now.disciplined.now.events.now }
     requires asked { O.asks ordered.now.order.now second ≡ true }
-    ensures { IsTrue result ↔ BelowPred ordered.now.trace.now.events.now first second }
+    ensures { IsTrue result ↔ BelowPred ordered.now.disciplined.now.events.now first second }
 {
     // Of two events of one thread the order isn't asked.
-    ordered.trace.events.thread(first) == ordered.trace.events.thread(second)
+    ordered.disciplined.events.thread(first) == ordered.disciplined.events.thread(second)
         || is_below_pred(ordered, first, second)
 }
 
@@ -73,14 +73,14 @@ fn has_race_since<O: Order>(
 ) -> bool
     requires inside { index < length accesses.now }
     requires asked { O.asks ordered.now.order.now (slice_index_or accesses.now index 0) ≡ true }
-    requires free_write { (x : ℕ) × (accesses.now ≡ accesses_in ordered.now.trace.now.events.now x)
-        × IsFreeWrite ordered.now.trace.now.events.now x accesses.now index write }
-    requires ordered { BelowPred ordered.now.trace.now.events.now (slice_index_or accesses.now write 0)
+    requires free_write { (x : ℕ) × (accesses.now ≡ accesses_in ordered.now.disciplined.now.events.now x)
+        × IsFreeWrite ordered.now.disciplined.now.events.now x accesses.now index write }
+    requires ordered { BelowPred ordered.now.disciplined.now.events.now (slice_index_or accesses.now write 0)
         (slice_index_or accesses.now index 0) }
-    ensures { IsFalse result → races_with ordered.now.trace.now.events.now (slice_index_or accesses.now index 0) ≡ [] }
+    ensures { IsFalse result → races_with ordered.now.disciplined.now.events.now (slice_index_or accesses.now index 0) ≡ [] }
 {
     let second = accesses[index];
-    if !ordered.trace.events.op(second).is_write() {
+    if !ordered.disciplined.events.op(second).is_write() {
         return false;
     }
     let (earlier, _) = accesses.split_at(index);
@@ -98,15 +98,15 @@ fn ordered_write<O: Order>(
 ) -> Option<usize>
     requires inside { index < length accesses.now }
     requires asked { O.asks ordered.now.order.now (slice_index_or accesses.now index 0) ≡ true }
-    requires free_write { (x : ℕ) × (accesses.now ≡ accesses_in ordered.now.trace.now.events.now x)
-        × IfSome free_write (λ s. IsFreeWrite ordered.now.trace.now.events.now x accesses.now index s) }
-    ensures free_write { (x : ℕ) → IfSome free_write (λ s. IsFreeWrite ordered.now.trace.now.events.now x accesses.now index s)
-        → IfSome result (λ s. IsFreeWrite ordered.now.trace.now.events.now x accesses.now index s) }
+    requires free_write { (x : ℕ) × (accesses.now ≡ accesses_in ordered.now.disciplined.now.events.now x)
+        × IfSome free_write (λ s. IsFreeWrite ordered.now.disciplined.now.events.now x accesses.now index s) }
+    ensures free_write { (x : ℕ) → IfSome free_write (λ s. IsFreeWrite ordered.now.disciplined.now.events.now x accesses.now index s)
+        → IfSome result (λ s. IsFreeWrite ordered.now.disciplined.now.events.now x accesses.now index s) }
     ensures used { (s : ℕ) → free_write ≡ Some s
-        → BelowPred ordered.now.trace.now.events.now (slice_index_or accesses.now s 0)
+        → BelowPred ordered.now.disciplined.now.events.now (slice_index_or accesses.now s 0)
         (slice_index_or accesses.now index 0) → result ≡ Some s }
     ensures ordered { IfSome result
-        (λ s. BelowPred ordered.now.trace.now.events.now (slice_index_or accesses.now s 0)
+        (λ s. BelowPred ordered.now.disciplined.now.events.now (slice_index_or accesses.now s 0)
         (slice_index_or accesses.now index 0)) }
 {
     match free_write {
@@ -151,14 +151,14 @@ fn add_races_at<'a, O: Order>(
     free_write: Option<usize>,
     index: usize,
 ) -> Result<(), NoMemory>
-    requires inside { index < length (accesses_in search.now.ordered.now.trace.now.events.now search.now.variable) }
+    requires inside { index < length (accesses_in search.now.ordered.now.disciplined.now.events.now search.now.variable) }
     requires room { length (joined races.old) + 2 ^ 32 < 2 ^ 64 }
     requires free_write { IfSome free_write
-        (λ s. IsFreeWrite search.now.ordered.now.trace.now.events.now search.now.variable
-        (accesses_in search.now.ordered.now.trace.now.events.now search.now.variable) index s) }
+        (λ s. IsFreeWrite search.now.ordered.now.disciplined.now.events.now search.now.variable
+        (accesses_in search.now.ordered.now.disciplined.now.events.now search.now.variable) index s) }
     ensures { IfOk result (λ _. joined races.new ≡ joined races.old
-        ++ races_with search.now.ordered.now.trace.now.events.now
-        (slice_index_or (accesses_in search.now.ordered.now.trace.now.events.now search.now.variable) index 0)) }
+        ++ races_with search.now.ordered.now.disciplined.now.events.now
+        (slice_index_or (accesses_in search.now.ordered.now.disciplined.now.events.now search.now.variable) index 0)) }
 {
     let accesses = search.accesses.of(search.variable);
     let second = accesses[index];
@@ -181,10 +181,10 @@ pub(crate) fn races_in<'a, O: Order>(
     to: usize,
 ) -> Result<RaceRanges<'a>, NoMemory>
     requires forward { from ≤ to }
-    requires within { to ≤ length (accesses_in search.now.ordered.now.trace.now.events.now search.now.variable) }
+    requires within { to ≤ length (accesses_in search.now.ordered.now.disciplined.now.events.now search.now.variable) }
     ensures { IfOk result (λ races. joined races
-        ≡ flat_map (races_with search.now.ordered.now.trace.now.events.now)
-        (slice_range (accesses_in search.now.ordered.now.trace.now.events.now search.now.variable) from to)) }
+        ≡ flat_map (races_with search.now.ordered.now.disciplined.now.events.now)
+        (slice_range (accesses_in search.now.ordered.now.disciplined.now.events.now search.now.variable) from to)) }
 {
     let accesses = search.accesses.of(search.variable);
     let mut races = RaceRanges::new(alloc);
@@ -194,7 +194,13 @@ pub(crate) fn races_in<'a, O: Order>(
         let count = races.len();
         add_races_at(alloc, &mut races, search, &mut cursors, free_write, index)?;
         let free = races.len() == count;
-        free_write = next_free_write(search.ordered.trace, accesses, free_write, index, free);
+        free_write = next_free_write(
+            search.ordered.disciplined,
+            accesses,
+            free_write,
+            index,
+            free,
+        );
     }
     Ok(races)
 }

@@ -256,19 +256,19 @@ pub(crate) fn tail_of<O: Order>(
     cursor: &mut Cursor,
     second: u32,
 ) -> Span
-    requires in_range { second < length ordered.now.trace.now.events.now }
+    requires in_range { second < length ordered.now.disciplined.now.events.now }
     requires asked { O.asks ordered.now.order.now second ≡ true }
     requires some { 0 < length positions.now }
-    requires rivals { AreRivals ordered.now.trace.now.events.now second positions.now }
-    requires one_thread { IsOfOneThread ordered.now.trace.now.events.now positions.now }
+    requires rivals { AreRivals ordered.now.disciplined.now.events.now second positions.now }
+    requires one_thread { IsOfOneThread ordered.now.disciplined.now.events.now positions.now }
     ensures ordered { result.from ≤ result.to }
     ensures within { result.to ≤ length positions.now }
     ensures races { slice_range positions.now result.from result.to
-        ≡ racing ordered.now.trace.now.events.now second positions.now }
+        ≡ racing ordered.now.disciplined.now.events.now second positions.now }
 {
-    let thread = ordered.trace.events.thread(positions[0]);
+    let thread = ordered.disciplined.events.thread(positions[0]);
     // The accesses of its own thread are ordered before it: the order isn't asked.
-    if thread == ordered.trace.events.thread(second) {
+    if thread == ordered.disciplined.events.thread(second) {
         return Span { from: 0, to: 0 };
     }
     let end = count_before(positions, cursor.before, second);
@@ -290,13 +290,13 @@ fn add_tail<'p, O: Order>(
     cursor: &mut Cursor,
     second: u32,
 ) -> Result<(), NoMemory>
-    requires in_range { second < length ordered.now.trace.now.events.now }
+    requires in_range { second < length ordered.now.disciplined.now.events.now }
     requires asked { O.asks ordered.now.order.now second ≡ true }
     requires some { 0 < length positions.now }
-    requires rivals { AreRivals ordered.now.trace.now.events.now second positions.now }
-    requires one_thread { IsOfOneThread ordered.now.trace.now.events.now positions.now }
+    requires rivals { AreRivals ordered.now.disciplined.now.events.now second positions.now }
+    requires one_thread { IsOfOneThread ordered.now.disciplined.now.events.now positions.now }
     ensures { IfOk result (λ _. in_ranges found.new.items
-        ≡ in_ranges found.old.items ++ racing ordered.now.trace.now.events.now second positions.now) }
+        ≡ in_ranges found.old.items ++ racing ordered.now.disciplined.now.events.now second positions.now) }
 {
     let tail = tail_of(ordered, positions, cursor, second);
     add_range(found, part(positions, tail.from, tail.to))
@@ -310,20 +310,20 @@ fn add_rivals<'p, O: Order>(
     cursors: &mut ThreadCursors<'_>,
     second: u32,
 ) -> Result<(), NoMemory>
-    requires in_range { second < length ordered.now.trace.now.events.now }
+    requires in_range { second < length ordered.now.disciplined.now.events.now }
     requires asked { O.asks ordered.now.order.now second ≡ true }
-    requires rivals { AreRivals ordered.now.trace.now.events.now second positions.now }
-    requires each_in_range { All (λ k. k < length ordered.now.trace.now.events.now) positions.now }
-    requires sorted { AllPairs (IsBeforeByThread ordered.now.trace.now.events.now) positions.now }
+    requires rivals { AreRivals ordered.now.disciplined.now.events.now second positions.now }
+    requires each_in_range { All (λ k. k < length ordered.now.disciplined.now.events.now) positions.now }
+    requires sorted { AllPairs (IsBeforeByThread ordered.now.disciplined.now.events.now) positions.now }
     ensures { IfOk result (λ _. in_ranges found.new.items
-        ≡ in_ranges found.old.items ++ racing ordered.now.trace.now.events.now second positions.now) }
+        ≡ in_ranges found.old.items ++ racing ordered.now.disciplined.now.events.now second positions.now) }
 {
     let mut start = 0;
     let mut run = 0;
     while start < positions.len() {
         cursors.reach(run)?;
         let cursor = &mut cursors.cursors[run];
-        let end = run_end(ordered.trace.events, positions, start, cursor.end);
+        let end = run_end(ordered.disciplined.events, positions, start, cursor.end);
         cursor.end = end;
         let of_thread = part(positions, start, end);
         add_tail(found, ordered, of_thread, cursor, second)?;
@@ -341,13 +341,13 @@ pub(crate) fn rivals_of<'a, O: Order>(
     cursors: &mut Cursors<'_>,
     second: u32,
 ) -> Result<Vec<Range<'a>>, NoMemory>
-    requires accessed { variable_at search.now.ordered.now.trace.now.events.now second ≡ Some search.now.variable }
+    requires accessed { variable_at search.now.ordered.now.disciplined.now.events.now second ≡ Some search.now.variable }
     ensures { IfOk result (λ v. sorted (in_ranges v.items)
-        ≡ numbers_where (λ i. is_race search.now.ordered.now.trace.now.events.now i second) second) }
+        ≡ numbers_where (λ i. is_race search.now.ordered.now.disciplined.now.events.now i second) second) }
 {
     let mut found = Vec::new(alloc);
     // A read conflicts with writes alone.
-    if search.ordered.trace.events.op(second).is_write() {
+    if search.ordered.disciplined.events.op(second).is_write() {
         let accesses = search.accesses.both_by_thread(search.variable);
         add_rivals(
             &mut found,

@@ -76,27 +76,27 @@ fn no_read() -> KeptRead {
 
 /// The mark of an event.
 fn mark_of<O: Order>(ordered: &Ordered<'_, O>, e: u32) -> Mark
-    requires in_range { e < length ordered.now.trace.now.events.now }
-    ensures { IsMarkOf ordered.now.trace.now.events.now result e }
+    requires in_range { e < length ordered.now.disciplined.now.events.now }
+    ensures { IsMarkOf ordered.now.disciplined.now.events.now result e }
 {
     Mark {
         time: ordered.links.local(e),
-        thread: ordered.trace.events.thread(e),
+        thread: ordered.disciplined.events.thread(e),
     }
 }
 
 /// Whether what a mark stands for is SHB-below the predecessor of an event.
 fn is_past<O: Order>(ordered: &Ordered<'_, O>, mark: Mark, e: u32) -> bool
-    requires in_range { e < length ordered.now.trace.now.events.now }
+    requires in_range { e < length ordered.now.disciplined.now.events.now }
     requires asked { O.asks ordered.now.order.now e ≡ true }
-    ensures { IsTrue result → IsPast ordered.now.trace.now.events.now mark e }
+    ensures { IsTrue result → IsPast ordered.now.disciplined.now.events.now mark e }
 {
     if mark.time == NO_TIME {
         false
     } else {
         // What asks the order nothing comes first.
         mark.time == 0
-            || mark.thread == ordered.trace.events.thread(e)
+            || mark.thread == ordered.disciplined.events.thread(e)
             || mark.time <= ordered.order.below_pred(e, mark.thread)
     }
 }
@@ -118,9 +118,9 @@ fn are_past<O: Order>(
     newest: KeptRead,
     e: u32,
 ) -> bool
-    requires in_range { e < length ordered.now.trace.now.events.now }
+    requires in_range { e < length ordered.now.disciplined.now.events.now }
     requires asked { O.asks ordered.now.order.now e ≡ true }
-    ensures { IsTrue result → (mark : Mark) → IsOf reads.now mark newest → IsPast ordered.now.trace.now.events.now mark e }
+    ensures { IsTrue result → (mark : Mark) → IsOf reads.now mark newest → IsPast ordered.now.disciplined.now.events.now mark e }
 {
     let mut read = newest;
     for _ in 0..reads.len() + 1 {
@@ -142,14 +142,14 @@ fn after_read<O: Order>(
     latest: Latest,
     e: u32,
 ) -> Result<Latest, NoMemory>
-    requires in_range { e < length ordered.now.trace.now.events.now }
+    requires in_range { e < length ordered.now.disciplined.now.events.now }
     requires asked { O.asks ordered.now.order.now e ≡ true }
     ensures kept { (mark : Mark) (read : KeptRead) → IsOf reads.old.items mark read → OnOk result (IsOf reads.new.items mark read) }
-    ensures screened { (x : ℕ) → variable_at ordered.now.trace.now.events.now e ≡ Some x
-        → op_at ordered.now.trace.now.events.now e ≢ Some (Write x)
-        → IsPast ordered.now.trace.now.events.now latest.write e
-        → IsScreened ordered.now.trace.now.events.now reads.old.items e x latest
-        → IfOk result (λ next. IsScreened ordered.now.trace.now.events.now reads.new.items (e + 1) x next) }
+    ensures screened { (x : ℕ) → variable_at ordered.now.disciplined.now.events.now e ≡ Some x
+        → op_at ordered.now.disciplined.now.events.now e ≢ Some (Write x)
+        → IsPast ordered.now.disciplined.now.events.now latest.write e
+        → IsScreened ordered.now.disciplined.now.events.now reads.old.items e x latest
+        → IfOk result (λ next. IsScreened ordered.now.disciplined.now.events.now reads.new.items (e + 1) x next) }
 {
     let Latest { write, read } = latest;
     let mark = mark_of(ordered, e);
@@ -177,12 +177,12 @@ fn after_write<O: Order>(
     latest: Latest,
     e: u32,
 ) -> Latest
-    requires in_range { e < length ordered.now.trace.now.events.now }
+    requires in_range { e < length ordered.now.disciplined.now.events.now }
     requires asked { O.asks ordered.now.order.now e ≡ true }
-    ensures { (x : ℕ) → variable_at ordered.now.trace.now.events.now e ≡ Some x
-        → IsPast ordered.now.trace.now.events.now latest.write e
-        → IsScreened ordered.now.trace.now.events.now reads.now e x latest
-        → IsScreened ordered.now.trace.now.events.now reads.now (e + 1) x result }
+    ensures { (x : ℕ) → variable_at ordered.now.disciplined.now.events.now e ≡ Some x
+        → IsPast ordered.now.disciplined.now.events.now latest.write e
+        → IsScreened ordered.now.disciplined.now.events.now reads.now e x latest
+        → IsScreened ordered.now.disciplined.now.events.now reads.now (e + 1) x result }
 {
     if are_past(ordered, reads, latest.read, e) {
         Latest {
@@ -201,16 +201,16 @@ fn after_access<O: Order>(
     latest: Latest,
     e: u32,
 ) -> Result<Latest, NoMemory>
-    requires in_range { e < length ordered.now.trace.now.events.now }
+    requires in_range { e < length ordered.now.disciplined.now.events.now }
     requires asked { O.asks ordered.now.order.now e ≡ true }
     ensures kept { (mark : Mark) (read : KeptRead) → IsOf reads.old.items mark read → OnOk result (IsOf reads.new.items mark read) }
-    ensures screened { (x : ℕ) → variable_at ordered.now.trace.now.events.now e ≡ Some x
-        → IsScreened ordered.now.trace.now.events.now reads.old.items e x latest
-        → IfOk result (λ next. IsScreened ordered.now.trace.now.events.now reads.new.items (e + 1) x next) }
+    ensures screened { (x : ℕ) → variable_at ordered.now.disciplined.now.events.now e ≡ Some x
+        → IsScreened ordered.now.disciplined.now.events.now reads.old.items e x latest
+        → IfOk result (λ next. IsScreened ordered.now.disciplined.now.events.now reads.new.items (e + 1) x next) }
 {
     if !is_past(ordered, latest.write, e) {
         Ok(opened())
-    } else if ordered.trace.events.op(e).is_write() {
+    } else if ordered.disciplined.events.op(e).is_write() {
         Ok(after_write(ordered, reads.as_slice(), latest, e))
     } else {
         after_read(ordered, reads, latest, e)
@@ -224,14 +224,14 @@ fn screen<O: Order>(
     table: &mut Vec<Latest>,
     e: u32,
 ) -> Result<(), NoMemory>
-    requires in_range { e < length ordered.now.trace.now.events.now }
+    requires in_range { e < length ordered.now.disciplined.now.events.now }
     requires asked { O.asks ordered.now.order.now e ≡ true }
-    requires screened { AreScreened ordered.now.trace.now.events.now reads.old.items e
-        ordered.now.trace.now.sizes.variables table.old.items }
-    ensures { OnOk result (AreScreened ordered.now.trace.now.events.now reads.new.items (e + 1)
-        ordered.now.trace.now.sizes.variables table.new.items) }
+    requires screened { AreScreened ordered.now.disciplined.now.events.now reads.old.items e
+        ordered.now.disciplined.now.sizes.variables table.old.items }
+    ensures { OnOk result (AreScreened ordered.now.disciplined.now.events.now reads.new.items (e + 1)
+        ordered.now.disciplined.now.sizes.variables table.new.items) }
 {
-    if let Some(x) = ordered.trace.events.op(e).variable() {
+    if let Some(x) = ordered.disciplined.events.op(e).variable() {
         if ordered.links.is_shared(x) {
             let latest = table[x as usize];
             table[x as usize] = after_access(ordered, reads, latest, e)?;

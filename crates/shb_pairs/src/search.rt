@@ -26,30 +26,30 @@ pub struct Search<'s, 'a, O: Order> {
     pub accesses: &'a Accesses<'a>,
     /// The number of the variable.
     pub variable: u32,
-    pub ghost of_trace: { accesses.now.trace ≡ ordered.now.trace.now.events.now },
+    pub ghost of_trace: { accesses.now.trace ≡ ordered.now.disciplined.now.events.now },
     pub ghost listed: { is_open accesses.now.flags variable ≡ true },
-    pub ghost asked: { AsksOpen (O.asks ordered.now.order.now) accesses.now.flags ordered.now.trace.now.events.now },
-    pub ghost accessed: { variable < variables_in ordered.now.trace.now.events.now },
+    pub ghost asked: { AsksOpen (O.asks ordered.now.order.now) accesses.now.flags ordered.now.disciplined.now.events.now },
+    pub ghost accessed: { variable < variables_in ordered.now.disciplined.now.events.now },
 }
 
 impl<'s, 'a, O: Order> Search<'s, 'a, O> {
     /// The accesses of the variable: their positions from 0, in trace order.
     pub fn in_order(&self) -> &'a [u32]
-        ensures { result.now ≡ accesses_in self.now.ordered.now.trace.now.events.now self.now.variable }
+        ensures { result.now ≡ accesses_in self.now.ordered.now.disciplined.now.events.now self.now.variable }
     {
         self.accesses.of(self.variable)
     }
 
     /// The accesses of the variable by thread: their positions from 0, those of one thread in trace order.
     pub fn both_by_thread(&self) -> &'a [u32]
-        ensures { IsByThread self.now.ordered.now.trace.now.events.now Both self.now.variable result.now }
+        ensures { IsByThread self.now.ordered.now.disciplined.now.events.now Both self.now.variable result.now }
     {
         self.accesses.both_by_thread(self.variable)
     }
 
     /// The writes of the variable by thread: their positions from 0, those of one thread in trace order.
     pub fn writes_by_thread(&self) -> &'a [u32]
-        ensures { IsByThread self.now.ordered.now.trace.now.events.now Writes self.now.variable result.now }
+        ensures { IsByThread self.now.ordered.now.disciplined.now.events.now Writes self.now.variable result.now }
     {
         self.accesses.writes_by_thread(self.variable)
     }
@@ -60,9 +60,9 @@ impl<'s, 'a, O: Order> Search<'s, 'a, O> {
     ///
     /// `NoMemory` where a growth was refused.
     pub fn races_at(&self, alloc: Global, index: usize) -> Result<Vec<Pair>, NoMemory>
-        requires { index < length (accesses_in self.now.ordered.now.trace.now.events.now self.now.variable) }
-        ensures { IfOk result (λ v. map ends v.items ≡ races_with self.now.ordered.now.trace.now.events.now
-            (slice_index_or (accesses_in self.now.ordered.now.trace.now.events.now self.now.variable) index 0)) }
+        requires { index < length (accesses_in self.now.ordered.now.disciplined.now.events.now self.now.variable) }
+        ensures { IfOk result (λ v. map ends v.items ≡ races_with self.now.ordered.now.disciplined.now.events.now
+            (slice_index_or (accesses_in self.now.ordered.now.disciplined.now.events.now self.now.variable) index 0)) }
     {
         let races = races_in(alloc, self, index, index + 1)?;
         races.expanded(alloc)

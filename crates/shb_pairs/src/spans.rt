@@ -29,13 +29,13 @@ fn spans_of<O: Order>(
     second: u32,
     found: &mut Vec<Span>,
 ) -> Result<(), NoMemory>
-    requires in_range { second < length ordered.now.trace.now.events.now }
+    requires in_range { second < length ordered.now.disciplined.now.events.now }
     requires asked { O.asks ordered.now.order.now second ≡ true }
-    requires rivals { AreRivals ordered.now.trace.now.events.now second positions.now }
-    requires each_in_range { All (λ k. k < length ordered.now.trace.now.events.now) positions.now }
-    requires sorted { AllPairs (IsBeforeByThread ordered.now.trace.now.events.now) positions.now }
+    requires rivals { AreRivals ordered.now.disciplined.now.events.now second positions.now }
+    requires each_in_range { All (λ k. k < length ordered.now.disciplined.now.events.now) positions.now }
+    requires sorted { AllPairs (IsBeforeByThread ordered.now.disciplined.now.events.now) positions.now }
     ensures races { OnOk result (in_spans positions.now found.new.items
-        ≡ racing ordered.now.trace.now.events.now second positions.now) }
+        ≡ racing ordered.now.disciplined.now.events.now second positions.now) }
     ensures within { OnOk result (All (IsSpanOf (length positions.now)) found.new.items) }
 {
     found.clear();
@@ -44,7 +44,7 @@ fn spans_of<O: Order>(
     while start < positions.len() {
         cursors.reach(run)?;
         let cursor = &mut cursors.cursors[run];
-        let end = run_end(ordered.trace.events, positions, start, cursor.end);
+        let end = run_end(ordered.disciplined.events, positions, start, cursor.end);
         cursor.end = end;
         let tail = tail_of(ordered, part(positions, start, end), cursor, second);
         found.push(Span {
@@ -76,12 +76,12 @@ pub fn racing_spans<O: Order>(
     found: &mut Vec<Span>,
 ) -> Result<(), NoMemory>
     requires asked { O.asks ordered.now.order.now second ≡ true }
-    requires compared { AreComparedWith ordered.now.trace.now.events.now second positions.now }
+    requires compared { AreComparedWith ordered.now.disciplined.now.events.now second positions.now }
     ensures races { OnOk result (sorted (in_spans positions.now found.new.items)
-        ≡ numbers_where (λ i. is_race ordered.now.trace.now.events.now i second) second) }
+        ≡ numbers_where (λ i. is_race ordered.now.disciplined.now.events.now i second) second) }
     ensures within { OnOk result (All (IsSpanOf (length positions.now)) found.new.items) }
 {
-    if ordered.trace.events.op(second).is_write() {
+    if ordered.disciplined.events.op(second).is_write() {
         spans_of(ordered, positions, &mut cursors.both, second, found)
     } else {
         spans_of(ordered, positions, &mut cursors.writes, second, found)

@@ -107,11 +107,11 @@ pub fn make_room(heads: &mut Vec<u32>, s: u32) -> Result<(), NoMemory>
 
 /// The earliest of the accesses from a link back whose local times are above a bound, or `NONE`.
 fn earliest_from<O: Order>(ordered: &Ordered<'_, O>, links: &[Link], newest: u32, bound: u32) -> u32
-    requires in_range { (k : ℕ) (link : Link) → slice_get links.now k ≡ Some link → link.event < length ordered.now.trace.now.trace.now.events }
-    ensures least { (n t : ℕ) (e : ℕ) → AreLinked ordered.now.trace.now.trace.now links.now n → InChain links.now newest e
-        → thread_at ordered.now.trace.now.trace.now.events e ≡ Some t → bound < local_time ordered.now.trace.now.trace.now.events t e → result ≤ e }
+    requires in_range { (k : ℕ) (link : Link) → slice_get links.now k ≡ Some link → link.event < length ordered.now.disciplined.now.trace.now.events }
+    ensures least { (n t : ℕ) (e : ℕ) → AreLinked ordered.now.disciplined.now.trace.now links.now n → InChain links.now newest e
+        → thread_at ordered.now.disciplined.now.trace.now.events e ≡ Some t → bound < local_time ordered.now.disciplined.now.trace.now.events t e → result ≤ e }
     ensures chain { result ≢ none → InChain links.now newest result }
-    ensures above { (t : ℕ) → result ≢ none → thread_at ordered.now.trace.now.trace.now.events result ≡ Some t → bound < local_time ordered.now.trace.now.trace.now.events t result }
+    ensures above { (t : ℕ) → result ≢ none → thread_at ordered.now.disciplined.now.trace.now.events result ≡ Some t → bound < local_time ordered.now.disciplined.now.trace.now.events t result }
 {
     let mut earliest = NONE;
     let mut at = newest;
@@ -299,11 +299,11 @@ impl Notes {
 
     /// The access of a class of a site that races with an access, the earliest one, or `NONE`.
     fn earliest_in<O: Order>(&self, ordered: &Ordered<'_, O>, s: u32, c: u32, access: Access) -> u32
-        requires access { IsAccess ordered.now.trace.now.trace.now access }
+        requires access { IsAccess ordered.now.disciplined.now.trace.now access }
         requires asked { O.asks ordered.now.order.now access.event ≡ true }
-        requires in_range { (k : ℕ) (link : Link) → slice_get self.now.links.items k ≡ Some link → link.event < length ordered.now.trace.now.trace.now.events }
-        ensures { (sites : List Site) → AreKept ordered.now.trace.now.trace.now sites (tables_of self.now) access.event
-            → IsEarliestIn ordered.now.trace.now.trace.now sites (tables_of self.now) s c access result }
+        requires in_range { (k : ℕ) (link : Link) → slice_get self.now.links.items k ≡ Some link → link.event < length ordered.now.disciplined.now.trace.now.events }
+        ensures { (sites : List Site) → AreKept ordered.now.disciplined.now.trace.now sites (tables_of self.now) access.event
+            → IsEarliestIn ordered.now.disciplined.now.trace.now sites (tables_of self.now) s c access result }
     {
         let Some(class) = self.classes.get(c as usize) else {
             return NONE;
@@ -326,11 +326,11 @@ impl Notes {
 
     /// The same of all classes of the site.
     fn earliest_at<O: Order>(&self, ordered: &Ordered<'_, O>, s: u32, access: Access) -> u32
-        requires access { IsAccess ordered.now.trace.now.trace.now access }
+        requires access { IsAccess ordered.now.disciplined.now.trace.now access }
         requires asked { O.asks ordered.now.order.now access.event ≡ true }
-        requires in_range { (k : ℕ) (link : Link) → slice_get self.now.links.items k ≡ Some link → link.event < length ordered.now.trace.now.trace.now.events }
-        ensures { (sites : List Site) → AreKept ordered.now.trace.now.trace.now sites (tables_of self.now) access.event
-            → IsEarliestAt ordered.now.trace.now.trace.now sites (tables_of self.now) s access result }
+        requires in_range { (k : ℕ) (link : Link) → slice_get self.now.links.items k ≡ Some link → link.event < length ordered.now.disciplined.now.trace.now.events }
+        ensures { (sites : List Site) → AreKept ordered.now.disciplined.now.trace.now sites (tables_of self.now) access.event
+            → IsEarliestAt ordered.now.disciplined.now.trace.now sites (tables_of self.now) s access result }
     {
         let mut earliest = NONE;
         let mut at = self.head_of(s);
@@ -354,14 +354,14 @@ impl Notes {
         site: Site,
         access: Access,
     ) -> u32
-        requires access { IsAccess ordered.now.trace.now.trace.now access }
+        requires access { IsAccess ordered.now.disciplined.now.trace.now access }
         requires asked { O.asks ordered.now.order.now access.event ≡ true }
-        requires in_range { (k : ℕ) (link : Link) → slice_get self.now.links.items k ≡ Some link → link.event < length ordered.now.trace.now.trace.now.events }
-        ensures { (sites : List Site) → AreKept ordered.now.trace.now.trace.now sites (tables_of self.now) access.event
+        requires in_range { (k : ℕ) (link : Link) → slice_get self.now.links.items k ≡ Some link → link.event < length ordered.now.disciplined.now.trace.now.events }
+        ensures { (sites : List Site) → AreKept ordered.now.disciplined.now.trace.now sites (tables_of self.now) access.event
             → slice_get sites s ≡ Some site
-            → IsEarliestAt ordered.now.trace.now.trace.now sites (tables_of self.now) s access result }
+            → IsEarliestAt ordered.now.disciplined.now.trace.now sites (tables_of self.now) s access result }
     {
-        if !access.writes && !may_write(ordered.trace, site.location) {
+        if !access.writes && !may_write(ordered.disciplined, site.location) {
             return NONE;
         }
         self.earliest_at(ordered, s, access)

@@ -82,16 +82,16 @@ fn ask_unknown<O: Order>(
     site: Site,
     access: Access,
 ) -> Result<bool, NoMemory>
-    requires access { IsAccess ordered.now.trace.now.trace.now access }
+    requires access { IsAccess ordered.now.disciplined.now.trace.now access }
     requires asked { O.asks ordered.now.order.now access.event ≡ true }
-    requires in_range { (k : ℕ) (link : Link) → slice_get notes.now.links.items k ≡ Some link → link.event < length ordered.now.trace.now.trace.now.events }
+    requires in_range { (k : ℕ) (link : Link) → slice_get notes.now.links.items k ≡ Some link → link.event < length ordered.now.disciplined.now.trace.now.events }
     requires as_many { length found.old.races.items ≡ length found.old.places.items }
     requires variable { site.variable ≡ access.variable }
     ensures as_many { OnOk result (length found.new.races.items ≡ length found.new.places.items) }
-    ensures told { (sites : List Site) → AreKept ordered.now.trace.now.trace.now sites (tables_of notes.now) access.event
+    ensures told { (sites : List Site) → AreKept ordered.now.disciplined.now.trace.now sites (tables_of notes.now) access.event
         → slice_get sites s ≡ Some site
-        → AreFound ordered.now.trace.now.trace.now (access.event + 1) found.old.places.items found.old.races.items
-        → IfOk result (λ known. IsTold ordered.now.trace.now.trace.now (tables_of notes.now) access s site known found.old.races.items found.new.places.items found.new.races.items) }
+        → AreFound ordered.now.disciplined.now.trace.now (access.event + 1) found.old.places.items found.old.races.items
+        → IfOk result (λ known. IsTold ordered.now.disciplined.now.trace.now (tables_of notes.now) access s site known found.old.races.items found.new.places.items found.new.races.items) }
 {
     let earliest = notes.earliest_of(ordered, s, site, access);
     if earliest == NONE {
@@ -119,15 +119,15 @@ fn ask_site<O: Order>(
     site: Site,
     access: Access,
 ) -> Result<(), NoMemory>
-    requires access { IsAccess ordered.now.trace.now.trace.now access }
+    requires access { IsAccess ordered.now.disciplined.now.trace.now access }
     requires asked { O.asks ordered.now.order.now access.event ≡ true }
-    requires in_range { (k : ℕ) (link : Link) → slice_get notes.now.links.items k ≡ Some link → link.event < length ordered.now.trace.now.trace.now.events }
+    requires in_range { (k : ℕ) (link : Link) → slice_get notes.now.links.items k ≡ Some link → link.event < length ordered.now.disciplined.now.trace.now.events }
     requires as_many { length found.old.races.items ≡ length found.old.places.items }
     ensures as_many { OnOk result (length found.new.races.items ≡ length found.new.places.items) }
-    ensures asked { (sites : List Site) → AreKept ordered.now.trace.now.trace.now sites (tables_of notes.now) access.event
+    ensures asked { (sites : List Site) → AreKept ordered.now.disciplined.now.trace.now sites (tables_of notes.now) access.event
         → slice_get sites s ≡ Some site
-        → AreFound ordered.now.trace.now.trace.now (access.event + 1) found.old.places.items found.old.races.items
-        → OnOk result (IsAsked ordered.now.trace.now.trace.now (tables_of notes.now) access s found.old.races.items found.new.places.items found.new.races.items) }
+        → AreFound ordered.now.disciplined.now.trace.now (access.event + 1) found.old.places.items found.old.races.items
+        → OnOk result (IsAsked ordered.now.disciplined.now.trace.now (tables_of notes.now) access s found.old.races.items found.new.places.items found.new.races.items) }
 {
     if site.variable != access.variable {
         return Ok(());
@@ -147,14 +147,14 @@ fn ask<O: Order>(
     found: &mut Found,
     access: Access,
 ) -> Result<(), NoMemory>
-    requires access { IsAccess ordered.now.trace.now.trace.now access }
+    requires access { IsAccess ordered.now.disciplined.now.trace.now access }
     requires asked { O.asks ordered.now.order.now access.event ≡ true }
-    requires in_range { (k : ℕ) (link : Link) → slice_get notes.now.links.items k ≡ Some link → link.event < length ordered.now.trace.now.trace.now.events }
+    requires in_range { (k : ℕ) (link : Link) → slice_get notes.now.links.items k ≡ Some link → link.event < length ordered.now.disciplined.now.trace.now.events }
     requires as_many { length found.old.races.items ≡ length found.old.places.items }
     ensures { AreSites sites.now.newest.items sites.now.sites.items
-        → AreKept ordered.now.trace.now.trace.now sites.now.sites.items (tables_of notes.now) access.event
-        → AreFound ordered.now.trace.now.trace.now (access.event + 1) found.old.places.items found.old.races.items
-        → OnOk result (IsAskedAll ordered.now.trace.now.trace.now sites.now.sites.items (tables_of notes.now) access found.old.races.items found.new.places.items found.new.races.items) }
+        → AreKept ordered.now.disciplined.now.trace.now sites.now.sites.items (tables_of notes.now) access.event
+        → AreFound ordered.now.disciplined.now.trace.now (access.event + 1) found.old.places.items found.old.races.items
+        → OnOk result (IsAskedAll ordered.now.disciplined.now.trace.now sites.now.sites.items (tables_of notes.now) access found.old.races.items found.new.places.items found.new.races.items) }
 {
     let mut at = sites.newest_of(access.variable);
     loop {
@@ -178,14 +178,14 @@ fn ask_wanted<O: Order>(
     s: u32,
     access: Access,
 ) -> Result<bool, NoMemory>
-    requires access { IsAccess ordered.now.trace.now.trace.now access }
+    requires access { IsAccess ordered.now.disciplined.now.trace.now access }
     requires asked { O.asks ordered.now.order.now access.event ≡ true }
-    requires in_range { (k : ℕ) (link : Link) → slice_get notes.now.links.items k ≡ Some link → link.event < length ordered.now.trace.now.trace.now.events }
+    requires in_range { (k : ℕ) (link : Link) → slice_get notes.now.links.items k ≡ Some link → link.event < length ordered.now.disciplined.now.trace.now.events }
     requires as_many { length found.old.races.items ≡ length found.old.places.items }
     ensures as_many { OnOk result (length found.new.races.items ≡ length found.new.places.items) }
-    ensures told { AreKept ordered.now.trace.now.trace.now sites.now.sites.items (tables_of notes.now) access.event
-        → AreFound ordered.now.trace.now.trace.now (access.event + 1) found.old.places.items found.old.races.items
-        → IfOk result (λ known. IsToldOf ordered.now.trace.now.trace.now sites.now.sites.items (tables_of notes.now) access s known found.old.races.items found.new.places.items found.new.races.items) }
+    ensures told { AreKept ordered.now.disciplined.now.trace.now sites.now.sites.items (tables_of notes.now) access.event
+        → AreFound ordered.now.disciplined.now.trace.now (access.event + 1) found.old.places.items found.old.races.items
+        → IfOk result (λ known. IsToldOf ordered.now.disciplined.now.trace.now sites.now.sites.items (tables_of notes.now) access s known found.old.races.items found.new.places.items found.new.races.items) }
 {
     let Some(site) = sites.sites.get(s as usize) else {
         return Ok(false);
@@ -205,13 +205,13 @@ fn ask_list<O: Order>(
     list: &mut Vec<u32>,
     access: Access,
 ) -> Result<(), NoMemory>
-    requires access { IsAccess ordered.now.trace.now.trace.now access }
+    requires access { IsAccess ordered.now.disciplined.now.trace.now access }
     requires asked { O.asks ordered.now.order.now access.event ≡ true }
-    requires in_range { (k : ℕ) (link : Link) → slice_get notes.now.links.items k ≡ Some link → link.event < length ordered.now.trace.now.trace.now.events }
+    requires in_range { (k : ℕ) (link : Link) → slice_get notes.now.links.items k ≡ Some link → link.event < length ordered.now.disciplined.now.trace.now.events }
     requires as_many { length found.old.races.items ≡ length found.old.places.items }
-    ensures { AreKept ordered.now.trace.now.trace.now sites.now.sites.items (tables_of notes.now) access.event
-        → AreFound ordered.now.trace.now.trace.now (access.event + 1) found.old.places.items found.old.races.items
-        → OnOk result (AreToldFrom ordered.now.trace.now.trace.now sites.now.sites.items (tables_of notes.now) access 0 list.old.items list.new.items found.old.races.items found.new.places.items found.new.races.items) }
+    ensures { AreKept ordered.now.disciplined.now.trace.now sites.now.sites.items (tables_of notes.now) access.event
+        → AreFound ordered.now.disciplined.now.trace.now (access.event + 1) found.old.places.items found.old.races.items
+        → OnOk result (AreToldFrom ordered.now.disciplined.now.trace.now sites.now.sites.items (tables_of notes.now) access 0 list.old.items list.new.items found.old.races.items found.new.places.items found.new.races.items) }
 {
     let mut left = list.len();
     while left > 0 {
@@ -252,17 +252,17 @@ impl Search {
         s: u32,
         access: Access,
     ) -> Result<(), NoMemory>
-        requires access { IsAccess ordered.now.trace.now.trace.now access }
+        requires access { IsAccess ordered.now.disciplined.now.trace.now access }
         requires asked { O.asks ordered.now.order.now access.event ≡ true }
-        requires in_range { (k : ℕ) (link : Link) → slice_get self.old.notes.links.items k ≡ Some link → link.event < length ordered.now.trace.now.trace.now.events }
-        requires steps_in_range { (k : ℕ) (step : Step) → slice_get self.old.by_thread.steps.items k ≡ Some step → step.event < length ordered.now.trace.now.trace.now.events }
+        requires in_range { (k : ℕ) (link : Link) → slice_get self.old.notes.links.items k ≡ Some link → link.event < length ordered.now.disciplined.now.trace.now.events }
+        requires steps_in_range { (k : ℕ) (step : Step) → slice_get self.old.by_thread.steps.items k ≡ Some step → step.event < length ordered.now.disciplined.now.trace.now.events }
         requires as_many { length self.old.found.races.items ≡ length self.old.found.places.items }
         ensures sites { self.new.sites ≡ self.old.sites }
         ensures notes { self.new.notes ≡ self.old.notes }
         ensures by_thread { self.new.by_thread ≡ self.old.by_thread }
         ensures asked { IsSite self.old.sites.sites.items access.variable access.location s
-            → IsAskable ordered.now.trace.now.trace.now self.old.sites self.old.notes self.old.by_thread self.old.wanted self.old.found access
-            → OnOk result (IsAskedBy ordered.now.trace.now.trace.now self.old.sites self.old.notes self.new.wanted self.old.found self.new.found access) }
+            → IsAskable ordered.now.disciplined.now.trace.now self.old.sites self.old.notes self.old.by_thread self.old.wanted self.old.found access
+            → OnOk result (IsAskedBy ordered.now.disciplined.now.trace.now self.old.sites self.old.notes self.new.wanted self.old.found self.new.found access) }
     {
         let count = self.by_thread.count_of(access.variable);
         let k = self.wanted.number_of(alloc, s)?;
@@ -300,17 +300,17 @@ impl Search {
         is_new: bool,
         access: Access,
     ) -> Result<(), NoMemory>
-        requires access { IsAccess ordered.now.trace.now.trace.now access }
+        requires access { IsAccess ordered.now.disciplined.now.trace.now access }
         requires asked { O.asks ordered.now.order.now access.event ≡ true }
-        requires in_range { (k : ℕ) (link : Link) → slice_get self.old.notes.links.items k ≡ Some link → link.event < length ordered.now.trace.now.trace.now.events }
-        requires steps_in_range { (k : ℕ) (step : Step) → slice_get self.old.by_thread.steps.items k ≡ Some step → step.event < length ordered.now.trace.now.trace.now.events }
+        requires in_range { (k : ℕ) (link : Link) → slice_get self.old.notes.links.items k ≡ Some link → link.event < length ordered.now.disciplined.now.trace.now.events }
+        requires steps_in_range { (k : ℕ) (step : Step) → slice_get self.old.by_thread.steps.items k ≡ Some step → step.event < length ordered.now.disciplined.now.trace.now.events }
         requires as_many { length self.old.found.races.items ≡ length self.old.found.places.items }
         ensures sites { self.new.sites ≡ self.old.sites }
         ensures notes { self.new.notes ≡ self.old.notes }
         ensures by_thread { self.new.by_thread ≡ self.old.by_thread }
         ensures asked { IsSite self.old.sites.sites.items access.variable access.location s
-            → IsAskable ordered.now.trace.now.trace.now self.old.sites self.old.notes self.old.by_thread self.old.wanted self.old.found access
-            → OnOk result (IsAskedBy ordered.now.trace.now.trace.now self.old.sites self.old.notes self.new.wanted self.old.found self.new.found access) }
+            → IsAskable ordered.now.disciplined.now.trace.now self.old.sites self.old.notes self.old.by_thread self.old.wanted self.old.found access
+            → OnOk result (IsAskedBy ordered.now.disciplined.now.trace.now self.old.sites self.old.notes self.new.wanted self.old.found self.new.found access) }
     {
         let many = self.sites.has_many(access.variable);
         if many & !is_new {
@@ -339,11 +339,11 @@ impl Search {
         ordered: &Ordered<'_, O>,
         access: Access,
     ) -> Result<(), NoMemory>
-        requires access { IsAccess ordered.now.trace.now.trace.now access }
+        requires access { IsAccess ordered.now.disciplined.now.trace.now access }
         requires asked { O.asks ordered.now.order.now access.event ≡ true }
-        requires searched { (flags : List Bool) × AreSearched ordered.now.trace.now.trace.now flags self.old.sites self.old.notes self.old.by_thread self.old.wanted self.old.found access.event }
-        ensures { (flags : List Bool) → open_flag flags access.variable ≡ true → AreSearched ordered.now.trace.now.trace.now flags self.old.sites self.old.notes self.old.by_thread self.old.wanted self.old.found access.event
-            → OnOk result (AreSearched ordered.now.trace.now.trace.now flags self.new.sites self.new.notes self.new.by_thread self.new.wanted self.new.found (access.event + 1)) }
+        requires searched { (flags : List Bool) × AreSearched ordered.now.disciplined.now.trace.now flags self.old.sites self.old.notes self.old.by_thread self.old.wanted self.old.found access.event }
+        ensures { (flags : List Bool) → open_flag flags access.variable ≡ true → AreSearched ordered.now.disciplined.now.trace.now flags self.old.sites self.old.notes self.old.by_thread self.old.wanted self.old.found access.event
+            → OnOk result (AreSearched ordered.now.disciplined.now.trace.now flags self.new.sites self.new.notes self.new.by_thread self.new.wanted self.new.found (access.event + 1)) }
     {
         let count = self.sites.count();
         let s = self.sites.number_of(access.variable, access.location)?;
@@ -363,23 +363,23 @@ impl Search {
         flags: &[bool],
         e: u32,
     ) -> Result<(), NoMemory>
-        requires in_range { e < length ordered.now.trace.now.trace.now.events }
+        requires in_range { e < length ordered.now.disciplined.now.trace.now.events }
         requires asked { O.asks ordered.now.order.now e ≡ true }
-        requires settled { AreOpen ordered.now.trace.now.trace.now.events flags.now }
-        requires searched { AreSearched ordered.now.trace.now.trace.now flags.now self.old.sites self.old.notes self.old.by_thread self.old.wanted self.old.found e }
-        requires numbered { AreNumbered ordered.now.trace.now.trace.now locations.old.numbered.items }
-        ensures searched { OnOk result (AreSearched ordered.now.trace.now.trace.now flags.now self.new.sites self.new.notes self.new.by_thread self.new.wanted self.new.found (e + 1)) }
-        ensures numbered { OnOk result (AreNumbered ordered.now.trace.now.trace.now locations.new.numbered.items) }
+        requires settled { AreOpen ordered.now.disciplined.now.trace.now.events flags.now }
+        requires searched { AreSearched ordered.now.disciplined.now.trace.now flags.now self.old.sites self.old.notes self.old.by_thread self.old.wanted self.old.found e }
+        requires numbered { AreNumbered ordered.now.disciplined.now.trace.now locations.old.numbered.items }
+        ensures searched { OnOk result (AreSearched ordered.now.disciplined.now.trace.now flags.now self.new.sites self.new.notes self.new.by_thread self.new.wanted self.new.found (e + 1)) }
+        ensures numbered { OnOk result (AreNumbered ordered.now.disciplined.now.trace.now locations.new.numbered.items) }
     {
-        let op = ordered.trace.events.op(e);
+        let op = ordered.disciplined.events.op(e);
         let Some(variable) = op.variable() else {
             return Ok(());
         };
         if !is_open(flags, variable) {
             return Ok(());
         }
-        let thread = ordered.trace.events.thread(e);
-        let location = locations.number_of(ordered.trace, e, thread)?;
+        let thread = ordered.disciplined.events.thread(e);
+        let location = locations.number_of(ordered.disciplined, e, thread)?;
         let access = Access {
             event: e,
             thread,

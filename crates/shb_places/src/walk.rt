@@ -72,16 +72,16 @@ fn walk_steps<O: Order>(
     walk: Walk,
     access: Access,
 ) -> Result<u32, NoMemory>
-    requires access { IsAccess ordered.now.trace.now.trace.now access }
-    requires in_range { (k : ℕ) (step : Step) → slice_get steps.now k ≡ Some step → step.event < length ordered.now.trace.now.trace.now.events }
+    requires access { IsAccess ordered.now.disciplined.now.trace.now access }
+    requires in_range { (k : ℕ) (step : Step) → slice_get steps.now k ≡ Some step → step.event < length ordered.now.disciplined.now.trace.now.events }
     requires as_many { length found.old.races.items ≡ length found.old.places.items }
     ensures as_many { OnOk result (length found.new.races.items ≡ length found.new.places.items) }
-    ensures walked { AreRivals ordered.now.trace.now.trace.now steps.now access walk.step walk.bound
-        → AreReady ordered.now.trace.now.trace.now access found.old.places.items found.old.races.items marks.old.items
-        → IfOk result (λ left. IsWalked ordered.now.trace.now.trace.now access (IsStepFrom steps.now walk.step) (left ≢ 0) found.old.races.items found.new.places.items found.new.races.items) }
-    ensures marked { AreRivals ordered.now.trace.now.trace.now steps.now access walk.step walk.bound
-        → AreReady ordered.now.trace.now.trace.now access found.old.places.items found.old.races.items marks.old.items
-        → OnOk result (AreMarked ordered.now.trace.now.trace.now found.new.races.items access.variable access.location marks.new.items) }
+    ensures walked { AreRivals ordered.now.disciplined.now.trace.now steps.now access walk.step walk.bound
+        → AreReady ordered.now.disciplined.now.trace.now access found.old.places.items found.old.races.items marks.old.items
+        → IfOk result (λ left. IsWalked ordered.now.disciplined.now.trace.now access (IsStepFrom steps.now walk.step) (left ≢ 0) found.old.races.items found.new.places.items found.new.races.items) }
+    ensures marked { AreRivals ordered.now.disciplined.now.trace.now steps.now access walk.step walk.bound
+        → AreReady ordered.now.disciplined.now.trace.now access found.old.places.items found.old.races.items marks.old.items
+        → OnOk result (AreMarked ordered.now.disciplined.now.trace.now found.new.races.items access.variable access.location marks.new.items) }
 {
     let mut left = walk.left;
     let mut at = walk.step;
@@ -113,17 +113,17 @@ fn walk_entry<O: Order>(
     turn: Turn,
     access: Access,
 ) -> Result<u32, NoMemory>
-    requires access { IsAccess ordered.now.trace.now.trace.now access }
+    requires access { IsAccess ordered.now.disciplined.now.trace.now access }
     requires asked { O.asks ordered.now.order.now access.event ≡ true }
-    requires in_range { (k : ℕ) (step : Step) → slice_get by_thread.now.steps.items k ≡ Some step → step.event < length ordered.now.trace.now.trace.now.events }
+    requires in_range { (k : ℕ) (step : Step) → slice_get by_thread.now.steps.items k ≡ Some step → step.event < length ordered.now.disciplined.now.trace.now.events }
     requires as_many { length found.old.races.items ≡ length found.old.places.items }
     ensures as_many { OnOk result (length found.new.races.items ≡ length found.new.places.items) }
-    ensures walked { AreByThread ordered.now.trace.now.trace.now (thread_tables by_thread.now) access.event
-        → AreReady ordered.now.trace.now.trace.now access found.old.places.items found.old.races.items marks.old.items
-        → IfOk result (λ left. IsWalked ordered.now.trace.now.trace.now access (IsStepIn (thread_tables by_thread.now) access.variable turn.entry) (left ≢ 0) found.old.races.items found.new.places.items found.new.races.items) }
-    ensures marked { AreByThread ordered.now.trace.now.trace.now (thread_tables by_thread.now) access.event
-        → AreReady ordered.now.trace.now.trace.now access found.old.places.items found.old.races.items marks.old.items
-        → OnOk result (AreMarked ordered.now.trace.now.trace.now found.new.races.items access.variable access.location marks.new.items) }
+    ensures walked { AreByThread ordered.now.disciplined.now.trace.now (thread_tables by_thread.now) access.event
+        → AreReady ordered.now.disciplined.now.trace.now access found.old.places.items found.old.races.items marks.old.items
+        → IfOk result (λ left. IsWalked ordered.now.disciplined.now.trace.now access (IsStepIn (thread_tables by_thread.now) access.variable turn.entry) (left ≢ 0) found.old.races.items found.new.places.items found.new.races.items) }
+    ensures marked { AreByThread ordered.now.disciplined.now.trace.now (thread_tables by_thread.now) access.event
+        → AreReady ordered.now.disciplined.now.trace.now access found.old.places.items found.old.races.items marks.old.items
+        → OnOk result (AreMarked ordered.now.disciplined.now.trace.now found.new.races.items access.variable access.location marks.new.items) }
 {
     let Some(entry) = by_thread.entries.get(turn.entry as usize) else {
         return Ok(turn.left);
@@ -167,18 +167,18 @@ pub fn walk_races<O: Order>(
     access: Access,
     steps: u32,
 ) -> Result<bool, NoMemory>
-    requires access { IsAccess ordered.now.trace.now.trace.now access }
+    requires access { IsAccess ordered.now.disciplined.now.trace.now access }
     requires asked { O.asks ordered.now.order.now access.event ≡ true }
-    requires in_range { (k : ℕ) (step : Step) → slice_get by_thread.now.steps.items k ≡ Some step → step.event < length ordered.now.trace.now.trace.now.events }
+    requires in_range { (k : ℕ) (step : Step) → slice_get by_thread.now.steps.items k ≡ Some step → step.event < length ordered.now.disciplined.now.trace.now.events }
     requires as_many { length found.old.races.items ≡ length found.old.places.items }
     ensures as_many { OnOk result (length found.new.races.items ≡ length found.new.places.items) }
     ensures followed { IfOk result (λ all. all ≡ true → is_followed by_thread.now.followed.items access.variable ≡ true) }
-    ensures walked { AreByThread ordered.now.trace.now.trace.now (thread_tables by_thread.now) access.event
-        → AreReady ordered.now.trace.now.trace.now access found.old.places.items found.old.races.items marks.old.items
-        → IfOk result (λ all. IsWalked ordered.now.trace.now.trace.now access (IsStepOf (thread_tables by_thread.now) access.variable) (all ≡ true) found.old.races.items found.new.places.items found.new.races.items) }
-    ensures marked { AreByThread ordered.now.trace.now.trace.now (thread_tables by_thread.now) access.event
-        → AreReady ordered.now.trace.now.trace.now access found.old.places.items found.old.races.items marks.old.items
-        → OnOk result (AreMarked ordered.now.trace.now.trace.now found.new.races.items access.variable access.location marks.new.items) }
+    ensures walked { AreByThread ordered.now.disciplined.now.trace.now (thread_tables by_thread.now) access.event
+        → AreReady ordered.now.disciplined.now.trace.now access found.old.places.items found.old.races.items marks.old.items
+        → IfOk result (λ all. IsWalked ordered.now.disciplined.now.trace.now access (IsStepOf (thread_tables by_thread.now) access.variable) (all ≡ true) found.old.races.items found.new.places.items found.new.races.items) }
+    ensures marked { AreByThread ordered.now.disciplined.now.trace.now (thread_tables by_thread.now) access.event
+        → AreReady ordered.now.disciplined.now.trace.now access found.old.places.items found.old.races.items marks.old.items
+        → OnOk result (AreMarked ordered.now.disciplined.now.trace.now found.new.races.items access.variable access.location marks.new.items) }
 {
     if steps == 0 || !by_thread.follows(access.variable) {
         return Ok(false);

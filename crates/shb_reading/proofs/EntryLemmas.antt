@@ -1,8 +1,7 @@
 -- One block or place more.
-use Rattle.std.proofs.Common.{◌≡◌, Result, Ok, Err, IsErrAnd, ℕ, zero, suc, ◌+◌, ◌-◌, ◌<◌, ◌≤◌, ◌^◌, List, [], ◌∷◌, ◌++◌, length, map, codes, take, drop, refl, sym, ap, subst, ◌∙◌, arith, append_assoc, length-append, length-drop}
+use Rattle.std.proofs.Common.{◌≡◌, Result, Ok, Err, IsErrAnd, ℕ, suc, ◌+◌, ◌-◌, ◌<◌, ◌≤◌, ◌^◌, List, [], ◌∷◌, ◌++◌, length, map, codes, take, drop, refl, sym, ap, subst, ◌∙◌, arith, append_assoc, length-append, length-drop}
 use Rattle.std.proofs.lemmas.List.{drop-append-le, length-map, map-append, map-id, take-append-le, take_all}
 use Rattle.std.proofs.Math.Seq.{drop-append_seam}
-use Rattle.std.specs.Prelude.{Some, slice_get}
 use Rattle.std.specs.List.{AllByRecursion}
 use Rattle.shb_reading.specs.declared.position.Position.{Position}
 use Rattle.shb_reading.specs.declared.position.ReadStop.{ReadStop}
@@ -16,7 +15,7 @@ use Rattle.shb_reading.specs.Parts.{IsPlaceIn, IsRaceIn, IsSpanIn, ReadsBlock, R
 use Rattle.shb_reading.specs.Labels.{AddsShown}
 use Rattle.shb_report.proofs.EachLemmas.{each-push, each-weaker}
 use Rattle.shb_report.proofs.LineLemmas.{block_lines-append, joined, place_lines-append}
-use Rattle.shb_report.specs.Value.{Block, IsBlock, IsPlace, IsRest, IsShown, Place, block_lines, lines_text, numbers_line, place_lines, race_numbers_line}
+use Rattle.shb_report.specs.Value.{Block, IsBlock, IsPlace, IsRest, IsShown, block_lines, lines_text, numbers_line, place_lines, race_numbers_line}
 
 pub stop_weaker : (stop : ReadStop) (P Q : ℕ → Type 0) → ((n : ℕ) → P n → Q n) → IfStop stop P → IfStop stop Q
 stop_weaker (BadLine n) P Q weaker h = weaker n h

@@ -1,5 +1,5 @@
 -- Which text is a report, and which of its lines is the first bad one.
-use Rattle.std.specs.Prelude.{◌≡◌, ℕ, ◌+◌, ◌<◌, ◌≤◌, List, ◌++◌, length, take, Result, Ok, Err}
+use Rattle.std.specs.Prelude.{◌≡◌, ℕ, ◌<◌, ◌≤◌, Bool, true, false, List, ◌++◌, length, take, Result, Ok, Err}
 use Rattle.shb_reading.specs.declared.report.ReportError.{ReportError}
 use Rattle.shb_reading.specs.declared.report.ReportError.TheVariants as errors
 use Rattle.shb_report.specs.Value.{IsReportValue, ReportValue, lines_text, report_lines, report_text}
@@ -32,9 +32,8 @@ IfBadLine (Err (errors.BadLine n)) P = P n
 IfBadLine (Err errors.Source) P = Unit {0}
 IfBadLine (Err errors.Memory) P = Unit {0}
 
--- the source failed once where that is the answer, and else not at all
-abbrev pub IsSourceCounted : {T : Type 0} → ℕ → ℕ → Result T ReportError → Type 0
-IsSourceCounted old new (Ok report) = new ≡ old
-IsSourceCounted old new (Err (errors.BadLine n)) = new ≡ old
-IsSourceCounted old new (Err errors.Source) = new ≡ old + 1
-IsSourceCounted old new (Err errors.Memory) = new ≡ old
+-- the error of the reading of a report that names its source
+abbrev pub report_read_failed : ReportError → Bool
+report_read_failed (errors.BadLine n) = false
+report_read_failed errors.Source = true
+report_read_failed errors.Memory = false

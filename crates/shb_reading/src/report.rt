@@ -1,11 +1,12 @@
 //! A report that was read.
 ghost use Rattle.std.specs.Prelude.{◌≡◌, ◌+◌, ◌<◌, ◌≤◌, ◌^◌, ◌-◌, ℕ, List, Some, length, take, drop, option_map, slice_get, IfOk};
+ghost use Rattle.shb_io.specs.Devices.{CountsFailure};
 ghost use Rattle.shb_lines.specs.text.Limits.{most_bytes, most_read};
 ghost use Rattle.shb_lines.specs.text.Taking.{ReadsText, TakesAtMost};
 ghost use Rattle.shb_reading.specs.BlockLines.{block_in};
 ghost use Rattle.shb_reading.specs.Lines.{IfBad, IfStop};
 ghost use Rattle.shb_reading.specs.Parts.{ArePartsIn, bytes_at, report_at};
-ghost use Rattle.shb_reading.specs.Reading.{IfBadLine, IsBadLine, IsReportText, IsSourceCounted};
+ghost use Rattle.shb_reading.specs.Reading.{IfBadLine, IsBadLine, IsReportText, report_read_failed};
 ghost use Rattle.shb_report.specs.Value.{listed_places, version_of};
 
 use crate::listed::{Listed, Section, bytes_in, listed_at, numbers_in, section_of};
@@ -245,7 +246,7 @@ pub fn read_report_within<S: Source>(
     // No more than those are gone, whatever is answered.
     ensures taken { TakesAtMost (limit + 1) (S.remaining source.old) (S.remaining source.new) }
     ensures given { S.given_count source.new ≤ S.given_count source.old + (limit + 1) }
-    ensures counted { IsSourceCounted (S.failure_count source.old) (S.failure_count source.new) result }
+    ensures counted { CountsFailure report_read_failed (S.failure_count source.old) (S.failure_count source.new) result }
 {
     let text = match read_whole(alloc, source, limit) {
         Ok(text) => text,
@@ -269,7 +270,7 @@ pub fn read_report<S: Source>(alloc: Global, source: &mut S) -> Result<Report, R
         (S.given_count source.old) (S.given_count source.new) (λ text. IsBadLine most_bytes text n)) }
     ensures taken { TakesAtMost most_read (S.remaining source.old) (S.remaining source.new) }
     ensures given { S.given_count source.new ≤ S.given_count source.old + most_read }
-    ensures counted { IsSourceCounted (S.failure_count source.old) (S.failure_count source.new) result }
+    ensures counted { CountsFailure report_read_failed (S.failure_count source.old) (S.failure_count source.new) result }
 {
     read_report_within(alloc, source, MOST_BYTES)
 }

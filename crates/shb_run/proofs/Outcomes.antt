@@ -1,12 +1,13 @@
 -- From what the parts of a run answer to its outcome, exit by exit.
 use Rattle.std.proofs.Common.{◌≡◌, ◌⊎◌, ◌+◌, ◌≤◌, ℕ, inl, Bool, List, Option, Result, Ok, Err, IsErrAnd, refl, sym, subst}
+use Rattle.shb_io.specs.Devices.{CountsFailure}
 use Rattle.shb_lines.specs.declared.event.Event.{Event}
 use Rattle.shb_lines.specs.declared.fault.LineFault.{LineFault}
 use Rattle.shb_lines.specs.declared.read.ReadError.{ReadError}
 use Rattle.shb_lines.specs.declared.read.ReadError.TheVariants as reading
 use Rattle.shb_lines.specs.events.Discipline.{IsDisciplined}
 use Rattle.shb_lines.specs.text.Limits.{most_read, standard_limits}
-use Rattle.shb_lines.specs.text.Taking.{IsSourceCounted, ReadsText, TakesAtMost}
+use Rattle.shb_lines.specs.text.Taking.{ReadsText, TakesAtMost, read_failed}
 use Rattle.shb_lines.specs.text.TraceData.{IsReadingOf, TraceData}
 use Rattle.shb_lines.proofs.text.TakingLemmas.{reads_left, reads_then, reads_told}
 use Rattle.shb_discipline.specs.FirstFault.{IsFirstFault}
@@ -27,13 +28,13 @@ module _ {A B : Type 0} (choice : Choice) (ws : Bool) (remaining : A → Option 
     (lost : TakesAtMost most_read (remaining source) (remaining left)) (gave : given left ≤ given source + most_read) where
   -- the text was not read
   pub of_unread : (U : Type 0) (error : ReadError) (r : Result Summary RunError) → IsErrAnd r (λ e. e ≡ error_of_reading error)
-      → IsSourceCounted {T = U} (failed_reads source) (failed_reads left) (Err error)
+      → CountsFailure {T = U} read_failed (failed_reads source) (failed_reads left) (Err error)
       → IsOutcome choice ws remaining given failed_reads source left taken failed_writes sink sink r
   of_unread U error (Ok x) is counted = absurd is
   of_unread U error (Err e) is counted =
       subst (λ (e : RunError). IsOutcome choice ws remaining given failed_reads source left taken failed_writes sink sink (Err e)) (sym is) (by error counted)
     where
-      by : (error : ReadError) → IsSourceCounted {T = U} (failed_reads source) (failed_reads left) (Err error)
+      by : (error : ReadError) → CountsFailure {T = U} read_failed (failed_reads source) (failed_reads left) (Err error)
           → IsOutcome choice ws remaining given failed_reads source left taken failed_writes sink sink (Err (error_of_reading error))
       by reading.Source counted = record {
         read = tt;

@@ -1,11 +1,12 @@
 -- What a run answers, and what it leaves of its source and its sink.
 use Rattle.std.specs.Prelude.{◌≡◌, ◌⊎◌, ◌+◌, ◌≤◌, ℕ, Bool, List, Option, Some, Result, IfOk, IfSome, drop}
+use Rattle.shb_io.specs.Devices.{CountsFailure}
 use Rattle.shb_lines.specs.declared.fault.Fault.{Fault}
 use Rattle.shb_lines.specs.text.Limits.{most_read, standard_limits}
 use Rattle.shb_lines.specs.text.Taking.{ReadsText, TakesAtMost}
 use Rattle.shb_discipline.specs.FirstFault.{IsFirstFault}
 use Rattle.shb_check.specs.declared.errors.RunError.{RunError}
-use Rattle.shb_check.specs.Outcomes.{CountsSink, CountsSource, Grows, OnJudged, OnMemory, OnNoTrace, OnSink, OnTrace}
+use Rattle.shb_check.specs.Outcomes.{Grows, OnJudged, OnMemory, OnNoTrace, OnSink, OnTrace, sink_failed, source_failed}
 use Rattle.shb_write.specs.Written.{CutsBlocksOn, CutsReportOn}
 use Rattle.shb_run.specs.declared.settings.Choice.{Choice}
 use Rattle.shb_run.specs.declared.settings.Summary.{Summary}
@@ -38,5 +39,5 @@ module _ {A B : Type 0} (choice : Choice) (with_schedules : Bool) (remaining : A
     pub gave : given left ≤ given source + most_read
     pub judged : OnJudged answer (IfSome (remaining source) (λ text. remaining left ≡ Some (drop most_read text)))
     -- an error of a device comes with one failure more of that device, and no other answer does
-    pub source_counted : CountsSource (failed_reads source) (failed_reads left) answer
-    pub sink_counted : CountsSink (failed_writes sink) (failed_writes written) answer
+    pub source_counted : CountsFailure source_failed (failed_reads source) (failed_reads left) answer
+    pub sink_counted : CountsFailure sink_failed (failed_writes sink) (failed_writes written) answer

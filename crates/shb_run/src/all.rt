@@ -1,9 +1,10 @@
 //! The report of all races of a trace.
 ghost use Rattle.std.specs.Prelude.{◌≡◌, ◌⊎◌, ◌-◌, ◌^◌, ◌<◌, IfOk};
+ghost use Rattle.shb_io.specs.Devices.{CountsFailure};
 ghost use Rattle.shb_report.specs.Report.{AllRaces};
 ghost use Rattle.shb_run.specs.Runs.{FitsU64};
 ghost use Rattle.shb_run.specs.Written.{CutsBlocks, CutsReport, ReportsTrace};
-ghost use Rattle.shb_write.specs.Written.{IsSinkCounted, OnFailedSink, OnNoMemory};
+ghost use Rattle.shb_write.specs.Written.{OnFailedSink, OnNoMemory, write_failed};
 
 use crate::pipeline::summary_of;
 use crate::screened::Screened;
@@ -35,22 +36,22 @@ pub(crate) fn report_found<
 ) -> Result<Summary, WriteError>
     requires countable { K.failure_count sink.old < 2 ^ 64 - 1 }
     ensures report { IfOk result (λ summary.
-        ReportsTrace AllRaces settings.schedules screened.now.ordered.now.trace.now.trace.now summary
+        ReportsTrace AllRaces settings.schedules screened.now.ordered.now.disciplined.now.trace.now summary
         (K.taken sink.old) (K.taken sink.new)) }
     ensures fits { IfOk result FitsU64 }
-    ensures cut { OnFailedSink result (CutsReport settings.schedules screened.now.ordered.now.trace.now.trace.now
+    ensures cut { OnFailedSink result (CutsReport settings.schedules screened.now.ordered.now.disciplined.now.trace.now
         (K.taken sink.old) (K.taken sink.new)) }
     ensures memory { OnNoMemory result ((sink.new ≡ sink.old)
-        ⊎ CutsBlocks settings.schedules screened.now.ordered.now.trace.now.trace.now
+        ⊎ CutsBlocks settings.schedules screened.now.ordered.now.disciplined.now.trace.now
         (K.taken sink.old) (K.taken sink.new)) }
-    ensures counted { IsSinkCounted (K.failure_count sink.old) (K.failure_count sink.new) result }
+    ensures counted { CountsFailure write_failed (K.failure_count sink.old) (K.failure_count sink.new) result }
 {
     let ordered = screened.ordered;
-    let accesses = accesses_of_open(alloc, ordered.trace, screened.flags)?;
+    let accesses = accesses_of_open(alloc, ordered.disciplined, screened.flags)?;
     let pieces = pieces(alloc, &accesses)?;
     let job = RangeJob::new(
         ordered.order,
-        ordered.trace,
+        ordered.disciplined,
         ordered.links,
         &accesses,
         &pieces,
@@ -62,5 +63,5 @@ pub(crate) fn report_found<
         gate: gates.witness,
     };
     let races = write_search(rt, alloc, sink, &search, &plan)?;
-    Ok(summary_of(ordered.trace.trace, races))
+    Ok(summary_of(ordered.disciplined.trace, races))
 }

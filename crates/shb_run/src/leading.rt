@@ -1,11 +1,12 @@
 //! The report of the leading races of a trace: of each place the first race.
 ghost use Rattle.std.specs.Prelude.{◌≡◌, ◌⊎◌, ◌-◌, ◌^◌, ◌<◌, IfOk, map};
+ghost use Rattle.shb_io.specs.Devices.{CountsFailure};
 ghost use Rattle.shb_lines.specs.events.Race.{ends};
 ghost use Rattle.shb_report.specs.Report.{LeadingRaces};
 ghost use Rattle.shb_run.specs.Runs.{FitsU64};
 ghost use Rattle.shb_run.specs.Written.{ReportsTrace};
 ghost use Rattle.shb_witness.specs.Schedules.{AsksEach};
-ghost use Rattle.shb_write.specs.Written.{CutsBlocksOn, CutsReportOn, IsSinkCounted, OnFailedSink, OnNoMemory};
+ghost use Rattle.shb_write.specs.Written.{CutsBlocksOn, CutsReportOn, OnFailedSink, OnNoMemory, write_failed};
 
 use crate::pipeline::{links_for, summary_of};
 use crate::settings::{Settings, Summary};
@@ -34,20 +35,20 @@ fn write_leading<R: Threads + Wait + Sync + RandomSource, K: Sink, O: Order + Sy
     plan: &BlockPlan<'_, G>,
 ) -> Result<Summary, WriteError>
     requires countable { K.failure_count sink.old < 2 ^ 64 - 1 }
-    requires listed { LeadingRaces ordered.now.trace.now.trace.now (map ends races.now) }
+    requires listed { LeadingRaces ordered.now.disciplined.now.trace.now (map ends races.now) }
     requires asked { AsksEach (O.asks ordered.now.order.now) races.now }
-    ensures report { IfOk result (λ summary. ReportsTrace LeadingRaces plan.now.schedules ordered.now.trace.now.trace.now summary
+    ensures report { IfOk result (λ summary. ReportsTrace LeadingRaces plan.now.schedules ordered.now.disciplined.now.trace.now summary
         (K.taken sink.old) (K.taken sink.new)) }
     ensures fits { IfOk result FitsU64 }
-    ensures cut { OnFailedSink result (CutsReportOn LeadingRaces plan.now.schedules ordered.now.trace.now.trace.now
+    ensures cut { OnFailedSink result (CutsReportOn LeadingRaces plan.now.schedules ordered.now.disciplined.now.trace.now
         (K.taken sink.old) (K.taken sink.new)) }
     ensures memory { OnNoMemory result ((sink.new ≡ sink.old)
-        ⊎ CutsBlocksOn LeadingRaces plan.now.schedules ordered.now.trace.now.trace.now
+        ⊎ CutsBlocksOn LeadingRaces plan.now.schedules ordered.now.disciplined.now.trace.now
         (K.taken sink.old) (K.taken sink.new)) }
-    ensures counted { IsSinkCounted (K.failure_count sink.old) (K.failure_count sink.new) result }
+    ensures counted { CountsFailure write_failed (K.failure_count sink.old) (K.failure_count sink.new) result }
 {
     write_report(rt, alloc, sink, ordered, races, plan)?;
-    Ok(summary_of(ordered.trace.trace, races.len() as u64))
+    Ok(summary_of(ordered.disciplined.trace, races.len() as u64))
 }
 
 /// Finds the leading races of a trace, and writes their report. No list of all races is made, and
@@ -69,7 +70,7 @@ pub(crate) fn report_leading<R: Threads + Wait + Sync + RandomSource, K: Sink, W
     ensures memory { OnNoMemory result ((sink.new ≡ sink.old)
         ⊎ CutsBlocksOn LeadingRaces settings.schedules trace.now.trace.now
         (K.taken sink.old) (K.taken sink.new)) }
-    ensures counted { IsSinkCounted (K.failure_count sink.old) (K.failure_count sink.new) result }
+    ensures counted { CountsFailure write_failed (K.failure_count sink.old) (K.failure_count sink.new) result }
 {
     let links = links_for(alloc, &*trace, settings.schedules)?;
     let flags = open_variables(alloc, &*trace, &links)?;

@@ -1,10 +1,11 @@
 //! The whole run: read, judge, find the races, write.
 ghost use Rattle.std.specs.Prelude.{◌≡◌, ◌⊎◌, ◌-◌, ◌^◌, ◌<◌, IfOk};
+ghost use Rattle.shb_io.specs.Devices.{CountsFailure};
 ghost use Rattle.shb_report.specs.Report.{AllRaces};
 ghost use Rattle.shb_run.specs.declared.settings.Choice.TheVariants.{All};
 ghost use Rattle.shb_run.specs.Outcomes.{IsOutcome};
 ghost use Rattle.shb_run.specs.Runs.{FitsU64};
-ghost use Rattle.shb_write.specs.Written.{CutsBlocksOn, CutsReportOn, IsSinkCounted, OnFailedSink, OnNoMemory};
+ghost use Rattle.shb_write.specs.Written.{CutsBlocksOn, CutsReportOn, OnFailedSink, OnNoMemory, write_failed};
 ghost use Rattle.shb_run.specs.Written.{CutsBlocks, CutsReport, ListedBy, ReportsTrace, summary_of};
 
 use crate::all::report_found;
@@ -72,7 +73,7 @@ fn report_all<R: Threads + Wait + Sync + RandomSource, K: Sink, P: Gate + Sync, 
     ensures memory { OnNoMemory result ((sink.new ≡ sink.old)
         ⊎ CutsBlocks settings.schedules trace.now.trace.now
         (K.taken sink.old) (K.taken sink.new)) }
-    ensures counted { IsSinkCounted (K.failure_count sink.old) (K.failure_count sink.new) result }
+    ensures counted { CountsFailure write_failed (K.failure_count sink.old) (K.failure_count sink.new) result }
 {
     let links = links_for(alloc, &*trace, settings.schedules)?;
     let flags = open_variables(alloc, &*trace, &links)?;
@@ -100,7 +101,7 @@ fn report_asked<R: Threads + Wait + Sync + RandomSource, K: Sink, P: Gate + Sync
     ensures memory { OnNoMemory result ((sink.new ≡ sink.old)
         ⊎ CutsBlocksOn (ListedBy task.choice) task.settings.schedules trace.now.trace.now
         (K.taken sink.old) (K.taken sink.new)) }
-    ensures counted { IsSinkCounted (K.failure_count sink.old) (K.failure_count sink.new) result }
+    ensures counted { CountsFailure write_failed (K.failure_count sink.old) (K.failure_count sink.new) result }
 {
     match task.choice {
         Choice::All => report_all(rt, alloc, sink, trace, task.settings, gates),

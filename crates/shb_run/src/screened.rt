@@ -12,16 +12,16 @@ pub(crate) struct Screened<'s, 'a, 'f, O: Order> {
     pub(crate) ordered: &'s Ordered<'a, O>,
     /// Which variables are open.
     pub(crate) flags: &'f [bool],
-    pub(crate) ghost settled: { AreOpen ordered.now.trace.now.events.now flags.now },
-    pub(crate) ghost asked: { AsksOpen (O.asks ordered.now.order.now) flags.now ordered.now.trace.now.events.now },
+    pub(crate) ghost settled: { AreOpen ordered.now.disciplined.now.events.now flags.now },
+    pub(crate) ghost asked: { AsksOpen (O.asks ordered.now.order.now) flags.now ordered.now.disciplined.now.events.now },
 }
 
 impl<'s, 'a, 'f, O: Order> Screened<'s, 'a, 'f, O> {
     /// An ordered trace, and these flags of its variables.
     pub(crate) fn new(ordered: &'s Ordered<'a, O>, flags: &'f [bool]) -> Screened<'s, 'a, 'f, O>
-        requires settled { AreOpen ordered.now.trace.now.events.now flags.now }
-        requires asked { AsksOpen (O.asks ordered.now.order.now) flags.now ordered.now.trace.now.events.now }
-        ensures { result.ordered.now.trace.now ≡ ordered.now.trace.now }
+        requires settled { AreOpen ordered.now.disciplined.now.events.now flags.now }
+        requires asked { AsksOpen (O.asks ordered.now.order.now) flags.now ordered.now.disciplined.now.events.now }
+        ensures { result.ordered.now.disciplined.now ≡ ordered.now.disciplined.now }
     {
         Screened { ordered, flags }
     }

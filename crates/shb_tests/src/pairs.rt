@@ -58,15 +58,15 @@ fn found_among<O: Order>(
     ordered: &Ordered<'_, O>,
     accesses: &Accesses<'_>,
 ) -> Result<Found, NoMemory>
-    requires accesses { accesses.now.trace ≡ ordered.now.trace.now.events.now }
-    requires asked { AsksOpen (O.asks ordered.now.order.now) accesses.now.flags ordered.now.trace.now.events.now }
+    requires accesses { accesses.now.trace ≡ ordered.now.disciplined.now.events.now }
+    requires asked { AsksOpen (O.asks ordered.now.order.now) accesses.now.flags ordered.now.disciplined.now.events.now }
 {
     let pieces = pieces(alloc, accesses)?;
     let mut counts = Vec::new(alloc);
     let mut races = Vec::new(alloc);
     let job = PairJob::new(
         ordered.order,
-        ordered.trace,
+        ordered.disciplined,
         ordered.links,
         &*accesses,
         pieces.as_slice(),
@@ -128,10 +128,16 @@ fn push_races(
     ordered: &Ordered<'_, FullClocks<'_>>,
     second: u32,
 ) -> Result<(), NoMemory>
-    requires second { second < length ordered.now.trace.now.events.now }
+    requires second { second < length ordered.now.disciplined.now.events.now }
 {
     for first in 0..second {
-        if is_race(ordered.order, ordered.trace, ordered.links, first, second) {
+        if is_race(
+            ordered.order,
+            ordered.disciplined,
+            ordered.links,
+            first,
+            second,
+        ) {
             races.push(pair(first, second))?;
         }
     }

@@ -17,14 +17,14 @@ pub fn cuts_of<O: Order>(
     ordered: &Ordered<'_, O>,
     pair: Pair,
 ) -> Result<Vec<u32>, NoMemory>
-    requires first { pair.first < length ordered.now.trace.now.events.now }
-    requires second { pair.second < length ordered.now.trace.now.events.now }
+    requires first { pair.first < length ordered.now.disciplined.now.events.now }
+    requires second { pair.second < length ordered.now.disciplined.now.events.now }
     requires asked { AsksBoth (O.asks ordered.now.order.now) pair }
-    ensures { IfOk result (λ cuts. HasCuts ordered.now.trace.now.events.now pair.first pair.second
-        ordered.now.trace.now.sizes.threads cuts.items) }
+    ensures { IfOk result (λ cuts. HasCuts ordered.now.disciplined.now.events.now pair.first pair.second
+        ordered.now.disciplined.now.sizes.threads cuts.items) }
 {
-    let mut cuts = Vec::with_capacity(alloc, ordered.trace.sizes.threads as usize)?;
-    for thread in 0..ordered.trace.sizes.threads {
+    let mut cuts = Vec::with_capacity(alloc, ordered.disciplined.sizes.threads as usize)?;
+    for thread in 0..ordered.disciplined.sizes.threads {
         let first = ordered.order.below_pred(pair.first, thread);
         let second = ordered.order.below_pred(pair.second, thread);
         cuts.push(first.max(second))?;
@@ -34,9 +34,9 @@ pub fn cuts_of<O: Order>(
 
 /// The position after the predecessor of an event, or 0 where it has none.
 fn after_pred<O: Order>(ordered: &Ordered<'_, O>, e: u32) -> u32
-    requires in_range { e < length ordered.now.trace.now.events.now }
-    ensures within { result ≤ length ordered.now.trace.now.events.now }
-    ensures above { (k : ℕ) → BelowPred ordered.now.trace.now.events.now k e → k < result }
+    requires in_range { e < length ordered.now.disciplined.now.events.now }
+    ensures within { result ≤ length ordered.now.disciplined.now.events.now }
+    ensures above { (k : ℕ) → BelowPred ordered.now.disciplined.now.events.now k e → k < result }
 {
     match ordered.links.pred(e) {
         Some(p) => p + 1,
@@ -46,10 +46,10 @@ fn after_pred<O: Order>(ordered: &Ordered<'_, O>, e: u32) -> u32
 
 /// A position at which nothing, and after which nothing, is below a predecessor of the pair.
 pub fn end_of<O: Order>(ordered: &Ordered<'_, O>, pair: Pair) -> u32
-    requires first { pair.first < length ordered.now.trace.now.events.now }
-    requires second { pair.second < length ordered.now.trace.now.events.now }
-    ensures within { result ≤ length ordered.now.trace.now.events.now }
-    ensures above { (k : ℕ) → BelowEither ordered.now.trace.now.events.now pair.first pair.second k
+    requires first { pair.first < length ordered.now.disciplined.now.events.now }
+    requires second { pair.second < length ordered.now.disciplined.now.events.now }
+    ensures within { result ≤ length ordered.now.disciplined.now.events.now }
+    ensures above { (k : ℕ) → BelowEither ordered.now.disciplined.now.events.now pair.first pair.second k
         → k < result }
 {
     after_pred(ordered, pair.first).max(after_pred(ordered, pair.second))

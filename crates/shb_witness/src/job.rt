@@ -32,10 +32,10 @@ pub struct WitnessJob<'a, O: Order> {
 impl<'a, O: Order> Model for WitnessJob<'a, O> {
     ghost Value = { Asked };
 
-    ghost view = { λ j. record { trace = j.ordered.trace.now.events.now; races = j.pairs.now } };
+    ghost view = { λ j. record { trace = j.ordered.disciplined.now.events.now; races = j.pairs.now } };
 
-    ghost invariant = { λ j. AreRaces j.ordered.trace.now.events.now j.pairs.now
-        × AreReached j.ordered.trace.now.events.now j.points
+    ghost invariant = { λ j. AreRaces j.ordered.disciplined.now.events.now j.pairs.now
+        × AreReached j.ordered.disciplined.now.events.now j.points
         × AsksEach (O.asks j.ordered.order.now) j.pairs.now };
 }
 
@@ -55,7 +55,7 @@ impl<'a, O: Order> WitnessJob<'a, O> {
     {
         let ordered = Ordered {
             order,
-            trace,
+            disciplined: trace,
             links,
         };
         WitnessJob {

@@ -41,7 +41,7 @@ pub fn schedule<O: Order>(
 {
     let ordered = Ordered {
         order: &*order,
-        trace: &*trace,
+        disciplined: &*trace,
         links: &*links,
     };
     schedule_runs(alloc, &ordered, None, pair)?.to_vec(alloc)
@@ -55,17 +55,17 @@ pub(crate) fn schedule_runs<O: Order>(
     points: Option<&[Checkpoint]>,
     pair: Pair,
 ) -> Result<Positions, NoMemory>
-    requires points { AreReached ordered.now.trace.now.events.now points }
-    requires race { Race ordered.now.trace.now.events.now pair.first pair.second }
+    requires points { AreReached ordered.now.disciplined.now.events.now points }
+    requires race { Race ordered.now.disciplined.now.events.now pair.first pair.second }
     requires asked { AsksBoth (O.asks ordered.now.order.now) pair }
-    ensures { IfOk result (λ s. IsPrintedSchedule ordered.now.trace.now.events.now s pair.first pair.second) }
+    ensures { IfOk result (λ s. IsPrintedSchedule ordered.now.disciplined.now.events.now s pair.first pair.second) }
 {
     let cuts = cuts_of(alloc, ordered, pair)?;
     let end = end_of(ordered, pair);
     let front = front_of(points, &cuts).min(end);
     let mut positions = Positions::first(alloc, front)?;
     for k in front..end {
-        let thread = ordered.trace.events.thread(k);
+        let thread = ordered.disciplined.events.thread(k);
         let below = ordered.links.local(k) <= cuts[thread as usize];
         if below {
             positions.push(k)?;

@@ -24,7 +24,7 @@ use Rattle.shb_write.specs.declared.errors.WriteError.{WriteError}
 use Rattle.shb_write.specs.declared.errors.WriteError.TheVariants as errors
 use Rattle.shb_write.specs.declared.race_lister.RaceLister.{RaceLister}
 use Rattle.shb_write.specs.Listed.{HasFailedListing, HasKept, HasListed, IsCountOf, IsRaceOf, MayList, count_after, failures_after, listed_blocks, pairs_in, shown_alone}
-use Rattle.shb_write.specs.Written.{AppendsFront, IsSinkCounted, WritesBlocks}
+use Rattle.shb_write.specs.Written.{AppendsFront, WritesBlocks}
 use Rattle.shb_write.proofs.Blocks.{ends-take, front_of}
 use Rattle.shb_write.proofs.Ranges.{first_in_range, second_in_range}
 use Rattle.shb_write.proofs.Reports.{pairs_back}
@@ -416,10 +416,6 @@ listed_front trace races written rest old new e is has = record {
   written = subst (AppendsFront old new) (sym (ap (listed_blocks trace 1) is ∙ listed_append trace 1 (1 + length written) written rest refl))
       (front_more old new (listed_blocks trace 1 written) (listed_blocks trace (1 + length written) rest) has);
 }
-
-pub counted_error : (T : Type 0) (e : WriteError) (old new : ℕ) → new ≡ failures_after e old → IsSinkCounted {T = T} old new (Err e)
-counted_error T errors.Sink old new is = is
-counted_error T errors.Memory old new is = is
 
 pub failed_as : (T : Type 0) (r : Result T WriteError) (e : WriteError) (P : WriteError → Type 0) → IsErrAnd r (λ x. x ≡ e) → P e → IfErr r P
 failed_as T (Ok x) e P same h = tt

@@ -1,5 +1,5 @@
 -- What is counted and written where the races of a search come piece by piece.
-use Rattle.std.specs.Prelude.{◌≡◌, ℕ, ◌+◌, ◌-◌, ◌^◌, ◌<◌, List, [], ◌∷◌, ◌++◌, All, length, map, Option, None, IfSome}
+use Rattle.std.specs.Prelude.{◌≡◌, ℕ, ◌+◌, ◌-◌, ◌^◌, ◌<◌, List, [], ◌∷◌, ◌++◌, All, length, map, Option, None, IfSome, if◌then◌else◌}
 use Rattle.std.specs.Io.KnownBytes.{Appends}
 use Rattle.shb_fan.specs.Values.{values_of}
 use Rattle.shb_lines.specs.declared.event.Pair.{Pair}
@@ -12,9 +12,8 @@ use Rattle.shb_report.specs.Places.{IsPairOf, IsPlaceOf, counts_in, places_of_pa
 use Rattle.shb_report.specs.Report.{ShownRace, blocks_from, pair_of}
 use Rattle.shb_write.specs.declared.counted.Counted.{Counted}
 use Rattle.shb_write.specs.declared.errors.WriteError.{WriteError}
-use Rattle.shb_write.specs.declared.errors.WriteError.TheVariants.{Sink, Memory}
 use Rattle.shb_write.specs.declared.race_lister.RaceLister.{RaceLister}
-use Rattle.shb_write.specs.Written.{AppendsFront}
+use Rattle.shb_write.specs.Written.{AppendsFront, write_failed}
 
 -- the races that a search finds: those of all its pieces, in order
 abbrev pub races_found : OpenTrace → List (ℕ × ℕ)
@@ -60,8 +59,7 @@ pub record MayList {K : Type 0} (failures : K → ℕ) (start : RaceLister K) (p
 
 -- how often the sink failed, of an error
 abbrev pub failures_after : WriteError → ℕ → ℕ
-failures_after Sink n = n + 1
-failures_after Memory n = n
+failures_after error n = if write_failed error then n + 1 else n
 
 module _ {K : Type 0} (taken : K → Option (List ℕ)) (failures : K → ℕ) where
   -- the blocks of these races were written, and nothing else changed

@@ -1,16 +1,15 @@
 -- What the writing of a report leaves in a sink.
-use Rattle.std.specs.Prelude.{◌≡◌, ℕ, ◌+◌, ◌<◌, ◌≤◌, Bool, List, length, take, Option, Result, Ok, Err, MatchResult, ⊤}
+use Rattle.std.specs.Prelude.{◌≡◌, ℕ, ◌<◌, ◌≤◌, Bool, true, false, List, length, take, Option, Result, Err, MatchResult, ⊤}
 use Rattle.std.specs.Io.KnownBytes.{Appends}
 use Rattle.shb_lines.specs.text.TraceData.{TraceData}
 use Rattle.shb_report.specs.Report.{AreBlocks, IsReportOn, front_bytes}
 use Rattle.shb_write.specs.declared.errors.WriteError.{WriteError}
 use Rattle.shb_write.specs.declared.errors.WriteError.TheVariants.{Sink, Memory}
 
--- the sink failed once where that is the answer, and else not at all
-abbrev pub IsSinkCounted : {T : Type 0} → ℕ → ℕ → Result T WriteError → Type 0
-IsSinkCounted old new (Ok x) = new ≡ old
-IsSinkCounted old new (Err Sink) = new ≡ old + 1
-IsSinkCounted old new (Err Memory) = new ≡ old
+-- the error of a writing that names its sink
+abbrev pub write_failed : WriteError → Bool
+write_failed Sink = true
+write_failed Memory = false
 
 -- for a writing in which the sink failed
 abbrev pub OnFailedSink : {T : Type 0} → Result T WriteError → Type 0 → Type 0

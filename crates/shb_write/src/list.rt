@@ -1,9 +1,10 @@
 //! The races that a search finds, counted, and listed without schedules.
 ghost use Rattle.std.specs.Prelude.{◌≡◌, ◌-◌, ◌^◌, ◌<◌, All, IfOk, None, false, length, map};
+ghost use Rattle.shb_io.specs.Devices.{CountsFailure};
 ghost use Rattle.shb_lines.specs.events.Race.{ends};
 ghost use Rattle.shb_report.specs.Places.{IsPairOf};
 ghost use Rattle.shb_write.specs.Listed.{IsCountOf, IsRaceOf, races_found};
-ghost use Rattle.shb_write.specs.Written.{IsSinkCounted, WritesBlocks};
+ghost use Rattle.shb_write.specs.Written.{WritesBlocks, write_failed};
 
 use crate::counted::Counted;
 use crate::errors::WriteError;
@@ -101,7 +102,7 @@ fn write_found_in<R: Threads + Wait + Sync, K: Sink, O: Order + Sync, G: Gate + 
     requires room { length (races_found search.now.job.now) < 2 ^ 64 }
     requires races { All (IsRaceOf trace.now) (races_found search.now.job.now) }
     ensures blocks { WritesBlocks false trace.now (races_found search.now.job.now) (K.taken sink.old) (K.taken sink.new) result }
-    ensures counted { IsSinkCounted (K.failure_count sink.old) (K.failure_count sink.new) result }
+    ensures counted { CountsFailure write_failed (K.failure_count sink.old) (K.failure_count sink.new) result }
 {
     let lister = RaceLister {
         sink: &mut *sink,
@@ -139,7 +140,7 @@ pub(crate) fn write_found<R: Threads + Wait + Sync, K: Sink, O: Order + Sync, G:
     requires room { length (races_found search.now.job.now) < 2 ^ 64 }
     requires races { All (IsRaceOf trace.now) (races_found search.now.job.now) }
     ensures blocks { WritesBlocks false trace.now (races_found search.now.job.now) (K.taken sink.old) (K.taken sink.new) result }
-    ensures counted { IsSinkCounted (K.failure_count sink.old) (K.failure_count sink.new) result }
+    ensures counted { CountsFailure write_failed (K.failure_count sink.old) (K.failure_count sink.new) result }
 {
     let mut room = Vec::new(alloc);
     write_found_in(rt, alloc, sink, trace, search, &mut room)

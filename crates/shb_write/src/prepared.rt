@@ -28,7 +28,7 @@ fn numbers_for<O: Order>(
     if schedules < 2 {
         return NumberTexts::of_first(alloc, 0);
     }
-    NumberTexts::of_first(alloc, ordered.trace.events.len() as u32)
+    NumberTexts::of_first(alloc, ordered.disciplined.events.len() as u32)
 }
 
 /// What so many schedules of a trace, or more, are made and written from.
@@ -37,10 +37,10 @@ pub(crate) fn prepared_for<O: Order>(
     ordered: &Ordered<'_, O>,
     schedules: usize,
 ) -> Result<Prepared, NoMemory>
-    ensures { IfOk result (λ prepared. All (IsReached ordered.now.trace.now.events.now) prepared.points.items) }
+    ensures { IfOk result (λ prepared. All (IsReached ordered.now.disciplined.now.events.now) prepared.points.items) }
 {
     let numbers = numbers_for(alloc, ordered, schedules)?;
-    let linked = Linked::new(ordered.trace, ordered.links);
+    let linked = Linked::new(ordered.disciplined, ordered.links);
     let points = checkpoints_of(alloc, &linked)?;
     Ok(Prepared { numbers, points })
 }

@@ -1,10 +1,11 @@
 //! The report of a trace that lists the races which a search finds.
 ghost use Rattle.std.specs.Prelude.{◌≡◌, ◌⊎◌, ◌-◌, ◌^◌, ◌<◌, IfOk, length, map, true};
+ghost use Rattle.shb_io.specs.Devices.{CountsFailure};
 ghost use Rattle.shb_lines.specs.events.Race.{ends};
 ghost use Rattle.shb_witness.specs.Schedules.{AreRaces, AsksEach};
 ghost use Rattle.shb_write.specs.Listed.{IsCountOf, races_found};
 ghost use Rattle.shb_write.specs.Windows.{pairs_found};
-ghost use Rattle.shb_write.specs.Written.{CutsBlocksOn, CutsReportOn, IsSinkCounted, OnFailedSink, OnNoMemory, These, WritesBlocks, WritesReport};
+ghost use Rattle.shb_write.specs.Written.{CutsBlocksOn, CutsReportOn, OnFailedSink, OnNoMemory, These, WritesBlocks, WritesReport, write_failed};
 
 use crate::counted::Counted;
 use crate::errors::WriteError;
@@ -36,11 +37,11 @@ fn write_kept<R: Threads + Wait + Sync, K: Sink, O: Order + Sync, W: Gate + Sync
     plan: &BlockPlan<'_, W>,
 ) -> Result<(), WriteError>
     requires countable { K.failure_count sink.old < 2 ^ 64 - 1 }
-    requires races { AreRaces ordered.now.trace.now.events.now races.now }
+    requires races { AreRaces ordered.now.disciplined.now.events.now races.now }
     requires asked { AsksEach (O.asks ordered.now.order.now) races.now }
-    ensures blocks { WritesBlocks plan.now.schedules ordered.now.trace.now.trace.now (map ends races.now)
+    ensures blocks { WritesBlocks plan.now.schedules ordered.now.disciplined.now.trace.now (map ends races.now)
         (K.taken sink.old) (K.taken sink.new) result }
-    ensures counted { IsSinkCounted (K.failure_count sink.old) (K.failure_count sink.new) result }
+    ensures counted { CountsFailure write_failed (K.failure_count sink.old) (K.failure_count sink.new) result }
 {
     let found = Found {
         ordered: &*ordered,
@@ -66,11 +67,11 @@ fn write_found_made<
 ) -> Result<(), WriteError>
     requires countable { K.failure_count sink.old < 2 ^ 64 - 1 }
     requires room { length (races_found search.now.job.now) < 2 ^ 64 }
-    requires races { AreRaces search.now.ordered.now.trace.now.events.now (pairs_found search.now.job.now) }
+    requires races { AreRaces search.now.ordered.now.disciplined.now.events.now (pairs_found search.now.job.now) }
     requires asked { AsksEach (O.asks search.now.ordered.now.order.now) (pairs_found search.now.job.now) }
-    ensures blocks { WritesBlocks true search.now.ordered.now.trace.now.trace.now (races_found search.now.job.now)
+    ensures blocks { WritesBlocks true search.now.ordered.now.disciplined.now.trace.now (races_found search.now.job.now)
         (K.taken sink.old) (K.taken sink.new) result }
-    ensures counted { IsSinkCounted (K.failure_count sink.old) (K.failure_count sink.new) result }
+    ensures counted { CountsFailure write_failed (K.failure_count sink.old) (K.failure_count sink.new) result }
 {
     let prepared = prepared_for(alloc, search.ordered, FULL)?;
     let making = Making::new(search.ordered, &prepared, plan);
@@ -87,16 +88,16 @@ fn write_again<R: Threads + Wait + Sync, K: Sink, O: Order + Sync, P: Gate + Syn
 ) -> Result<(), WriteError>
     requires countable { K.failure_count sink.old < 2 ^ 64 - 1 }
     requires room { length (races_found search.now.job.now) < 2 ^ 64 }
-    requires races { AreRaces search.now.ordered.now.trace.now.events.now (pairs_found search.now.job.now) }
+    requires races { AreRaces search.now.ordered.now.disciplined.now.events.now (pairs_found search.now.job.now) }
     requires asked { AsksEach (O.asks search.now.ordered.now.order.now) (pairs_found search.now.job.now) }
-    ensures blocks { WritesBlocks plan.now.schedules search.now.ordered.now.trace.now.trace.now (races_found search.now.job.now)
+    ensures blocks { WritesBlocks plan.now.schedules search.now.ordered.now.disciplined.now.trace.now (races_found search.now.job.now)
         (K.taken sink.old) (K.taken sink.new) result }
-    ensures counted { IsSinkCounted (K.failure_count sink.old) (K.failure_count sink.new) result }
+    ensures counted { CountsFailure write_failed (K.failure_count sink.old) (K.failure_count sink.new) result }
 {
     if plan.schedules {
         return write_found_made(rt, alloc, sink, search, plan);
     }
-    write_found(rt, alloc, sink, search.ordered.trace.trace, search)
+    write_found(rt, alloc, sink, search.ordered.disciplined.trace, search)
 }
 
 /// Writes the blocks of the races that a search found: those that were kept, or those that it finds again.
@@ -115,12 +116,12 @@ fn write_search_blocks<
     counted: &Counted,
 ) -> Result<(), WriteError>
     requires countable { K.failure_count sink.old < 2 ^ 64 - 1 }
-    requires races { AreRaces search.now.ordered.now.trace.now.events.now (pairs_found search.now.job.now) }
+    requires races { AreRaces search.now.ordered.now.disciplined.now.events.now (pairs_found search.now.job.now) }
     requires asked { AsksEach (O.asks search.now.ordered.now.order.now) (pairs_found search.now.job.now) }
-    requires found { IsCountOf search.now.ordered.now.trace.now.trace.now (races_found search.now.job.now) counted.now }
-    ensures blocks { WritesBlocks plan.now.schedules search.now.ordered.now.trace.now.trace.now (races_found search.now.job.now)
+    requires found { IsCountOf search.now.ordered.now.disciplined.now.trace.now (races_found search.now.job.now) counted.now }
+    ensures blocks { WritesBlocks plan.now.schedules search.now.ordered.now.disciplined.now.trace.now (races_found search.now.job.now)
         (K.taken sink.old) (K.taken sink.new) result }
-    ensures counted { IsSinkCounted (K.failure_count sink.old) (K.failure_count sink.new) result }
+    ensures counted { CountsFailure write_failed (K.failure_count sink.old) (K.failure_count sink.new) result }
 {
     match &counted.kept {
         Some(races) => write_kept(rt, alloc, sink, search.ordered, races, plan),
@@ -159,18 +160,18 @@ pub fn write_search<
     plan: &BlockPlan<'_, W>,
 ) -> Result<u64, WriteError>
     requires countable { K.failure_count sink.old < 2 ^ 64 - 1 }
-    requires races { AreRaces search.now.ordered.now.trace.now.events.now (pairs_found search.now.job.now) }
+    requires races { AreRaces search.now.ordered.now.disciplined.now.events.now (pairs_found search.now.job.now) }
     requires asked { AsksEach (O.asks search.now.ordered.now.order.now) (pairs_found search.now.job.now) }
     ensures count { IfOk result (λ count. count ≡ length (races_found search.now.job.now)) }
     ensures report { IfOk result (λ _. WritesReport (These (races_found search.now.job.now)) plan.now.schedules
-        search.now.ordered.now.trace.now.trace.now (K.taken sink.old) (K.taken sink.new)) }
+        search.now.ordered.now.disciplined.now.trace.now (K.taken sink.old) (K.taken sink.new)) }
     ensures cut { OnFailedSink result (CutsReportOn (These (races_found search.now.job.now)) plan.now.schedules
-        search.now.ordered.now.trace.now.trace.now (K.taken sink.old) (K.taken sink.new)) }
+        search.now.ordered.now.disciplined.now.trace.now (K.taken sink.old) (K.taken sink.new)) }
     ensures memory { OnNoMemory result ((sink.new ≡ sink.old) ⊎ CutsBlocksOn (These (races_found search.now.job.now))
-        plan.now.schedules search.now.ordered.now.trace.now.trace.now (K.taken sink.old) (K.taken sink.new)) }
-    ensures counted { IsSinkCounted (K.failure_count sink.old) (K.failure_count sink.new) result }
+        plan.now.schedules search.now.ordered.now.disciplined.now.trace.now (K.taken sink.old) (K.taken sink.new)) }
+    ensures counted { CountsFailure write_failed (K.failure_count sink.old) (K.failure_count sink.new) result }
 {
-    let trace = search.ordered.trace.trace;
+    let trace = search.ordered.disciplined.trace;
     let counted = count_races(rt, alloc, trace, search)?;
     write_front(sink, trace, counted.races, &counted.places)?;
     write_search_blocks(rt, alloc, sink, search, plan, &counted)?;

@@ -1,10 +1,11 @@
 //! The blocks of the races of a search with schedules, a window of races at a time.
 ghost use Rattle.std.specs.Prelude.{◌≡◌, ◌-◌, ◌^◌, ◌<◌, [], All, OnErr, OnOk, length};
+ghost use Rattle.shb_io.specs.Devices.{CountsFailure};
 ghost use Rattle.shb_witness.specs.Checkpoints.{IsReached};
 ghost use Rattle.shb_witness.specs.Schedules.{AreRaces, AsksEach};
 ghost use Rattle.shb_write.specs.Listed.{pairs_in};
 ghost use Rattle.shb_write.specs.Windows.{HasBroken, HasMoved, MayCome, WritesBlocksFrom, pairs_found};
-ghost use Rattle.shb_write.specs.Written.{IsSinkCounted};
+ghost use Rattle.shb_write.specs.Written.{write_failed};
 
 use crate::errors::WriteError;
 use crate::making::Making;
@@ -41,14 +42,14 @@ fn write_window<R: Threads + Wait + Sync, K: Sink, O: Order + Sync, G: Gate + Sy
     window: &mut Window,
 ) -> Result<(), WriteError>
     requires countable { K.failure_count sink.old < 2 ^ 64 - 1 }
-    requires points { All (IsReached making.now.ordered.now.trace.now.events.now) making.now.prepared.now.points.items }
-    requires may { MayCome making.now.ordered.now.trace.now.events.now (O.asks making.now.ordered.now.order.now) window.old [] }
-    ensures moved { OnOk result (HasMoved making.now.ordered.now.trace.now.trace.now window.old [] window.new
+    requires points { All (IsReached making.now.ordered.now.disciplined.now.events.now) making.now.prepared.now.points.items }
+    requires may { MayCome making.now.ordered.now.disciplined.now.events.now (O.asks making.now.ordered.now.order.now) window.old [] }
+    ensures moved { OnOk result (HasMoved making.now.ordered.now.disciplined.now.trace.now window.old [] window.new
         (K.taken sink.old) (K.taken sink.new)) }
     ensures emptied { OnOk result (window.new.races.items ≡ []) }
-    ensures broken { OnErr result (HasBroken making.now.ordered.now.trace.now.trace.now window.old []
+    ensures broken { OnErr result (HasBroken making.now.ordered.now.disciplined.now.trace.now window.old []
         (K.taken sink.old) (K.taken sink.new)) }
-    ensures counted { IsSinkCounted (K.failure_count sink.old) (K.failure_count sink.new) result }
+    ensures counted { CountsFailure write_failed (K.failure_count sink.old) (K.failure_count sink.new) result }
 {
     let count = window.races.len() as u64;
     write_made(
@@ -73,13 +74,13 @@ fn write_full<R: Threads + Wait + Sync, K: Sink, O: Order + Sync, G: Gate + Sync
     window: &mut Window,
 ) -> Result<(), WriteError>
     requires countable { K.failure_count sink.old < 2 ^ 64 - 1 }
-    requires points { All (IsReached making.now.ordered.now.trace.now.events.now) making.now.prepared.now.points.items }
-    requires may { MayCome making.now.ordered.now.trace.now.events.now (O.asks making.now.ordered.now.order.now) window.old [] }
-    ensures moved { OnOk result (HasMoved making.now.ordered.now.trace.now.trace.now window.old [] window.new
+    requires points { All (IsReached making.now.ordered.now.disciplined.now.events.now) making.now.prepared.now.points.items }
+    requires may { MayCome making.now.ordered.now.disciplined.now.events.now (O.asks making.now.ordered.now.order.now) window.old [] }
+    ensures moved { OnOk result (HasMoved making.now.ordered.now.disciplined.now.trace.now window.old [] window.new
         (K.taken sink.old) (K.taken sink.new)) }
-    ensures broken { OnErr result (HasBroken making.now.ordered.now.trace.now.trace.now window.old []
+    ensures broken { OnErr result (HasBroken making.now.ordered.now.disciplined.now.trace.now window.old []
         (K.taken sink.old) (K.taken sink.new)) }
-    ensures counted { IsSinkCounted (K.failure_count sink.old) (K.failure_count sink.new) result }
+    ensures counted { CountsFailure write_failed (K.failure_count sink.old) (K.failure_count sink.new) result }
 {
     if window.races.len() < FULL {
         return Ok(());
@@ -97,14 +98,14 @@ fn write_piece<R: Threads + Wait + Sync, K: Sink, O: Order + Sync, G: Gate + Syn
     piece: &RaceRanges<'_>,
 ) -> Result<(), WriteError>
     requires countable { K.failure_count sink.old < 2 ^ 64 - 1 }
-    requires points { All (IsReached making.now.ordered.now.trace.now.events.now) making.now.prepared.now.points.items }
-    requires may { MayCome making.now.ordered.now.trace.now.events.now (O.asks making.now.ordered.now.order.now) window.old
+    requires points { All (IsReached making.now.ordered.now.disciplined.now.events.now) making.now.prepared.now.points.items }
+    requires may { MayCome making.now.ordered.now.disciplined.now.events.now (O.asks making.now.ordered.now.order.now) window.old
         (pairs_in piece.now) }
-    ensures moved { OnOk result (HasMoved making.now.ordered.now.trace.now.trace.now window.old (pairs_in piece.now) window.new
+    ensures moved { OnOk result (HasMoved making.now.ordered.now.disciplined.now.trace.now window.old (pairs_in piece.now) window.new
         (K.taken sink.old) (K.taken sink.new)) }
-    ensures broken { OnErr result (HasBroken making.now.ordered.now.trace.now.trace.now window.old (pairs_in piece.now)
+    ensures broken { OnErr result (HasBroken making.now.ordered.now.disciplined.now.trace.now window.old (pairs_in piece.now)
         (K.taken sink.old) (K.taken sink.new)) }
-    ensures counted { IsSinkCounted (K.failure_count sink.old) (K.failure_count sink.new) result }
+    ensures counted { CountsFailure write_failed (K.failure_count sink.old) (K.failure_count sink.new) result }
 {
     let count = piece.later_accesses();
     for k in 0..count {
@@ -127,14 +128,14 @@ fn write_pieces<R: Threads + Wait + Sync, K: Sink, O: Order + Sync, P: Gate + Sy
     window: &mut Window,
 ) -> Result<(), WriteError>
     requires countable { K.failure_count sink.old < 2 ^ 64 - 1 }
-    requires points { All (IsReached making.now.ordered.now.trace.now.events.now) making.now.prepared.now.points.items }
-    requires may { MayCome making.now.ordered.now.trace.now.events.now (O.asks making.now.ordered.now.order.now) window.old
+    requires points { All (IsReached making.now.ordered.now.disciplined.now.events.now) making.now.prepared.now.points.items }
+    requires may { MayCome making.now.ordered.now.disciplined.now.events.now (O.asks making.now.ordered.now.order.now) window.old
         (pairs_found search.now.job.now) }
-    ensures moved { OnOk result (HasMoved making.now.ordered.now.trace.now.trace.now window.old (pairs_found search.now.job.now)
+    ensures moved { OnOk result (HasMoved making.now.ordered.now.disciplined.now.trace.now window.old (pairs_found search.now.job.now)
         window.new (K.taken sink.old) (K.taken sink.new)) }
-    ensures broken { OnErr result (HasBroken making.now.ordered.now.trace.now.trace.now window.old (pairs_found search.now.job.now)
+    ensures broken { OnErr result (HasBroken making.now.ordered.now.disciplined.now.trace.now window.old (pairs_found search.now.job.now)
         (K.taken sink.old) (K.taken sink.new)) }
-    ensures counted { IsSinkCounted (K.failure_count sink.old) (K.failure_count sink.new) result }
+    ensures counted { CountsFailure write_failed (K.failure_count sink.old) (K.failure_count sink.new) result }
 {
     let pieces = search.job.pieces();
     for k in 0..pieces {
@@ -162,13 +163,13 @@ pub(crate) fn write_windows<
     making: &Making<'_, '_, '_, '_, '_, O, W>,
 ) -> Result<(), WriteError>
     requires countable { K.failure_count sink.old < 2 ^ 64 - 1 }
-    requires points { All (IsReached making.now.ordered.now.trace.now.events.now) making.now.prepared.now.points.items }
+    requires points { All (IsReached making.now.ordered.now.disciplined.now.events.now) making.now.prepared.now.points.items }
     requires room { length (pairs_found search.now.job.now) < 2 ^ 64 }
-    requires races { AreRaces making.now.ordered.now.trace.now.events.now (pairs_found search.now.job.now) }
+    requires races { AreRaces making.now.ordered.now.disciplined.now.events.now (pairs_found search.now.job.now) }
     requires asked { AsksEach (O.asks making.now.ordered.now.order.now) (pairs_found search.now.job.now) }
-    ensures blocks { WritesBlocksFrom making.now.ordered.now.trace.now.trace.now 1 (pairs_found search.now.job.now)
+    ensures blocks { WritesBlocksFrom making.now.ordered.now.disciplined.now.trace.now 1 (pairs_found search.now.job.now)
         (K.taken sink.old) (K.taken sink.new) result }
-    ensures counted { IsSinkCounted (K.failure_count sink.old) (K.failure_count sink.new) result }
+    ensures counted { CountsFailure write_failed (K.failure_count sink.old) (K.failure_count sink.new) result }
 {
     let mut window = Window {
         written: 0,

@@ -1,11 +1,11 @@
 //! The report of a trace that lists races which are known.
 ghost use Rattle.std.specs.Prelude.{◌≡◌, ◌⊎◌, ◌+◌, ◌-◌, ◌^◌, ◌<◌, ℕ, All, IfOk, List, false, length, map, true};
-ghost use Rattle.shb_io.specs.Devices.{IsCounted, Writes};
+ghost use Rattle.shb_io.specs.Devices.{CountsFailure, IsCounted, Writes};
 ghost use Rattle.shb_report.specs.Places.{IsPlaceOf, counts_in, places_of_pairs};
 ghost use Rattle.shb_report.specs.Report.{counts_of, front_bytes, pair_of};
 ghost use Rattle.shb_witness.specs.Checkpoints.{IsReached};
 ghost use Rattle.shb_witness.specs.Schedules.{AreRaces, AsksEach};
-ghost use Rattle.shb_write.specs.Written.{CutsBlocksOn, CutsReportOn, IsSinkCounted, OnFailedSink, OnNoMemory, These, WritesBlocks, WritesReport};
+ghost use Rattle.shb_write.specs.Written.{CutsBlocksOn, CutsReportOn, OnFailedSink, OnNoMemory, These, WritesBlocks, WritesReport, write_failed};
 ghost use Rattle.shb_write.specs.Windows.{WritesBlocksFrom};
 ghost use Rattle.shb_lines.specs.events.Race.{ends};
 
@@ -32,15 +32,15 @@ fn write_pairs<K: Sink, O: Order>(
     found: &Found<'_, '_, '_, O>,
 ) -> Result<(), WriteError>
     requires countable { K.failure_count sink.old < 2 ^ 64 - 1 }
-    requires races { AreRaces found.now.ordered.now.trace.now.events.now found.now.races.now }
-    ensures blocks { WritesBlocks false found.now.ordered.now.trace.now.trace.now (map ends found.now.races.now)
+    requires races { AreRaces found.now.ordered.now.disciplined.now.events.now found.now.races.now }
+    ensures blocks { WritesBlocks false found.now.ordered.now.disciplined.now.trace.now (map ends found.now.races.now)
         (K.taken sink.old) (K.taken sink.new) result }
-    ensures counted { IsSinkCounted (K.failure_count sink.old) (K.failure_count sink.new) result }
+    ensures counted { CountsFailure write_failed (K.failure_count sink.old) (K.failure_count sink.new) result }
 {
     let mut number: u64 = 0;
     for pair in found.races {
         number += 1;
-        block(sink, found.ordered.trace.trace, number, *pair, None)?;
+        block(sink, found.ordered.disciplined.trace, number, *pair, None)?;
     }
     Ok(())
 }
@@ -57,21 +57,24 @@ pub(crate) fn write_made<R: Threads + Wait + Sync, K: Sink, O: Order + Sync, G: 
 ) -> Result<(), WriteError>
     requires countable { K.failure_count sink.old < 2 ^ 64 - 1 }
     requires room { earlier + length races.now < 2 ^ 64 }
-    requires races { AreRaces making.now.ordered.now.trace.now.events.now races.now }
+    requires races { AreRaces making.now.ordered.now.disciplined.now.events.now races.now }
     requires asked { AsksEach (O.asks making.now.ordered.now.order.now) races.now }
-    requires points { All (IsReached making.now.ordered.now.trace.now.events.now) making.now.prepared.now.points.items }
-    ensures blocks { WritesBlocksFrom making.now.ordered.now.trace.now.trace.now (earlier + 1) races.now
+    requires points { All (IsReached making.now.ordered.now.disciplined.now.events.now) making.now.prepared.now.points.items }
+    ensures blocks { WritesBlocksFrom making.now.ordered.now.disciplined.now.trace.now (earlier + 1) races.now
         (K.taken sink.old) (K.taken sink.new) result }
-    ensures counted { IsSinkCounted (K.failure_count sink.old) (K.failure_count sink.new) result }
+    ensures counted { CountsFailure write_failed (K.failure_count sink.old) (K.failure_count sink.new) result }
 {
     let ordered = making.ordered;
     let prepared = making.prepared;
-    let job = WitnessJob::new(ordered.order, ordered.trace, ordered.links, races).with_checkpoints(
-        &prepared.points,
-    );
+    let job = WitnessJob::new(
+        ordered.order,
+        ordered.disciplined,
+        ordered.links,
+        races,
+    ).with_checkpoints(&prepared.points);
     let mut writer = BlockWriter {
         sink: &mut *sink,
-        trace: ordered.trace.trace,
+        trace: ordered.disciplined.trace,
         races,
         numbers: &prepared.numbers,
         earlier,
@@ -94,10 +97,10 @@ fn write_schedules<R: Threads + Wait + Sync, K: Sink, O: Order + Sync, G: Gate +
     plan: &BlockPlan<'_, G>,
 ) -> Result<(), WriteError>
     requires countable { K.failure_count sink.old < 2 ^ 64 - 1 }
-    requires races { AreRaces found.now.ordered.now.trace.now.events.now found.now.races.now }
-    ensures blocks { WritesBlocks true found.now.ordered.now.trace.now.trace.now (map ends found.now.races.now)
+    requires races { AreRaces found.now.ordered.now.disciplined.now.events.now found.now.races.now }
+    ensures blocks { WritesBlocks true found.now.ordered.now.disciplined.now.trace.now (map ends found.now.races.now)
         (K.taken sink.old) (K.taken sink.new) result }
-    ensures counted { IsSinkCounted (K.failure_count sink.old) (K.failure_count sink.new) result }
+    ensures counted { CountsFailure write_failed (K.failure_count sink.old) (K.failure_count sink.new) result }
 {
     let prepared = prepared_for(alloc, found.ordered, found.races.len())?;
     let making = Making::new(found.ordered, &prepared, plan);
@@ -113,10 +116,10 @@ pub(crate) fn write_blocks<R: Threads + Wait + Sync, K: Sink, O: Order + Sync, G
     plan: &BlockPlan<'_, G>,
 ) -> Result<(), WriteError>
     requires countable { K.failure_count sink.old < 2 ^ 64 - 1 }
-    requires races { AreRaces found.now.ordered.now.trace.now.events.now found.now.races.now }
-    ensures blocks { WritesBlocks plan.now.schedules found.now.ordered.now.trace.now.trace.now (map ends found.now.races.now)
+    requires races { AreRaces found.now.ordered.now.disciplined.now.events.now found.now.races.now }
+    ensures blocks { WritesBlocks plan.now.schedules found.now.ordered.now.disciplined.now.trace.now (map ends found.now.races.now)
         (K.taken sink.old) (K.taken sink.new) result }
-    ensures counted { IsSinkCounted (K.failure_count sink.old) (K.failure_count sink.new) result }
+    ensures counted { CountsFailure write_failed (K.failure_count sink.old) (K.failure_count sink.new) result }
 {
     if plan.schedules {
         return write_schedules(rt, alloc, sink, found, plan);
@@ -178,17 +181,17 @@ pub fn write_report<
     plan: &BlockPlan<'_, G>,
 ) -> Result<(), WriteError>
     requires countable { K.failure_count sink.old < 2 ^ 64 - 1 }
-    requires races { AreRaces ordered.now.trace.now.events.now races.now }
+    requires races { AreRaces ordered.now.disciplined.now.events.now races.now }
     requires asked { AsksEach (O.asks ordered.now.order.now) races.now }
-    ensures report { IfOk result (λ _. WritesReport (These (map ends races.now)) plan.now.schedules ordered.now.trace.now.trace.now
+    ensures report { IfOk result (λ _. WritesReport (These (map ends races.now)) plan.now.schedules ordered.now.disciplined.now.trace.now
         (K.taken sink.old) (K.taken sink.new)) }
-    ensures cut { OnFailedSink result (CutsReportOn (These (map ends races.now)) plan.now.schedules ordered.now.trace.now.trace.now
+    ensures cut { OnFailedSink result (CutsReportOn (These (map ends races.now)) plan.now.schedules ordered.now.disciplined.now.trace.now
         (K.taken sink.old) (K.taken sink.new)) }
     ensures memory { OnNoMemory result ((sink.new ≡ sink.old) ⊎ CutsBlocksOn (These (map ends races.now)) plan.now.schedules
-        ordered.now.trace.now.trace.now (K.taken sink.old) (K.taken sink.new)) }
-    ensures counted { IsSinkCounted (K.failure_count sink.old) (K.failure_count sink.new) result }
+        ordered.now.disciplined.now.trace.now (K.taken sink.old) (K.taken sink.new)) }
+    ensures counted { CountsFailure write_failed (K.failure_count sink.old) (K.failure_count sink.new) result }
 {
-    let trace = ordered.trace.trace;
+    let trace = ordered.disciplined.trace;
     let places = places_of(rt, alloc, trace, races)?;
     write_front(sink, trace, races.len() as u64, &places)?;
     let found = Found {

@@ -15,7 +15,7 @@ below_where_no_race trace i j true is no_race = is.0 refl
 below_where_no_race trace i j false is no_race = absurd (no_race refl)
 
 pub returns-then-conflicting-clause-race : goal.returns-then-conflicting-clause-race
-returns-then-conflicting-clause-race g c = unordered_is_race c.args.ordered.now.trace.now.events.now c.args.first c.args.second c.is_below_pred.result c.requires.earlier (c.events_conflict_at-conflicting.ensures.0 c.if-conflicting.true) c.is_below_pred.ensures
+returns-then-conflicting-clause-race g c = unordered_is_race c.args.ordered.now.disciplined.now.events.now c.args.first c.args.second c.is_below_pred.result c.requires.earlier (c.events_conflict_at-conflicting.ensures.0 c.if-conflicting.true) c.is_below_pred.ensures
 
 pub returns-then-conflicting-clause-below : goal.returns-then-conflicting-clause-below
-returns-then-conflicting-clause-below g c no_race conflict = below_where_no_race c.args.ordered.now.trace.now.events.now c.args.first c.args.second c.is_below_pred.result c.is_below_pred.ensures no_race
+returns-then-conflicting-clause-below g c no_race conflict = below_where_no_race c.args.ordered.now.disciplined.now.events.now c.args.first c.args.second c.is_below_pred.result c.is_below_pred.ensures no_race

@@ -7,13 +7,13 @@ use Rattle.shb_pairs.proofs.races.add_races.Goals as goal
 
 pub add-requires-clause-few : goal.add-requires-clause-few
 add-requires-clause-few g c =
-    let few = racing_few c.args.search.now.ordered.now.trace.now.events.now c.args.second c.in_ok-ranges.ranges.items c.in_ok-ranges.ensures in
+    let few = racing_few c.args.search.now.ordered.now.disciplined.now.events.now c.args.second c.in_ok-ranges.ranges.items c.in_ok-ranges.ensures in
     let short = c.ranges.second.fits in
     omega (arith, few, short)
 
 pub add-requires-clause-room : goal.add-requires-clause-room
 add-requires-clause-room g c =
-    let few = racing_few c.args.search.now.ordered.now.trace.now.events.now c.args.second c.in_ok-ranges.ranges.items c.in_ok-ranges.ensures in
+    let few = racing_few c.args.search.now.ordered.now.disciplined.now.events.now c.args.second c.in_ok-ranges.ranges.items c.in_ok-ranges.ensures in
     let short = c.ranges.second.fits in
     let room = c.requires.room in
     omega (arith, few, short, room)

@@ -19,18 +19,18 @@ pub loop-index-init : goal.loop-index-init
 loop-index-init g c = record {
   low = omega arith;
   high = (let le = c.requires.forward in omega (arith, le));
-  found = run_first c.args.search.now.ordered.now.trace.now.events.now (accesses_in c.args.search.now.ordered.now.trace.now.events.now c.args.search.now.variable) _ c.args.from (ap (λ (ls : List (List (ℕ × ℕ))). joined ls) c.new-races.ensures);
+  found = run_first c.args.search.now.ordered.now.disciplined.now.events.now (accesses_in c.args.search.now.ordered.now.disciplined.now.events.now c.args.search.now.variable) _ c.args.from (ap (λ (ls : List (List (ℕ × ℕ))). joined ls) c.new-races.ensures);
   free_write = tt;
 }
 
 pub next_free_write-free_write-requires-clause-free : goal.next_free_write-free_write-requires-clause-free
 next_free_write-free_write-requires-clause-free g c same i race =
-    let is = c.of-accesses.ensures.exact ∙ listed_of_trace c.args.search.now.accesses.now c.args.search.now.ordered.now.trace.now.events.now c.args.search.now.variable c.args.search.now.of_trace c.args.search.now.listed in
-    let there = subst (λ (ks : List ℕ). Race c.args.search.now.ordered.now.trace.now.events.now i (get_or ks c.loop-index.index 0)) is race in
+    let is = c.of-accesses.ensures.exact ∙ listed_of_trace c.args.search.now.accesses.now c.args.search.now.ordered.now.disciplined.now.events.now c.args.search.now.variable c.args.search.now.of_trace c.args.search.now.listed in
+    let there = subst (λ (ks : List ℕ). Race c.args.search.now.ordered.now.disciplined.now.events.now i (get_or ks c.loop-index.index 0)) is race in
     let equal = eqb-true _ _ same in
     let first = c.len-count.ensures in
     let second = c.len.ensures in
-    none_added c.args.search.now.ordered.now.trace.now.events.now (get_or (accesses_in c.args.search.now.ordered.now.trace.now.events.now c.args.search.now.variable) c.loop-index.index 0) _ _ c.in_ok-add_races_at.ensures (omega (arith, equal, first, second)) i there
+    none_added c.args.search.now.ordered.now.disciplined.now.events.now (get_or (accesses_in c.args.search.now.ordered.now.disciplined.now.events.now c.args.search.now.variable) c.loop-index.index 0) _ _ c.in_ok-add_races_at.ensures (omega (arith, equal, first, second)) i there
 
 pub loop-index-preserved : goal.loop-index-preserved
 loop-index-preserved g c = record {
@@ -38,9 +38,9 @@ loop-index-preserved g c = record {
   high = omega arith;
   found = (let le = c.requires.within in
       c.in_ok-add_races_at.ensures
-      ∙ (ap (λ (ps : List (ℕ × ℕ)). ps ++ races_with c.args.search.now.ordered.now.trace.now.events.now (get_or (accesses_in c.args.search.now.ordered.now.trace.now.events.now c.args.search.now.variable) c.loop-index.index 0)) c.loop-index.invariant.found
-      ∙ sym (run_more c.args.search.now.ordered.now.trace.now.events.now (accesses_in c.args.search.now.ordered.now.trace.now.events.now c.args.search.now.variable) c.args.from c.loop-index.index c.loop-index.invariant.low (omega (arith, le)))));
-  free_write = next_seen c.args.search.now.ordered.now.trace.now.events.now c.args.search.now.variable c.of-accesses.result.now c.loop-index.index c.loop-index.free_write c.next_free_write-free_write.result (c.of-accesses.ensures.exact ∙ listed_of_trace c.args.search.now.accesses.now c.args.search.now.ordered.now.trace.now.events.now c.args.search.now.variable c.args.search.now.of_trace c.args.search.now.listed) c.next_free_write-free_write.ensures.free_write c.loop-index.invariant.free_write;
+      ∙ (ap (λ (ps : List (ℕ × ℕ)). ps ++ races_with c.args.search.now.ordered.now.disciplined.now.events.now (get_or (accesses_in c.args.search.now.ordered.now.disciplined.now.events.now c.args.search.now.variable) c.loop-index.index 0)) c.loop-index.invariant.found
+      ∙ sym (run_more c.args.search.now.ordered.now.disciplined.now.events.now (accesses_in c.args.search.now.ordered.now.disciplined.now.events.now c.args.search.now.variable) c.args.from c.loop-index.index c.loop-index.invariant.low (omega (arith, le)))));
+  free_write = next_seen c.args.search.now.ordered.now.disciplined.now.events.now c.args.search.now.variable c.of-accesses.result.now c.loop-index.index c.loop-index.free_write c.next_free_write-free_write.result (c.of-accesses.ensures.exact ∙ listed_of_trace c.args.search.now.accesses.now c.args.search.now.ordered.now.disciplined.now.events.now c.args.search.now.variable c.args.search.now.of_trace c.args.search.now.listed) c.next_free_write-free_write.ensures.free_write c.loop-index.invariant.free_write;
 }
 
 -- there is room for the races of one access more
@@ -53,10 +53,10 @@ races_room trace x from to index races few lt within is =
     omega (arith, few, lt, within, all, size, below, same)
 
 pub add_races_at-requires-clause-room : goal.add_races_at-requires-clause-room
-add_races_at-requires-clause-room g c = races_room c.args.search.now.ordered.now.trace.now.events.now c.args.search.now.variable c.args.from c.args.to c.loop-index.index (joined c.loop-index.races) c.args.search.now.ordered.now.trace.now.few c.loop-index-test.true c.requires.within c.loop-index.invariant.found
+add_races_at-requires-clause-room g c = races_room c.args.search.now.ordered.now.disciplined.now.events.now c.args.search.now.variable c.args.from c.args.to c.loop-index.index (joined c.loop-index.races) c.args.search.now.ordered.now.disciplined.now.few c.loop-index-test.true c.requires.within c.loop-index.invariant.found
 
 pub returns : goal.returns
 returns g c =
     let high = c.loop-index.invariant.high in
     let e : c.loop-index.index ≡ c.args.to = omega (arith, high) in
-    c.loop-index.invariant.found ∙ ap (λ (n : ℕ). flat_map (races_with c.args.search.now.ordered.now.trace.now.events.now) (take (n - c.args.from) (drop c.args.from (accesses_in c.args.search.now.ordered.now.trace.now.events.now c.args.search.now.variable)))) e
+    c.loop-index.invariant.found ∙ ap (λ (n : ℕ). flat_map (races_with c.args.search.now.ordered.now.disciplined.now.events.now) (take (n - c.args.from) (drop c.args.from (accesses_in c.args.search.now.ordered.now.disciplined.now.events.now c.args.search.now.variable)))) e

@@ -9,6 +9,6 @@ abbrev pub invariant-loop-index : goal.invariant-loop-index
 invariant-loop-index g l = record {
   low : l.from ≤ l.index;
   high : l.index ≤ l.to;
-  found : joined l.races ≡ flat_map (races_with l.search.ordered.now.trace.now.events.now) (take (l.index - l.from) (drop l.from (accesses_in l.search.ordered.now.trace.now.events.now l.search.variable)));
-  free_write : IfSome l.free_write (λ s. IsFreeWrite l.search.ordered.now.trace.now.events.now l.search.variable (accesses_in l.search.ordered.now.trace.now.events.now l.search.variable) l.index s);
+  found : joined l.races ≡ flat_map (races_with l.search.ordered.now.disciplined.now.events.now) (take (l.index - l.from) (drop l.from (accesses_in l.search.ordered.now.disciplined.now.events.now l.search.variable)));
+  free_write : IfSome l.free_write (λ s. IsFreeWrite l.search.ordered.now.disciplined.now.events.now l.search.variable (accesses_in l.search.ordered.now.disciplined.now.events.now l.search.variable) l.index s);
 }

@@ -8,18 +8,18 @@ use Rattle.shb_pairs.proofs.rivals.tail_of.Goals as goal
 
 pub returns-then-thread-clause-races : goal.returns-then-thread-clause-races
 returns-then-thread-clause-races g c =
-    let head = thread_read c.args.ordered.now.trace.now.events.now (get_or c.args.positions.now 0 0) _ c.thread-thread.ensures in
-    let own = thread_read c.args.ordered.now.trace.now.events.now c.args.second _ c.thread.ensures in
-    sym (own_thread_races c.args.ordered.now.trace.now.events.now c.args.second c.args.positions.now c.requires.in_range c.requires.one_thread c.requires.some (head ∙ (c.if-thread.true ∙ sym own)))
+    let head = thread_read c.args.ordered.now.disciplined.now.events.now (get_or c.args.positions.now 0 0) _ c.thread-thread.ensures in
+    let own = thread_read c.args.ordered.now.disciplined.now.events.now c.args.second _ c.thread.ensures in
+    sym (own_thread_races c.args.ordered.now.disciplined.now.events.now c.args.second c.args.positions.now c.requires.in_range c.requires.one_thread c.requires.some (head ∙ (c.if-thread.true ∙ sym own)))
 
 pub returns-clause-races : goal.returns-clause-races
 returns-clause-races g c =
-    let head = thread_read c.args.ordered.now.trace.now.events.now (get_or c.args.positions.now 0 0) _ c.thread-thread.ensures in
-    let own = thread_read c.args.ordered.now.trace.now.events.now c.args.second _ c.thread.ensures in
+    let head = thread_read c.args.ordered.now.disciplined.now.events.now (get_or c.args.positions.now 0 0) _ c.thread-thread.ensures in
+    let own = thread_read c.args.ordered.now.disciplined.now.events.now c.args.second _ c.thread.ensures in
     let count = count_seen _ _ _ _ _ _ c.args.ordered.now.of_trace head c.below_pred-below.ensures in
     let above = subst (λ (tr : List Event). (t k : ℕ) → c.guessed_start-start.result ≤ k → k < c.count_before-end.result → thread_at tr (get_or c.args.positions.now k 0) ≡ Some t → c.below_pred-below.result < local_time tr t (get_or c.args.positions.now k 0)) c.args.ordered.now.linked c.guessed_start-start.ensures.above in
     let under = subst (λ (tr : List Event). (t k : ℕ) → k + 1 ≡ c.guessed_start-start.result → thread_at tr (get_or c.args.positions.now k 0) ≡ Some t → local_time tr t (get_or c.args.positions.now k 0) ≤ c.below_pred-below.result) c.args.ordered.now.linked c.guessed_start-start.ensures.under in
-    sym (other_thread_races c.args.ordered.now.trace.now.events.now c.args.second c.below_pred-below.result c.guessed_start-start.result c.count_before-end.result c.args.positions.now c.requires.in_range c.requires.rivals c.requires.one_thread c.requires.some (λ same. c.if-thread.false (sym head ∙ (same ∙ own))) count c.guessed_start-start.ensures.start c.count_before-end.ensures.within
+    sym (other_thread_races c.args.ordered.now.disciplined.now.events.now c.args.second c.below_pred-below.result c.guessed_start-start.result c.count_before-end.result c.args.positions.now c.requires.in_range c.requires.rivals c.requires.one_thread c.requires.some (λ same. c.if-thread.false (sym head ∙ (same ∙ own))) count c.guessed_start-start.ensures.start c.count_before-end.ensures.within
     c.count_before-end.ensures.before
     c.count_before-end.ensures.rest
     above

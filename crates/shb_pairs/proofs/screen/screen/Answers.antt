@@ -6,19 +6,19 @@ use Rattle.shb_pairs.proofs.screen.screen.Goals as goal
 
 pub index-latest-requires : goal.index-latest-requires
 index-latest-requires g c =
-    let trace = c.args.ordered.now.trace.now in
+    let trace = c.args.ordered.now.disciplined.now in
     let low = variable_sized trace.events.now trace.sizes c.args.e c.in-Some.x trace.within (variable_known trace.events.now c.args.e _ c.op.ensures ∙ sym c.in-Some.ensures) in
     omega (arith, low.1, c.requires.screened.as_many, c.args.table.now.ok.0)
 
 pub index_mut-requires : goal.index_mut-requires
 index_mut-requires g c =
-    let trace = c.args.ordered.now.trace.now in
+    let trace = c.args.ordered.now.disciplined.now in
     let low = variable_sized trace.events.now trace.sizes c.args.e c.in-Some.x trace.within (variable_known trace.events.now c.args.e _ c.op.ensures ∙ sym c.in-Some.ensures) in
     omega (arith, low.1, c.requires.screened.as_many, c.args.table.now.ok.0)
 
 pub returns-in_ok-table : goal.returns-in_ok-table
 returns-in_ok-table g c =
-    let trace = c.args.ordered.now.trace.now in
+    let trace = c.args.ordered.now.disciplined.now in
     let events = trace.events.now in
     let x = c.in-Some.x in
     let reads = c.args.reads.now.items in
@@ -29,7 +29,7 @@ returns-in_ok-table g c =
 
 pub returns-else-is_shared : goal.returns-else-is_shared
 returns-else-is_shared g c =
-    let trace = c.args.ordered.now.trace.now in
+    let trace = c.args.ordered.now.disciplined.now in
     let events = trace.events.now in
     let x = c.in-Some.x in
     let access = variable_known events c.args.e _ c.op.ensures ∙ sym c.in-Some.ensures in
@@ -39,6 +39,6 @@ returns-else-is_shared g c =
     c.requires.screened
 
 pub returns-in_default : goal.returns-in_default
-returns-in_default g c = table_other c.args.ordered.now.trace.now.events.now c.args.reads.now.items c.args.e c.args.ordered.now.trace.now.sizes.variables c.args.table.now.items
-    (λ x shared access. apart x (sym access ∙ (variable_known c.args.ordered.now.trace.now.events.now c.args.e _ c.op.ensures ∙ (sym c.variable.ensures ∙ c.in_default.is))))
+returns-in_default g c = table_other c.args.ordered.now.disciplined.now.events.now c.args.reads.now.items c.args.e c.args.ordered.now.disciplined.now.sizes.variables c.args.table.now.items
+    (λ x shared access. apart x (sym access ∙ (variable_known c.args.ordered.now.disciplined.now.events.now c.args.e _ c.op.ensures ∙ (sym c.variable.ensures ∙ c.in_default.is))))
     c.requires.screened

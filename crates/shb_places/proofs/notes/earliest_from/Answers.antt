@@ -8,7 +8,7 @@ use Rattle.shb_places.proofs.notes.earliest_from.Goals as goal
 pub loop-link-init : goal.loop-link-init
 loop-link-init g c = record {
   reached = here refl;
-  falls = λ n link linked at. (let low = c.requires.in_range c.args.newest link at in let few = c.args.ordered.now.trace.now.few in let len = ap length c.args.ordered.now.trace.now.of_trace in omega (arith, low, few, len));
+  falls = λ n link linked at. (let low = c.requires.in_range c.args.newest link at in let few = c.args.ordered.now.disciplined.now.few in let len = ap length c.args.ordered.now.disciplined.now.of_trace in omega (arith, low, few, len));
   least = λ n t e linked chain of_t above. inr chain;
   chain = λ some. absurd (some refl);
   above = λ t some. absurd (some refl);
@@ -23,15 +23,15 @@ returns-in_default-clause-least g c n t e linked chain of_t above = elim (c.loop
 pub local-requires : goal.local-requires
 local-requires g c =
     let at = slice_get_read c.args.links.now (length c.args.links.now) c.loop-link.at c.in-Some.link.now refl c.in-Some.ensures.lookup.3.0 c.in-Some.ensures.lookup.1 in
-    within_of c.args.ordered.now.trace.now.trace.now.events _ _ c.in-Some.link.now.event c.args.ordered.now.linked c.args.ordered.now.trace.now.of_trace (c.requires.in_range c.loop-link.at c.in-Some.link.now at)
+    within_of c.args.ordered.now.disciplined.now.trace.now.events _ _ c.in-Some.link.now.event c.args.ordered.now.linked c.args.ordered.now.disciplined.now.of_trace (c.requires.in_range c.loop-link.at c.in-Some.link.now at)
 
 pub returns-then-local-bound-clause-least : goal.returns-then-local-bound-clause-least
 returns-then-local-bound-clause-least g c n t e linked chain of_t above = elim (c.loop-link.invariant.least n t e linked chain of_t above) [
   | inl le ↦ le
   | inr rest ↦ absurd (
       let at = slice_get_read c.args.links.now (length c.args.links.now) c.loop-link.at c.in-Some.link.now refl c.in-Some.ensures.lookup.3.0 c.in-Some.ensures.lookup.1 in
-      let times = chain_times c.args.ordered.now.trace.now.trace.now c.args.links.now n c.loop-link.at e t c.in-Some.link.now linked at rest of_t in
-      let is = local_of c.args.ordered.now.trace.now.trace.now.events _ _ _ c.in-Some.link.now.event c.args.ordered.now.linked c.args.ordered.now.trace.now.of_trace c.local.ensures.time t times.0 in
+      let times = chain_times c.args.ordered.now.disciplined.now.trace.now c.args.links.now n c.loop-link.at e t c.in-Some.link.now linked at rest of_t in
+      let is = local_of c.args.ordered.now.disciplined.now.trace.now.events _ _ _ c.in-Some.link.now.event c.args.ordered.now.linked c.args.ordered.now.disciplined.now.of_trace c.local.ensures.time t times.0 in
       let low = times.1 in
       let bound = c.if-local-bound.true in
       omega (arith, is, low, bound, above))
@@ -55,7 +55,7 @@ returns-then-link-at-clause-chain g c some =
 
 pub returns-then-link-at-clause-above : goal.returns-then-link-at-clause-above
 returns-then-link-at-clause-above g c t some of_t =
-    let is = local_of c.args.ordered.now.trace.now.trace.now.events _ _ _ c.in-Some.link.now.event c.args.ordered.now.linked c.args.ordered.now.trace.now.of_trace c.local.ensures.time t of_t in
+    let is = local_of c.args.ordered.now.disciplined.now.trace.now.events _ _ _ c.in-Some.link.now.event c.args.ordered.now.linked c.args.ordered.now.disciplined.now.of_trace c.local.ensures.time t of_t in
     let bound = c.if-local-bound.false in
     omega (arith, is, bound)
 
@@ -76,5 +76,5 @@ loop-link-preserved g c =
         ]
       ];
       chain = λ some. at_chain links c.loop-link.at c.args.newest link at c.loop-link.invariant.reached;
-      above = λ t some of_t. (let is = local_of c.args.ordered.now.trace.now.trace.now.events _ _ _ link.event c.args.ordered.now.linked c.args.ordered.now.trace.now.of_trace c.local.ensures.time t of_t in let bound = c.if-local-bound.false in omega (arith, is, bound));
+      above = λ t some of_t. (let is = local_of c.args.ordered.now.disciplined.now.trace.now.events _ _ _ link.event c.args.ordered.now.linked c.args.ordered.now.disciplined.now.of_trace c.local.ensures.time t of_t in let bound = c.if-local-bound.false in omega (arith, is, bound));
     }

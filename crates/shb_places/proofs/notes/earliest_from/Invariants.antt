@@ -9,11 +9,11 @@ use Rattle.shb_places.proofs.notes.earliest_from.Given as goal
 abbrev pub invariant-loop-link : goal.invariant-loop-link
 invariant-loop-link g l = record {
   reached : Reaches link_previous l.links l.at l.newest;
-  falls : (n : ℕ) (link : Link) → AreLinked l.ordered.trace.now.trace.now l.links n → slice_get l.links l.at ≡ Some link → link.event ≤ l.earliest;
-  least : (n t e : ℕ) → AreLinked l.ordered.trace.now.trace.now l.links n → InChain l.links l.newest e
-      → thread_at l.ordered.trace.now.trace.now.events e ≡ Some t → l.bound < local_time l.ordered.trace.now.trace.now.events t e → (l.earliest ≤ e) ⊎ InChain l.links l.at e;
+  falls : (n : ℕ) (link : Link) → AreLinked l.ordered.disciplined.now.trace.now l.links n → slice_get l.links l.at ≡ Some link → link.event ≤ l.earliest;
+  least : (n t e : ℕ) → AreLinked l.ordered.disciplined.now.trace.now l.links n → InChain l.links l.newest e
+      → thread_at l.ordered.disciplined.now.trace.now.events e ≡ Some t → l.bound < local_time l.ordered.disciplined.now.trace.now.events t e → (l.earliest ≤ e) ⊎ InChain l.links l.at e;
   chain : l.earliest ≢ none → InChain l.links l.newest l.earliest;
-  above : (t : ℕ) → l.earliest ≢ none → thread_at l.ordered.trace.now.trace.now.events l.earliest ≡ Some t → l.bound < local_time l.ordered.trace.now.trace.now.events t l.earliest;
+  above : (t : ℕ) → l.earliest ≢ none → thread_at l.ordered.disciplined.now.trace.now.events l.earliest ≡ Some t → l.bound < local_time l.ordered.disciplined.now.trace.now.events t l.earliest;
 }
 
 abbrev pub decreases-loop-link : goal.decreases-loop-link

@@ -10,7 +10,7 @@ loop-left-preserved g c = record {
   as_many = c.in_ok-known.ensures.as_many;
   long = c.remove_if.ensures.long;
   told = λ kept found. (
-      let trace = c.args.ordered.now.trace.now.trace.now in
+      let trace = c.args.ordered.now.disciplined.now.trace.now in
       let sites = c.args.sites.now.sites.items in
       let list = c.loop-left.list.items in
       let k : ℕ = c.loop-left.left - 1 in
@@ -28,4 +28,4 @@ pub returns : goal.returns
 returns g c kept found =
     let none = c.loop-left-test.false in
     let is : c.loop-left.left ≡ 0 = omega (arith, none) in
-    subst (λ (n : ℕ). AreToldFrom c.args.ordered.now.trace.now.trace.now c.args.sites.now.sites.items (tables_of c.args.notes.now) c.args.access n c.args.list.now.items c.loop-left.list.items c.args.found.now.races.items c.loop-left.found.places.items c.loop-left.found.races.items) is (c.loop-left.invariant.told kept found)
+    subst (λ (n : ℕ). AreToldFrom c.args.ordered.now.disciplined.now.trace.now c.args.sites.now.sites.items (tables_of c.args.notes.now) c.args.access n c.args.list.now.items c.loop-left.list.items c.args.found.now.races.items c.loop-left.found.places.items c.loop-left.found.races.items) is (c.loop-left.invariant.told kept found)

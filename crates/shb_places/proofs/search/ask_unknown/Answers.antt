@@ -11,7 +11,7 @@ use Rattle.shb_places.proofs.search.ask_unknown.Goals as goal
 
 pub returns-then-earliest-clause-told : goal.returns-then-earliest-clause-told
 returns-then-earliest-clause-told g c sites kept at_site found =
-    let trace = c.args.ordered.now.trace.now in
+    let trace = c.args.ordered.now.disciplined.now in
     let low = accessed_within trace.trace.now.events c.args.access.event c.args.access.variable c.requires.access.variable in
     let few = trace.few in
     let long = ap length trace.of_trace in
@@ -23,7 +23,7 @@ returns-then-earliest-clause-told g c sites kept at_site found =
 
 pub returns-clause-told : goal.returns-clause-told
 returns-clause-told g c sites kept at_site found =
-    let trace = c.args.ordered.now.trace.now.trace.now in
+    let trace = c.args.ordered.now.disciplined.now.trace.now in
     let least = c.earliest_of-earliest.ensures sites kept at_site in
     let offered = c.in_ok-offer.ensures.offered trace (c.args.access.event + 1) found (offered_race trace sites (tables_of c.args.notes.now) c.args.access c.args.s c.earliest_of-earliest.result c.args.site _ _ c.requires.access at_site c.requires.variable least c.if-earliest.false refl refl refl refl refl) in
     let h = least.races c.if-earliest.false in

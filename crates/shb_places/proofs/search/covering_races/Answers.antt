@@ -28,7 +28,7 @@ loop-e-init c =
 
 pub loop-e-preserved : goal.loop-e-preserved
 loop-e-preserved c =
-    let same = ap (λ d. d.trace.now) c.new-ordered.ensures.trace in
+    let same = ap (λ d. d.trace.now) c.new-ordered.ensures.disciplined in
     let next = c.step.new.self in
     record {
       of_trace = ap (λ (s : SweepData). s.trace) c.in_ok-pass.ensures ∙ c.loop-e.invariant.of_trace;
@@ -51,10 +51,10 @@ returns-then-not-any_open c =
     })
 
 pub step-requires-clause-settled : goal.step-requires-clause-settled
-step-requires-clause-settled c = rw c.new-ordered.ensures.trace (subst (λ (l : List Event). AreOpen l c.args.flags.now) c.args.trace.now.of_trace c.requires.settled)
+step-requires-clause-settled c = rw c.new-ordered.ensures.disciplined (subst (λ (l : List Event). AreOpen l c.args.flags.now) c.args.trace.now.of_trace c.requires.settled)
 
 pub step-requires-clause-numbered : goal.step-requires-clause-numbered
-step-requires-clause-numbered c = rw c.new-ordered.ensures.trace c.loop-e.invariant.numbered
+step-requires-clause-numbered c = rw c.new-ordered.ensures.disciplined c.loop-e.invariant.numbered
 
 pub returns : goal.returns
 returns c =

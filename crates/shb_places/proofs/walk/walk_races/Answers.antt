@@ -8,18 +8,18 @@ use Rattle.shb_places.proofs.walk.walk_races.Goals as goal
 pub loop-entry-init : goal.loop-entry-init
 loop-entry-init g c = record {
   as_many = c.requires.as_many;
-  walked = λ kept ready. entries_start c.args.ordered.now.trace.now.trace.now (thread_tables c.args.by_thread.now) c.args.access c.args.found.now.places.items c.args.found.now.races.items c.head_of-at.result kept ready.found c.head_of-at.ensures;
+  walked = λ kept ready. entries_start c.args.ordered.now.disciplined.now.trace.now (thread_tables c.args.by_thread.now) c.args.access c.args.found.now.places.items c.args.found.now.races.items c.head_of-at.result kept ready.found c.head_of-at.ensures;
   marked = λ kept ready. ready.marked;
 }
 
 pub returns-in_default-clause-walked : goal.returns-in_default-clause-walked
 returns-in_default-clause-walked g c kept ready =
-    entries_end c.args.ordered.now.trace.now.trace.now (thread_tables c.args.by_thread.now) c.args.access _ c.args.found.now.races.items c.loop-entry.found.places.items c.loop-entry.found.races.items c.loop-entry.at
+    entries_end c.args.ordered.now.disciplined.now.trace.now (thread_tables c.args.by_thread.now) c.args.access _ c.args.found.now.races.items c.loop-entry.found.places.items c.loop-entry.found.races.items c.loop-entry.at
     (let past = c.in_default.ensures.lookup.3 in let same = ap length c.deref.ensures.value in omega (arith, past, same)) (c.loop-entry.invariant.walked kept ready)
 
 pub returns-then-left-eq0-clause-walked : goal.returns-then-left-eq0-clause-walked
 returns-then-left-eq0-clause-walked g c kept ready =
-    let trace = c.args.ordered.now.trace.now.trace.now in
+    let trace = c.args.ordered.now.disciplined.now.trace.now in
     let tables = thread_tables c.args.by_thread.now in
     let access = c.args.access in
     let before = c.loop-entry.invariant.walked kept ready in
@@ -29,7 +29,7 @@ returns-then-left-eq0-clause-walked g c kept ready =
 
 pub returns-then-entry-at-clause-walked : goal.returns-then-entry-at-clause-walked
 returns-then-entry-at-clause-walked g c kept ready =
-    let trace = c.args.ordered.now.trace.now.trace.now in
+    let trace = c.args.ordered.now.disciplined.now.trace.now in
     let tables = thread_tables c.args.by_thread.now in
     let there = read_same tables.entries c.deref.result.now c.loop-entry.at c.in-Some.entry.now c.deref.ensures.value c.in-Some.ensures.lookup.3.0 c.in-Some.ensures.lookup.1 in
     let before = c.loop-entry.invariant.walked kept ready in
@@ -48,7 +48,7 @@ pub loop-entry-preserved : goal.loop-entry-preserved
 loop-entry-preserved g c = record {
   as_many = c.in_ok-left.ensures.as_many;
   walked = λ kept ready. (
-      let trace = c.args.ordered.now.trace.now.trace.now in
+      let trace = c.args.ordered.now.disciplined.now.trace.now in
       let tables = thread_tables c.args.by_thread.now in
       let there = read_same tables.entries c.deref.result.now c.loop-entry.at c.in-Some.entry.now c.deref.ensures.value c.in-Some.ensures.lookup.3.0 c.in-Some.ensures.lookup.1 in
       let before = c.loop-entry.invariant.walked kept ready in

@@ -11,7 +11,7 @@ use Rattle.shb_run.proofs.all.report_found.Goals as goal
 
 pub write_search-requires-clause-races : goal.write_search-requires-clause-races
 write_search-requires-clause-races g c κs alive =
-    let trace = c.args.screened.now.ordered.now.trace.now in
+    let trace = c.args.screened.now.ordered.now.disciplined.now in
     let is = sym (c.new-search.ensures.job ∙ c.new-job.ensures ∙ c.in_ok-accesses.ensures) in
     let listed = found_listed c.new-search.result.job.now trace.events.now (ap (λ (a : OpenTrace). a.trace) (sym is))
     (subst (λ (a : OpenTrace). IsNumberedByAccess a.trace) is trace.numbered)
@@ -20,7 +20,7 @@ write_search-requires-clause-races g c κs alive =
 
 pub write_search-requires-clause-asked : goal.write_search-requires-clause-asked
 write_search-requires-clause-asked g c κs alive =
-    let trace = c.args.screened.now.ordered.now.trace.now in
+    let trace = c.args.screened.now.ordered.now.disciplined.now in
     let is = sym (c.new-search.ensures.job ∙ c.new-job.ensures ∙ c.in_ok-accesses.ensures) in
     let listed = found_listed c.new-search.result.job.now trace.events.now (ap (λ (a : OpenTrace). a.trace) (sym is))
     (subst (λ (a : OpenTrace). IsNumberedByAccess a.trace) is trace.numbered)
@@ -29,7 +29,7 @@ write_search-requires-clause-asked g c κs alive =
 
 pub returns-in_err-races-clause-cut : goal.returns-in_err-races-clause-cut
 returns-in_err-races-clause-cut g c =
-    let trace = c.args.screened.now.ordered.now.trace.now in
+    let trace = c.args.screened.now.ordered.now.disciplined.now in
     let is = sym (c.new-search.ensures.job ∙ c.new-job.ensures ∙ c.in_ok-accesses.ensures) in
     let listed = found_listed c.new-search.result.job.now trace.events.now (ap (λ (a : OpenTrace). a.trace) (sym is))
     (subst (λ (a : OpenTrace). IsNumberedByAccess a.trace) is trace.numbered)
@@ -39,7 +39,7 @@ returns-in_err-races-clause-cut g c =
 
 pub returns-in_err-races-clause-memory : goal.returns-in_err-races-clause-memory
 returns-in_err-races-clause-memory g c =
-    let trace = c.args.screened.now.ordered.now.trace.now in
+    let trace = c.args.screened.now.ordered.now.disciplined.now in
     let is = sym (c.new-search.ensures.job ∙ c.new-job.ensures ∙ c.in_ok-accesses.ensures) in
     let listed = found_listed c.new-search.result.job.now trace.events.now (ap (λ (a : OpenTrace). a.trace) (sym is))
     (subst (λ (a : OpenTrace). IsNumberedByAccess a.trace) is trace.numbered)
@@ -49,7 +49,7 @@ returns-in_err-races-clause-memory g c =
 
 pub returns-clause-report : goal.returns-clause-report
 returns-clause-report g c =
-    let trace = c.args.screened.now.ordered.now.trace.now in
+    let trace = c.args.screened.now.ordered.now.disciplined.now in
     let is = sym (c.new-search.ensures.job ∙ c.new-job.ensures ∙ c.in_ok-accesses.ensures) in
     let listed = found_listed c.new-search.result.job.now trace.events.now (ap (λ (a : OpenTrace). a.trace) (sym is))
     (subst (λ (a : OpenTrace). IsNumberedByAccess a.trace) is trace.numbered)

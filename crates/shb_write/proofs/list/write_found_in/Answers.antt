@@ -1,11 +1,12 @@
 use Rattle.std.proofs.Common.{rules, ◌∙◌, ◌++◌, arith, false, map, flat_map, length, Ok, Err}
+use Rattle.shb_io.specs.Devices.{CountsFailure}
 use Rattle.shb_lines.specs.events.Race.{ends}
 use Rattle.shb_pairs.specs.Pieces.{pieces_in}
 use Rattle.shb_pairs.specs.Races.{joined, races_at}
 use Rattle.shb_write.specs.Listed.{pairs_in, races_found}
-use Rattle.shb_write.specs.Written.{IsSinkCounted, WritesBlocks}
+use Rattle.shb_write.specs.Written.{WritesBlocks, write_failed}
 use Rattle.shb_write.specs.declared.errors.WriteError.TheVariants as errors
-use Rattle.shb_write.proofs.Listing.{count_after-is, counted_error, ends_back, given_are, given_back, listed_front, listed_whole, next_has_room, next_of_trace, next_written, values_front, whole_front}
+use Rattle.shb_write.proofs.Listing.{count_after-is, ends_back, given_are, given_back, listed_front, listed_whole, next_has_room, next_of_trace, next_written, values_front, whole_front}
 use Rattle.shb_write.proofs.Streamed.{left_after}
 use Rattle.shb_write.proofs.list.write_found_in.Goals as goal
 
@@ -50,4 +51,4 @@ pub returns-in-Err-Taker-clause-counted : goal.returns-in-Err-Taker-clause-count
 returns-in-Err-Taker-clause-counted g c =
     let ended = rw c.in-Err-Taker.field-0-is at c.in-Err-Taker.ensures.ended in
     let same = ended.2.4.same_sink in
-    left_after (λ s. IsSinkCounted {T = Unit {0}} (g.K.Sink.failure_count c.args.sink.now) (g.K.Sink.failure_count s) (Err c.in-Err-Taker.error)) _ c.stream.new.taker.lister.sink.now (counted_error (Unit {0}) c.in-Err-Taker.error _ _ ended.2.4.counted) (search rules)
+    left_after (λ s. CountsFailure {T = Unit {0}} write_failed (g.K.Sink.failure_count c.args.sink.now) (g.K.Sink.failure_count s) (Err c.in-Err-Taker.error)) _ c.stream.new.taker.lister.sink.now ended.2.4.counted (search rules)

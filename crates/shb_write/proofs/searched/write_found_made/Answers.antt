@@ -9,7 +9,7 @@ use Rattle.shb_write.proofs.searched.write_found_made.Goals as goal
 
 pub returns-in_err-prepared-clause-blocks : goal.returns-in_err-prepared-clause-blocks
 returns-in_err-prepared-clause-blocks g c =
-    let trace = c.args.search.now.ordered.now.trace.now in
+    let trace = c.args.search.now.ordered.now.disciplined.now in
     WritesBlocks-none true trace.trace.now (races_found c.args.search.now.job.now) _ _ c.from_residual.result (subst IsDisciplined trace.of_trace trace.meets) c.from_residual.ensures.1
 
 pub returns-clause-blocks : goal.returns-clause-blocks

@@ -11,20 +11,20 @@ use Rattle.shb_write.proofs.window.write_piece.Goals as goal
 pub loop-k-init : goal.loop-k-init
 loop-k-init g c = record {
   within = omega arith;
-  moved = moved_none c.args.making.now.ordered.now.trace.now.trace.now c.args.window.now (g.K.Sink.taken c.args.sink.now);
+  moved = moved_none c.args.making.now.ordered.now.disciplined.now.trace.now c.args.window.now (g.K.Sink.taken c.args.sink.now);
   counted = refl;
 }
 
 pub returns-in_default-clause-broken : goal.returns-in_default-clause-broken
 returns-in_default-clause-broken g c =
-    let trace = c.args.making.now.ordered.now.trace.now in
+    let trace = c.args.making.now.ordered.now.disciplined.now in
     let piece = c.args.piece.now in
     stopped_here trace.trace.now c.args.window.now c.loop-k.window (pairs_in piece) (pairs_in (take c.loop-k.k piece)) [] (pairs_in (drop c.loop-k.k piece)) (piece_split piece c.loop-k.k) _ _ c.loop-k.invariant.moved
     (subst IsDisciplined trace.of_trace trace.meets)
 
 pub write_full-requires-clause-may : goal.write_full-requires-clause-may
 write_full-requires-clause-may g c κs within =
-    let trace = c.args.making.now.ordered.now.trace.now in
+    let trace = c.args.making.now.ordered.now.disciplined.now in
     let piece = c.args.piece.now in
     let k = c.loop-k.k in
     let lt : k < length piece = omega (arith, c.loop-k-test.true, c.later_accesses-count.ensures) in
@@ -35,7 +35,7 @@ write_full-requires-clause-may g c κs within =
 
 pub returns-in_err-write_full-clause-broken : goal.returns-in_err-write_full-clause-broken
 returns-in_err-write_full-clause-broken g c =
-    let trace = c.args.making.now.ordered.now.trace.now in
+    let trace = c.args.making.now.ordered.now.disciplined.now in
     let piece = c.args.piece.now in
     let k = c.loop-k.k in
     let lt : k < length piece = omega (arith, c.loop-k-test.true, c.later_accesses-count.ensures) in
@@ -47,7 +47,7 @@ returns-in_err-write_full-clause-broken g c =
 
 pub loop-k-preserved : goal.loop-k-preserved
 loop-k-preserved g c =
-    let trace = c.args.making.now.ordered.now.trace.now in
+    let trace = c.args.making.now.ordered.now.disciplined.now in
     let piece = c.args.piece.now in
     let k = c.loop-k.k in
     let lt : k < length piece = omega (arith, c.loop-k-test.true, c.later_accesses-count.ensures) in
@@ -63,5 +63,5 @@ loop-k-preserved g c =
 
 pub returns-clause-moved : goal.returns-clause-moved
 returns-clause-moved g c =
-    let trace = c.args.making.now.ordered.now.trace.now in
+    let trace = c.args.making.now.ordered.now.disciplined.now in
     subst (λ l. HasMoved trace.trace.now c.args.window.now (pairs_in l) c.loop-k.window (g.K.Sink.taken c.args.sink.now) (g.K.Sink.taken c.loop-k.sink)) (take_all c.loop-k.k c.args.piece.now (omega (arith, c.loop-k-test.false, c.later_accesses-count.ensures))) c.loop-k.invariant.moved

@@ -7,6 +7,6 @@ use Rattle.shb_write.proofs.window.write_piece.Given as goal
 abbrev pub invariant-loop-k : goal.invariant-loop-k
 invariant-loop-k g l = record {
   within : l.k ≤ length l.piece;
-  moved : HasMoved l.making.ordered.now.trace.now.trace.now l.initial.window (pairs_in (take l.k l.piece)) l.window (g.K.Sink.taken l.initial.sink) (g.K.Sink.taken l.sink);
+  moved : HasMoved l.making.ordered.now.disciplined.now.trace.now l.initial.window (pairs_in (take l.k l.piece)) l.window (g.K.Sink.taken l.initial.sink) (g.K.Sink.taken l.sink);
   counted : g.K.Sink.failure_count l.sink ≡ g.K.Sink.failure_count l.initial.sink;
 }

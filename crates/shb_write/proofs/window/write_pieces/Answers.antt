@@ -12,13 +12,13 @@ use Rattle.shb_write.proofs.window.write_pieces.Goals as goal
 pub loop-k-init : goal.loop-k-init
 loop-k-init g c = record {
   within = omega arith;
-  moved = moved_none c.args.making.now.ordered.now.trace.now.trace.now c.args.window.now (g.K.Sink.taken c.args.sink.now);
+  moved = moved_none c.args.making.now.ordered.now.disciplined.now.trace.now c.args.window.now (g.K.Sink.taken c.args.sink.now);
   counted = refl;
 }
 
 pub returns-in_default-clause-broken : goal.returns-in_default-clause-broken
 returns-in_default-clause-broken g c =
-    let trace = c.args.making.now.ordered.now.trace.now in
+    let trace = c.args.making.now.ordered.now.disciplined.now in
     let f = races_at c.args.search.now.job.now in
     let n = length (pieces_in c.args.search.now.job.now) in
     let lt : c.loop-k.k < n = omega (arith, c.loop-k-test.true, c.pieces-pieces.ensures.exact) in
@@ -28,7 +28,7 @@ returns-in_default-clause-broken g c =
 
 pub write_piece-requires-clause-may : goal.write_piece-requires-clause-may
 write_piece-requires-clause-may g c κs within =
-    let trace = c.args.making.now.ordered.now.trace.now in
+    let trace = c.args.making.now.ordered.now.disciplined.now in
     let f = races_at c.args.search.now.job.now in
     let n = length (pieces_in c.args.search.now.job.now) in
     let lt : c.loop-k.k < n = omega (arith, c.loop-k-test.true, c.pieces-pieces.ensures.exact) in
@@ -39,7 +39,7 @@ write_piece-requires-clause-may g c κs within =
 
 pub returns-in_err-write_piece-clause-broken : goal.returns-in_err-write_piece-clause-broken
 returns-in_err-write_piece-clause-broken g c =
-    let trace = c.args.making.now.ordered.now.trace.now in
+    let trace = c.args.making.now.ordered.now.disciplined.now in
     let f = races_at c.args.search.now.job.now in
     let n = length (pieces_in c.args.search.now.job.now) in
     let lt : c.loop-k.k < n = omega (arith, c.loop-k-test.true, c.pieces-pieces.ensures.exact) in
@@ -51,7 +51,7 @@ returns-in_err-write_piece-clause-broken g c =
 
 pub loop-k-preserved : goal.loop-k-preserved
 loop-k-preserved g c =
-    let trace = c.args.making.now.ordered.now.trace.now in
+    let trace = c.args.making.now.ordered.now.disciplined.now in
     let f = races_at c.args.search.now.job.now in
     let n = length (pieces_in c.args.search.now.job.now) in
     let lt : c.loop-k.k < n = omega (arith, c.loop-k-test.true, c.pieces-pieces.ensures.exact) in
@@ -65,7 +65,7 @@ loop-k-preserved g c =
 
 pub returns-clause-moved : goal.returns-clause-moved
 returns-clause-moved g c =
-    let trace = c.args.making.now.ordered.now.trace.now in
+    let trace = c.args.making.now.ordered.now.disciplined.now in
     let f = races_at c.args.search.now.job.now in
     let at_end : c.loop-k.k ≡ length (pieces_in c.args.search.now.job.now) = omega (arith, c.loop-k-test.false, c.pieces-pieces.ensures.exact, c.loop-k.invariant.within) in
     subst (λ (k : ℕ). HasMoved trace.trace.now c.args.window.now (map pair_of (joined (values_of f k))) c.loop-k.window (g.K.Sink.taken c.args.sink.now) (g.K.Sink.taken c.loop-k.sink)) at_end c.loop-k.invariant.moved

@@ -9,14 +9,14 @@ use Rattle.shb_write.proofs.write.write_made.Goals as goal
 
 pub invariant_of-writer : goal.invariant_of-writer
 invariant_of-writer g c =
-    let trace = c.args.making.now.ordered.now.trace.now in record {
+    let trace = c.args.making.now.ordered.now.disciplined.now in record {
       room = c.requires.room;
       in_range = λ k d lt. (first_in_range trace.events.now _ _ _ trace.of_trace (c.requires.races k d lt), second_in_range trace.events.now _ _ _ trace.of_trace (c.requires.races k d lt));
     }
 
 pub returns-in-Ok-clause-blocks : goal.returns-in-Ok-clause-blocks
 returns-in-Ok-clause-blocks g c =
-    let trace = c.args.making.now.ordered.now.trace.now in
+    let trace = c.args.making.now.ordered.now.disciplined.now in
     let ended = c.in-Ok.ensures.ended in
     let same = ended.2.same_sink in
     left_after (λ s. WritesBlocksFrom trace.trace.now (c.args.earlier + 1) c.args.races.now (g.K.Sink.taken c.args.sink.now) (g.K.Sink.taken s) (Ok tt)) _ c.stream.new.taker.sink.now
@@ -25,7 +25,7 @@ returns-in-Ok-clause-blocks g c =
 
 pub returns-in-Err-Memory-clause-blocks : goal.returns-in-Err-Memory-clause-blocks
 returns-in-Err-Memory-clause-blocks g c =
-    let trace = c.args.making.now.ordered.now.trace.now in
+    let trace = c.args.making.now.ordered.now.disciplined.now in
     let ended = rw c.in-Err-Memory.field-0-is at c.in-Err-Memory.ensures.ended in
     let same = ended.2.2.same_sink in
     left_after (λ s. WritesBlocksFrom {T = Unit {0}} trace.trace.now (c.args.earlier + 1) c.args.races.now (g.K.Sink.taken c.args.sink.now) (g.K.Sink.taken s) (Err errors.Memory)) _ c.stream.new.taker.sink.now
@@ -34,7 +34,7 @@ returns-in-Err-Memory-clause-blocks g c =
 
 pub returns-in-Err-Taker-clause-blocks : goal.returns-in-Err-Taker-clause-blocks
 returns-in-Err-Taker-clause-blocks g c =
-    let trace = c.args.making.now.ordered.now.trace.now in
+    let trace = c.args.making.now.ordered.now.disciplined.now in
     let ended = rw c.in-Err-Taker.field-0-is at c.in-Err-Taker.ensures.ended in
     let same = ended.2.4.same_sink in
     left_after (λ s. WritesBlocksFrom {T = Unit {0}} trace.trace.now (c.args.earlier + 1) c.args.races.now (g.K.Sink.taken c.args.sink.now) (g.K.Sink.taken s) (Err errors.Sink)) _ c.stream.new.taker.sink.now
@@ -43,12 +43,12 @@ returns-in-Err-Taker-clause-blocks g c =
 
 pub returns-in-Err-Taker-clause-counted : goal.returns-in-Err-Taker-clause-counted
 returns-in-Err-Taker-clause-counted g c =
-    let trace = c.args.making.now.ordered.now.trace.now in
+    let trace = c.args.making.now.ordered.now.disciplined.now in
     let ended = rw c.in-Err-Taker.field-0-is at c.in-Err-Taker.ensures.ended in
     let same = ended.2.4.same_sink in
     left_after (λ s. g.K.Sink.failure_count s ≡ g.K.Sink.failure_count c.args.sink.now + 1) _ c.stream.new.taker.sink.now ended.2.4.failed.counted (search rules)
 
 pub stream-requires-after_bounds : goal.stream-requires-after_bounds
 stream-requires-after_bounds g c κs within k given s inside first next =
-    let trace = c.args.making.now.ordered.now.trace.now in
+    let trace = c.args.making.now.ordered.now.disciplined.now in
     may_come trace.trace.now trace.events.now c.args.races.now c.args.earlier trace.of_trace c.with_checkpoints-job.result (c.with_checkpoints-job.ensures ∙ c.new.ensures) g.K.Sink.failure_count _ refl refl refl c.requires.countable k given s inside (sym (map-id given) ∙ first) next

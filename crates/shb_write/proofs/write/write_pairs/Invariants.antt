@@ -6,6 +6,6 @@ use Rattle.shb_lines.specs.events.Race.{ends}
 abbrev pub invariant-loop-pair : goal.invariant-loop-pair
 invariant-loop-pair g l = record {
   numbered : l.number ≡ l.pair-index;
-  written : HasBlocks false l.found.ordered.now.trace.now.trace.now (map ends (take l.pair-index l.found.races.now)) (g.K.Sink.taken l.initial.sink) (g.K.Sink.taken l.sink);
+  written : HasBlocks false l.found.ordered.now.disciplined.now.trace.now (map ends (take l.pair-index l.found.races.now)) (g.K.Sink.taken l.initial.sink) (g.K.Sink.taken l.sink);
   counted : g.K.Sink.failure_count l.sink ≡ g.K.Sink.failure_count l.initial.sink;
 }

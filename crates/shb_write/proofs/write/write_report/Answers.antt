@@ -10,12 +10,12 @@ use Rattle.shb_lines.specs.events.Race.{ends}
 
 pub places_of-requires : goal.places_of-requires
 places_of-requires g c =
-    let trace = c.args.ordered.now.trace.now in
+    let trace = c.args.ordered.now.disciplined.now in
     pairs_in_range trace.trace.now trace.events.now c.args.races.now trace.of_trace c.requires.races
 
 pub returns-in_err-write_front-clause-cut : goal.returns-in_err-write_front-clause-cut
 returns-in_err-write_front-clause-cut g c =
-    let trace = c.args.ordered.now.trace.now in
+    let trace = c.args.ordered.now.disciplined.now in
     let blocks = blocks_of c.args.plan.now.schedules trace.trace.now (map ends c.args.races.now) (subst IsDisciplined trace.of_trace trace.meets) in
     on_sink c.from_residual-in_err-write_front.result _
     (report_cut c.args.plan.now.schedules trace.trace.now (map ends c.args.races.now) blocks.0 blocks.1 _ _
@@ -23,7 +23,7 @@ returns-in_err-write_front-clause-cut g c =
 
 pub returns-in_err-write_blocks-clause-cut : goal.returns-in_err-write_blocks-clause-cut
 returns-in_err-write_blocks-clause-cut g c =
-    let trace = c.args.ordered.now.trace.now in
+    let trace = c.args.ordered.now.disciplined.now in
     let blocks = c.in_err-write_blocks.ensures.blocks in
     on_sink c.from_residual-in_err-write_blocks.result _
     (report_cut c.args.plan.now.schedules trace.trace.now (map ends c.args.races.now) blocks.bytes blocks.blocks _ _
@@ -31,7 +31,7 @@ returns-in_err-write_blocks-clause-cut g c =
 
 pub returns-in_err-write_blocks-clause-memory : goal.returns-in_err-write_blocks-clause-memory
 returns-in_err-write_blocks-clause-memory g c =
-    let trace = c.args.ordered.now.trace.now in
+    let trace = c.args.ordered.now.disciplined.now in
     let blocks = c.in_err-write_blocks.ensures.blocks in
     on_memory c.from_residual-in_err-write_blocks.result _
     (inr (blocks_cut c.args.plan.now.schedules trace.trace.now (map ends c.args.races.now) blocks.bytes blocks.blocks _ _ _
@@ -39,7 +39,7 @@ returns-in_err-write_blocks-clause-memory g c =
 
 pub returns-in_err-tail-clause-cut : goal.returns-in_err-tail-clause-cut
 returns-in_err-tail-clause-cut g c =
-    let trace = c.args.ordered.now.trace.now in
+    let trace = c.args.ordered.now.disciplined.now in
     let blocks = c.in_ok-write_blocks.ensures.blocks in
     on_sink c.from_residual-in_err-tail.result _
     (report_cut c.args.plan.now.schedules trace.trace.now (map ends c.args.races.now) blocks.bytes blocks.blocks _ _
@@ -47,7 +47,7 @@ returns-in_err-tail-clause-cut g c =
 
 pub returns-clause-report : goal.returns-clause-report
 returns-clause-report g c =
-    let trace = c.args.ordered.now.trace.now in
+    let trace = c.args.ordered.now.disciplined.now in
     let blocks = c.in_ok-write_blocks.ensures.blocks in
     report_written c.args.plan.now.schedules trace.trace.now (map ends c.args.races.now) blocks.bytes blocks.blocks _ _
     (Appends-trans _ _ _ _ _ (c.in_ok-write_front.ensures.written (map ends c.args.races.now) (sym (length-map c.args.races.now ends)) (places_of_ends trace.trace.now c.args.races.now _ c.in_ok-places.ensures.places)) (Appends-trans _ _ _ _ _ blocks.written c.in_ok-tail.ensures.written))

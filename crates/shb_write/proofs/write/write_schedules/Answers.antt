@@ -7,7 +7,7 @@ use Rattle.shb_lines.specs.events.Race.{ends}
 
 pub returns-in_err-prepared-clause-blocks : goal.returns-in_err-prepared-clause-blocks
 returns-in_err-prepared-clause-blocks g c =
-    let trace = c.args.found.now.ordered.now.trace.now in
+    let trace = c.args.found.now.ordered.now.disciplined.now in
     WritesBlocks-none true trace.trace.now (map ends c.args.found.now.races.now) _ _ c.from_residual.result (subst IsDisciplined trace.of_trace trace.meets) c.from_residual.ensures.1
 
 pub returns-clause-blocks : goal.returns-clause-blocks

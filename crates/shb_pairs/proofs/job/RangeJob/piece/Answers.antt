@@ -11,10 +11,10 @@ pub returns-clause-value : goal.returns-clause-value
 returns-clause-value g c = c.piece_with.ensures ∙ ap (λ (ps : List _). piece_at ps c.args.k) (c.self.invariant.1 ∙ ap (λ (a : OpenTrace). pieces_in a) c.self.view_is)
 
 pub returns-clause-forward : goal.returns-clause-forward
-returns-clause-forward g c = (piece_value c.self.inside.accesses.now c.args.self.now c.self.inside.ordered.trace.now.events.now c.self.inside.pieces.now c.args.k _ c.self.view_is c.self.invariant.0 c.self.invariant.1 c.requires c.piece_with.ensures).0.forward
+returns-clause-forward g c = (piece_value c.self.inside.accesses.now c.args.self.now c.self.inside.ordered.disciplined.now.events.now c.self.inside.pieces.now c.args.k _ c.self.view_is c.self.invariant.0 c.self.invariant.1 c.requires c.piece_with.ensures).0.forward
 
 pub returns-clause-within : goal.returns-clause-within
-returns-clause-within g c = subst (λ (tr : List Event). c.piece_with.result.to ≤ length (accesses_in tr c.piece_with.result.variable)) (sym c.self.invariant.0 ∙ ap (λ (a : OpenTrace). a.trace) c.self.view_is) (piece_value c.self.inside.accesses.now c.args.self.now c.self.inside.ordered.trace.now.events.now c.self.inside.pieces.now c.args.k _ c.self.view_is c.self.invariant.0 c.self.invariant.1 c.requires c.piece_with.ensures).0.within
+returns-clause-within g c = subst (λ (tr : List Event). c.piece_with.result.to ≤ length (accesses_in tr c.piece_with.result.variable)) (sym c.self.invariant.0 ∙ ap (λ (a : OpenTrace). a.trace) c.self.view_is) (piece_value c.self.inside.accesses.now c.args.self.now c.self.inside.ordered.disciplined.now.events.now c.self.inside.pieces.now c.args.k _ c.self.view_is c.self.invariant.0 c.self.invariant.1 c.requires c.piece_with.ensures).0.within
 
 pub returns-clause-races : goal.returns-clause-races
-returns-clause-races g c = piece_races _ _ _ (piece_value c.self.inside.accesses.now c.args.self.now c.self.inside.ordered.trace.now.events.now c.self.inside.pieces.now c.args.k _ c.self.view_is c.self.invariant.0 c.self.invariant.1 c.requires c.piece_with.ensures).1
+returns-clause-races g c = piece_races _ _ _ (piece_value c.self.inside.accesses.now c.args.self.now c.self.inside.ordered.disciplined.now.events.now c.self.inside.pieces.now c.args.k _ c.self.view_is c.self.invariant.0 c.self.invariant.1 c.requires c.piece_with.ensures).1

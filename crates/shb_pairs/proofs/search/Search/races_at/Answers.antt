@@ -7,11 +7,11 @@ use Rattle.shb_pairs.proofs.search.Search.races_at.Goals as goal
 
 pub overflow_add-index : goal.overflow_add-index
 overflow_add-index g c =
-    let few = c.args.self.now.ordered.now.trace.now.few in
-    let all = numbers_few (accesses_at c.args.self.now.ordered.now.trace.now.events.now c.args.self.now.variable) (length c.args.self.now.ordered.now.trace.now.events.now) in
+    let few = c.args.self.now.ordered.now.disciplined.now.few in
+    let all = numbers_few (accesses_at c.args.self.now.ordered.now.disciplined.now.events.now c.args.self.now.variable) (length c.args.self.now.ordered.now.disciplined.now.events.now) in
     omega (arith, few, all, c.requires)
 
 pub returns : goal.returns
 returns g c = IfOk-weaker c.expanded.result _ _
-    (λ v is. is ∙ c.in_ok-races.ensures ∙ one_access c.args.self.now.ordered.now.trace.now.events.now (accesses_in c.args.self.now.ordered.now.trace.now.events.now c.args.self.now.variable) c.args.index c.requires)
+    (λ v is. is ∙ c.in_ok-races.ensures ∙ one_access c.args.self.now.ordered.now.disciplined.now.events.now (accesses_in c.args.self.now.ordered.now.disciplined.now.events.now c.args.self.now.variable) c.args.index c.requires)
     c.expanded.ensures

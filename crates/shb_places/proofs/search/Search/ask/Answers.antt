@@ -9,7 +9,7 @@ use Rattle.shb_places.proofs.search.Search.ask.Goals as goal
 
 pub returns-then-found_all-clause-asked : goal.returns-then-found_all-clause-asked
 returns-then-found_all-clause-asked g c is able =
-    let trace = c.args.ordered.now.trace.now.trace.now in
+    let trace = c.args.ordered.now.disciplined.now.trace.now in
     let own = c.args.self.now in
     let access = c.args.access in
     let next = c.walk_races.new.found in
@@ -22,7 +22,7 @@ returns-then-found_all-clause-asked g c is able =
 
 pub returns-clause-asked : goal.returns-clause-asked
 returns-clause-asked g c is able =
-    let trace = c.args.ordered.now.trace.now.trace.now in
+    let trace = c.args.ordered.now.disciplined.now.trace.now in
     let own = c.args.self.now in
     let access = c.args.access in
     let middle = c.walk_races.new.found in

@@ -14,7 +14,7 @@ use Rattle.shb_places.proofs.search.Search.ask_by_list.Goals as goal
 
 pub returns-then-all-clause-asked : goal.returns-then-all-clause-asked
 returns-then-all-clause-asked g c is able =
-    let trace = c.args.ordered.now.trace.now.trace.now in
+    let trace = c.args.ordered.now.disciplined.now.trace.now in
     let own = c.args.self.now in
     let access = c.args.access in
     let sites = own.sites.sites.items in
@@ -27,8 +27,8 @@ returns-then-all-clause-asked g c is able =
     let held = c.in_ok-look.ensures.held trace (access.event + 1) able.listed able.found c.requires.access (held_of trace sites own.found.races.items access.event access.variable access.location c.args.s list is asker (before c.in_ok-k.k list at)) in
     let after : Wanted = record { asker = c.look.new.list.asker; looked = c.look.new.list.looked; sites = c.look.new.list.sites; marks = c.walk_races.new.marks } in
     let next = c.walk_races.new.found in
-    let few = c.args.ordered.now.trace.now.few in
-    let long = ap length c.args.ordered.now.trace.now.of_trace in
+    let few = c.args.ordered.now.disciplined.now.few in
+    let long = ap length c.args.ordered.now.disciplined.now.of_trace in
     let marks = subst (λ (ms : List Mark). AreMarked trace own.found.races.items access.variable access.location ms) (sym (ap (λ v. v.items) c.in_ok-look.ensures.marks)) (marked_of trace sites own.found.races.items access.event access.variable access.location c.args.s list is asker (before c.in_ok-k.k list at)) in
     let made = c.in_ok-make_marks.ensures trace own.found.races.items access.variable access.location (omega (arith, few, long)) marks in
     let walked = c.in_ok-all.ensures.walked able.rivals.kept (record { found = able.found; marked = made }) in
@@ -42,7 +42,7 @@ returns-then-all-clause-asked g c is able =
 
 pub returns-clause-asked : goal.returns-clause-asked
 returns-clause-asked g c is able =
-    let trace = c.args.ordered.now.trace.now.trace.now in
+    let trace = c.args.ordered.now.disciplined.now.trace.now in
     let own = c.args.self.now in
     let access = c.args.access in
     let sites = own.sites.sites.items in
@@ -56,8 +56,8 @@ returns-clause-asked g c is able =
     let after : Wanted = record { asker = c.look.new.list.asker; looked = c.look.new.list.looked; sites = c.ask_list.new.list; marks = c.walk_races.new.marks } in
     let middle = c.walk_races.new.found in
     let next = c.ask_list.new.found in
-    let few = c.args.ordered.now.trace.now.few in
-    let long = ap length c.args.ordered.now.trace.now.of_trace in
+    let few = c.args.ordered.now.disciplined.now.few in
+    let long = ap length c.args.ordered.now.disciplined.now.of_trace in
     let marks = subst (λ (ms : List Mark). AreMarked trace own.found.races.items access.variable access.location ms) (sym (ap (λ v. v.items) c.in_ok-look.ensures.marks)) (marked_of trace sites own.found.races.items access.event access.variable access.location c.args.s list is asker (before c.in_ok-k.k list at)) in
     let made = c.in_ok-make_marks.ensures trace own.found.races.items access.variable access.location (omega (arith, few, long)) marks in
     let walked = c.in_ok-all.ensures.walked able.rivals.kept (record { found = able.found; marked = made }) in

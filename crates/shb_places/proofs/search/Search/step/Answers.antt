@@ -5,7 +5,7 @@ use Rattle.shb_places.proofs.search.Search.step.Goals as goal
 
 pub returns-in_default-clause-searched : goal.returns-in_default-clause-searched
 returns-in_default-clause-searched g c =
-    let trace = c.args.ordered.now.trace.now in
+    let trace = c.args.ordered.now.disciplined.now in
     let own = c.args.self.now in
     passed_other trace.trace.now c.args.flags.now own.sites own.notes own.by_thread own.wanted own.found c.args.e c.requires.settled
     (shut_none trace.trace.now trace.events.now _ c.args.e c.args.flags.now trace.of_trace c.op-op.ensures (sym c.variable.ensures ∙ c.in_default.is))
@@ -13,7 +13,7 @@ returns-in_default-clause-searched g c =
 
 pub returns-then-not-is_open-clause-searched : goal.returns-then-not-is_open-clause-searched
 returns-then-not-is_open-clause-searched g c =
-    let trace = c.args.ordered.now.trace.now in
+    let trace = c.args.ordered.now.disciplined.now in
     let own = c.args.self.now in
     passed_other trace.trace.now c.args.flags.now own.sites own.notes own.by_thread own.wanted own.found c.args.e c.requires.settled
     (shut_known trace.trace.now trace.events.now _ c.args.e c.in-Some.variable c.args.flags.now trace.of_trace c.op-op.ensures c.in-Some.ensures (sym c.is_open.ensures ∙ c.if-not-is_open.true))
@@ -21,5 +21,5 @@ returns-then-not-is_open-clause-searched g c =
 
 pub take-requires-clause-access : goal.take-requires-clause-access
 take-requires-clause-access g c =
-    let trace = c.args.ordered.now.trace.now in
+    let trace = c.args.ordered.now.disciplined.now in
     access_of trace.trace.now trace.events.now _ _ c.in-Some.variable _ c.args.e _ trace.of_trace c.op-op.ensures c.thread-thread.ensures c.in-Some.ensures c.in_ok-location.ensures.located c.is_write.ensures

@@ -12,25 +12,25 @@ use Rattle.shb_places.proofs.WalkLemmas.{steps_within}
 use Rattle.shb_places.proofs.search.Search.take.Goals as goal
 
 pub ask-requires-clause-in_range : goal.ask-requires-clause-in_range
-ask-requires-clause-in_range g c = links_within c.args.ordered.now.trace.now.trace.now c.requires.searched.0 c.args.self.now.sites c.args.self.now.notes c.args.self.now.found c.args.access c.requires.access c.requires.searched.1.searched
+ask-requires-clause-in_range g c = links_within c.args.ordered.now.disciplined.now.trace.now c.requires.searched.0 c.args.self.now.sites c.args.self.now.notes c.args.self.now.found c.args.access c.requires.access c.requires.searched.1.searched
 
 pub ask-requires-clause-as_many : goal.ask-requires-clause-as_many
 ask-requires-clause-as_many g c = c.requires.searched.1.searched.found.as_many
 
 pub local-local-requires : goal.local-local-requires
 local-local-requires g c =
-    let trace = c.args.ordered.now.trace.now.trace.now in
-    within_of trace.events _ _ c.args.access.event c.args.ordered.now.linked c.args.ordered.now.trace.now.of_trace (accessed_within trace.events c.args.access.event c.args.access.variable c.requires.access.variable)
+    let trace = c.args.ordered.now.disciplined.now.trace.now in
+    within_of trace.events _ _ c.args.access.event c.args.ordered.now.linked c.args.ordered.now.disciplined.now.of_trace (accessed_within trace.events c.args.access.event c.args.access.variable c.requires.access.variable)
 
 pub add-requires : goal.add-requires
 add-requires g c = record { as_many = subst (λ (n : Notes). length n.newest.items ≡ length n.classes.items) (sym c.in_ok-ask.ensures.notes) c.requires.searched.1.searched.kept.as_many }
 
 pub ask-requires-clause-steps_in_range : goal.ask-requires-clause-steps_in_range
-ask-requires-clause-steps_in_range g c = steps_within c.args.ordered.now.trace.now.trace.now c.requires.searched.0 c.args.self.now.by_thread c.args.access c.requires.access c.requires.searched.1.followed
+ask-requires-clause-steps_in_range g c = steps_within c.args.ordered.now.disciplined.now.trace.now c.requires.searched.0 c.args.self.now.by_thread c.args.access c.requires.access c.requires.searched.1.followed
 
 pub returns : goal.returns
 returns g c flags is_so h =
-    let trace = c.args.ordered.now.trace.now.trace.now in
+    let trace = c.args.ordered.now.disciplined.now.trace.now in
     let own = c.args.self.now in
     let more = c.number_of.new.self in
     let next = c.ask.new.self in
@@ -38,7 +38,7 @@ returns g c flags is_so h =
     let asked = c.in_ok-ask.ensures.asked c.in_ok-s.ensures.site able in
     let kept = subst (λ (n : Notes). AreKept trace more.sites.items (tables_of n) c.args.access.event) (sym c.in_ok-ask.ensures.notes) able.kept in
     let steps = subst (λ (b : ByThread). AreByThread trace (thread_tables b) c.args.access.event) (sym c.in_ok-ask.ensures.by_thread) able.rivals.kept in
-    let time = local_of trace.events _ _ _ c.args.access.event c.args.ordered.now.linked c.args.ordered.now.trace.now.of_trace c.local-local.ensures.time c.args.access.thread c.requires.access.thread in
+    let time = local_of trace.events _ _ _ c.args.access.event c.args.ordered.now.linked c.args.ordered.now.disciplined.now.of_trace c.local-local.ensures.time c.args.access.thread c.requires.access.thread in
     let added = c.in_ok-add.ensures trace more.sites.items (can_add trace more.sites.items (tables_of next.notes) c.in_ok-s.s c.local-local.result c.args.access kept c.in_ok-s.ensures.site c.requires.access time) in
     on_ok_weaker c.add-2.result (λ passed. taken_all trace flags own.sites more next.sites own.notes next.notes c.add.new.self own.by_thread next.by_thread c.add-2.new.self own.wanted next.wanted own.found next.found c.in_ok-s.s c.args.access c.requires.access is_so h c.in_ok-s.ensures.more c.in_ok-s.ensures.site c.in_ok-ask.ensures.sites c.in_ok-ask.ensures.notes c.in_ok-ask.ensures.by_thread asked added c.add-2.ensures.followed passed)
     (c.add-2.ensures.passed trace steps c.requires.access)
