@@ -14,7 +14,7 @@ use Rattle.shb_fan.specs.declared.step.Step.TheVariants.{Draw, Stop}
 use Rattle.shb_fan.specs.Turns.{AreDrawn, AreDraws, IsDrawer, drawn_state}
 use Rattle.shb_fan.specs.Machine.{ActorState, State, Allowed, Runs, after, after_draw, new_actor, start}
 use Rattle.shb_fan.specs.Numbers.{weight, times, once_below}
-use Rattle.shb_fan.proofs.Starts.{runs_more}
+use Rattle.shb_fan.proofs.Starts.{first_more}
 
 lt-true : (a b : ℕ) → a < b → ltb a b ≡ true
 lt-true a b h = grind (arith, nat_tests)
@@ -197,7 +197,7 @@ module _ (lists : List (List ℕ)) (n : ℕ) (drawn : AreDrawn lists n) where
           let found = draws.each m (omega (arith, small)) in
           let within = slice_get_within steps m (Draw found.0) found.1 in
           let before = front m (omega (arith, small)) in
-          let one = runs_more (take m steps) (start (length lists) pieces) (state_at lists m pieces) (Draw found.0) before (allowed m found.0 (omega (arith, small)) found.2) in
+          let one = first_more (take m steps) (start (length lists) pieces) (state_at lists m pieces) (Draw found.0) before (allowed m found.0 (omega (arith, small)) found.2) in
           let more : take (m + 1) steps ≡ take m steps ++ Draw found.0 ∷ [] = take_more steps m (Draw found.0) within ∙ ap (λ (x : Step). take m steps ++ x ∷ []) (get_or_from_slice_get steps m (Draw found.0) (Draw found.0) found.1) in
           let up : m + 1 ≡ suc m = omega arith in
           subst (λ (k : ℕ). Runs (start (length lists) pieces) (take k steps) (state_at lists k pieces)) up
@@ -216,7 +216,7 @@ module _ (lists : List (List ℕ)) (n : ℕ) (drawn : AreDrawn lists n) where
           (subst (λ (actors : List ActorState). Runs (start (length lists) pieces) (take n steps) record { next = n; actors = actors; pieces = replicate pieces Empty; taken = 0; stopped = false }) ended (front n (omega arith)))
 
       pub stop : (a : ℕ) → a < length lists → Runs (start (length lists) pieces) (steps ++ Stop a ∷ []) (drawn_state lists n pieces true)
-      stop a inside = runs_more steps (start (length lists) pieces) (drawn_state lists n pieces false) (Stop a) lead (let long = length-map lists whole_actor in omega (arith, long, inside))
+      stop a inside = first_more steps (start (length lists) pieces) (drawn_state lists n pieces false) (Stop a) lead (let long = length-map lists whole_actor in omega (arith, long, inside))
 
 -- some list has a number that the lists have
 some_drawer : (m : ℕ) (lists : List (List ℕ)) → 0 < sum_by (times m) lists → (a : ℕ) × IsDrawer lists m a

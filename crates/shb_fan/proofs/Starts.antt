@@ -35,9 +35,9 @@ bounds_start actors pieces few low = record {
 }
 
 -- one step more
-pub runs_more : (xs : List Step) (s t : State) (x : Step) → Runs s xs t → Allowed t x → Runs s (xs ++ x ∷ []) (after t x)
-runs_more [] s t x same allowed = (subst (λ (u : State). Allowed u x) same allowed, ap (λ (u : State). after u x) same)
-runs_more (y ∷ xs) s t x h allowed = (h.0, runs_more xs (after s y) t x h.1 allowed)
+pub first_more : (xs : List Step) (s t : State) (x : Step) → Runs s xs t → Allowed t x → Runs s (xs ++ x ∷ []) (after t x)
+first_more [] s t x same allowed = (subst (λ (u : State). Allowed u x) same allowed, ap (λ (u : State). after u x) same)
+first_more (y ∷ xs) s t x h allowed = (h.0, first_more xs (after s y) t x h.1 allowed)
 
 -- what the answer to a step says of the list
 pub refused_here : (actors pieces : ℕ) (steps : List Step) (at : ℕ) (d : Step) (s t : State) (b : Bool) → at < length steps → Runs (start actors pieces) (take at steps) s → b ≡ false → HasAdvanced s (get_or steps at d) b t → IsRefusedAt actors pieces steps at
@@ -53,4 +53,4 @@ pub run_on : (actors pieces : ℕ) (steps : List Step) (at : ℕ) (d : Step) (s 
 run_on actors pieces steps at d s t b lt runs passed h =
     let step = h.0 passed in
     subst (λ (u : State). Runs (start actors pieces) (take (at + 1) steps) u) (sym step.1)
-    (subst (λ (xs : List Step). Runs (start actors pieces) xs (after s (get_or steps at d))) (sym (take_more steps at d lt)) (runs_more (take at steps) (start actors pieces) s (get_or steps at d) runs step.0))
+    (subst (λ (xs : List Step). Runs (start actors pieces) xs (after s (get_or steps at d))) (sym (take_more steps at d lt)) (first_more (take at steps) (start actors pieces) s (get_or steps at d) runs step.0))

@@ -10,25 +10,25 @@ use shb_io::{NoMemory, Source};
 use std::alloc::Global;
 
 /// How many bytes are read at once: few reads, and no more memory than the text soon takes itself.
-const PIECE: usize = 1 << 20;
+const READ_SIZE: usize = 1 << 20;
 
-/// Room for one piece.
-fn new_piece(alloc: Global) -> Result<Vec<u8>, NoMemory>
-    ensures { IfOk result (λ piece. vec_len piece ≡ 2 ^ 20) }
+/// Room for the bytes of one read.
+fn new_buffer(alloc: Global) -> Result<Vec<u8>, NoMemory>
+    ensures { IfOk result (λ buffer. vec_len buffer ≡ 2 ^ 20) }
 {
-    Ok(vec![in alloc; 0; PIECE]?)
+    Ok(vec![in alloc; 0; READ_SIZE]?)
 }
 
 /// Reads once, at most `room` bytes, puts them after the text, and says how many there were.
 fn read_onto<S: Source>(
     source: &mut S,
     text: &mut Vec<u8>,
-    piece: &mut [u8],
+    buffer: &mut [u8],
     room: usize,
 ) -> Result<usize, ReadError>
     requires countable { S.failure_count source.old < 2 ^ 64 - 1 }
     requires some { 0 < room }
-    requires within { room ≤ length piece.old }
+    requires within { room ≤ length buffer.old }
     ensures bound { IfOk result (λ count. count ≤ room) }
     ensures grown { IfOk result (λ count. vec_len text.new ≡ vec_len text.old + count) }
     ensures bytes { IfOk result (λ count. (bytes : List ℕ) × (text.new.items ≡ text.old.items ++ bytes)
@@ -39,10 +39,10 @@ fn read_onto<S: Source>(
     ensures given_ok { IfOk result (HasGiven (S.given_count source.old) (S.given_count source.new)) }
     ensures counted { CountsFailure read_failed (S.failure_count source.old) (S.failure_count source.new) result }
 {
-    let Ok(count) = source.read(&mut piece[..room]) else {
+    let Ok(count) = source.read(&mut buffer[..room]) else {
         return Err(ReadError::Source);
     };
-    let Ok(()) = text.extend_from_slice(&piece[..count]) else {
+    let Ok(()) = text.extend_from_slice(&buffer[..count]) else {
         return Err(ReadError::Memory);
     };
     Ok(count)
@@ -66,10 +66,10 @@ pub fn read_whole<S: Source>(
 {
     let most = limit as usize + 1;
     let mut text = Vec::new(alloc);
-    let mut piece = new_piece(alloc)?;
+    let mut buffer = new_buffer(alloc)?;
     while text.len() < most {
-        let room = PIECE.min(most - text.len());
-        if read_onto(source, &mut text, &mut piece, room)? == 0 {
+        let room = READ_SIZE.min(most - text.len());
+        if read_onto(source, &mut text, &mut buffer, room)? == 0 {
             break;
         }
     }

@@ -25,7 +25,7 @@ use Rattle.shb_pairs.specs.Search.{AreRivals, racing}
 use Rattle.shb_pairs.proofs.ByThread.{accessed_selected, op_in, op_in_at, occurs_filter, occurs_none, occurs_once, selected_item, variable_in}
 use Rattle.shb_pairs.proofs.Counting.{access_from_test, numbers_few, test_from_access}
 use Rattle.shb_pairs.proofs.Merging.{occurs_contains, sorted_length, sorted_occurs, sorted_rises, sorted_same}
-use Rattle.shb_pairs.proofs.Runs.{race_accesses}
+use Rattle.shb_pairs.proofs.PieceRaces.{race_accesses}
 
 -- a member of the accesses by thread
 pub member_by_thread : (trace : List Event) (which : Which) (x : ℕ) (list : List ℕ) → IsByThread trace which x list → (k d : ℕ) → k < length list → (get_or list k d < length trace) × (selected_at trace which (get_or list k d) ≡ true) × (variable_at trace (get_or list k d) ≡ Some x)

@@ -24,7 +24,7 @@ use Rattle.shb_pairs.specs.Races.{races_with}
 use Rattle.shb_pairs.specs.Search.{IsFreeWrite, racing}
 use Rattle.shb_pairs.proofs.Found.{accessed_within}
 use Rattle.shb_pairs.proofs.Listing.{race_contained}
-use Rattle.shb_pairs.proofs.Runs.{access_front, races_with_earlier}
+use Rattle.shb_pairs.proofs.PieceRaces.{access_front, races_with_earlier}
 use Rattle.shb_pairs.proofs.Tails.{filter_none, not_racing, thread_key}
 
 -- what is below the predecessor of w, where w is below the predecessor of j

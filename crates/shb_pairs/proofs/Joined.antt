@@ -16,12 +16,12 @@ use Rattle.shb_pairs.specs.declared.piece.Piece.{Piece}
 use Rattle.shb_pairs.specs.Accesses.{accesses_in, listed_accesses, variables_in}
 use Rattle.shb_clocks.specs.Open.{OpenTrace, is_open}
 use Rattle.shb_pairs.specs.Open.{AreOpen}
-use Rattle.shb_pairs.specs.Pieces.{run_at, runs_of, pieces_below, pieces_in}
+use Rattle.shb_pairs.specs.Pieces.{numbered_piece, first_pieces, pieces_below, pieces_in}
 use Rattle.shb_pairs.specs.Races.{races_with, races_of, races_at, joined}
 use Rattle.shb_pairs.proofs.Listing.{numbers_below, races_on, races_on_parts, all_races, all_is_race_list}
 use Rattle.shb_pairs.proofs.ByThread.{listed_closed, listed_open}
 use Rattle.shb_lines.proofs.events.Increasing.{contains_head}
-use Rattle.shb_pairs.proofs.Runs.{no_runs, runs_on}
+use Rattle.shb_pairs.proofs.PieceRaces.{no_pieces, pieces_on}
 
 joined-map : {X A : Type 0} (f : X → List A) (xs : List X) → joined (map f xs) ≡ flat_map f xs
 joined-map f [] = refl
@@ -38,53 +38,53 @@ joined_values : {X A : Type 0} (f : X → List A) (xs : List X) (d : X) → join
 joined_values f xs d = ap (λ lists. joined lists) (values_of_front f xs d (length xs) (omega arith) ∙ ap (λ (ys : List _). map f ys) (take_all (length xs) xs (omega arith))) ∙ joined-map f xs
 
 -- the runs of one variable
-run_span : (xs : List ℕ) (k : ℕ) → take ((64 * k + min (length xs - 64 * k) 64) - 64 * k) (drop (64 * k) xs) ≡ take 64 (drop (64 * k) xs)
-run_span xs k =
+piece_span : (xs : List ℕ) (k : ℕ) → take ((64 * k + min (length xs - 64 * k) 64) - 64 * k) (drop (64 * k) xs) ≡ take 64 (drop (64 * k) xs)
+piece_span xs k =
     let size : (64 * k + min (length xs - 64 * k) 64) - 64 * k ≡ min 64 (length (drop (64 * k) xs)) = rw (length-drop (64 * k) xs, min_comm 64 (length xs - 64 * k)) (omega arith) in
     ap (λ (n : ℕ). take n (drop (64 * k) xs)) size ∙ take_min 64 (drop (64 * k) xs)
 
-run_races : (trace : List Event) (x k : ℕ) → races_of trace (run_at x (length (accesses_in trace x)) k) ≡ flat_map (races_with trace) (take 64 (drop (64 * k) (accesses_in trace x)))
+piece_has_races : (trace : List Event) (x k : ℕ) → races_of trace (numbered_piece x (length (accesses_in trace x)) k) ≡ flat_map (races_with trace) (take 64 (drop (64 * k) (accesses_in trace x)))
 unfolding races_of
-run_races trace x k = ap (λ (ys : List ℕ). flat_map (races_with trace) ys) (run_span (accesses_in trace x) k)
+piece_has_races trace x k = ap (λ (ys : List ℕ). flat_map (races_with trace) ys) (piece_span (accesses_in trace x) k)
 
-runs_joined : (trace : List Event) (x k : ℕ) → flat_map (races_of trace) (runs_of x (length (accesses_in trace x)) k) ≡ flat_map (races_with trace) (take (64 * k) (accesses_in trace x))
-unfolding runs_of
-runs_joined trace x zero = refl
-runs_joined trace x (suc k) =
+all_joined : (trace : List Event) (x k : ℕ) → flat_map (races_of trace) (first_pieces x (length (accesses_in trace x)) k) ≡ flat_map (races_with trace) (take (64 * k) (accesses_in trace x))
+unfolding first_pieces
+all_joined trace x zero = refl
+all_joined trace x (suc k) =
     let xs : List ℕ = accesses_in trace x in
-    let front = runs_joined trace x k in
-    let last = run_races trace x k in
+    let front = all_joined trace x k in
+    let last = piece_has_races trace x k in
     let size : 64 * suc k ≡ 64 * k + 64 = omega arith in
-    flat_map-append (races_of trace) (runs_of x (length xs) k) (run_at x (length xs) k ∷ [])
-    ∙ (ap (λ (ys : List (ℕ × ℕ)). flat_map (races_of trace) (runs_of x (length xs) k) ++ ys) (append-nil (races_of trace (run_at x (length xs) k)) ∙ last)
+    flat_map-append (races_of trace) (first_pieces x (length xs) k) (numbered_piece x (length xs) k ∷ [])
+    ∙ (ap (λ (ys : List (ℕ × ℕ)). flat_map (races_of trace) (first_pieces x (length xs) k) ++ ys) (append-nil (races_of trace (numbered_piece x (length xs) k)) ∙ last)
     ∙ (ap (λ (ys : List (ℕ × ℕ)). ys ++ flat_map (races_with trace) (take 64 (drop (64 * k) xs))) front
     ∙ (sym (flat_map-append (races_with trace) (take (64 * k) xs) (take 64 (drop (64 * k) xs)))
     ∙ (ap (λ (ys : List ℕ). flat_map (races_with trace) ys) (sym (take-add (64 * k) 64 xs))
     ∙ ap (λ (n : ℕ). flat_map (races_with trace) (take n xs)) (sym size)))))
 
-pub runs_enough : (n : ℕ) → n ≤ 64 * div_ceil n 64
-runs_enough n = omega arith
+pub pieces_enough : (n : ℕ) → n ≤ 64 * div_ceil n 64
+pieces_enough n = omega arith
 
-open_joined : (trace : List Event) (x : ℕ) → flat_map (races_of trace) (runs_of x (length (accesses_in trace x)) (div_ceil (length (accesses_in trace x)) 64)) ≡ races_on trace x
-open_joined trace x = runs_joined trace x _ ∙ ap (λ (ys : List ℕ). flat_map (races_with trace) ys) (take_all _ (accesses_in trace x) (runs_enough (length (accesses_in trace x))))
+open_joined : (trace : List Event) (x : ℕ) → flat_map (races_of trace) (first_pieces x (length (accesses_in trace x)) (div_ceil (length (accesses_in trace x)) 64)) ≡ races_on trace x
+open_joined trace x = all_joined trace x _ ∙ ap (λ (ys : List ℕ). flat_map (races_with trace) ys) (take_all _ (accesses_in trace x) (pieces_enough (length (accesses_in trace x))))
 
 -- a variable without races adds none
 no_members : {X : Type 0} (xs : List X) → ((p : X) → Contains xs p → ⊥) → xs ≡ []
 no_members [] none = refl
 no_members (x ∷ xs) none = absurd (none x (contains_head x xs))
 
-variable_joined : (a : OpenTrace) → AreOpen a.trace a.flags → (x : ℕ) → flat_map (races_of a.trace) (runs_on x (listed_accesses a x)) ≡ races_on a.trace x
+variable_joined : (a : OpenTrace) → AreOpen a.trace a.flags → (x : ℕ) → flat_map (races_of a.trace) (pieces_on x (listed_accesses a x)) ≡ races_on a.trace x
 variable_joined a free_write x = elim (cases_Bool (is_open a.flags x)) [
-  | inl h ↦ ap (λ (ks : List ℕ). flat_map (races_of a.trace) (runs_on x ks)) (listed_open a x h) ∙ open_joined a.trace x
-  | inr h ↦ ap (λ (ks : List ℕ). flat_map (races_of a.trace) (runs_on x ks)) (listed_closed a x h) ∙ (ap (λ (ps : List Piece). flat_map (races_of a.trace) ps) (no_runs x) ∙ sym (no_members (races_on a.trace x) (λ p c. let there = races_on_parts a.trace x p c in free_write x h p.0 p.1 there.0 there.1)))
+  | inl h ↦ ap (λ (ks : List ℕ). flat_map (races_of a.trace) (pieces_on x ks)) (listed_open a x h) ∙ open_joined a.trace x
+  | inr h ↦ ap (λ (ks : List ℕ). flat_map (races_of a.trace) (pieces_on x ks)) (listed_closed a x h) ∙ (ap (λ (ps : List Piece). flat_map (races_of a.trace) ps) (no_pieces x) ∙ sym (no_members (races_on a.trace x) (λ p c. let there = races_on_parts a.trace x p c in free_write x h p.0 p.1 there.0 there.1)))
 ]
 
 pieces_joined : (a : OpenTrace) → AreOpen a.trace a.flags → (n : ℕ) → flat_map (races_of a.trace) (pieces_below a n) ≡ flat_map (races_on a.trace) (numbers_below n)
 unfolding pieces_below numbers_where
 pieces_joined a free_write zero = refl
 pieces_joined a free_write (suc x) =
-    flat_map-append (races_of a.trace) (pieces_below a x) (runs_on x (listed_accesses a x))
-    ∙ (ap (λ (ys : List (ℕ × ℕ)). ys ++ flat_map (races_of a.trace) (runs_on x (listed_accesses a x))) (pieces_joined a free_write x)
+    flat_map-append (races_of a.trace) (pieces_below a x) (pieces_on x (listed_accesses a x))
+    ∙ (ap (λ (ys : List (ℕ × ℕ)). ys ++ flat_map (races_of a.trace) (pieces_on x (listed_accesses a x))) (pieces_joined a free_write x)
     ∙ (ap (λ (ys : List (ℕ × ℕ)). flat_map (races_on a.trace) (numbers_below x) ++ ys) (variable_joined a free_write x ∙ sym (append-nil (races_on a.trace x)))
     ∙ sym (flat_map-append (races_on a.trace) (numbers_below x) (x ∷ []))))
 

@@ -11,11 +11,11 @@ use Rattle.shb_pairs.specs.declared.piece.Piece.{Piece}
 use Rattle.shb_pairs.specs.Accesses.{accesses_at, accesses_in}
 use Rattle.shb_clocks.specs.Open.{OpenTrace}
 use Rattle.shb_pairs.specs.Pieces.{pieces_in}
-use Rattle.shb_pairs.specs.Races.{AreRacesOfRun, PairBefore, accesses_of_run, piece_at, races_at, races_of, races_with}
+use Rattle.shb_pairs.specs.Races.{AreRacesOfPiece, PairBefore, accesses_of_piece, piece_at, races_at, races_of, races_with}
 use Rattle.shb_pairs.proofs.ByThread.{listed_open}
 use Rattle.shb_pairs.proofs.Listing.{race_contained, race_parts}
 use Rattle.shb_pairs.proofs.FlatMaps.{flat_map_contains, flat_map_ordered, flat_map_parts, map_ordered}
-use Rattle.shb_pairs.proofs.Runs.{IsRun, piece_within}
+use Rattle.shb_pairs.proofs.PieceRaces.{IsPieceOf, piece_within}
 
 part_length : (xs : List ℕ) (from to : ℕ) → from ≤ to → to ≤ length xs → length (slice_range xs from to) ≡ to - from
 part_length xs from to le within = let rest = length-drop from xs in length-take-le (to - from) (drop from xs) (omega (arith, rest))
@@ -38,14 +38,14 @@ unfolding races_with
 with_rises trace j = map_ordered PairBefore (λ i. (i, j)) (numbers_where (λ i. is_race trace i j) j)
     (λ a b d lt within. inr (refl, AllPairs-from_increasing (numbers_where (λ i. is_race trace i j) j) (numbers_listed (λ i. is_race trace i j) j).rising a b d lt within))
 
-run_members : (trace : List Event) (ks : List ℕ) (p : ℕ × ℕ) → Contains (flat_map (races_with trace) ks) p → Race trace p.0 p.1 × Contains ks p.1
-run_members trace ks p c =
+piece_members : (trace : List Event) (ks : List ℕ) (p : ℕ × ℕ) → Contains (flat_map (races_with trace) ks) p → Race trace p.0 p.1 × Contains ks p.1
+piece_members trace ks p c =
     let there = flat_map_parts (races_with trace) ks p c in
     let parts = race_parts trace there.0 p there.2 in
     (parts.race, subst (λ (j : ℕ). Contains ks j) (sym parts.later) there.1)
 
-run_rises : (trace : List Event) (ks : List ℕ) → AllPairs (λ (a b : ℕ). a < b) ks → AllPairs PairBefore (flat_map (races_with trace) ks)
-run_rises trace ks rising = flat_map_ordered PairBefore (races_with trace) ks
+piece_rises : (trace : List Event) (ks : List ℕ) → AllPairs (λ (a b : ℕ). a < b) ks → AllPairs PairBefore (flat_map (races_with trace) ks)
+piece_rises trace ks rising = flat_map_ordered PairBefore (races_with trace) ks
     (λ j c. with_rises trace j)
     (λ a b d lt within p q cp cq.
     let later_p = (race_parts trace _ p cp).later in
@@ -53,19 +53,19 @@ run_rises trace ks rising = flat_map_ordered PairBefore (races_with trace) ks
     let rise = rising a b d lt within in
     inl (omega (arith, later_p, later_q, rise)))
 
-value_of_run : (a : OpenTrace) (p : Piece) → IsRun a.trace a.flags p → AreRacesOfRun a p (races_of a.trace p)
+races_of_value : (a : OpenTrace) (p : Piece) → IsPieceOf a.trace a.flags p → AreRacesOfPiece a p (races_of a.trace p)
 unfolding races_of
-value_of_run a p run = record {
+races_of_value a p run = record {
   all = λ i j. (
-    (λ c. let h = run_members a.trace _ (i, j) c in (h.0, subst (λ (ks : List ℕ). Contains ks j) (sym same) h.1)),
+    (λ c. let h = piece_members a.trace _ (i, j) c in (h.0, subst (λ (ks : List ℕ). Contains ks j) (sym same) h.1)),
     (λ h. flat_map_contains (races_with a.trace) _ j (i, j) (subst (λ (ks : List ℕ). Contains ks j) same h.1) (race_contained a.trace i j h.0)),
   );
-  in_order = run_rises a.trace _ (part_rises (accesses_in a.trace p.variable) p.from p.to run.forward run.within (AllPairs-from_increasing _ (numbers_listed (accesses_at a.trace p.variable) (length a.trace)).rising));
+  in_order = piece_rises a.trace _ (part_rises (accesses_in a.trace p.variable) p.from p.to run.forward run.within (AllPairs-from_increasing _ (numbers_listed (accesses_at a.trace p.variable) (length a.trace)).rising));
 }
   where
-    same : accesses_of_run a p ≡ slice_range (accesses_in a.trace p.variable) p.from p.to
+    same : accesses_of_piece a p ≡ slice_range (accesses_in a.trace p.variable) p.from p.to
     same = ap (λ (ks : List ℕ). slice_range ks p.from p.to) (listed_open a p.variable run.listed)
 
-pub value_of_piece : (a : OpenTrace) (k : ℕ) → k < length (pieces_in a) → AreRacesOfRun a (piece_at (pieces_in a) k) (races_at a k)
+pub value_of_piece : (a : OpenTrace) (k : ℕ) → k < length (pieces_in a) → AreRacesOfPiece a (piece_at (pieces_in a) k) (races_at a k)
 unfolding races_at
-value_of_piece a k lt = value_of_run a (piece_at (pieces_in a) k) (piece_within a k _ lt)
+value_of_piece a k lt = races_of_value a (piece_at (pieces_in a) k) (piece_within a k _ lt)

@@ -1,4 +1,4 @@
--- The races of a piece: those whose later access is in its run.
+-- The races of a piece: those whose later access is among its accesses.
 use Rattle.std.specs.Prelude.{◌≡◌, ℕ, ◌<◌, ◌⊎◌, ◌↔◌, List, AllPairs, Contains, map, flat_map, slice_index_or, slice_range}
 use Rattle.shb_lines.specs.declared.event.Event.{Event}
 use Rattle.shb_lines.specs.events.Race.{Race}
@@ -12,7 +12,7 @@ use Rattle.shb_pairs.specs.Pieces.{pieces_in}
 unfoldable pub races_with : List Event → ℕ → List (ℕ × ℕ)
 races_with trace j = map (λ i. (i, j)) (numbers_where (λ i. is_race trace i j) j)
 
--- the races whose later access is in the run, by the later access, then by the earlier
+-- the races whose later access is among those of the piece, by the later access, then by the earlier
 unfoldable pub races_of : List Event → Piece → List (ℕ × ℕ)
 races_of trace p = flat_map (races_with trace) (slice_range (accesses_in trace p.variable) p.from p.to)
 
@@ -24,17 +24,17 @@ piece_at pieces k = slice_index_or pieces k (record { variable = 0; from = 0; to
 unfoldable pub races_at : OpenTrace → ℕ → List (ℕ × ℕ)
 races_at a k = races_of a.trace (piece_at (pieces_in a) k)
 
--- the accesses in a run
-abbrev pub accesses_of_run : OpenTrace → Piece → List ℕ
-accesses_of_run a p = slice_range (listed_accesses a p.variable) p.from p.to
+-- the accesses of a piece
+abbrev pub accesses_of_piece : OpenTrace → Piece → List ℕ
+accesses_of_piece a p = slice_range (listed_accesses a p.variable) p.from p.to
 
 -- p stands before q: by the later access, then by the earlier
 abbrev pub PairBefore : ℕ × ℕ → ℕ × ℕ → Type 0
 PairBefore p q = (p.1 < q.1) ⊎ ((p.1 ≡ q.1) × (p.0 < q.0))
 
--- all races whose later access is in the run, each once, by the later access, then by the earlier
-pub record AreRacesOfRun (a : OpenTrace) (p : Piece) (races : List (ℕ × ℕ)) : Type 0 where
-  pub all : (i j : ℕ) → Contains races (i, j) ↔ (Race a.trace i j × Contains (accesses_of_run a p) j)
+-- all races whose later access is among those of the piece, each once, by the later access, then by the earlier
+pub record AreRacesOfPiece (a : OpenTrace) (p : Piece) (races : List (ℕ × ℕ)) : Type 0 where
+  pub all : (i j : ℕ) → Contains races (i, j) ↔ (Race a.trace i j × Contains (accesses_of_piece a p) j)
   pub in_order : AllPairs PairBefore races
 
 -- lists one after the other

@@ -24,7 +24,7 @@ use std::collections::LinkedList;
 use std::marker::Model;
 
 /// The search for the races of a trace, as work in pieces: the value of a piece is the races whose
-/// later access is in its run, by the later access, then by the earlier one, as ranges. The values of all
+/// later access is among its accesses, by the later access, then by the earlier one, as ranges. The values of all
 /// pieces joined are the race list, where a variable that isn't open has no race. Clauses see it as the
 /// accesses.
 ///
@@ -77,7 +77,7 @@ impl<'a, O: Order> RangeJob<'a, O> {
         }
     }
 
-    /// The piece with this number, from 0. Its value is the races of the accesses in its run.
+    /// The piece with this number, from 0. Its value is the races of its accesses with earlier ones.
     pub fn piece(&self, k: u64) -> Piece
         requires { k < length (pieces_in self.now) }
         ensures value { result ≡ piece_at (pieces_in self.now) k }

@@ -12,7 +12,7 @@ ghost use Rattle.shb_lines.specs.events.Sizes.{IsNumberedByAccess};
 ghost use Rattle.shb_clocks.specs.Open.{OpenTrace};
 ghost use Rattle.shb_pairs.specs.Open.{AreOpen};
 ghost use Rattle.shb_pairs.specs.Pieces.{pieces_in};
-ghost use Rattle.shb_pairs.specs.Races.{AreRacesOfRun, joined, piece_at, races_at};
+ghost use Rattle.shb_pairs.specs.Races.{AreRacesOfPiece, joined, piece_at, races_at};
 
 /// The values of all pieces, joined, are the race list, where a variable that isn't open has no race.
 pub fn pieces_give_race_list()
@@ -21,9 +21,9 @@ pub fn pieces_give_race_list()
 {}
 
 /// The value of a piece is its own races: a pair is in it exactly where it is a race whose later access
-/// is in the run of the piece; each once, by the later access, then by the earlier one.
+/// is among the accesses of the piece; each once, by the later access, then by the earlier one.
 pub fn piece_gives_its_races()
-    ensures { (a : OpenTrace) (k : ℕ) → k < length (pieces_in a) → AreRacesOfRun a (piece_at (pieces_in a) k) (races_at a k) }
+    ensures { (a : OpenTrace) (k : ℕ) → k < length (pieces_in a) → AreRacesOfPiece a (piece_at (pieces_in a) k) (races_at a k) }
 {}
 
 /// The printed schedule of a race is a schedule of it.

@@ -6,8 +6,8 @@
 //! so are the reads since, which the newest tells where each has the one before it below. The others
 //! are open. [`accesses_of_open`] collects their
 //! accesses in one pass and sorts them by counting, in trace order and by thread; [`pieces`] cuts
-//! each list into runs of at most 64; [`RangeJob`] is the job over them, whose piece has the races
-//! with the later access in its run, as [`RaceRanges`]: for each later access a range of the accesses
+//! each list into pieces of at most 64; [`RangeJob`] is the job over them, whose piece has the races
+//! with the later access among its accesses, as [`RaceRanges`]: for each later access a range of the accesses
 //! of each thread that has races with it. [`PairJob`] is the same with lists of pairs.
 //!
 //! The search for a later access j goes over the threads that write its variable (that access it,
@@ -27,10 +27,10 @@ mod race;
 mod races;
 mod ranges;
 mod rivals;
-mod run_ends;
 mod screen;
 mod search;
 mod spans;
+mod thread_ends;
 
 pub use accesses::{Accesses, Which, accesses_of, accesses_of_open};
 pub use job::{PairJob, RangeJob};

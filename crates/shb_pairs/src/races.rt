@@ -168,7 +168,7 @@ fn add_races_at<'a, O: Order>(
     }
 }
 
-/// The races whose later access is in a run of the accesses of one variable, by the later access,
+/// The races whose later access is among neighbours in the list of the accesses of one variable, by the later access,
 /// then by the earlier one.
 ///
 /// A write without a race orders all accesses before it. So for an access after such a write, which

@@ -14,9 +14,9 @@ ghost use Rattle.shb_pairs.specs.declared.buckets.Key.TheVariants.{Thread};
 
 use crate::buckets::part;
 use crate::ranges::Range;
-use crate::run_ends::RunEnd;
 use crate::search::Search;
 use crate::spans::Span;
+use crate::thread_ends::ThreadEnd;
 use shb_clocks::{Order, Ordered};
 use shb_io::NoMemory;
 use shb_lines::Events;
@@ -41,7 +41,7 @@ pub(crate) struct Cursor {
 /// cursor yet, an end that was found when the list was made is tried.
 pub(crate) struct ThreadCursors<'a> {
     pub(crate) cursors: Vec<Cursor>,
-    ends: &'a [RunEnd],
+    ends: &'a [ThreadEnd],
 }
 
 // By hand: a derived one stands in each function that drops cursors, with a step for the vector.
@@ -56,20 +56,20 @@ impl<'a> Drop for ThreadCursors<'a> {
 
 impl<'a> ThreadCursors<'a> {
     /// No cursors yet.
-    fn new(alloc: Global, ends: &'a [RunEnd]) -> ThreadCursors<'a> {
+    fn new(alloc: Global, ends: &'a [ThreadEnd]) -> ThreadCursors<'a> {
         ThreadCursors {
             cursors: Vec::new(alloc),
             ends,
         }
     }
 
-    /// Adds the cursor of a run of one thread, if it is the first run without one.
-    pub(crate) fn reach(&mut self, run: usize) -> Result<(), NoMemory>
-        requires { run ≤ length self.old.cursors.items }
-        ensures { OnOk result (run < length self.new.cursors.items) }
+    /// Adds the cursor of the thread of this number in the list, from 0, if it is the first without one.
+    pub(crate) fn reach(&mut self, number: usize) -> Result<(), NoMemory>
+        requires { number ≤ length self.old.cursors.items }
+        ensures { OnOk result (number < length self.new.cursors.items) }
     {
-        if run == self.cursors.len() {
-            let end = match self.ends.get(run) {
+        if number == self.cursors.len() {
+            let end = match self.ends.get(number) {
                 Some(found) => found.end,
                 None => 0,
             };
@@ -110,7 +110,7 @@ impl<'a> Cursors<'a> {
 
 /// Where positions of one thread end that start at an index, among positions by thread. A guess up to which
 /// all are of that thread is taken as it is; without one the end of all its positions is found.
-pub(crate) fn run_end(events: &Events, positions: &[u32], start: usize, guess: usize) -> usize
+pub(crate) fn thread_end(events: &Events, positions: &[u32], start: usize, guess: usize) -> usize
     requires in_range { All (λ k. k < length events.now) positions.now }
     requires sorted { AllPairs (IsBeforeByThread events.now) positions.now }
     requires inside { start < length positions.now }
@@ -319,16 +319,16 @@ fn add_rivals<'p, O: Order>(
         ≡ in_ranges found.old.items ++ racing ordered.now.disciplined.now.events.now second positions.now) }
 {
     let mut start = 0;
-    let mut run = 0;
+    let mut number = 0;
     while start < positions.len() {
-        cursors.reach(run)?;
-        let cursor = &mut cursors.cursors[run];
-        let end = run_end(ordered.disciplined.events, positions, start, cursor.end);
+        cursors.reach(number)?;
+        let cursor = &mut cursors.cursors[number];
+        let end = thread_end(ordered.disciplined.events, positions, start, cursor.end);
         cursor.end = end;
         let of_thread = part(positions, start, end);
         add_tail(found, ordered, of_thread, cursor, second)?;
         start = end;
-        run += 1;
+        number += 1;
     }
     Ok(())
 }

@@ -8,7 +8,7 @@ ghost use Rattle.shb_pairs.specs.Search.{AreRivals, racing};
 ghost use Rattle.shb_pairs.specs.Spans.{AreComparedWith, IsSpanOf, in_spans};
 
 use crate::buckets::part;
-use crate::rivals::{Cursors, ThreadCursors, run_end, tail_of};
+use crate::rivals::{Cursors, ThreadCursors, tail_of, thread_end};
 use shb_clocks::{Order, Ordered};
 use shb_io::NoMemory;
 
@@ -40,11 +40,11 @@ fn spans_of<O: Order>(
 {
     found.clear();
     let mut start = 0;
-    let mut run = 0;
+    let mut number = 0;
     while start < positions.len() {
-        cursors.reach(run)?;
-        let cursor = &mut cursors.cursors[run];
-        let end = run_end(ordered.disciplined.events, positions, start, cursor.end);
+        cursors.reach(number)?;
+        let cursor = &mut cursors.cursors[number];
+        let end = thread_end(ordered.disciplined.events, positions, start, cursor.end);
         cursor.end = end;
         let tail = tail_of(ordered, part(positions, start, end), cursor, second);
         found.push(Span {
@@ -52,7 +52,7 @@ fn spans_of<O: Order>(
             to: start + tail.to,
         })?;
         start = end;
-        run += 1;
+        number += 1;
     }
     Ok(())
 }

@@ -3,7 +3,7 @@ use Rattle.std.specs.Prelude.{◌≡◌, ℕ, ◌+◌, ◌≤◌, List, flat_map
 use Rattle.std.specs.List.{range_with_len}
 use Rattle.shb_positions.specs.declared.positions.Run.{Run}
 use Rattle.shb_positions.specs.Runs.{run_positions}
-use Rattle.shb_report.specs.Pieces.{event_numbers}
+use Rattle.shb_report.specs.BlockTexts.{event_numbers}
 
 -- the numbers of the first so many events
 abbrev pub first_numbers : ℕ → List ℕ

@@ -3,7 +3,7 @@ use Rattle.std.proofs.Common.{◌≡◌, ℕ, ◌+◌, List, [], ◌∷◌, ◌+
 use Rattle.std.specs.Fmt.{decimal}
 use Rattle.std.proofs.lemmas.List.{length-map}
 use Rattle.shb_lines.specs.text.TraceData.{TraceData}
-use Rattle.shb_report.specs.Pieces.{event_lines, event_numbers, race_line, schedule_bytes}
+use Rattle.shb_report.specs.BlockTexts.{event_lines, event_numbers, race_line, schedule_bytes}
 use Rattle.shb_report.specs.Report.{block_bytes, line_of_event, schedule_lines}
 use Rattle.shb_report.specs.Value.{lines_text, listed}
 

@@ -10,7 +10,7 @@ use Rattle.shb_positions.specs.declared.positions.Run.{Run}
 use Rattle.shb_positions.specs.Runs.{positions_in, run_positions}
 use Rattle.shb_positions.proofs.RunLemmas.{range_split}
 use Rattle.shb_report.specs.Numbers.{HasNumbers, first_numbers, run_numbers}
-use Rattle.shb_report.specs.Pieces.{event_number, event_numbers}
+use Rattle.shb_report.specs.BlockTexts.{event_number, event_numbers}
 
 numbers_split : (a m n b k : ℕ) → a + m ≡ b → m + n ≡ k → event_numbers (range_with_len a k) ≡ event_numbers (range_with_len a m) ++ event_numbers (range_with_len b n)
 numbers_split a m n b k from more = ap event_numbers (range_split a m n b k from more) ∙ flat_map-append event_number (range_with_len a m) (range_with_len b n)

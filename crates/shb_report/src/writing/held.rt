@@ -3,7 +3,7 @@ ghost use Rattle.std.specs.Prelude.{◌+◌, ◌-◌, ◌^◌, ◌<◌, ◌≤�
 ghost use Rattle.std.specs.Option.{option_map};
 ghost use Rattle.shb_io.specs.Devices.{AppendsPrefix, HoldsBack, IsCounted};
 ghost use Rattle.shb_report.specs.Held.{Puts};
-ghost use Rattle.shb_report.specs.Pieces.{event_number, event_numbers, labelled_line, schedule_bytes, schedule_line, schedule_start};
+ghost use Rattle.shb_report.specs.BlockTexts.{event_number, event_numbers, labelled_line, schedule_bytes, schedule_line, schedule_start};
 ghost use Rattle.shb_report.specs.declared.writing.buffer.TheConstants.{ROOM};
 
 use super::buffer::{DIGITS, ROOM, TextBuffer};

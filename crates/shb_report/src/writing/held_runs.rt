@@ -4,7 +4,7 @@ ghost use Rattle.shb_io.specs.Devices.{AppendsPrefix, HoldsBack, IsCounted};
 ghost use Rattle.shb_positions.specs.Runs.{EndsInRange, run_positions};
 ghost use Rattle.shb_report.specs.Held.{Puts};
 ghost use Rattle.shb_report.specs.Numbers.{run_numbers};
-ghost use Rattle.shb_report.specs.Pieces.{event_numbers, schedule_line};
+ghost use Rattle.shb_report.specs.BlockTexts.{event_numbers, schedule_line};
 
 use super::buffer::TextBuffer;
 use super::held::{put_bytes, put_event, put_schedule_start};

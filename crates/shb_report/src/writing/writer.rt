@@ -4,7 +4,7 @@ ghost use Rattle.std.specs.Option.{option_map};
 ghost use Rattle.shb_io.specs.Devices.{IsCounted, Writes};
 ghost use Rattle.shb_report.specs.declared.writing.buffer.TheConstants.{ROOM};
 ghost use Rattle.shb_report.specs.Held.{Puts};
-ghost use Rattle.shb_report.specs.Pieces.{event_lines, race_line};
+ghost use Rattle.shb_report.specs.BlockTexts.{event_lines, race_line};
 ghost use Rattle.shb_report.specs.Report.{block_bytes, head_bytes, tail_bytes};
 
 use super::buffer::TextBuffer;

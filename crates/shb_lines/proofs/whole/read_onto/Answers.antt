@@ -18,16 +18,16 @@ returns-in_default-clause-taken g c = ([], omega arith, Keeps-none _ _ c.in_defa
 
 pub returns-in_default-extend_from_slice-clause-taken : goal.returns-in_default-extend_from_slice-clause-taken
 returns-in_default-extend_from_slice-clause-taken g c =
-    (take c.in-Ok.count c.read.new.buf, omega (arith, length-take c.in-Ok.count c.read.new.buf, c.in-Ok.ensures.bound, c.read.auto.buf, length-take c.args.room c.args.piece.now), c.in-Ok.ensures.bytes.0)
+    (take c.in-Ok.count c.read.new.buf, omega (arith, length-take c.in-Ok.count c.read.new.buf, c.in-Ok.ensures.bound, c.read.auto.buf, length-take c.args.room c.args.buffer.now), c.in-Ok.ensures.bytes.0)
 
 pub returns-clause-taken : goal.returns-clause-taken
 returns-clause-taken g c =
-    (take c.in-Ok.count c.read.new.buf, omega (arith, length-take c.in-Ok.count c.read.new.buf, c.in-Ok.ensures.bound, c.read.auto.buf, length-take c.args.room c.args.piece.now), c.in-Ok.ensures.bytes.0)
+    (take c.in-Ok.count c.read.new.buf, omega (arith, length-take c.in-Ok.count c.read.new.buf, c.in-Ok.ensures.bound, c.read.auto.buf, length-take c.args.room c.args.buffer.now), c.in-Ok.ensures.bytes.0)
 
 pub returns-clause-bytes : goal.returns-clause-bytes
 returns-clause-bytes g c =
     let buf = c.read.new.buf in
-    let rest = drop c.args.room c.args.piece.now in
+    let rest = drop c.args.room c.args.buffer.now in
     let within : c.in-Ok.count ≤ length buf = c.in-Ok.ensures.bound in
     let same : take c.in-Ok.count (buf ++ rest) ≡ take c.in-Ok.count buf = rw take-append-le refl in
     (take c.in-Ok.count (buf ++ rest), c.in-Ok-extend_from_slice.ensures.items, subst (Consumes (g.S.Source.remaining c.args.source.now) (g.S.Source.remaining c.read.new.self)) (sym same) c.in-Ok.ensures.bytes.0)

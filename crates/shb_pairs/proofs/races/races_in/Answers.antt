@@ -5,7 +5,7 @@ use Rattle.shb_lines.specs.events.Race.{Race}
 use Rattle.shb_pairs.specs.Accesses.{accesses_at, accesses_in}
 use Rattle.shb_pairs.specs.Races.{joined, races_with}
 use Rattle.shb_pairs.proofs.ByThread.{listed_of_trace}
-use Rattle.shb_pairs.proofs.Runs.{run_first, run_more}
+use Rattle.shb_pairs.proofs.PieceRaces.{races_first, races_more}
 use Rattle.shb_pairs.proofs.FreeWrites.{next_seen, none_added}
 use Rattle.std.proofs.lemmas.List.{length-take}
 use Rattle.std.proofs.lemmas.List.Elements.{All-drop, All-take}
@@ -19,7 +19,7 @@ pub loop-index-init : goal.loop-index-init
 loop-index-init g c = record {
   low = omega arith;
   high = (let le = c.requires.forward in omega (arith, le));
-  found = run_first c.args.search.now.ordered.now.disciplined.now.events.now (accesses_in c.args.search.now.ordered.now.disciplined.now.events.now c.args.search.now.variable) _ c.args.from (ap (λ (ls : List (List (ℕ × ℕ))). joined ls) c.new-races.ensures);
+  found = races_first c.args.search.now.ordered.now.disciplined.now.events.now (accesses_in c.args.search.now.ordered.now.disciplined.now.events.now c.args.search.now.variable) _ c.args.from (ap (λ (ls : List (List (ℕ × ℕ))). joined ls) c.new-races.ensures);
   free_write = tt;
 }
 
@@ -39,7 +39,7 @@ loop-index-preserved g c = record {
   found = (let le = c.requires.within in
       c.in_ok-add_races_at.ensures
       ∙ (ap (λ (ps : List (ℕ × ℕ)). ps ++ races_with c.args.search.now.ordered.now.disciplined.now.events.now (get_or (accesses_in c.args.search.now.ordered.now.disciplined.now.events.now c.args.search.now.variable) c.loop-index.index 0)) c.loop-index.invariant.found
-      ∙ sym (run_more c.args.search.now.ordered.now.disciplined.now.events.now (accesses_in c.args.search.now.ordered.now.disciplined.now.events.now c.args.search.now.variable) c.args.from c.loop-index.index c.loop-index.invariant.low (omega (arith, le)))));
+      ∙ sym (races_more c.args.search.now.ordered.now.disciplined.now.events.now (accesses_in c.args.search.now.ordered.now.disciplined.now.events.now c.args.search.now.variable) c.args.from c.loop-index.index c.loop-index.invariant.low (omega (arith, le)))));
   free_write = next_seen c.args.search.now.ordered.now.disciplined.now.events.now c.args.search.now.variable c.of-accesses.result.now c.loop-index.index c.loop-index.free_write c.next_free_write-free_write.result (c.of-accesses.ensures.exact ∙ listed_of_trace c.args.search.now.accesses.now c.args.search.now.ordered.now.disciplined.now.events.now c.args.search.now.variable c.args.search.now.of_trace c.args.search.now.listed) c.next_free_write-free_write.ensures.free_write c.loop-index.invariant.free_write;
 }
 

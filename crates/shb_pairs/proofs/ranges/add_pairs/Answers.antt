@@ -2,7 +2,7 @@ use Rattle.std.proofs.Common.{◌++◌, ℕ, List, ap, sym, ◌∙◌}
 use Rattle.std.specs.Prelude.{map}
 use Rattle.std.proofs.lemmas.List.{append-nil, take_all}
 use Rattle.shb_lines.specs.declared.event.Pair.{Pair}
-use Rattle.shb_pairs.proofs.Runs.{pairs_pushed}
+use Rattle.shb_pairs.proofs.PieceRaces.{pairs_pushed}
 use Rattle.shb_pairs.proofs.ranges.add_pairs.Goals as goal
 use Rattle.shb_lines.specs.events.Race.{ends}
 

@@ -4,7 +4,7 @@ use Rattle.shb_clocks.specs.Open.{OpenTrace}
 use Rattle.shb_pairs.specs.Accesses.{accesses_in}
 use Rattle.shb_pairs.specs.Pieces.{pieces_in}
 use Rattle.shb_pairs.specs.Races.{piece_at}
-use Rattle.shb_pairs.proofs.Runs.{piece_races, piece_value}
+use Rattle.shb_pairs.proofs.PieceRaces.{piece_races, piece_value}
 use Rattle.shb_pairs.proofs.job.RangeJob.piece.Goals as goal
 
 pub returns-clause-value : goal.returns-clause-value

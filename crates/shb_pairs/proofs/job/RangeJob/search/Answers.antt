@@ -3,7 +3,7 @@ use Rattle.shb_clocks.specs.Open.{OpenTrace}
 use Rattle.shb_pairs.specs.declared.piece.Piece.{Piece}
 use Rattle.shb_pairs.specs.Pieces.{pieces_in}
 use Rattle.shb_pairs.specs.Races.{piece_at}
-use Rattle.shb_pairs.proofs.Runs.{piece_value}
+use Rattle.shb_pairs.proofs.PieceRaces.{piece_value}
 use Rattle.shb_pairs.proofs.job.RangeJob.search.Goals as goal
 
 pub invariant_of-result : goal.invariant_of-result

@@ -2,7 +2,7 @@ use Rattle.std.proofs.Common.{◌∙◌, arith, length}
 use Rattle.std.proofs.lemmas.Result.{IfOk-weaker}
 use Rattle.shb_pairs.specs.Accesses.{accesses_at, accesses_in}
 use Rattle.shb_pairs.proofs.Counting.{numbers_few}
-use Rattle.shb_pairs.proofs.Runs.{one_access}
+use Rattle.shb_pairs.proofs.PieceRaces.{one_access}
 use Rattle.shb_pairs.proofs.search.Search.races_at.Goals as goal
 
 pub overflow_add-index : goal.overflow_add-index

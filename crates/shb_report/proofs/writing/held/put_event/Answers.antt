@@ -2,7 +2,7 @@
 use Rattle.std.proofs.Common.{◌+◌, ◌++◌, ap, codes, ◌∙◌}
 use Rattle.std.specs.Fmt.{decimal}
 use Rattle.shb_io.proofs.Growth.{AppendsPrefix-front}
-use Rattle.shb_report.specs.Pieces.{event_number}
+use Rattle.shb_report.specs.BlockTexts.{event_number}
 use Rattle.shb_report.proofs.writing.HeldLemmas.{Puts-err, pushed_first, pushed_next}
 use Rattle.shb_report.proofs.writing.held.put_event.Goals as goal
 

@@ -1,6 +1,6 @@
 use Rattle.std.proofs.Common.{rules, ◌++◌, ◌+◌, get_or, take, drop, subst}
 use Rattle.shb_io.specs.Devices.{AppendsPrefix, HoldsBack}
-use Rattle.shb_report.specs.Pieces.{event_number, event_numbers}
+use Rattle.shb_report.specs.BlockTexts.{event_number, event_numbers}
 use Rattle.shb_report.proofs.writing.HeldLemmas.{HoldsBack-then, PutsPrefix-front, PutsPrefix-after, Puts-err, texts-next, texts-split}
 use Rattle.shb_report.proofs.writing.held.put_events.Goals as goal
 

@@ -1,5 +1,5 @@
 use Rattle.std.proofs.Common.{◌++◌, length, codes}
-use Rattle.shb_report.specs.Pieces.{event_numbers, schedule_start}
+use Rattle.shb_report.specs.BlockTexts.{event_numbers, schedule_start}
 use Rattle.shb_report.proofs.writing.HeldLemmas.{PutsPrefix-front, PutsPrefix-after, Puts-then, Puts-err}
 use Rattle.shb_report.proofs.writing.held.put_schedule_line.Goals as goal
 

@@ -2,7 +2,7 @@
 use Rattle.std.proofs.Common.{◌++◌, codes}
 use Rattle.std.specs.Fmt.{decimal}
 use Rattle.shb_io.proofs.Growth.{AppendsPrefix-front}
-use Rattle.shb_report.specs.Pieces.{schedule_start}
+use Rattle.shb_report.specs.BlockTexts.{schedule_start}
 use Rattle.shb_report.proofs.writing.HeldLemmas.{Puts-err, pushed_first, pushed_label}
 use Rattle.shb_report.proofs.writing.held.put_schedule_start.Goals as goal
 

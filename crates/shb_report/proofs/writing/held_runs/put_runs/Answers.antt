@@ -3,7 +3,7 @@ use Rattle.shb_io.specs.Devices.{AppendsPrefix, HoldsBack}
 use Rattle.shb_positions.specs.declared.positions.Run.{Run}
 use Rattle.shb_positions.specs.Runs.{run_positions}
 use Rattle.shb_report.specs.Numbers.{run_numbers}
-use Rattle.shb_report.specs.Pieces.{event_numbers}
+use Rattle.shb_report.specs.BlockTexts.{event_numbers}
 use Rattle.shb_report.proofs.writing.HeldLemmas.{HoldsBack-then, PutsPrefix-front, PutsPrefix-after, Puts-err, texts-next, texts-split}
 use Rattle.shb_report.proofs.writing.held_runs.put_runs.Goals as goal
 

@@ -1,6 +1,6 @@
 use Rattle.std.proofs.Common.{◌++◌, ◌∙◌, ap, length, codes, subst}
 use Rattle.shb_io.specs.Devices.{AppendsPrefix, HoldsBack}
-use Rattle.shb_report.specs.Pieces.{event_numbers, schedule_start}
+use Rattle.shb_report.specs.BlockTexts.{event_numbers, schedule_start}
 use Rattle.shb_report.proofs.writing.HeldLemmas.{PutsPrefix-front, PutsPrefix-after, Puts-then, Puts-err}
 use Rattle.shb_report.proofs.writing.RunTexts.{run_numbers-are}
 use Rattle.shb_report.proofs.writing.held_runs.put_runs_line.Goals as goal

@@ -1,7 +1,7 @@
 use Rattle.std.proofs.Common.{◌++◌, Some, subst}
 use Rattle.shb_io.specs.Devices.{Writes}
 use Rattle.shb_io.proofs.Growth.{HoldsBack-end, Writes-both, Writes-err}
-use Rattle.shb_report.specs.Pieces.{event_lines, schedule_line}
+use Rattle.shb_report.specs.BlockTexts.{event_lines, schedule_line}
 use Rattle.shb_report.proofs.writing.BlockText.{block_is}
 use Rattle.shb_report.proofs.writing.HeldLemmas.{HoldsBack-then, PutsPrefix-front, PutsPrefix-after}
 use Rattle.shb_report.proofs.writing.writer.scheduled_block.Goals as goal

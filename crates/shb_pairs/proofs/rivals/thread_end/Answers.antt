@@ -1,7 +1,7 @@
 use Rattle.std.proofs.Common.{◌+◌, ◌-◌, ◌/◌, ◌<◌, ℕ, length, get_or, arith, sym, ◌∙◌}
 use Rattle.shb_pairs.proofs.Tails.{thread_between}
 use Rattle.shb_pairs.proofs.Sorting.{thread_read}
-use Rattle.shb_pairs.proofs.rivals.run_end.Goals as goal
+use Rattle.shb_pairs.proofs.rivals.thread_end.Goals as goal
 
 pub returns-then-thread-clause-same_thread : goal.returns-then-thread-clause-same_thread
 returns-then-thread-clause-same_thread c =

@@ -1,4 +1,4 @@
--- The pieces that the writer of a block puts one after another.
+-- The texts that the writer of a block puts one after another.
 use Rattle.std.specs.Prelude.{ℕ, ◌+◌, List, [], ◌++◌, length, flat_map, codes, decimal, Option, None, Some}
 use Rattle.shb_lines.specs.text.TraceData.{TraceData}
 use Rattle.shb_report.specs.Report.{line_of_event}

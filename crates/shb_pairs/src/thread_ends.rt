@@ -11,22 +11,22 @@ const FEW: usize = 64;
 /// Where the accesses of one thread end among the accesses of a variable, by thread. It says where to look:
 /// nothing is known of it, and it is checked before it is used.
 #[derive(Clone, Copy)]
-pub(crate) struct RunEnd {
+pub(crate) struct ThreadEnd {
     pub(crate) variable: usize,
     pub(crate) end: usize,
 }
 
 /// The ends for the variables that have more than a few accesses, by variable and then by thread: among all
 /// accesses, and among the writes.
-pub(crate) struct RunEnds {
-    pub(crate) both: Vec<RunEnd>,
-    pub(crate) writes: Vec<RunEnd>,
+pub(crate) struct ThreadEnds {
+    pub(crate) both: Vec<ThreadEnd>,
+    pub(crate) writes: Vec<ThreadEnd>,
 }
 
 // By hand: a derived one stands in each function that drops the ends, with a step for each vector.
-impl Drop for RunEnds {
+impl Drop for ThreadEnds {
     fn drop(self) {
-        let RunEnds { both: _, writes: _ } = self;
+        let ThreadEnds { both: _, writes: _ } = self;
     }
 }
 
@@ -41,18 +41,18 @@ fn thread_of(events: &Events, e: u32) -> Option<u32> {
 
 /// Adds the ends among the accesses of one variable.
 fn add_ends(
-    ends: &mut Vec<RunEnd>,
+    ends: &mut Vec<ThreadEnd>,
     events: &Events,
     positions: &[u32],
     variable: usize,
 ) -> Result<(), NoMemory> {
     for end in 1..positions.len() {
         if thread_of(events, positions[end]) != thread_of(events, positions[end - 1]) {
-            ends.push(RunEnd { variable, end })?;
+            ends.push(ThreadEnd { variable, end })?;
         }
     }
     let end = positions.len();
-    ends.push(RunEnd { variable, end })?;
+    ends.push(ThreadEnd { variable, end })?;
     Ok(())
 }
 
@@ -61,7 +61,7 @@ pub(crate) fn ends_in(
     alloc: Global,
     events: &Events,
     accesses: &Buckets,
-) -> Result<Vec<RunEnd>, NoMemory> {
+) -> Result<Vec<ThreadEnd>, NoMemory> {
     let mut ends = Vec::new(alloc);
     let positions = accesses.positions.as_slice();
     for x in 1..accesses.starts.len() {
@@ -75,7 +75,7 @@ pub(crate) fn ends_in(
 }
 
 /// The ends from those of a variable on.
-pub(crate) fn ends_from(ends: &[RunEnd], variable: u32) -> &[RunEnd] {
+pub(crate) fn ends_from(ends: &[ThreadEnd], variable: u32) -> &[ThreadEnd] {
     let first = ends.partition_point(|end| end.variable < variable as usize);
     &ends[first..]
 }

@@ -14,59 +14,59 @@ use Rattle.shb_lines.specs.declared.event.Pair.{Pair}
 use Rattle.shb_pairs.specs.declared.piece.Piece.{Piece}
 use Rattle.shb_pairs.specs.Accesses.{accesses_at, accesses_in, listed_accesses, variables_in}
 use Rattle.shb_clocks.specs.Open.{OpenTrace, is_open}
-use Rattle.shb_pairs.specs.Pieces.{run_at, runs_of, pieces_below, pieces_in}
+use Rattle.shb_pairs.specs.Pieces.{numbered_piece, first_pieces, pieces_below, pieces_in}
 use Rattle.shb_pairs.specs.Races.{piece_at, races_with, races_of, races_at}
 use Rattle.shb_pairs.proofs.ByThread.{listed_closed, listed_open}
 use Rattle.shb_pairs.proofs.Counting.{numbers_few, access_from_test, test_from_access}
 
 -- a run lies within the accesses of its variable, which is open
-pub record IsRun (trace : List Event) (flags : List Bool) (p : Piece) : Type 0 where
+pub record IsPieceOf (trace : List Event) (flags : List Bool) (p : Piece) : Type 0 where
   pub variable : p.variable < variables_in trace
   pub listed : is_open flags p.variable ≡ true
   pub forward : p.from ≤ p.to
   pub within : p.to ≤ length (accesses_in trace p.variable)
 
-pub run_start : (n k : ℕ) → k < div_ceil n 64 → 64 * k < n
-run_start n k lt = omega arith
+pub piece_starts : (n k : ℕ) → k < div_ceil n 64 → 64 * k < n
+piece_starts n k lt = omega arith
 
-runs_within : (a : OpenTrace) (x k : ℕ) → x < variables_in a.trace → is_open a.flags x ≡ true → k ≤ div_ceil (length (accesses_in a.trace x)) 64 → All (IsRun a.trace a.flags) (runs_of x (length (accesses_in a.trace x)) k)
-unfolding runs_of
-runs_within a x zero below opened le = All-nil (IsRun a.trace a.flags)
-runs_within a x (suc k) below opened le =
-    let start = run_start (length (accesses_in a.trace x)) k (omega arith) in
-    All-push (IsRun a.trace a.flags) (runs_of x (length (accesses_in a.trace x)) k) (run_at x (length (accesses_in a.trace x)) k) (runs_within a x k below opened (omega arith)) (record { variable = below; listed = opened; forward = omega arith; within = omega arith })
+first_within : (a : OpenTrace) (x k : ℕ) → x < variables_in a.trace → is_open a.flags x ≡ true → k ≤ div_ceil (length (accesses_in a.trace x)) 64 → All (IsPieceOf a.trace a.flags) (first_pieces x (length (accesses_in a.trace x)) k)
+unfolding first_pieces
+first_within a x zero below opened le = All-nil (IsPieceOf a.trace a.flags)
+first_within a x (suc k) below opened le =
+    let start = piece_starts (length (accesses_in a.trace x)) k (omega arith) in
+    All-push (IsPieceOf a.trace a.flags) (first_pieces x (length (accesses_in a.trace x)) k) (numbered_piece x (length (accesses_in a.trace x)) k) (first_within a x k below opened (omega arith)) (record { variable = below; listed = opened; forward = omega arith; within = omega arith })
 
 -- the runs of the listed accesses of a variable
-abbrev pub runs_on : ℕ → List ℕ → List Piece
-runs_on x ks = runs_of x (length ks) (div_ceil (length ks) 64)
+abbrev pub pieces_on : ℕ → List ℕ → List Piece
+pieces_on x ks = first_pieces x (length ks) (div_ceil (length ks) 64)
 
-zero_runs : (x n k : ℕ) → k ≡ 0 → runs_of x n k ≡ []
-unfolding runs_of
-zero_runs x n k e = rw e refl
+zero_pieces : (x n k : ℕ) → k ≡ 0 → first_pieces x n k ≡ []
+unfolding first_pieces
+zero_pieces x n k e = rw e refl
 
-pub no_runs : (x : ℕ) → runs_on x [] ≡ []
-no_runs x = zero_runs x 0 (div_ceil 0 64) (omega arith)
+pub no_pieces : (x : ℕ) → pieces_on x [] ≡ []
+no_pieces x = zero_pieces x 0 (div_ceil 0 64) (omega arith)
 
-variable_within_runs : (a : OpenTrace) (x : ℕ) → x < variables_in a.trace → All (IsRun a.trace a.flags) (runs_on x (listed_accesses a x))
-variable_within_runs a x below = elim (cases_Bool (is_open a.flags x)) [
-  | inl h ↦ subst (λ (ks : List ℕ). All (IsRun a.trace a.flags) (runs_on x ks)) (sym (listed_open a x h)) (runs_within a x _ below h (omega arith))
-  | inr h ↦ subst (λ (ks : List ℕ). All (IsRun a.trace a.flags) (runs_on x ks)) (sym (listed_closed a x h)) (rw (no_runs x) (All-nil (IsRun a.trace a.flags)))
+pieces_of_variable : (a : OpenTrace) (x : ℕ) → x < variables_in a.trace → All (IsPieceOf a.trace a.flags) (pieces_on x (listed_accesses a x))
+pieces_of_variable a x below = elim (cases_Bool (is_open a.flags x)) [
+  | inl h ↦ subst (λ (ks : List ℕ). All (IsPieceOf a.trace a.flags) (pieces_on x ks)) (sym (listed_open a x h)) (first_within a x _ below h (omega arith))
+  | inr h ↦ subst (λ (ks : List ℕ). All (IsPieceOf a.trace a.flags) (pieces_on x ks)) (sym (listed_closed a x h)) (rw (no_pieces x) (All-nil (IsPieceOf a.trace a.flags)))
 ]
 
-pieces_within : (a : OpenTrace) (n : ℕ) → n ≤ variables_in a.trace → All (IsRun a.trace a.flags) (pieces_below a n)
+pieces_within : (a : OpenTrace) (n : ℕ) → n ≤ variables_in a.trace → All (IsPieceOf a.trace a.flags) (pieces_below a n)
 unfolding pieces_below
-pieces_within a zero le = All-nil (IsRun a.trace a.flags)
-pieces_within a (suc x) le = All-append (IsRun a.trace a.flags) (pieces_below a x) (runs_on x (listed_accesses a x)) (pieces_within a x (omega arith)) (variable_within_runs a x (omega arith))
+pieces_within a zero le = All-nil (IsPieceOf a.trace a.flags)
+pieces_within a (suc x) le = All-append (IsPieceOf a.trace a.flags) (pieces_below a x) (pieces_on x (listed_accesses a x)) (pieces_within a x (omega arith)) (pieces_of_variable a x (omega arith))
 
-pub piece_within : (a : OpenTrace) (k : ℕ) (d : Piece) → k < length (pieces_in a) → IsRun a.trace a.flags (get_or (pieces_in a) k d)
+pub piece_within : (a : OpenTrace) (k : ℕ) (d : Piece) → k < length (pieces_in a) → IsPieceOf a.trace a.flags (get_or (pieces_in a) k d)
 piece_within a k d lt = pieces_within a (variables_in a.trace) (omega arith) k d lt
 
 -- one run more, and one variable more
-pub runs_more : (x n k : ℕ) → runs_of x n (k + 1) ≡ runs_of x n k ++ run_at x n k ∷ []
-unfolding runs_of
-runs_more x n k = rw add-one refl
+pub first_more : (x n k : ℕ) → first_pieces x n (k + 1) ≡ first_pieces x n k ++ numbered_piece x n k ∷ []
+unfolding first_pieces
+first_more x n k = rw add-one refl
 
-pub pieces_more : (a : OpenTrace) (x : ℕ) → pieces_below a (x + 1) ≡ pieces_below a x ++ runs_on x (listed_accesses a x)
+pub pieces_more : (a : OpenTrace) (x : ℕ) → pieces_below a (x + 1) ≡ pieces_below a x ++ pieces_on x (listed_accesses a x)
 unfolding pieces_below
 pieces_more a x = rw add-one refl
 
@@ -138,8 +138,8 @@ pairs_pushed old pairs xs k j lt so =
     ∙ ap (λ (ns : List ℕ). old ++ map (λ i. (i, j)) ns) (sym (take_more xs k 0 lt)))))
 
 -- the races of a run, one access more
-pub run_more : (trace : List Event) (xs : List ℕ) (from q : ℕ) → from ≤ q → q < length xs → flat_map (races_with trace) (take ((q + 1) - from) (drop from xs)) ≡ flat_map (races_with trace) (take (q - from) (drop from xs)) ++ races_with trace (get_or xs q 0)
-run_more trace xs from q le lt =
+pub races_more : (trace : List Event) (xs : List ℕ) (from q : ℕ) → from ≤ q → q < length xs → flat_map (races_with trace) (take ((q + 1) - from) (drop from xs)) ≡ flat_map (races_with trace) (take (q - from) (drop from xs)) ++ races_with trace (get_or xs q 0)
+races_more trace xs from q le lt =
     let size = length-drop from xs in
     let one : take ((q + 1) - from) (drop from xs) ≡ take (q - from) (drop from xs) ++ get_or xs q 0 ∷ [] =
     (let e : (q + 1) - from ≡ (q - from) + 1 = omega arith in
@@ -154,32 +154,32 @@ access_front trace x q lt =
     (access_from_test trace x (get_or (accesses_in trace x) q 0) member.1, numbers_front (accesses_at trace x) (length trace) q lt, member.0)
 
 -- a run is pushed
-pub run_pushed : (old pieces new : List Piece) (x n k m : ℕ) → new ≡ pieces ++ record { variable = x; from = 64 * k; to = 64 * k + m } ∷ [] → m ≡ min (n - 64 * k) 64 → pieces ≡ old ++ runs_of x n k → new ≡ old ++ runs_of x n (k + 1)
-run_pushed old pieces new x n k m is least so =
-    let last : pieces ++ record { variable = x; from = 64 * k; to = 64 * k + m } ∷ [] ≡ pieces ++ run_at x n k ∷ [] = ap (λ (l : ℕ). pieces ++ record { variable = x; from = 64 * k; to = 64 * k + l } ∷ []) least in
-    is ∙ (last ∙ (ap (λ (ps : List Piece). ps ++ run_at x n k ∷ []) so ∙ (append_assoc old (runs_of x n k) (run_at x n k ∷ []) ∙ ap (λ (ps : List Piece). old ++ ps) (sym (runs_more x n k)))))
+pub piece_pushed : (old pieces new : List Piece) (x n k m : ℕ) → new ≡ pieces ++ record { variable = x; from = 64 * k; to = 64 * k + m } ∷ [] → m ≡ min (n - 64 * k) 64 → pieces ≡ old ++ first_pieces x n k → new ≡ old ++ first_pieces x n (k + 1)
+piece_pushed old pieces new x n k m is least so =
+    let last : pieces ++ record { variable = x; from = 64 * k; to = 64 * k + m } ∷ [] ≡ pieces ++ numbered_piece x n k ∷ [] = ap (λ (l : ℕ). pieces ++ record { variable = x; from = 64 * k; to = 64 * k + l } ∷ []) least in
+    is ∙ (last ∙ (ap (λ (ps : List Piece). ps ++ numbered_piece x n k ∷ []) so ∙ (append_assoc old (first_pieces x n k) (numbered_piece x n k ∷ []) ∙ ap (λ (ps : List Piece). old ++ ps) (sym (first_more x n k)))))
 
-pub run_first : (trace : List Event) (xs : List ℕ) (pairs : List (ℕ × ℕ)) (from : ℕ) → pairs ≡ [] → pairs ≡ flat_map (races_with trace) (take (from - from) (drop from xs))
-run_first trace xs pairs from none = let e : from - from ≡ 0 = omega arith in none ∙ rw e refl
+pub races_first : (trace : List Event) (xs : List ℕ) (pairs : List (ℕ × ℕ)) (from : ℕ) → pairs ≡ [] → pairs ≡ flat_map (races_with trace) (take (from - from) (drop from xs))
+races_first trace xs pairs from none = let e : from - from ≡ 0 = omega arith in none ∙ rw e refl
 
 -- the run and the races of piece k
 pub piece_value : (a seen : OpenTrace) (trace : List Event) (pieces : List Piece) (k : ℕ) (piece : Piece) → a ≡ seen → a.trace ≡ trace → pieces ≡ pieces_in a → k < length (pieces_in seen) → piece ≡ piece_at pieces k
-    → IsRun trace a.flags piece × (races_at seen k ≡ races_of seen.trace piece)
+    → IsPieceOf trace a.flags piece × (races_at seen k ≡ races_of seen.trace piece)
 unfolding races_at
 piece_value a seen trace pieces k piece same of_trace is lt found =
     let own : piece ≡ piece_at (pieces_in seen) k = found ∙ ap (λ (ps : List Piece). piece_at ps k) (is ∙ ap (λ (b : OpenTrace). pieces_in b) same) in
-    (subst (λ (tr : List Event). IsRun tr a.flags piece) of_trace (subst (λ (b : OpenTrace). IsRun b.trace b.flags piece) (sym same) (subst (IsRun seen.trace seen.flags) (sym own) (piece_within seen k _ lt))), ap (λ (q : Piece). races_of seen.trace q) (sym own))
+    (subst (λ (tr : List Event). IsPieceOf tr a.flags piece) of_trace (subst (λ (b : OpenTrace). IsPieceOf b.trace b.flags piece) (sym same) (subst (IsPieceOf seen.trace seen.flags) (sym own) (piece_within seen k _ lt))), ap (λ (q : Piece). races_of seen.trace q) (sym own))
 
-pub run_small : (trace : List Event) (flags : List Bool) (p : Piece) → IsRun trace flags p → (p.from ≤ length trace) × (p.to ≤ length trace)
-run_small trace flags p run =
+pub piece_small : (trace : List Event) (flags : List Bool) (p : Piece) → IsPieceOf trace flags p → (p.from ≤ length trace) × (p.to ≤ length trace)
+piece_small trace flags p run =
     let few = numbers_few (accesses_at trace p.variable) (length trace) in
     let forward = run.forward in
     let within = run.within in
     (omega (arith, few, forward, within), omega (arith, few, within))
 
-pub run_value : (trace seen : List Event) (p : Piece) (found : List (ℕ × ℕ)) → trace ≡ seen → found ≡ flat_map (races_with trace) (slice_range (accesses_in trace p.variable) p.from p.to) → found ≡ races_of seen p
+pub races_value : (trace seen : List Event) (p : Piece) (found : List (ℕ × ℕ)) → trace ≡ seen → found ≡ flat_map (races_with trace) (slice_range (accesses_in trace p.variable) p.from p.to) → found ≡ races_of seen p
 unfolding races_of
-run_value trace seen p found same so = so ∙ ap (λ (tr : List Event). flat_map (races_with tr) (slice_range (accesses_in tr p.variable) p.from p.to)) same
+races_value trace seen p found same so = so ∙ ap (λ (tr : List Event). flat_map (races_with tr) (slice_range (accesses_in tr p.variable) p.from p.to)) same
 
 -- the races of a piece, by the accesses of its run
 pub piece_races : (a : OpenTrace) (k : ℕ) (p : Piece) → races_at a k ≡ races_of a.trace p → races_at a k ≡ flat_map (races_with a.trace) (slice_range (accesses_in a.trace p.variable) p.from p.to)
@@ -189,5 +189,5 @@ piece_races a k p is = is
 -- the races of a run of one access
 pub one_access : (trace : List Event) (xs : List ℕ) (q : ℕ) → q < length xs → flat_map (races_with trace) (slice_range xs q (q + 1)) ≡ races_with trace (get_or xs q 0)
 one_access trace xs q lt =
-    let none : flat_map (races_with trace) (take (q - q) (drop q xs)) ≡ [] = sym (run_first trace xs [] q refl) in
-    run_more trace xs q q (omega arith) lt ∙ ap (λ (ps : List (ℕ × ℕ)). ps ++ races_with trace (get_or xs q 0)) none
+    let none : flat_map (races_with trace) (take (q - q) (drop q xs)) ≡ [] = sym (races_first trace xs [] q refl) in
+    races_more trace xs q q (omega arith) lt ∙ ap (λ (ps : List (ℕ × ℕ)). ps ++ races_with trace (get_or xs q 0)) none
