@@ -1,0 +1,214 @@
+#!/usr/bin/env python3
+"""Finds in the documents what the repository doesn't have: names in back quotes, files, links, headings, commits and
+numbers of lines. Ends with the line 'N passed, N failed'.
+
+Documents are the files *.md. A word in back quotes has to occur in another file of the repository, in the name of one,
+or in OUTSIDE, and `crate::word` in that crate. A path has to be the end of a file's or folder's path, or stand in MADE;
+in it NAME, F and the like, '*' and what stands in braces are any text. In code blocks only paths below the folders of
+the repository are looked at.
+"""
+
+import fnmatch
+import pathlib
+import re
+import subprocess
+import sys
+import tempfile
+
+ROOT = pathlib.Path(__file__).resolve().parent.parent
+OWN = "tests/documents.py"  # its texts name what isn't there
+
+# Words of the outside world that no file of the repository has, by where they come from.
+OUTSIDE = {
+    "words and messages of rt": "holes incremental lemma nearest proposition",
+    "modules and words of the kit's library": "IsOk Mem le_bytes Display",
+    "commands and packages of Linux": "chroot debootstrap minbase nice pbzip2 zstd",
+}
+
+# Folders and files that commands make, by the command.
+MADE = {
+    "make build": "bin",
+    "rt": "out",
+    "make install": "bin lib share",
+    "make dist": "PROVED.md",
+}
+
+IS_OUTSIDE = {word for words in OUTSIDE.values() for word in words.split()}
+IS_MADE = {name for names in MADE.values() for name in names.split()}
+
+WORD = re.compile(r"[^\W\d]\w+")
+QUOTED = re.compile(r"(`+)(.+?)\1", re.S)
+LINK = re.compile(r"\[[^\]]*\]\(([^)\s]+)\)")
+HEADING = re.compile(r"^#+ +(.*)$", re.M)
+BLOCK = re.compile(r"^```.*?^```$|(?:^(?: {4}|\t).*\n)+", re.M | re.S)
+COMMIT = re.compile(r"(?=[a-f]*\d)[0-9a-f]{7,40}")
+PLACEHOLDER = re.compile(r"\b(?:DIR|F|FILE|FOLDER|M|N|NAME|PROCESS|VERSION|WHAT)\b|\{[^}]*\}")
+SUFFIXES = ("antt", "c", "cc", "css", "edit", "h", "js", "md", "png", "py", "report", "rt", "sh", "std", "sums", "txt")
+NAMES_FILE = re.compile(r"[\w*{},.<>-]+\.(?:%s)" % "|".join(SUFFIXES))
+COUNTED = re.compile(r"`([^`]+)` \((\d[\d,]*) lines\b")
+ROW = re.compile(r"^\| `([^` ]+\.\w+)` \| (\d[\d,]*) \|", re.M)
+SUM = re.compile(r"(\d[\d,]*) files, (\d[\d,]*) lines[^\n]*\n\n((?:\|.*\n)+)")
+
+
+def number(text):
+    return int(text.replace(",", ""))
+
+
+class Repository:
+    """The files of a folder, the words in those that aren't documents, and the commits before the present one."""
+
+    def __init__(self, root, paths, commits=None):
+        """`paths` are the files to look at, from `root`; `commits` says of a name whether it is a commit."""
+        self.root, self.paths, self.has_commit = root, paths, commits or (lambda name: True)
+        self.documents = [path for path in paths if path.endswith(".md")]
+        self.places = set(paths) | {str(parent) for path in paths for parent in pathlib.PurePath(path).parents}
+        self.words, self.of_crate = set(), {}
+        for path in paths:
+            self.add(path)
+
+    def add(self, path):
+        """Notes the words of a file and of its name."""
+        found = set(WORD.findall(path)) | {part for word in WORD.findall(path) for part in word.split("_")}
+        if path not in self.documents and path != OWN:
+            found |= set(WORD.findall((self.root / path).read_text(errors="replace")))
+        self.words |= found
+        parts = path.split("/")
+        if parts[0] == "crates" and len(parts) > 2:
+            self.of_crate.setdefault(parts[1], set()).update(found)
+
+    def has_path(self, path, document):
+        """Whether a file or folder has this path: from the top, from the document's folder, or as its end."""
+        bare = path.rstrip("/")
+        if bare.split("/")[0] in IS_MADE:
+            return True
+        wanted = PLACEHOLDER.sub("*", bare)
+        if "*" not in wanted:
+            beside = str(pathlib.PurePath(document).parent / wanted)
+            return any(place in self.places for place in (wanted, beside)) or any(
+                place.endswith("/" + wanted) for place in self.places)
+        return any(fnmatch.fnmatchcase("/" + place, "*/" + wanted) for place in self.places)
+
+
+def paths_in(quoted):
+    """What stands for a file or folder in a text in back quotes, and the rest of the text."""
+    found, rest = [], []
+    for word in quoted.split():
+        bare = word.strip("'\",;:()").partition(":")[0]
+        is_path = NAMES_FILE.fullmatch(bare.rpartition("/")[2]) or re.fullmatch(r"[\w.*{}<>-]+(/[\w.*{},<>-]*)+", bare)
+        (found if is_path else rest).append(bare if is_path else word)
+    return found, " ".join(rest)
+
+
+def faults_of_quoted(repository, document, quoted):
+    """What is wrong with a text in back quotes."""
+    if COMMIT.fullmatch(quoted):
+        return [] if repository.has_commit(quoted) else [f"no commit before this one: {quoted}"]
+    paths, rest = paths_in(quoted)
+    faults = [f"no file or folder: {path}" for path in paths if not repository.has_path(path, document)]
+    known = repository.words | IS_OUTSIDE
+    faults += [f"no such word: {word}" for word in WORD.findall(rest) if word not in known]
+    for crate, path in re.findall(r"\b(\w+)::([\w:]+)", rest):
+        has = repository.of_crate.get(crate)
+        faults += [f"not in {crate}: {word}" for word in WORD.findall(path) if has is not None and word not in has]
+    return faults
+
+
+def anchor(heading):
+    """The name by which a link finds a heading."""
+    return re.sub(r"[^\w\- ]", "", heading.lower()).replace(" ", "-")
+
+
+def faults_of_link(repository, document, target):
+    """What is wrong with the target of a link."""
+    path, _, heading = target.partition("#")
+    if ":" in path:
+        return []
+    file = (repository.root / document).parent / path if path else repository.root / document
+    if not file.exists():
+        return [f"a link to nothing: {target}"]
+    if heading and heading not in map(anchor, HEADING.findall(file.read_text())):
+        return [f"a link to no heading: {target}"]
+    return []
+
+
+def length_of(repository, path):
+    """How many lines the file has whose path ends so, or None where no file has or several have this end."""
+    found = [place for place in repository.paths if ("/" + place).endswith("/" + path)]
+    return (repository.root / found[0]).read_bytes().count(b"\n") if len(found) == 1 else None
+
+
+def faults_of_counts(repository, text):
+    """The numbers of lines, beside a file's name, in a table and above it, that aren't those of the files."""
+    faults = []
+    for path, count in ROW.findall(text) + COUNTED.findall(text):
+        if length_of(repository, path) != number(count):
+            faults.append(f"{path} has {length_of(repository, path)} lines, not {count}")
+    for files, lines, table in SUM.findall(text):
+        rows = ROW.findall(table)
+        if (len(rows), sum(number(count) for _, count in rows)) != (number(files), number(lines)):
+            faults.append(f"{files} files, {lines} lines: the rows below are others")
+    return faults
+
+
+def faults_of(repository, document):
+    """What is wrong with a document."""
+    text = (repository.root / document).read_text()
+    plain = BLOCK.sub("\n", text)
+    faults = [fault for _, quoted in QUOTED.findall(plain) for fault in faults_of_quoted(repository, document, quoted)]
+    faults += [fault for target in LINK.findall(plain) for fault in faults_of_link(repository, document, target)]
+    tops = "|".join(sorted({re.escape(path.split("/")[0]) for path in repository.paths if "/" in path}))
+    for path in re.findall(rf"(?<![\w./-])(?:{tops})/[\w.*{{}}<>/-]+", QUOTED.sub("", text)):
+        if not repository.has_path(path.rstrip("."), document):
+            faults.append(f"no file or folder: {path}")
+    return sorted(set(faults + faults_of_counts(repository, text)))
+
+
+# Texts in which a fault has to be found, and texts in which none is, in a repository of the two files below.
+FILES = {"crates/one/src/read.rt": "fn read_all() {}\n\n", "crates/two/src/list.rt": "fn list_all() {}\n",
+         "docs/A.md": "# The first one\n"}
+PLANTED = ("`read_some`", "`one::list_all`", "`src/write.rt`", "`write.rt`", "see crates/three/src", "`docs/B.md`",
+           "`docs/OTHER.md`", "[one](docs/B.md)", "[a](docs/A.md#second)", "`abcdef1`", "`src/read.rt` (3 lines)", "| `one/src/read.rt` | 1 |", "1 files, 3 lines:\n\n| `one/src/read.rt` | 2 |\n",
+           "    crates/three/src\n")
+RIGHT = ("`read_all`", "`one::read_all`", "`src/read.rt`", "`crates/NAME/src/*.rt`", "[one](docs/A.md#the-first-one)", "`1234567`",
+         "`src/read.rt` (2 lines)", "1 files, 2 lines:\n\n| `one/src/read.rt` | 2 |\n", "    read_some crates/two/src\n", "[x](https://x.y/z)")
+
+
+def failed_tests():
+    """The planted texts that are passed over, and the right ones that aren't."""
+    with tempfile.TemporaryDirectory() as room:
+        root = pathlib.Path(room)
+        for path, text in FILES.items():
+            (root / path).parent.mkdir(parents=True, exist_ok=True)
+            (root / path).write_text(text)
+        repository = Repository(root, sorted(FILES), lambda name: name == "1234567")
+        for text in PLANTED + RIGHT:
+            (root / "README.md").write_text(text + "\n")
+            if bool(faults_of(repository, "README.md")) != (text in PLANTED):
+                yield text
+
+
+def git(*words):
+    return subprocess.run(["git", "-C", ROOT, *words], capture_output=True, text=True)
+
+
+def is_commit(name):
+    """Whether a commit before the present one has this name. A clone without history has no answer."""
+    is_shallow = git("rev-parse", "--is-shallow-repository").stdout == "true\n"
+    return is_shallow or git("merge-base", "--is-ancestor", name, "HEAD").returncode == 0
+
+
+def main():
+    listed = git("ls-files", "-z", "--cached", "--others", "--exclude-standard").stdout.split("\0")
+    repository = Repository(ROOT, [path for path in listed if path and (ROOT / path).is_file()], is_commit)
+    wrong = {text: ["the test of this script"] for text in failed_tests()}
+    wrong.update((document, faults_of(repository, document)) for document in repository.documents)
+    for name, faults in wrong.items():
+        for fault in faults:
+            print(f"{name}: {fault}")
+    failed = sum(bool(faults) for faults in wrong.values())
+    print(f"{len(PLANTED) + len(RIGHT) + len(repository.documents) - failed} passed, {failed} failed")
+    return 1 if failed or not repository.documents else 0
+
+
+if __name__ == "__main__":
+    sys.exit(main())
