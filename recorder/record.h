@@ -6,7 +6,7 @@
    Then records of 16 bytes in the order in which things happened, until one of zeros or the file's end. */
 #include <stdint.h>
 
-#define RECORD_MAGIC "shb-record 3\n"
+#define RECORD_MAGIC "shb-record 4\n"
 #define HEADER_BYTES 65536
 #define ENDED_BYTES 256
 #define ENDED_AT (HEADER_BYTES - ENDED_BYTES)
@@ -14,6 +14,12 @@
 #define LOW_48_BITS 0xffffffffffffull
 #define FIRST_DESCRIPTOR (1ul << 47)   /* no program's address: descriptor D is at 16 D above it, its data 8 further */
 #define SIZE_FOLLOWS 1023              /* such a size or a greater one stands in a record OP_SIZE after this one */
+/* A read or write of 1, 2, 4, 8 or 16 bytes has in its place of the size the logarithm and the depth of its thread: how many
+   functions it is in, or DEPTH_BEFORE, by the records before; any other one has IS_RANGE and its size, if this isn't greater. */
+#define LOGARITHM_BITS 3
+#define DEPTH_BEFORE 63
+#define IS_RANGE 512
+#define MOST_FRAMES 16384              /* of a thread; those further in aren't recorded */
 #define ATOMIC_SIZE_BITS 5             /* of an atomic access: the memory order stands above the size, as __ATOMIC_.. */
 
 struct record {
@@ -30,5 +36,11 @@ enum operation {
     OP_USE,                            /* a use of an object that orders nothing */
     OP_DESTROY,                        /* the end of an object, or a second beginning */
     OP_FENCE,                          /* its size is the memory order */
+    OP_FRAME,                          /* the thread is in a function (its address), called from there; the size is how many
+                                          more it is in further out. What was recorded further out or in stays, until such a
+                                          record of the same size replaces it */
+    OP_WAY,                            /* of the record behind it, a frame too: its caller is code without hooks, which the
+                                          innermost function called from here */
+    OP_DEPTH,                          /* the size is how many of these it is in now; so is one more than that of an OP_FRAME */
     OPERATIONS
 };

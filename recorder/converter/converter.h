@@ -30,6 +30,7 @@ enum { RECORDS_AT_ONCE = 1 << 20 };    /* a multiple of a page's; so many are in
 void forget_records(u64 from, u64 end);
 enum operation operation_of(u64 i);
 u64 address_of(u64 i), caller_of(u64 i), size_of(u64 i);
+u64 depth_inside(u64 i);               /* DEPTH_BEFORE where it is told by records before */
 u32 thread_of(u64 i);
 int writes_plainly(u64 i), is_atomic(u64 i), writes_atomically(u64 i);
 int is_for_object(u64 i);
@@ -43,11 +44,24 @@ void read_modules(char *header);
 void note_caller(u64 caller);
 void find_places(void);                /* of all callers that were noted */
 part place_of(u64 caller);
+/* The frames of a place in the code, the innermost first; of inlined code there are several. */
+typedef struct inlined_frame {
+    struct inlined_frame *outer;
+    const char *function, *location;
+    u32 number;                        /* in the file of stacks, or 0 */
+    uint8_t has_line, in_system_file;                        /* as a header of the C++ library is */
+    uint8_t in_system, is_hidden;      /* the module is the system's; the recorder's own */
+} inlined_frame;
+void note_frames_of(u64 caller);
+void find_frames_noted(void);
+inlined_frame *frames_of(u64 caller);  /* or null */
+inlined_frame *outermost(inlined_frame *f);
+int in_one_function(u64 caller, u64 other);
 const char *function_name(u64 address, char *buffer, size_t size);       /* "" where it is not known */
 void symbol_name(u64 address, char *buffer, size_t size);
 
 /* memory.c: blocks and pieces. */
-typedef struct { u64 at, size, caller; int stack, many_users; u32 thread, user; } block;
+typedef struct { u64 at, size, caller; int stack, many_users, named; u32 thread, user; } block;
 typedef struct {
     u64 at;
     u32 block;                         /* its number, or 0 */
@@ -61,7 +75,7 @@ typedef struct {
 } piece_use;
 extern u64 range_steps;                /* in this pass: pages and pieces after the first of each range */
 void begin_memory_pass(void);
-void meet_block(u64 i);                /* each pass calls it for each record: the newest block holds its addresses */
+block *meet_block(u64 i);              /* it, or null; each pass calls it for each record: the newest block holds its addresses */
 block *block_at(u64 address);          /* or null */
 u32 block_number(const block *b);      /* from 1; of null 0 */
 block *block_of(u32 number);
@@ -73,6 +87,16 @@ int in_one_grain(u64 address, u64 end);                      /* then it lies in 
 u32 *pieces_at(u64 *cut, u64 end, u32 *count);
 piece *piece_of(u32 number);
 piece_use *use_of_piece(u32 number);
+
+/* stacks.c: call stacks, in a file beside the trace. */
+extern int with_stacks;
+void open_stacks(const char *path);
+void meet_call(u64 i);                 /* each record of the fourth pass, before its events */
+u32 stack_at(u32 t, u64 caller);
+void stack_of_event(u32 number);       /* of the event that comes next */
+void stack_of_thread(u32 t, u32 number);
+void stack_of_block(const block *b, u32 number);
+void end_stacks(void);
 
 /* accesses.c, objects.c: what the passes do with a record. */
 extern int whole_trace;                /* also what cannot conflict */
@@ -106,5 +130,5 @@ u64 thread_epoch(u32 t);               /* it grows with each event of the thread
 part name_of_thread(u32 t);
 part variable_name(u64 address, const block *b);             /* it stands until the next call */
 void event(u32 t, const char *operation, part name, const char *tail, u64 caller);
-void hold_event(u32 t, const char *operation, part name, const char *tail, u64 caller);          /* orders no thread */
+void hold_event(u32 t, const char *operation, part name, const char *tail, u64 caller, u32 stack);       /* orders no thread */
 void write_lines(void);                /* the last of the trace */

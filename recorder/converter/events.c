@@ -64,6 +64,7 @@ static char *add_block(char *to, const block *b) {
     static struct { u32 block, length; char name[SHORT]; } recent[RECENT];
     u32 number = block_number(b), at = number & (RECENT - 1);
     if (recent[at].block == number) return add(to, (part){recent[at].name, recent[at].length});
+    block_of(number)->named = 1;
     char *end = add(to, place_of(b->caller));
     *end++ = '#';
     end = add_number(end, number, 10);
@@ -153,9 +154,10 @@ static void event_in_window(u32 t, const char *operation, part name, const char 
     events++;
 }
 
-void hold_event(u32 t, const char *operation, part name, const char *tail, u64 caller) {
+void hold_event(u32 t, const char *operation, part name, const char *tail, u64 caller, u32 stack) {
     if (into_windows) {
         event_in_window(t, operation, name, tail, place_of(caller));
+        stack_of_event(stack);
         return;
     }
     if (lines_bytes > sizeof lines - SHB_LINE) write_lines();
@@ -163,6 +165,7 @@ void hold_event(u32 t, const char *operation, part name, const char *tail, u64 c
     if (events == event_limit) cut_reason = "at the limit of events";
     else if (bytes + (end - line) > SHB_BYTES) cut_reason = "at 1 GiB of text";
     if (cut_reason) return;
+    stack_of_event(stack);
     events++;
     bytes += end - line;
     lines_bytes += end - line;
@@ -175,7 +178,7 @@ void event(u32 t, const char *operation, part name, const char *tail, u64 caller
         memcpy(own_name, name.at, name.length);
         snprintf(own_tail, sizeof own_tail, "%s", tail);
         write_holds(t);
-        hold_event(t, operation, (part){own_name, name.length}, own_tail, caller);
-    } else hold_event(t, operation, name, tail, caller);
+        hold_event(t, operation, (part){own_name, name.length}, own_tail, caller, stack_at(t, caller));
+    } else hold_event(t, operation, name, tail, caller, stack_at(t, caller));
     if (*operation != 'r' || operation[1]) threads[t].epoch++;
 }

@@ -17,10 +17,12 @@ enum { SHB_THREADS = 1024, SHB_EVENTS = 4194304, NOT_WHOLE = 3 };   /* the statu
 
 static u32 thread_count = 1;
 
+static int is_of_stack(enum operation operation) { return operation >= OP_FRAME && operation <= OP_DEPTH; }
+
 static void meet_record(u64 i) {
     enum operation operation = operation_of(i);
     find_users(i);
-    if (operation == OP_READ || operation == OP_WRITE) return;
+    if (operation == OP_READ || operation == OP_WRITE || is_of_stack(operation)) return;
     if (operation == OP_FENCE) has_fences = 1;
     if (operation == OP_FORK && address_of(i) >= thread_count) thread_count = address_of(i) + 1;
     note_caller(caller_of(i));
@@ -35,8 +37,13 @@ static void find_sharing(u64 i) {
 
 static void write_events(u64 i) {
     enum operation operation = operation_of(i);
+    meet_call(i);
+    if (is_of_stack(operation)) return;
     if (operation == OP_FORK && address_of(i) >= SHB_THREADS && !into_windows) cut_reason = "before a thread too many: shb takes 1,024";
-    else if (operation == OP_FORK) event(thread_of(i), "fork", name_of_thread(address_of(i)), "", caller_of(i));
+    else if (operation == OP_FORK) {
+        event(thread_of(i), "fork", name_of_thread(address_of(i)), "", caller_of(i));
+        stack_of_thread(address_of(i), stack_at(thread_of(i), caller_of(i)));
+    }
     else if (operation == OP_JOIN) event(thread_of(i), "join", name_of_thread(address_of(i)), "", caller_of(i));
     else if (operation == OP_FENCE) fence_events(i);
     else if (is_for_object(i)) object_events(i);
@@ -57,8 +64,9 @@ static inline __attribute__((always_inline)) void pass(void (*step)(u64), int is
             break;
         }
         if (operation_of(i) == OP_SIZE) continue;
-        meet_block(i);
+        block *b = meet_block(i);
         step(i);
+        if (b && step == write_events && operation_of(i) == OP_ALLOC) stack_of_block(b, stack_at(thread_of(i), caller_of(i)));
         if (range_steps <= MAX_RANGE_STEPS) continue;
         shortened = "where its accesses of long ranges take too much work";
         record_count = i;
@@ -73,6 +81,8 @@ static const char help[] =
     "\n"
     "  --windows DIR  write a run of any length as overlapping traces, DIR/window-0001.std and so on,\n"
     "                 with the table DIR/windows.tsv (shb-windows --help says what they are)\n"
+    "  --stacks FILE  write the call stack of each event to this file, and where threads were created and\n"
+    "                 blocks allocated\n"
     "  -n EVENTS      at most so many events, of the trace or of each window (4194304)\n"
     "  -a             also what can't conflict\n"
     "  -p             whole paths\n"
@@ -80,18 +90,20 @@ static const char help[] =
     "\n"
     "Exit status: 0; 2 nothing can be said; 3 the trace was written, and isn't the whole run.\n";
 
-static const char *windows_folder;
+static const char *windows_folder, *stacks_path;
 
 static void bad_words(void) { die("bad command line; shb-std --help says more"); }
 
 static void read_words(int count, char **words) {
-    static const struct option options[] = {{"windows", required_argument, 0, 'w'}, {"help", no_argument, 0, 'h'}, {0, 0, 0, 0}};
+    static const struct option options[] = {{"windows", required_argument, 0, 'w'}, {"stacks", required_argument, 0, 's'},
+                                            {"help", no_argument, 0, 'h'}, {0, 0, 0, 0}};
     opterr = 0;
     for (int c; (c = getopt_long(count, words, "ahn:p", options, 0)) > 0;)
         if (c == 'h') {
             fputs(help, stdout);
             exit(0);
         } else if (c == 'w') windows_folder = optarg;
+        else if (c == 's') stacks_path = optarg;
         else if (c == 'a') whole_trace = 1;
         else if (c == 'p') whole_paths = 1;
         else if (c != 'n' || !(event_limit = strtoull(optarg, 0, 10))) bad_words();
@@ -107,6 +119,7 @@ static void prepare_windows(void) {
 
 static void end_trace(void) {
     if (windows_folder) end_windows();
+    end_stacks();
     write_lines();
     if (fflush(stdout) || ferror(stdout)) die("cannot write the trace: %s", strerror(errno));
     fprintf(stderr, "shb-std: %lu records, %u threads, %lu events", record_count, thread_count, events);
@@ -117,6 +130,7 @@ static void end_trace(void) {
 int main(int count, char **words) {
     read_words(count, words);
     open_record(words[optind]);
+    if (stacks_path) open_stacks(stacks_path);
     if (windows_folder) prepare_windows();
     pass(meet_record, 1);
     pass(find_cuts, 0);

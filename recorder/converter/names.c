@@ -148,18 +148,22 @@ static u32 caller_number(u64 caller) {
 
 void note_caller(u64 caller) { caller_number(caller); }
 
-static int write_addresses(FILE *f, module *m) {
-    int some = 0;
-    for (u64 i = 0; i < callers.capacity; i++) {
-        u64 caller = callers.entries[i].a;
-        if (!callers.entries[i].value || !caller || module_at(caller) != m) continue;
-        fprintf(f, "%lx\n", caller - m->base - 1);           /* the call, not where it returns to */
-        some = 1;
-    }
-    return some;
+static int by_number(const void *a, const void *b) { return *(u64 *)a < *(u64 *)b ? -1 : *(u64 *)a > *(u64 *)b; }
+
+/* In the same order in each run, for what addr2line says of some addresses depends on those before. */
+static int write_addresses(FILE *f, module *m, const map *all) {
+    u64 *found = zeroed(all->count + 1, sizeof *found), count = 0;
+    for (u64 i = 0; i < all->capacity; i++) {
+        u64 caller = all->entries[i].a;
+        if (all->entries[i].value && caller && module_at(caller) == m) found[count++] = caller - m->base - 1;
+    }                                  /* the call, not where it returns to */
+    qsort(found, count, sizeof *found, by_number);
+    for (u64 i = 0; i < count; i++) fprintf(f, "%lx\n", found[i]);
+    free(found);
+    return count > 0;
 }
 
-static int in_system(const char *path) { return !strncmp(path, "/usr/", 5); }
+static int in_system(const char *path) { return !strncmp(path, "/usr/", 5) || !strncmp(path, "/lib", 4); }
 
 /* Of inlined code addr2line gives several lines: the first outside /usr/ stands, else the first. */
 static void read_places(FILE *f, module *m) {
@@ -178,17 +182,18 @@ static void read_places(FILE *f, module *m) {
     }
 }
 
-static void find_places_in(module *m) {
+/* Has addr2line tell of those of the addresses that lie in a module. */
+static void ask(module *m, const map *all, const char *options, void (*read)(FILE *, module *)) {
     char name[] = P_tmpdir "/shb-std-XXXXXX", rest[100];
     int descriptor = mkstemp(name);
     FILE *addresses = descriptor < 0 ? 0 : fdopen(descriptor, "w");
     if (!addresses) die("cannot write to " P_tmpdir);
-    int some = write_addresses(addresses, m);
+    int some = write_addresses(addresses, m, all);
     if (fclose(addresses)) die("cannot write to " P_tmpdir);
-    snprintf(rest, sizeof rest, "-a -i < %s", name);
+    snprintf(rest, sizeof rest, "%s < %s", options, name);
     FILE *f = some ? run_tool("addr2line -e", m->path, rest) : 0;
     if (f) {
-        read_places(f, m);
+        read(f, m);
         end_tool(f);
     }
     unlink(name);
@@ -204,7 +209,7 @@ static char *address_place(u64 caller) {
 
 void find_places(void) {
     places = zeroed(callers.count + 1, sizeof *places);
-    for (int i = 0; i < module_count; i++) find_places_in(&modules[i]);
+    for (int i = 0; i < module_count; i++) ask(&modules[i], &callers, "-a -i", read_places);
     for (u64 i = 0; i < callers.capacity; i++) {
         u32 number = callers.entries[i].value;
         char **place = &places[number].text;
@@ -220,4 +225,84 @@ void find_places(void) {
 part place_of(u64 caller) {
     u32 number = caller_number(caller);
     return (part){places[number].text, places[number].length};
+}
+
+/* ---- frames ---- */
+static map framed;                     /* the addresses in code that were noted */
+static inlined_frame **frames;         /* by the numbers of these: the innermost */
+
+void note_frames_of(u64 caller) { map_number(&framed, caller, 0); }
+
+static inlined_frame *new_frame(const char *function, char *location, int has_line) {
+    inlined_frame *f = zeroed(1, sizeof *f);
+    *f = (inlined_frame){.function = function, .location = location, .has_line = has_line};
+    return f;
+}
+
+static int is_known(const char *line) { return *line != '?'; }
+
+/* A function's name without what the compiler adds for its parts and copies: "f.cold", "f(int) [clone .part.0]". */
+static char *function_part(char *name) {
+    static const char *const added[] = {".cold", ".part.", ".isra.", ".constprop.", ".lto_priv."}, clone[] = " [clone ";
+    name[strcspn(name, "\n")] = 0;
+    for (size_t i = 0; i < sizeof added / sizeof *added; i++) {
+        char *at = strstr(name, added[i]), *before = at ? at - strlen(clone) : 0;
+        if (at) *(before > name && !strncmp(before, clone, strlen(clone)) ? before : at) = 0;
+    }
+    return name;
+}
+
+/* Two lines for each frame, of its function and of its place, after one with the address. */
+static void read_frames(FILE *f, module *m) {
+    char function[LINE_BYTES], place[LINE_BYTES];
+    inlined_frame **next = 0;
+    int is_hidden = !strncmp(leaf(m->path), "libtsan.so", 10);
+    while (fgets(function, sizeof function, f)) {
+        if (!strncmp(function, "0x", 2)) {
+            u32 number = map_find(&framed, strtoull(function, 0, 16) + m->base + 1, 0);
+            next = number ? &frames[number] : 0;
+            continue;
+        }
+        if (!fgets(place, sizeof place, f) || !next) return;
+        function_part(function);
+        place[strcspn(place, " (\n")] = 0;
+        char *colon = strrchr(place, ':');
+        int has_line = is_known(place) && colon && is_known(colon + 1) && colon[1] != '0';
+        int named = is_known(function) && (has_line || !in_system(m->path));  /* else the name may be a neighbour's */
+        *next = new_frame(named ? copy(cleaned(function)) : "", has_line ? copy(cleaned((char *)leaf(place))) : 0, has_line);
+        (*next)->is_hidden = is_hidden;
+        (*next)->in_system = in_system(m->path);
+        (*next)->in_system_file = in_system(place) || (*next)->in_system;
+        next = &(*next)->outer;
+    }
+}
+
+void find_frames_noted(void) {
+    frames = zeroed(framed.count + 1, sizeof *frames);
+    for (int i = 0; i < module_count; i++) ask(&modules[i], &framed, "-a -i -f -C", read_frames);
+    for (u64 i = 0; i < framed.capacity; i++) {
+        u32 number = framed.entries[i].value;
+        if (number && !frames[number]) frames[number] = new_frame("", 0, 0);
+        for (inlined_frame *f = number ? frames[number] : 0; f; f = f->outer)
+            if (!f->location) f->location = address_place(framed.entries[i].a);
+    }
+}
+
+inlined_frame *frames_of(u64 caller) { return frames[map_find(&framed, caller, 0)]; }
+
+inlined_frame *outermost(inlined_frame *f) {
+    while (f && f->outer) f = f->outer;
+    return f;
+}
+
+/* By their symbols, for addr2line names one function in several ways. */
+int in_one_function(u64 caller, u64 other) {
+    module *m = module_at(caller);
+    symbol *s = m ? symbol_at(m, caller - 1) : 0, *o = m && module_at(other) == m ? symbol_at(m, other - 1) : 0;
+    if (!s || !o || s == o) return s && s == o;
+    char *one = function_part(copy(s->name)), *two = function_part(copy(o->name));
+    int same = !strcmp(one, two);
+    free(one);
+    free(two);
+    return same;
 }

@@ -227,23 +227,23 @@ void forget_states(void) {
 /* ---- 4: locks that are held and order nothing: of one thread alone, and reader-writer locks, whose order is told by
    locks of their own.  Such a lock is acquired in the trace right before its thread's next event, if there is one until
    the release: so each lock that is held at an access in the trace is there. ---- */
-typedef struct { u64 caller; u32 object; uint8_t reads, written; } hold;
+typedef struct { u64 caller; u32 object, stack; uint8_t reads, written; } hold;
 static struct { hold *list; u64 count, capacity, unwritten, sum; } held[THREADS];
 
 int holds_unwritten(u32 t) { return held[t].unwritten > 0; }
 u64 held_locks(u32 t) { return held[t].sum; }
 
-static void write_hold(u32 t, const hold *h, const char *operation, u64 caller) {
+static void write_hold(u32 t, const hold *h, const char *operation, u64 caller, u32 stack) {
     char reader[THREAD_BYTES + 20] = "";
     object *o = &objects[h->object];
     if (h->reads) snprintf(reader, sizeof reader, "@reader.%s", thread_name(t));
-    hold_event(t, operation, variable_name(o->at, block_of(o->block)), reader, caller);
+    hold_event(t, operation, variable_name(o->at, block_of(o->block)), reader, caller, stack);
 }
 
 void write_holds(u32 t) {
     for (u64 k = 0; k < held[t].count; k++) {
         hold *h = &held[t].list[k];
-        if (!h->written) write_hold(t, h, "acq", h->caller);
+        if (!h->written) write_hold(t, h, "acq", h->caller, h->stack);
         h->written = 1;
     }
     held[t].unwritten = 0;
@@ -251,7 +251,7 @@ void write_holds(u32 t) {
 
 static void take_hold(object *o, u32 t, int reads, u64 caller) {
     GROW(held[t].list, held[t].count, held[t].capacity);
-    held[t].list[held[t].count++] = (hold){caller, o - objects, reads, 0};
+    held[t].list[held[t].count++] = (hold){caller, o - objects, stack_at(t, caller), reads, 0};
     held[t].unwritten++;
     held[t].sum += mix(o - objects, reads + 1);
     if (!reads) o->writer = t + 1;
@@ -261,7 +261,7 @@ static void end_hold(object *o, u32 t, int reads, u64 caller) {
     for (u64 k = held[t].count; k-- > 0;) {
         hold h = held[t].list[k];
         if (h.object != o - objects || h.reads != reads) continue;
-        if (h.written) write_hold(t, &h, "rel", caller);
+        if (h.written) write_hold(t, &h, "rel", caller, stack_at(t, caller));
         else held[t].unwritten--;
         held[t].count--;
         memmove(&held[t].list[k], &held[t].list[k + 1], (held[t].count - k) * sizeof h);

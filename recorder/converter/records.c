@@ -20,14 +20,27 @@ u64 caller_of(u64 i) { return records[i].what & LOW_48_BITS; }
 u32 thread_of(u64 i) { return records[i].where >> 48; }
 
 static int size_follows(u64 i) { return records[i].what >> 54 == SIZE_FOLLOWS; }
+static int is_access(u64 i) { return operation_of(i) == OP_READ || operation_of(i) == OP_WRITE; }
 
-u64 size_of(u64 i) { return size_follows(i) ? records[i + 1].where : records[i].what >> 54; }
+u64 size_of(u64 i) {
+    u64 inside = records[i].what >> 54;
+    if (inside == SIZE_FOLLOWS) return records[i + 1].where;
+    if (!is_access(i)) return inside;
+    return inside & IS_RANGE ? inside - IS_RANGE : 1ull << (inside & ((1 << LOGARITHM_BITS) - 1));
+}
+
+u64 depth_inside(u64 i) {
+    u64 inside = records[i].what >> 54;
+    return is_access(i) && !(inside & IS_RANGE) ? inside >> LOGARITHM_BITS : DEPTH_BEFORE;
+}
 
 static int is_good(u64 i) {
     enum operation operation = operation_of(i);
     if (operation == OP_NONE || operation >= OPERATIONS) return 0;
     if (operation == OP_SIZE) return i > 0 && size_follows(i - 1) && !size_follows(i);
+    if (is_access(i) && size_of(i) > 16 && !(records[i].what >> 54 & IS_RANGE)) return 0;
     if (size_follows(i) && (operation_of(i + 1) != OP_SIZE || size_of(i) >= MAX_SIZE)) return 0;
+    if (operation == OP_FRAME || operation == OP_DEPTH) return size_of(i) <= MOST_FRAMES;
     return (operation != OP_FORK && operation != OP_JOIN) || address_of(i) < THREADS;
 }
 

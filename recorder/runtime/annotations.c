@@ -2,6 +2,7 @@
    What orders threads is recorded; what asks for silence (benign races, accesses to be ignored) is not followed. */
 #include <stdlib.h>
 #include <string.h>
+#include <sys/mman.h>
 #include "runtime.h"
 
 /* ---- order ---- */
@@ -59,18 +60,40 @@ PUBLIC void __tsan_java_release_store(void *p) { note(OP_POST, p, CALLER); }
 
 /* ---- fibers: a switch gives what was done before, and the switch to the same fiber takes it ---- */
 enum { NO_ORDER = 1 };
-static __thread void *fiber;
-static __thread char first_fiber;
-PUBLIC void *__tsan_get_current_fiber(void) { return fiber ? fiber : &first_fiber; }
-PUBLIC void *__tsan_create_fiber(unsigned flags) { return malloc(1); }
-PUBLIC void __tsan_destroy_fiber(void *old) { free(old); }
+void *__libc_malloc(size_t);
+void __libc_free(void *);
+typedef struct { frame *frames; uint32_t depth; } fiber;     /* the functions that it is in while no thread runs it */
+static __thread fiber *running, first_fiber;
+PUBLIC void *__tsan_get_current_fiber(void) { return running ? running : &first_fiber; }
+PUBLIC void *__tsan_create_fiber(unsigned flags) {
+    size_t size = MOST_FRAMES * sizeof(frame);
+    fiber *new = __libc_malloc(sizeof *new);
+    frame *frames = mmap(0, size, PROT_READ | PROT_WRITE, MAP_PRIVATE | MAP_ANONYMOUS | MAP_NORESERVE, -1, 0);
+    if (!new || frames == MAP_FAILED) abort();
+    *new = (fiber){frames, 0};
+    return new;
+}
+PUBLIC void __tsan_destroy_fiber(void *old) {
+    munmap(((fiber *)old)->frames, MOST_FRAMES * sizeof(frame));
+    __libc_free(old);
+}
+/* The thread is in the functions of the fiber that it runs. */
 PUBLIC void __tsan_set_fiber_name(void *which, const char *name) {}
+static void take_functions_of(fiber *next) {
+    thread *t = self;
+    if (!t) return;
+    *(fiber *)__tsan_get_current_fiber() = (fiber){t->frames, t->depth};
+    t->frames = next->frames;
+    t->depth = next->depth;
+    forget_recorded_frames(t);
+}
 PUBLIC void __tsan_switch_to_fiber(void *next, unsigned flags) {
     if (!(flags & NO_ORDER)) {
         note(OP_POST, next, CALLER);
         note(OP_WAIT, next, CALLER);
     }
-    fiber = next;
+    take_functions_of(next);
+    running = next;
 }
 
 /* ---- nothing is recorded of these ---- */

@@ -9,17 +9,11 @@
 #include "runtime.h"
 
 enum { MAX_MODULES = 256 };
-static struct { uint64_t low, high; } modules[MAX_MODULES];    /* the instrumented ones */
-static int module_count;
+struct module modules[MAX_MODULES];
+int module_count;
 static uint64_t openmp_low, openmp_high;                       /* the code of clang's OpenMP library */
 
 int tells_its_own_order(uint64_t caller) { return caller >= openmp_low && caller < openmp_high; }
-
-int instrumented(uint64_t caller) {
-    for (int i = 0; i < module_count; i++)
-        if (caller >= modules[i].low && caller < modules[i].high) return 1;
-    return 0;
-}
 
 static void note_module(struct dl_phdr_info *info, uint64_t low, uint64_t high) {
     char path[PATH_MAX] = "", line[PATH_MAX + 64];

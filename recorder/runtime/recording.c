@@ -50,9 +50,63 @@ static void grow(void) {
 }
 
 /* ---- records ---- */
-/* Afterwards t has the turn and there is room for so many records, or it answers 0.  The thread may sleep in grow, and
-   then the turn may be taken over: so it is asked for after that. */
+static struct record record_of(const thread *t, enum operation operation, uint64_t where, uint64_t size, uint64_t caller) {
+    return (struct record){(where & LOW_48_BITS) | (uint64_t)t->number << 48,
+                           (caller & LOW_48_BITS) | (uint64_t)operation << 48 | size << 54};
+}
+
+static void add(const thread *t, enum operation operation, uint64_t where, uint64_t size, uint64_t caller) {
+    records[written++] = record_of(t, operation, where, size < SIZE_FOLLOWS ? size : SIZE_FOLLOWS, caller);
+    if (size >= SIZE_FOLLOWS) records[written++] = (struct record){size, (uint64_t)OP_SIZE << 48};
+}
+
+/* The functions that the thread is in, where the record hasn't them. */
+static uint32_t recordable_depth(const thread *t) { return t->depth < MOST_FRAMES ? t->depth : MOST_FRAMES; }
+
+static int room_of_frames(const thread *t) {
+    uint32_t depth = recordable_depth(t);
+    return t->first_new < depth ? 3 * (depth - t->first_new) : 0;
+}
+
+static void add_frames(thread *t) {
+    uint32_t depth = recordable_depth(t);
+    for (uint32_t d = t->first_new; d < depth; d++) {
+        frame *f = &t->frames[d];
+        if (!(f->caller & NOT_RECORDED)) continue;
+        f->caller &= ~NOT_RECORDED;
+        if (f->way) add(t, OP_WAY, 0, 0, f->way);
+        add(t, OP_FRAME, f->function, d, f->caller);
+        t->recorded_depth = d + 1;
+    }
+    t->first_new = MOST_FRAMES;
+}
+
+static void add_depth(thread *t) {
+    uint32_t depth = recordable_depth(t);
+    if (t->recorded_depth != depth) add(t, OP_DEPTH, 0, depth, 0);
+    t->recorded_depth = depth;
+}
+
+/* What stands in the place of the size. The depth stands there too, or is told before, as is the way to the caller. */
+static uint64_t inside_of(thread *t, enum operation operation, uint64_t size, uint64_t caller) {
+    int is_access = operation == OP_READ || operation == OP_WRITE;
+    if (is_access && size <= 16 && !(size & (size - 1))) {
+        uint32_t depth = recordable_depth(t);
+        if (depth >= DEPTH_BEFORE) add_depth(t);
+        return __builtin_ctzl(size) | (depth < DEPTH_BEFORE ? depth : DEPTH_BEFORE) << LOGARITHM_BITS;
+    }
+    add_depth(t);
+    uint64_t way = is_access ? 0 : way_to(t, t->depth, caller);
+    if (way) add(t, OP_WAY, 0, 0, way);
+    if (is_access) size += IS_RANGE;
+    return size < SIZE_FOLLOWS ? size : SIZE_FOLLOWS;
+}
+
+/* Afterwards t has the turn, its functions are recorded and there is room for so many records, or it answers 0.  The
+   thread may sleep in grow, and then the turn may be taken over: so it is asked for after that. */
 int make_room(thread *t, int count) {
+    int of_frames = room_of_frames(t);
+    count += of_frames;
     for (;;) {
         if (!keep_turn(t)) take_turn(t);
         if (!recording) return 0;
@@ -60,17 +114,18 @@ int make_room(thread *t, int count) {
             stop_recording(most_is);
             return 0;
         }
-        if (written + count <= atomic_load(&room)) return 1;
+        if (written + count <= atomic_load(&room)) break;
         grow();
     }
+    if (of_frames) add_frames(t);
+    return 1;
 }
 
 void put(thread *t, enum operation operation, const volatile void *address, uint64_t size, uint64_t caller) {
     int count = operation == OP_WRITE ? ROOM_OF_COPY : ROOM;
     if (!make_room(t, count)) return;
-    uint64_t inside = size < SIZE_FOLLOWS ? size : SIZE_FOLLOWS;
-    struct record r = {((uint64_t)address & LOW_48_BITS) | (uint64_t)t->number << 48,
-                       (caller & LOW_48_BITS) | (uint64_t)operation << 48 | inside << 54};
+    uint64_t inside = inside_of(t, operation, size, caller);
+    struct record r = record_of(t, operation, (uint64_t)address, inside, caller);
     struct record *before = written ? &records[written - 1] : 0;
     if (operation == OP_READ && before && before->where == r.where && before->what == r.what)
         return;                                              /* the same read with nothing in between */

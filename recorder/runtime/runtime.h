@@ -9,6 +9,10 @@
 #define PUBLIC __attribute__((visibility("default")))
 #define CALLER ((uint64_t)__builtin_return_address(0))
 
+/* A function that a thread is in. NOT_RECORDED stands beside the caller where the record hasn't this one at its depth. */
+typedef struct { uint64_t caller, function, way, stack; } frame; /* way: as way_to gives it; stack: its stack pointer */
+#define NOT_RECORDED (1ull << 63)
+
 typedef struct thread {
     uint32_t number;                   /* in the order of creation, from 0 */
     pid_t system_id;
@@ -29,6 +33,9 @@ typedef struct thread {
     void *stack;
     size_t stack_size;
     sigset_t mask;                     /* before a signal was deferred */
+    uint32_t depth, recorded_depth;    /* how many functions it is in, the outermost first in `frames`; as the record has it */
+    uint32_t first_new;                /* no frame below this one is NOT_RECORDED */
+    frame *frames, own_frames[];       /* MOST_FRAMES; the second for all but fibers */
 } thread;
 
 /* turn.c: who runs.  Each hook is enter .. leave; enter gives no thread where nothing is to be recorded. */
@@ -59,6 +66,12 @@ void note_spin(thread *t, uint64_t read);
     result_; \
 })
 
+/* calls.c: the functions that it is in. */
+uint64_t way_to(const thread *t, uint32_t depth, uint64_t caller);
+void forget_recorded_frames(thread *t);                      /* the record is another one, or the frames are */
+frame push_frame(thread *t, uint64_t caller, uint64_t function);       /* gives what lay there, for pop_frame */
+void pop_frame(thread *t, uint32_t depth, frame old);
+
 /* recording.c: the file. */
 extern int stall_seconds;
 int open_recording(const char *path, uint64_t most_records);
@@ -69,14 +82,21 @@ void close_recording(void);
 void stop_recording(const char *reason);
 void note_end(const char *how);
 void note_text(const char *line);      /* adds a line to the header */
-enum { ROOM = 2, ROOM_OF_COPY = 4 };   /* records of one access, each with its size; of a copy's read and write */
+enum { ROOM = 5, ROOM_OF_COPY = 10 };  /* records of one access, its depth and its way, with sizes; of a copy's read and write */
 int make_room(thread *t, int count);
 void put(thread *t, enum operation operation, const volatile void *address, uint64_t size, uint64_t caller);
 void note(enum operation operation, const volatile void *object, uint64_t caller);
 int read_task_file(pid_t system_id, const char *leaf, char *text, int size);
 
 /* modules.c */
-int instrumented(uint64_t caller);     /* lies the code in a module compiled with -fsanitize=thread? */
+struct module { uint64_t low, high; };
+extern struct module modules[];        /* those compiled with -fsanitize=thread */
+extern int module_count;
+static inline int instrumented(uint64_t caller) {            /* lies the code in one of them? */
+    for (int i = 0; i < module_count; i++)
+        if (caller >= modules[i].low && caller < modules[i].high) return 1;
+    return 0;
+}
 int tells_its_own_order(uint64_t caller);                    /* the begin and end of its objects are not recorded */
 void *next_symbol(const char *name);
 void note_modules(void);

@@ -15,6 +15,15 @@ static int from_the_code_itself(int signal) {
         || signal == SIGABRT;
 }
 
+/* It is called, as it were, from the instruction that it comes before. */
+static void call_in_frame(thread *t, int signal, siginfo_t *info, void *context) {
+    uint64_t next = ((ucontext_t *)context)->uc_mcontext.gregs[REG_RIP];
+    uint32_t depth = t->depth;
+    frame old = push_frame(t, next + 1, (uint64_t)call_in_frame + 1);
+    handlers[signal].sa_sigaction(signal, info, context);
+    pop_frame(t, depth, old);
+}
+
 static void handle(int signal, siginfo_t *info, void *context) {
     thread *t = self;
     int saved = errno;
@@ -26,7 +35,8 @@ static void handle(int signal, siginfo_t *info, void *context) {
         syscall(SYS_rt_tgsigqueueinfo, getpid(), t->system_id, signal, info);
     } else {
         if (t && t->quantum < HANDLER_HOOKS) t->quantum += HANDLER_HOOKS;
-        handlers[signal].sa_sigaction(signal, info, context);
+        if (t) call_in_frame(t, signal, info, context);
+        else handlers[signal].sa_sigaction(signal, info, context);
     }
     errno = saved;
 }

@@ -51,6 +51,7 @@ static void begin_thread(thread *t, uint64_t function) {
 static void thread_exits(void *t_) {   /* runs again in each round of destructors, until the last */
     thread *t = t_;
     if (++t->exit_rounds < PTHREAD_DESTRUCTOR_ITERATIONS) pthread_setspecific(at_exit, t);
+    t->depth = 0;                      /* of functions in C that pthread_exit left */
     give_turn(t);
 }
 
@@ -69,6 +70,7 @@ static void in_child(void) {
     is_unrecorded_child = 0;
     process = getpid();
     restart_turns(self);
+    forget_recorded_frames(self);
     self->inside = 1;
     put(self, OP_START, self->stack, self->stack_size, 0);
     leave(self);

@@ -245,8 +245,11 @@ int end_turns(void) {
 }
 
 thread *new_thread(void) {             /* it may sleep in the system */
-    thread *t = mmap(0, sizeof *t, PROT_READ | PROT_WRITE, MAP_PRIVATE | MAP_ANONYMOUS, -1, 0);
-    return t == MAP_FAILED ? 0 : t;
+    thread *t = mmap(0, sizeof *t + MOST_FRAMES * sizeof *t->frames, PROT_READ | PROT_WRITE,
+                     MAP_PRIVATE | MAP_ANONYMOUS | MAP_NORESERVE, -1, 0);
+    if (t == MAP_FAILED) return 0;
+    t->frames = t->own_frames;
+    return t;
 }
 
 int number_thread(thread *t) {         /* with the turn */

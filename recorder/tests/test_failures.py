@@ -46,7 +46,7 @@ class Failures(recorder.Case):
             answer = recorder.part(recorder.convert(path))
             self.assertIn(b"is not the whole run: no disk space for the record (No space left on device)", answer.stderr)
             written = int(re.search(rb"shb-std: (\d+) records", answer.stderr)[1])
-            self.assertTrue(max(0, records - 4) <= written <= records, written)
+            self.assertTrue(max(0, records - 10) <= written <= records, written)
             self.assertEqual(recorder.places(answer.stdout), set())
 
     def test_a_limit_of_records(self):
@@ -55,7 +55,7 @@ class Failures(recorder.Case):
         self.assertIn(b"SHB_RECORDS is reached; the recording ends here, the program goes on", ran.stderr)
         answer = recorder.part(recorder.convert(path))
         self.assertIn(b"is not the whole run: SHB_RECORDS is reached", answer.stderr)
-        self.assertRegex(answer.stderr, rb"shb-std: (99[6-9]|1000) records")
+        self.assertRegex(answer.stderr, rb"shb-std: (99\d|1000) records")
         self.assertEqual(recorder.places(answer.stdout), set())
 
     def test_too_many_threads(self):

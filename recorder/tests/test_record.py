@@ -7,14 +7,19 @@ import struct
 
 import recorder
 
-HEADER = b"shb-record 3\n".ljust(65536 - 256, b"\0") + b"whole".ljust(256, b"\0")
+HEADER = b"shb-record 4\n".ljust(65536 - 256, b"\0") + b"whole".ljust(256, b"\0")
 DEFINED = re.search(r"enum operation \{(.*?)\n\};", (recorder.SOURCES / "record.h").read_text(), re.S)[1]
 OPERATIONS = re.findall(r"OP_\w+", re.sub(r"/\*.*?\*/", "", DEFINED))
 SIZE_FOLLOWS = 1023
+IS_RANGE = 512
 
 
 def entry(thread, operation, address, caller, size=0):
     number = OPERATIONS.index("OP_" + operation)
+    if operation in ("READ", "WRITE"):
+        inside = min(IS_RANGE + size, SIZE_FOLLOWS)
+        follows = struct.pack("<QQ", size, OPERATIONS.index("OP_SIZE") << 48) if inside == SIZE_FOLLOWS else b""
+        return struct.pack("<QQ", address | thread << 48, caller | number << 48 | inside << 54) + follows
     follows = struct.pack("<QQ", size, OPERATIONS.index("OP_SIZE") << 48) if size >= SIZE_FOLLOWS else b""
     return struct.pack("<QQ", address | thread << 48, caller | number << 48 | min(size, SIZE_FOLLOWS) << 54) + follows
 
@@ -177,8 +182,12 @@ def random_bytes(draw, count):
     return bytes(draw.randrange(256) for _ in range(count))
 
 
+FRAMES = b"".join([entry(0, "FRAME", 0x500, 0x100, 0), entry(0, "FRAME", 0x501, 0x101, 1), entry(1, "WAY", 0, 0x502),
+                   entry(1, "FRAME", 0x503, 0x102, 0), entry(0, "DEPTH", 0, 0, 1), entry(0, "DEPTH", 0, 0, 2000)])
+
+
 def damaged_records():
-    good, draw = HEADER + ENTRIES * 2, random.Random(1)
+    good, draw = HEADER + FRAMES + ENTRIES * 2 + FRAMES, random.Random(1)
     yield from (good[:size] for size in (0, 5, 12, 65535, 65536, 65537))
     yield from (good[:65536 + size] for size in range(1, len(ENTRIES), 9))
     for _ in range(150):
@@ -188,7 +197,7 @@ def damaged_records():
         yield bytes(record)
     yield from (HEADER + random_bytes(draw, 16 * entries) for entries in range(20))
     yield random_bytes(draw, 70000)
-    yield b"shb-record 3\nffff 1 2 \n1 2\nx y z\n0 fff 0 --help\n0 ffffffffffff 0 /\n".ljust(65536, b"1") + ENTRIES
+    yield b"shb-record 4\nffff 1 2 \n1 2\nx y z\n0 fff 0 --help\n0 ffffffffffff 0 /\n".ljust(65536, b"1") + ENTRIES
 
 
 class Damaged(recorder.Case):
@@ -200,7 +209,8 @@ class Damaged(recorder.Case):
         statuses = []
         for number, damaged in enumerate(damaged_records()):
             record.write_bytes(damaged)
-            answer = recorder.call(converter, record, env={**os.environ, "ASAN_OPTIONS": "detect_leaks=0"})
+            answer = recorder.call(converter, "--stacks", self.folder / "app.stacks", record,
+                                   env={**os.environ, "ASAN_OPTIONS": "detect_leaks=0"})
             with self.subTest(number):
                 self.assertIn(answer.returncode, (0, 2, 3), answer.stderr[-2000:])
                 self.assertIn(b"shb-std: ", answer.stderr)

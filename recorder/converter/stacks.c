@@ -1,0 +1,218 @@
+/* Call stacks: of each event of the trace, of each thread's creation and of the allocation of each block that is named.
+
+   A stack is a node of a tree: the innermost call with its stack further out.  The file begins with STACKS_BEGIN and the
+   number of events, then has a node's number of 4 bytes for each event (0: not known), then lines:
+       frame FUNCTION TAB LOCATION                   numbered from 1; the function or the location may be empty
+       system-frame FUNCTION TAB LOCATION            the same, numbered on, of code in /usr or /lib
+       stack NODE OUTER FRAME FRAME..                the frames of a node's innermost call, the innermost first (of inlined
+                                                     code there are several), and the node of the stack further out, or 0
+       thread NAME TAB NODE                          where the thread was created
+       block NUMBER NODE                             where the block was allocated */
+#include <errno.h>
+#include <stdio.h>
+#include <stdlib.h>
+#include <string.h>
+#include "converter.h"
+
+#define STACKS_BEGIN "shb-stacks 1 %020lu\n"
+enum { NODES_AT_ONCE = 1 << 14, MOST_FRAMES_OF_A_CALL = 64, MOST_LEFT = 256 };
+
+typedef struct { u64 caller, function, way; } call;          /* way: where code without hooks was called that has the caller, or 0 */
+typedef struct {
+    call *calls;                       /* the outermost first; further in than `depth` are those that were met before */
+    u32 *nodes, known;                 /* of the first ones, how many */
+    u32 told_depth, depth;             /* by the records before; of the present one */
+    u64 way;                           /* of the present one */
+    u32 last, last_outer;              /* the node that was asked for last */
+    u64 count, capacity, last_caller, last_way;
+} calls_of_thread;
+/* function: what was called, by a place in it; of an event 0. A way has a node of its own. */
+typedef struct { u64 caller, function; u32 outer; uint8_t used, is_way; } node;
+
+int with_stacks;
+static FILE *file;
+static const char *path;
+static calls_of_thread stacks[THREADS];
+static u64 told_way, has_way;          /* of which record; the passes pass over some */
+static node *nodes;                    /* from 1 */
+static u64 node_count, node_capacity, written;
+static map node_map;
+static u32 buffer[NODES_AT_ONCE];
+static u64 buffered;
+static u32 *block_nodes;
+static u64 block_count, block_capacity;
+static u32 thread_nodes[THREADS];
+
+static void cannot_write(void) { die("cannot write to %s: %s", path, strerror(errno)); }
+
+void open_stacks(const char *path_) {
+    path = path_;
+    file = fopen(path, "w");
+    if (!file || fprintf(file, STACKS_BEGIN, 0ul) < 0) cannot_write();
+    with_stacks = 1;
+}
+
+/* ---- the stack of each thread, as the record tells it ---- */
+static void meet_frame(calls_of_thread *s, u64 i) {
+    u64 d = size_of(i);
+    while (s->count <= d) {
+        u64 capacity = s->capacity;
+        GROW(s->calls, s->count, s->capacity);
+        GROW(s->nodes, s->count, capacity);
+        s->calls[s->count++] = (call){0};
+    }
+    s->calls[d] = (call){caller_of(i), address_of(i), s->way};
+    if (s->known > d) s->known = d;
+    s->told_depth = d + 1;
+}
+
+void meet_call(u64 i) {
+    if (!with_stacks) return;
+    calls_of_thread *s = &stacks[thread_of(i)];
+    enum operation operation = operation_of(i);
+    s->way = has_way == i ? told_way : 0;
+    if (operation == OP_WAY) {
+        told_way = caller_of(i);
+        has_way = i + 1;
+    }
+    if (operation == OP_FRAME) meet_frame(s, i);
+    if (operation == OP_DEPTH) s->told_depth = size_of(i);
+    u64 inside = depth_inside(i), depth = inside == DEPTH_BEFORE ? s->told_depth : inside;
+    s->depth = depth < s->count ? depth : s->count;
+}
+
+static u32 node_of(u32 outer, u64 caller, u64 function) {
+    u32 number = map_number(&node_map, caller | (u64)outer << 48, function | (u64)(outer >> 16) << 48);
+    if (number > node_count) {
+        GROW(nodes, node_count + 1, node_capacity);
+        nodes[++node_count] = (node){caller, function, outer, 0, 0};
+    }
+    return number;
+}
+
+static u32 node_by_way(u32 outer, u64 caller, u64 function, u64 way) {
+    if (way) {
+        outer = node_of(outer, way, caller);
+        nodes[outer].is_way = 1;
+    }
+    return node_of(outer, caller, function);
+}
+
+/* The stack of what a thread does now, at a place in its innermost function. */
+u32 stack_at(u32 t, u64 caller) {
+    calls_of_thread *s = &stacks[t];
+    if (!with_stacks) return 0;
+    for (; s->known < s->depth; s->known++) {
+        const call *c = &s->calls[s->known];
+        s->nodes[s->known] = node_by_way(s->known ? s->nodes[s->known - 1] : 0, c->caller, c->function, c->way);
+    }
+    u32 outer = s->depth ? s->nodes[s->depth - 1] : 0;
+    if (!s->last || s->last_outer != outer || s->last_caller != caller || s->last_way != s->way) {
+        s->last = node_by_way(outer, caller, 0, s->way);
+        s->last_outer = outer;
+        s->last_caller = caller;
+        s->last_way = s->way;
+    }
+    return s->last;
+}
+
+/* ---- what is of use to a reader ---- */
+static void use(u32 number) {
+    for (; number && !nodes[number].used; number = nodes[number].outer) nodes[number].used = 1;
+}
+
+static void write_nodes(void) {
+    if (fwrite(buffer, sizeof *buffer, buffered, file) != buffered) cannot_write();
+    written += buffered;
+    buffered = 0;
+}
+
+void stack_of_event(u32 number) {
+    if (!with_stacks) return;
+    if (buffered == NODES_AT_ONCE) write_nodes();
+    buffer[buffered++] = number;
+    use(number);
+}
+
+void stack_of_thread(u32 t, u32 number) { thread_nodes[t] = number; }
+
+void stack_of_block(const block *b, u32 number) {
+    if (!with_stacks) return;
+    while (block_count <= block_number(b)) {
+        GROW(block_nodes, block_count, block_capacity);
+        block_nodes[block_count++] = 0;
+    }
+    block_nodes[block_number(b)] = number;
+}
+
+/* ---- the tables ---- */
+static void find_frames(void) {
+    for (u64 k = 1; k <= node_count; k++) {
+        if (!nodes[k].used) continue;
+        note_frames_of(nodes[k].caller);
+        if (nodes[k].function) note_frames_of(nodes[k].function);
+    }
+    find_frames_noted();
+}
+
+static u32 frame_number(inlined_frame *f) {
+    static u32 frame_count;
+    if (f->number) return f->number;
+    fprintf(file, "%s %s\t%s\n", f->in_system_file ? "system-frame" : "frame", f->function, f->location);
+    return f->number = ++frame_count;
+}
+
+static inlined_frame *entered(u32 number) { return outermost(frames_of(nodes[number].function)); }
+
+/* The node of the function that a node's call lies in: the next further out, where all hooks told. Functions that were left
+   without their hooks, MOST_LEFT at most, are passed over, where the one that the call lies in stands further out. Else code
+   without hooks lies in between, and the function that was entered last called it. */
+static u32 called_in(u32 k) {
+    u64 caller = nodes[k].caller;
+    u32 o = nodes[k].outer;
+    if (nodes[k].is_way) return o && in_one_function(caller, nodes[o].function) ? o : 0;
+    if (o && nodes[o].is_way && nodes[o].function == caller) return o;
+    for (int left = 0; o && left <= MOST_LEFT; o = nodes[o].outer, left++)
+        if (in_one_function(caller, nodes[o].function)) return o;
+    return 0;
+}
+
+/* Of what called the outermost function only the program's own is shown; of a way only what is one. */
+static int is_shown(const node *n, u32 outer, const inlined_frame *f) {
+    if (n->is_way && !outer) return 0;
+    return !f->is_hidden && (n->outer || !n->function || (!f->in_system && f->has_line));
+}
+
+static void write_stack(u32 k) {
+    u32 numbers[MOST_FRAMES_OF_A_CALL], outer = called_in(k);
+    const node *n = &nodes[k];
+    int count = 0;
+    for (inlined_frame *f = frames_of(n->caller); f && count < MOST_FRAMES_OF_A_CALL - 1; f = f->outer)
+        if (is_shown(n, outer, f)) numbers[count++] = frame_number(f);
+    inlined_frame *last = !outer && n->outer ? entered(n->outer) : 0, between;
+    if (last && *last->function && !last->is_hidden) {
+        between = (inlined_frame){.function = last->function, .location = "", .in_system_file = last->in_system_file};
+        numbers[count++] = frame_number(&between);
+    }
+    fprintf(file, "stack %u %u", k, outer ? outer : n->outer);
+    for (int i = 0; i < count; i++) fprintf(file, " %u", numbers[i]);
+    fputc('\n', file);
+}
+
+void end_stacks(void) {
+    if (!with_stacks) return;
+    write_nodes();
+    for (u32 t = 0; t < THREADS; t++) use(thread_nodes[t]);
+    for (u64 b = 1; b < block_count; b++)
+        if (block_of(b)->named) use(block_nodes[b]);
+    find_frames();
+    for (u64 k = 1; k <= node_count; k++)
+        if (nodes[k].used) write_stack(k);
+    for (u32 t = 0; t < THREADS; t++)
+        if (thread_nodes[t]) fprintf(file, "thread %s\t%u\n", thread_name(t), thread_nodes[t]);
+    for (u64 b = 1; b < block_count; b++)
+        if (block_of(b)->named && block_nodes[b]) fprintf(file, "block %lu %u\n", b, block_nodes[b]);
+    rewind(file);
+    fprintf(file, STACKS_BEGIN, written);
+    if (fflush(file) || ferror(file) || fclose(file)) cannot_write();
+}

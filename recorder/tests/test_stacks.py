@@ -1,0 +1,124 @@
+"""Call stacks: of a record made by hand, and of programs that enter and leave functions in many ways."""
+
+import re
+import struct
+import sys
+
+import recorder
+from test_record import BLOCK, HEADER, entry
+
+sys.path.insert(0, str(recorder.SOURCES.parent / "view"))
+from shb_view.stacks import Stacks  # noqa: E402
+
+
+def plain(thread, operation, address, caller, depth):
+    """An access of 8 bytes that tells the depth itself."""
+    where, what = struct.unpack("<QQ", entry(thread, operation, address, caller, 0))
+    return struct.pack("<QQ", where, what & (1 << 54) - 1 | (3 | depth << 3) << 54)
+
+
+CANNED = [  # entries of a record, and for each event the calls of its stack, the innermost first
+    (entry(0, "FRAME", 0x5000, 0x100, 0), []),
+    (entry(0, "FRAME", 0x5100, 0x5010, 1), []),
+    (entry(0, "ALLOC", BLOCK, 0x5110, 32), []),
+    (entry(0, "DEPTH", 0, 0, 1), []),
+    (entry(0, "FORK", 1, 0x5020), ["0x5020"]),
+    (entry(1, "START", 0x30000000, 0x500, 4096), []),
+    (entry(0, "FRAME", 0x5200, 0x5030, 1), []),
+    (entry(0, "WRITE", BLOCK, 0x5210, 8), ["0x5210 0x5030"]),
+    (entry(1, "FRAME", 0x5000, 0x200, 0), []),
+    (entry(1, "WRITE", BLOCK, 0x5040, 8), ["0x5040"]),
+    (entry(0, "FRAME", 0x5300, 0x5220, 2), []),
+    (entry(0, "READ", BLOCK, 0x5310, 8), ["0x5310 0x5220 0x5030"]),
+    (plain(0, "WRITE", BLOCK, 0x5060, 1), ["0x5060"]),  # that once
+    (entry(0, "READ", BLOCK, 0x5320, 8), ["0x5320 0x5220 0x5030"]),
+    (entry(0, "DEPTH", 0, 0, 2), []),
+    (entry(0, "WRITE", BLOCK, 0x5230, 8), ["0x5230 0x5030"]),
+    (entry(0, "FRAME", 0x5400, 0x5050, 1) + entry(0, "DEPTH", 0, 0, 3), []),  # the third stays as it was
+    (entry(0, "WRITE", BLOCK, 0x5320, 8), ["0x5320 0x5220 0x5050"]),
+]
+
+
+def name(frame):
+    """The bare name of a frame's function."""
+    words = re.sub(r"\(.*", "", frame.function.decode()).replace("[clone", " ").split("::")[-1].split()
+    return (words[-1] if words else "") + ("" if frame.location else "?")  # one whose line isn't known
+
+
+def places(stacks, events):
+    return [" ".join(frame.location.decode() for frame in stacks.of_event(event)) for event in range(1, events + 1)]
+
+
+class MadeByHand(recorder.Case):
+    def record(self):
+        return self.folder / "app.rec"
+
+    def stacks(self):
+        path = self.folder / "app.stacks"
+        self.record().write_bytes(HEADER + b"".join(record for record, _ in CANNED) + bytes(64))
+        return path, recorder.must(recorder.convert(self.record(), "--stacks", path)).stdout
+
+    def test_the_stack_of_each_event(self):
+        path, trace = self.stacks()
+        wanted = [stack for _, events in CANNED for stack in events]
+        self.assertEqual(len(trace.splitlines()), len(wanted))
+        found = Stacks(path, 0, len(wanted))
+        self.assertEqual(places(found, len(wanted)), wanted)
+        self.assertEqual([frame.location for frame in found.of_thread(b"T1")], [b"0x5020"])
+        self.assertEqual([frame.location for frame in found.of_variable(b"0x5110#1")], [b"0x5110", b"0x5010"])
+
+    def test_a_window_has_a_shift(self):
+        path, _ = self.stacks()
+        self.assertEqual(Stacks(path, 2, 3).of_event(1), Stacks(path, 0, 5).of_event(3))
+
+    def test_a_record_cut_short_is_a_prefix(self):
+        wanted = [stack for _, events in CANNED for stack in events]
+        for entries in range(len(CANNED)):
+            self.record().write_bytes(HEADER + b"".join(record for record, _ in CANNED[:entries]))
+            path = self.folder / "app.stacks"
+            events = len(recorder.must(recorder.convert(self.record(), "--stacks", path, "-a")).stdout.splitlines())
+            found = Stacks(path, 0, events)
+            self.assertEqual(places(found, events), wanted[:events])
+
+    def test_the_trace_is_the_same(self):
+        _, trace = self.stacks()
+        self.assertEqual(recorder.must(recorder.convert(self.record())).stdout, trace)
+
+
+class Programs(recorder.Case):
+    def stacks_of(self, source, option):
+        """By line: the functions of each stack that an event there has, the innermost first, those of the system left out."""
+        program, found = self.folder / "program", {}
+        recorder.build(source, option, program)
+        for seed in (1, 2):
+            recorder.must(recorder.call(program, env=recorder.settings(self.folder / "app.%p.rec", seed)))
+            for number, record in enumerate(sorted(self.folder.glob("app.*.rec"))):
+                path = self.folder / f"{number}.stacks"
+                lines = recorder.must(recorder.convert(record, "--stacks", path)).stdout.splitlines()
+                stacks = Stacks(path, 0, len(lines))
+                for event, line in enumerate(lines, 1):
+                    fields = line.split(b"|")
+                    names = [name(frame) for frame in stacks.of_event(event) if not frame.in_system]
+                    found.setdefault(fields[2].decode(), set()).add(" ".join(names))
+                record.unlink()
+        return found
+
+    def check(self, source):
+        wanted = {}
+        for number, line in enumerate(source.read_text().splitlines(), 1):
+            marked = re.search(r" IN (.*?)(?: \*/)?$", line)
+            if marked:
+                wanted[f"{source.name}:{number}"] = set(marked[1].split(", "))
+        for option in ("-O0", "-O1", "-O2"):
+            found = self.stacks_of(source, option)
+            for place, stacks in wanted.items():
+                with self.subTest(option=option, place=place):
+                    met = {(stack, way) for stack in found.get(place, ()) for way in stacks if f"{stack} ".startswith(f"{way} ")}
+                    others = found.get(place, set()) - {stack for stack, _ in met}
+                    self.assertEqual(({way for _, way in met}, others), (stacks, set()))
+
+    def test_in_c(self):
+        self.check(recorder.PROGRAMS / "calls.c")
+
+    def test_in_cxx(self):
+        self.check(recorder.PROGRAMS / "calls_cxx.cc")
