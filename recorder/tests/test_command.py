@@ -42,7 +42,8 @@ class Command(recorder.Case):
         self.assertIn("status.c:9", said)
         self.assertEqual(said.splitlines()[-1], "shb-record: 1 place with races; the program's own status: 0; files in "
                          f"{self.folder}/status.shb")
-        self.assertEqual(self.names(), ["places.tsv", "run1.N.html", "run1.N.report", "run1.N.std", "unknown.places"])
+        self.assertEqual(self.names(), ["places.tsv", "run1.N.html", "run1.N.report", "run1.N.stacks", "run1.N.std",
+                                        "unknown.places"])
         self.assertEqual(text_of(self.folder / "status.shb" / "unknown.places"), "status.c:9\tstatus.c:9\n")
         self.assertRegex(text_of(self.folder / "status.shb" / "places.tsv"),  # main forks both, then each writes
                          r"^status.c:9\tstatus.c:9\tunknown\t\d+\t\d+\trun 1, process \d+\trun1\.\d+\.std\n$")
@@ -187,8 +188,8 @@ class Command(recorder.Case):
         found = re.findall(r"(?m)^shb-record: run 1, process \d+ \((.*)\): .*; (\d+) places? with races$", said)
         self.assertEqual(sorted(found), [("./atomic_plain", "1"), ("./status 0 race", "1")])
         self.assertIn("shb-record: 2 places with races; the program's own status: 0;", said)
-        self.assertEqual(self.names("make.shb"), ["places.tsv", *["run1.N.html"] * 2, *["run1.N.report"] * 2, *["run1.N.std"] * 2,
-                                                  "unknown.places"])
+        self.assertEqual(self.names("make.shb"), ["places.tsv", *["run1.N.html"] * 2, *["run1.N.report"] * 2,
+                                                  *["run1.N.stacks"] * 2, *["run1.N.std"] * 2, "unknown.places"])
 
     def test_a_daemon_is_waited_for(self):
         status, out, said = self.record(self.program("daemon.c"))
@@ -208,8 +209,8 @@ class Command(recorder.Case):
     def test_results_of_an_earlier_call_are_removed(self):
         program = self.program()
         self.record("--keep", program, "0", "race")
-        self.assertEqual(self.names(), ["places.tsv", "run1.N.html", "run1.N.rec", "run1.N.report", "run1.N.std",
-                                        "unknown.places"])
+        self.assertEqual(self.names(), ["places.tsv", "run1.N.html", "run1.N.rec", "run1.N.report", "run1.N.stacks",
+                                        "run1.N.std", "unknown.places"])
         self.record(program, "0")
         self.assertEqual(self.names(), ["places.tsv", "unknown.places"])
 

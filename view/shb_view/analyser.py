@@ -45,8 +45,8 @@ class Analyser:
             try:
                 report = Report(process.stdout)
                 if take and report.head.races <= MOST_LISTED:
-                    for _, accesses in report.races(lambda done: None):
-                        take(*accesses)
+                    for race, accesses in report.races(lambda done: None):
+                        take(race, *accesses)
                 return report.head
             except BadReport as fault:
                 self.end(words, process, (0,))

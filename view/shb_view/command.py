@@ -35,6 +35,9 @@ def arguments(words, program):
     parser.add_argument("--all", action="store_true", help="in the text, add each group's closest race and what comes before it")
     parser.add_argument("--note", metavar="TEXT", action="append", default=[],
                         help="say this of the trace below the title, as that it isn't the whole run; may be given again")
+    parser.add_argument("--stacks", metavar="FILE", help="show call stacks, as `shb-std --stacks` wrote them")
+    parser.add_argument("--shift", metavar="N", type=int, default=0,
+                        help="the trace is a window of a run: its event E is event E + N of the file of stacks")
     parser.add_argument("--check", action="store_true", help="run `shb check` on the REPORT that is given")
     parser.add_argument("--shb", metavar="PROGRAM", default=os.environ.get("SHB") or program, help="the `shb` to run")
     parser.add_argument("trace", metavar="TRACE", help="a trace, as `shb` reads it")

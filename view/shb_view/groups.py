@@ -55,10 +55,13 @@ class Gathered:
         self.above = {}  # by location pair or variable: another one of its group
         self.lines = {}  # the line of each event that is named
         self.texts = {}  # each line once
+        self.racing = {}  # by variable and location: the events of the races that were read
 
-    def share(self, first, second):
+    def share(self, race, first, second):
         """Takes the variable of two racing accesses that aren't shown themselves."""
         self.join(tuple(sorted((first.location, second.location))), first.name)
+        self.racing.setdefault((first.name, first.location), set()).add(race.first)
+        self.racing.setdefault((second.name, second.location), set()).add(race.second)
 
     def add(self, race, first, second, places):
         """Takes a race and its accesses; `places` has how many races each place has, if that is known."""
@@ -68,7 +71,7 @@ class Gathered:
         pair.races += places.pop(place, 0) if places is not None else 1
         pair.listed += 1
         pair.closest = min(pair.closest, race, key=distance)
-        self.join(locations, first.name)
+        self.share(race, first, second)
         for number, line in ((race.first, race.first_line), (race.second, race.second_line)):
             self.lines[number] = self.texts.setdefault(line, line)
 

@@ -1,9 +1,11 @@
 """A race as a text that can be pasted into an issue."""
 
 from shb_view.names import code_line, short
+from shb_view.stacks import caller_lines
 from shb_view.words import KINDS, NO_LOCK, Code, counted, place
 
 NAME = 120  # columns
+MOST_FRAMES = 16  # of a stack
 
 
 def flat(parts):
@@ -20,6 +22,10 @@ def issue_lines(view, section):
     yield f"(one of {counted(races, 'race')} of these two lines in a recorded run)" if races > 1 else "(one race in a recorded run)"
     for access in window.accesses:
         yield from access_lines(view, window, access)
+    allocated = caller_lines(view.stacks.of_variable(one.name), MOST_FRAMES)
+    if allocated:
+        yield "  the block was allocated at"
+        yield from (f"      #{number} {flat(parts)}" for number, parts in enumerate(allocated))
     yield f"  {flat(section.fact.sentence)}"
     yield f"  {order_text(window)}"
 
@@ -32,6 +38,7 @@ def access_lines(view, window, access):
     source = view.source.place(event.location)
     if source and source.line() is not None:
         yield f"      {code_line(source.line().strip(), NAME)}"
+    yield from (f"      #{number} {flat(parts)}" for number, parts in enumerate(caller_lines(view.stacks.of_event(access), MOST_FRAMES)))
     for lock, acquire in shown.locks:
         at = place(window.events[acquire].event.location)
         yield f"    holds {flat([Code(lock), ', acquired at ', at])} (event {acquire})"
@@ -42,6 +49,8 @@ def access_lines(view, window, access):
     if fork:
         start = window.events[fork].event
         yield f"    thread started by {flat([Code(start.thread), ' at ', place(start.location)])} (event {fork})"
+    created = caller_lines(view.stacks.of_thread(event.thread), MOST_FRAMES)
+    yield from (f"      #{number} {flat(parts)}" for number, parts in enumerate(created))
 
 
 def order_text(window):

@@ -10,12 +10,14 @@ from shb_view.markup import Markup, code, element, joined, marked
 from shb_view.names import code_line, short
 from shb_view.picture import picture
 from shb_view.source import excerpt
+from shb_view.stacks import frame_parts, origins
 from shb_view.words import (KINDS, MOST_SITES, MOST_THREADS, MOST_VARIABLES, NO_LOCK, Code, accesses_text, counted, listed,
                             lock_words, notes_of, partner_parts, place, races_text, summary)
 
 HERE = pathlib.Path(__file__).resolve().parent
 NAME = 80  # columns
 LINE = 240
+MOST_STACKS, MOST_FRAMES, MOST_ORIGINS = 8, 40, 8  # of a racing line; of each; threads and blocks of a group
 MOST_BYTES = 3_500_000  # of the groups' parts; the last of them may go beyond
 ARROW = Markup('<svg class="defs" width="0" height="0" aria-hidden="true"><defs><marker id="to" viewBox="0 0 8 8" refX="7" '
                'refY="4" markerWidth="7" markerHeight="7" orient="auto"><path d="M0 0L8 4L0 8z"></path></marker></defs></svg>')
@@ -93,7 +95,8 @@ def section_part(view, number, section):
         parts.append(element("p", "Variables: ", marked(names, NAME)))
     them = "it" if len(section.group.variables) == 1 else "them"
     parts += [source_pair(view, section.window), element("h3", f"Every line that uses {them}"),
-              site_table(view, section), window_details(section.window, anchor), issue_details(view, section),
+              site_table(view, section), callers_details(section), origin_details(view, section),
+              window_details(section.window, anchor), issue_details(view, section),
               line_details(section.window, anchor)]
     return element("section", joined(filter(None, parts), "\n"), id=f"g{number}")
 
@@ -121,6 +124,7 @@ def figure(view, window, number, access):
             head = element("code", code_line(shown_lines.head.rstrip(b" {"), LINE))
             caption += [element("br"), element("span", "in ", head, class_="faint")]
         lines = code_table(shown_lines, number)
+    lines = joined([lines, access_details(view.stacks.of_event(access))])
     if found.fault:
         caption += [element("br"), element("span", found.fault, class_="fault")]
     return element("figure", element("figcaption", *caption), lines, class_="src")
@@ -162,6 +166,51 @@ def site_cells(view, section, site, heads):
              "Locks": joined(locks, "; "),
              "Races with": marked(partner_parts(site), NAME) or "–"}
     return [element("td", element("span", cells[head]), data_head=head) for head in heads]
+
+
+def frame_list(frames):
+    """All frames, those of the system faint."""
+    rows = [element("li", marked(frame_parts(frame), LINE), title=short(frame.function, LINE),
+                    class_="faint" if frame.in_system else None) for frame in frames[:MOST_FRAMES]]
+    more = [element("li", f"and {len(frames) - MOST_FRAMES:,} more")] if len(frames) > MOST_FRAMES else []
+    return element("ol", *rows, *more, class_="stack")
+
+
+def stack_lists(callers):
+    """The stacks of some racing accesses, each with how many have it."""
+    total, parts = sum(count for _, count in callers), []
+    for frames, count in callers[:MOST_STACKS]:
+        if len(callers) > 1:
+            parts.append(element("p", f"{count:,} of {counted(total, 'racing access', 'racing accesses')}", class_="faint"))
+        parts.append(frame_list(frames) if frames else element("p", "no stack is known", class_="faint"))
+    if len(callers) > MOST_STACKS:
+        parts.append(element("p", f"and {counted(len(callers) - MOST_STACKS, 'more stack')}", class_="faint"))
+    return parts
+
+
+def callers_details(section):
+    """How the racing lines were reached."""
+    found = [(site.location, section.callers[site.location]) for site in section.sites[:MOST_SITES]
+             if section.callers.get(site.location)]
+    figures = [element("figure", element("figcaption", marked([place(location)], NAME)), *stack_lists(callers))
+               for location, callers in found if any(frames for frames, _ in callers)]
+    stacks = sum(len(callers) for _, callers in found)
+    words = f"Called from: {counted(stacks, 'stack')} of the racing {'line' if len(figures) == 1 else 'lines'}"
+    return element("details", element("summary", words), element("div", *figures, class_="pair stacks")) if figures else None
+
+
+def access_details(frames):
+    """The stack of a shown access."""
+    return element("details", element("summary", "called from"), frame_list(frames), class_="callers") if frames else ""
+
+
+def origin_details(view, section):
+    found = origins(view, section)
+    parts = [joined([element("p", marked(parts, NAME), " at"), frame_list(frames)]) for parts, frames in found[:MOST_ORIGINS]]
+    if len(found) > MOST_ORIGINS:
+        parts.append(element("p", f"and {len(found) - MOST_ORIGINS:,} more", class_="faint"))
+    words = "Where the threads were created and the blocks allocated"
+    return element("details", element("summary", words), *parts) if parts else None
 
 
 def window_details(window, anchor):

@@ -3,11 +3,14 @@
 from shb_view.groups import group_name
 from shb_view.issue import issue_lines
 from shb_view.names import code_line, columns, padded, short
+from shb_view.stacks import caller_lines, origins
 from shb_view.words import (MOST_SITES, MOST_THREADS, MOST_VARIABLES, Code, accesses_text, counted, listed, lock_words, notes_of,
                             operation_text, partner_parts, place, races_text, summary)
 
 NAME = 80  # columns of a name or a location
 LINE = 100  # columns of a line of code
+MOST_STACKS, MOST_FRAMES = 2, 8  # of a racing line; of each
+MOST_ORIGINS = 4  # threads and blocks of a group
 
 
 class Colours:
@@ -64,6 +67,8 @@ def section_lines(view, number, section, colours):
         yield from site_lines(view, section, site, colours)
     if len(section.sites) > MOST_SITES:
         yield f"   and {counted(len(section.sites) - MOST_SITES, 'more line')}"
+    for parts, frames in origins(view, section)[:MOST_ORIGINS]:
+        yield f"   {flat(parts)} in {', from '.join(map(flat, caller_lines(frames, MOST_FRAMES)))}"
 
 
 def site_lines(view, section, site, colours):
@@ -80,6 +85,20 @@ def site_lines(view, section, site, colours):
     yield "     " + "; ".join(flat(parts) for _, parts in lock_words(site, section.fact.lock))
     if site.partners:
         yield f"     races with {flat(partner_parts(site))}"
+        yield from stack_lines(section.callers.get(site.location, []))
+
+
+def stack_lines(callers):
+    """The stacks of a line's racing accesses."""
+    total = sum(count for _, count in callers)
+    for frames, count in callers[:MOST_STACKS]:
+        first, *others = caller_lines(frames, MOST_FRAMES) or [["(no stack is known)"]]
+        some = f" ({count:,} of {counted(total, 'racing access', 'racing accesses')})" if len(callers) > 1 else ""
+        yield f"     in {flat(first[:1])}{some}"
+        yield from (f"       from {flat(parts)}" for parts in others)
+    if len(callers) > MOST_STACKS:
+        rest = sum(count for _, count in callers[MOST_STACKS:])
+        yield f"     and {counted(len(callers) - MOST_STACKS, 'more stack')} ({counted(rest, 'racing access', 'racing accesses')})"
 
 
 def window_lines(window):

@@ -15,6 +15,7 @@ from shb_view.groups import Gathered, Group
 from shb_view.names import shown
 from shb_view.report import BLOCK, MOST_BYTES, Counts, Report, in_order
 from shb_view.source import Source
+from shb_view.stacks import NoStacks, Stacks
 from shb_view.trace import CHANGED, Trace
 from shb_view.windows import Window, make_windows
 
@@ -33,6 +34,7 @@ class Section(typing.NamedTuple):
     sites: typing.List[Site]
     fact: Fact
     window: typing.Optional[Window]
+    callers: dict  # by racing line: the stacks of its racing accesses, each with how many have it
 
 
 class View(typing.NamedTuple):
@@ -51,6 +53,7 @@ class View(typing.NamedTuple):
     is_sample: bool
     source: Source
     notes: typing.List[str]
+    stacks: typing.Union[Stacks, NoStacks]
 
 
 class Given(typing.NamedTuple):
@@ -76,18 +79,20 @@ def make_view(options, progress):
         head = analyser.head(None if options.report else gathered.share)
         given = given_report(options, analyser, stack) if options.report else own_report(analyser, head, stack)
         listed, has_schedules = read_report(given, head.counts, gathered, progress)
-        groups, lines = gathered.groups(), gathered.lines
+        groups, lines, racing = gathered.groups(), gathered.lines, gathered.racing
         del gathered
         if not has_schedules and given.verdict is not TOO_LONG:
             given = given._replace(verdict=NO_SCHEDULES)
         is_whole = bool(options.html or options.all)
         sections = make_sections(is_whole, Trace(file, progress), given, groups, lines, head.counts.events)
+        stacks = Stacks(options.stacks, options.shift, head.counts.events) if options.stacks else NoStacks()
+        sections = [section._replace(callers=callers_of(section.group, racing, stacks)) for section in sections]
         title = shown(os.fsencode(os.path.basename(options.trace)))
         pairs = sum(len(group.pairs) for group in groups)
         source = Source(options.source, os.fstat(file.fileno()).st_mtime)
         is_sample = not options.report and head.races > MOST_LISTED
         return View(title, head.counts, head.races, listed if options.report else head.races, pairs, len(groups), sections,
-                    given.verdict, is_sample, source, [shown(os.fsencode(note)) for note in options.note])
+                    given.verdict, is_sample, source, [shown(os.fsencode(note)) for note in options.note], stacks)
 
 
 def open_regular(path):
@@ -173,4 +178,13 @@ def first_groups(groups, counts):
 
 def make_section(group, counts):
     sites = sites_of(group, counts)
-    return Section(group, sites, fact_of(sites), None)
+    return Section(group, sites, fact_of(sites), None, {})
+
+
+def callers_of(group, racing, stacks):
+    """The stacks of the racing accesses of each racing line."""
+    events = {}
+    for variable in group.variables:
+        for location in group.locations():
+            events.setdefault(location, set()).update(racing.get((variable, location), ()))
+    return {location: stacks.counted(found) for location, found in events.items()}

@@ -1,0 +1,106 @@
+"""view/shb-view --stacks: the call stacks of racing lines, of threads and of blocks."""
+
+import re
+import struct
+
+import program
+from test_view_page import Page
+from viewing import run_here
+
+TRACE = b"""\
+main|fork(T1)|a.c:30
+T1|w(a.c:9#2+8)|a.c:5
+main|w(a.c:9#2+8)|a.c:5
+main|w(a.c:9#2+8)|a.c:5
+main|r(a.c:9#2+8)|a.c:7
+"""
+TABLES = b"""\
+frame main()\ta.c:30
+frame add<int>(int)\ta.c:5
+system-frame std::each(f)\teach.h:8
+frame run\ta.c:20
+frame main()\ta.c:31
+frame get\ta.c:7
+frame make\ta.c:9
+system-frame \tlibc.so.6+0x10
+frame sorter\t
+stack 1 0 1
+stack 2 3 2
+stack 3 4 3
+stack 4 0 4
+stack 5 6 2
+stack 6 0 5
+stack 7 8 6
+stack 8 6 8 9
+stack 9 6 7
+thread T1\t1
+block 2 9
+"""
+NODES = [1, 2, 5, 5, 7]
+
+
+def stacks(nodes=NODES, tables=TABLES, events=None):
+    return b"shb-stacks 1 %020d\n" % (len(nodes) if events is None else events) + struct.pack(f"<{len(nodes)}I", *nodes) + tables
+
+
+class Stacks(program.Case):
+    def shown(self, content, *words, trace=TRACE):
+        path = self.folder / "app.stacks"
+        path.write_bytes(content)
+        return run_here(["--stacks", path, *words, self.file(trace)])
+
+    def test_the_text(self):
+        status, out, err = self.shown(stacks())
+        self.assertEqual((status, err), (0, ""))
+        self.assertIn("     in add<> (2 of 3 racing accesses)\n       from main a.c:31\n"
+                      "     in add<> (1 of 3 racing accesses)\n       from std::each each.h:8\n       from run a.c:20\n", out)
+        self.assertIn("     in get\n       from libc.so.6+0x10\n"
+                      "       from sorter (no line is known: it called code without hooks)\n       from main a.c:31\n", out)
+        self.assertIn("   thread T1 was created in main a.c:30\n", out)
+        self.assertIn("   block a.c:9#2 was allocated in make a.c:9, from main a.c:31\n", out)
+
+    def test_the_page(self):
+        path = self.folder / "page.html"
+        status, _, err = self.shown(stacks(), "--html", path)
+        self.assertEqual((status, err), (0, ""))
+        page = Page(path.read_text())
+        self.assertIn("Called from: 3 stacks of the racing lines", [text for _, text in page.all("summary")])
+        lists = [text for _, text in page.all("ol", "stack")]
+        self.assertIn("add<> a.c:5std::each each.h:8run a.c:20", lists)
+        self.assertIn("make a.c:9main a.c:31", lists)
+
+    def test_a_window_has_a_shift(self):
+        _, whole, _ = self.shown(stacks())
+        _, window, err = self.shown(stacks([1, 1, *NODES]), "--shift", "2")
+        self.assertEqual((window, err), (whole, ""))
+
+    def test_without_stacks(self):
+        _, out, _ = run_here([self.file(TRACE)])
+        self.assertNotRegex(out, "(?m)^     (in|from) ")
+
+    def test_other_files_are_refused(self):
+        for content in (b"", b"shb-stacks 2 %020d\n" % 5, stacks()[:30], stacks()[:53], stacks(NODES[:4]), TRACE):
+            with self.subTest(content=content[:60]):
+                status, out, err = self.shown(content)
+                self.assertEqual((status, out), (2, ""))
+                self.assertRegex(err, r"\Ashb-view: \S*app.stacks doesn't have the stacks of this trace\n\Z")
+        for shift in ("1", "-1"):
+            self.assertEqual(self.shown(stacks(), f"--shift={shift}")[0], 2)
+
+    def test_damaged_tables_are_refused_or_shown(self):
+        for line in (b"frame x", b"stack x", b"stack 1", b"stack 1 1 99", b"thread T1", b"block 1", b"block a b"):
+            with self.subTest(line=line):
+                status, _, err = self.shown(stacks(tables=TABLES + line + b"\n"))
+                self.assertEqual(status, 2)
+                self.assertIn("is damaged", err)
+        odd = ([9] * 5, b"stack 9 9\n"), ([7] * 5, b""), ([2**32 - 1] * 5, TABLES), (NODES, TABLES + b"new kind\n")
+        for nodes, tables in odd:
+            with self.subTest(tables=tables):
+                self.assertEqual(self.shown(stacks(nodes, tables))[0], 0)
+
+    def test_names_stay_names(self):
+        hostile = TABLES.replace(b"add<int>(int)", b"<script>\xff'\"&\\")
+        path = self.folder / "page.html"
+        self.assertEqual(self.shown(stacks(tables=hostile), "--html", path)[0], 0)
+        self.assertEqual(len(Page(path.read_text()).all("script")), 1)
+        self.assertTrue(re.search(r"\\xff", self.shown(stacks(tables=hostile))[1]))
