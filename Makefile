@@ -1,6 +1,6 @@
 # Two commands: `make run` builds the program and runs it, `make test` runs what the gate runs.
 
-.PHONY: build run test end-to-end recorder install uninstall dist bench
+.PHONY: build run test test-all changed quick end-to-end recorder install uninstall dist bench
 
 PREFIX = /usr/local
 DESTDIR =
@@ -22,6 +22,18 @@ run: build
 
 test:
 	.ci/run
+
+# The gate with every must-fail edit, for releases; it writes the record of what they were tried on.
+test-all:
+	.ci/run --all --record
+
+# Checks what a change since BASE can have broken, and says what it leaves out; `quick` is the part that takes minutes.
+BASE = main
+changed:
+	python3 tests/gate/changed.py $(BASE)
+
+quick:
+	python3 tests/gate/changed.py --quick $(BASE)
 
 # Runs the built program as a user would: the second half of `make test`.
 end-to-end: build

@@ -62,7 +62,8 @@ def misspelled(texts):
 
 def main():
     edits = sorted(CRATES.glob("*/must-fail/*.edit"))
-    wrong, texts, named = {}, {}, {}
+    others = {*CRATES.glob("*/must-fail/**/*")} - {*edits}
+    wrong, texts, named = {path: "no file NAME.edit, so nothing tries it" for path in sorted(others)}, {}, {}
     for number, path in enumerate(edits):
         try:
             suffix, text = edited(path)

@@ -1,0 +1,184 @@
+"""The gate's longest part: every proof from nothing, the must-fail edits, and the tests of the program beside them.
+
+    python3 tests/gate [--all] [--record] [--room FOLDER]
+        --all     tries every edit, and not those alone that the record asks for
+        --record  writes tests/gate/refused.sums where nothing failed
+        --room    works in this empty folder and leaves it, with the built program in crates/shb/out/shb
+
+`rt ci` proves the crates and their tests in a copy of the repository that has no must-fail edits. As soon as a crate is
+proved its edits are tried over the libraries that are built by then (joint.py), those that the record (record.py) doesn't
+answer for and of the others a tenth; as soon as the program is linked the tests of tests/, recorder/, farm/ and install/
+run on it, one folder after the other. Each part ends with a line 'N passed, N failed', and so does the whole.
+"""
+
+import argparse
+import concurrent.futures
+import os
+import pathlib
+import re
+import resource
+import shutil
+import subprocess
+import sys
+import tempfile
+import threading
+import time
+
+sys.dont_write_bytecode = True
+
+import joint
+import kit
+import record
+
+ROOT = pathlib.Path(__file__).resolve().parent.parent.parent
+SUMS = ROOT / "tests" / "gate" / "refused.sums"
+MEMORY = 3_000_000_000  # a check of edits waits until so many bytes are free; most take less than 2.5 GB
+SUITES = ("tests", "recorder/tests", "farm/tests", "install/tests")
+CLOSING = re.compile(r"(\d+) passed, (\d+) failed(?:, \d+ skipped)?")
+
+
+def git(*words):
+    return subprocess.run(["git", "-C", ROOT, *words], capture_output=True, check=True, text=True).stdout
+
+
+def copy_without_edits(room):
+    """Copies what git tracks, and what it would, into a folder."""
+    for name in git("ls-files", "-coz", "--exclude-standard").split("\0"):
+        if name and "/must-fail/" not in name and (ROOT / name).is_file():
+            (room / name).parent.mkdir(parents=True, exist_ok=True)
+            shutil.copy2(ROOT / name, room / name)
+
+
+class Count:
+    """How much of the gate passed and failed so far."""
+
+    def __init__(self):
+        self.passed = self.failed = 0
+
+    def add(self, passed, failed):
+        self.passed += passed
+        self.failed += failed
+
+    def add_command(self, status, said):
+        """Adds the last line of a command, which fails too where it says so by its status alone."""
+        closing = CLOSING.fullmatch(said.rstrip().rpartition("\n")[2])
+        passed, failed = map(int, closing.groups()) if closing else (0, 0)
+        self.add(passed, failed or int(status != 0 or not closing))
+
+
+class Edits:
+    """The edits that are tried, each crate's in turn, as many crates side by side as there are processors and memory for."""
+
+    def __init__(self, room, tries_all):
+        self.crates, self.tries_all = kit.crates_of(room), tries_all
+        self.layers, self.commit = record.Layers(ROOT), git("rev-parse", "HEAD").strip()
+        self.known = record.read(SUMS)
+        self.sums = {name: self.layers.state(name, kit.identity()) for name in self.layers.uses}
+        self.running, self.at_work, self.guard = [], 0, threading.Lock()
+        # Proofs come first: an edit's check gets what they leave of the processors.
+        self.pool = concurrent.futures.ThreadPoolExecutor(kit.processors(), initializer=lambda: os.nice(10))
+
+    def chosen(self, name):
+        """The edits of a crate to try: all where the record doesn't answer for them, else those that the commit draws."""
+        edits = self.layers.edits(name)
+        is_known = not self.tries_all and self.sums[name] == self.known.get(name)
+        return [edit for edit in edits if not is_known or record.is_drawn(self.commit, edit)]
+
+    def begin(self, name):
+        chosen = self.chosen(name)
+        print(f"{name}: {len(chosen)} of {len(self.layers.edits(name))} must-fail edits", flush=True)
+        self.running.append(self.pool.submit(self.try_edits, self.crates[name], chosen))
+
+    def try_edits(self, crate, edits):
+        began = time.monotonic()
+        self.wait_for_memory()
+        try:
+            told = [*joint.tried(crate, edits)]
+        finally:
+            with self.guard:
+                self.at_work -= 1
+        if edits:
+            print(f"{crate.name}: its edits took {time.monotonic() - began:.0f} s", flush=True)
+        return told
+
+    def wait_for_memory(self):
+        """Waits until a check has the memory that it may take, or no other check of edits runs."""
+        while True:
+            with self.guard:
+                if not self.at_work or kit.free_memory() > MEMORY * self.at_work:
+                    self.at_work += 1
+                    return
+            time.sleep(5)
+
+    def ended(self, count):
+        """Waits for all, says how each ended, and adds what passed and failed."""
+        told = [it for ran in self.running for it in ran.result()]
+        print("== must-fail edits")
+        print("".join(f"{text}\n" for _, text in told), end="")
+        passed = sum(is_refused for is_refused, _ in told)
+        print(f"{passed} passed, {len(told) - passed} failed", flush=True)
+        count.add(passed, len(told) - passed)
+
+
+def run_suites(program):
+    """Runs the tests of each folder on the built program. Of each its name, status and output."""
+    for folder in SUITES:
+        words = [sys.executable, "-u", str(ROOT / folder / "run.py"), str(program)]
+        ran = subprocess.run(words, cwd=ROOT, stdin=subprocess.DEVNULL, stdout=subprocess.PIPE, stderr=subprocess.STDOUT)
+        yield folder, ran.returncode, ran.stdout.decode(errors="replace")
+
+
+def prove(room, edits, pool, count):
+    """Runs `rt ci` in the room, and begins what waits for its steps. Gives the results of the suites, once they are there."""
+    suites, last, began = None, "", time.monotonic()
+    how = {"stdout": subprocess.PIPE, "text": True, "errors": "replace", "env": {**os.environ, "PYTHONUNBUFFERED": "1"}}
+    with subprocess.Popen(["rt", "ci"], cwd=room, stdin=subprocess.DEVNULL, **how) as proofs:
+        for line in proofs.stdout:
+            print(line, end="", flush=True)
+            last = line if line.strip() else last
+            proved = re.fullmatch(r"rt: (\w+) proved\n", line)
+            if proved:
+                print(f"{proved[1]}: proved after {time.monotonic() - began:.0f} s", flush=True)
+                edits.begin(proved[1])
+            if proved and proved[1] == "shb":
+                suites = pool.submit(lambda: [*run_suites(room / "crates/shb/out/shb")])
+    count.add_command(proofs.returncode, last)
+    return suites
+
+
+def run_gate(room, options):
+    count, began = Count(), time.monotonic()
+    copy_without_edits(room)
+    edits = Edits(room, options.all)
+    with concurrent.futures.ThreadPoolExecutor(1) as pool:
+        suites = prove(room, edits, pool, count)
+        edits.ended(count)
+        if suites is None:
+            count.add(0, 1)
+            print("the program wasn't built, so its tests didn't run")
+        for folder, status, said in suites.result() if suites else []:
+            print(f"== {folder}\n{said}", end="" if said.endswith("\n") else "\n", flush=True)
+            count.add_command(status, said)
+    if options.record and not count.failed:
+        record.write(SUMS, edits.sums)
+    used = resource.getrusage(resource.RUSAGE_CHILDREN)
+    wall, cpu = (time.monotonic() - began) / 60, (used.ru_utime + used.ru_stime) / 60
+    print(f"wall {wall:.0f} minutes, CPU {cpu:.0f} minutes, {kit.processors()} processors")
+    print(f"{count.passed} passed, {count.failed} failed")
+    return 1 if count.failed or not count.passed else 0
+
+
+def main():
+    parser = argparse.ArgumentParser(description=__doc__.splitlines()[0])
+    parser.add_argument("--all", action="store_true")
+    parser.add_argument("--record", action="store_true")
+    parser.add_argument("--room", type=pathlib.Path)
+    options = parser.parse_args()
+    if options.room:
+        return run_gate(options.room.resolve(), options)
+    with tempfile.TemporaryDirectory(prefix="gate-") as room:
+        return run_gate(pathlib.Path(room), options)
+
+
+if __name__ == "__main__":
+    sys.exit(main())

@@ -1,0 +1,129 @@
+#!/usr/bin/env python3
+"""Checks what a change can have broken, and says what it leaves out. The gate alone (make test) is the verdict.
+
+    changed.py [--quick] [BASE]     BASE is main where it is left out: what was committed since, and what isn't committed yet
+
+- the form of the must-fail edits, the layout, the names in documents;
+- `rt check` in each crate that changed and, without --quick, in those above it: over the work that earlier checks kept;
+- without --quick: the must-fail edits of the crates that the record (tests/gate/refused.sums) doesn't answer for, the tests
+  of the test crates that changed, and the Python tests of the folders that changed.
+
+--quick is what takes less than five minutes after a small change, once the crates below have been checked before.
+"""
+
+import argparse
+import pathlib
+import subprocess
+import sys
+
+sys.dont_write_bytecode = True
+
+import joint
+import kit
+import record
+
+ROOT = pathlib.Path(__file__).resolve().parent.parent.parent
+SUMS = ROOT / "tests" / "gate" / "refused.sums"
+FORMS = sorted(it.name for it in (ROOT / "tests").glob("*.py") if it.name in ("documents.py", "edits.py", "layout.py", "refusals.py"))
+TEST_CRATES = ("shb_run_tests", "shb_tests")
+# Which folders' changes are tested by which tests, all on the built program.
+SUITES = {
+    "tests": ("tests/", "view/", "plain/", "examples/", "crates/"),
+    "recorder/tests": ("recorder/",),
+    "farm/tests": ("farm/",),
+    "install/tests": ("install/", "Makefile"),
+}
+
+
+def git(*words):
+    return subprocess.run(["git", "-C", ROOT, *words], capture_output=True, check=True, text=True).stdout
+
+
+def files_since(base):
+    """The files that differ from where the branch left the base, with those that aren't committed."""
+    since = git("merge-base", base, "HEAD").strip()
+    return {*git("diff", "--name-only", since).split("\n"), *git("ls-files", "-o", "--exclude-standard").split("\n")} - {""}
+
+
+def crates_in(files, known, parts=("src/", "specs/", "proofs/")):
+    """The crates in which a file of some parts changed."""
+    split = (file.split("/", 2) for file in files if file.startswith("crates/"))
+    return {it[1] for it in split if len(it) == 3 and it[1] in known and it[2].startswith(parts)}
+
+
+class Steps:
+    """The steps that were run, and those that failed."""
+
+    def __init__(self):
+        self.passed, self.failed = 0, []
+
+    def note(self, what, is_well):
+        print(f"{what}: {'passed' if is_well else 'FAILED'}", flush=True)
+        self.passed += is_well
+        self.failed += [what] * (not is_well)
+
+    def run(self, what, words, cwd=ROOT):
+        """Runs a command, whose output is shown where it fails."""
+        ran = subprocess.run(words, cwd=cwd, stdin=subprocess.DEVNULL, stdout=subprocess.PIPE, stderr=subprocess.STDOUT)
+        if ran.returncode:
+            print(ran.stdout.decode(errors="replace"), end="")
+        self.note(what, ran.returncode == 0)
+        return ran.returncode == 0
+
+
+def try_edits(steps, layers, known):
+    """Tries the edits of the crates that the record doesn't answer for, over the libraries that checks left."""
+    sums = record.read(SUMS)
+    stale = [it for it in known if layers.edits(it) and layers.state(it, kit.identity()) != sums.get(it)]
+    print(f"the record doesn't answer for the edits of {len(stale)} crates: {' '.join(stale) or 'none'}")
+    for name in stale:
+        if steps.run(f"rt lib {name}", ["rt", "lib"], ROOT / "crates" / name):
+            for is_refused, text in joint.tried(kit.crates_of(ROOT)[name], layers.edits(name)):
+                steps.note(text, is_refused)
+
+
+def run_suites(steps, files):
+    """Runs the Python tests of the folders that changed, on the program if it is built. Those that it leaves out."""
+    wanted = [suite for suite, heads in SUITES.items() if any(it.startswith(heads) for it in files)]
+    program = next((it for it in (ROOT / "crates/shb/out/shb", ROOT / "bin/shb") if it.exists()), None)
+    if program is None:
+        return [*SUITES] if wanted else []
+    for suite in wanted:
+        steps.run(f"{suite} on {program.relative_to(ROOT)}", [sys.executable, f"{suite}/run.py", str(program)])
+    return [it for it in SUITES if it not in wanted]
+
+
+def check_change(base, is_quick):
+    steps, files, layers = Steps(), files_since(base), record.Layers(ROOT)
+    changed = crates_in(files, layers.uses)
+    to_check = [it for it in layers.above(changed) if it in changed or not is_quick]
+    left_out = ["the proofs of the other crates, which stand on nothing that changed", "a tenth of the edits that the record answers for"]
+    for name in FORMS:
+        steps.run(f"tests/{name}", [sys.executable, f"tests/{name}"])
+    for name in to_check:
+        if name not in TEST_CRATES:
+            steps.run(f"rt check {name}", ["rt", "check"], ROOT / "crates" / name)
+    if is_quick:
+        left_out += ["the crates above those that changed", "all must-fail edits", "the tests of the crates and of the folders"]
+    else:
+        try_edits(steps, layers, layers.above({*layers.uses}))
+        for name in TEST_CRATES:
+            if name in changed:
+                steps.run(f"rt test {name}", ["rt", "test"], ROOT / "crates" / name)
+        left_out += [f"the tests of {it}, which didn't change" for it in TEST_CRATES if it not in changed]
+        left_out += run_suites(steps, files)
+    print("left out: " + "; ".join(left_out))
+    print(f"{steps.passed} passed, {len(steps.failed)} failed")
+    return 1 if steps.failed else 0
+
+
+def main():
+    parser = argparse.ArgumentParser(description=__doc__.splitlines()[0])
+    parser.add_argument("--quick", action="store_true")
+    parser.add_argument("base", nargs="?", default="main")
+    options = parser.parse_args()
+    return check_change(options.base, options.quick)
+
+
+if __name__ == "__main__":
+    sys.exit(main())

@@ -1,0 +1,199 @@
+"""How the gate tries must-fail edits and what its record answers for, with a checker that is made up."""
+
+import pathlib
+import sys
+import tempfile
+import types
+import unittest
+from unittest import mock
+
+sys.path.insert(0, str(pathlib.Path(__file__).resolve().parent / "gate"))
+
+import changed
+import joint
+import kit
+import record
+
+CODE = """//! Two functions.
+
+/// One more.
+pub fn first(n: u8) -> u8
+    requires { n < 255 }
+    ensures { result ≡ n + 1 }
+{
+    n + 1
+}
+
+impl Pair {
+    /// The second.
+    pub fn second(&self) -> u8
+        ensures { result ≡ self.now.second }
+    {
+        self.second
+    }
+}
+"""
+FIRST = "file: src/lib.rt\nold:     n + 1\nnew:     n\n"
+SECOND = "file: src/lib.rt\nold:         self.second\nnew:         self.first\n"
+LEFT = "file: src/lib.rt\nold:     n + 1\nnew:     1 + n\n"
+
+
+class Edits(unittest.TestCase):
+    """Each test has a crate `low` with the functions `first` and `Pair::second`, and says what the checker answers."""
+
+    def setUp(self):
+        room = tempfile.TemporaryDirectory()
+        self.addCleanup(room.cleanup)
+        self.folder = pathlib.Path(room.name)
+        (self.folder / "src").mkdir()
+        (self.folder / "src/lib.rt").write_text(CODE)
+        self.crate = types.SimpleNamespace(name="low", folder=str(self.folder))
+        self.checks, self.alone = [], []
+
+    def edit(self, name, text):
+        path = self.folder / f"{name}.edit"
+        path.write_text(text)
+        return path
+
+    def tried(self, edits, *answers):
+        """What the gate says of some edits, where the checks of the crate answer so, one after the other."""
+        left = iter(answers)
+
+        def check(_crate, texts, functions, _kept):
+            self.checks.append((texts["src/lib.rt"], {*functions}))
+            return next(left)
+
+        def try_alone(_crate, edit):
+            self.alone.append(edit.name)
+            return False, f"must-fail low/{edit.name}: NOT REFUSED"
+
+        fakes = {"check": check, "try_alone": try_alone, "functions_of": lambda _: {"first", "Pair::second"}}
+        with mock.patch.multiple(kit, **fakes):
+            return {said.split("/")[1].split(":")[0]: is_refused for is_refused, said in joint.tried(self.crate, edits)}
+
+    def test_two_functions_are_one_check(self):
+        edits = [self.edit("first.same", FIRST), self.edit("second.other", SECOND)]
+        said = "fn low::first: not proved\nfn low::Pair::second: no proof: expected answers in proofs/x\nlogic=not-proved"
+        self.assertEqual(self.tried(edits, (1, said)), {"first.same.edit": True, "second.other.edit": True})
+        self.assertEqual([functions for _, functions in self.checks], [{"first", "Pair::second"}])
+        self.assertIn("    n\n", self.checks[0][0])
+        self.assertIn("self.first", self.checks[0][0])
+        self.assertEqual(self.alone, [])
+
+    def test_two_edits_of_a_function_are_two_checks(self):
+        edits = [self.edit("first.left", LEFT), self.edit("first.same", FIRST)]
+        self.tried(edits, (1, "fn low::first: not proved; it calls low::f\n"), (1, "fn low::first: not proved\n"))
+        self.assertEqual([functions for _, functions in self.checks], [{"first"}, {"first"}])
+        self.assertEqual(self.alone, [])
+
+    def test_proved_edit_fails(self):
+        edits = [self.edit("first.left", LEFT), self.edit("second.other", SECOND)]
+        said = "fn low::first: proved\nfn low::Pair::second: not proved\n"
+        told = self.tried(edits, (1, said), (0, "fn low::first: proved\n"))
+        self.assertEqual(told, {"first.left.edit": False, "second.other.edit": True})
+        self.assertEqual(self.alone, ["first.left.edit"])
+
+    def test_refused_for_a_callee_alone_is_tried_again(self):
+        edits = [self.edit("first.same", FIRST), self.edit("second.other", SECOND)]
+        said = "fn low::first: not proved\nfn low::Pair::second: no proof: it calls low::first, which is not proved\n"
+        told = self.tried(edits, (1, said), (1, "fn low::Pair::second: not proved\n"))
+        self.assertEqual(told, {"first.same.edit": True, "second.other.edit": True})
+        self.assertEqual([functions for _, functions in self.checks], [{"first", "Pair::second"}, {"Pair::second"}])
+
+    def test_refusal_of_another_function_says_nothing(self):
+        said = "fn low::first: not proved\nfn low::third: not proved\n"
+        self.assertEqual(self.tried([self.edit("first.same", FIRST)], (1, said)), {"first.same.edit": False})
+
+    def test_empty_answers_and_checks_that_die_say_nothing(self):
+        for status, said in ((0, ""), (1, ""), (2, "fn low::first: not proved\n"), (-9, "fn low::first: not proved\n"), (3, "")):
+            with self.subTest(status=status, said=said):
+                self.alone = []
+                self.assertEqual(self.tried([self.edit("first.same", FIRST)], (status, said)), {"first.same.edit": False})
+                self.assertEqual(self.alone, ["first.same.edit"])
+
+    def test_unread_text_says_nothing(self):
+        said = "src/lib.rt:8:5: error: `m` is not in scope\nfn low::first: not proved\n"
+        self.assertEqual(self.tried([self.edit("first.same", FIRST)], (1, said)), {"first.same.edit": False})
+
+    def test_edit_that_does_not_apply_is_tried_alone(self):
+        for name, text in (("old.gone", "file: src/lib.rt\nold: n + 2\nnew: n\n"), ("file.gone", "file: src/no.rt\nold: n\nnew: m\n")):
+            with self.subTest(name):
+                self.alone = []
+                self.assertEqual(self.tried([self.edit(name, text)]), {f"{name}.edit": False})
+                self.assertEqual(self.alone, [f"{name}.edit"])
+
+
+class Records(unittest.TestCase):
+    """A repository of two crates, the upper of which has an edit."""
+
+    def setUp(self):
+        room = tempfile.TemporaryDirectory()
+        self.addCleanup(room.cleanup)
+        self.root = pathlib.Path(room.name)
+        (self.root / "crates.txt").write_text("low:\nhigh: low indexmap   # a crate of the kit\n")
+        self.write("crates/low/src/lib.rt", CODE)
+        self.write("crates/low/specs/Lib.antt", "-- none\n")
+        self.write("crates/low/proofs/Lemmas.antt", "lemma a\n")
+        self.write("crates/low/proofs/first/Answers.antt", "answer\n")
+        self.write("crates/high/src/lib.rt", "//! High.\n")
+        self.write("crates/high/must-fail/f.wrong.edit", FIRST)
+        self.before = self.state()
+
+    def write(self, path, text):
+        file = self.root / path
+        file.parent.mkdir(parents=True, exist_ok=True)
+        file.write_text(text)
+
+    def state(self, kit_line="kit 1"):
+        return record.Layers(self.root).state("high", kit_line)
+
+    def test_bodies_proofs_and_comments_below_change_nothing(self):
+        self.write("crates/low/src/lib.rt", CODE.replace("    n + 1\n}", "    1 + n\n}").replace("/// One more.", "/// Two."))
+        self.write("crates/low/proofs/first/Answers.antt", "another answer\n")
+        self.assertEqual(self.state(), self.before)
+
+    def test_everything_else_changes_the_sum(self):
+        for path, text in (
+            ("crates/low/src/lib.rt", CODE.replace("result ≡ n + 1", "result ≡ n")),
+            ("crates/low/src/lib.rt", CODE.replace("n < 255", "n < 254")),
+            ("crates/low/specs/Lib.antt", "a : ℕ\n"),
+            ("crates/low/proofs/Lemmas.antt", "lemma b\n"),
+            ("crates/high/src/lib.rt", "//! High.\nfn f() {}\n"),
+            ("crates/high/proofs/f/Answers.antt", "answer\n"),
+            ("crates/high/must-fail/f.wrong.edit", LEFT),
+            ("crates/high/must-fail/g.planted.edit", LEFT),
+            ("crates.txt", "low:\nhigh: low\n"),
+        ):
+            with self.subTest(path=path, text=text):
+                file = self.root / path
+                old = file.read_text() if file.exists() else None
+                self.write(path, text)
+                self.assertNotEqual(self.state(), self.before)
+                if old is None:
+                    file.unlink()
+                else:
+                    file.write_text(old)
+        self.assertEqual(self.state(), self.before)
+        self.assertNotEqual(self.state("kit 2"), self.before)
+
+    def test_about_a_tenth_is_drawn_and_each_commit_draws_others(self):
+        edits = [self.root / "crates" / "high" / "must-fail" / f"f.{number}.edit" for number in range(1000)]
+        drawn = [{edit for edit in edits if record.is_drawn(commit, edit)} for commit in ("a", "b")]
+        self.assertTrue(all(60 < len(it) < 140 for it in drawn))
+        self.assertNotEqual(*drawn)
+
+    def test_a_record_is_read_as_written(self):
+        path = self.root / "sums"
+        self.assertEqual(record.read(path), {})
+        record.write(path, {"low": "1", "high": "2"})
+        self.assertEqual(record.read(path), {"low": "1", "high": "2"})
+
+    def test_a_change_names_the_crates_above(self):
+        layers = record.Layers(self.root)
+        files = {"crates/low/src/lib.rt", "crates/high/must-fail/f.wrong.edit", "docs/x.md", "crates/none/src/lib.rt"}
+        self.assertEqual(changed.crates_in(files, layers.uses), {"low"})
+        self.assertEqual(layers.above({"low"}), ["low", "high"])
+
+
+if __name__ == "__main__":
+    unittest.main()
