@@ -77,7 +77,7 @@ def main():
         wrong[named.get(name, name)] = line
     for path, why in wrong.items():
         print(f"{path}: {why}")
-    print(f"{len(edits) - len(wrong)} passed, {len(wrong)} failed")
+    print(f"{len({*edits} - {*wrong})} passed, {len(wrong)} failed")
     return 1 if wrong or not edits else 0
 
 
