@@ -1,4 +1,4 @@
-"""The commands of the README, with what it shows of them."""
+"""The commands of farm/README.md, with what it shows of them."""
 
 import re
 import shutil
@@ -6,7 +6,7 @@ import subprocess
 
 import farm
 
-README = farm.TOP / "README.md"
+README = farm.TOP / "farm" / "README.md"
 COMMAND = "    $ "
 
 

@@ -57,10 +57,10 @@ def glibc_of(tree):
 
 
 def proved_text(tree, name, commit, seconds):
-    """What was proved, by the README's section of that name, and by which commit."""
-    readme = (TOP / "README.md").read_text()
-    section = re.search(r"^## What is proved\n.*?(?=^## |\Z)", readme, re.M | re.S)[0]
-    kit = KIT.search(readme)[1]
+    """What was proved, by the section of that name in docs/GUARANTEES.md, and by which commit."""
+    guarantees = (TOP / "docs/GUARANTEES.md").read_text()
+    section = re.search(r"^## What is proved\n.*?(?=^## |\Z)", guarantees, re.M | re.S)[0]
+    kit = KIT.search((TOP / "README.md").read_text())[1]
     checksum = hashlib.sha256((tree / "bin/shb").read_bytes()).hexdigest()
     return PROVED.format(version=name, commit=commit, date=day(seconds), checksum=checksum, kit=kit, glibc=glibc_of(tree),
                          section=section)

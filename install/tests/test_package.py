@@ -59,14 +59,14 @@ class Package(installing.Case):
         self.assertRegex(installing.dist(copy).name, r"^shb-2026\.01\.02-[0-9a-f]{12}-changed-x86_64-linux\.tar\.xz$")
 
     def test_the_commands_of_the_readme(self):
-        """Those of the part on the package, in an empty folder with the package, without an environment."""
+        """Those of the part on the package and of the table of commands, in an empty folder with the package, without an environment."""
         shutil.copy(installing.packaged()[1], self.folder)
         text = README.read_text()
         shown = re.search(r"^((?:    .*\n)*    tar -xf shb-\*.*\n(?:    .*\n)*)", text, re.M)[1]
-        use = re.search(r"^## Use\n(.*?)^## ", text, re.M | re.S)[1]
-        more = re.findall(r"^    (bin/shb (?:races|places|check) .*)$", use, re.M)
+        more = re.findall(r"^\| `(shb (?:races|places|check) [^`]*)` \|", text, re.M)
         self.assertGreaterEqual(len(more), 3)
-        script = shown + "cp share/doc/shb/examples/places.std app.std\n" + "\n".join(more) + "\n"
+        commands = "".join(f"bin/{command}\n" for command in more)
+        script = shown + "cp share/doc/shb/examples/places.std app.std\n" + commands
         said = call("/bin/sh", "-e", "-c", script, cwd=self.folder, env={})
         self.assertIn("\nat worker.c:3\nand start.c:6\n", said)
         self.assertIn("\nplaces 3\n", said)
