@@ -20,27 +20,37 @@ OWN = "tests/documents.py"  # its texts name what isn't there
 
 # Words of the outside world that no file of the repository has, by where they come from.
 OUTSIDE = {
-    "words and messages of rt": "holes incremental lemma nearest proposition",
+    "words and messages of rt": "dac8208d650f15bf holes incremental lemma nearest proposition rattle start_lib tidy",
+    "a file of rt's template": "BUILD bazel",
     "modules and words of the kit's library": "IsOk Mem le_bytes Display",
-    "commands and packages of Linux": "chroot debootstrap minbase nice pbzip2 zstd",
+    "commands and packages of Linux": "chroot debootstrap minbase nice pbzip2 poppler python3 utils zstd",
+    "messages and options of Slurm, and a package of Python": "Duplicate jobid night python om",
+    "options of gcc": "func instrument lubsan param",
+    "names of ThreadSanitizer's that the recorder leaves out": "__interceptor_* __sanitizer_syscall_pre_* _post_*",
+    "others of these, and one that it makes by macros": "__tsan_default_suppressions __tsan_read4_pc",
+    "an instruction, and a descriptor": "popcnt fd5",
 }
 
-# Folders and files that commands make, by the command.
+# Files and folders that commands make, and files of the reader's own.
 MADE = {
     "make build": "bin",
-    "rt": "out",
-    "make install": "bin lib share",
+    "make recorder, make install": "bin lib share",
     "make dist": "PROVED.md",
+    "make test-all": "refused.sums",
+    "rt": "out",
+    "shb-record, shb-farm": "runN.PROCESS.std places.txt",
+    "the reader's own": "app.std app.report file.c",
 }
 
 IS_OUTSIDE = {word for words in OUTSIDE.values() for word in words.split()}
 IS_MADE = {name for names in MADE.values() for name in names.split()}
 
 WORD = re.compile(r"[^\W\d]\w+")
+STARRED = re.compile(r"(?<![\w*])(?:[^\W\d]|\*\w)[\w*]+")
 QUOTED = re.compile(r"(`+)(.+?)\1", re.S)
 LINK = re.compile(r"\[[^\]]*\]\(([^)\s]+)\)")
 HEADING = re.compile(r"^#+ +(.*)$", re.M)
-BLOCK = re.compile(r"^```.*?^```$|(?:^(?: {4}|\t).*\n)+", re.M | re.S)
+BLOCK = re.compile(r"^```[\s\S]*?^```$|(?:^(?: {4}|\t)[^\n]*\n)+", re.M)
 COMMIT = re.compile(r"(?=[a-f]*\d)[0-9a-f]{7,40}")
 PLACEHOLDER = re.compile(r"\b(?:DIR|F|FILE|FOLDER|M|N|NAME|PROCESS|VERSION|WHAT)\b|\{[^}]*\}")
 SUFFIXES = ("antt", "c", "cc", "css", "edit", "h", "js", "md", "png", "py", "report", "rt", "sh", "std", "sums", "txt")
@@ -76,10 +86,15 @@ class Repository:
         if parts[0] == "crates" and len(parts) > 2:
             self.of_crate.setdefault(parts[1], set()).update(found)
 
+    def has_word(self, word):
+        """Whether a word occurs, perhaps as the name of a test, or one that it stands for with its stars."""
+        is_known = word in self.words or "test_" + word in self.words or word in IS_OUTSIDE
+        return is_known or ("*" in word and any(fnmatch.fnmatchcase(known, word) for known in self.words))
+
     def has_path(self, path, document):
         """Whether a file or folder has this path: from the top, from the document's folder, or as its end."""
         bare = path.rstrip("/")
-        if bare.split("/")[0] in IS_MADE:
+        if not IS_MADE.isdisjoint(bare.split("/")):
             return True
         wanted = PLACEHOLDER.sub("*", bare)
         if "*" not in wanted:
@@ -90,11 +105,12 @@ class Repository:
 
 
 def paths_in(quoted):
-    """What stands for a file or folder in a text in back quotes, and the rest of the text."""
+    """What stands for a file or folder in a text in back quotes, and the rest of the text. Rattle.a.b is a module."""
     found, rest = [], []
     for word in quoted.split():
         bare = word.strip("'\",;:()").partition(":")[0]
-        is_path = NAMES_FILE.fullmatch(bare.rpartition("/")[2]) or re.fullmatch(r"[\w.*{}<>-]+(/[\w.*{},<>-]*)+", bare)
+        has_slash = re.fullmatch(r"[\w.*{}<>-]+(/[\w.*{},<>-]*)+", bare)
+        is_path = has_slash or (NAMES_FILE.fullmatch(bare) and not bare.startswith("Rattle."))
         (found if is_path else rest).append(bare if is_path else word)
     return found, " ".join(rest)
 
@@ -105,8 +121,7 @@ def faults_of_quoted(repository, document, quoted):
         return [] if repository.has_commit(quoted) else [f"no commit before this one: {quoted}"]
     paths, rest = paths_in(quoted)
     faults = [f"no file or folder: {path}" for path in paths if not repository.has_path(path, document)]
-    known = repository.words | IS_OUTSIDE
-    faults += [f"no such word: {word}" for word in WORD.findall(rest) if word not in known]
+    faults += [f"no such word: {word}" for word in STARRED.findall(rest) if not repository.has_word(word)]
     for crate, path in re.findall(r"\b(\w+)::([\w:]+)", rest):
         has = repository.of_crate.get(crate)
         faults += [f"not in {crate}: {word}" for word in WORD.findall(path) if has is not None and word not in has]
@@ -166,11 +181,17 @@ def faults_of(repository, document):
 # Texts in which a fault has to be found, and texts in which none is, in a repository of the two files below.
 FILES = {"crates/one/src/read.rt": "fn read_all() {}\n\n", "crates/two/src/list.rt": "fn list_all() {}\n",
          "docs/A.md": "# The first one\n"}
-PLANTED = ("`read_some`", "`one::list_all`", "`src/write.rt`", "`write.rt`", "see crates/three/src", "`docs/B.md`",
-           "`docs/OTHER.md`", "[one](docs/B.md)", "[a](docs/A.md#second)", "`abcdef1`", "`src/read.rt` (3 lines)", "| `one/src/read.rt` | 1 |", "1 files, 3 lines:\n\n| `one/src/read.rt` | 2 |\n",
-           "    crates/three/src\n")
-RIGHT = ("`read_all`", "`one::read_all`", "`src/read.rt`", "`crates/NAME/src/*.rt`", "[one](docs/A.md#the-first-one)", "`1234567`",
-         "`src/read.rt` (2 lines)", "1 files, 2 lines:\n\n| `one/src/read.rt` | 2 |\n", "    read_some crates/two/src\n", "[x](https://x.y/z)")
+PLANTED = (
+    "`read_some`", "`read_some*`", "`one::list_all`", "`src/write.rt`", "`write.rt`", "see crates/three/src", "`docs/B.md`",
+    "`docs/OTHER.md`", "[one](docs/B.md)", "[a](docs/A.md#second)", "`abcdef1`", "`src/read.rt` (3 lines)",
+    "| `one/src/read.rt` | 1 |", "1 files, 3 lines:\n\n| `one/src/read.rt` | 2 |\n", "    crates/three/src\n",
+    "    read_some\n\n`read_some`", "```\nread_some\n```\n\n`read_some`",
+)
+RIGHT = (
+    "`read_all`", "`read_a*`", "`*_all`", "`one::read_all`", "`src/read.rt`", "`crates/NAME/src/*.rt`",
+    "[one](docs/A.md#the-first-one)", "`1234567`", "`src/read.rt` (2 lines)", "[x](https://x.y/z)",
+    "1 files, 2 lines:\n\n| `one/src/read.rt` | 2 |\n", "    read_some crates/two/src\n", "```\nread_some\n```\n",
+)
 
 
 def failed_tests():
