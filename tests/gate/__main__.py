@@ -1,9 +1,10 @@
 """The gate's longest part: every proof from nothing, the must-fail edits, and the tests of the program beside them.
 
-    python3 tests/gate [--all] [--record] [--room FOLDER]
+    python3 tests/gate [--all] [--record] [--room FOLDER] [--steps LOG]
         --all     tries every edit, and not those alone that the record asks for
         --record  writes tests/gate/refused.sums where nothing failed
         --room    works in this empty folder and leaves it, with the built program in crates/shb/out/shb
+        --steps   writes what each check costs (steps.py)
 
 `rt ci` proves the crates and their tests in a copy of the repository that has no must-fail edits. As soon as a crate is
 proved its edits are tried over the libraries that are built by then (joint.py), those that the record (record.py) doesn't
@@ -29,6 +30,7 @@ sys.dont_write_bytecode = True
 import joint
 import kit
 import record
+import steps
 
 ROOT = pathlib.Path(__file__).resolve().parent.parent.parent
 SUMS = ROOT / "tests" / "gate" / "refused.sums"
@@ -128,11 +130,11 @@ def run_suites(program):
         yield folder, ran.returncode, ran.stdout.decode(errors="replace")
 
 
-def prove(room, edits, pool, count):
+def prove(room, command, edits, pool, count):
     """Runs `rt ci` in the room, and begins what waits for its steps. Gives the results of the suites, once they are there."""
     suites, last, began = None, "", time.monotonic()
     how = {"stdout": subprocess.PIPE, "text": True, "errors": "replace", "env": {**os.environ, "PYTHONUNBUFFERED": "1"}}
-    with subprocess.Popen(["rt", "ci"], cwd=room, stdin=subprocess.DEVNULL, **how) as proofs:
+    with subprocess.Popen(command, cwd=room, stdin=subprocess.DEVNULL, **how) as proofs:
         for line in proofs.stdout:
             print(line, end="", flush=True)
             last = line if line.strip() else last
@@ -149,9 +151,13 @@ def prove(room, edits, pool, count):
 def run_gate(room, options):
     count, began = Count(), time.monotonic()
     copy_without_edits(room)
+    command = ["rt", "ci"]
+    if options.steps:
+        command = [sys.executable, str(ROOT / "tests/gate/steps.py"), options.steps]
+        subprocess.Popen = steps.measured(options.steps, "edits")
     edits = Edits(room, options.all)
     with concurrent.futures.ThreadPoolExecutor(1) as pool:
-        suites = prove(room, edits, pool, count)
+        suites = prove(room, command, edits, pool, count)
         edits.ended(count)
         if suites is None:
             count.add(0, 1)
@@ -173,6 +179,7 @@ def main():
     parser.add_argument("--all", action="store_true")
     parser.add_argument("--record", action="store_true")
     parser.add_argument("--room", type=pathlib.Path)
+    parser.add_argument("--steps", type=os.path.abspath)
     options = parser.parse_args()
     if options.room:
         return run_gate(options.room.resolve(), options)
