@@ -1,6 +1,6 @@
-# Two commands: `make run` builds the program and runs it, `make test` runs what the gate runs.
+# `make` alone says what can be made. Times are on four cores of 2.5 GHz.
 
-.PHONY: build run test test-all changed quick end-to-end recorder install uninstall dist bench
+.PHONY: help build run test test-all changed quick end-to-end recorder install uninstall dist bench
 
 PREFIX = /usr/local
 DESTDIR =
@@ -10,6 +10,28 @@ SHB = bin/shb
 SOURCES = crates.txt HANDLES $(shell find crates -path '*/out' -prune -o -path '*/must-fail' -prune \
 	-o -path "crates/shb_*tests" -prune -o -path crates/shb_orders -prune \
 	-o -type f -print)
+
+define HELP
+make build              proves and builds bin/shb                              half an hour; needs the Rattle kit
+make run                the same, and runs it on an example
+make recorder           builds what records C and C++ programs                 seconds
+make install            builds bin/shb if it isn't built, and installs it:     seconds beside the build
+     PREFIX=/usr/local  commands, manual pages, completions, recorder
+make uninstall PREFIX=/usr/local
+make dist               makes the package of the commit                        seconds beside the build
+make quick BASE=main    checks a part of what a change can have broken         minutes
+make changed BASE=main  checks all that a change can have broken               minutes to an hour
+make test               what a merge must pass                                 docs/GATE.md
+make test-all           the same with every must-fail edit                     docs/GATE.md
+make end-to-end         tests the built program                                minutes
+make bench              measures the built program                             minutes
+
+SHB=PATH names a program that is built already: then install and dist need no kit.
+endef
+
+help:
+	$(info $(HELP))
+	@:
 
 # Proves and builds the program where a source is newer than it.
 build: bin/shb
@@ -43,15 +65,20 @@ end-to-end: build
 recorder:
 	$(MAKE) -C recorder
 
-# Puts the commands, manual pages, completions and examples below PREFIX, and takes them away again. SHB is the built program.
-install: $(SHB)
+# A program that SHB names isn't built here; its path may have blanks.
+ifeq ($(SHB),bin/shb)
+install dist: bin/shb
+endif
+
+# Puts the commands, manual pages, completions and examples below PREFIX, and takes them away again.
+install:
 	install/install --shb "$(SHB)" --prefix "$(PREFIX)" --destdir "$(DESTDIR)" install
 
 uninstall:
 	install/install --prefix "$(PREFIX)" --destdir "$(DESTDIR)" uninstall
 
 # Makes shb-VERSION-x86_64-linux.tar.xz for machines without the kit.
-dist: $(SHB)
+dist:
 	install/install --shb "$(SHB)" dist
 
 # Run by hand: it times the built program and prints ratios.

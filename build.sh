@@ -5,6 +5,20 @@
 # in its folder (CONTRIBUTING.md).
 set -eu
 cd "$(dirname "$0")"
+
+# The logic that the proofs are for. Kits of other names have it too.
+logic=dac8208d650f15bf
+if ! command -v rt > /dev/null; then
+    echo "build.sh: rt isn't on the PATH. It is in the folder bin of the Rattle kit, which proves and builds shb." >&2
+    echo "A package needs no kit; neither does 'make install SHB=PATH' with a program that is built already (README.md)." >&2
+    exit 1
+fi
+kit=$(rt version)
+if [ "${kit##* }" != "$logic" ]; then
+    echo "build.sh: the kit on the PATH is '$kit', and the proofs are for logic $logic: put a kit with this logic first on the PATH." >&2
+    exit 1
+fi
+
 room=$(mktemp -d)
 trap 'rm -rf "$room"' EXIT
 grep -vE '^shb_(run_tests|tests|orders)[ :]' crates.txt > "$room/crates.txt"

@@ -135,16 +135,16 @@ exec REAL "$@"
         self.assertEqual((answer.status, answer.err.decode()), (2, f"shb-view: {said}\n"))
 
     def test_where_it_finds_its_parts(self):
-        """In a checkout ../bin/shb; installed the package in ../lib/shb and ../bin/shb, also by a link."""
-        for command, package in (("top/view/shb-view", "top/view/shb_view"), ("usr/bin/shb-view", "usr/lib/shb/shb_view")):
-            command, package = self.folder / command, self.folder / package
-            shutil.copytree(VIEW / "shb_view", package, ignore=shutil.ignore_patterns("__pycache__"))
-            command.parent.mkdir(exist_ok=True, parents=True)
+        """In a checkout ../bin/shb; installed all packages beside it and ../../bin/shb, also by a link."""
+        for name, command, common in (("checkout", "view/shb-view", "common"), ("prefix", "lib/shb/shb-view", "lib/shb")):
+            top = self.folder / name
+            command = top / command
+            for package, place in ((VIEW / "shb_view", command.parent), (VIEW.parent / "common/shb_common", top / common)):
+                shutil.copytree(package, place / package.name, ignore=shutil.ignore_patterns("__pycache__"))
             shutil.copy(VIEW / "shb-view", command)
-            bin_folder = command.parent.parent / "bin"
-            bin_folder.mkdir(exist_ok=True)
-            (bin_folder / "shb").symlink_to(program.PATH)
-            link = self.folder / f"link-{command.parent.name}"
+            (top / "bin").mkdir()
+            (top / "bin/shb").symlink_to(program.PATH)
+            link = self.folder / f"link-{name}"
             link.symlink_to(command)
             environment = {key: value for key, value in os.environ.items() if key != "SHB"}
             for path in (command, link):

@@ -14,7 +14,7 @@ import shb
 
 VIEW = program.HERE.parent / "view"
 EXAMPLES = program.HERE.parent / "examples"
-sys.path.insert(0, str(VIEW))
+sys.path[:0] = [str(VIEW), str(VIEW.parent / "common")]
 
 from shb_view import command, progress, view
 from shb_view.analyser import Verdict

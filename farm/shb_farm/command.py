@@ -11,6 +11,7 @@ import time
 import traceback
 import typing
 
+from shb_common.version import with_version
 from shb_farm import engines, files, limits, merging, passes, tables
 from shb_farm.known import BadLine, Known
 
@@ -69,7 +70,7 @@ class Parser(argparse.ArgumentParser):
 
 
 def arguments(words):
-    parser = Parser(prog="shb-farm", description=ABOUT, epilog=NOTES, formatter_class=argparse.RawDescriptionHelpFormatter)
+    parser = Parser(prog="shb-farm", description=ABOUT, epilog=with_version(NOTES), formatter_class=argparse.RawDescriptionHelpFormatter)
     parser.add_argument("--known", metavar="FILE", help="places to pass over")
     parser.add_argument("--engine", choices=sorted(engines.ENGINES), default="xargs",
                         help="xargs: this machine (the default); slurm: a job array on a cluster whose nodes see the same folders")

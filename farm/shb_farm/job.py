@@ -12,7 +12,8 @@ import os
 import pathlib
 import sys
 
-sys.path.insert(0, str(pathlib.Path(__file__).resolve().parents[1]))
+HOME = pathlib.Path(__file__).resolve().parents[1]
+sys.path[:0] = [str(HOME), str(HOME.parent / "common")]     # installed, all packages are in the first
 
 from shb_farm import files, outcomes, passes, reports, running
 

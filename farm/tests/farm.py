@@ -54,9 +54,10 @@ class Case(unittest.TestCase):
         return path
 
     def run_alone(self):
-        """Runs a copy of the command from now on. No other part of the checkout is beside it, so a recorder that was built isn't."""
+        """Runs a copy of the command from now on. Of the checkout nothing but the common part is beside it, so a recorder that was built isn't."""
         self.command = self.folder / "alone" / "farm" / "shb-farm"
-        shutil.copytree(HERE.parent, self.command.parent, ignore=shutil.ignore_patterns("tests", "__pycache__"))
+        for folder in (HERE.parent, TOP / "common"):
+            shutil.copytree(folder, self.folder / "alone" / folder.name, ignore=shutil.ignore_patterns("tests", "__pycache__"))
         put_program(HERE.parent / "shb-farm", self.command)
 
     def script(self, name, text):

@@ -113,7 +113,7 @@ class Tables(farm.Case):
 
     def test_a_fault_of_the_farm_itself_is_no_unknown_place(self):
         script = "import sys\nfrom shb_farm import command\ncommand.run = None\nsys.exit(command.main(sys.argv[1:]))"
-        ran = subprocess.run([sys.executable, "-c", script, *self.words()[2:]], env=self.environment(PYTHONPATH=farm.HERE.parent),
+        ran = subprocess.run([sys.executable, "-c", script, *self.words()[2:]], env=self.environment(PYTHONPATH=f"{farm.HERE.parent}:{farm.TOP}/common"),
                              stdout=subprocess.PIPE, stderr=subprocess.PIPE, timeout=farm.SECONDS)
         self.assertEqual((ran.returncode, ran.stdout), (4, b""))
         self.assertTrue(ran.stderr.startswith(b"shb-farm: Traceback "), ran.stderr)
@@ -192,12 +192,13 @@ class Names(farm.Case):
 
 class Installed(farm.Case):
     def test_a_copy_finds_its_parts(self):
-        """Beside `bin/` as in a checkout, and below `lib/` as installed, also through a link to the command."""
+        """Beside `bin/` as in a checkout, and below `lib/` as installed, through a link to the command."""
         self.trace("race.std", RACE)
         here = farm.HERE.parent
-        for root, command, package in (("checkout", "farm/shb-farm", "farm/shb_farm"), ("prefix", "bin/shb-farm", "lib/shb/shb_farm")):
+        for root, command, common in (("checkout", "farm/shb-farm", "common"), ("prefix", "lib/shb/shb-farm", "lib/shb")):
             root = self.folder / root
-            shutil.copytree(here / "shb_farm", root / package)
+            shutil.copytree(here / "shb_farm", root / command.replace("-", "_"))
+            shutil.copytree(here.parent / "common/shb_common", root / common / "shb_common")
             for name, source in ((command, here / "shb-farm"), ("bin/shb", farm.SHB)):
                 (root / name).parent.mkdir(parents=True, exist_ok=True)
                 farm.put_program(source, root / name)

@@ -3,26 +3,32 @@
 import argparse
 import os
 import pathlib
-import shutil
+import subprocess
+import sys
 import tempfile
 
-from shb_install import package, tree
+from shb_install import machine, package, placing, sources, tree
+from shb_install.faults import Refused, words_of
 
-LISTED = "lib/shb/installed"        # the files of an installation and the folders that it made, for `uninstall`
-FOLDER = "/"                        # the last sign of a line that names a folder
+EPILOG = """\
+Exit status: 0; 1 if it can't be done, with the reason. Then an older installation stays as it was, or is listed so that
+installing again goes on and uninstalling leaves nothing."""
 
 
 def arguments(words):
-    parser = argparse.ArgumentParser(prog="install", description=__doc__)
-    parser.add_argument("--shb", type=pathlib.Path, default=tree.TOP / "bin" / "shb", help="the built program (%(default)s)")
+    parser = argparse.ArgumentParser(prog="install", description=__doc__, epilog=EPILOG)
+    parser.add_argument("--shb", type=pathlib.Path, default=sources.TOP / "bin" / "shb", help="the built program (%(default)s)")
     parser.add_argument("--prefix", default="/usr/local", help="where the commands will be used (%(default)s)")
     parser.add_argument("--destdir", default="", help="a folder to install below, as packagers need it")
-    parser.add_argument("--out", type=pathlib.Path, default=tree.TOP, help="with dist: the folder for the package (%(default)s)")
+    parser.add_argument("--out", type=pathlib.Path, default=sources.TOP, help="with dist: the folder for the package (%(default)s)")
     parser.add_argument("what", choices=("install", "uninstall", "dist"))
     return parser.parse_args(words)
 
 
 def prefix_of(options):
+    """The absolute path of the prefix."""
+    if not options.prefix:
+        raise Refused("the prefix is empty; PREFIX=/ installs in /bin, /lib and /share")
     return os.path.abspath(os.path.expanduser(options.prefix))
 
 
@@ -32,60 +38,54 @@ def place_of(options):
 
 
 def install(options):
-    """Makes the tree elsewhere, takes an older installation away, and copies the new one."""
-    place = place_of(options)
-    name, _, seconds = package.version()
+    place, prefix = place_of(options), prefix_of(options)
+    machine.check(options.shb)
+    name, _, seconds = sources.version()
     with tempfile.TemporaryDirectory() as room:
         made = pathlib.Path(room)
-        tree.make(made, options.shb, prefix_of(options), f"{prefix_of(options)}/lib/shb/libtsan.so", name, package.day(seconds))
-        uninstall(options)
-        files = tree.files_in(made)
-        folders = missing_folders(place, [*files, LISTED])
-        for file in files:
-            tree.install(made / file, place / file)
-    (place / LISTED).write_text("".join(f"{line}\n" for line in [*files, LISTED, *(folder + FOLDER for folder in folders)]))
+        tree.make(made, options.shb, prefix, f"{prefix}/lib/shb/libtsan.so", sources.listed(), name, sources.day(seconds))
+        placing.install(made, place)
     print(f"installed in {place}")
 
 
-def missing_folders(place, files):
-    """The folders that these files need and that aren't there yet, the prefix among them, as paths from it; the innermost first."""
-    folders = {folder for file in files for folder in (place / file).parents}
-    missing = sorted((folder for folder in folders if not folder.exists()), reverse=True)
-    return [os.path.relpath(folder, place) for folder in missing]
-
-
 def uninstall(options):
-    """Deletes what the last installation has put there, and of the folders that it has made those that are empty then."""
     place = place_of(options)
-    if not (place / LISTED).exists():
-        return
-    lines = (place / LISTED).read_text().splitlines()
-    for name in lines:
-        if not name.endswith(FOLDER) and os.path.lexists(place / name):
-            (place / name).unlink()
-    for name in tree.OWN:
-        shutil.rmtree(place / name, ignore_errors=True)     # Python's compiled modules, too
-    for name in lines:
-        folder = pathlib.Path(os.path.normpath(place / name))
-        if name.endswith(FOLDER) and folder.is_dir() and not any(folder.iterdir()):
-            folder.rmdir()
+    was_there = placing.uninstall(place)
+    print(f"uninstalled from {place}" if was_there else f"nothing is installed in {place}: there is no {place / placing.LISTED}")
 
 
 def dist(options):
-    name, commit, seconds = package.version()
+    """Makes the package, of the commit alone."""
+    files, changed = sources.listed(), sources.changed()
+    if changed:
+        raise Refused(f"a package is made of a commit, and these files are changed since: {', '.join(changed)}")
+    machine.check(options.shb)
+    name, commit, seconds = sources.version()
     top = f"shb-{name}-x86_64-linux"
     with tempfile.TemporaryDirectory() as room:
         made = pathlib.Path(room)
-        tree.make(made, options.shb, "PREFIX", "libtsan.so.2", name, package.day(seconds))
+        tree.make(made, options.shb, "PREFIX", "libtsan.so.2", files, name, sources.day(seconds))
         (made / "share/doc/shb/PROVED.md").write_text(package.proved_text(made, name, commit, seconds))
         content = package.archive(made, top, seconds)
     path = options.out / f"{top}.tar.xz"
-    path.write_bytes(content)
+    package.put(path, content)
     print(path)
 
 
 def main(words):
+    """Does what the words ask for; gives the status."""
     options = arguments(words)
     os.umask(0o022)
-    {"install": install, "uninstall": uninstall, "dist": dist}[options.what](options)
-    return 0
+    try:
+        {"install": install, "uninstall": uninstall, "dist": dist}[options.what](options)
+        return 0
+    except Refused as refused:
+        said = str(refused)
+    except OSError as fault:
+        said = words_of(fault)
+    except subprocess.CalledProcessError as fault:
+        said = f"{fault.cmd[0]} ended with status {fault.returncode}"
+    except KeyboardInterrupt:
+        said = "stopped"
+    print(f"install: {said}", file=sys.stderr)
+    return 1

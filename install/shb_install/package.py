@@ -4,66 +4,36 @@ import hashlib
 import io
 import lzma
 import os
-import pathlib
 import re
-import subprocess
 import tarfile
-import time
+import tempfile
 
-from shb_install.tree import TOP, files_in
+from shb_install import machine
+from shb_install.placing import files_in
+from shb_install.sources import TOP, day
 
-KIT = re.compile(r"`rt version` must say `([^`]*)`")
+LOGIC = re.compile(r"^logic=([0-9a-f]+)$", re.M)    # in build.sh
 PROVED = """\
 # shb {version}
 
 Made from commit {commit} of {date}. `bin/shb` (SHA-256 {checksum}) was built
-by the Rattle kit ({kit}), which builds a crate only after all its proofs passed.
-The other commands aren't part of what is proved.
+by the Rattle kit (logic {logic}), which builds a crate only after all its proofs passed.
+The other commands aren't part of what is proved. [docs/GUARANTEES.md](docs/GUARANTEES.md) says what is proved,
+and on what it rests.
 
-The commands need Linux on x86-64 with glibc {glibc} or later: this is the highest version of a symbol that
-they ask for. shb-farm and shb-view need Python 3.8 or later too, shb-record and shb-std also gcc and binutils.
-
-{section}"""
-
-
-def git(*words):
-    return subprocess.run(["git", "-C", TOP, *words], stdout=subprocess.PIPE, check=True).stdout.decode().strip()
-
-
-def version():
-    """The day of the last commit and its name, with a word where files were changed since; and the commit's time."""
-    try:
-        commit, seconds = git("log", "-1", "--format=%H %ct").split()
-        is_changed = bool(git("status", "--porcelain", "--untracked-files=no"))
-    except (subprocess.CalledProcessError, FileNotFoundError, ValueError):
-        return "unknown", "unknown", 0
-    return f"{day(int(seconds)).replace('-', '.')}-{commit[:12]}" + ("-changed" if is_changed else ""), commit, int(seconds)
-
-
-def day(seconds):
-    return time.strftime("%Y-%m-%d", time.gmtime(seconds))
-
-
-def glibc_of(tree):
-    """The lowest glibc that has all symbols that the files of a tree ask for."""
-    found = {(2, 0)}
-    for name in files_in(tree):
-        path = tree / name
-        if path.is_symlink() or path.read_bytes()[:4] != b"\x7fELF":
-            continue
-        listed = subprocess.run(["objdump", "-p", path], stdout=subprocess.PIPE, check=True).stdout.decode()
-        found |= {tuple(map(int, number.split("."))) for number in re.findall(r"GLIBC_([0-9.]+)", listed)}
-    return ".".join(map(str, max(found)))
+The commands need Linux on x86-64, a processor of level x86-64-v{level} or higher, and glibc {glibc} or later: these are the
+highest level and the highest version of a symbol that their files ask for. shb-farm and shb-view need Python 3.8 or later too,
+shb-record also gcc and binutils.
+"""
 
 
 def proved_text(tree, name, commit, seconds):
-    """What was proved, by the section of that name in docs/GUARANTEES.md, and by which commit."""
-    guarantees = (TOP / "docs/GUARANTEES.md").read_text()
-    section = re.search(r"^## What is proved\n.*?(?=^## |\Z)", guarantees, re.M | re.S)[0]
-    kit = KIT.search((TOP / "README.md").read_text())[1]
+    """By which commit and kit the program was proved, and what the commands need."""
+    logic = LOGIC.search((TOP / "build.sh").read_text())[1]
     checksum = hashlib.sha256((tree / "bin/shb").read_bytes()).hexdigest()
-    return PROVED.format(version=name, commit=commit, date=day(seconds), checksum=checksum, kit=kit, glibc=glibc_of(tree),
-                         section=section)
+    paths = [tree / name for name in files_in(tree)]
+    return PROVED.format(version=name, commit=commit, date=day(seconds), checksum=checksum, logic=logic,
+                         level=machine.level_of(paths), glibc=machine.glibc_of(paths))
 
 
 def archive(tree, top, seconds):
@@ -87,3 +57,12 @@ def archive(tree, top, seconds):
                 entry.size, entry.mode = len(content), 0o755 if os.access(path, os.X_OK) else 0o644
                 tar.addfile(entry, io.BytesIO(content))
     return lzma.compress(packed.getvalue(), preset=9)
+
+
+def put(path, content):
+    """Writes a file that is whole or not there."""
+    with tempfile.TemporaryDirectory(dir=path.parent) as room:
+        new = os.path.join(room, "new")
+        with open(new, "xb") as file:
+            file.write(content)
+        os.replace(new, path)

@@ -1,4 +1,4 @@
-"""The tree that is installed: commands, their parts, manual pages, completions, examples."""
+"""The tree that is installed: commands, their parts, manual pages, completions, documents, examples."""
 
 import os
 import pathlib
@@ -7,52 +7,53 @@ import subprocess
 import tempfile
 
 from shb_install import completions, helptext, manual
+from shb_install.faults import Refused
+from shb_install.sources import TOP
 
-TOP = pathlib.Path(__file__).resolve().parents[2]
-FOLDERS = ("recorder", "view", "farm")      # where commands (shb-NAME) and their packages (shb_NAME) are, beside the program
-OWN = ("lib/shb", "share/doc/shb")          # folders that are nobody else's
-SHARED = ("bin", "share/man/man1", "share/bash-completion/completions", "share/zsh/site-functions",
+FOLDERS = ("recorder", "view", "farm", "common")      # where commands (shb-NAME) and packages (shb_NAME) are, beside the program
+HOME = "lib/shb"                            # commands stand there beside their packages, as in the checkout; links lead to them
+DOCUMENTS = ("README.md", "CONTRIBUTING.md", "recorder/README.md", "farm/README.md", "install/README.md")
+DOCUMENT_FOLDERS = ("docs/", "examples/")
+PLACES = ("bin", HOME, "share/doc/shb", "share/man/man1", "share/bash-completion/completions", "share/zsh/site-functions",
           "share/fish/vendor_completions.d")
-DOCUMENTS = ("README.md", "CONTRIBUTING.md", "docs/*", "recorder/README.md", "farm/README.md", "install/README.md",
-             "examples/*")
 COMPLETIONS = ((completions.bash, "share/bash-completion/completions/{}"), (completions.zsh, "share/zsh/site-functions/_{}"),
                (completions.fish, "share/fish/vendor_completions.d/{}.fish"))
 RECORDER_FLAGS = "-O2 -Wall -Wextra -Wno-unused-parameter"  # as in its Makefile without -g, which names folders
 
 
-def make(tree, shb, prefix, library, version, date):
+def make(tree, shb, prefix, library, files, version, date):
     """Makes the whole tree in an empty folder. `shb` is the built program, `prefix` what texts call the folder, `library` the
-    path under which programs that were linked with the recorder's library look for it."""
-    for folder in (*OWN, *SHARED):
+    path under which programs that were linked with the recorder's library look for it, `files` those of the checkout that may
+    go in."""
+    for folder in PLACES:
         (tree / folder).mkdir(parents=True)
-    install(shb, tree / "bin" / "shb")
+    copy(shb, tree / "bin" / "shb")
+    (tree / HOME / "VERSION").write_text(version + "\n")
     with tempfile.TemporaryDirectory() as room:
-        for folder in built(pathlib.Path(room), library):
-            put_commands(folder, tree)
-    put_documents(tree / "share/doc/shb")
-    (tree / "share/doc/shb/VERSION").write_text(version + "\n")
+        parts = pathlib.Path(room)
+        for name in files:
+            if name.startswith(tuple(f"{folder}/" for folder in FOLDERS)):
+                copy(TOP / name, parts / name)
+        build_recorder(parts / "recorder", library, version)
+        for folder in FOLDERS:
+            put_commands(parts / folder, tree)
+    for name in files:
+        if name in DOCUMENTS or name.startswith(DOCUMENT_FOLDERS):
+            copy(TOP / name, tree / "share/doc/shb" / name)
     helps = helps_of(tree, prefix)
     put_manual(tree, helps, version, date)
     put_completions(tree, helps)
 
 
-def put_documents(folder):
-    """The README, what it points to, and the examples, so that its links hold."""
-    for name in DOCUMENTS:
-        for source in sorted(TOP.glob(name)):
-            install(source, folder / source.relative_to(TOP))
+def build_recorder(folder, library, version):
+    """Compiles the recorder where its sources are."""
+    flags = f"{RECORDER_FLAGS} -DSHB_VERSION='\"{version}\"'"
+    ran = subprocess.run(["make", "-s", "-C", folder, f"CFLAGS={flags}", f"SONAME={library}"])
+    if ran.returncode:
+        raise Refused(f"the recorder can't be built: make ended with status {ran.returncode}; it needs gcc and binutils")
 
 
-def built(room, library):
-    """The folders with commands, the recorder built in a copy."""
-    copy = room / "recorder"
-    shutil.copytree(TOP / "recorder", copy, ignore=shutil.ignore_patterns("tests", "__pycache__"))
-    subprocess.run(["make", "-s", "-C", copy, "clean"], check=True)
-    subprocess.run(["make", "-s", "-C", copy, f"CFLAGS={RECORDER_FLAGS}", f"SONAME={library}"], check=True)
-    return [copy, TOP / "view", TOP / "farm"]
-
-
-def install(source, place):
+def copy(source, place):
     """Copies a file, executable if the source is, or a link."""
     place.parent.mkdir(parents=True, exist_ok=True)
     if source.is_symlink():
@@ -63,31 +64,37 @@ def install(source, place):
 
 
 def put_commands(folder, tree):
+    """Puts the commands of a folder, their packages and the recorder's library together, with links to the commands in bin."""
+    home = tree / HOME
     for source in sorted(folder.glob("shb-*")):
-        if source.is_file():
-            install(source, tree / "bin" / source.name)
+        copy(source, home / source.name)
+        (tree / "bin" / source.name).symlink_to(os.path.relpath(home / source.name, tree / "bin"))
     for package in sorted(folder.glob("shb_*")):
-        shutil.copytree(package, tree / "lib/shb" / package.name, ignore=shutil.ignore_patterns("__pycache__"))
+        shutil.copytree(package, home / package.name)
     for source in sorted((folder / "lib").glob("*")):
-        install(source, tree / "lib/shb" / source.name)
+        copy(source, home / source.name)
 
 
 def helps_of(tree, prefix):
-    """The help of each command and subcommand, by its words; none of one that gives no help."""
+    """The help of each command and subcommand, by its words."""
     helps = {}
     for command in sorted(path.name for path in (tree / "bin").iterdir()):
         helps.update(read_help(tree, prefix, [command]))
-        for sub in helps[command].commands if command in helps else ():
+        for sub in helps[command].commands:
             helps.update(read_help(tree, prefix, [command, sub]))
     return helps
 
 
 def read_help(tree, prefix, words):
+    """The help of a command, by its words. It refuses where a command can't be run on this machine."""
     environment = {"PATH": os.environ.get("PATH", os.defpath), "COLUMNS": "80", "LC_ALL": "C.UTF-8", "PYTHONDONTWRITEBYTECODE": "1"}
     ran = subprocess.run([tree / "bin" / words[0], *words[1:], "--help"], env=environment, stdin=subprocess.DEVNULL,
                          stdout=subprocess.PIPE, stderr=subprocess.PIPE)
+    if ran.returncode:
+        said = ran.stderr.decode(errors="replace").strip()
+        raise Refused(f"`{' '.join(words)} --help` ended with status {ran.returncode} on this machine: {said}")
     text = ran.stdout.decode().replace(str(tree), prefix)
-    return {" ".join(words): helptext.parse(" ".join(words), text)} if ran.returncode == 0 and text else {}
+    return {" ".join(words): helptext.parse(" ".join(words), text)}
 
 
 def put_manual(tree, helps, version, date):
@@ -103,8 +110,3 @@ def put_completions(tree, helps):
         for make_text, place in COMPLETIONS if " " not in words else ():
             (tree / place.format(words)).write_text(make_text(help_, helps))
 
-
-def files_in(tree):
-    """All files and links of a tree, by their paths below it, sorted."""
-    found = [path.relative_to(tree) for path in tree.rglob("*") if path.is_symlink() or path.is_file()]
-    return sorted(str(path) for path in found)

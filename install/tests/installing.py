@@ -14,7 +14,7 @@ HERE = pathlib.Path(__file__).resolve().parent
 TOP = HERE.parents[1]
 SHB = TOP / "crates" / "shb" / "out" / "shb"
 SECONDS = 120
-PARTS = ("Makefile", "README.md", "CONTRIBUTING.md", "docs", "examples", "farm", "install", "recorder", "view")
+PARTS = ("Makefile", "build.sh", "README.md", "CONTRIBUTING.md", "docs", "examples", "common", "farm", "install", "recorder", "view")
 
 
 def call(*words, **how):
@@ -29,7 +29,7 @@ def call(*words, **how):
 
 def copy_of_repository(folder):
     """A repository of one commit with what is installed, as it is here now."""
-    ignore = shutil.ignore_patterns("lib", "shb-std", "tests", "__pycache__")
+    ignore = shutil.ignore_patterns("lib", "shb-std", "shb-windows", "tests", "__pycache__")
     folder.mkdir(parents=True)
     for name in PARTS:
         source = TOP / name

@@ -16,7 +16,7 @@ WANTED = ([f"bin/{name}" for name in COMMANDS]
           + [f"share/zsh/site-functions/_{name}" for name in WITH_HELP]
           + [f"share/fish/vendor_completions.d/{name}.fish" for name in WITH_HELP]
           + ["lib/shb/libtsan.so", "lib/shb/libtsan.so.0", "lib/shb/libtsan.so.2", "lib/shb/libtsan_preinit.o", "lib/shb/shb_farm/job.py",
-             "lib/shb/shb_view/page.css", "share/doc/shb/README.md", "share/doc/shb/VERSION", "share/doc/shb/docs/GUARANTEES.md",
+             "lib/shb/shb_view/page.css", "lib/shb/VERSION", "share/doc/shb/README.md", "share/doc/shb/docs/GUARANTEES.md",
              "share/doc/shb/examples/fork-join.std"])
 SHARED = ("bin/shb", "share/man/man1/shb", "share/bash-completion/completions/shb", "share/zsh/site-functions/_shb",
           "share/fish/vendor_completions.d/shb")
@@ -39,10 +39,39 @@ class Tree(installing.Case):
             wanted = (0o755,) if path.is_dir() or path.parent.name == "bin" else (0o644, 0o755)
             self.assertIn(mode, wanted, path)
 
-    def test_the_links_of_the_readme_hold(self):
+    def test_the_links_of_documents_hold(self):
         folder = self.prefix / "share/doc/shb"
-        for name in re.findall(r"\]\(([^)#:]+)\)", (folder / "README.md").read_text()):
-            self.assertTrue((folder / name).exists(), name)
+        links = [(path, name) for path in folder.rglob("*.md") for name in re.findall(r"\]\(([^)#:]+)[)#]", path.read_text())]
+        self.assertGreater(len(links), 10)
+        self.assertEqual([f"{path.relative_to(folder)}: {name}" for path, name in links if not (path.parent / name).exists()], [])
+
+    def test_the_last_line_of_a_help_is_the_version(self):
+        version = (self.prefix / "lib/shb/VERSION").read_text()
+        self.assertRegex(version, r"^[0-9]{4}\.[0-9]{2}\.[0-9]{2}-[0-9a-f]{12}(-changed)?\n$")
+        for command in COMMANDS:
+            if command != "shb":
+                self.assertTrue(call(self.prefix / "bin" / command, "--help").endswith(f"\n\nshb {version}"), command)
+
+    def test_a_bin_that_is_a_link_to_a_folder_elsewhere(self):
+        """Each command finds its parts by both paths, as where ~/.local/bin leads to ~/bin."""
+        prefix = self.folder / ".local"
+        prefix.mkdir()
+        (self.folder / "bin").mkdir()
+        (prefix / "bin").symlink_to("../bin")
+        call("make", "-s", "-C", TOP, "install", f"SHB={installing.SHB}", f"PREFIX={prefix}")
+        trace = self.folder / "traces" / "race.std"
+        trace.parent.mkdir()
+        trace.write_text(RACE)
+        for folder in (prefix / "bin", self.folder / "bin"):
+            call(folder / "shb-farm", trace.parent, self.folder / "out", status=1)
+            self.assertIn("b.c:2", call(folder / "shb-view", trace))
+            for command in COMMANDS:
+                call(folder / command, "--help")
+        program = self.folder / "account"
+        call("gcc", "-fsanitize=thread", "-g", TOP / "examples" / "account.c", "-o", program)
+        call(self.folder / "bin/shb-record", "-o", self.folder / "results", program, status=66)
+        call("make", "-s", "-C", TOP, "uninstall", f"PREFIX={prefix}")
+        self.assertEqual((list(prefix.iterdir()), list((self.folder / "bin").iterdir())), ([prefix / "bin"], []))
 
     def links(self):
         """A folder with links to all commands, as a user may have it."""
@@ -107,7 +136,7 @@ class Uninstalled(installing.Case):
         self.make("install", f"PREFIX={prefix}")
         compiled = prefix / "lib/shb/shb_farm/__pycache__"
         compiled.mkdir()
-        (compiled / "known.pyc").touch()
+        (compiled / "command.cpython-311.pyc").touch()
         self.make("uninstall", f"PREFIX={prefix}")
         self.assertEqual(list(prefix.iterdir()), [])
         self.make("uninstall", f"PREFIX={prefix}")      # nothing there is no fault
@@ -144,6 +173,37 @@ class Uninstalled(installing.Case):
         self.assertEqual((prefix / "bin/shb").read_bytes(), installing.SHB.read_bytes())
         self.make("uninstall", f"PREFIX={prefix}")
         self.assertEqual(list(self.folder.iterdir()), [])
+
+    def refused(self, *words):
+        """What make says that can't do it, without a traceback."""
+        ran = installing.subprocess.run(["make", "-s", "-C", TOP, *words], stdout=installing.subprocess.PIPE, stderr=installing.subprocess.PIPE)
+        said = ran.stderr.decode()
+        self.assertNotEqual(ran.returncode, 0, said)
+        self.assertNotIn("Traceback", said)
+        return next(line for line in said.splitlines() if line.startswith("install: "))
+
+    def test_what_cannot_be_done_is_said(self):
+        before = sorted(TOP.iterdir())
+        shb = f"SHB={installing.SHB}"
+        self.assertEqual(self.refused("install", shb, "PREFIX="), "install: the prefix is empty; PREFIX=/ installs in /bin, /lib and /share")
+        self.assertEqual(sorted(TOP.iterdir()), before)
+        (self.folder / "file").touch()
+        self.assertIn("Not a directory", self.refused("install", shb, f"PREFIX={self.folder}/file/prefix"))
+        self.assertIn("Not a directory", self.refused("uninstall", f"PREFIX={self.folder}/file/prefix"))
+        none = self.folder / "none"
+        self.assertIn(f"{none}: no such program;", self.refused("install", f"SHB={none}", f"PREFIX={self.folder}/prefix"))
+        self.assertIn("`shb --help` ended with status 1 on this machine", self.refused("install", "SHB=/bin/false", f"PREFIX={self.folder}/prefix"))
+        (self.folder / "prefix/bin").mkdir(parents=True)
+        (self.folder / "prefix/bin/shb").write_text("theirs")
+        self.assertIn("move them away first: bin/shb", self.refused("install", shb, f"PREFIX={self.folder}/prefix"))
+        self.assertEqual(contents(self.folder / "prefix"), {"bin/shb": b"theirs"})
+
+    def test_a_program_with_blanks_in_its_path(self):
+        program = self.folder / "a b" / "shb"
+        program.parent.mkdir()
+        shutil.copy(installing.SHB, program)
+        call("make", "-s", "-C", TOP, "install", f"SHB={program}", f"PREFIX={self.folder}/prefix")
+        self.assertEqual((self.folder / "prefix/bin/shb").read_bytes(), installing.SHB.read_bytes())
 
     def test_destdir(self):
         self.make("install", "PREFIX=/usr", f"DESTDIR={self.folder}/image")

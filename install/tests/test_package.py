@@ -3,12 +3,14 @@
 import os
 import re
 import shutil
+import sys
 import tarfile
 
 import installing
 from installing import TOP, call
 
 README = TOP / "README.md"
+LOGIC = re.search(r"^logic=([0-9a-f]{16})$", (TOP / "build.sh").read_text(), re.M)[1]
 COMMIT_DAY, COMMIT_TIME = "2026.01.02", 1767319445      # of copy_of_repository
 
 
@@ -36,10 +38,10 @@ class Package(installing.Case):
         self.assertEqual([member.name for member in members], sorted(member.name for member in members))
         self.assertEqual({member.name.split("/")[0] for member in members}, {top})
         self.assertEqual({(member.uid, member.gid, member.uname, member.mtime) for member in members}, {(0, 0, "root", COMMIT_TIME)})
-        self.assertEqual((unpacked / "share/doc/shb/VERSION").read_text(), f"{COMMIT_DAY}-{commit[:12]}\n")
+        self.assertEqual((unpacked / "lib/shb/VERSION").read_text(), f"{COMMIT_DAY}-{commit[:12]}\n")
         proved = (unpacked / "share/doc/shb/PROVED.md").read_text()
         checksum = call("sha256sum", installing.SHB).split()[0]
-        for wanted in (f"commit {commit} of 2026-01-02", checksum, "\n1. Each listed pair is a race, and its printed schedule shows it"):
+        for wanted in (f"commit {commit} of 2026-01-02", checksum, f"(logic {LOGIC})", "(docs/GUARANTEES.md)"):
             self.assertIn(wanted, proved)
 
     def test_the_glibc_is_the_highest_that_a_file_asks_for(self):
@@ -51,12 +53,55 @@ class Package(installing.Case):
         self.assertEqual(said, max(asked, key=lambda version: [int(part) for part in version.split(".")]))
         self.assertIn(f"glibc {said} or later", README.read_text())
 
-    def test_a_changed_file_is_said(self):
+    def test_the_processor_is_the_highest_that_a_file_asks_for(self):
+        unpacked = installing.packaged()[2]
+        self.assertIn("x86 ISA needed: x86-64-baseline, x86-64-v2\n", call("readelf", "-n", unpacked / "bin/shb"))
+        self.assertIn("level x86-64-v2 or higher", (unpacked / "share/doc/shb/PROVED.md").read_text())
+
+    def test_the_readme_says_what_is_needed(self):
+        for wanted in (f"`logic {LOGIC}`", "(x86-64-v2)"):
+            self.assertIn(wanted, README.read_text())
+
+    def clone(self):
         copy = self.folder / "copy"
         call("git", "clone", "-q", installing.packaged()[0], copy)
+        return copy
+
+    def refused(self, copy, **settings):
+        """What is said where no package is made."""
+        words = [sys.executable, "-B", copy / "install/install", "--shb", installing.SHB, "dist"]
+        ran = installing.subprocess.run(words, stdout=installing.subprocess.PIPE, stderr=installing.subprocess.PIPE, env={**os.environ, **settings})
+        self.assertEqual((ran.returncode, ran.stdout, list(copy.glob("*.tar.xz"))), (1, b"", []))
+        return ran.stderr.decode()
+
+    def test_files_that_are_not_of_the_commit_are_left_out(self):
+        copy = self.clone()
+        for name in ("docs/my-notes.txt", "examples/private.std", "view/shb_view/scratch.py", "recorder/runtime/mine.c", "farm/shb-mine",
+                     "common/shb_mine/part.py"):
+            (copy / name).parent.mkdir(exist_ok=True)
+            (copy / name).write_text("no C, no Python")
+        self.assertEqual(installing.dist(copy).read_bytes(), installing.packaged()[1].read_bytes())
+
+    def test_a_changed_file_is_refused(self):
+        copy = self.clone()
         with open(copy / "README.md", "a") as file:
             file.write("more\n")
-        self.assertRegex(installing.dist(copy).name, r"^shb-2026\.01\.02-[0-9a-f]{12}-changed-x86_64-linux\.tar\.xz$")
+        (copy / "examples/mine.std").touch()
+        call("git", "-C", copy, "add", "examples/mine.std")
+        (copy / "docs/DECISIONS.md").unlink()
+        self.assertEqual(self.refused(copy), "install: a package is made of a commit, and these files are changed since: README.md, "
+                                             "docs/DECISIONS.md, examples/mine.std\n")
+
+    def test_where_git_does_not_say_what_is_of_the_commit(self):
+        """A checkout of another owner, as git's own variable for tests has it; no git; a part of another checkout; no checkout."""
+        copy = self.clone()
+        settings = {"GIT_CONFIG_GLOBAL": "/dev/null", "GIT_CONFIG_NOSYSTEM": "1", "GIT_TEST_ASSUME_DIFFERENT_OWNER": "1"}
+        self.assertRegex(self.refused(copy, **settings), r"^install: git can't say which files .* dubious ownership .*safe\.directory")
+        self.assertEqual(self.refused(copy, PATH="/nowhere"), "install: git isn't installed; only git knows which files belong to the commit\n")
+        shutil.rmtree(copy / ".git")
+        self.assertIn("not a git repository", self.refused(copy, GIT_CEILING_DIRECTORIES=str(self.folder)))
+        call("git", "-C", self.folder, "init", "-q")
+        self.assertIn("isn't a checkout of its own", self.refused(copy))
 
     def test_the_commands_of_the_readme(self):
         """Those of the part on the package and of the table of commands, in an empty folder with the package, without an environment."""

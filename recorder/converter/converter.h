@@ -8,6 +8,13 @@ typedef uint64_t u64;
 typedef uint32_t u32;
 enum { THREADS = 65536 };
 
+/* The last line of a help text, after an empty one: what is installed. The installation defines it. */
+#ifdef SHB_VERSION
+#define VERSION_LINE "\nshb " SHB_VERSION "\n"
+#else
+#define VERSION_LINE ""
+#endif
+
 /* tables.c: arrays that grow, and maps from two words to a number from 1, in the order of asking. */
 typedef struct { u64 a, b; u32 value; } map_entry;
 typedef struct { map_entry *entries; u64 count, capacity; } map;

@@ -88,7 +88,7 @@ static const char help[] =
     "  -p             whole paths\n"
     "  -h, --help     this text\n"
     "\n"
-    "Exit status: 0; 2 nothing can be said; 3 the trace was written, and isn't the whole run.\n";
+    "Exit status: 0; 2 nothing can be said; 3 the trace was written, and isn't the whole run.\n" VERSION_LINE;
 
 static const char *windows_folder, *stacks_path;
 

@@ -37,8 +37,9 @@ def build_recorder(folder, *settings):
     copy = folder / "recorder"
     shutil.copytree(SOURCES, copy, ignore=shutil.ignore_patterns("lib", "shb-std", "shb-windows", "tests"))
     must(call("make", "-C", copy, *settings))
-    if not (folder / "view").exists():
-        (folder / "view").symlink_to(SOURCES.parent / "view")
+    for name in ("view", "common"):
+        if not (folder / name).exists():
+            (folder / name).symlink_to(SOURCES.parent / name)
     BUILT = BUILT or copy
     return copy
 

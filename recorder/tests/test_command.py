@@ -252,14 +252,16 @@ class Command(recorder.Case):
             self.assertTrue(out.startswith("usage: shb-record "))
 
     def test_installed(self):
-        """The commands in PREFIX/bin, the library in PREFIX/lib/shb."""
+        """All but shb in PREFIX/lib/shb, and links to the commands in PREFIX/bin."""
         prefix = self.folder / "prefix"
+        home = prefix / "lib" / "shb"
         (prefix / "bin").mkdir(parents=True)
-        (prefix / "lib").mkdir()
-        shutil.copytree(recorder.BUILT / "lib", prefix / "lib" / "shb", symlinks=True)
+        shutil.copytree(recorder.BUILT / "lib", home, symlinks=True)
+        shutil.copytree(recorder.SOURCES.parent / "common" / "shb_common", home / "shb_common")
         for name in ("shb-record", "shb-std"):
-            shutil.copy(recorder.BUILT / name, prefix / "bin")
+            shutil.copy(recorder.BUILT / name, home)
+        (prefix / "bin" / "shb-record").symlink_to("../lib/shb/shb-record")
         (prefix / "bin" / "shb").symlink_to(recorder.SHB)
-        (prefix / "bin" / "shb-view").symlink_to(recorder.SOURCES.parent / "view" / "shb-view")
+        (home / "shb-view").symlink_to(recorder.SOURCES.parent / "view" / "shb-view")
         status, _, said = self.record(self.program(), "0", "race", command=prefix / "bin" / "shb-record", SHB="")
         self.assertEqual((status, "status.c:9" in said), (66, True), said)

@@ -23,7 +23,7 @@ static const char help[] =
     "  -h, --help  this text\n"
     "\n"
     "Exit status: 0; 2 the trace is refused, as shb would refuse it; 3 the command line is refused;\n"
-    "4 a file can't be read or written.\n";
+    "4 a file can't be read or written.\n" VERSION_LINE;
 
 static const char *folder;
 static u64 most_events = SHB_EVENTS;

@@ -28,9 +28,9 @@ FORMS = sorted(it.name for it in (ROOT / "tests").glob("*.py") if it.name in ("d
 TEST_CRATES = ("shb_run_tests", "shb_tests")
 # Which folders' changes are tested by which tests, all on the built program.
 SUITES = {
-    "tests": ("tests/", "view/", "plain/", "examples/", "crates/"),
-    "recorder/tests": ("recorder/",),
-    "farm/tests": ("farm/",),
+    "tests": ("tests/", "view/", "common/", "plain/", "examples/", "crates/"),
+    "recorder/tests": ("recorder/", "view/", "common/"),
+    "farm/tests": ("farm/", "common/"),
     "install/tests": ("install/", "Makefile"),
 }
 

@@ -4,6 +4,7 @@ import argparse
 import os
 import sys
 
+from shb_common.version import with_version
 from shb_view import text
 from shb_view.faults import Refused
 from shb_view.names import shown
@@ -28,7 +29,7 @@ class Parser(argparse.ArgumentParser):
 
 
 def arguments(words, program):
-    parser = Parser(prog="shb-view", description=ABOUT, epilog=STATUS, formatter_class=argparse.RawDescriptionHelpFormatter)
+    parser = Parser(prog="shb-view", description=ABOUT, epilog=with_version(STATUS), formatter_class=argparse.RawDescriptionHelpFormatter)
     parser.add_argument("--html", metavar="PAGE", help="write a page to this file, not text to standard output")
     parser.add_argument("--source", metavar="DIR", action="append", default=[],
                         help="show lines of the source files below this folder; may be given again")

@@ -1,0 +1,1 @@
+"""What the commands written in Python share."""

@@ -1,0 +1,44 @@
+"""What belongs to the commit. git is asked for it, so nothing else of the folder is installed or packaged."""
+
+import pathlib
+import subprocess
+import time
+
+from shb_install.faults import Refused
+
+TOP = pathlib.Path(__file__).resolve().parents[2]
+
+
+def git(*words):
+    """What git says of this checkout; it refuses where git isn't there, or doesn't say it."""
+    try:
+        ran = subprocess.run(["git", "--no-optional-locks", "-C", TOP, *words], stdout=subprocess.PIPE, stderr=subprocess.PIPE)
+    except FileNotFoundError:
+        raise Refused("git isn't installed; only git knows which files belong to the commit") from None
+    if ran.returncode:
+        said = " ".join(ran.stderr.decode(errors="replace").split())
+        raise Refused(f"git can't say which files of {TOP} belong to the commit: {said}")
+    return ran.stdout.decode(errors="surrogateescape")
+
+
+def listed():
+    """The files that git has of this checkout, as paths below it. It refuses a folder that is only a part of a checkout."""
+    if git("rev-parse", "--show-cdup").strip():
+        raise Refused(f"{TOP} isn't a checkout of its own; only git knows which files belong to the commit")
+    return [name for name in git("ls-files", "-z").split("\0") if name]
+
+
+def changed():
+    """The files of the commit that are changed in this checkout, or were added since."""
+    return sorted(name for name in git("diff", "--name-only", "-z", "HEAD").split("\0") if name)
+
+
+def version():
+    """The day of the last commit and its name, with a word where files were changed since; the whole name; its time."""
+    commit, seconds = git("log", "-1", "--format=%H %ct").split()
+    name = f"{day(int(seconds)).replace('-', '.')}-{commit[:12]}"
+    return name + ("-changed" if changed() else ""), commit, int(seconds)
+
+
+def day(seconds):
+    return time.strftime("%Y-%m-%d", time.gmtime(seconds))
