@@ -1,12 +1,13 @@
 /* The record: a file that the run-time library writes and the converter reads.
 
    HEADER_BYTES of text: the magic line, "command WORD WORD..", and a line "LOW HIGH BASE PATH" (hexadecimal numbers) for
-   each module of code; at ENDED_AT how the recording ended: "whole", or the reason why it stopped before the program,
+   each module of code, in whose path LINE_END_IN_PATH stands for the end of a line; at ENDED_AT how the recording ended: "whole", or the reason why it stopped before the program,
    or nothing where the program was killed.
    Then records of 16 bytes in the order in which things happened, until one of zeros or the file's end. */
 #include <stdint.h>
 
 #define RECORD_MAGIC "shb-record 4\n"
+#define LINE_END_IN_PATH 1
 #define HEADER_BYTES 65536
 #define ENDED_BYTES 256
 #define ENDED_AT (HEADER_BYTES - ENDED_BYTES)

@@ -44,9 +44,16 @@ int is_for_object(u64 i);
 int acquires(u64 i), releases(u64 i);  /* of an atomic access or a fence */
 u64 accessed_bytes(u64 i);
 
+/* lines.c, sources.c: the source files of modules, and how they are named. */
+extern int whole_paths;
+void strip_folder(const char *folder); /* names of files below it are paths from it */
+void note_sources_of(const char *module);
+void note_source(const char *path);
+const char *source_name(const char *path);                   /* of one that was noted; it stands for good */
+int in_system(const char *path);       /* is it the system's or the compiler's? */
+
 /* names.c: modules, symbols, lines of code. */
 enum { NAME_BYTES = 1400, PLACE_BYTES = 1000, THREAD_BYTES = 80 };   /* shb takes lines of 4,096 bytes */
-extern int whole_paths;
 void read_modules(char *header);
 void note_caller(u64 caller);
 void find_places(void);                /* of all callers that were noted */

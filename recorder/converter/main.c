@@ -85,6 +85,8 @@ static const char help[] =
     "                 blocks allocated\n"
     "  -n EVENTS      at most so many events, of the trace or of each window (4194304)\n"
     "  -a             also what can't conflict\n"
+    "  --strip DIR    files below this folder are named by their paths from it; else a file is named by the\n"
+    "                 end of its path that no other file of the program has\n"
     "  -p             whole paths\n"
     "  -h, --help     this text\n"
     "\n"
@@ -96,6 +98,7 @@ static void bad_words(void) { die("bad command line; shb-std --help says more");
 
 static void read_words(int count, char **words) {
     static const struct option options[] = {{"windows", required_argument, 0, 'w'}, {"stacks", required_argument, 0, 's'},
+                                            {"strip", required_argument, 0, 'd'},
                                             {"help", no_argument, 0, 'h'}, {0, 0, 0, 0}};
     opterr = 0;
     for (int c; (c = getopt_long(count, words, "ahn:p", options, 0)) > 0;)
@@ -104,6 +107,7 @@ static void read_words(int count, char **words) {
             exit(0);
         } else if (c == 'w') windows_folder = optarg;
         else if (c == 's') stacks_path = optarg;
+        else if (c == 'd') strip_folder(optarg);
         else if (c == 'a') whole_trace = 1;
         else if (c == 'p') whole_paths = 1;
         else if (c != 'n' || !(event_limit = strtoull(optarg, 0, 10))) bad_words();

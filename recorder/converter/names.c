@@ -1,4 +1,8 @@
 /* Names: of variables by `nm`, of lines of code by `addr2line`.  Without these tools addresses stand in their place. */
+#define _GNU_SOURCE
+#include <errno.h>
+#include <fcntl.h>
+#include <spawn.h>
 #include <stdio.h>
 #include <stdlib.h>
 #include <string.h>
@@ -10,7 +14,6 @@ enum { MAX_MODULES = 512, LINE_BYTES = 8192 };
 typedef struct { u64 at, size; char *name; int twice; } symbol;
 typedef struct { u64 low, high, base; char *path; symbol *symbols; u64 count; int read; } module;
 
-int whole_paths;
 static module modules[MAX_MODULES];
 static int module_count;
 static map callers;
@@ -34,18 +37,33 @@ static char *copy(const char *text) {
     return p;
 }
 
-static FILE *run_tool(const char *words, const char *path, const char *rest) {
-    char command[LINE_BYTES + 600];
-    if (strchr(path, '\'') || *path == '-') return 0;        /* a record may come from anywhere */
-    snprintf(command, sizeof command, "%s '%s' %s 2>/dev/null", words, path, rest);
-    return popen(command, "r");
+/* A program of binutils that writes to `output`, from the input that it gets. */
+typedef struct { FILE *output; pid_t process; } tool;
+
+static tool run_tool(const char *const *words, int input) {
+    static int said;
+    int ends[2], null = open("/dev/null", O_RDWR | O_CLOEXEC);
+    posix_spawn_file_actions_t files;
+    tool t = {0, 0};
+    if (null < 0 || pipe2(ends, O_CLOEXEC) || posix_spawn_file_actions_init(&files)) die("cannot run %s: %s", *words, strerror(errno));
+    posix_spawn_file_actions_adddup2(&files, input < 0 ? null : input, 0);
+    posix_spawn_file_actions_adddup2(&files, ends[1], 1);
+    posix_spawn_file_actions_adddup2(&files, null, 2);
+    int failed = posix_spawnp(&t.process, *words, &files, 0, (char *const *)words, environ);
+    posix_spawn_file_actions_destroy(&files);
+    close(ends[1]);
+    close(null);
+    if (failed) {
+        t.process = 0;
+        if (!said++) fprintf(stderr, "shb-std: %s (of binutils) cannot be run: names and places are addresses\n", *words);
+    }
+    t.output = fdopen(ends[0], "r");
+    return t;
 }
 
-static void end_tool(FILE *f) {
-    static int said;
-    int status = pclose(f);
-    if (WIFEXITED(status) && WEXITSTATUS(status) == 127 && !said++)
-        fprintf(stderr, "shb-std: nm and addr2line (binutils) are missing: names and places are addresses\n");
+static void end_tool(tool t) {
+    fclose(t.output);
+    if (t.process) waitpid(t.process, 0, 0);
 }
 
 void read_modules(char *header) {
@@ -55,6 +73,8 @@ void read_modules(char *header) {
         int path = 0;
         if (sscanf(line, "%lx %lx %lx %n", &m->low, &m->high, &m->base, &path) < 3 || !path) continue;
         m->path = copy(line + path);
+        for (char *p = m->path; *p; p++)
+            if (*p == LINE_END_IN_PATH) *p = '\n';
         module_count++;
     }
 }
@@ -80,8 +100,9 @@ static void read_symbols(module *m) {
     u64 capacity = 0, at, size;
     int name = 0;
     m->read = 1;
-    FILE *f = run_tool("nm -C -S --defined-only", m->path, "");
-    while (f && fgets(line, sizeof line, f)) {
+    const char *const words[] = {"nm", "-C", "-S", "--defined-only", "--", m->path, 0};
+    tool nm = run_tool(words, -1);
+    while (fgets(line, sizeof line, nm.output)) {
         int sized = strlen(line) > 18 && line[18] != ' ';    /* else the type stands where the size would */
         if (!sized || sscanf(line, "%lx %lx %c %n", &at, &size, &type, &name) < 3) continue;
         if (!strchr("bBdDrRuVgGsStTwWi", type)) continue;
@@ -89,7 +110,7 @@ static void read_symbols(module *m) {
         GROW(m->symbols, m->count, capacity);
         m->symbols[m->count++] = (symbol){at + m->base, size, copy(cleaned(line + name)), 0};
     }
-    if (f) end_tool(f);
+    end_tool(nm);
     if (m->count) qsort(m->symbols, m->count, sizeof *m->symbols, by_address);
     mark_doubles(m);
 }
@@ -105,9 +126,15 @@ static symbol *symbol_at(module *m, u64 address) {
     return low && address < m->symbols[low - 1].at + m->symbols[low - 1].size ? &m->symbols[low - 1] : 0;
 }
 
+/* A module's name. */
 static const char *leaf(const char *path) {
     const char *slash = strrchr(path, '/');
     return slash && !whole_paths ? slash + 1 : path;
+}
+
+static int is_recorder(const module *m) {
+    const char *slash = strrchr(m->path, '/');
+    return slash && !strncmp(slash, "/libtsan.so", 11);
 }
 
 const char *function_name(u64 address, char *buffer, size_t size) {
@@ -163,40 +190,73 @@ static int write_addresses(FILE *f, module *m, const map *all) {
     return count > 0;
 }
 
-static int in_system(const char *path) { return !strncmp(path, "/usr/", 5) || !strncmp(path, "/lib", 4); }
+static int is_address(const char *line) {
+    return !strncmp(line, "0x", 2) && strspn(line + 2, "0123456789abcdef") == 16 && line[18] == '\n';
+}
 
-/* Of inlined code addr2line gives several lines: the first outside /usr/ stands, else the first. */
+/* Reads on to the end of a place that begins with this line, as "path:12 (discriminator 3)", and cuts what is behind its number.
+   The path may have any byte. */
+static void read_place(FILE *f, char *place) {
+    size_t count = strlen(place);
+    char *colon;
+    while ((!(colon = strrchr(place, ':')) || !strchr("0123456789?", colon[1])) && fgets(place + count, LINE_BYTES - count, f))
+        count += strlen(place + count);
+    if (colon) colon[1 + strcspn(colon + 1, " \n")] = 0;
+}
+
+static int has_line(const char *place) {
+    const char *colon = strrchr(place, ':');
+    return colon && strncmp(place, "??:", 3) && strtoul(colon + 1, 0, 10);
+}
+
+static void note_file_of(char *place) {
+    char *colon = strrchr(place, ':');
+    *colon = 0;
+    note_source(place);
+    *colon = ':';
+}
+
+/* "path:12", with the path as sources are named. */
+static char *location_of(const char *place) {
+    const char *colon = strrchr(place, ':');
+    char *path = copy(place), text[2 * LINE_BYTES];
+    path[colon - place] = 0;
+    int length = snprintf(text, sizeof text, "%s%s", source_name(path), colon);
+    free(path);
+    return copy(cleaned(length > PLACE_BYTES ? text + length - PLACE_BYTES : text));
+}
+
+/* Of inlined code addr2line gives several lines: the first outside of the system's headers stands, else the first. */
 static void read_places(FILE *f, module *m) {
     char line[LINE_BYTES];
     u32 number = 0;
     while (fgets(line, sizeof line, f)) {
-        if (!strncmp(line, "0x", 2)) {
+        if (is_address(line)) {
             number = map_find(&callers, strtoull(line, 0, 16) + m->base + 1, 0);
             continue;
         }
-        line[strcspn(line, " (\n")] = 0;
-        char *colon = strrchr(line, ':');
-        if (!number || !colon || line[0] == '?' || colon[1] == '?' || colon[1] == '0') continue;
+        read_place(f, line);
+        if (!number || !has_line(line)) continue;
         char **place = &places[number].text;
-        if (!*place || (in_system(*place) && !in_system(line))) *place = copy(cleaned(line));
+        if (*place && (!in_system(*place) || in_system(line))) continue;
+        *place = copy(line);
+        note_file_of(line);
     }
 }
 
 /* Has addr2line tell of those of the addresses that lie in a module. */
-static void ask(module *m, const map *all, const char *options, void (*read)(FILE *, module *)) {
-    char name[] = P_tmpdir "/shb-std-XXXXXX", rest[100];
-    int descriptor = mkstemp(name);
-    FILE *addresses = descriptor < 0 ? 0 : fdopen(descriptor, "w");
-    if (!addresses) die("cannot write to " P_tmpdir);
-    int some = write_addresses(addresses, m, all);
-    if (fclose(addresses)) die("cannot write to " P_tmpdir);
-    snprintf(rest, sizeof rest, "%s < %s", options, name);
-    FILE *f = some ? run_tool("addr2line -e", m->path, rest) : 0;
-    if (f) {
-        read(f, m);
-        end_tool(f);
+static void ask(module *m, const map *all, const char *how, void (*read)(FILE *, module *)) {
+    const char *const words[] = {"addr2line", how, "-e", m->path, 0};
+    FILE *addresses = tmpfile();
+    if (!addresses) die("cannot write to " P_tmpdir ": %s", strerror(errno));
+    if (write_addresses(addresses, m, all)) {
+        if (fflush(addresses) || ferror(addresses)) die("cannot write to " P_tmpdir ": %s", strerror(errno));
+        rewind(addresses);
+        tool addr2line = run_tool(words, fileno(addresses));
+        read(addr2line.output, m);
+        end_tool(addr2line);
     }
-    unlink(name);
+    fclose(addresses);
 }
 
 static char *address_place(u64 caller) {
@@ -209,14 +269,15 @@ static char *address_place(u64 caller) {
 
 void find_places(void) {
     places = zeroed(callers.count + 1, sizeof *places);
-    for (int i = 0; i < module_count; i++) ask(&modules[i], &callers, "-a -i", read_places);
+    for (int i = 0; i < module_count; i++) {
+        if (!in_system(modules[i].path) && !is_recorder(&modules[i])) note_sources_of(modules[i].path);
+        ask(&modules[i], &callers, "-ai", read_places);
+    }
     for (u64 i = 0; i < callers.capacity; i++) {
         u32 number = callers.entries[i].value;
-        char **place = &places[number].text;
         if (!number) continue;
-        if (!*place) *place = address_place(callers.entries[i].a);
-        else if (strlen(*place) > PLACE_BYTES) *place += strlen(*place) - PLACE_BYTES;
-        else *place = copy(leaf(*place));
+        char **place = &places[number].text;
+        *place = *place ? location_of(*place) : address_place(callers.entries[i].a);
         places[number].length = strlen(*place);
     }
 }
@@ -233,13 +294,11 @@ static inlined_frame **frames;         /* by the numbers of these: the innermost
 
 void note_frames_of(u64 caller) { map_number(&framed, caller, 0); }
 
-static inlined_frame *new_frame(const char *function, char *location, int has_line) {
+static inlined_frame *new_frame(const char *function, const char *location, int has_line) {
     inlined_frame *f = zeroed(1, sizeof *f);
     *f = (inlined_frame){.function = function, .location = location, .has_line = has_line};
     return f;
 }
-
-static int is_known(const char *line) { return *line != '?'; }
 
 /* A function's name without what the compiler adds for its parts and copies: "f.cold", "f(int) [clone .part.0]". */
 static char *function_part(char *name) {
@@ -256,21 +315,20 @@ static char *function_part(char *name) {
 static void read_frames(FILE *f, module *m) {
     char function[LINE_BYTES], place[LINE_BYTES];
     inlined_frame **next = 0;
-    int is_hidden = !strncmp(leaf(m->path), "libtsan.so", 10);
     while (fgets(function, sizeof function, f)) {
-        if (!strncmp(function, "0x", 2)) {
+        if (is_address(function)) {
             u32 number = map_find(&framed, strtoull(function, 0, 16) + m->base + 1, 0);
             next = number ? &frames[number] : 0;
             continue;
         }
         if (!fgets(place, sizeof place, f) || !next) return;
+        read_place(f, place);
         function_part(function);
-        place[strcspn(place, " (\n")] = 0;
-        char *colon = strrchr(place, ':');
-        int has_line = is_known(place) && colon && is_known(colon + 1) && colon[1] != '0';
-        int named = is_known(function) && (has_line || !in_system(m->path));  /* else the name may be a neighbour's */
-        *next = new_frame(named ? copy(cleaned(function)) : "", has_line ? copy(cleaned((char *)leaf(place))) : 0, has_line);
-        (*next)->is_hidden = is_hidden;
+        int with_line = has_line(place);
+        int named = *function != '?' && (with_line || !in_system(m->path));   /* else the name may be a neighbour's */
+        *next = new_frame(named ? copy(cleaned(function)) : "", with_line ? copy(place) : 0, with_line);
+        if (with_line && !is_recorder(m)) note_file_of(place);
+        (*next)->is_hidden = is_recorder(m);
         (*next)->in_system = in_system(m->path);
         (*next)->in_system_file = in_system(place) || (*next)->in_system;
         next = &(*next)->outer;
@@ -279,12 +337,12 @@ static void read_frames(FILE *f, module *m) {
 
 void find_frames_noted(void) {
     frames = zeroed(framed.count + 1, sizeof *frames);
-    for (int i = 0; i < module_count; i++) ask(&modules[i], &framed, "-a -i -f -C", read_frames);
+    for (int i = 0; i < module_count; i++) ask(&modules[i], &framed, "-aifC", read_frames);
     for (u64 i = 0; i < framed.capacity; i++) {
         u32 number = framed.entries[i].value;
         if (number && !frames[number]) frames[number] = new_frame("", 0, 0);
         for (inlined_frame *f = number ? frames[number] : 0; f; f = f->outer)
-            if (!f->location) f->location = address_place(framed.entries[i].a);
+            f->location = f->has_line ? location_of(f->location) : address_place(framed.entries[i].a);
     }
 }
 

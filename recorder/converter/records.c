@@ -72,11 +72,18 @@ static void note_how_it_ended(const char *how) {
     else if (strcmp(reason, ENDED_WHOLE)) recording_cut = reason;
 }
 
+static void refuse(const char *file, const char *path) {
+    size_t before = strcspn(RECORD_MAGIC, "0123456789"), digits = strspn(file + before, "0123456789");
+    if (strncmp(file, RECORD_MAGIC, before) || !digits || digits > 9) die("%s is no record", path);
+    die("%s is a record of version %.*s, by another version of the recorder; this shb-std reads version %.*s", path,
+        (int)digits, file + before, (int)strcspn(RECORD_MAGIC + before, "\n"), RECORD_MAGIC + before);
+}
+
 void open_record(const char *path) {
     static char header[HEADER_BYTES + 1];
     u64 size;
     char *file = map_file(path, &size);
-    if (strncmp(file, RECORD_MAGIC, strlen(RECORD_MAGIC))) die("%s is no record", path);
+    if (strncmp(file, RECORD_MAGIC, strlen(RECORD_MAGIC))) refuse(file, path);
     records = (struct record *)(file + HEADER_BYTES);
     record_path = path;
     record_count = (size - HEADER_BYTES) / sizeof *records;

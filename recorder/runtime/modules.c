@@ -18,7 +18,10 @@ int tells_its_own_order(uint64_t caller) { return caller >= openmp_low && caller
 static void note_module(struct dl_phdr_info *info, uint64_t low, uint64_t high) {
     char path[PATH_MAX] = "", line[PATH_MAX + 64];
     if (!*info->dlpi_name && readlink("/proc/self/exe", path, sizeof path - 1) < 0) return;
-    snprintf(line, sizeof line, "%lx %lx %lx %s\n", low, high, (long)info->dlpi_addr, *path ? path : info->dlpi_name);
+    if (*info->dlpi_name) snprintf(path, sizeof path, "%s", info->dlpi_name);
+    for (char *p = path; *p; p++)
+        if (*p == '\n') *p = LINE_END_IN_PATH;
+    snprintf(line, sizeof line, "%lx %lx %lx %s\n", low, high, (long)info->dlpi_addr, path);
     note_text(line);
 }
 

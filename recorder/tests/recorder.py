@@ -51,6 +51,19 @@ def build(source, option, program, built=None):
     must(call(compiler, *words, *["-fopenmp"] * source.name.startswith("openmp")))
 
 
+def two_of_one_name(folder):
+    """The sources of a program with two files of one name, in new folders: each thread has a race with main's."""
+    texts = {"main.c": "#include <pthread.h>\nvoid *a(void *), *b(void *);\nint one, two;\nint main(int count, char **words) {\n"
+                       "    pthread_t t, u;\n    pthread_create(&t, 0, a, 0);\n    if (count < 2) pthread_create(&u, 0, b, 0);\n"
+                       "    one = two = 1;\n    pthread_join(t, 0);\n    return count < 2 && pthread_join(u, 0);\n}\n",
+             "a/util.c": "extern int one;\n\nvoid *a(void *x) { one = 2; return 0; }\n",
+             "b/util.c": "extern int two;\n\nvoid *b(void *x) { two = 2; return 0; }\n"}
+    for name, text in texts.items():
+        (folder / name).parent.mkdir(parents=True, exist_ok=True)
+        (folder / name).write_text(text)
+    return [folder / name for name in texts]
+
+
 def settings(path, seed=1, slice=200, **more):
     """The environment that has a program recorded."""
     return {**os.environ, "SHB_RECORD": str(path), "SHB_SEED": str(seed), "SHB_SLICE": str(slice), **more}

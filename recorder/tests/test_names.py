@@ -42,3 +42,33 @@ class Names(recorder.Case):
             self.assertRegex(trace, rf"(?m)^{line}$")
         blocks = re.findall(r"^main\|w\((names\.c:22#\d+\+4)\)", trace, re.M)
         self.assertEqual(len(set(blocks)), 2, "an address that is used again is a new variable")
+
+
+class Files(recorder.Case):
+    """How source files are named: two that have one name, in folders of any name."""
+
+    def record(self, folder, *words):
+        """The threads' locations in a record of the program with two such files."""
+        program = folder / "the program"
+        sources = recorder.two_of_one_name(folder)
+        recorder.must(recorder.call("gcc", "-g", "-fsanitize=thread", "-pthread", f"-B{recorder.BUILT}/lib/", *sources, "-o", program))
+        recorder.must(recorder.call(program, *words, env=recorder.settings(self.folder / "app.rec")))
+
+    def locations(self, *options):
+        trace = recorder.must(recorder.convert(self.folder / "app.rec", "-a", *options)).stdout.decode()
+        return set(re.findall(r"(?m)^T.*\|w\(.*\|(.*)$", trace))
+
+    def test_two_files_of_one_name(self):
+        for name in ("plain", "with two  blanks", "(in parentheses)", "it's", "-dash", "a:1", 'q"$(x)\\', "line\nend", "\u00e4"):
+            with self.subTest(name):
+                folder = self.folder / name / "sources"
+                self.record(folder)
+                self.assertEqual(self.locations(), {"a/util.c:3", "b/util.c:3"})
+                self.assertEqual(self.locations("--strip", folder / "a"), {"util.c:3", "b/util.c:3"})
+                self.assertEqual(self.locations("--strip", self.folder),
+                                 {f"{name}/sources/{file}/util.c:3".replace("\n", "!") for file in "ab"})
+                self.assertEqual(self.locations("-p"), {f"{folder}/{file}/util.c:3".replace("\n", "!") for file in "ab"})
+
+    def test_names_are_the_same_whatever_ran(self):
+        self.record(self.folder / "sources", "a alone")
+        self.assertEqual(self.locations(), {"a/util.c:3"})

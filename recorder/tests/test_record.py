@@ -200,24 +200,61 @@ def damaged_records():
     yield b"shb-record 4\nffff 1 2 \n1 2\nx y z\n0 fff 0 --help\n0 ffffffffffff 0 /\n".ljust(65536, b"1") + ENTRIES
 
 
+def damaged_programs(good):
+    """A program with its debug information damaged where the files of its lines stand, in many ways."""
+    draw, found = random.Random(2), good.find(b".debug_line")
+    spans = [(max(0, at - 400), at + 400) for at in (good.find(b"util.c"), good.rfind(b"main.c"), found) if at > 0]
+    for _ in range(50):
+        program = bytearray(good)
+        for _ in range(draw.randrange(1, 8)):
+            program[min(draw.randrange(*draw.choice(spans)), len(good) - 1)] = draw.choice((0, 1, 127, 128, 255, draw.randrange(256)))
+        yield bytes(program)
+    yield from (good[:size] for size in range(0, len(good), len(good) // 8))
+    yield from (good[:-size] for size in range(1, 2000, 250))  # the table of sections is at the end
+
+
 class Damaged(recorder.Case):
-    def test_is_refused_or_converted_and_nothing_else(self):
-        converter, record = self.folder / "shb-std", self.folder / "app.rec"
+    def converter(self):
+        """The converter, built so that it ends at the first access that isn't allowed."""
         sanitizers = "-fsanitize=address,undefined", "-fno-sanitize-recover"
         sources = sorted(recorder.SOURCES.glob("converter/*.c"))
-        recorder.must(recorder.call("gcc", "-g", "-O1", *sanitizers, *sources, "-o", converter))
-        statuses = []
+        recorder.must(recorder.call("gcc", "-g", "-O1", *sanitizers, *sources, "-o", self.folder / "shb-std"))
+        return self.folder / "shb-std"
+
+    def convert(self, converter, record):
+        answer = recorder.call(converter, "--stacks", self.folder / "app.stacks", record,
+                               env={**os.environ, "ASAN_OPTIONS": "detect_leaks=0"})
+        self.assertIn(answer.returncode, (0, 2, 3), answer.stderr[-2000:])
+        self.assertIn(b"shb-std: ", answer.stderr)
+        self.assertNotRegex(answer.stderr, b"Sanitizer|runtime error")
+        return answer.returncode
+
+    def test_is_refused_or_converted_and_nothing_else(self):
+        converter, record, statuses = self.converter(), self.folder / "app.rec", []
         for number, damaged in enumerate(damaged_records()):
             record.write_bytes(damaged)
-            answer = recorder.call(converter, "--stacks", self.folder / "app.stacks", record,
-                                   env={**os.environ, "ASAN_OPTIONS": "detect_leaks=0"})
             with self.subTest(number):
-                self.assertIn(answer.returncode, (0, 2, 3), answer.stderr[-2000:])
-                self.assertIn(b"shb-std: ", answer.stderr)
-                self.assertNotRegex(answer.stderr, b"Sanitizer|runtime error")
-            statuses.append(answer.returncode)
+                statuses.append(self.convert(converter, record))
         self.assertGreater(statuses.count(0), 20)
         self.assertGreater(statuses.count(2), 20)
+
+    def test_a_program_with_damaged_debug_information(self):
+        converter, record, program = self.converter(), self.folder / "app.rec", self.folder / "app"
+        recorder.must(recorder.call("gcc", "-g", *recorder.two_of_one_name(self.folder / "sources"), "-o", program, "-pthread"))
+        module = b"shb-record 4\n0 ffffff 0 " + os.fsencode(program) + b"\n"
+        record.write_bytes(module.ljust(65536 - 256, b"\0") + b"whole".ljust(256, b"\0") + ENTRIES)
+        for number, damaged in enumerate(damaged_programs(program.read_bytes())):
+            program.write_bytes(damaged)
+            with self.subTest(number):
+                self.assertEqual(self.convert(converter, record), 0)
+
+    def test_a_record_of_another_version(self):
+        path = self.folder / "app.rec"
+        for version in (b"3", b"10"):
+            path.write_bytes(HEADER.replace(b"4", version, 1).ljust(65536, b"\0")[:65536])
+            answer = recorder.convert(path)
+            self.assertEqual((answer.returncode, answer.stdout), (2, b""))
+            self.assertIn(b"is a record of version " + version + b", by another version of the recorder", answer.stderr)
 
     def test_what_is_no_record(self):
         for path, reason in ((self.folder / "none", b"cannot read"), (self.folder, b"is no record"),

@@ -1,0 +1,119 @@
+/* Names of source files: the shortest end of a file's path that no other file's path ends in; at most the path from the folder
+   that all files of the program have in common.  Or, if one was named, the path from that folder (--strip), or all of it (-p). */
+#include <stdio.h>
+#include <stdlib.h>
+#include <string.h>
+#include "converter.h"
+
+int whole_paths;
+static const char *stripped_folder;
+static char **sources;                 /* as normal_path gives them, each once; when they are named, sorted by their ends */
+static u64 source_count, source_capacity, sorted_count;
+static u64 common_length;              /* of the folder that the program's own have in common, with its last '/' */
+
+int in_system(const char *path) {
+    return !strncmp(path, "/usr/", 5) || !strncmp(path, "/lib", 4) || strstr(path, "/include/c++/") || strstr(path, "/lib/gcc/");
+}
+
+/* The path as of a file that is there, without links: "/a/./b//../c" is "/a/c". */
+static char *normal_path(const char *path) {
+    char *normal = zeroed(strlen(path) + 2, 1), *end = normal;
+    while (*path) {
+        size_t length = strcspn(path, "/");
+        if (length == 2 && !strncmp(path, "..", 2)) {
+            while (end > normal && *--end != '/') {}
+        } else if (length && !(length == 1 && *path == '.')) {
+            *end++ = '/';
+            memcpy(end, path, length);
+            end += length;
+        }
+        path += length + (path[length] == '/');
+    }
+    *end = 0;
+    return normal;
+}
+
+/* How many bytes at their ends two paths have in common. */
+static u64 common_end(const char *one, const char *two) {
+    u64 length = strlen(one), other = strlen(two), count = 0;
+    while (count < length && count < other && one[length - count - 1] == two[other - count - 1]) count++;
+    return count;
+}
+
+static int by_end(const void *a, const void *b) {
+    const char *one = *(char *const *)a, *two = *(char *const *)b;
+    u64 same = common_end(one, two), length = strlen(one), other = strlen(two);
+    unsigned char x = same < length ? one[length - same - 1] : 0, y = same < other ? two[other - same - 1] : 0;
+    return x - y;
+}
+
+static void find_common_folder(void) {
+    const char *first = 0;
+    for (u64 k = 0; k < source_count; k++) {
+        if (in_system(sources[k])) continue;
+        if (!first) {
+            first = sources[k];
+            common_length = strrchr(first, '/') + 1 - first;
+        }
+        while (strncmp(first, sources[k], common_length))
+            do common_length--;
+            while (first[common_length - 1] != '/');
+    }
+}
+
+static void sort_sources(void) {
+    qsort(sources, source_count, sizeof *sources, by_end);
+    find_common_folder();
+    sorted_count = source_count;
+}
+
+static u64 sum_of(const char *text, u64 factor) {
+    u64 sum = factor;
+    while (*text) sum = (sum ^ (unsigned char)*text++) * factor;
+    return sum;
+}
+
+void note_source(const char *path) {
+    static map met;                    /* by two sums of a path */
+    char *normal = normal_path(path);
+    if (*normal && map_number(&met, sum_of(normal, 0x100000001b3), sum_of(normal, 0x9E3779B97F4A7C15)) > source_count) {
+        GROW(sources, source_count, source_capacity);
+        sources[source_count++] = normal;
+    } else free(normal);
+}
+
+/* The shortest end of a path, in whole words between '/', that another path doesn't end in. */
+static const char *differing_end(const char *path, const char *other) {
+    u64 same = common_end(path, other);
+    const char *at = path + strlen(path) - same;
+    if (at > path && *at == '/') at--;
+    while (at > path && *at != '/') at--;
+    return at + 1;
+}
+
+/* Of the paths sorted by their ends one beside it has the longest end in common with it. */
+static const char *unique_end(char *const *found) {
+    const char *before = found > sources ? differing_end(*found, found[-1]) : 0;
+    const char *after = found + 1 < sources + source_count ? differing_end(*found, found[1]) : 0;
+    const char *end = strrchr(*found, '/') + 1;
+    if (before && before < end) end = before;
+    return after && after < end ? after : end;
+}
+
+const char *source_name(const char *path) {
+    char *normal = normal_path(path);
+    size_t strip = stripped_folder ? strlen(stripped_folder) : 0;
+    if (whole_paths || !*normal) return path;
+    if (strip && !strncmp(normal, stripped_folder, strip) && normal[strip] == '/') return normal + strip + 1;
+    if (sorted_count != source_count) sort_sources();
+    char **found = bsearch(&normal, sources, source_count, sizeof *sources, by_end);
+    if (!found) return strrchr(normal, '/') + 1;
+    const char *end = unique_end(found), *most = in_system(*found) ? *found + 1 : *found + common_length;
+    return end < most ? most : end;
+}
+
+void strip_folder(const char *folder) {
+    char *real = realpath(folder, 0);
+    stripped_folder = normal_path(real ? real : folder);
+    free(real);
+}
