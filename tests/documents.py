@@ -39,7 +39,7 @@ MADE = {
     "make test-all": "refused.sums",
     "rt": "out",
     "shb-record, shb-farm": "runN.PROCESS.std places.txt",
-    "the reader's own": "app.std app.report file.c",
+    "the reader's own": "app.std app.report file.c util.c",
 }
 
 IS_OUTSIDE = {word for words in OUTSIDE.values() for word in words.split()}
