@@ -58,6 +58,7 @@ void read_modules(char *header);
 void note_caller(u64 caller);
 void find_places(void);                /* of all callers that were noted */
 part place_of(u64 caller);
+int is_own_place(u64 caller);          /* not in a header or a library of the system */
 /* The frames of a place in the code, the innermost first; of inlined code there are several. */
 typedef struct inlined_frame {
     struct inlined_frame *outer;
@@ -66,9 +67,7 @@ typedef struct inlined_frame {
     uint8_t has_line, in_system_file;                        /* as a header of the C++ library is */
     uint8_t in_system, is_hidden;      /* the module is the system's; the recorder's own */
 } inlined_frame;
-void note_frames_of(u64 caller);
-void find_frames_noted(void);
-inlined_frame *frames_of(u64 caller);  /* or null */
+inlined_frame *frames_of(u64 caller);  /* null where it wasn't noted */
 inlined_frame *outermost(inlined_frame *f);
 int in_one_function(u64 caller, u64 other);
 const char *function_name(u64 address, char *buffer, size_t size);       /* "" where it is not known */
@@ -103,9 +102,10 @@ piece *piece_of(u32 number);
 piece_use *use_of_piece(u32 number);
 
 /* stacks.c: call stacks, in a file beside the trace. */
-extern int with_stacks;
 void open_stacks(const char *path);
+void note_call(u64 i);                 /* each record of calls, in the first pass */
 void meet_call(u64 i);                 /* each record of the fourth pass, before its events */
+u64 own_place(u32 t, u64 caller);      /* of what a thread does now: the innermost place in the program's own code, or the caller */
 u32 stack_at(u32 t, u64 caller);
 void stack_of_event(u32 number);       /* of the event that comes next */
 void stack_of_thread(u32 t, u32 number);

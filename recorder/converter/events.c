@@ -173,12 +173,14 @@ void hold_event(u32 t, const char *operation, part name, const char *tail, u64 c
 
 /* `name` and `tail` may lie in buffers that the writing of another event uses. */
 void event(u32 t, const char *operation, part name, const char *tail, u64 caller) {
+    u64 own = own_place(t, caller);
+    u32 stack = stack_at(t, caller);
     if (holds_unwritten(t)) {
         char own_name[NAME_BYTES], own_tail[THREAD_BYTES + 20];
         memcpy(own_name, name.at, name.length);
         snprintf(own_tail, sizeof own_tail, "%s", tail);
         write_holds(t);
-        hold_event(t, operation, (part){own_name, name.length}, own_tail, caller, stack_at(t, caller));
-    } else hold_event(t, operation, name, tail, caller, stack_at(t, caller));
+        hold_event(t, operation, (part){own_name, name.length}, own_tail, own, stack);
+    } else hold_event(t, operation, name, tail, own, stack);
     if (*operation != 'r' || operation[1]) threads[t].epoch++;
 }

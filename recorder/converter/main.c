@@ -22,6 +22,7 @@ static int is_of_stack(enum operation operation) { return operation >= OP_FRAME 
 static void meet_record(u64 i) {
     enum operation operation = operation_of(i);
     find_users(i);
+    if (is_of_stack(operation)) note_call(i);
     if (operation == OP_READ || operation == OP_WRITE || is_of_stack(operation)) return;
     if (operation == OP_FENCE) has_fences = 1;
     if (operation == OP_FORK && address_of(i) >= thread_count) thread_count = address_of(i) + 1;
@@ -50,6 +51,11 @@ static void write_events(u64 i) {
     else access_events(i);
 }
 
+static void name_block(block *b, u64 i) {
+    stack_of_block(b, stack_at(thread_of(i), caller_of(i)));
+    b->caller = own_place(thread_of(i), caller_of(i));
+}
+
 /* A record of ranges so long and so many that no pass would end soon is cut: its beginning is a record too. */
 static const char *shortened;
 
@@ -66,7 +72,7 @@ static inline __attribute__((always_inline)) void pass(void (*step)(u64), int is
         if (operation_of(i) == OP_SIZE) continue;
         block *b = meet_block(i);
         step(i);
-        if (b && step == write_events && operation_of(i) == OP_ALLOC) stack_of_block(b, stack_at(thread_of(i), caller_of(i)));
+        if (b && step == write_events && operation_of(i) == OP_ALLOC) name_block(b, i);
         if (range_steps <= MAX_RANGE_STEPS) continue;
         shortened = "where its accesses of long ranges take too much work";
         record_count = i;

@@ -17,7 +17,8 @@ typedef struct { u64 low, high, base; char *path; symbol *symbols; u64 count; in
 static module modules[MAX_MODULES];
 static int module_count;
 static map callers;
-static struct { char *text; u64 length; } *places;           /* by the numbers of callers */
+/* What a caller is: its location, whether that is the program's own code, and its frames, the innermost first. */
+static struct { char *text; u64 length; int is_own; inlined_frame *frames; } *places;        /* by the numbers of callers */
 
 static module *module_at(u64 address) {
     for (int i = 0; i < module_count; i++)
@@ -178,11 +179,11 @@ void note_caller(u64 caller) { caller_number(caller); }
 static int by_number(const void *a, const void *b) { return *(u64 *)a < *(u64 *)b ? -1 : *(u64 *)a > *(u64 *)b; }
 
 /* In the same order in each run, for what addr2line says of some addresses depends on those before. */
-static int write_addresses(FILE *f, module *m, const map *all) {
-    u64 *found = zeroed(all->count + 1, sizeof *found), count = 0;
-    for (u64 i = 0; i < all->capacity; i++) {
-        u64 caller = all->entries[i].a;
-        if (all->entries[i].value && caller && module_at(caller) == m) found[count++] = caller - m->base - 1;
+static int write_addresses(FILE *f, module *m) {
+    u64 *found = zeroed(callers.count + 1, sizeof *found), count = 0;
+    for (u64 i = 0; i < callers.capacity; i++) {
+        u64 caller = callers.entries[i].a;
+        if (callers.entries[i].value && caller && module_at(caller) == m) found[count++] = caller - m->base - 1;
     }                                  /* the call, not where it returns to */
     qsort(found, count, sizeof *found, by_number);
     for (u64 i = 0; i < count; i++) fprintf(f, "%lx\n", found[i]);
@@ -226,74 +227,6 @@ static char *location_of(const char *place) {
     return copy(cleaned(length > PLACE_BYTES ? text + length - PLACE_BYTES : text));
 }
 
-/* Of inlined code addr2line gives several lines: the first outside of the system's headers stands, else the first. */
-static void read_places(FILE *f, module *m) {
-    char line[LINE_BYTES];
-    u32 number = 0;
-    while (fgets(line, sizeof line, f)) {
-        if (is_address(line)) {
-            number = map_find(&callers, strtoull(line, 0, 16) + m->base + 1, 0);
-            continue;
-        }
-        read_place(f, line);
-        if (!number || !has_line(line)) continue;
-        char **place = &places[number].text;
-        if (*place && (!in_system(*place) || in_system(line))) continue;
-        *place = copy(line);
-        note_file_of(line);
-    }
-}
-
-/* Has addr2line tell of those of the addresses that lie in a module. */
-static void ask(module *m, const map *all, const char *how, void (*read)(FILE *, module *)) {
-    const char *const words[] = {"addr2line", how, "-e", m->path, 0};
-    FILE *addresses = tmpfile();
-    if (!addresses) die("cannot write to " P_tmpdir ": %s", strerror(errno));
-    if (write_addresses(addresses, m, all)) {
-        if (fflush(addresses) || ferror(addresses)) die("cannot write to " P_tmpdir ": %s", strerror(errno));
-        rewind(addresses);
-        tool addr2line = run_tool(words, fileno(addresses));
-        read(addr2line.output, m);
-        end_tool(addr2line);
-    }
-    fclose(addresses);
-}
-
-static char *address_place(u64 caller) {
-    char text[PLACE_BYTES];
-    module *m = module_at(caller);
-    if (m) snprintf(text, sizeof text, "%.900s+0x%lx", leaf(m->path), caller - m->base - 1);
-    else snprintf(text, sizeof text, "0x%lx", caller);
-    return copy(cleaned(text));
-}
-
-void find_places(void) {
-    places = zeroed(callers.count + 1, sizeof *places);
-    for (int i = 0; i < module_count; i++) {
-        if (!in_system(modules[i].path) && !is_recorder(&modules[i])) note_sources_of(modules[i].path);
-        ask(&modules[i], &callers, "-ai", read_places);
-    }
-    for (u64 i = 0; i < callers.capacity; i++) {
-        u32 number = callers.entries[i].value;
-        if (!number) continue;
-        char **place = &places[number].text;
-        *place = *place ? location_of(*place) : address_place(callers.entries[i].a);
-        places[number].length = strlen(*place);
-    }
-}
-
-/* Of a caller that was noted. */
-part place_of(u64 caller) {
-    u32 number = caller_number(caller);
-    return (part){places[number].text, places[number].length};
-}
-
-/* ---- frames ---- */
-static map framed;                     /* the addresses in code that were noted */
-static inlined_frame **frames;         /* by the numbers of these: the innermost */
-
-void note_frames_of(u64 caller) { map_number(&framed, caller, 0); }
-
 static inlined_frame *new_frame(const char *function, const char *location, int has_line) {
     inlined_frame *f = zeroed(1, sizeof *f);
     *f = (inlined_frame){.function = function, .location = location, .has_line = has_line};
@@ -317,8 +250,8 @@ static void read_frames(FILE *f, module *m) {
     inlined_frame **next = 0;
     while (fgets(function, sizeof function, f)) {
         if (is_address(function)) {
-            u32 number = map_find(&framed, strtoull(function, 0, 16) + m->base + 1, 0);
-            next = number ? &frames[number] : 0;
+            u32 number = map_find(&callers, strtoull(function, 0, 16) + m->base + 1, 0);
+            next = number ? &places[number].frames : 0;
             continue;
         }
         if (!fgets(place, sizeof place, f) || !next) return;
@@ -335,18 +268,62 @@ static void read_frames(FILE *f, module *m) {
     }
 }
 
-void find_frames_noted(void) {
-    frames = zeroed(framed.count + 1, sizeof *frames);
-    for (int i = 0; i < module_count; i++) ask(&modules[i], &framed, "-aifC", read_frames);
-    for (u64 i = 0; i < framed.capacity; i++) {
-        u32 number = framed.entries[i].value;
-        if (number && !frames[number]) frames[number] = new_frame("", 0, 0);
-        for (inlined_frame *f = number ? frames[number] : 0; f; f = f->outer)
-            f->location = f->has_line ? location_of(f->location) : address_place(framed.entries[i].a);
+/* Has addr2line tell of the callers in a module. */
+static void ask_for_lines(module *m) {
+    const char *const words[] = {"addr2line", "-aifC", "-e", m->path, 0};
+    FILE *addresses = tmpfile();
+    if (!addresses) die("cannot write to " P_tmpdir ": %s", strerror(errno));
+    if (write_addresses(addresses, m)) {
+        if (fflush(addresses) || ferror(addresses)) die("cannot write to " P_tmpdir ": %s", strerror(errno));
+        rewind(addresses);
+        tool addr2line = run_tool(words, fileno(addresses));
+        read_frames(addr2line.output, m);
+        end_tool(addr2line);
     }
+    fclose(addresses);
 }
 
-inlined_frame *frames_of(u64 caller) { return frames[map_find(&framed, caller, 0)]; }
+static char *address_place(u64 caller) {
+    char text[PLACE_BYTES];
+    module *m = module_at(caller);
+    if (m) snprintf(text, sizeof text, "%.900s+0x%lx", leaf(m->path), caller - m->base - 1);
+    else snprintf(text, sizeof text, "0x%lx", caller);
+    return copy(cleaned(text));
+}
+
+/* Names the frames of a caller; its location is the first one outside of the system's headers, else the first. */
+static void find_place(u64 caller, u32 number) {
+    module *m = module_at(caller);
+    inlined_frame *chosen = 0;
+    for (inlined_frame *f = places[number].frames; f; f = f->outer) {
+        f->location = f->has_line ? location_of(f->location) : address_place(caller);
+        if (f->has_line && (!chosen || (chosen->in_system_file && !f->in_system_file))) chosen = f;
+    }
+    places[number].text = chosen ? copy(chosen->location) : address_place(caller);
+    places[number].length = strlen(places[number].text);
+    places[number].is_own = m && !is_recorder(m) && !(chosen ? chosen->in_system_file : in_system(m->path));
+    if (!places[number].frames) places[number].frames = new_frame("", places[number].text, 0);
+}
+
+void find_places(void) {
+    places = zeroed(callers.count + 1, sizeof *places);
+    for (int i = 0; i < module_count; i++) {
+        if (!in_system(modules[i].path) && !is_recorder(&modules[i])) note_sources_of(modules[i].path);
+        ask_for_lines(&modules[i]);
+    }
+    for (u64 i = 0; i < callers.capacity; i++)
+        if (callers.entries[i].value) find_place(callers.entries[i].a, callers.entries[i].value);
+}
+
+/* Of a caller that was noted. */
+part place_of(u64 caller) {
+    u32 number = caller_number(caller);
+    return (part){places[number].text, places[number].length};
+}
+
+int is_own_place(u64 caller) { return places[caller_number(caller)].is_own; }
+
+inlined_frame *frames_of(u64 caller) { return places[map_find(&callers, caller, 0)].frames; }
 
 inlined_frame *outermost(inlined_frame *f) {
     while (f && f->outer) f = f->outer;

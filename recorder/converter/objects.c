@@ -251,7 +251,7 @@ void write_holds(u32 t) {
 
 static void take_hold(object *o, u32 t, int reads, u64 caller) {
     GROW(held[t].list, held[t].count, held[t].capacity);
-    held[t].list[held[t].count++] = (hold){caller, o - objects, stack_at(t, caller), reads, 0};
+    held[t].list[held[t].count++] = (hold){own_place(t, caller), o - objects, stack_at(t, caller), reads, 0};
     held[t].unwritten++;
     held[t].sum += mix(o - objects, reads + 1);
     if (!reads) o->writer = t + 1;
@@ -261,7 +261,7 @@ static void end_hold(object *o, u32 t, int reads, u64 caller) {
     for (u64 k = held[t].count; k-- > 0;) {
         hold h = held[t].list[k];
         if (h.object != o - objects || h.reads != reads) continue;
-        if (h.written) write_hold(t, &h, "rel", caller, stack_at(t, caller));
+        if (h.written) write_hold(t, &h, "rel", own_place(t, caller), stack_at(t, caller));
         else held[t].unwritten--;
         held[t].count--;
         memmove(&held[t].list[k], &held[t].list[k + 1], (held[t].count - k) * sizeof h);

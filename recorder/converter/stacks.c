@@ -17,10 +17,12 @@
 #define STACKS_BEGIN "shb-stacks 1 %020lu\n"
 enum { NODES_AT_ONCE = 1 << 14, MOST_FRAMES_OF_A_CALL = 64, MOST_LEFT = 256 };
 
-typedef struct { u64 caller, function, way; } call;          /* way: where code without hooks was called that has the caller, or 0 */
+/* way: where code without hooks was called that has the caller, or 0. own: the innermost of the program's own places from here
+   on further out, or 0. */
+typedef struct { u64 caller, function, way, own; } call;
 typedef struct {
     call *calls;                       /* the outermost first; further in than `depth` are those that were met before */
-    u32 *nodes, known;                 /* of the first ones, how many */
+    u32 *nodes, known, owned;          /* of how many of the first the node is known, and the own place */
     u32 told_depth, depth;             /* by the records before; of the present one */
     u64 way;                           /* of the present one */
     u32 last, last_outer;              /* the node that was asked for last */
@@ -29,7 +31,7 @@ typedef struct {
 /* function: what was called, by a place in it; of an event 0. A way has a node of its own. */
 typedef struct { u64 caller, function; u32 outer; uint8_t used, is_way; } node;
 
-int with_stacks;
+static int with_stacks;
 static FILE *file;
 static const char *path;
 static calls_of_thread stacks[THREADS];
@@ -61,13 +63,19 @@ static void meet_frame(calls_of_thread *s, u64 i) {
         GROW(s->nodes, s->count, capacity);
         s->calls[s->count++] = (call){0};
     }
-    s->calls[d] = (call){caller_of(i), address_of(i), s->way};
+    s->calls[d] = (call){caller_of(i), address_of(i), s->way, 0};
     if (s->known > d) s->known = d;
+    if (s->owned > d) s->owned = d;
     s->told_depth = d + 1;
 }
 
+void note_call(u64 i) {
+    if (operation_of(i) == OP_DEPTH) return;
+    note_caller(caller_of(i));
+    if (operation_of(i) == OP_FRAME && with_stacks) note_caller(address_of(i));
+}
+
 void meet_call(u64 i) {
-    if (!with_stacks) return;
     calls_of_thread *s = &stacks[thread_of(i)];
     enum operation operation = operation_of(i);
     s->way = has_way == i ? told_way : 0;
@@ -79,6 +87,24 @@ void meet_call(u64 i) {
     if (operation == OP_DEPTH) s->told_depth = size_of(i);
     u64 inside = depth_inside(i), depth = inside == DEPTH_BEFORE ? s->told_depth : inside;
     s->depth = depth < s->count ? depth : s->count;
+}
+
+/* A way is one only if it lies in the function that was entered last. */
+static u64 own_of(u64 caller, u64 way, const call *outer) {
+    if (is_own_place(caller)) return caller;
+    if (way && outer && is_own_place(way) && in_one_function(way, outer->function)) return way;
+    return outer ? outer->own : 0;
+}
+
+u64 own_place(u32 t, u64 caller) {
+    if (is_own_place(caller)) return caller;
+    calls_of_thread *s = &stacks[t];
+    for (; s->owned < s->depth; s->owned++) {
+        call *c = &s->calls[s->owned];
+        c->own = own_of(c->caller, c->way, s->owned ? c - 1 : 0);
+    }
+    u64 own = own_of(caller, s->way, s->depth ? &s->calls[s->depth - 1] : 0);
+    return own ? own : caller;
 }
 
 static u32 node_of(u32 outer, u64 caller, u64 function) {
@@ -146,15 +172,6 @@ void stack_of_block(const block *b, u32 number) {
 }
 
 /* ---- the tables ---- */
-static void find_frames(void) {
-    for (u64 k = 1; k <= node_count; k++) {
-        if (!nodes[k].used) continue;
-        note_frames_of(nodes[k].caller);
-        if (nodes[k].function) note_frames_of(nodes[k].function);
-    }
-    find_frames_noted();
-}
-
 static u32 frame_number(inlined_frame *f) {
     static u32 frame_count;
     if (f->number) return f->number;
@@ -205,7 +222,6 @@ void end_stacks(void) {
     for (u32 t = 0; t < THREADS; t++) use(thread_nodes[t]);
     for (u64 b = 1; b < block_count; b++)
         if (block_of(b)->named) use(block_nodes[b]);
-    find_frames();
     for (u64 k = 1; k <= node_count; k++)
         if (nodes[k].used) write_stack(k);
     for (u32 t = 0; t < THREADS; t++)

@@ -122,3 +122,19 @@ class Programs(recorder.Case):
 
     def test_in_cxx(self):
         self.check(recorder.PROGRAMS / "calls_cxx.cc")
+
+    def test_code_of_headers_is_told_by_the_programs_own_lines(self):
+        source, program, record = recorder.PROGRAMS / "headers.cc", self.folder / "program", self.folder / "app.rec"
+        lines = source.read_text().splitlines()
+
+        def marked(mark):
+            return {f"headers.cc:{number}" for number, line in enumerate(lines, 1) if line.endswith(f"// {mark}")}
+
+        for option in ("-O0", "-O1", "-O2"):
+            recorder.build(source, option, program)
+            recorder.must(recorder.call(program, env=recorder.settings(record)))
+            trace = recorder.must(recorder.convert(record)).stdout.decode()
+            for allocated, used in (("NEW", "BILL"), ("BLOCK", "FIRST")):
+                [block] = marked(allocated)
+                with self.subTest(option=option, block=allocated):
+                    self.assertEqual(set(re.findall(rf"(?m)^.*\|w\({block}#\d+.*\)\|(.*)$", trace)), marked(used))
