@@ -162,14 +162,14 @@ void symbol_name(u64 address, char *buffer, size_t size) {
 }
 
 /* ---- lines of code ---- */
-/* A caller's number, mostly from a table of recent ones. */
+/* A caller's number, mostly from a table of recent ones; once places are found, 0 of one that wasn't noted. */
 static u32 caller_number(u64 caller) {
     enum { RECENT = 4096 };
     static struct { u64 caller; u32 number; } recent[RECENT];
     u64 at = (caller ^ caller >> 12) & (RECENT - 1);
     if (recent[at].caller != caller || !recent[at].number) {
         recent[at].caller = caller;
-        recent[at].number = map_number(&callers, caller, 0);
+        recent[at].number = places ? map_find(&callers, caller, 0) : map_number(&callers, caller, 0);
     }
     return recent[at].number;
 }
