@@ -5,9 +5,14 @@ import pathlib
 FILE = pathlib.Path(__file__).resolve().parents[1] / "VERSION"     # the installation puts it there
 
 
-def with_version(text):
-    """A help text with a last line that says which day and commit is installed; as it is in a checkout."""
+def installed():
+    """The day and the commit of what is installed; None in a checkout."""
     try:
-        return f"{text.rstrip()}\n\nshb {FILE.read_text().strip()}\n"
+        return FILE.read_text().strip()
     except FileNotFoundError:
-        return text
+        return None
+
+
+def with_version(text):
+    """A help text with a last line that says what is installed; as it is in a checkout."""
+    return f"{text.rstrip()}\n\nshb {installed()}\n" if installed() else text

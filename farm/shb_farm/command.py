@@ -4,6 +4,7 @@ import argparse
 import contextlib
 import os
 import pathlib
+import shlex
 import shutil
 import signal
 import sys
@@ -11,16 +12,18 @@ import time
 import traceback
 import typing
 
+from shb_common.known import BadLine, Known
 from shb_common.version import with_version
-from shb_farm import engines, files, limits, merging, passes, tables
-from shb_farm.known import BadLine, Known
+from shb_farm import engines, files, limits, merging, passes, tables, traces
+from shb_farm.sources import Sources
 
 ABOUT = """\
-Analyses all traces (NAME.std) in a folder and below, and joins what was found:
-a row for each pair of locations with a race, with the number of traces that
-have it. Each trace ends as a file in OUT/outcomes, put in place whole and last.
-To resume, or when traces or the program have changed, run the same command
-again: it makes what isn't there yet."""
+Analyses all traces in a folder and below, and joins what was found: a row for
+each pair of locations with a race, with the number of traces that have it. A
+trace is NAME.std, NAME.std.gz or NAME.std.xz; links are followed. Each trace
+ends as a file in OUT/outcomes, put in place whole and last. To resume, or when
+traces or the program have changed, run the same command again: it makes what
+isn't there yet."""
 NOTES = """\
 Files in OUT:
   places.txt      the places as text, which is also printed; then the traces
@@ -35,12 +38,13 @@ Files in OUT:
 
 Known places:
   Two locations a line with a tab between them, in either order; * stands for
-  any text. Empty lines, and lines that begin with #, are passed over.
+  any text, and \\* for the sign itself. Empty lines, and lines that begin with
+  #, are passed over; \\# begins a location with this sign.
 
 Exit status:
   The first that applies:
-  4  the words are refused, or a folder, a file or an engine fails; the reason
-     is on standard error
+  4  the words are refused, there is no trace, or a folder, a file or an engine
+     fails; the reason is on standard error
   3  a trace has no outcome: it is missing
   1  there is a place that isn't known
   2  a trace was refused, or memory, time or size didn't suffice
@@ -57,7 +61,7 @@ class Farm(typing.NamedTuple):
     engine: str
     jobs: int
     memory: typing.List[int]    # the MiB of each pass
-    sbatch: str
+    sbatch: typing.List[str]    # further words
 
 
 class Refused(Exception):
@@ -72,6 +76,7 @@ class Parser(argparse.ArgumentParser):
 def arguments(words):
     parser = Parser(prog="shb-farm", description=ABOUT, epilog=with_version(NOTES), formatter_class=argparse.RawDescriptionHelpFormatter)
     parser.add_argument("--known", metavar="FILE", help="places to pass over")
+    parser.add_argument("--source", metavar="DIR", help="the repository, whose files places.sarif names where it finds them")
     parser.add_argument("--engine", choices=sorted(engines.ENGINES), default="xargs",
                         help="xargs: this machine (the default); slurm: a job array on a cluster whose nodes see the same folders")
     parser.add_argument("--jobs", metavar="N", type=number, default=len(os.sched_getaffinity(0)),
@@ -80,10 +85,24 @@ def arguments(words):
                         "the next (256,1024,4096, then with xargs what the machine has, with slurm 16384)")
     parser.add_argument("--seconds", metavar="N", type=number, default=3600, help="processor time of a trace (%(default)s)")
     parser.add_argument("--size", metavar="MIB", type=number, default=1024, help="most of a report (%(default)s)")
-    parser.add_argument("--sbatch", metavar="WORDS", default="", help="with slurm: further words for sbatch")
+    parser.add_argument("--sbatch", metavar="WORDS", type=shell_words, default=[], help="with slurm: further words for sbatch")
     parser.add_argument("traces", metavar="TRACES", help="the folder of the traces")
     parser.add_argument("out", metavar="OUT", help="the folder for outcomes and tables")
-    return parser.parse_args(words)
+    return parser.parse_args(joined(words))
+
+
+def joined(words):
+    """The words of the command line, `--sbatch` with its value as one, since this begins with a dash like an option."""
+    at = words.index("--sbatch") if "--sbatch" in words[:-1] else len(words)
+    return [*words[:at], *("=".join(words[at:at + 2]) for _ in words[at:at + 1]), *words[at + 2:]]
+
+
+def shell_words(text):
+    """Words as a shell parts them."""
+    try:
+        return shlex.split(text)
+    except ValueError as fault:
+        raise argparse.ArgumentTypeError(f"{fault} in {text}") from None
 
 
 def number(text):
@@ -140,6 +159,12 @@ def known_in(path):
         raise Refused(f"{path}: {fault}")
 
 
+def sources_in(folder):
+    if folder and not os.path.isdir(folder):
+        raise Refused(f"{folder}: no such folder of sources")
+    return Sources(folder)
+
+
 def clean(room):
     """Deletes what killed runs have left. Other farms may work in the same folder: what they delete meanwhile is passed over."""
     for path in room.iterdir():
@@ -189,12 +214,16 @@ def report_of(work, name, ending):
 def run(options):
     """Runs the farm, writes its tables, and gives the status."""
     known_places, work = known_in(options.known), pass_of(options)
+    sources = sources_in(options.source)
     farm = Farm(options.engine, options.jobs, memory_of(options), options.sbatch)
     clean(passes.room_in(work.out))
-    endings = run_passes(farm, work, merging.names_in(work.traces, work.out))
+    names = traces.names_in(work.traces, work.out)
+    if not names:
+        raise Refused(f"{options.traces}: there is no trace in this folder and below (NAME.std, NAME.std.gz or NAME.std.xz)")
+    endings = run_passes(farm, work, names)
     rows = with_reports(farm, work, merging.rows_of(endings, known_places))
     status = merging.status_of(rows, endings)
-    write_out(tables.write(pathlib.Path(work.out), rows, endings, status))
+    write_out(tables.write(pathlib.Path(work.out), rows, endings, status, sources))
     return status
 
 

@@ -46,7 +46,7 @@ def run_slurm(work, path, farm):
     job = shlex.join([*JOB, path, str(tasks)])
     words = ["sbatch", "--parsable", "--requeue", f"--job-name=shb-farm-{work.memory}", f"--array=0-{tasks - 1}", "--ntasks=1",
              "--cpus-per-task=1", f"--mem={work.memory + BESIDE_MIB}", "--open-mode=append", f"--output={log}/%A_%a",
-             *shlex.split(farm.sbatch), "--wrap", f"exec {job}"]
+             *farm.sbatch, "--wrap", f"exec {job}"]
     status, said, why = call(words)
     if status:
         say(f"sbatch ended with status {status}: {why.strip()}")
@@ -54,25 +54,40 @@ def run_slurm(work, path, farm):
     array = said.split(";")[0].strip()
     say(f"{counted(count, 'trace')} with {work.memory} MiB each, in {counted(tasks, 'task')} of job {array}")
     try:
-        while is_running(array):
-            time.sleep(POLL_SECONDS)
+        wait_for(array)
     except BaseException:
-        call(["scancel", array])
+        cancel(array)
         raise
 
 
-def is_running(array):
-    """Whether a job array has tasks that may still run. Where a node or the controller failed, Slurm holds what it couldn't start
-    again, until somebody comes: such tasks are given up, and their traces are missing for now."""
-    status, said, why = call(["squeue", "--noheader", f"--jobs={array}", "--format=%T %r"])
+def wait_for(array):
+    """Waits until a job array has no task that may still run. Says when the controller no longer answers, and when it does again.
+    Where a node or the controller failed, Slurm holds what it couldn't start again, until somebody comes: such tasks are given
+    up, and their traces are missing for now."""
+    silent = ""
+    while True:
+        status, said, why = call(["squeue", "--noheader", f"--jobs={array}", "--format=%T %r"])
+        if status and "Invalid job id" in why:
+            return      # it ended long ago
+        why = " ".join(why.split()) or f"squeue ended with status {status}" if status else ""
+        if bool(why) != bool(silent):
+            say(f"Slurm's controller doesn't answer; job {array} is waited for: {why}" if why else "Slurm's controller answers again")
+        silent = why
+        tasks = said.splitlines()
+        if not status and not tasks:
+            return
+        if not status and all("requeued" in task for task in tasks):
+            say(f"Slurm holds what is left of job {array}, which is given up: {tasks[0]}")
+            cancel(array)
+            return
+        time.sleep(POLL_SECONDS)
+
+
+def cancel(array):
+    """Ends a job array, and says so where Slurm doesn't do it."""
+    status, _, why = call(["scancel", array])
     if status:
-        return "Invalid job id" not in why      # an array that ended long ago; else the controller doesn't answer
-    tasks = said.splitlines()
-    if tasks and all("requeued" in task for task in tasks):
-        say(f"Slurm holds what is left of job {array}, which is given up: {tasks[0]}")
-        call(["scancel", array])
-        return False
-    return bool(tasks)
+        say(f"job {array} may go on: scancel ended with status {status}: {' '.join(why.split())}")
 
 
 def call(words):

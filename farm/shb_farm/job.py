@@ -31,7 +31,6 @@ def make_outcome(work, name):
         if old is not None and old.trace == checksum and passes.is_final(old, work, name):
             new = old._replace(stamp=stamp)
         else:
-            trace.seek(0)
             end, places = reports.analysed(work, name, trace)
             new = outcomes.Outcome(work.program, checksum, stamp, end.kind, end.words, places)
     files.put(place, outcomes.text_of(new), passes.room_in(work.out))

@@ -5,7 +5,8 @@ import pathlib
 import stat
 import typing
 
-from shb_farm import files, known, outcomes, passes
+from shb_common import known
+from shb_farm import files, outcomes, passes
 
 
 class Row(typing.NamedTuple):
@@ -28,20 +29,6 @@ class Ending(typing.NamedTuple):
     size: typing.Optional[int]
 
 
-def names_in(folder, out):
-    """The names of all traces below a folder, sorted. What is below `out` is the farm's own."""
-    names = []
-    for path, folders, files in os.walk(folder, onerror=refuse):
-        folders[:] = [name for name in folders if os.path.realpath(os.path.join(path, name)) != str(out)]
-        names += [os.path.relpath(os.path.join(path, name), folder) for name in files if name.endswith(".std")]
-    return sorted(names, key=os.fsencode)
-
-
-def refuse(fault):
-    """A folder that can't be read would hide its traces."""
-    raise fault
-
-
 def ending_of(work, name):
     """How a trace ended, as far as its outcome under the limits of this pass says."""
     try:
@@ -50,6 +37,8 @@ def ending_of(work, name):
         return Ending("missing", fault.strerror, [], None)
     if not stat.S_ISREG(state.st_mode):
         return Ending("missing", "not a regular file", [], None)
+    if not os.access(pathlib.Path(work.traces) / name, os.R_OK):
+        return Ending("missing", "Permission denied", [], None)
     outcome = outcomes.read(passes.outcome_path(work.out, work.form, name))
     if outcome is None:
         why = "its job didn't end"

@@ -4,14 +4,26 @@ import os
 import pathlib
 import tempfile
 
-from shb_farm import passes, running, windows
+from shb_common import refused
+from shb_common.report import BadReport, Report
+from shb_farm import passes, running, traces, windows
 from shb_farm.files import put_file, temporary_file
 from shb_farm.limits import MOST_BYTES, TOO_LONG
 from shb_farm.running import End
 
 
 def analysed(work, name, trace):
-    """How the program ended on an open trace, and the places that it found. A full report is put in place."""
+    """How the program ended on a trace, which is an open file of this name, and the places that it found. A full report is put
+    in place."""
+    try:
+        with traces.unpacked(trace, name, passes.room_in(work.out)) as text:
+            return analysed_text(work, name, text)
+    except traces.BadPacking as fault:
+        return End("refused", str(fault)), []
+
+
+def analysed_text(work, name, trace):
+    """The same of a trace that isn't packed."""
     can_cut = bool(work.windows)
     if not can_cut or os.fstat(trace.fileno()).st_size <= MOST_BYTES:
         end, places = report_of(work, trace, passes.report_path(work.out, name))
@@ -23,29 +35,30 @@ def analysed(work, name, trace):
 
 
 def report_of(work, trace, path):
-    """The same for a trace that isn't cut; `path` is where a full report is put."""
+    """The same for a trace that isn't cut; `path` is where a full report is put. A report counts only whole."""
     with temporary_file(passes.room_in(work.out)) as (report, new):
         end = running.analyse(work, work.form, trace, report)
+        if end.kind == "refused" and not end.words.endswith(TOO_LONG):
+            return End("refused", refused.explained(end.words, trace)), []
         if end.kind != "report":
             return end, []
+        try:
+            counts, places = places_of(report)
+        except BadReport as fault:
+            return End("failed", f"`shb` wrote no whole report: {fault}"), []
         if work.form == passes.FULL:
             put_file(new, path)
             return End("report", str(os.fstat(report.fileno()).st_size)), []
-        counts, places = places_of(report)
         return End("report", counts), places
 
 
-def places_of(report):
-    """What a report in an open file says of its trace, and its places."""
-    report.seek(0)
-    first, counts, places = None, "", []
-    for line in report:
-        if line.startswith(b"at "):
-            first = line[3:-1]
-        elif line.startswith(b"and "):
-            places.append((first, line[4:-1]))
-        elif line.startswith(b"events "):
-            counts = line.decode().strip()
-        elif line.startswith(b"race "):
-            break       # places stand before the races
-    return counts, places
+def places_of(file):
+    """What a whole report in an open file says of its trace, and its places."""
+    file.seek(0)
+    report = Report(file)
+    if report.places is None:
+        raise BadReport("it has no places")
+    for _ in report.races():
+        pass
+    counts = report.counts
+    return f"events {counts.events} threads {counts.threads} locks {counts.locks} variables {counts.variables}", list(report.places)

@@ -1,11 +1,16 @@
 """The places as a log in SARIF 2.1.0, the static analysis results interchange format of OASIS: one result a place."""
 
+import collections
 import hashlib
 import json
+import os
 import posixpath
 import re
+import typing
 import urllib.parse
 
+from shb_common import version
+from shb_common.shown import shown
 from shb_farm import tables
 
 SCHEMA = "https://docs.oasis-open.org/sarif/sarif/v2.1.0/errata01/os/schemas/sarif-schema-2.1.0.json"
@@ -15,27 +20,65 @@ RULE = {
     "shortDescription": {"text": "Two threads access a variable, one of them writes it, and nothing orders the two accesses."},
     "fullDescription": {"text": "In a recorded run two threads access the same variable, at least one access is a write, and "
                                 "schedulable happens-before doesn't order them: a correct reordering of the run brings both next."},
+    "help": {"text": "Make both accesses under one lock, or order them: by a join, by a release and an acquire, or by making the "
+                     "variable atomic. The full report of the trace that the message names has a schedule that shows the race; "
+                     "shb-view explains it."},
     "defaultConfiguration": {"level": "error"},
 }
 BASE = "SRCROOT"        # the folder that relative file names in the traces start from
+TRACES = "TRACES"       # the folder of the traces
+BASES = {BASE: "The folder that relative file names start from: the repository.", TRACES: "The folder of the traces."}
 LOCATION = re.compile(rb"(.+?):([1-9][0-9]{0,8})(?::[0-9]+)?", re.DOTALL)
+FOUND, RELATIVE, ABSOLUTE, NAME = range(4)      # what is known of a location, from what a reader can open best
 
 
-def uri_of(path):
-    """A file name as a URI reference; a relative one counts from the folder BASE."""
+class Place(typing.NamedTuple):
+    """A location of a trace: its text, what is known of it, its file and line, and the text of this line or None."""
+
+    text: bytes
+    kind: int
+    path: bytes
+    line: int
+    code: typing.Optional[bytes]
+
+
+def place_of(location, sources):
+    """What is known of a location: a file with a line where it has this form, the repository's file where that is found."""
+    found = LOCATION.fullmatch(location)
+    if not found:
+        return Place(location, NAME, b"", 0, None)
+    path, line = found[1], int(found[2])
+    source = sources.find(path)
+    if source:
+        return Place(location, FOUND, source, line, sources.line(source, line))
+    return Place(location, ABSOLUTE if path.startswith(b"/") else RELATIVE, path, line, None)
+
+
+def uri_of(path, base):
+    """A file name as a URI reference; a relative one counts from a base."""
     quoted = urllib.parse.quote_from_bytes(posixpath.normpath(path), safe="/")
     if path.startswith(b"/"):
         return {"uri": "file://" + quoted.replace("//", "/", 1)}
-    return {"uri": quoted, "uriBaseId": BASE}
+    return {"uri": quoted, "uriBaseId": base}
 
 
-def location_of(location, **more):
-    """A location of a trace: a file with a line where it has this form, else a name."""
-    found = LOCATION.fullmatch(location)
-    if found:
-        physical = {"artifactLocation": uri_of(found[1]), "region": {"startLine": int(found[2])}}
-        return {**more, "physicalLocation": physical}
-    return {**more, "logicalLocations": [{"fullyQualifiedName": tables.shown(location) or "no location"}]}
+def location_of(place, **more):
+    """A location object: with a file and a line, or with a name alone."""
+    if place.kind == NAME:
+        return {**more, "logicalLocations": [{"fullyQualifiedName": named(place)}]}
+    return {**more, "physicalLocation": {"artifactLocation": uri_of(place.path, BASE), "region": {"startLine": place.line}}}
+
+
+def primary_of(place, example):
+    """The location of a result, which readers of such logs want in a file: without one it is the trace that has the place."""
+    if place.kind != NAME:
+        return location_of(place)
+    trace = {"artifactLocation": uri_of(os.fsencode(example), TRACES), "region": {"startLine": 1}}
+    return {**location_of(place), "physicalLocation": trace}
+
+
+def named(place):
+    return shown(place.text) or "no location"
 
 
 def fingerprint(pair):
@@ -43,22 +86,34 @@ def fingerprint(pair):
     return hashlib.blake2b(b"\t".join(pair), digest_size=16).hexdigest()
 
 
-def result_of(row, count):
-    """The result of one place, of a farm of so many traces."""
-    first, second = (tables.shown(part) or "no location" for part in row.pair)
-    result = {
+def line_fingerprint(first, second):
+    """Names a place by the texts of its lines, so it stays when they move; nothing where the first one's isn't known."""
+    if first.code is None:
+        return None
+    parts = [first.path, first.code, *((second.text,) if second.code is None else (second.path, second.code))]
+    return hashlib.blake2b(b"\n".join(parts), digest_size=8).hexdigest()
+
+
+def result_of(row, count, sources, seen):
+    """The result of one place, of a farm of so many traces. `seen` counts the fingerprints of lines before it."""
+    first, second = sorted((place_of(part, sources) for part in row.pair), key=lambda place: (place.kind, place.text))
+    prints = {"places/v1": fingerprint(row.pair)}
+    by_lines = line_fingerprint(first, second)
+    if by_lines:
+        seen[by_lines] += 1
+        prints["primaryLocationLineHash"] = f"{by_lines}:{seen[by_lines]}"
+    return {
         "ruleId": RULE["id"],
         "ruleIndex": 0,
         "level": "error",
-        "message": {"text": f"Data race between {plain(first)} and [{plain(second)}](1): {row.traces} of {count} traces have it, "
-                            f"for example {plain(tables.shown(tables.field(row.example)))}."},
-        "locations": [location_of(row.pair[0])],
-        "relatedLocations": [location_of(row.pair[1], id=1, message={"text": "The other access."})],
-        "partialFingerprints": {"places/v1": fingerprint(row.pair)},
+        "message": {"text": f"Data race between {plain(named(first))} and [{plain(named(second))}](1): {row.traces} of {count} traces "
+                            f"have it, for example {plain(shown(tables.field(row.example)))}."},
+        "locations": [primary_of(first, row.example)],
+        "relatedLocations": [location_of(second, id=1, message={"text": "The other access."})],
+        "partialFingerprints": prints,
         "suppressions": [{"kind": "external", "justification": "It is in the file of known places."}] if row.is_known else [],
         "properties": {"traces": row.traces},
     }
-    return result
 
 
 def plain(text):
@@ -67,17 +122,18 @@ def plain(text):
 
 
 def notification_of(name, ending):
-    text = f"{tables.shown(tables.field(name))}: {tables.shown(tables.field(tables.why(ending)))}"
+    text = f"{shown(tables.field(name))}: {shown(tables.field(tables.why(ending)))}"
     return {"level": "error" if ending.kind == "missing" else "warning", "message": {"text": text}}
 
 
-def log(rows, endings, status):
+def log(rows, endings, status, sources):
     """The log of a farm as bytes."""
     lost = [notification_of(name, ending) for name, ending in endings.items() if ending.kind != "report"]
+    seen, installed = collections.Counter(), version.installed()
     run = {
-        "tool": {"driver": {"name": "shb", "rules": [RULE]}},
-        "originalUriBaseIds": {BASE: {"description": {"text": "The folder that relative file names in the traces start from."}}},
+        "tool": {"driver": {"name": "shb", **({"version": installed} if installed else {}), "rules": [RULE]}},
+        "originalUriBaseIds": {name: {"description": {"text": text}} for name, text in BASES.items()},
         "invocations": [{"executionSuccessful": status != 3, "exitCode": status, "toolExecutionNotifications": lost}],
-        "results": [result_of(row, len(endings)) for row in rows],
+        "results": [result_of(row, len(endings), sources, seen) for row in rows],
     }
     return (json.dumps({"$schema": SCHEMA, "version": "2.1.0", "runs": [run]}, indent=1) + "\n").encode()

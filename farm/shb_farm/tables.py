@@ -2,7 +2,12 @@
 
 import os
 
-from shb_farm import files, known, passes, sarif
+from shb_common import known
+from shb_common.shown import shown
+from shb_farm import files, passes, sarif
+
+
+WIDEST = 60     # columns of the text's tables; a longer field moves what stands after it
 
 
 def field(text):
@@ -34,7 +39,7 @@ def traces_table(endings):
 
 def unknown_places(rows):
     """The unknown places as a file of known places has them."""
-    return b"".join(b"%s\t%s\n" % row.pair for row in rows if not row.is_known)
+    return b"".join(known.line_of(row.pair) for row in rows if not row.is_known)
 
 
 def why(ending):
@@ -43,16 +48,10 @@ def why(ending):
             "size": f"its report is longer than {ending.words} MiB"}.get(ending.kind, ending.words)
 
 
-def shown(field_):
-    """A field on a terminal: what doesn't print is escaped."""
-    text = field_.decode("utf-8", "backslashreplace")
-    return "".join(character if character.isprintable() else character.encode("unicode_escape").decode() for character in text)
-
-
 def aligned(lines):
-    """Lines of fields, each column as wide as its longest field; the last one is left as it is."""
+    """Lines of fields, each column as wide as its longest field up to WIDEST; the last one is left as it is."""
     lines = [[shown(part) for part in line] for line in lines]
-    widths = [max(map(len, column)) for column in zip(*lines)]
+    widths = [min(max(map(len, column)), WIDEST) for column in zip(*lines)]
     return ["  ".join(part.ljust(width) for part, width in zip(line, widths)).rstrip() for line in lines]
 
 
@@ -75,12 +74,12 @@ def text(rows, endings):
     return "".join(line + "\n" for line in lines)
 
 
-def write(out, rows, endings, status):
-    """Writes all tables, each whole, and gives the text."""
+def write(out, rows, endings, status, sources):
+    """Writes all tables, each whole, and gives the text. `sources` has the files that locations name."""
     said = text(rows, endings)
     room = passes.room_in(out)
     for name, content in (("places.tsv", places_table(rows)), ("traces.tsv", traces_table(endings)),
                           ("unknown.places", unknown_places(rows)), ("places.txt", said.encode("utf-8", "surrogateescape")),
-                          ("places.sarif", sarif.log(rows, endings, status))):
+                          ("places.sarif", sarif.log(rows, endings, status, sources))):
         files.put(out / name, content, room)
     return said

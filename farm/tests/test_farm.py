@@ -1,14 +1,19 @@
 """What a farm prints and writes, and its statuses."""
 
+import gzip
+import lzma
 import os
 import shutil
 import subprocess
 import sys
+from unittest import mock
 
 import farm
 from farm import BAD, BAD_WORDS, CLEAN, OTHER_ORDER, RACE
+from shb_farm import merging
+from shb_farm.passes import Pass
 
-FULL_TEXT = """\
+FULL_TEXT = f"""\
 traces 5 reports 3 refused 1 missing 1
 places 2 unknown 1 known 1
 
@@ -16,7 +21,7 @@ traces  state    first  second  example
 2       unknown  a.c:1  b.c:2   one.std
 1       known    k.c:1  k.c:2   three.std
 
-refused  bad.std   line 1: the line has no operation field
+refused  bad.std   {BAD_WORDS}
 missing  gone.std  No such file or directory
 """
 FULL_PLACES = """\
@@ -24,9 +29,9 @@ traces	state	first	second	example	report
 2	unknown	a.c:1	b.c:2	one.std	reports/one.std.report
 1	known	k.c:1	k.c:2	three.std	
 """
-FULL_TRACES = """\
+FULL_TRACES = f"""\
 trace	outcome	places	words
-bad.std	refused		line 1: the line has no operation field
+bad.std	refused		{BAD_WORDS}
 gone.std	missing		No such file or directory
 one.std	report	1	events 2 threads 2 locks 0 variables 1
 three.std	report	2	events 4 threads 2 locks 0 variables 2
@@ -66,7 +71,38 @@ class Tables(farm.Case):
         self.assertEqual(list((self.out / "tmp").iterdir()), [])
 
     def test_no_trace(self):
-        self.assertEqual(self.farm()[:2], (0, "traces 0 reports 0 refused 0 missing 0\nplaces 0 unknown 0 known 0\n"))
+        self.trace("trace.txt", RACE)
+        self.assertEqual(self.farm(), (4, "", f"shb-farm: {self.traces}: there is no trace in this folder and below (NAME.std, "
+                                              "NAME.std.gz or NAME.std.xz)\n"))
+        (self.traces / "nightly").symlink_to("not mounted")
+        answer = self.farm()
+        self.assertEqual((answer.status, self.ends()), (3, {"nightly": ("missing", "No such file or directory")}))
+
+    def test_a_program_that_writes_no_whole_report(self):
+        self.trace("race.std", RACE)
+        said = {"true": "line 1 of the report is missing; it should be `shb-report 2`",
+                "head -n -1": "line 11 of the report is missing; it should be `end`",
+                "head -c -1": "line 11 of the report is cut off: `end`; it should be `end`",
+                "sed /^second/d": "line 10 of the report is `end`; it should be `second ACCESS`",
+                "sed s/b.c:2$/c.c:3/": None,
+                "sed 's/^and .*/and c.c:3/'": "the places that the report begins with aren't those of its races"}
+        for number, (words, wanted) in enumerate(said.items()):
+            shb = self.script(f"shb{number}", f"{farm.SHB} \"$@\" | {words}\n")
+            answer = self.farm("--memory", "256", shb=shb)
+            end = ("missing", f"`shb` wrote no whole report: {wanted}") if wanted else ("report", "events 2 threads 2 locks 0 variables 1")
+            self.assertEqual((answer.status, self.ends()["race.std"]), (3 if wanted else 1, end))
+
+    def test_a_full_report_that_is_not_whole(self):
+        self.trace("race.std", RACE)
+        shb = self.script("cut", f"case \"$*\" in *--list*) exec {farm.SHB} \"$@\" ;; esac\n{farm.SHB} \"$@\" | head -n -1\n")
+        self.assertEqual(self.farm("--memory", "256", shb=shb).status, 3)
+        self.assertEqual(self.table("places.tsv"), [["1", "unknown", "a.c:1", "b.c:2", "race.std", "missing"]])
+        self.assertEqual(list((self.out / "reports").glob("*.report")), [])
+
+    def test_a_long_location_does_not_make_all_lines_long(self):
+        self.trace("race.std", RACE + b"T1|w(y)|%s\nT2|w(y)|k.c:2\n" % (b"l" * 3000))
+        lines = self.farm().out.splitlines()
+        self.assertEqual([len(line) > 200 for line in lines], [False] * 5 + [True])
 
     def test_statuses(self):
         known = self.known(b"b.c:2\ta.c:1\n")
@@ -167,6 +203,55 @@ class Names(farm.Case):
         self.assertEqual(self.farm().status, 3)
         self.assertEqual({name: end[1] for name, end in self.ends().items() if end[0] == "missing"}, {"pipe.std": "not a regular file"})
         self.assertIn("folder.std/inner.std", self.ends())
+
+    def test_links_to_folders_are_followed(self):
+        """Each folder once, by its own name where it has one; also in a circle."""
+        far = self.folder / "far"
+        (far / "deep").mkdir(parents=True)
+        (far / "deep" / "race.std").write_bytes(RACE)
+        (far / "up").symlink_to(far)
+        self.trace("plain/clean.std", CLEAN)
+        (self.traces / "a link").symlink_to(self.traces / "plain")
+        (self.traces / "nightly").symlink_to(far)
+        self.out.mkdir()
+        (self.traces / "out").symlink_to(self.out)
+        (self.out / "reports").mkdir()
+        (self.traces / "reports").symlink_to(self.out / "reports")
+        (self.out / "reports" / "window-0001.std").write_bytes(BAD)
+        answer = self.farm()
+        self.assertEqual((answer.status, list(self.ends())), (1, ["nightly/deep/race.std", "plain/clean.std"]), answer.err)
+
+    def test_packed_traces(self):
+        for name, pack in (("a.std.gz", gzip.compress), ("b.std.xz", lzma.compress)):
+            self.trace(name, pack(RACE))
+        self.trace("cut.std.gz", gzip.compress(RACE)[:-9])
+        self.trace("cut.std.xz", lzma.compress(RACE)[:-9])
+        self.trace("no.std.gz", RACE)
+        self.trace("no.std.xz", RACE)
+        self.trace("damaged.std.gz", gzip.compress(bytes(range(256)) * 9)[:30] + b"x" * 99)
+        self.trace("bad.std.gz", gzip.compress(BAD))
+        self.trace("a.gz", RACE)
+        self.assertEqual(self.farm().status, 1)
+        self.assertEqual(self.table("places.tsv")[0][:5], ["2", "unknown", "a.c:1", "b.c:2", min(("a.std.gz", "b.std.xz"), key=self.size)])
+        ends = self.ends()
+        self.assertEqual({name: end[0] for name, end in ends.items()}, {
+            "a.std.gz": "report", "b.std.xz": "report", "bad.std.gz": "refused", "cut.std.gz": "refused", "cut.std.xz": "refused",
+            "damaged.std.gz": "refused", "no.std.gz": "refused", "no.std.xz": "refused"})
+        self.assertEqual(ends["bad.std.gz"][1], BAD_WORDS)
+        for name in ("cut.std.gz", "cut.std.xz", "damaged.std.gz", "no.std.gz", "no.std.xz"):
+            self.assertTrue(ends[name][1].startswith("it can't be unpacked: "), ends[name])
+        self.assertEqual(list((self.out / "tmp").iterdir()), [])
+
+    def size(self, name):
+        return (self.traces / name).stat().st_size
+
+    def test_a_trace_that_cannot_be_read_is_missing_and_not_tried(self):
+        """It has no size then. (Root reads all files, so the answer of the system is a stand-in.)"""
+        self.trace("race.std", RACE)
+        work = Pass("", "", "", str(self.traces), str(self.out))
+        self.assertEqual(merging.ending_of(work, "race.std").size, len(RACE))
+        with mock.patch.object(merging.os, "access", lambda path, mode: not str(path).endswith("race.std")):
+            self.assertEqual(merging.ending_of(work, "race.std"), merging.Ending("missing", "Permission denied", [], None))
 
     def test_a_name_that_is_too_long_for_an_outcome_is_missing(self):
         self.trace("n" * 251 + ".std", RACE)

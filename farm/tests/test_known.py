@@ -1,7 +1,7 @@
 """The file of known places."""
 
 import farm
-from shb_farm.known import BadLine, Known, pair_of
+from shb_common.known import BadLine, Known, line_of, matches, pair_of, pieces_of
 
 FILE = b"""\
 # A comment, and an empty line
@@ -45,5 +45,39 @@ class KnownPlaces(farm.Case):
                 Known(text)
             self.assertEqual(str(refused.exception), f"line {number}: a place is two locations with a tab between them")
 
-    def test_a_last_line_without_its_end(self):
-        self.assertTrue(Known(b"a\tb").has((b"a", b"b")))
+    def test_ends_of_lines(self):
+        for text in (b"a\tb", b"a\tb\n", b"a\tb\r\n", b"\xef\xbb\xbfa\tb\r\n", b"\r\n# c\r\nb\ta"):
+            self.assertTrue(Known(text).has((b"a", b"b")), text)
+        self.assertFalse(Known(b"a\tb\rc\n").has((b"a", b"b")))
+
+    def test_what_is_written_is_known_and_nothing_else(self):
+        """A line that was made of a place has this place alone, whatever signs are in it."""
+        names = [b"", b"#a.c:1", b"\\#a.c:1", b"\\\\#a", b"a#", b"op*", b"op\\*", b"opAny", b"*", b"\\", b"\\*", b"**", b"a*b*", b"axbx", b"a\tb", b"a\nb", b"a\rb"]
+        pairs = {pair_of(a, b) for a in names for b in names if a or b}
+        for pair in pairs:
+            known = Known(line_of(pair))
+            self.assertEqual([other for other in pairs if known.has(other)], [pair])
+
+    def test_stars_and_signs(self):
+        known = Known(b"op\\*\t*\n\\#x*\tz\n*ab*ab*\tq\n")
+        pairs = lambda *names: [known.has(pair_of(name, other)) for name, other in names]
+        self.assertEqual(pairs((b"op*", b"any"), (b"any", b"op*"), (b"#x1", b"z"), (b"abab", b"q"), (b"1ab2ab3", b"q")), [True] * 5)
+        self.assertEqual(pairs((b"opAny", b"any"), (b"\\#x1", b"z"), (b"aab", b"q"), (b"abb", b"q")), [False] * 4)
+
+    def test_pieces_that_overlap(self):
+        for pattern, name, wanted in ((b"aba*ba", b"aba", False), (b"aba*ba", b"ababa", True), (b"a*a", b"a", False), (b"a*b*c", b"acbc", True),
+                                      (b"a*bc*c", b"abc", False), (b"*", b"", True), (b"**", b"x", True), (b"a*", b"ba", False)):
+            self.assertEqual(Known(pattern + b"\tz").has(pair_of(name, b"z")), wanted, (pattern, name))
+
+    def test_many_stars_search_no_part_twice(self):
+        """Steps are counted, as far as Python is asked: a search that goes back would ask 10 ** 15 times."""
+        asked = 0
+
+        class Counted(bytes):
+            def find(self, *words):
+                nonlocal asked
+                asked += 1
+                return super().find(*words)
+        self.assertFalse(matches(pieces_of(b"*1" * 10 + b"*x"), Counted(b"1" * 200 + b"y")))
+        self.assertFalse(matches(pieces_of(b"*1" * 10 + b"*x*y"), Counted(b"1" * 200 + b"y")))
+        self.assertLessEqual(asked, 11)

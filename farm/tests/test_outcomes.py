@@ -70,7 +70,7 @@ class Again(farm.Case):
         old = os.stat(self.bad)
         self.bad.write_bytes(b"T1|jump(x)\n")
         self.again(1)
-        self.assertEqual(self.ends()["bad.std"][1], "line 1: the operation is not known")
+        self.assertEqual(self.ends()["bad.std"][1], "line 1: the operation is not known; it is `T1|jump(x)`")
         self.bad.write_bytes(BAD)
         os.utime(self.bad, ns=(old.st_atime_ns, old.st_mtime_ns))
         self.assertEqual(self.again(1).out, self.first.out)
@@ -195,6 +195,44 @@ echo '17;loop'
             self.assertIn(wanted, submitted[wanted == "--array=0-0 "])
         for wanted in ("--mem=320 ", "--requeue ", "--partition=a b ", f"--output={self.out}/log/%A_%a "):
             self.assertIn(wanted, submitted[0])
+
+    def test_further_words(self):
+        self.assertEqual(self.slurm("exit 0\n", None, "--sbatch", "--partition=night", LOST=3).status, 1)
+        self.assertIn(" --partition=night --wrap ", (self.folder / "submitted").read_text())
+        answer = self.slurm("exit 0\n", None, "--sbatch", "--comment='x")
+        self.assertEqual((answer.status, answer.err.splitlines()[0]),
+                         (4, "shb-farm: argument --sbatch: No closing quotation in --comment='x"))
+        answer = self.slurm("exit 0\n", None, "--sbatch")
+        self.assertEqual((answer.status, answer.err.splitlines()[0]), (4, "shb-farm: argument --sbatch: expected one argument"))
+
+    def test_a_controller_that_does_not_answer_is_said_once(self):
+        squeue = f"""[ -e {self.folder}/twice ] && exit 0
+[ -e {self.folder}/once ] && touch {self.folder}/twice
+touch {self.folder}/once
+echo 'slurm_load_jobs error: Unable to contact slurm controller' >&2
+exit 1
+"""
+        answer = self.slurm(squeue, LOST=3)
+        said = [line for line in answer.err.splitlines() if "controller" in line]
+        self.assertEqual((answer.status, said), (1, [
+            "shb-farm: Slurm's controller doesn't answer; job 17 is waited for: slurm_load_jobs error: Unable to contact slurm controller",
+            "shb-farm: Slurm's controller answers again"]))
+
+    def test_a_job_that_cannot_be_cancelled_is_said(self):
+        self.script("bin/sbatch", self.sbatch)
+        self.script("bin/squeue", f"touch {self.folder}/asked\necho RUNNING None\n")
+        self.script("bin/scancel", "echo 'scancel: error: Unable to contact slurm controller' >&2; exit 1\n")
+        words = self.words("--engine", "slurm", "--memory", "256")
+        started = subprocess.Popen(words, env=self.environment(PATH=f"{self.folder}/bin:{os.environ['PATH']}"), stdout=subprocess.DEVNULL,
+                                   stderr=subprocess.PIPE)
+        deadline = time.monotonic() + farm.SECONDS
+        while not (self.folder / "asked").exists():
+            self.assertLess(time.monotonic(), deadline)
+            time.sleep(0.02)
+        started.terminate()
+        said = started.communicate(timeout=farm.SECONDS)[1].decode()
+        self.assertEqual(started.returncode, 128 + signal.SIGTERM)
+        self.assertIn("shb-farm: job 17 may go on: scancel ended with status 1: scancel: error: Unable to contact slurm controller\n", said)
 
     def test_a_held_task_is_given_up_and_missing(self):
         held = "[ \"$1 $2 $3\" = '--noheader --jobs=17 --format=%T %r' ] && echo 'PENDING launch failed requeued held'\n"

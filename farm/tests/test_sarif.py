@@ -11,8 +11,8 @@ OBJECTS = {
     "sarifLog": ({"$schema", "version", "runs"}, {"version", "runs"}),
     "run": ({"tool", "results", "invocations", "originalUriBaseIds"}, {"tool"}),
     "tool": ({"driver"}, {"driver"}),
-    "toolComponent": ({"name", "rules"}, {"name"}),
-    "reportingDescriptor": ({"id", "name", "shortDescription", "fullDescription", "defaultConfiguration"}, {"id"}),
+    "toolComponent": ({"name", "version", "rules"}, {"name"}),
+    "reportingDescriptor": ({"id", "name", "shortDescription", "fullDescription", "help", "defaultConfiguration"}, {"id"}),
     "invocation": ({"executionSuccessful", "exitCode", "toolExecutionNotifications"}, {"executionSuccessful"}),
     "notification": ({"level", "message"}, {"message"}),
     "result": ({"ruleId", "ruleIndex", "level", "message", "locations", "relatedLocations", "partialFingerprints", "suppressions",
@@ -29,7 +29,7 @@ LEVELS = {"none", "note", "warning", "error"}
 URI = re.compile(r"(file:///)?[A-Za-z0-9._~!$&'()*+,;=@/%-]+")      # no colon in a relative one
 
 
-class Log(farm.Case):
+class Base(farm.Case):
     def log(self, *words):
         self.farm(*words)
         log = json.loads((self.out / "places.sarif").read_bytes().decode("utf-8"))
@@ -56,6 +56,7 @@ class Log(farm.Case):
             self.assertIn(rule["defaultConfiguration"]["level"], LEVELS)
             self.check_message(rule["shortDescription"])
             self.check_message(rule["fullDescription"])
+            self.check_message(rule["help"])
         self.assertEqual(len({rule["id"] for rule in driver["rules"]}), len(driver["rules"]))
         for base in run["originalUriBaseIds"].values():
             self.expect("artifactLocation", base)
@@ -81,12 +82,13 @@ class Log(farm.Case):
         self.assertIn(result["level"], LEVELS)
         self.check_message(result["message"])
         self.assertEqual(len(result["locations"]), 1)       # more are for what has to be changed at each of them
+        self.assertIn("physicalLocation", result["locations"][0])   # readers of such logs refuse a result without a file
         for location in result["locations"] + result["relatedLocations"]:
             self.check_location(run, location)
         links = set(re.findall(r"(?<!\\)\]\(([^)]*)\)", result["message"]["text"]))
         self.assertEqual(links, {str(location["id"]) for location in result["relatedLocations"]})
         for name, value in result["partialFingerprints"].items():
-            self.assertRegex(name, r"^[^/]+/v[0-9]+$")
+            self.assertRegex(name, r"^([^/]+/v[0-9]+|primaryLocationLineHash)$")
             self.assertTrue(value and isinstance(value, str))
         for suppression in result["suppressions"]:          # all results have this property, or none has
             self.expect("suppression", suppression)
@@ -104,10 +106,13 @@ class Log(farm.Case):
         self.assertRegex(artifact["uri"], "^" + URI.pattern + "$")
         self.assertNotRegex(artifact["uri"], "%(?![0-9A-F]{2})")
         is_absolute = artifact["uri"].startswith("file:")
-        self.assertEqual(artifact.get("uriBaseId"), None if is_absolute else list(run["originalUriBaseIds"])[0])
+        self.assertTrue("uriBaseId" not in artifact if is_absolute else artifact["uriBaseId"] in run["originalUriBaseIds"])
         self.assertGreaterEqual(location["physicalLocation"]["region"]["startLine"], 1)
 
-    def test_no_traces(self):
+
+class Log(Base):
+    def test_no_place(self):
+        self.trace("clean.std", farm.CLEAN)
         run = self.log()
         self.assertEqual(run["results"], [])
         self.assertEqual(run["invocations"], [{"executionSuccessful": True, "exitCode": 0, "toolExecutionNotifications": []}])
@@ -143,11 +148,73 @@ class Log(farm.Case):
         run = self.log()
         self.assertEqual(len(run["results"]), len(locations))
         found = [result["locations"][0] for result in run["results"]]
-        uris = {place["physicalLocation"]["artifactLocation"]["uri"] for place in found if "physicalLocation" in place}
+        traces = [place for place in found if place["physicalLocation"]["artifactLocation"].get("uriBaseId") == "TRACES"]
+        self.assertEqual([place["physicalLocation"] for place in traces],
+                         [{"artifactLocation": {"uri": "all.std", "uriBaseId": "TRACES"}, "region": {"startLine": 1}}] * 5)
+        self.assertEqual(["logicalLocations" in place for place in found], [place in traces for place in found])
+        uris = {place["physicalLocation"]["artifactLocation"]["uri"] for place in found if place not in traces}
         self.assertEqual(uris, {"a", "dir/a%20b.c", "y.c", "file:///abs/c%23.c", "file:///abs.c", "c%3Ad.c", "50%25%5B1%5D%5C%3F.c",
                                 "%C3%A9.c", "%FF%1B.c", "%3Cb%3E.c"})
         names = {place["logicalLocations"][0]["fullyQualifiedName"] for place in found if "logicalLocations" in place}
         self.assertEqual(names, {"no location", "1", "a.c", "a.c:0", "a.c:99999999999"})
+
+    def test_a_file_comes_before_a_name_and_the_repository_before_the_system(self):
+        self.trace("race.std", b"T1|w(x)|/usr/include/a.h:3\nT2|w(x)|z.c:2\nT1|w(y)|prog+0x11df\nT2|w(y)|/usr/b.h:7\n")
+        results = self.log()["results"]
+        uris = [result["locations"][0]["physicalLocation"]["artifactLocation"]["uri"] for result in results]
+        self.assertEqual(sorted(uris), ["file:///usr/b.h", "z.c"])
+
+
+class Repository(Base):
+    """Logs with --source: locations are files of the repository where there is one."""
+
+    def setUp(self):
+        super().setUp()
+        self.top = self.folder / "repository"
+        for name, text in (("src/a.c", "one\n  two  2\n"), ("src/b.c", "b one\nb two\nb two\n"), ("lib/same.c", "x\n"), ("src/same.c", "x\n"),
+                           (".git/hidden.c", "x\n")):
+            (self.top / name).parent.mkdir(parents=True, exist_ok=True)
+            (self.top / name).write_text(text)
+
+    def race(self, *locations):
+        lines = [f"T{number}|w(x)|{location}\n" for number, location in enumerate(locations)]
+        self.trace("race.std", "".join(lines).encode())
+        return self.log("--source", self.top)["results"]
+
+    def uris(self, *locations):
+        [result] = self.race(*locations)
+        return [place["physicalLocation"]["artifactLocation"] for place in (result["locations"][0], result["relatedLocations"][0])]
+
+    def test_the_file_that_a_path_ends_with(self):
+        inside = lambda uri: {"uri": uri, "uriBaseId": "SRCROOT"}
+        for location, wanted in (("b.c:1", inside("src/b.c")), ("src/b.c:1", inside("src/b.c")), (f"{self.top}/src/b.c:1", inside("src/b.c")),
+                                 ("./src/../src/b.c:1", inside("src/b.c")), ("lib/same.c:1", inside("lib/same.c")), ("same.c:1", inside("same.c")),
+                                 ("rc/b.c:1", inside("rc/b.c")), ("hidden.c:1", inside("hidden.c")), ("/src/b.c:1", {"uri": "file:///src/b.c"})):
+            self.assertIn(wanted, self.uris("a.c:2", location), location)
+
+    def hashes(self, *locations):
+        return [result["partialFingerprints"].get("primaryLocationLineHash") for result in self.race(*locations)]
+
+    def test_fingerprints_by_the_text_of_lines(self):
+        before = self.hashes("a.c:2", "b.c:1")
+        self.assertRegex(before[0], "^[0-9a-f]{16}:1$")
+        (self.top / "src/a.c").write_text("// new\none\n\ttwo 2\n")
+        self.assertEqual(self.hashes("a.c:3", "b.c:1"), before)
+        self.assertNotEqual(self.hashes("a.c:2", "b.c:1"), before)
+        self.assertNotEqual(self.hashes("a.c:3", "b.c:2"), before)
+        self.assertEqual(self.hashes("a.c:99", "none.c:2"), [None])
+
+    def test_places_with_the_same_texts_are_counted(self):
+        found = self.hashes("a.c:2", "b.c:2", "b.c:3")
+        self.assertEqual(len(found), 3)
+        self.assertEqual(len(set(found)), 3)
+        self.assertEqual({text.split(":")[0] for text in self.hashes("a.c:2", "b.c:2")} & {text.split(":")[0] for text in self.hashes("a.c:2", "b.c:3")},
+                         {self.hashes("a.c:2", "b.c:2")[0].split(":")[0]})
+
+    def test_no_such_folder(self):
+        self.trace("race.std", RACE)
+        answer = self.farm("--source", self.folder / "none")
+        self.assertEqual((answer.status, answer.err), (4, f"shb-farm: {self.folder}/none: no such folder of sources\n"))
 
 
 class Fingerprints(farm.Case):

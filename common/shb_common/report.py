@@ -1,0 +1,159 @@
+"""A report of races, read line by line: of version 1 or 2, with schedules or without. docs/FORMATS.md has the form.
+
+A report is accepted only whole: its numbers count up, its places are those of its races, and it ends with `end`.
+"""
+
+import re
+import typing
+
+from shb_common.shown import shown
+
+NUMBER = rb"(0|[1-9][0-9]{0,19})"
+VERSION = re.compile(rb"shb-report ([12])\n")
+COUNTS = re.compile(rb"events %b threads %b locks %b variables %b\n" % ((NUMBER,) * 4))
+RACES = re.compile(rb"races %b\n" % NUMBER)
+PLACES = re.compile(rb"places %b\n" % NUMBER)
+PLACE = re.compile(rb"place %b: %b\n" % (NUMBER, NUMBER))
+AT, AND = (re.compile(word + rb" ([^\n]{0,4096})\n") for word in (rb"at", rb"and"))
+RACE = re.compile(rb"race %b: %b %b\n" % (NUMBER, NUMBER, NUMBER))
+FIRST, SECOND = (re.compile(word + rb" ([^\n|]+\|[rw]\([^\n|]+\)(?:\|[^\n]*)?)\n") for word in (rb"first", rb"second"))
+SCHEDULE = re.compile(rb"schedule %b:" % NUMBER)
+END = re.compile(rb"end\n")
+LONGEST = 60        # columns of a line that a refusal shows
+MOST_LINE = 4_200   # bytes of a line that is no schedule
+
+
+class BadReport(Exception):
+    """The words say what is wrong with a report."""
+
+
+class Counts(typing.NamedTuple):
+    """What a trace has."""
+
+    events: int
+    threads: int
+    locks: int
+    variables: int
+
+
+class Race(typing.NamedTuple):
+    """A race of a report. `schedule` is where its schedule begins in the file, or None."""
+
+    number: int
+    first: int
+    second: int
+    first_line: bytes
+    second_line: bytes
+    schedule: typing.Optional[int]
+
+
+class Lines:
+    """The lines of a report, one after the other, from where the file stands."""
+
+    def __init__(self, file):
+        self.file = file
+        self.number = 0             # of the lines taken
+        self.start = self.bytes = 0     # where the next line begins, and where it ends, counted from the report's first byte
+        self.line = b""
+        self.advance()
+
+    def advance(self):
+        self.start = self.bytes
+        self.line = self.file.readline(MOST_LINE)
+        self.bytes += len(self.line)
+
+    def next(self, pattern, form):
+        """The groups of the next line, which has this pattern."""
+        self.number += 1
+        found = pattern.fullmatch(self.line)
+        if found is None:
+            raise BadReport(f"line {self.number} of the report is {said(self.line)}; it should be `{form}`")
+        self.advance()
+        return found.groups()
+
+    def numbers(self, pattern, form):
+        """The numbers of the next line."""
+        return [int(digits) for digits in self.next(pattern, form)]
+
+    def numbered(self, pattern, form, number):
+        """The numbers of the next line but for its first, which is this one."""
+        found = self.numbers(pattern, form)
+        if found[0] != number:
+            raise BadReport(f"line {self.number} of the report has the number {found[0]}; it should be `{form}`")
+        return found[1:]
+
+    def pass_schedule(self):
+        """Where the schedule of the next line begins. The line may be long, and isn't kept; `shb check` judges it."""
+        start = self.start
+        self.number += 1
+        if SCHEDULE.match(self.line) is None:
+            raise BadReport(f"line {self.number} of the report is {said(self.line)}; it should be `schedule N: N EVENTS`")
+        while not self.line.endswith(b"\n"):
+            self.advance()
+            if not self.line:
+                raise BadReport(f"line {self.number} of the report is cut off: a schedule")
+        self.advance()
+        return start
+
+
+def said(line):
+    """What a refusal says of a line."""
+    if not line:
+        return "missing"
+    if line.endswith(b"\n"):
+        return f"`{shown(line[:-1], LONGEST)}`"
+    return f"{'too long' if len(line) == MOST_LINE else 'cut off'}: `{shown(line, LONGEST)}`"
+
+
+def location_of(line):
+    """The location in an event's line, nothing where it has none."""
+    return (line.split(b"|", 2) + [b"", b""])[2]
+
+
+class Report:
+    """A report in an open file. Its head is read at once: `counts` of the trace, the number of races, and `places`, how many
+    races each pair of locations has, which is None in version 1."""
+
+    def __init__(self, file):
+        self.lines = Lines(file)
+        [version] = self.lines.numbers(VERSION, "shb-report 2")
+        self.counts = Counts(*self.lines.numbers(COUNTS, "events E threads T locks L variables V"))
+        [self.count] = self.lines.numbers(RACES, "races R")
+        self.places = self.read_places() if version == 2 else None
+        self.has_schedules = None       # known once its races were read; a report without races lacks none
+
+    def read_places(self):
+        [count] = self.lines.numbers(PLACES, "places P")
+        found = {}
+        for number in range(1, count + 1):
+            [races] = self.lines.numbered(PLACE, f"place {number}: C", number)
+            [first] = self.lines.next(AT, "at LOCATION")
+            [second] = self.lines.next(AND, "and LOCATION")
+            found[first, second] = races
+        return found
+
+    def races(self):
+        """The races, one after the other; the rest of the report is read with the last."""
+        places = {}
+        for number in range(1, self.count + 1):
+            race = self.read_race(number)
+            place = location_of(race.first_line), location_of(race.second_line)
+            places[place] = places.get(place, 0) + 1
+            yield race
+        self.has_schedules = self.has_schedules is not False
+        self.lines.next(END, "end")
+        if self.lines.line:
+            raise BadReport(f"line {self.lines.number + 1} of the report stands after `end`")
+        if self.places is not None and self.places != places:
+            raise BadReport("the places that the report begins with aren't those of its races")
+
+    def read_race(self, number):
+        first, second = self.lines.numbered(RACE, f"race {number}: I J", number)
+        [first_line] = self.lines.next(FIRST, "first ACCESS")
+        [second_line] = self.lines.next(SECOND, "second ACCESS")
+        if not 0 < first < second <= self.counts.events:
+            raise BadReport(f"race {number} of the report: {first} and {second} aren't two events of the trace, the earlier first")
+        if number == 1:
+            self.has_schedules = self.lines.line.startswith(b"schedule ")
+        schedule = self.lines.pass_schedule() if self.has_schedules else None
+        return Race(number, first, second, first_line, second_line, schedule)
