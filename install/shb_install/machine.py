@@ -1,20 +1,12 @@
-"""What processor and which C library programs need, as their files say, and whether this machine has it."""
+"""What processor and which C library programs need, as their files say, and whether this machine can run them."""
 
-import pathlib
 import re
 import shutil
 import subprocess
 
 from shb_install.faults import Refused
 
-# What the levels of x86-64 add, as /proc/cpuinfo calls it (System V ABI, AMD64 supplement: micro-architecture levels).
-ADDED = {
-    2: ("cx16", "lahf_lm", "popcnt", "pni", "sse4_1", "sse4_2", "ssse3"),
-    3: ("abm", "avx", "avx2", "bmi1", "bmi2", "f16c", "fma", "movbe", "xsave"),
-}
-LEVEL = re.compile(r"x86-64-v([234])")
-NEEDED = re.compile(r"x86 ISA needed: (.*)")
-CPUINFO = pathlib.Path("/proc/cpuinfo")
+LEVEL = re.compile(rb"x86-64-v([234])")     # in the words of a program of the kit for a processor that lacks something
 
 
 def is_program(path):
@@ -25,42 +17,27 @@ def is_program(path):
         return file.read(4) == b"\x7fELF"
 
 
-def said_of(path, *words):
-    """What a command of binutils says of a file."""
-    if not shutil.which(words[0]):
-        raise Refused(f"{words[0]} isn't installed; it is part of binutils")
-    return subprocess.run([*words, path], stdout=subprocess.PIPE, stderr=subprocess.PIPE, check=True).stdout.decode(errors="replace")
-
-
-def level_of(paths):
-    """The highest level of x86-64 that one of these programs asks for, from 1."""
-    found = [1]
-    for path in filter(is_program, paths):
-        for needed in NEEDED.findall(said_of(path, "readelf", "-n")):
-            found += map(int, LEVEL.findall(needed))
-    return max(found)
+def level_of(shb):
+    """The level of x86-64 that the built program asks for, from 1."""
+    return max([1, *map(int, LEVEL.findall(shb.read_bytes()))])
 
 
 def glibc_of(paths):
     """The lowest glibc that has all symbols that these programs ask for."""
+    if not shutil.which("objdump"):
+        raise Refused("objdump isn't installed; it is part of binutils")
     found = {(2, 0)}
     for path in filter(is_program, paths):
-        found |= {tuple(map(int, number.split("."))) for number in re.findall(r"GLIBC_([0-9.]+)", said_of(path, "objdump", "-p"))}
+        listed = subprocess.run(["objdump", "-p", path], stdout=subprocess.PIPE, check=True).stdout.decode()
+        found |= {tuple(map(int, number.split("."))) for number in re.findall(r"GLIBC_([0-9.]+)", listed)}
     return ".".join(map(str, max(found)))
 
 
-def missing(level, cpuinfo):
-    """What a processor lacks for a level, by the text of /proc/cpuinfo; nothing where this doesn't say what it has."""
-    flags = re.search(r"^flags\s*:(.*)$", cpuinfo, re.M)
-    wanted = [flag for number in range(2, level + 1) for flag in ADDED.get(number, ())]
-    return [flag for flag in wanted if flags and flag not in flags[1].split()]
-
-
 def check(shb):
-    """Refuses a program that isn't there, or that this machine's processor can't run."""
+    """Refuses a program that isn't there, or that this machine can't run, with its own words: it names what a processor lacks."""
     if not shb.is_file():
         raise Refused(f"{shb}: no such program; `make build` builds bin/shb, SHB=PATH names another one")
-    level = level_of([shb])
-    lacks = missing(level, CPUINFO.read_text() if CPUINFO.exists() else "")
-    if lacks:
-        raise Refused(f"{shb} needs a processor of level x86-64-v{level}, and this one lacks {', '.join(lacks)}")
+    ran = subprocess.run([shb.absolute(), "--help"], stdin=subprocess.DEVNULL, stdout=subprocess.PIPE, stderr=subprocess.PIPE)
+    if ran.returncode:
+        said = ran.stderr.decode(errors="replace").strip()
+        raise Refused(f"{shb} can't be run on this machine: it ended with status {ran.returncode} {said}".rstrip())

@@ -21,8 +21,8 @@ by the Rattle kit (logic {logic}), which builds a crate only after all its proof
 The other commands aren't part of what is proved. [docs/GUARANTEES.md](docs/GUARANTEES.md) says what is proved,
 and on what it rests.
 
-The commands need Linux on x86-64, a processor of level x86-64-v{level} or higher, and glibc {glibc} or later: these are the
-highest level and the highest version of a symbol that their files ask for. shb-farm and shb-view need Python 3.8 or later too,
+The commands need Linux on x86-64, a processor of level x86-64-v{level} or higher, for which shb is built, and glibc {glibc} or
+later, the highest version of a symbol that their files ask for. shb-farm and shb-view need Python 3.8 or later too,
 shb-record also gcc and binutils.
 """
 
@@ -33,7 +33,7 @@ def proved_text(tree, name, commit, seconds):
     checksum = hashlib.sha256((tree / "bin/shb").read_bytes()).hexdigest()
     paths = [tree / name for name in files_in(tree)]
     return PROVED.format(version=name, commit=commit, date=day(seconds), checksum=checksum, logic=logic,
-                         level=machine.level_of(paths), glibc=machine.glibc_of(paths))
+                         level=machine.level_of(tree / "bin/shb"), glibc=machine.glibc_of(paths))
 
 
 def archive(tree, top, seconds):

@@ -192,7 +192,7 @@ class Uninstalled(installing.Case):
         self.assertIn("Not a directory", self.refused("uninstall", f"PREFIX={self.folder}/file/prefix"))
         none = self.folder / "none"
         self.assertIn(f"{none}: no such program;", self.refused("install", f"SHB={none}", f"PREFIX={self.folder}/prefix"))
-        self.assertIn("`shb --help` ended with status 1 on this machine", self.refused("install", "SHB=/bin/false", f"PREFIX={self.folder}/prefix"))
+        self.assertIn("/bin/false can't be run on this machine: it ended with status 1", self.refused("install", "SHB=/bin/false", f"PREFIX={self.folder}/prefix"))
         (self.folder / "prefix/bin").mkdir(parents=True)
         (self.folder / "prefix/bin/shb").write_text("theirs")
         self.assertIn("move them away first: bin/shb", self.refused("install", shb, f"PREFIX={self.folder}/prefix"))

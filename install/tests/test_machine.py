@@ -1,34 +1,26 @@
 """What programs need of a machine."""
 
-from unittest import mock
-
 import installing
 from shb_install import machine
 from shb_install.faults import Refused
 
-# The flags of a processor of 2003 (Linux has pni for SSE3), of 2008, and of 2013, shortened to what counts.
-K8 = "processor\t: 0\nflags\t\t: fpu sse sse2 pni cx16 lahf_lm\n\nprocessor\t: 1\nflags\t\t: fpu\n"
-NEHALEM = "flags\t\t: fpu sse sse2 pni ssse3 cx16 sse4_1 sse4_2 popcnt lahf_lm\n"
-HASWELL = NEHALEM.replace("\n", " abm avx avx2 bmi1 bmi2 f16c fma movbe xsave\n")
+WORDS = "this program was built with --cpu x86-64-v2, which asks for popcnt"
 
 
 class Machine(installing.Case):
-    def test_what_a_processor_lacks(self):
-        for level, cpuinfo, wanted in ((1, K8, []), (2, K8, ["popcnt", "sse4_1", "sse4_2", "ssse3"]), (2, NEHALEM, []),
-                                       (3, NEHALEM, ["abm", "avx", "avx2", "bmi1", "bmi2", "f16c", "fma", "movbe", "xsave"]), (3, HASWELL, []),
-                                       (2, "", []), (2, "model name: a processor that doesn't say it\n", [])):
-            self.assertEqual(machine.missing(level, cpuinfo), wanted)
+    def script(self, text):
+        path = self.folder / "shb"
+        path.write_text("#!/bin/sh\n" + text)
+        path.chmod(0o755)
+        return path
 
-    def test_a_processor_that_lacks_something_is_refused(self):
-        cpuinfo = self.folder / "cpuinfo"
-        cpuinfo.write_text(K8)
-        with mock.patch.object(machine, "CPUINFO", cpuinfo), self.assertRaises(Refused) as refused:
-            machine.check(installing.SHB)
-        self.assertEqual(str(refused.exception), f"{installing.SHB} needs a processor of level x86-64-v2, and this one lacks popcnt, sse4_1, "
-                                                 "sse4_2, ssse3")
+    def test_a_program_that_cannot_be_run_here_is_refused_with_its_words(self):
+        shb = self.script(f"echo '{WORDS}' >&2\nexit 127\n")
+        with self.assertRaises(Refused) as refused:
+            machine.check(shb)
+        self.assertEqual(str(refused.exception), f"{shb} can't be run on this machine: it ended with status 127 {WORDS}")
+        machine.check(self.script("exit 0\n"))
 
-    def test_what_is_no_program_asks_for_nothing(self):
-        script = self.folder / "script"
-        script.write_text("#!/bin/sh\n")
-        self.assertEqual((machine.level_of([script]), machine.glibc_of([script])), (1, "2.0"))
-        machine.check(script)
+    def test_what_a_program_asks_for(self):
+        self.assertEqual((machine.level_of(self.script(f"# {WORDS}\n")), machine.level_of(self.script(""))), (2, 1))
+        self.assertEqual(machine.glibc_of([self.script("")]), "2.0")
