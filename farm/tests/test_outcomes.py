@@ -108,6 +108,7 @@ class Rests(farm.Case):
             (room / name).touch()
         for name in ("old-folder", "old"):
             os.utime(room / name, (1, 1))
+        self.trace("clean.std", CLEAN)
         self.assertEqual(self.farm().status, 0)
         self.assertEqual([path.name for path in room.iterdir()], ["new"])
 
@@ -202,8 +203,6 @@ echo '17;loop'
         answer = self.slurm("exit 0\n", None, "--sbatch", "--comment='x")
         self.assertEqual((answer.status, answer.err.splitlines()[0]),
                          (4, "shb-farm: argument --sbatch: No closing quotation in --comment='x"))
-        answer = self.slurm("exit 0\n", None, "--sbatch")
-        self.assertEqual((answer.status, answer.err.splitlines()[0]), (4, "shb-farm: argument --sbatch: expected one argument"))
 
     def test_a_controller_that_does_not_answer_is_said_once(self):
         squeue = f"""[ -e {self.folder}/twice ] && exit 0
