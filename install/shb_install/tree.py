@@ -12,7 +12,7 @@ from shb_install.sources import TOP
 
 FOLDERS = ("recorder", "view", "farm", "common")      # where commands (shb-NAME) and packages (shb_NAME) are, beside the program
 HOME = "lib/shb"                            # commands stand there beside their packages, as in the checkout; links lead to them
-DOCUMENTS = ("README.md", "CONTRIBUTING.md", "recorder/README.md", "farm/README.md", "install/README.md")
+DOCUMENTS = ("README.md", "CHANGELOG.md", "CONTRIBUTING.md", "recorder/README.md", "farm/README.md", "install/README.md")
 DOCUMENT_FOLDERS = ("docs/", "examples/")
 PLACES = ("bin", HOME, "share/doc/shb", "share/man/man1", "share/bash-completion/completions", "share/zsh/site-functions",
           "share/fish/vendor_completions.d")

@@ -14,7 +14,7 @@ HERE = pathlib.Path(__file__).resolve().parent
 TOP = HERE.parents[1]
 SHB = TOP / "crates" / "shb" / "out" / "shb"
 SECONDS = 120
-PARTS = ("Makefile", "build.sh", "README.md", "CONTRIBUTING.md", "docs", "examples", "common", "farm", "install", "recorder", "view")
+PARTS = ("Makefile", "build.sh", "README.md", "CHANGELOG.md", "CONTRIBUTING.md", "docs", "examples", "common", "farm", "install", "recorder", "view")
 
 
 def call(*words, **how):
