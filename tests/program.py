@@ -4,12 +4,14 @@ import os
 import pathlib
 import subprocess
 import tempfile
+import threading
 import typing
 import unittest
 
 HERE = pathlib.Path(__file__).resolve().parent
 PATH = HERE.parent / "crates" / "shb" / "out" / "shb"
 SECONDS = 30
+LONG_SECONDS = 600
 
 
 class Answer(typing.NamedTuple):
@@ -23,6 +25,16 @@ def run(words, given=b"", **how):
     how = {"stdout": subprocess.PIPE, "stderr": subprocess.PIPE, **how}
     ran = subprocess.run([PATH, *words], input=given, timeout=SECONDS, **how)
     return Answer(ran.returncode, ran.stdout, ran.stderr)
+
+
+def start(words, **how):
+    """Starts the program, whose output is read in parts. One that still runs long after it should have ended is killed,
+    which ends its output and gives it a status that no test wants."""
+    started = subprocess.Popen([PATH, *words], stdout=subprocess.PIPE, stderr=subprocess.PIPE, **how)
+    limit = threading.Timer(LONG_SECONDS, started.kill)
+    limit.daemon = True
+    limit.start()
+    return started
 
 
 def run_over(words, file):

@@ -4,7 +4,6 @@ pairs, pipes that break in the middle, and each request for memory and each devi
 import os
 import resource
 import signal
-import subprocess
 
 import program
 import test_refusals
@@ -75,12 +74,7 @@ class LongLists(test_refusals.Refusing):
         self.assertGreater(8 * ROUNDS * ROUNDS, room)
         trace, wanted = self.file(two_writers(ROUNDS)), front_of(ROUNDS, FRONT)
         for workers in ("1", "4"):
-            started = subprocess.Popen(
-                [program.PATH, "races", "--list", "--workers", workers, trace],
-                stdout=subprocess.PIPE,
-                stderr=subprocess.PIPE,
-                **at_most(room),
-            )
+            started = program.start(["races", "--list", "--workers", workers, trace], **at_most(room))
             front = started.stdout.read(FRONT)
             started.stdout.close()
             said = started.stderr.read()
@@ -92,12 +86,7 @@ class LongLists(test_refusals.Refusing):
         """More than 10^12 races of 2.2 million events: counted at once, and as little memory is taken as for few."""
         self.assertGreater(MANY_ROUNDS * MANY_ROUNDS, 10**12)
         trace, wanted = self.file(two_writers(MANY_ROUNDS)), front_of(MANY_ROUNDS, FRONT)
-        started = subprocess.Popen(
-            [program.PATH, "races", "--list", trace],
-            stdout=subprocess.PIPE,
-            stderr=subprocess.PIPE,
-            **at_most(2**29),
-        )
+        started = program.start(["races", "--list", trace], **at_most(2**29))
         front = started.stdout.read(FRONT)
         started.stdout.close()
         said = started.stderr.read()

@@ -2,9 +2,10 @@
 pieces of work, races that are kept, lines and places. docs/GUARANTEES.md has a table of these sizes."""
 
 import hashlib
-import subprocess
+import itertools
 
 import program
+import test_long_lists
 
 MOST_EVENTS = 4_194_304
 EMPTY_LINES = 120_000_000
@@ -31,23 +32,64 @@ def blocks_of_racing_variables(first, last):
 
 def digest_of_racing_variables(count):
     """The digest of the report that lists all races, made piece by piece."""
-    digest = hashlib.sha256(head(2 * count, 2, 0, count, count) + b"places 1\nplace 1: %d\nat \nand \n" % count)
-    for first in range(0, count, 2**16):
-        digest.update(blocks_of_racing_variables(first, min(first + 2**16, count)))
-    digest.update(b"end\n")
-    return digest.hexdigest()
+    front = head(2 * count, 2, 0, count, count) + b"places 1\nplace 1: %d\nat \nand \n" % count
+    blocks = (blocks_of_racing_variables(first, min(first + 2**16, count)) for first in range(0, count, 2**16))
+    return digest(itertools.chain([front], blocks, [b"end\n"]))
+
+
+def digest(parts):
+    made = hashlib.sha256()
+    for part in parts:
+        made.update(part)
+    return made.hexdigest()
+
+
+def one_write_each(count):
+    """So many threads write one variable, each at a place of its own. No event has to come before a race."""
+    trace = b"".join(b"T%d|w(x)|l%d\n" % (t, t) for t in range(1, count + 1))
+    pairs = [(first, second) for second in range(2, count + 1) for first in range(1, second)]
+    return trace, pairs
+
+
+def places_of(pairs):
+    yield b"places %d\n" % len(pairs)
+    for q, (first, second) in enumerate(pairs, 1):
+        yield b"place %d: 1\nat l%d\nand l%d\n" % (q, first, second)
+
+
+def blocks_of(pairs, last_line):
+    for k, (i, j) in enumerate(pairs, 1):
+        yield b"race %d: %d %d\nfirst T%d|w(x)|l%d\nsecond T%d|w(x)|l%d\n%s" % (k, i, j, i, i, j, j, last_line)
+
+
+class LongSchedules:
+    """The first of ten threads reads as often as fits into a trace, and then each thread writes one variable. Before a race
+    of the first thread it has come to its write, and before one of two others nothing has to come."""
+
+    threads = 10
+    reads = MOST_EVENTS - threads
+
+    def __init__(self):
+        self.trace = b"T0|r(y)\n" * self.reads + b"".join(b"T%d|w(x)\n" % t for t in range(self.threads))
+        self.pairs = [(i, j) for j in range(self.threads) for i in range(j)]
+
+    def parts(self):
+        yield head(MOST_EVENTS, self.threads, 0, 2, len(self.pairs)) + b"places 1\nplace 1: %d\nat \nand \n" % len(self.pairs)
+        long = b"schedule %d: %s\n" % (self.reads, b" ".join(b"%d" % k for k in range(1, self.reads + 1)))
+        for k, (i, j) in enumerate(self.pairs, 1):
+            yield b"race %d: %d %d\nfirst T%d|w(x)\nsecond T%d|w(x)\n" % (k, self.reads + i + 1, self.reads + j + 1, i, j)
+            yield b"schedule 0:\n" if i else long
+        yield b"end\n"
 
 
 class Sizes(program.Case):
-    def digest_of(self, words):
+    def digest_of(self, words, **how):
         """The digest of what the program prints, which isn't held in memory here."""
-        with subprocess.Popen([program.PATH, *words], stdout=subprocess.PIPE, stderr=subprocess.PIPE) as started:
-            digest = hashlib.sha256()
-            while part := started.stdout.read(2**20):
-                digest.update(part)
+        with program.start(words, **how) as started:
+            made = digest(iter(lambda: started.stdout.read(2**20), b""))
             said = started.stderr.read()
         self.assertEqual((started.returncode, said), (0, b""))
-        return digest.hexdigest()
+        return made
 
     def test_the_most_variables(self):
         text = b"".join(b"T|r(v%d)\n" % k for k in range(MOST_EVENTS))
@@ -84,3 +126,49 @@ class Sizes(program.Case):
         report += b"".join(block % (k, i + 1, LOCATIONS + j + 1, i, j) for k, (i, j) in enumerate(pairs, 1))
         wanted = hashlib.sha256(report + b"end\n").hexdigest()
         self.assertEqual(self.digest_of(["places", "--list", self.file(text)]), wanted)
+
+    def test_races_that_are_kept_with_schedules(self):
+        """100 threads have 4,950 races, and with as many marks after these there are no more races than events."""
+        trace, pairs = one_write_each(100)
+        self.assertLessEqual(len(pairs), 100 + 5_000)
+        report = head(5_100, 100, 0, 1, len(pairs)) + b"".join(itertools.chain(places_of(pairs), blocks_of(pairs, b"schedule 0:\n"))) + b"end\n"
+        trace = self.file(trace + b"T1|begin(m)\n" * 5_000)
+        for workers in ("1", "4"):
+            self.expect(program.run(["races", "--workers", workers, trace]), 0, report)
+        self.expect(program.run(["check", trace], report), 0, b"ok %d\n" % len(pairs))
+
+    def test_as_many_threads_as_race_on_one_variable(self):
+        """1,024 threads have 523,776 races, each with a place of its own."""
+        trace, pairs = one_write_each(1_024)
+        self.assertEqual(len(pairs), 523_776)
+        front = [head(1_024, 1_024, 0, 1, len(pairs)), *places_of(pairs)]
+        trace = self.file(trace)
+        wanted = digest(itertools.chain(front, blocks_of(pairs, b""), [b"end\n"]))
+        self.assertEqual(self.digest_of(["races", "--list", trace]), wanted)
+        report = self.folder / "report"
+        with open(report, "wb") as out:
+            out.writelines(itertools.chain(front, blocks_of(pairs, b"schedule 0:\n"), [b"end\n"]))
+        with open(report, "rb") as given:
+            wanted = hashlib.sha256(given.read()).hexdigest()
+        self.assertEqual(self.digest_of(["races", trace]), wanted)
+        with open(report, "rb") as given:
+            self.assertEqual(self.digest_of(["check", trace], stdin=given), hashlib.sha256(b"ok %d\n" % len(pairs)).hexdigest())
+
+    def test_schedules_of_the_most_events(self):
+        """Nine schedules have all events but ten, more than 37 million numbers together."""
+        made = LongSchedules()
+        trace, report = self.file(made.trace), self.folder / "report"
+        with open(report, "wb") as out:
+            out.writelines(made.parts())
+        wanted = digest(made.parts())
+        for workers in ("1", "4"):
+            self.assertEqual(self.digest_of(["races", "--workers", workers, trace]), wanted)
+        with open(report, "rb") as given:
+            self.assertEqual(self.digest_of(["check", trace], stdin=given), hashlib.sha256(b"ok %d\n" % len(made.pairs)).hexdigest())
+
+    def test_two_million_blocks_of_more_races_than_events(self):
+        rounds = 1_500
+        numbers = range(1, rounds * rounds + 1)
+        front = test_long_lists.head_of(rounds)
+        wanted = digest(itertools.chain([front], (test_long_lists.block(rounds, k) for k in numbers), [b"end\n"]))
+        self.assertEqual(self.digest_of(["races", "--list", self.file(test_long_lists.two_writers(rounds))]), wanted)

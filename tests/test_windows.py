@@ -2,8 +2,6 @@
 three windows whole, more races than fit into memory as pairs, a pipe that breaks in the middle, and each request for
 memory on the way."""
 
-import subprocess
-
 import program
 import test_long_lists
 import test_refusals
@@ -47,10 +45,6 @@ class Report:
         yield b"end\n"
 
 
-def started(words, **how):
-    return subprocess.Popen([program.PATH, *words], stdout=subprocess.PIPE, stderr=subprocess.PIPE, **how)
-
-
 class Windows(test_refusals.Refusing):
     def expect_parts(self, out, parts):
         for k, part in enumerate(parts):
@@ -76,7 +70,7 @@ class Windows(test_refusals.Refusing):
         self.assertTrue(2 * 164 * ROUNDS < ROUNDS * ROUNDS and 163 * ROUNDS < WINDOW <= 164 * ROUNDS)
         trace = self.file(test_long_lists.two_writers(ROUNDS))
         for workers in ("1", "4"):
-            running = started(["races", "--workers", workers, trace], **test_long_lists.at_most(ROOM))
+            running = program.start(["races", "--workers", workers, trace], **test_long_lists.at_most(ROOM))
             self.expect_parts(running.stdout, Report(ROUNDS).parts())
             self.assertEqual((running.stdout.read(), running.stderr.read()), (b"", b""))
             running.stdout.close()
@@ -93,7 +87,7 @@ class Windows(test_refusals.Refusing):
     def test_a_pipe_that_breaks_in_the_second_window(self):
         trace, report = self.file(test_long_lists.two_writers(ROUNDS)), Report(ROUNDS)
         for workers in ("1", "4"):
-            running = started(["races", "--workers", workers, trace])
+            running = program.start(["races", "--workers", workers, trace])
             parts = report.parts()
             self.expect_parts(running.stdout, (next(parts) for _ in range(1 + 164 + 10)))
             self.expect_broken(running)
@@ -103,7 +97,7 @@ class Windows(test_refusals.Refusing):
         self.assertGreater(8 * LONG_ROUNDS * LONG_ROUNDS, ROOM)
         trace, report = self.file(test_long_lists.two_writers(LONG_ROUNDS)), Report(LONG_ROUNDS)
         for workers in ("1", "4"):
-            running = started(["races", "--workers", workers, trace], **test_long_lists.at_most(ROOM))
+            running = program.start(["races", "--workers", workers, trace], **test_long_lists.at_most(ROOM))
             self.expect_parts(running.stdout, [test_long_lists.head_of(LONG_ROUNDS)])
             self.expect_parts(running.stdout, (block for block, _ in zip(report.blocks(), range(1000))))
             self.expect_broken(running)
