@@ -1,4 +1,5 @@
 /* What the parts of the converter share. */
+#include <stdio.h>
 #include <stddef.h>
 #include <stdint.h>
 #include "../record.h"
@@ -49,6 +50,7 @@ extern int whole_paths;
 void strip_folder(const char *folder); /* names of files below it are paths from it */
 void note_sources_of(const char *module);
 void note_source(const char *path);
+void write_sources(FILE *file);        /* a line "source NAME TAB PATH" for each file of the program's own, before any is added */
 const char *source_name(const char *path);                   /* of one that was noted; it stands for good */
 int in_system(const char *path);       /* is it the system's or the compiler's? */
 
@@ -110,6 +112,7 @@ u32 stack_at(u32 t, u64 caller);
 void stack_of_event(u32 number);       /* of the event that comes next */
 void stack_of_thread(u32 t, u32 number);
 void stack_of_block(const block *b, u32 number);
+void note_free(u64 first, u64 last);   /* the events of one call that frees a block */
 void end_stacks(void);
 
 /* accesses.c, objects.c: what the passes do with a record. */

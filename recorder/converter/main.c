@@ -48,7 +48,11 @@ static void write_events(u64 i) {
     else if (operation == OP_JOIN) event(thread_of(i), "join", name_of_thread(address_of(i)), "", caller_of(i));
     else if (operation == OP_FENCE) fence_events(i);
     else if (is_for_object(i)) object_events(i);
-    else access_events(i);
+    else {
+        u64 before = events;
+        access_events(i);
+        if (operation == OP_FREE) note_free(before + 1, events);
+    }
 }
 
 static void name_block(block *b, u64 i) {

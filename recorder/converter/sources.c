@@ -112,6 +112,11 @@ const char *source_name(const char *path) {
     return end < most ? most : end;
 }
 
+void write_sources(FILE *file) {
+    for (u64 k = 0; k < source_count; k++)
+        if (!in_system(sources[k]) && !strpbrk(sources[k], "\t\n")) fprintf(file, "source %s\t%s\n", source_name(sources[k]), sources[k]);
+}
+
 void strip_folder(const char *folder) {
     char *real = realpath(folder, 0);
     stripped_folder = normal_path(real ? real : folder);

@@ -7,7 +7,9 @@
        stack NODE OUTER FRAME FRAME..                the frames of a node's innermost call, the innermost first (of inlined
                                                      code there are several), and the node of the stack further out, or 0
        thread NAME TAB NODE                          where the thread was created
-       block NUMBER NODE                             where the block was allocated */
+       block NUMBER NODE                             where the block was allocated
+       free FIRST LAST                               these events are of one call that freed a block
+       source NAME TAB PATH                          a source file, as locations name it, and where it was when it was compiled */
 #include <errno.h>
 #include <stdio.h>
 #include <stdlib.h>
@@ -44,6 +46,8 @@ static u64 buffered;
 static u32 *block_nodes;
 static u64 block_count, block_capacity;
 static u32 thread_nodes[THREADS];
+static struct { u64 first, last; } *frees;
+static u64 free_count, free_capacity;
 
 static void cannot_write(void) { die("cannot write to %s: %s", path, strerror(errno)); }
 
@@ -162,6 +166,13 @@ void stack_of_event(u32 number) {
 
 void stack_of_thread(u32 t, u32 number) { thread_nodes[t] = number; }
 
+void note_free(u64 first, u64 last) {
+    if (!with_stacks || first > last) return;
+    GROW(frees, free_count, free_capacity);
+    frees[free_count].first = first;
+    frees[free_count++].last = last;
+}
+
 void stack_of_block(const block *b, u32 number) {
     if (!with_stacks) return;
     while (block_count <= block_number(b)) {
@@ -228,6 +239,8 @@ void end_stacks(void) {
         if (thread_nodes[t]) fprintf(file, "thread %s\t%u\n", thread_name(t), thread_nodes[t]);
     for (u64 b = 1; b < block_count; b++)
         if (block_of(b)->named && block_nodes[b]) fprintf(file, "block %lu %u\n", b, block_nodes[b]);
+    for (u64 i = 0; i < free_count; i++) fprintf(file, "free %lu %lu\n", frees[i].first, frees[i].last);
+    write_sources(file);
     rewind(file);
     fprintf(file, STACKS_BEGIN, written);
     if (fflush(file) || ferror(file) || fclose(file)) cannot_write();
