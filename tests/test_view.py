@@ -15,32 +15,34 @@ from viewing import EXAMPLES, MADE, made, run, run_here, sections, settings, win
 
 from shb_view import command, counting, groups, names, progress
 
-FORK_JOIN = """\
-fork-join.std: 1 race at 1 pair of lines, in 1 group (7 events, 2 threads, 0 locks, 2 variables)
-shb check: ok 1
+BEHIND = ("Where a read took the value of the write that it races with, what follows it in its thread is ordered after that write, and "
+          "races with that are behind this one.")
 
-1. count: 2 threads write (1 race, 1 pair of lines)
-   In this run 2 threads write, and no access holds a lock in the trace.
+FORK_JOIN = """\
+fork-join.std: 1 race at 1 place, in 1 group (7 events, 2 threads, 0 locks, 2 variables)
+
+1. count: 2 threads write (1 race, 1 place)
+   In this trace 2 threads write, and no lock is held at any access.
    start.c:6: 1 write by main
-     no lock in the trace
+     no lock held
      races with worker.c:3 (1 race)
    worker.c:3: 1 write by worker
-     no lock in the trace
+     no lock held
      races with start.c:6 (1 race)
    start.c:8: 1 read by main
-     no lock in the trace
+     no lock held
 """
 
 FORK_JOIN_ALL = FORK_JOIN + """
    data race on count: worker.c:3 and start.c:6
    (one race in a recorded run)
      write by worker at worker.c:3 (event 4)
-       no lock in the trace
+       no lock held
        thread started by main at start.c:5 (event 2)
      write by main at start.c:6 (event 5)
-       no lock in the trace
-     In this run 2 threads write, and no access holds a lock in the trace.
-     `shb check` found the schedule of race 1 good: after its 3 events both accesses come next.
+       no lock held
+     In this trace 2 threads write, and no lock is held at any access.
+     `shb places` has a schedule of it, race 1: after its 3 events both accesses come next.
    Before the accesses:
      1  main    w(config)     start.c:4
      2  main    fork(worker)  start.c:5
@@ -48,61 +50,71 @@ FORK_JOIN_ALL = FORK_JOIN + """
 """
 
 # Three pairs of lines with a place in each order: two of them share the variable `total`.
-UNLOCKED_READ = """\
-unlocked-read.std: 3 races at 2 pairs of lines, in 2 groups (18 events, 3 threads, 1 lock, 3 variables)
-shb check: ok 3
+UNLOCKED_READ = f"""\
+unlocked-read.std: 3 races at 2 places, in 2 groups (18 events, 3 threads, 1 lock, 3 variables)
+{BEHIND}
 
-1. items: main.c:11 is without lock (1 race, 1 pair of lines)
-   In this run lock is held at queue.c:22, and not at main.c:11.
+1. items: main.c:11 is without lock (1 race, 1 place)
+   In this trace lock is held at queue.c:22, and not at main.c:11.
+   main.c:11 read what queue.c:22 wrote: races behind this one are listed only once it is mended.
    queue.c:22: 1 write by producer
      holds lock
      races with main.c:11 (1 race)
    main.c:11: 1 read by main
-     no lock in the trace
+     no lock held
      races with queue.c:22 (1 race)
    main.c:8: 1 write by main
-     no lock in the trace
+     no lock held
    queue.c:31: 1 read by consumer
      holds lock
 
-2. closed: one thread writes (2 races, 1 pair of lines)
-   In this run only main writes, at main.c:12, and no access holds a lock in the trace.
+2. closed: one thread writes (2 races, 1 place)
+   In this trace only main writes, at main.c:12, and no lock is held at any access.
+   queue.c:29 read what main.c:12 wrote: races behind this one are listed only once it is mended.
    main.c:12: 1 write by main
-     no lock in the trace
+     no lock held
      races with queue.c:29 (2 races)
    queue.c:29: 3 reads by consumer
-     no lock in the trace
+     no lock held
      races with main.c:12 (2 races)
 """
 
-ACCOUNT = """\
-account.std: 1 race at 1 pair of lines, in 1 group (12 events, 2 threads, 1 lock, 1 variable)
-shb check: ok 1
+ACCOUNT = f"""\
+account.std: 1 race at 1 place, in 1 group (12 events, 2 threads, 1 lock, 1 variable)
+{BEHIND}
 
-1. balance: account.c:8 is without door (1 race, 1 pair of lines)
-   In this run every write holds door, and account.c:8 reads without it.
+1. balance: account.c:8 is without door (1 race, 1 place)
+   In this trace every write holds door, and account.c:8 reads without it.
+   account.c:8 read what account.c:10 wrote: races behind this one are listed only once it is mended.
    account.c:10: 2 reads and 2 writes by T1.pay and main
      holds door
      races with account.c:8 (1 race)
    account.c:8: 2 reads by T1.pay and main
-     no lock in the trace
+     no lock held
      races with account.c:10 (1 race)
 """
 
-# A place in each order of its two locations is one pair of lines; the counts are those of `races`.
-PLACES = """\
-places.std: 6 races at 2 pairs of lines, in 1 group (4 events, 4 threads, 0 locks, 1 variable)
-shb check: ok 3
+# A place in each order of its two locations is one place; the counts are those of `races`.
+PLACES = f"""\
+places.std: 6 races at 2 places, in 1 group (4 events, 4 threads, 0 locks, 1 variable)
+{BEHIND}
 
-1. total: 3 threads write (6 races, 2 pairs of lines)
-   In this run 3 threads write, and no access holds a lock in the trace.
+1. total: 3 threads write (6 races, 2 places)
+   In this trace 3 threads write, and no lock is held at any access.
+   Report.java:30 read what Counter.java:12 wrote: races behind this one are listed only once it is mended.
    Counter.java:12: 3 writes by T1, T2 and T4
-     no lock in the trace
+     no lock held
      races with Counter.java:12 (3 races) and Report.java:30 (3 races)
    Report.java:30: 1 read by T3
-     no lock in the trace
+     no lock held
      races with Counter.java:12 (3 races)
 """
+
+
+def noted(text, note):
+    """A text with a note below its first line."""
+    first, rest = text.split("\n", 1)
+    return f"{first}\n{note}\n{rest}"
 
 
 class Text(program.Case):
@@ -114,29 +126,30 @@ class Text(program.Case):
 
     def test_no_races(self):
         self.expect(run([EXAMPLES / "hidden-by-lock.std"]), 0,
-                    b"hidden-by-lock.std: 0 races (6 events, 2 threads, 1 lock, 1 variable)\nshb check: ok 0\n")
+                    b"hidden-by-lock.std: 0 races (6 events, 2 threads, 1 lock, 1 variable)\n"
+                    b"Any two conflicting accesses are ordered in this trace. A run with another interleaving may have races.\n")
 
     def test_a_report_that_is_given(self):
         """It isn't checked unless that is asked for, and its counts are its own."""
         words = [EXAMPLES / "fork-join.std", EXAMPLES / "fork-join.report"]
-        unchecked = FORK_JOIN.replace("shb check: ok 1", "The report wasn't checked (--check does it).")
-        self.expect(run(words), 0, unchecked.encode())
-        self.expect(run(["--check", *words]), 0, FORK_JOIN.encode())
-        whole = FORK_JOIN_ALL.splitlines()[-6:-4]
-        self.assertEqual(run(["--all", "--check", *words]).out.decode().splitlines()[-6:-4], whole)
+        self.expect(run(words), 0, noted(FORK_JOIN, "The report wasn't checked (--check does it).").encode())
+        self.expect(run(["--check", *words]), 0, noted(FORK_JOIN, "shb check: ok 1").encode())
+        self.assertEqual(run(["--all", "--check", *words]).out.decode().splitlines()[-6:-4], [
+            "     In this trace 2 threads write, and no lock is held at any access.",
+            "     `shb check` found the schedule of race 1 good: after its 3 events both accesses come next."])
         said = run(["--all", *words]).out.decode()
-        self.assertIn("     No schedule of this race was checked: events are shown in the order of the trace.\n", said)
+        self.assertIn("     No schedule of this race is at hand: events are shown in the order of the trace.\n", said)
         self.assertNotIn("come next", said)
 
     def test_a_report_on_standard_input(self):
         with open(EXAMPLES / "fork-join.report", "rb") as report:
             answer = run(["--check", EXAMPLES / "fork-join.std", "-"], stdin=report)
-        self.expect(answer, 0, FORK_JOIN.encode())
+        self.expect(answer, 0, noted(FORK_JOIN, "shb check: ok 1").encode())
         read_end, write_end = os.pipe()
         os.write(write_end, (EXAMPLES / "fork-join.report").read_bytes())
         os.close(write_end)
         with open(read_end, "rb") as report:
-            self.expect(run(["--check", EXAMPLES / "fork-join.std", "-"], stdin=report), 0, FORK_JOIN.encode())
+            self.expect(run(["--check", EXAMPLES / "fork-join.std", "-"], stdin=report), 0, noted(FORK_JOIN, "shb check: ok 1").encode())
 
     def test_a_bad_report_is_said_first(self):
         bad = (EXAMPLES / "places.report").read_bytes().replace(b"schedule 0:", b"schedule 1: 1", 1)
@@ -144,14 +157,14 @@ class Text(program.Case):
         self.assertEqual((answer.status, answer.err), (1, b""))
         said = answer.out.decode().splitlines()
         self.assertEqual(said[0], "`shb check` finds the report bad: bad race 1. What follows is only what the report says.")
-        self.assertEqual(said[1], "places.std: 6 races at 2 pairs of lines, in 1 group (4 events, 4 threads, 0 locks, 1 variable)")
-        self.assertIn("     No schedule of this race was checked: events are shown in the order of the trace.", said)
+        self.assertEqual(said[1], "places.std: 6 races at 2 places, in 1 group (4 events, 4 threads, 0 locks, 1 variable)")
+        self.assertIn("     No schedule of this race is at hand: events are shown in the order of the trace.", said)
         self.assertNotIn("come next", answer.out.decode())
 
     def test_a_report_without_schedules(self):
         trace = (EXAMPLES / "fork-join.std").read_bytes()
         words = [EXAMPLES / "fork-join.std", self.file(shb.report(trace, False), "t.report")]
-        said = FORK_JOIN.replace("shb check: ok 1", "The report has no schedules, so `shb check` can't judge it.")
+        said = noted(FORK_JOIN, "The report has no schedules, so `shb check` can't judge it.")
         for options in ([], ["--check"]):
             self.expect(run([*options, *words]), 0, said.encode())
 
@@ -189,42 +202,74 @@ class Facts(program.Case):
         text = self.file(trace_of(*lines))
         status, out, err = run_here([text])
         self.assertEqual((status, err), (0, ""))
-        return [line[3:] for line in out.splitlines() if line.startswith("   In this run")]
+        return [line[3:] for line in out.splitlines() if line.startswith("   In this trace")]
 
     def test_every_write_holds_a_lock(self):
         self.assertEqual(self.said("A acq l 1", "A w x 2", "A rel l 3", "B r x 4"),
-                         ["In this run every write holds l, and f.c:4 reads without it."])
+                         ["In this trace every write holds l, and f.c:4 reads without it."])
         self.assertEqual(self.said("A acq l 1", "A w x 2", "A rel l 3", "B r x 4", "C r x 5"),
-                         ["In this run every write holds l, and f.c:4 and f.c:5 read without it."])
+                         ["In this trace every write holds l, and f.c:4 and f.c:5 read without it."])
 
     def test_a_line_that_sometimes_lacks_the_lock(self):
         self.assertEqual(self.said("A acq l 1", "A w x 2", "A rel l 3", "B r x 4", "B acq l 5", "B r x 4"),
-                         ["In this run every write holds l, and f.c:4 reads without it at some accesses."])
+                         ["In this trace every write holds l, and f.c:4 reads without it at some accesses."])
 
     def test_a_lock_at_some_lines_that_write(self):
         self.assertEqual(self.said("A acq l 1", "A w x 2", "A rel l 3", "B w x 4"),
-                         ["In this run l is held at f.c:2, and not at f.c:4."])
+                         ["In this trace l is held at f.c:2, and not at f.c:4."])
         self.assertEqual(self.said("A acq l 1", "A w x 2", "A rel l 3", "B w x 4", "B acq l 5", "B w x 4"),
-                         ["In this run l is held at f.c:2, and not always at f.c:4."])
+                         ["In this trace l is held at f.c:2, and not always at f.c:4."])
+
+    def test_a_write_under_a_read_lock(self):
+        """The recorder names what reader T of rw holds `rw@reader.T`; the writer holds `rw`."""
+        self.assertEqual(self.said("A acq rw@reader.A 1", "A w x 2", "A rel rw@reader.A 3", "B acq rw@reader.B 1", "B w x 2"),
+                         ["In this trace f.c:2 writes while holding rw for reading, which lets others read and write so too."])
+
+    def test_a_read_under_the_read_lock_is_no_mistake(self):
+        lines = ["W acq rw 1", "W w x 2", "W rel rw 3", "A acq rw@reader.A 4", "A r x 5", "A rel rw@reader.A 6", "B acq rw@reader.B 4",
+                 "B r x 5", "B rel rw@reader.B 6", "C r x 7"]
+        self.assertEqual(self.said(*lines), ["In this trace every write holds rw, and f.c:7 reads without it."])
+        out = run_here([self.file(trace_of(*lines))])[1]
+        self.assertIn("   f.c:5: 2 reads by A and B\n     holds rw for reading\n", out)
+        self.assertEqual(re.findall(r"(.*) without rw", out), ["1. x: f.c:7 is"])
+
+    def test_an_atomic_and_a_plain_access(self):
+        """As the recorder writes them: T's atomic write of n is `r(n)` and `w(n!T)` under a lock that the program doesn't have; a plain
+        read is `r(n)` and `r(n!T)` of each such T."""
+        lines = ["A acq n@0 1", "A r n 1", "A w n!A 1", "A rel n@0 1", "B acq n@0 2", "B r n 2", "B w n!B 2", "B rel n@0 2",
+                 "C r n 3", "C r n!A 3", "C r n!B 3"]
+        self.assertEqual(self.said(*lines), ["In this trace f.c:1 and f.c:2 write atomically, and f.c:3 is not atomic."])
+        out = run_here(["--all", self.file(trace_of(*lines))])[1]
+        self.assertIn("\n1. n: f.c:3 is not atomic (2 races, 2 places)\n", out)
+        self.assertNotIn("2. ", out)
+        for line in ("   f.c:1: 1 atomic write by A\n     no lock held\n", "   f.c:3: 1 read by C\n", "     atomic write by B at f.c:2 (event 7)\n",
+                     "   data race on n: f.c:2 and f.c:3\n"):
+            self.assertIn(line, out)
+
+    def test_an_atomic_write_reads_what_a_plain_one_wrote(self):
+        lines = ["A w n 1", "B acq n@0 2", "B r n 2", "B w n!B 2", "B rel n@0 2", "C r n 3", "C r n!B 3"]
+        out = run_here([self.file(trace_of(*lines))])[1]
+        self.assertIn("   f.c:2: 1 atomic write by B\n", out)
+        self.assertIn("   f.c:3: 1 read by C\n", out)
 
     def test_several_threads_write(self):
-        self.assertEqual(self.said("A w x 1", "B w x 2"), ["In this run 2 threads write, and no access holds a lock in the trace."])
+        self.assertEqual(self.said("A w x 1", "B w x 2"), ["In this trace 2 threads write, and no lock is held at any access."])
         self.assertEqual(self.said("A w x 1", "B acq l 2", "B w x 1", "B rel l 4"),
-                         ["In this run 2 threads write, and no lock is held at every access."])
+                         ["In this trace 2 threads write, and no lock is held at every access."])
 
     def test_one_thread_writes(self):
         self.assertEqual(self.said("A w x 1", "B acq l 2", "B r x 3"),
-                         ["In this run only A writes, at f.c:1, and no lock is held at every access."])
+                         ["In this trace only A writes, at f.c:1, and no lock is held at every access."])
 
     def test_a_lock_that_readers_alone_hold_is_no_rule(self):
         """The writer never holds it; so nothing says that it belongs to the variable."""
         self.assertEqual(self.said("A w x 1", "B acq l 2", "B r x 3", "B rel l 4", "C r x 5"),
-                         ["In this run only A writes, at f.c:1, and no lock is held at every access."])
+                         ["In this trace only A writes, at f.c:1, and no lock is held at every access."])
 
     def test_many_lines_are_not_all_named(self):
         reads = [f"R{line} r x {line}" for line in range(11, 16)]
         self.assertEqual(self.said("A acq l 1", "A w x 2", "A rel l 3", *reads),
-                         ["In this run every write holds l, and f.c:11, f.c:12, f.c:13 and 2 more read without it."])
+                         ["In this trace every write holds l, and f.c:11, f.c:12, f.c:13 and 2 more read without it."])
 
     def test_order_of_the_groups(self):
         """By the rule first; of one rule, most races first."""
@@ -240,24 +285,26 @@ class Facts(program.Case):
                   b"race 1: 2 5\nfirst A|w(x)|f.c:2\nsecond B|w(x)|f.c:5\nend\n")
         [section] = sections(trace, report, None)
         self.assertEqual("".join(part if isinstance(part, str) else part.decode() for part in section.fact.sentence),
-                         "In this run every access holds l, which orders them: these are no races.")
+                         "In this trace every access holds l, which orders them: these are no races.")
 
 
 class Sites(program.Case):
     """Every line that uses the variable."""
 
     def lines(self, *events):
-        return run_here([self.file(trace_of(*events))])[1].splitlines()
+        """What is said, but for reads of what the other access wrote."""
+        said = run_here([self.file(trace_of(*events))])[1].splitlines()
+        return [line for line in said if "this one" not in line]
 
     def test_locks_held_not_held_and_sometimes(self):
         said = self.lines("A acq l 1", "A acq m 1", "A w x 2", "A rel m 3", "A rel l 3", "B r x 4", "B acq l 5", "B r x 4", "B acq n 6",
                           "B r x 7", "C acq n2 8", "C r x 9")
-        self.assertEqual(said[5:15], [
+        self.assertEqual(said[4:14], [
             "   f.c:2: 1 write by A", "     holds l; holds m", "     races with f.c:4 (1 race) and f.c:9 (1 race)",
-            "   f.c:4: 2 reads by B", "     holds l at 1 of 2; no lock in the trace at 1 of 2", "     races with f.c:2 (1 race)",
+            "   f.c:4: 2 reads by B", "     holds l at 1 of 2; no lock held at 1 of 2", "     races with f.c:2 (1 race)",
             "   f.c:9: 1 read by C", "     holds n2; without l", "     races with f.c:2 (1 race)",
             "   f.c:7: 1 read by B"])
-        self.assertEqual(said[15:], ["     holds l; holds n"])
+        self.assertEqual(said[14:], ["     holds l; holds n"])
 
     def test_eight_locks_are_named(self):
         locks = [f"A acq l{k} 1" for k in range(9)]
@@ -274,30 +321,30 @@ class Sites(program.Case):
         locks = [f"A acq l{k} 1" for k in range(65)]
         said = self.lines(*locks, "A w x 2", "B w x 3")
         self.assertIn("     locks not counted at 1 of 1", said)
-        self.assertIn("   In this run 2 threads write, and the locks held at 1 access aren't counted.", said)
-        self.assertIn("   In this run l0 is held at f.c:2, and not at f.c:3.", self.lines(*locks[:64], "A w x 2", "B w x 3"))
+        self.assertIn("   In this trace 2 threads write, and the locks held at 1 access aren't counted.", said)
+        self.assertIn("   In this trace l0 is held at f.c:2, and not at f.c:3.", self.lines(*locks[:64], "A w x 2", "B w x 3"))
 
     def test_no_fact_of_a_lock_where_some_locks_are_not_counted(self):
         """Both writes hold l0, and the first one too many others."""
         locks = [f"l{k}" for k in range(65)]
         said = self.lines(*(f"A acq {lock} 1" for lock in locks), "A w x 2", *(f"A rel {lock} 3" for lock in locks),
                           "C acq l0 4", "C w x 5", "C rel l0 6", "B r x 7")
-        self.assertEqual([line for line in said if "In this run" in line],
-                         ["   In this run 2 threads write, and the locks held at 1 access aren't counted."])
+        self.assertEqual([line for line in said if "In this trace" in line],
+                         ["   In this trace 2 threads write, and the locks held at 1 access aren't counted."])
 
     def test_nested_acquires_of_a_lock(self):
         said = self.lines("A acq l 1", "A acq l 1", "A rel l 1", "A w x 2", "A rel l 3", "B r x 4")
-        self.assertIn("   In this run every write holds l, and f.c:4 reads without it.", said)
+        self.assertIn("   In this trace every write holds l, and f.c:4 reads without it.", said)
 
     def test_a_released_lock_is_not_held(self):
         said = self.lines("A acq l 1", "A acq m 1", "A rel l 1", "A w x 2", "B r x 4")
-        self.assertIn("   In this run every write holds m, and f.c:4 reads without it.", said)
+        self.assertIn("   In this trace every write holds m, and f.c:4 reads without it.", said)
 
     def test_twenty_lines_are_shown(self):
         for many, more in ((20, []), (21, ["   and 1 more line"]), (23, ["   and 3 more lines"])):
             said = self.lines("A w x 100", *(f"R{line} r x {line}" for line in range(201, 200 + many)))
             self.assertEqual(len([line for line in said if line.startswith("   f.c:")]), 20)
-            self.assertEqual(said[5 + 3 * 20:], more)
+            self.assertEqual(said[4 + 3 * 20:], more)
 
     def test_eight_partners_are_named(self):
         said = self.lines("A w x 10", *(f"R{line} r x {line}" for line in range(11, 20)))
@@ -319,10 +366,10 @@ class Sites(program.Case):
         most, counting.MOST_KINDS = counting.MOST_KINDS, 2
         self.addCleanup(setattr, counting, "MOST_KINDS", most)
         said = self.lines("A w x 1", "B w x 2", "B r x 3", "A r x 1", "A w x 1")
-        self.assertEqual(said[4:], [
-            "   In this run 2 threads write, and the locks held at 2 accesses aren't counted.",
-            "   f.c:1: 2 writes by A", "     no lock in the trace", "     races with f.c:2 (2 races) and f.c:3 (2 races)",
-            "   f.c:2: 1 write by B", "     no lock in the trace", "     races with f.c:1 (2 races)",
+        self.assertEqual(said[3:], [
+            "   In this trace 2 threads write, and the locks held at 2 accesses aren't counted.",
+            "   f.c:1: 2 writes by A", "     no lock held", "     races with f.c:2 (2 races) and f.c:3 (2 races)",
+            "   f.c:2: 1 write by B", "     no lock held", "     races with f.c:1 (2 races)",
             "   (further lines): 2 reads", "     locks not counted at 2 of 2"])
 
     def test_counts_and_locks_of_made_traces(self):
@@ -376,6 +423,26 @@ class Groups(program.Case):
         [section] = sections(text, shb.report(text, True))
         self.assertEqual(([pair.races for pair in section.group.pairs], section.group.variables), ([2], (b"x", b"y")))
 
+    def test_fields_of_one_block_that_lack_one_order_are_one_group(self):
+        """Blocks 1 and 2, and two objects with a name. Another lock, or other threads, are another thing that is missing."""
+        self.assertEqual(self.names("A w a.c:9#1 1", "A w a.c:9#1+4 2", "B r a.c:9#1 3", "B r a.c:9#1+4 4"), ["a.c:9#1 (2 variables)"])
+        self.assertEqual(self.names("A w a.c:9#1 1", "A w a.c:9#2 2", "B r a.c:9#1 3", "B r a.c:9#2 4"), ["a.c:9#1", "a.c:9#2"])
+        self.assertEqual(self.names("A w s 1", "A w s+4 2", "B r s 3", "C r s+4 4"), ["s", "s+4"])
+        self.assertEqual(self.names("A acq l 9", "A w s 1", "A rel l 9", "A w s+4 2", "B r s 3", "B r s+4 4"), ["s", "s+4"])
+        self.assertEqual(self.names("A w stack.A-8 1", "A w stack.A-16 2", "B r stack.A-8 3", "B r stack.A-16 4"),
+                         ["stack.A-16", "stack.A-8"])
+
+    def test_a_race_that_hides_others(self):
+        """A read that took the value of the write it races with; of two writes it took the later one's."""
+        lines = ["A w x 1", "B r x 2", "A w y 3", "C w y 5", "B r y 4"]
+        out = run_here([self.file(trace_of(*lines))])[1]
+        hides = "   f.c:{} read what f.c:{} wrote: races behind this one are listed only once it is mended.\n"
+        self.assertIn(hides.format(2, 1), out)
+        self.assertIn(hides.format(4, 5), out)
+        self.assertEqual(out.count("races behind this one"), 2)  # f.c:3 wrote before f.c:5 did
+        self.assertIn("\nWhere a read took the value of the write that it races with, what follows it in its thread is ordered after that "
+                      "write, and races with that are behind this one.\n", out)
+
     def test_a_pair_has_no_order(self):
         text = trace_of("A w x 1", "B w x 2", "A w x 1")
         [section] = sections(text, shb.report(text, True))
@@ -406,7 +473,7 @@ class Groups(program.Case):
                                   "Of each place one is known, and what is said of a group holds for the variables of these.\n")):
             events = [f"{thread} w {variable} {line}" for thread, line in (("A", 1), ("B", 2)) for _ in range(many) for variable in "xy"]
             out = run_here([self.file(trace_of(*events))])[1]
-            self.assertIn(f"\nshb check: ok 1\n{note}\n1. {name}: 2 threads write ({2 * many * many:,} races, 1 pair of lines)\n", out)
+            self.assertIn(f"\n{note}\n1. {name}: 2 threads write ({2 * many * many:,} races, 1 place)\n", out)
 
     def test_a_report_of_some_races(self):
         """The report of `places` has one race of each place."""
@@ -414,16 +481,16 @@ class Groups(program.Case):
             program_said = program.run(["places", EXAMPLES / "places.std"]).out
             report.write(program_said)
         said = run_here([EXAMPLES / "places.std", self.folder / "t.report"])[1].splitlines()
-        self.assertEqual(said[0], "places.std: 3 of 6 races at 2 pairs of lines, in 1 group (4 events, 4 threads, 0 locks, 1 variable)")
+        self.assertEqual(said[0], "places.std: 3 of 6 races at 2 places, in 1 group (4 events, 4 threads, 0 locks, 1 variable)")
         self.assertEqual(said[2:5], ["The report has not all races of the trace; the counts are the report's.", "",
-                                     "1. total: 3 threads write (3 races, 2 pairs of lines)"])
+                                     "1. total: 3 threads write (3 races, 2 places)"])
 
     def test_two_hundred_groups_are_shown(self):
         for many, more in ((200, ""), (202, "\nand 2 more groups\n")):
             events = [f"{thread} w x{k} {2 * k + (thread == 'B')}" for k in range(many) for thread in "AB"]
             out = run_here([self.file(trace_of(*events))])[1]
             self.assertEqual(len(re.findall(r"^\d+\. ", out, re.M)), 200)
-            self.assertTrue(out.startswith(f"t.std: {many} races at {many} pairs of lines, in {many} groups "))
+            self.assertTrue(out.startswith(f"t.std: {many} races at {many} places, in {many} groups "))
             self.assertEqual(out.split("races with f.c:399 (1 race)\n")[-1][-len(more or "\n"):] if more else "", more)
 
 

@@ -48,8 +48,8 @@ exec REAL "$@"
         status, out, err = run_here(["--shb", self.fake(script), TRACE])
         self.assertEqual((status, err), (0, ""))
         self.assertEqual(out.splitlines()[0],
-                         "fork-join.std: 900,000,000 races at 1 pair of lines, in 1 group (7 events, 2 threads, 0 locks, 2 variables)")
-        self.assertIn("\n1. count and perhaps others: 2 threads write (900,000,000 races, 1 pair of lines)\n", out)
+                         "fork-join.std: 900,000,000 races at 1 place, in 1 group (7 events, 2 threads, 0 locks, 2 variables)")
+        self.assertIn("\n1. count and perhaps others: 2 threads write (900,000,000 races, 1 place)\n", out)
         self.assertIn("     races with worker.c:3 (900,000,000 races)", out)
 
     def test_notes_stand_below_the_title(self):
@@ -65,7 +65,7 @@ exec REAL "$@"
                       page.read_text())
 
     def test_no_schedules_where_they_would_be_long(self):
-        """A thousand places and 20,000 events: 140 MB. The program is asked for no schedule and checks nothing."""
+        """A thousand places and 20,000 events: 140 MB. The program is asked for no schedule."""
         events = "".join(f"A|w(x{k})|a:{k}\nB|w(x{k})|b:{k}\n" for k in range(1000)) + "A|r(y)|c:1\n" * 18000
         log = self.folder / "log"
         script = f'echo "$1 $2" >> {log}; exec REAL "$@"\n'
@@ -73,15 +73,44 @@ exec REAL "$@"
         status, out, err = run_here(["--all", "--shb", self.fake(script), trace])
         self.assertEqual((status, err), (0, ""))
         self.assertEqual(log.read_text().splitlines(), ["races --list", "places --list"])
-        self.assertEqual(out.splitlines()[1], "No schedules were made, since they would take over 100 MB; so nothing was checked.")
-        self.assertIn("No schedule of this race was checked: events are shown in the order of the trace.", out)
+        self.assertEqual(out.splitlines()[1], "No schedules were made, since they would take over 100 MB.")
+        self.assertIn("No schedule of this race is at hand: events are shown in the order of the trace.", out)
         self.assertNotIn("come next", out)
 
     def test_what_is_run(self):
         log = self.folder / "log"
         script = f'echo "$*" >> {log}; exec REAL "$@"\n'
         self.assertEqual(run_here(["--shb", self.fake(script), TRACE])[0], 0)
-        self.assertEqual(log.read_text().splitlines(), [f"races --list {TRACE}", f"places {TRACE}", f"check {TRACE}"])
+        self.assertEqual(log.read_text().splitlines(), [f"races --list {TRACE}", f"places {TRACE}"])
+
+    def test_text_and_page_of_one_run(self):
+        """As each alone, and `shb` runs as often as for one."""
+        log, page = self.folder / "log", self.folder / "page.html"
+        fake = self.fake(f'echo "$1" >> {log}; exec REAL "$@"\n')
+        whole = run_here([TRACE])[1]
+        self.assertEqual(run_here(["--html", page, TRACE]), (0, "", ""))
+        alone = page.read_bytes()
+        self.assertEqual(run_here(["--text", "--html", page, "--shb", fake, TRACE]), (0, whole, ""))
+        self.assertEqual((page.read_bytes(), log.read_text().split()), (alone, ["races", "places"]))
+
+    def test_groups_with_places_that_are_asked_for(self):
+        """In either order of the two locations; the page has all groups."""
+        trace, page = EXAMPLES / "unlocked-read.std", self.folder / "page.html"
+        only = self.file(b"queue.c:29\tmain.c:12\n", "places")
+        status, out, err = run_here(["--text", "--only", only, "--html", page, trace])
+        self.assertEqual((status, err), (0, ""))
+        self.assertIn("\nOf 2 groups 1 are shown, those with a place that is asked for.\n\n2. closed: ", out)
+        self.assertNotIn("items", out)
+        self.assertIn("items", page.read_text())
+        wrong = self.file(b"a.c:1 b.c:2\n", "wrong")
+        self.assertEqual(self.said(["--only", wrong, trace]), f"--only: {wrong} has a line without two locations and a tab between them")
+
+    def test_a_title(self):
+        status, out, _ = run_here(["--title", "./app 3\x1b", TRACE])
+        self.assertEqual((status, out.split(": ")[0]), (0, "./app 3\\x1b"))
+
+    def test_a_window(self):
+        self.assertIn("   In this window 2 threads write", run_here(["--window", TRACE])[1])
 
     def test_a_name_like_an_option(self):
         trace = self.file(TRACE.read_bytes(), "-t.std")
@@ -91,20 +120,50 @@ exec REAL "$@"
         self.assertTrue(answer.stdout.startswith(b"-t.std: 1 race "))
 
     def test_a_refused_trace(self):
-        self.assertEqual(self.said([self.file(b"oops\n")]), "`shb` refuses the trace: line 1: the line has no operation field")
+        """The line is shown, and what is likely to be wrong with it."""
+        form = "a line is THREAD|OPERATION|LOCATION, with bars between"
+        for text, fault, line, hint in (
+            (b"oops\n", "line 1: the line has no operation field", "oops", f"{form}; there are no comments"),
+            (b"A|w(x)\nA\tw(x)\n", "line 2: the line has no operation field", "A\\x09w(x)", f"{form}, not tabs; there are no comments"),
+            (b"A | w(x)|a.c:1\n", "line 1: the operation is not known", "A | w(x)|a.c:1",
+             "there are blanks around the bar: write THREAD|OPERATION|LOCATION without them"),
+            (b"A|w(x) |a.c:1\n", "line 1: the operand is not a name in parentheses", "A|w(x) |a.c:1",
+             "there are blanks around the bar: write THREAD|OPERATION|LOCATION without them"),
+            (b"\n\nA|W(x)\n", "line 3: the operation is not known", "A|W(x)", "operations are written in small letters, as `w`"),
+            (b"A|lock(l)\n", "line 1: the operation is not known", "A|lock(l)", "this operation is written `acq`"),
+            (b"A\r|w(x)\rB|w(x)|w\n", "line 1: the operand is not a name in parentheses", "A\\x0d|w(x)\\x0dB|w(x)|w",
+             "a carriage return stands alone: lines end with a line feed, or with both"),
+            (b"\xef\xbb\xbf# a comment\n", "line 1: the line has no operation field", "\\ufeff# a comment",
+             "the file begins with a byte order mark: save it without one"),
+            ("A|w(x)\n".encode("utf-16"), "line 1: the operation is not known", "\\xff\\xfeA\\x00|\\x00w\\x00(\\x00x\\x00)\\x00",
+             "the file is UTF-16: save it as UTF-8"),
+            (b"\x1f\x8b\x08\n", "line 1: the line has no operation field", "\\x1f\\x8b\\x08", "the file is packed by gzip: unpack it first"),
+            (b"A|rel(l)\n", "line 1: the lock is not held by this thread", "A|rel(l)", None),
+        ):
+            with self.subTest(text):
+                status, out, err = run_here([self.file(text)])
+                said = f"shb-view: `shb` refuses the trace: {fault}\n  {line}\n" + (f"  hint: {hint}\n" if hint else "")
+                self.assertEqual((status, out, err), (2, "", said))
+
+    def test_a_trace_that_begins_oddly(self):
+        """It isn't refused; the names aren't what they look like."""
+        out = run_here([self.file(b"\xef\xbb\xbfA|w(x)\nA|w(x)\n")])[1]
+        self.assertEqual(out.splitlines()[1], "The trace begins with a byte order mark, which is a part of the first thread's name.")
+        out = run_here([self.file(b"A|w(x)|a\rB|w(x)|b\r")])[1]
+        self.assertEqual(out.splitlines()[1], "In the trace a carriage return stands alone: lines end with a line feed, or with both.")
 
     def test_a_killed_program(self):
         self.assertEqual(self.said(["--shb", self.fake("kill -9 $$\n"), TRACE]), "`shb races --list` was ended by signal 9")
         script = "[ $1 = places ] && kill -9 $$; exec REAL \"$@\"\n"
         self.assertEqual(self.said(["--shb", self.fake(script), TRACE]), "`shb places` was ended by signal 9")
         script = "[ $1 = check ] && kill -9 $$; exec REAL \"$@\"\n"
-        self.assertEqual(self.said(["--shb", self.fake(script), TRACE]), "`shb check` was ended by signal 9")
+        self.assertEqual(self.said(["--check", "--shb", self.fake(script), TRACE, REPORT]), "`shb check` was ended by signal 9")
 
     def test_a_program_that_fails(self):
         script = "[ $1 = places ] && { echo 'out of memory' >&2; exit 4; }; exec REAL \"$@\"\n"
         self.assertEqual(self.said(["--shb", self.fake(script), TRACE]), "`shb places` ended with status 4: out of memory")
         script = "[ $1 = check ] && { echo 'out of memory' >&2; exit 4; }; exec REAL \"$@\"\n"
-        self.assertEqual(self.said(["--shb", self.fake(script), TRACE]), "`shb check` ended with status 4: out of memory")
+        self.assertEqual(self.said(["--check", "--shb", self.fake(script), TRACE, REPORT]), "`shb check` ended with status 4: out of memory")
         self.assertEqual(self.said(["--shb", self.fake("exit 4\n"), TRACE]), "`shb races --list` ended with status 4")
         self.assertEqual(self.said(["--shb", self.fake("printf 'a\\033[31m\\nb' >&2; exit 4\n"), TRACE]),
                          "`shb races --list` ended with status 4: a\\x1b[31m\\x0ab")
@@ -115,14 +174,14 @@ exec REAL "$@"
 
     def test_a_verdict_without_words(self):
         script = "[ $1 = check ] && exit 5; exec REAL \"$@\"\n"
-        status, out, _ = run_here(["--shb", self.fake(script), TRACE])
+        status, out, _ = run_here(["--check", "--shb", self.fake(script), TRACE, REPORT])
         self.assertEqual((status, out.splitlines()[0]), (
             1, "`shb check` finds the report bad: it ended with status 5 and no word. What follows is only what the report says."))
 
     def test_a_verdict_of_many_words(self):
         """Also where the program writes more than a pipe holds, to both."""
         script = "[ $1 = check ] && { yes bad | head -c 300000; yes 'line' | head -c 300000 >&2; exit 5; }; exec REAL \"$@\"\n"
-        status, out, _ = run_here(["--shb", self.fake(script), TRACE])
+        status, out, _ = run_here(["--check", "--shb", self.fake(script), TRACE, REPORT])
         self.assertEqual(status, 1)
         self.assertLess(len(out.splitlines()[0]), 400)
         self.assertTrue(out.startswith("`shb check` finds the report bad: bad\\x0abad"))
@@ -150,7 +209,7 @@ exec REAL "$@"
             for path in (command, link):
                 answer = run([TRACE], env=environment, command=path)
                 self.assertEqual((answer.status, answer.err), (0, b""))
-                self.assertIn(b"shb check: ok 1\n", answer.out)
+                self.assertIn(b"fork-join.std: 1 race ", answer.out)
 
 
 class Files(Fake):
@@ -313,6 +372,6 @@ class Statuses(Fake):
     def test_a_trace_that_was_changed(self):
         """`shb` reads one trace, the view another."""
         trace = self.file(TRACE.read_bytes())
-        script = f"REAL \"$@\"; status=$?; [ $1 = check ] && printf 'A|w(count)|x\\n' >> {trace}; exit $status\n"
+        script = f"REAL \"$@\"; status=$?; [ $1 = places ] && printf 'A|w(count)|x\\n' >> {trace}; exit $status\n"
         self.assertEqual(self.said(["--shb", self.fake(script), trace]),
                          "the trace isn't the one that `shb` read: it was changed in between")

@@ -66,9 +66,8 @@ class Pages(program.Case):
     def test_a_row_and_a_section_for_each_group(self):
         page = self.page(self.example("unlocked-read"))
         self.assertEqual([text for _, text in page.all("li")], [
-            "1. items main.c:11 is without lock 1 race, 1 pair of linesIn this run lock is held at queue.c:22, and not at main.c:11.",
-            "2. closed one thread writes 2 races, 1 pair of linesIn this run only main writes, at main.c:12, and no access holds a lock "
-            "in the trace."])
+            "1. items main.c:11 is without lock 1 race, 1 placeIn this trace lock is held at queue.c:22, and not at main.c:11.",
+            "2. closed one thread writes 2 races, 1 placeIn this trace only main writes, at main.c:12, and no lock is held at any access."])
         self.assertEqual([attributes["id"] for attributes, _ in page.all("section")], ["g1", "g2"])
         self.assertEqual([attributes["class"] for attributes, _ in page.all("li")], ["rank2", "rank4"])
         self.assertEqual([text for _, text in page.all("h2")], ["1 items: main.c:11 is without lock", "2 closed: one thread writes"])
@@ -80,16 +79,16 @@ class Pages(program.Case):
         self.assertEqual([text for _, text in page.all("th")][:5], ["Line", "Accesses", "Threads", "Locks", "Races with"])
         self.assertEqual([text for _, text in page.all("td")][:10], [
             "account.c:10", "2 reads and 2 writes", "T1.pay and main", "holds door", "account.c:8 (1 race)",
-            "account.c:8", "2 reads", "T1.pay and main", "no lock in the trace", "account.c:10 (1 race)"])
+            "account.c:8", "2 reads", "T1.pay and main", "no lock held", "account.c:10 (1 race)"])
         self.assertEqual([attributes["data-head"] for attributes, _ in page.all("td")[:5]],
                          ["Line", "Accesses", "Threads", "Locks", "Races with"])
         self.assertEqual([(attributes["class"], text) for attributes, text in page.all("span") if attributes.get("class") in
-                          ("held", "some", "none")], [("held", "holds door"), ("none", "no lock in the trace")])
+                          ("held", "some", "none")], [("held", "holds door"), ("none", "no lock held")])
 
     def test_folded_parts_by_hand(self):
         page = self.page(self.example("fork-join"))
         self.assertEqual([text for _, text in page.all("summary")],
-                         ["What comes before events 4 and 5, the closest listed race", "As text, for an issue", "Lines of the trace"])
+                         ["What comes before events 4 and 5, one of its races", "As text, for an issue", "Lines of the trace"])
         [(_, issue)] = page.all("pre")
         self.assertEqual(issue.splitlines()[:3], ["data race on count: worker.c:3 and start.c:6", "(one race in a recorded run)",
                                                   "  write by worker at worker.c:3 (event 4)"])
@@ -177,12 +176,16 @@ class Pages(program.Case):
         self.assertEqual(run_here(["--html", path, self.file(b"A|w(x)\nB|w(x)\n", "<b>&\"\x1b.std")])[0], 0)
         page = Page(path.read_text(encoding="utf-8"))
         self.assertEqual((page.all("h1"), page.all("b")), ([({}, "<b>&\"\\x1b.std")], []))
-        self.assertEqual(page.all("title")[0][1], "<b>&\"\\x1b.std: 1 race at 1 pair of lines, in 1 group")
+        self.assertEqual(page.all("title")[0][1], "<b>&\"\\x1b.std: 1 race at 1 place, in 1 group")
 
     def test_what_is_said_of_schedules_and_verdicts(self):
         trace, report = self.example("places"), (EXAMPLES / "places.report").read_bytes()
-        good = self.page(trace)
-        self.assertEqual([text for _, text in good.all("p", "verdict")], ["shb check: ok 3"])
+        own = self.page(trace)
+        self.assertEqual(own.all("p", "verdict"), [])
+        self.assertIn("`shb places` has a schedule of it, race 1: after its 0 events both accesses come next.",
+                      "".join(text for _, text in own.all("details")))
+        good = self.page(trace, self.file(report, "t.report"), "--check")
+        self.assertEqual([text for _, text in good.all("p", "verdict")], ["shb check: ok 6"])
         self.assertEqual([attributes["class"] for attributes, _ in good.all("p", "verdict")], ["verdict good"])
         self.assertIn("good: after its 0 events both accesses come next.", "".join(text for _, text in good.all("details")))
         unchecked = self.page(trace, self.file(report, "t.report"))
@@ -207,7 +210,7 @@ class Pages(program.Case):
         fake = self.file(b"#!/bin/sh\nif [ $1 = check ]; then printf 'ok <b>\\033[31m\\n'; exit 5; fi\nexec %b \"$@\"\n"
                          % bytes(program.PATH), "shb")
         fake.chmod(0o755)
-        self.assertEqual(run_here(["--html", path, "--shb", fake, EXAMPLES / "places.std"])[0], 1)
+        self.assertEqual(run_here(["--html", path, "--check", "--shb", fake, EXAMPLES / "places.std", EXAMPLES / "places.report"])[0], 1)
         page = Page(path.read_text(encoding="utf-8"))
         self.assertEqual(page.all("p")[0][0], {"class": "verdict bad"})
         self.assertIn("ok <b>\\x1b[31m. What", page.all("p")[0][1])

@@ -82,7 +82,7 @@ class Refused(program.Case):
     def refused(self, words, status=1):
         answer = run_here(words)
         self.assertEqual(answer[:2], (status, ""))
-        self.assertRegex(answer[2], r"\Ashb-view: [^\n]+\n\Z")
+        self.assertRegex(answer[2], r"\Ashb-view: [^\n]+\n(  [^\n]*\n){0,2}\Z")  # with the line that is refused, and a hint
         return answer[2][10:-1]
 
     def test_words_by_hand(self):

@@ -6,6 +6,7 @@ import program
 from test_view_page import Page
 from viewing import run_here
 
+from shb_view import names
 from shb_view import source as source_lines
 from shb_view.source import Source, excerpt
 
@@ -35,7 +36,7 @@ class Found(program.Case):
         return path
 
     def place(self, location, *folders):
-        return Source([self.folder / folder for folder in folders or ["src"]], 2000).place(location)
+        return Source([self.folder / folder for folder in folders or ["src"]], 2000, {}).place(location)
 
     def test_by_base_name(self):
         self.put("src/deep/a.c")
@@ -69,6 +70,15 @@ class Found(program.Case):
         self.put("src/util.c", b"old\n")
         self.assertEqual(self.place(b"util.c:1", "new", "src").line(), b"new")
         self.assertEqual(self.place(b"util.c:1", "src", "new").line(), b"old")
+
+    def test_a_long_line_is_not_looked_at_in_the_middle(self):
+        """Its ends are what is shown of it: 240 columns take at most 16 bytes each."""
+        seen = []
+        kept, names.characters = names.characters, lambda text: seen.append(len(text)) or kept(text)
+        self.addCleanup(setattr, names, "characters", kept)
+        line = b"int a;" + b"x" * 4_000_000 + b"int z;"
+        self.assertEqual(names.code_line(line, 240), f"int a;{'x' * 113}…{'x' * 114}int z;")
+        self.assertEqual(seen, [2 * 16 * 240])
 
     def test_a_line_beyond_the_end(self):
         self.put("src/a.c")
@@ -104,7 +114,7 @@ class Found(program.Case):
 
     def test_a_file_that_cannot_be_read(self):
         path = self.put("src/a.c")
-        source = Source([self.folder / "src"], 2000)
+        source = Source([self.folder / "src"], 2000, {})
         path.unlink()
         path.symlink_to("/etc/passwd")
         self.assertEqual(source.place(b"a.c:1")[2:4], ([], "the file can't be read (Too many levels of symbolic links)"))
@@ -112,23 +122,23 @@ class Found(program.Case):
     def test_what_is_found(self):
         self.put("src/a.c", time=2001)
         self.put("src/b.c")
-        source = Source([self.folder / "src"], 2000)
+        source = Source([self.folder / "src"], 2000, {})
         said = f"Source lines of {self.folder}/src: "
         self.assertEqual(source.summary([b"a.c:1", b"a.c:2", b"b.c:1", b"c.c:1", b"?"]), said + "2 of 3 files found, 1 newer than the trace.")
         kept, source_lines.MOST_FILES = source_lines.MOST_FILES, 2
         self.addCleanup(setattr, source_lines, "MOST_FILES", kept)
         self.put("src/c.c")
-        source = Source([self.folder / "src"], 2000)
+        source = Source([self.folder / "src"], 2000, {})
         self.assertEqual(source.files, 2)
         self.assertTrue(source.summary([b"b.c:1"]).endswith(" Only 2 files were looked at."))
         source_lines.MOST_FILES = kept
-        self.assertEqual(Source([self.folder / "src"], 2000).summary([b"b.c:1"]), said + "1 of 1 file found, none newer than the trace.")
+        self.assertEqual(Source([self.folder / "src"], 2000, {}).summary([b"b.c:1"]), said + "1 of 1 file found, none newer than the trace.")
 
 
 class Excerpts(program.Case):
     def excerpt(self, location, acquire=None, code=CODE):
         self.file(code, "a.c")
-        source = Source([self.folder], 1e12)
+        source = Source([self.folder], 1e12, {})
         found = excerpt(source.place(location), source.place(acquire) if acquire else None)
         return found.head, list(found.numbers), list(found.held)
 
@@ -169,17 +179,18 @@ class Shown(program.Case):
     def test_text_by_hand(self):
         self.assertEqual(self.shown().splitlines()[2:], [
             f"Source lines of {self.folder}: 1 of 1 file found, none newer than the trace.", "",
-            "1. total: a.c:3 is without door (1 race, 1 pair of lines)",
-            "   In this run every write holds door, and a.c:3 reads without it.",
+            "1. total: a.c:3 is without door (1 race, 1 place)",
+            "   In this trace every write holds door, and a.c:3 reads without it.",
+            "   a.c:3 read what a.c:8 wrote: races behind this one are listed only once it is mended.",
             "   a.c:8: 1 write by A", "     | total++;", "     holds door", "     races with a.c:3 (1 race)",
-            "   a.c:3: 1 read by B", "     | static int total;", "     no lock in the trace", "     races with a.c:8 (1 race)"])
+            "   a.c:3: 1 read by B", "     | static int total;", "     no lock held", "     races with a.c:8 (1 race)"])
 
     def test_page_by_hand(self):
         path = self.folder / "page.html"
         self.shown("--html", path)
         page = Page(path.read_text(encoding="utf-8"))
         self.assertEqual([text for _, text in page.all("figcaption")],
-                         ["1 a.c:8 writes, holding doorin void *run(void *unused)", "2 a.c:3 reads, no lock in the trace"])
+                         ["1 a.c:8 writes, holding doorin void *run(void *unused)", "2 a.c:3 reads, no lock held"])
         rows = [text for _, text in page.all("tr") if text.startswith(("5", "6", "7", "8", "9", "10"))]
         self.assertEqual(rows[:6], ["5void *run(void *unused) {", "6    for (int k = 0; k < 3; k++) {", "7        lock(&door);",
                                     "81        total++;", "9again:", "10        unlock(&door);"])
@@ -199,7 +210,7 @@ class Shown(program.Case):
         self.assertEqual(page.all("u"), [])
         self.assertEqual([text for _, text in page.all("figcaption")], [
             "1 <u>&.c:3 writes, holding <u>in void <u>f(void)",
-            "2 <u>&.c:9 writes, no lock in the tracethe file has 4 lines"])
+            "2 <u>&.c:9 writes, no lock heldthe file has 4 lines"])
         self.assertEqual(page.all("tr", "hit")[0][1], "31  </td><u>x;")
 
     def test_a_fault_is_said_beside_the_code(self):

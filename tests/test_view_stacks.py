@@ -74,6 +74,24 @@ class Stacks(program.Case):
         _, window, err = self.shown(stacks([1, 1, *NODES]), "--shift", "2")
         self.assertEqual((window, err), (whole, ""))
 
+    def test_a_free(self):
+        """One call frees a block of two variables that another thread uses: it is one free, and no write."""
+        trace = (b"main|fork(T1)|a.c:1\nT1|r(a.c:9#2)|a.c:5\nT1|r(a.c:9#2+8)|a.c:6\nmain|w(a.c:9#2)|a.c:7\nmain|w(a.c:9#2+8)|a.c:7\n")
+        _, out, err = self.shown(stacks(tables=TABLES + b"free 4 5\n"), "--all", trace=trace)
+        self.assertEqual(err, "")
+        self.assertIn("1. a.c:9#2 (2 variables): freed at a.c:7 while in use (2 races, 2 places)\n   In this trace main frees the block at "
+                      "a.c:7, and nothing orders that and the use at a.c:5 and a.c:6.\n", out)
+        self.assertIn("   a.c:7: 1 free by main\n", out)
+        self.assertIn("     free by main at a.c:7 (event 4)\n", out)
+
+    def test_sources_that_were_recorded(self):
+        """Only where that is asked for, for a file may name any path."""
+        code = self.file(b"int x;\n" * 4 + b"  x = 1;\n", "code")
+        tables = TABLES + b"source a.c\t%b\n" % bytes(code)
+        self.assertIn("     | x = 1;\n", self.shown(stacks(tables=tables), "--recorded-source")[1])
+        self.assertNotIn("x = 1;", self.shown(stacks(tables=tables))[1])
+        self.assertNotIn("x = 1;", self.shown(stacks(), "--recorded-source")[1])
+
     def test_without_stacks(self):
         _, out, _ = run_here([self.file(TRACE)])
         self.assertNotRegex(out, "(?m)^     (in|from) ")
@@ -88,7 +106,7 @@ class Stacks(program.Case):
             self.assertEqual(self.shown(stacks(), f"--shift={shift}")[0], 2)
 
     def test_damaged_tables_are_refused_or_shown(self):
-        for line in (b"frame x", b"stack x", b"stack 1", b"stack 1 1 99", b"thread T1", b"block 1", b"block a b"):
+        for line in (b"frame x", b"stack x", b"stack 1", b"stack 1 1 99", b"thread T1", b"block 1", b"block a b", b"free 1", b"free a b", b"source a"):
             with self.subTest(line=line):
                 status, _, err = self.shown(stacks(tables=TABLES + line + b"\n"))
                 self.assertEqual(status, 2)

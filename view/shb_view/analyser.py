@@ -7,6 +7,7 @@ import typing
 
 from shb_view.faults import BadReport, Refused
 from shb_view.names import short
+from shb_view.refused import refused_line
 from shb_view.report import Report
 
 MOST_BYTES = 4_096  # of the program's words that are looked at
@@ -87,6 +88,6 @@ class Analyser:
         self.errors.seek(0)
         said = short(self.errors.read(MOST_BYTES).rstrip(b"\n"), MOST_SAID)
         if status == REFUSED and said:
-            raise Refused(f"`shb` refuses the trace: {said}")
+            raise Refused(f"`shb` refuses the trace: {said}{refused_line(self.trace, said)}")
         how = f"was ended by signal {-status}" if status < 0 else f"ended with status {status}"
         raise Refused(f"`shb {' '.join(words)}` {how}{': ' if said else ''}{said}")

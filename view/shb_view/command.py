@@ -1,6 +1,7 @@
 """The words of the command, its files and its statuses."""
 
 import argparse
+import contextlib
 import os
 import sys
 
@@ -31,14 +32,20 @@ class Parser(argparse.ArgumentParser):
 def arguments(words, program):
     parser = Parser(prog="shb-view", description=ABOUT, epilog=with_version(STATUS), formatter_class=argparse.RawDescriptionHelpFormatter)
     parser.add_argument("--html", metavar="PAGE", help="write a page to this file, not text to standard output")
+    parser.add_argument("--text", action="store_true", help="beside the page, write the text too")
+    parser.add_argument("--only", metavar="FILE", help="in the text, show only the groups with a place of this file: two locations "
+                        "with a tab between them on each line")
+    parser.add_argument("--title", metavar="TEXT", help="the title, if it isn't to be the trace's name")
     parser.add_argument("--source", metavar="DIR", action="append", default=[],
                         help="show lines of the source files below this folder; may be given again")
-    parser.add_argument("--all", action="store_true", help="in the text, add each group's closest race and what comes before it")
+    parser.add_argument("--all", action="store_true", help="in the text, add a race of each group and what comes before it")
     parser.add_argument("--note", metavar="TEXT", action="append", default=[],
                         help="say this of the trace below the title, as that it isn't the whole run; may be given again")
     parser.add_argument("--stacks", metavar="FILE", help="show call stacks, as `shb-std --stacks` wrote them")
+    parser.add_argument("--recorded-source", action="store_true", help="show lines of the source files that the file of --stacks names")
     parser.add_argument("--shift", metavar="N", type=int, default=0,
                         help="the trace is a window of a run: its event E is event E + N of the file of stacks")
+    parser.add_argument("--window", action="store_true", help="the trace is a window of a longer one: say so in each fact")
     parser.add_argument("--check", action="store_true", help="run `shb check` on the REPORT that is given")
     parser.add_argument("--shb", metavar="PROGRAM", default=os.environ.get("SHB") or program, help="the `shb` to run")
     parser.add_argument("trace", metavar="TRACE", help="a trace, as `shb` reads it")
@@ -65,16 +72,17 @@ def open_standard_files():
 
 def show(options, progress, is_open):
     """Writes what was asked for, and gives the status."""
-    if options.html:
-        with new_file(options.html, [options.trace, options.report or options.trace]) as out:
-            view = make_view(options, progress)
-            write_parts(out, page_parts(view), options.html)
-    elif is_open:
-        view = make_view(options, progress)
-        progress.clear()
-        write_text(text.text_lines(view, text.Colours(is_coloured(sys.stdout)), options.all))
-    else:
+    wants_text = options.text or not options.html
+    if wants_text and not is_open:
         raise Refused("standard output is closed")
+    inputs = [options.trace, options.report or options.trace]
+    with new_file(options.html, inputs) if options.html else contextlib.nullcontext() as out:
+        view = make_view(options, progress)
+        if out:
+            write_parts(out, page_parts(view), options.html)
+    progress.clear()
+    if wants_text:
+        write_text(text.text_lines(view, text.Colours(is_coloured(sys.stdout)), options.all))
     return 1 if view.verdict.is_good is False else 0
 
 

@@ -21,18 +21,55 @@ class Noted(typing.NamedTuple):
     held: int
 
 
+class Access(typing.NamedTuple):
+    """An event that was counted. `free` is the number of the free that it is of, or None."""
+
+    number: int
+    variable: bytes
+    kind: tuple
+    free: typing.Optional[int]
+
+
+class Kinds:
+    """What an access is, where the trace has it as reads and writes."""
+
+    def __init__(self, atomics, stacks):
+        """`atomics` has the atomic of a variable that stands for what a thread wrote to it."""
+        self.atomics, self.stacks = atomics, stacks
+
+    def of(self, number, word, variable):
+        """The word of `words.KINDS` for an event."""
+        if word != b"w":
+            return word
+        return b"a" if variable in self.atomics else b"f" if self.free(number) is not None else word
+
+    def free(self, number):
+        """The number of the free that an event is of, or None."""
+        return self.stacks.free_of(number)
+
+    def is_atomic(self, variable):
+        return variable in self.atomics
+
+    def name(self, variable):
+        """The variable as the program has it."""
+        return self.atomics.get(variable, variable)
+
+
 class Counting:
-    def __init__(self, groups, lines, wanted):
+    def __init__(self, groups, lines, wanted, kinds, reads):
         """`groups` has a number for each racing variable, `lines` the line of each event that the report names; `wanted` are
-        the accesses to be noted."""
-        self.groups, self.lines, self.wanted = groups, lines, wanted
+        the accesses to be noted, `kinds` says what an access is, `reads` has the writes before a read that it races with."""
+        self.groups, self.lines, self.wanted, self.access_kinds, self.reads = groups, lines, wanted, kinds, reads
         # By group, how many accesses there are of each kind: its location (None where lines aren't told apart any more),
-        # thread, word and the names of the locks held (None where they aren't counted).
+        # thread, word of `words.KINDS` and the names of the locks held (None where they aren't counted).
         self.counts = collections.defaultdict(dict)
         self.kinds = self.found = 0
         self.noted = {}  # by event
         self.held = collections.defaultdict(Held)  # by thread
         self.recent = collections.defaultdict(lambda: collections.deque(maxlen=BEFORE))  # by thread: its last events
+        self.before = {}  # by group and thread: its last access
+        self.writes = {}  # by variable: its last write
+        self.seen = set()  # the locations of races where the second access reads what the first wrote
         self.forks = {}  # by thread
         self.names = {}  # each thread's name once
 
@@ -56,7 +93,7 @@ class Counting:
                 if operation[1:2] != b"(":
                     self.other(number, thread, operation)
                 elif operation[2:-1] in groups:
-                    self.access(number, without_end(line), operation[:1], groups[operation[2:-1]])
+                    self.access(number, without_end(line), operation, groups[operation[2:-1]])
                 recent[thread].append(number)
 
     def other(self, number, thread, operation):
@@ -69,21 +106,44 @@ class Counting:
         elif word == b"fork":
             self.forks[name] = number
 
-    def access(self, number, line, word, group):
+    def access(self, number, line, operation, group):
         """Counts an access to a variable of the group."""
+        variable, word = operation[2:-1], operation[:1]
         if number in self.lines:
             self.found += 1
             if self.lines[number] != line:
                 raise BadReport(f"the report is of another trace: it has another line for event {number}")
+        if word == b"w":
+            self.writes[variable] = number
+        elif self.writes.get(variable) in self.reads.get(number, ()):
+            self.seen.add(self.reads[number][self.writes[variable]])
         thread, _, *location = line.split(b"|", 2)
         held = self.held[thread]
         if number in self.wanted:
             self.noted[number] = Noted(array.array("I", self.recent[thread]), *held.newest())
         counts, thread = self.counts[group], self.names.setdefault(thread, thread)
-        kind = (location[0] if location else b"", thread, word, held.names())
+        kind = (location[0] if location else b"", thread, self.access_kinds.of(number, word, variable), held.names())
+        access = Access(number, variable, kind, self.access_kinds.free(number) if word == b"w" else None)
+        last, self.before[group, thread] = self.before.get((group, thread)), access
+        if last and self.is_part(access, last, kind, thread):
+            return
+        if last and kind[2] == b"a" and last.kind == (*kind[:2], b"r", kind[3]) and self.is_next(last, thread):
+            counts[last.kind] -= 1  # an atomic write reads what plain accesses write
         if kind not in counts:
             if self.kinds == MOST_KINDS:
                 kind = (None, b"", word, None)
             else:
                 self.kinds += 1
         counts[kind] = counts.get(kind, 0) + 1
+
+    def is_next(self, last, thread):
+        """Whether an access is the event before the present one in its thread."""
+        return bool(self.recent[thread]) and self.recent[thread][-1] == last.number
+
+    def is_part(self, access, last, kind, thread):
+        """Whether the event is of the access that the event before it is of: a free writes each variable of the block, and a plain read
+        of an atomic reads what each thread wrote."""
+        if access.free is not None:
+            return access.free == last.free
+        is_read = self.access_kinds.is_atomic(access.variable) and kind[2] == b"r" and kind == last.kind
+        return is_read and access.variable != last.variable and self.is_next(last, thread)

@@ -1,9 +1,10 @@
-"""What a trace says of a group: each line that uses its variables, and one sentence of fact. A fact holds for the recorded run and
-for the variables of the listed races; it names no fault."""
+"""What a trace says of a group: each line that uses its variables, and one sentence of fact. A fact holds for the trace and for the
+variables of the listed races, and says so; it names no fault."""
 
 import collections
 import typing
 
+from shb_view.held import read_lock
 from shb_view.words import Code, counted, listed, place
 
 MOST_NAMED = 3  # lines in a sentence
@@ -17,7 +18,9 @@ class Site:
         self.accesses = collections.Counter()  # by word
         self.threads = collections.Counter()
         self.writers = set()  # threads
-        self.locks = collections.Counter()  # how many accesses hold each lock
+        self.locks = collections.Counter()  # how many accesses hold each lock, for writing if it is a reader-writer lock
+        self.reading = collections.Counter()  # how many hold it for reading
+        self.wrong = collections.Counter()  # how many of these write
         self.bare = 0  # accesses that hold no lock
         self.unknown = 0  # accesses whose locks aren't counted
         self.partners = {}  # the lines that it races with, with how many races
@@ -26,19 +29,32 @@ class Site:
         return sum(self.accesses.values())
 
     def writes(self):
-        return self.accesses[b"w"] > 0
+        return self.total() > self.accesses[b"r"]
+
+    def guarded(self, lock):
+        """How many accesses hold the lock as they have to: a read under a read lock does."""
+        return self.locks[lock] + self.reading[lock] - self.wrong[lock]
+
+    def lacks(self, lock):
+        """Whether some access doesn't hold the lock as it has to."""
+        return self.guarded(lock) < self.total()
 
     def add(self, thread, word, locks, count):
         self.accesses[word] += count
         self.threads[thread] += count
-        if word == b"w":
+        if word != b"r":
             self.writers.add(thread)
         if locks is None:
             self.unknown += count
         elif not locks:
             self.bare += count
         for lock in locks or ():
-            self.locks[lock] += count
+            shared = read_lock(lock)
+            if shared:
+                self.reading[shared] += count
+                self.wrong[shared] += count if word != b"r" else 0
+            else:
+                self.locks[lock] += count
 
 
 class Fact(typing.NamedTuple):
@@ -54,6 +70,8 @@ def sites_of(group, counts):
     """The lines that use a group's variables: racing ones first, then those that write, then by how often."""
     sites, racing = {}, group.locations()
     for (location, thread, word, locks), count in counts.items():
+        if not count:
+            continue
         sites.setdefault(location, Site(location)).add(thread, word, locks, count)
     for pair in group.pairs:
         one, other = pair.locations
@@ -64,50 +82,90 @@ def sites_of(group, counts):
     return sorted(order, key=lambda site: (site.location not in racing, not site.writes(), -site.total()))
 
 
-def fact_of(sites):
-    """The first fact that applies. Locks that more accesses hold come first."""
+def fact_of(sites, whole):
+    """The first fact that applies. Locks that more accesses hold come first. `whole` is what the sites are counted in, a trace or a
+    window of one."""
     locks = collections.Counter()
     for site in sites:
         locks.update(site.locks)
+        locks.update(site.reading)
     names = [] if any(site.unknown for site in sites) else sorted(locks, key=lambda lock: (-locks[lock], lock))
-    for fact in (held_at_all, held_at_writes, held_at_some):
+    for fact in (freed, not_atomic):
+        found = fact(sites, whole)
+        if found:
+            return found
+    for fact in (written_under_read_lock, held_at_all, held_at_writes, held_at_some):
         for lock in names:
-            found = fact(sites, lock)
+            found = fact(sites, lock, whole)
             if found:
                 return found
-    return fact_of_writers(sites)
+    return fact_of_writers(sites, whole)
 
 
-def held_at_all(sites, lock):
+def freed(sites, whole):
+    """Racing lines that free the block which the others use."""
+    frees = [site for site in sites if site.partners and site.accesses[b"f"]]
+    used = dict.fromkeys(partner for site in frees for partner in sorted(site.partners) if partner != site.location)
+    if not frees:
+        return None
+    threads = listed([[Code(thread)] for thread in sorted(set().union(*(site.writers for site in frees)))], MOST_NAMED)
+    uses = listed([[place(location)] for location in used], MOST_NAMED) if used else ["another free of it"]
+    sentence = [f"In this {whole} ", *threads, " frees the block at " if len(threads) == 1 else " free the block at ", *lines_of(frees),
+                ", and nothing orders that and the use at ", *uses, "."]
+    return Fact(1, ["freed at ", *lines_of(frees), " while in use"], sentence, None)
+
+
+def not_atomic(sites, whole):
+    """Racing lines that aren't atomic, where others are."""
+    racing = [site for site in sites if site.partners]
+    atomic, plain = [site for site in racing if site.accesses[b"a"]], [site for site in racing if not site.accesses[b"a"]]
+    if not atomic or not plain:
+        return None
+    verb, write = "is" if len(plain) == 1 else "are", "writes" if len(atomic) == 1 else "write"
+    sentence = [f"In this {whole} ", *lines_of(atomic), f" {write} atomically, and ", *lines_of(plain), f" {verb} not atomic."]
+    return Fact(1, [*lines_of(plain), f" {verb} not atomic"], sentence, None)
+
+
+def written_under_read_lock(sites, lock, whole):
+    """Racing lines that write while they hold a lock for reading, which keeps out writers alone."""
+    wrong = [site for site in sites if site.partners and site.wrong[lock]]
+    if not wrong:
+        return None
+    verb, name = "writes" if len(wrong) == 1 else "write", Code(lock)
+    sentence = [f"In this {whole} ", *lines_of(wrong), f" {verb} while holding ", name, " for reading, which lets others read and write so too."]
+    return Fact(1, [*lines_of(wrong), f" {verb} under the read lock of ", name], sentence, lock)
+
+
+def held_at_all(sites, lock, whole):
     """No report of `shb` has such a race, since the lock orders the accesses."""
-    if any(site.locks[lock] < site.total() for site in sites):
+    if any(site.lacks(lock) for site in sites):
         return None
     name = Code(lock)
-    sentence = ["In this run every access holds ", name, ", which orders them: these are no races."]
+    sentence = [f"In this {whole} every access holds ", name, ", which orders them: these are no races."]
     return Fact(5, ["every access holds ", name], sentence, lock)
 
 
-def held_at_writes(sites, lock):
+def held_at_writes(sites, lock, whole):
     """A lock that all writes hold and some racing line doesn't."""
-    without = [site for site in sites if site.partners and site.locks[lock] < site.total()]
-    if not without or any(site.writes() and site.locks[lock] < site.total() for site in sites):
+    without = [site for site in sites if site.partners and site.lacks(lock)]
+    if not without or any(site.writes() and site.lacks(lock) for site in sites):
         return None
     name, lines = Code(lock), lines_of(without)
     read = "reads" if len(without) == 1 else "read"
-    some = " at some accesses" if any(site.locks[lock] for site in without) else ""
-    sentence = ["In this run every write holds ", name, ", and ", *lines, f" {read} without it{some}."]
+    some = " at some accesses" if any(site.guarded(lock) for site in without) else ""
+    sentence = [f"In this {whole} every write holds ", name, ", and ", *lines, f" {read} without it{some}."]
     return Fact(1, tag_of(without, lock), sentence, lock)
 
 
-def held_at_some(sites, lock):
+def held_at_some(sites, lock, whole):
     """A lock that some racing line which writes holds, and another racing line doesn't."""
     racing = [site for site in sites if site.partners]
-    holding = [site for site in racing if site.locks[lock] == site.total()]
-    without = [site for site in racing if site.locks[lock] < site.total()]
+    holding = [site for site in racing if not site.lacks(lock)]
+    without = [site for site in racing if site.lacks(lock)]
     if not without or not any(site.writes() for site in holding):
         return None
-    not_at = ", and not always at " if any(site.locks[lock] for site in without) else ", and not at "
-    sentence = ["In this run ", Code(lock), " is held at ", *lines_of(holding), not_at, *lines_of(without), "."]
+    not_at = ", and not always at " if any(site.guarded(lock) for site in without) else ", and not at "
+    sentence = [f"In this {whole} ", Code(lock), " is held at ", *lines_of(holding), not_at, *lines_of(without), "."]
     return Fact(2, tag_of(without, lock), sentence, lock)
 
 
@@ -118,21 +176,21 @@ def lines_of(sites):
 def tag_of(without, lock):
     """Which lines lack a lock."""
     verb = " is " if len(without) == 1 else " are "
-    some = "not always under " if any(site.locks[lock] for site in without) else "without "
+    some = "not always under " if any(site.guarded(lock) for site in without) else "without "
     return [*lines_of(without), verb, some, Code(lock)]
 
 
-def fact_of_writers(sites):
+def fact_of_writers(sites, whole):
     """How many threads write, where no lock tells more."""
     writers = set().union(*(site.writers for site in sites))
     unknown = sum(site.unknown for site in sites)
     if unknown:
         locks = f"the locks held at {counted(unknown, 'access', 'accesses')} aren't counted"
-    elif any(site.locks for site in sites):
+    elif any(site.locks or site.reading for site in sites):
         locks = "no lock is held at every access"
     else:
-        locks = "no access holds a lock in the trace"
+        locks = "no lock is held at any access"
     if len(writers) > 1:
-        return Fact(3, [f"{len(writers):,} threads write"], [f"In this run {len(writers):,} threads write, and {locks}."], None)
+        return Fact(3, [f"{len(writers):,} threads write"], [f"In this {whole} {len(writers):,} threads write, and {locks}."], None)
     lines = lines_of([site for site in sites if site.writes()])
-    return Fact(4, ["one thread writes"], ["In this run only ", Code(*writers), " writes, at ", *lines, f", and {locks}."], None)
+    return Fact(4, ["one thread writes"], [f"In this {whole} only ", Code(*writers), " writes, at ", *lines, f", and {locks}."], None)

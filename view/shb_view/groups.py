@@ -1,4 +1,4 @@
-"""Groups of pairs of lines: pairs that share a racing variable, directly or by other pairs, are one group."""
+"""Groups of places: pairs of lines that share a racing variable, directly or by other pairs, are one group."""
 
 import re
 import typing
@@ -19,10 +19,12 @@ class Pair:
 
 
 class Group(typing.NamedTuple):
-    """`pairs` and `variables` are in the order in which the report names them, the variables those of the races that were read."""
+    """`pairs` and `variables` are in the order in which the report names them, the variables those of the races that were read. An
+    atomic is one variable; `names` are those in the trace, which has one for each thread that writes it."""
 
     pairs: typing.Tuple[Pair, ...]
     variables: typing.Tuple[bytes, ...]
+    names: typing.Tuple[bytes, ...]
 
     def races(self):
         return sum(pair.races for pair in self.pairs)
@@ -38,6 +40,10 @@ class Group(typing.NamedTuple):
         """The listed race whose events are closest in the trace, the first of these."""
         return min((pair.closest for pair in self.pairs), key=distance)
 
+    def places(self):
+        """The pairs of racing lines, in each the lesser first."""
+        return {pair.locations for pair in self.pairs}
+
     def accesses(self):
         race = self.closest()
         return race.first, race.second
@@ -47,21 +53,35 @@ def distance(race):
     return race.second - race.first, race.first
 
 
+def atomic_of(first, second):
+    """The atomic that two racing accesses are of, or None: what a thread T writes atomically to X the recorder names `X!T`."""
+    write = first if first.word == b"w" else second
+    base, _, thread = write.name.rpartition(b"!")
+    return base if base and thread == write.thread else None
+
+
 class Gathered:
     """The races of a report, as pairs and groups."""
 
     def __init__(self):
+        self.atomics = {}  # by a name in the trace: the atomic that it is of
         self.pairs = {}  # by the two locations, the lesser first
         self.above = {}  # by location pair or variable: another one of its group
         self.lines = {}  # the line of each event that is named
         self.texts = {}  # each line once
         self.racing = {}  # by variable and location: the events of the races that were read
+        self.reads = {}  # by a read: the writes before it that it races with, each with the locations of both
 
     def share(self, race, first, second):
         """Takes the variable of two racing accesses that aren't shown themselves."""
-        self.join(tuple(sorted((first.location, second.location))), first.name)
+        atomic = atomic_of(first, second)
+        if atomic:
+            self.atomics[first.name] = atomic
+        self.join(tuple(sorted((first.location, second.location))), atomic or first.name)
         self.racing.setdefault((first.name, first.location), set()).add(race.first)
         self.racing.setdefault((second.name, second.location), set()).add(race.second)
+        if second.word == b"r":
+            self.reads.setdefault(race.second, {})[race.first] = first.location, second.location
 
     def add(self, race, first, second, places):
         """Takes a race and its accesses; `places` has how many races each place has, if that is known."""
@@ -89,11 +109,27 @@ class Gathered:
         """The groups, in the order in which the report names them."""
         found = {}
         for pair in self.pairs.values():
-            found.setdefault(self.top(pair.locations), ([], []))[0].append(pair)
+            found.setdefault(self.top(pair.locations), ([], [], []))[0].append(pair)
         for name in self.above:
             if isinstance(name, bytes):
                 found[self.top(name)][1].append(name)
-        return [Group(tuple(pairs), tuple(variables)) for pairs, variables in found.values()]
+        for name in dict.fromkeys(name for name, _ in self.racing):
+            found[self.top(self.atomics.get(name, name))][2].append(name)
+        return [Group(*map(tuple, parts)) for parts in found.values()]
+
+
+def object_of(group):
+    """The block of memory, or the named object, that all variables of a group are in; None where there is no one such thing, and of
+    stacks, which have many."""
+    parts = [NAME.fullmatch(variable) for variable in group.variables]
+    things = {part["base"] + (part["block"] or b"") for part in parts}
+    is_known = len(things) == 1 and not parts[0]["base"].startswith(b"stack.")
+    return things.pop() if is_known else None
+
+
+def joined_groups(groups):
+    """Several groups as one."""
+    return Group(*(sum(parts, ()) for parts in zip(*groups)))
 
 
 def group_name(view, group):

@@ -1,13 +1,28 @@
 """The locks that a thread holds while its events are read."""
 
 import itertools
+import re
 
 MOST_COUNTED = 64  # locks held at an access, if their names are to be counted
 MOST_SHOWN = 8  # locks held at an event that are shown
+READ_LOCK = re.compile(rb"(.+)@reader\..+", re.S)  # as the recorder names what a reader holds of a lock
+STAND_IN = re.compile(rb".+@[0-9]+(?:[<>].+)?", re.S)  # as it names a lock that tells the order of an atomic: none of the program's
+
+
+def read_lock(name):
+    """The reader-writer lock that is held for reading under this name, or None."""
+    found = READ_LOCK.fullmatch(name) if b"@" in name else None
+    return found[1] if found else None
+
+
+def is_lock(name):
+    """Whether the program has such a lock."""
+    return b"@" not in name or STAND_IN.fullmatch(name) is None
 
 
 class Held:
-    """The locks that one thread holds, oldest first. Of nested acquires of a lock the outermost counts."""
+    """The locks that one thread holds, oldest first, but for those that the program doesn't have. Of nested acquires of a lock the
+    outermost counts."""
 
     def __init__(self):
         self.locks = {}  # by name: the acquire since which it is held, and how often it was acquired since
@@ -15,22 +30,22 @@ class Held:
 
     def acquire(self, lock, event):
         nest = self.locks.get(lock)
-        if nest is None:
+        if nest is not None:
+            nest[1] += 1
+        elif is_lock(lock):
             self.locks[lock] = [event, 1]
             self.kept_names = self.kept_newest = None
-        else:
-            nest[1] += 1
 
     def release(self, lock):
         if self.is_last_release(lock):
             del self.locks[lock]
             self.kept_names = self.kept_newest = None
-        else:
+        elif lock in self.locks:
             self.locks[lock][1] -= 1
 
     def is_last_release(self, lock):
         """Whether one release more makes the lock free."""
-        return self.locks[lock][1] == 1
+        return lock in self.locks and self.locks[lock][1] == 1
 
     def names(self):
         """The names, or None where they are too many to be counted."""

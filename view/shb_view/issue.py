@@ -2,7 +2,7 @@
 
 from shb_view.names import code_line, short
 from shb_view.stacks import caller_lines
-from shb_view.words import KINDS, NO_LOCK, Code, counted, place
+from shb_view.words import KINDS, NO_LOCK, Code, counted, lock_parts, place
 
 NAME = 120  # columns
 MOST_FRAMES = 16  # of a stack
@@ -18,7 +18,7 @@ def issue_lines(view, section):
     one, other = (window.events[access].event for access in window.accesses)
     locations = tuple(sorted((one.location, other.location)))
     races = next(pair.races for pair in section.group.pairs if pair.locations == locations)
-    yield f"data race on {short(one.name, NAME)}: {flat([place(one.location), ' and ', place(other.location)])}"
+    yield f"data race on {short(view.kinds.name(one.name), NAME)}: {flat([place(one.location), ' and ', place(other.location)])}"
     yield f"(one of {counted(races, 'race')} of these two lines in a recorded run)" if races > 1 else "(one race in a recorded run)"
     for access in window.accesses:
         yield from access_lines(view, window, access)
@@ -27,21 +27,21 @@ def issue_lines(view, section):
         yield "  the block was allocated at"
         yield from (f"      #{number} {flat(parts)}" for number, parts in enumerate(allocated))
     yield f"  {flat(section.fact.sentence)}"
-    yield f"  {order_text(window)}"
+    yield f"  {order_text(view, window)}"
 
 
 def access_lines(view, window, access):
     """An access, its line of code, the locks that its thread holds, and how the thread was started."""
     shown, fork = window.events[access], window.forks[access]
     event = shown.event
-    yield f"  {KINDS[event.word]} by {flat([Code(event.thread), ' at ', place(event.location)])} (event {access})"
+    yield f"  {KINDS[view.kinds.of(access, event.word, event.name)]} by {flat([Code(event.thread), ' at ', place(event.location)])} (event {access})"
     source = view.source.place(event.location)
     if source and source.line() is not None:
         yield f"      {code_line(source.line().strip(), NAME)}"
     yield from (f"      #{number} {flat(parts)}" for number, parts in enumerate(caller_lines(view.stacks.of_event(access), MOST_FRAMES)))
     for lock, acquire in shown.locks:
         at = place(window.events[acquire].event.location)
-        yield f"    holds {flat([Code(lock), ', acquired at ', at])} (event {acquire})"
+        yield f"    holds {flat([*lock_parts(lock), ', acquired at ', at])} (event {acquire})"
     if shown.held > len(shown.locks):
         yield f"    and {counted(shown.held - len(shown.locks), 'more lock')}"
     if not shown.held:
@@ -53,9 +53,10 @@ def access_lines(view, window, access):
     yield from (f"      #{number} {flat(parts)}" for number, parts in enumerate(created))
 
 
-def order_text(window):
+def order_text(view, window):
     """How the two accesses come next, as far as it is known."""
-    if window.length is not None:
-        return (f"`shb check` found the schedule of race {window.race.number} good: after its {counted(window.length, 'event')} "
-                "both accesses come next.")
-    return "No schedule of this race was checked: events are shown in the order of the trace."
+    if window.length is None:
+        return "No schedule of this race is at hand: events are shown in the order of the trace."
+    of = f"`shb check` found the schedule of race {window.race.number} good" if view.verdict.is_good else (
+        f"`shb places` has a schedule of it, race {window.race.number}")
+    return f"{of}: after its {counted(window.length, 'event')} both accesses come next."

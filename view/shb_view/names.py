@@ -6,6 +6,7 @@ import functools
 import unicodedata
 
 MOST_MARKS = 3  # combining marks that stay with one character
+MOST_BYTES = 4 * (MOST_MARKS + 1)  # of what takes a column
 # Ranges of letters and marks that print as nothing: Unicode's Default_Ignorable_Code_Point, and the empty Braille pattern.
 UNSEEN = [(0x34F, 0x34F), (0x115F, 0x1160), (0x17B4, 0x17B5), (0x180B, 0x180F), (0x2800, 0x2800), (0x3164, 0x3164),
           (0xFE00, 0xFE0F), (0xFFA0, 0xFFA0), (0xE0100, 0xE01EF)]
@@ -25,8 +26,11 @@ def short(name, most):
 
 
 def code_line(line, most):
-    """A line of code, short in the same way. Its tabs are blanks, and its backslashes stay as they are."""
-    return fitted([part if part != "\\\\" else "\\" for part in characters(line.expandtabs(8))], most)
+    """A line of code, short in the same way. Its tabs are blanks, and its backslashes stay as they are. Of a long one the middle isn't
+    looked at."""
+    line, room = line.expandtabs(8), most * MOST_BYTES
+    ends = line if len(line) <= 2 * room else line[:room] + line[-room:]
+    return fitted([part if part != "\\\\" else "\\" for part in characters(ends)], most)
 
 
 def fitted(found, most):

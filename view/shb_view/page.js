@@ -1,4 +1,5 @@
-// Sorts a table of lines by the column whose head is clicked, and opens the folded part that a link leads to.
+// Sorts a table of lines by the column whose head is clicked, copies the text for an issue, and opens the folded part that a link
+// leads to.
 "use strict";
 
 function sortBy(table, head, column) {
@@ -19,6 +20,21 @@ for (const table of document.querySelectorAll("table.sites")) {
     head.replaceChildren(button);
     button.addEventListener("click", () => sortBy(table, head, column));
   });
+}
+
+// Selecting and copying works in a file too, where browsers keep the clipboard from scripts.
+function copy(text, button) {
+  const selection = getSelection();
+  selection.selectAllChildren(text);
+  button.textContent = document.execCommand("copy") ? "Copied" : "Press Ctrl+C";
+}
+
+for (const text of document.querySelectorAll(".issue pre")) {
+  const button = document.createElement("button");
+  button.type = "button";
+  button.textContent = "Copy";
+  button.addEventListener("click", () => copy(text, button));
+  text.before(button);
 }
 
 function openTarget() {

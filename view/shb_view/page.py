@@ -11,8 +11,8 @@ from shb_view.names import code_line, short
 from shb_view.picture import picture
 from shb_view.source import excerpt
 from shb_view.stacks import frame_parts, origins
-from shb_view.words import (KINDS, MOST_SITES, MOST_THREADS, MOST_VARIABLES, NO_LOCK, Code, accesses_text, counted, listed,
-                            lock_words, notes_of, partner_parts, place, races_text, summary)
+from shb_view.words import (VERBS, MOST_SITES, MOST_THREADS, MOST_VARIABLES, NO_LOCK, Code, accesses_text, counted, listed,
+                            lock_parts, lock_words, notes_of, partner_parts, place, races_text, seen_parts, summary)
 
 HERE = pathlib.Path(__file__).resolve().parent
 NAME = 80  # columns
@@ -90,13 +90,14 @@ def section_part(view, number, section):
                      marked(section.fact.tag, NAME)),
              element("p", marked(section.fact.sentence, NAME), " ", races_text(section.group), ". ",
                      element("a", "All groups", href="#groups", class_="back"))]
+    parts += [element("p", marked(words, NAME)) for words in seen_parts(section)]
     if len(section.group.variables) > 1:
         names = listed([[Code(name)] for name in section.group.variables], MOST_VARIABLES)
         parts.append(element("p", "Variables: ", marked(names, NAME)))
     them = "it" if len(section.group.variables) == 1 else "them"
     parts += [source_pair(view, section.window), element("h3", f"Every line that uses {them}"),
               site_table(view, section), callers_details(section), origin_details(view, section),
-              window_details(section.window, anchor), issue_details(view, section),
+              window_details(view, section.window, anchor), issue_details(view, section),
               line_details(section.window, anchor)]
     return element("section", joined(filter(None, parts), "\n"), id=f"g{number}")
 
@@ -113,8 +114,8 @@ def figure(view, window, number, access):
     found = view.source.place(row.event.location)
     if not found:
         return ""
-    lock = ["holding ", Code(row.locks[-1][0])] if row.locks else [NO_LOCK]
-    caption = [element("b", number, class_="mark"), " ", code(row.event.location, NAME), f" {KINDS[row.event.word]}s, ",
+    lock = ["holding ", *lock_parts(row.locks[-1][0])] if row.locks else [NO_LOCK]
+    caption = [element("b", number, class_="mark"), " ", code(row.event.location, NAME), f" {VERBS[view.kinds.of(access, row.event.word, row.event.name)]}, ",
                marked(lock, NAME)]
     lines = ""
     if found.line() is not None:
@@ -144,7 +145,7 @@ def code_table(lines, mark):
 def site_table(view, section):
     """Every line that uses the group's variables."""
     heads = ["Line", "Code", "Accesses", "Threads", "Locks", "Races with"]
-    if not view.source.folders:
+    if not view.source.has_files():
         heads.remove("Code")
     rows = [element("tr", *site_cells(view, section, site, heads), class_="racing" if site.partners else None)
             for site in section.sites[:MOST_SITES]]
@@ -213,16 +214,16 @@ def origin_details(view, section):
     return element("details", element("summary", words), *parts) if parts else None
 
 
-def window_details(window, anchor):
+def window_details(view, window, anchor):
     first, second = window.accesses
-    return element("details", element("summary", f"What comes before events {first} and {second}, the closest listed race"),
-                   element("p", f"{LEGEND} {order_text(window)}", class_="faint"),
+    return element("details", element("summary", f"What comes before events {first} and {second}, one of its races"),
+                   element("p", f"{LEGEND} {order_text(view, window)}", class_="faint"),
                    element("div", picture(window, anchor), class_="wide picture"))
 
 
 def issue_details(view, section):
     text = "\n".join(issue_lines(view, section))
-    return element("details", element("summary", "As text, for an issue"), element("pre", text))
+    return element("details", element("summary", "As text, for an issue"), element("pre", text), class_="issue")
 
 
 def line_details(window, anchor):

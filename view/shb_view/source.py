@@ -1,5 +1,5 @@
 """Lines of the program's source, found by the locations of a trace. A location is never opened as a path: it is looked up in an
-index of the folders that were named."""
+index of the folders that were named, and where it was asked for in what the recorder wrote of the program's sources."""
 
 import contextlib
 import functools
@@ -38,9 +38,9 @@ class Place(typing.NamedTuple):
 class Source:
     """The regular files below some folders. Of one path in several folders the first counts."""
 
-    def __init__(self, folders, written):
-        """`written` is when the trace was."""
-        self.folders, self.written = folders, written
+    def __init__(self, folders, written, recorded):
+        """`written` is when the trace was, `recorded` has files by their names in locations."""
+        self.folders, self.written, self.recorded = folders, written, recorded
         self.read = functools.lru_cache(maxsize=64)(read_lines)
         self.paths = {}  # by base name: the paths in their folders, each with its file
         self.files = 0
@@ -69,6 +69,8 @@ class Source:
             return None
         path, number = found[1], int(found[2])
         candidates = best(path, self.paths.get(path.split(b"/")[-1], {}))
+        if not candidates and path in self.recorded:
+            candidates = [(path, self.recorded[path])]
         if not candidates:
             return None
         if len(candidates) > 1:
@@ -83,12 +85,15 @@ class Source:
             fault = "the file is newer than the trace; its lines may have moved"
         return Place(name, number, lines, fault, is_newer)
 
+    def has_files(self):
+        return bool(self.folders or self.recorded)
+
     def summary(self, locations):
         """How many files of these locations are found and how many are newer than the trace, in words."""
         places = {match[1]: self.place(location) for location in locations for match in [LOCATION.fullmatch(location)] if match}
         found = [place for place in places.values() if place and place.lines]
         newer = sum(place.is_newer for place in found)
-        folders = ", ".join(shown(os.fsencode(folder)) for folder in self.folders)
+        folders = ", ".join([*(shown(os.fsencode(folder)) for folder in self.folders), *["the recorded program"] * bool(self.recorded)])
         some = f" Only {MOST_FILES:,} files were looked at." if self.files >= MOST_FILES else ""
         return (f"Source lines of {folders}: {len(found)} of {counted(len(places), 'file')} found, "
                 f"{newer or 'none'} newer than the trace.{some}")

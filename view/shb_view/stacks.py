@@ -1,6 +1,7 @@
 """Call stacks: the file that `shb-std --stacks` writes beside a trace, and what is shown of it."""
 
 import array
+import bisect
 import collections
 import os
 import re
@@ -33,6 +34,8 @@ class Stacks:
     def __init__(self, path, shift, events):
         self.path = path
         self.frames, self.calls, self.threads, self.blocks = [None], {}, {}, {}
+        self.sources = {}  # by the name in a location: the file's path
+        self.free_starts, self.free_ends, self.shift = array.array("Q"), array.array("Q"), shift
         with open(path, "rb") as file:
             begin = BEGIN.fullmatch(file.read(BEGIN_BYTES))
             self.numbers = numbers_of(file, shift, events) if begin and 0 <= shift <= int(begin[1]) - events else ()
@@ -59,6 +62,13 @@ class Stacks:
         elif kind == b"block":
             block, number = map(int, rest.split())
             self.blocks[block] = self.stack(number)
+        elif kind == b"source":
+            name, file = rest.split(b"\t")
+            self.sources[name] = file
+        elif kind == b"free":
+            first, last = map(int, rest.split())
+            self.free_starts.append(first)
+            self.free_ends.append(last)
 
     def stack(self, number):
         """The frames of a stack, the innermost first."""
@@ -72,6 +82,11 @@ class Stacks:
 
     def of_event(self, event):
         return self.stack(self.numbers[event - 1]) if 0 < event <= len(self.numbers) else ()
+
+    def free_of(self, event):
+        """The number of the free that an event is of, or None."""
+        number = bisect.bisect(self.free_starts, event + self.shift) - 1
+        return number if number >= 0 and event + self.shift <= self.free_ends[number] else None
 
     def of_thread(self, name):
         """Where a thread was created."""
@@ -90,10 +105,15 @@ class Stacks:
 class NoStacks:
     """Of a trace without such a file nothing is known."""
 
+    sources = {}
+
     def of_event(self, event):
         return ()
 
     of_thread = of_variable = of_event
+
+    def free_of(self, event):
+        return None
 
     def counted(self, events):
         return []

@@ -5,7 +5,7 @@ from shb_view.issue import issue_lines
 from shb_view.names import code_line, columns, padded, short
 from shb_view.stacks import caller_lines, origins
 from shb_view.words import (MOST_SITES, MOST_THREADS, MOST_VARIABLES, Code, accesses_text, counted, listed, lock_words, notes_of,
-                            operation_text, partner_parts, place, races_text, summary)
+                            operation_text, partner_parts, place, races_text, seen_parts, summary)
 
 NAME = 80  # columns of a name or a location
 LINE = 100  # columns of a line of code
@@ -45,7 +45,10 @@ def text_lines(view, colours, is_whole):
     yield f"{colours.bold(f'{view.title}: {races}')} ({size})"
     yield from map(colours.red, view.notes)
     yield from notes_of(view)
-    for number, section in enumerate(view.sections, 1):
+    chosen = [numbered for numbered in enumerate(view.sections, 1) if view.only is None or view.only & numbered[1].group.places()]
+    if len(chosen) < len(view.sections):
+        yield f"Of {counted(len(view.sections), 'group')} {len(chosen):,} are shown, those with a place that is asked for."
+    for number, section in chosen:
         yield ""
         yield from section_lines(view, number, section, colours)
         if is_whole:
@@ -61,6 +64,7 @@ def section_lines(view, number, section, colours):
     name = flat(group_name(view, section.group))
     yield colours.bold(f"{number}. {name}: {flat(section.fact.tag)}") + f" ({races_text(section.group)})"
     yield f"   {flat(section.fact.sentence)}"
+    yield from (f"   {flat(parts)}" for parts in seen_parts(section))
     if len(section.group.variables) > 1:
         yield f"   Variables: {flat(listed([[Code(name)] for name in section.group.variables], MOST_VARIABLES))}"
     for site in section.sites[:MOST_SITES]:
@@ -102,7 +106,7 @@ def stack_lines(callers):
 
 
 def window_lines(window):
-    """The events before the accesses of a group's closest race."""
+    """The events before the accesses of the race that is shown of a group."""
     yield f"   Before the accesses: {'nothing' if not window.before else ''}".rstrip()
     rows = [window.events[event] for event in window.before]
     texts = [(str(row.number), short(row.event.thread, NAME), operation_text(row.event, NAME)) for row in rows]

@@ -8,11 +8,12 @@ import tempfile
 import typing
 
 from shb_view.analyser import MOST_LISTED, Analyser, Verdict
-from shb_view.counting import Counting
+from shb_view.counting import Counting, Kinds
 from shb_view.facts import Fact, Site, fact_of, sites_of
 from shb_view.faults import BadReport, Refused
-from shb_view.groups import Gathered, Group
+from shb_view.groups import Gathered, Group, joined_groups, object_of
 from shb_view.names import shown
+from shb_view.refused import warnings
 from shb_view.report import BLOCK, MOST_BYTES, Counts, Report, in_order
 from shb_view.source import Source
 from shb_view.stacks import NoStacks, Stacks
@@ -23,7 +24,8 @@ MOST_GROUPS = 200
 MOST_REPORT = 100_000_000  # bytes of a report with schedules that the view asks for
 NUMBER = 7  # bytes of an event in a schedule, about
 NOT_ASKED = Verdict(None, "The report wasn't checked (--check does it).")
-TOO_LONG = Verdict(None, "No schedules were made, since they would take over 100 MB; so nothing was checked.")
+OWN = Verdict(None, "")  # `check` finds each report of `shb` good
+TOO_LONG = Verdict(None, "No schedules were made, since they would take over 100 MB.")
 NO_SCHEDULES = Verdict(None, "The report has no schedules, so `shb check` can't judge it.")
 
 
@@ -35,12 +37,13 @@ class Section(typing.NamedTuple):
     fact: Fact
     window: typing.Optional[Window]
     callers: dict  # by racing line: the stacks of its racing accesses, each with how many have it
+    seen: typing.List[typing.Tuple[bytes, bytes]]  # lines of races where the second reads what the first wrote
 
 
 class View(typing.NamedTuple):
     """All that is shown. `races` is how many the trace has, `listed` how many of these a given report has. `pairs` and `groups` are
     how many there are, `sections` those that are shown. `is_sample` says that of each place one race is known. `notes` are what
-    the caller said of the trace."""
+    the caller said of the trace; `only` are the places whose groups the text has, or None for all."""
 
     title: str
     counts: Counts
@@ -54,6 +57,8 @@ class View(typing.NamedTuple):
     source: Source
     notes: typing.List[str]
     stacks: typing.Union[Stacks, NoStacks]
+    kinds: Kinds
+    only: typing.Optional[typing.Set[typing.Tuple[bytes, bytes]]]
 
 
 class Given(typing.NamedTuple):
@@ -65,9 +70,10 @@ class Given(typing.NamedTuple):
     places: typing.Optional[dict]
 
     def order(self, race, events):
-        """Some events in the order of a race's schedule, with the schedule's length, if `check` found the report good; else as
-        they are."""
-        return in_order(self.file, race, events) if self.verdict.is_good else (events, None)
+        """Some events in the order of a race's schedule, with the schedule's length, if `shb` made the report or `check` found it
+        good; else as they are."""
+        is_known = self.verdict.is_good or self.verdict is OWN
+        return in_order(self.file, race, events) if is_known and race.schedule is not None else (events, None)
 
 
 def make_view(options, progress):
@@ -79,20 +85,31 @@ def make_view(options, progress):
         head = analyser.head(None if options.report else gathered.share)
         given = given_report(options, analyser, stack) if options.report else own_report(analyser, head, stack)
         listed, has_schedules = read_report(given, head.counts, gathered, progress)
-        groups, lines, racing = gathered.groups(), gathered.lines, gathered.racing
-        del gathered
-        if not has_schedules and given.verdict is not TOO_LONG:
+        groups = gathered.groups()
+        if options.report and not has_schedules:
             given = given._replace(verdict=NO_SCHEDULES)
         is_whole = bool(options.html or options.all)
-        sections = make_sections(is_whole, Trace(file, progress), given, groups, lines, head.counts.events)
+        whole = "window" if options.window else "trace"
         stacks = Stacks(options.stacks, options.shift, head.counts.events) if options.stacks else NoStacks()
-        sections = [section._replace(callers=callers_of(section.group, racing, stacks)) for section in sections]
-        title = shown(os.fsencode(os.path.basename(options.trace)))
+        asked = Asked(is_whole, whole, Kinds(gathered.atomics, stacks), gathered.lines, gathered.reads, head.counts.events)
+        count, sections = make_sections(asked, Trace(file, progress), given, groups)
+        sections = [section._replace(callers=callers_of(section.group, gathered.racing, stacks)) for section in sections]
+        title = shown(os.fsencode(options.title or os.path.basename(options.trace)))
         pairs = sum(len(group.pairs) for group in groups)
-        source = Source(options.source, os.fstat(file.fileno()).st_mtime)
+        source = Source(options.source, os.fstat(file.fileno()).st_mtime, stacks.sources if options.recorded_source else {})
         is_sample = not options.report and head.races > MOST_LISTED
-        return View(title, head.counts, head.races, listed if options.report else head.races, pairs, len(groups), sections,
-                    given.verdict, is_sample, source, [shown(os.fsencode(note)) for note in options.note], stacks)
+        return View(title, head.counts, head.races, listed if options.report else head.races, pairs, count, sections,
+                    given.verdict, is_sample, source, [*(shown(os.fsencode(note)) for note in options.note), *warnings(options.trace)], stacks, asked.kinds,
+                    places_of(options.only) if options.only else None)
+
+
+def places_of(path):
+    """The places of a file, the lesser location first: two locations with a tab between them on each line."""
+    with open(path, "rb") as file:
+        lines = [line.rstrip(b"\n").split(b"\t") for line in file]
+    if any(len(line) != 2 for line in lines):
+        raise Refused(f"--only: {shown(os.fsencode(path))} has a line without two locations and a tab between them")
+    return {tuple(sorted(line)) for line in lines}
 
 
 def open_regular(path):
@@ -103,11 +120,11 @@ def open_regular(path):
 
 
 def own_report(analyser, head, stack):
-    """A report of one race of each place, with schedules that are checked if it isn't too long."""
+    """A report of one race of each place, with schedules if it isn't too long."""
     file = stack.enter_context(tempfile.TemporaryFile())
     with_schedules = len(head.places) * head.counts.events * NUMBER <= MOST_REPORT
     analyser.write_places(with_schedules, file)
-    return Given("a file for the report of `shb`", file, analyser.check(file) if with_schedules else TOO_LONG, head.places)
+    return Given("a file for the report of `shb`", file, OWN if with_schedules else TOO_LONG, head.places)
 
 
 def given_report(options, analyser, stack):
@@ -152,39 +169,78 @@ def read_report(given, counts, gathered, progress):
     return report.head.races, report.has_schedules
 
 
-def make_sections(is_whole, trace, given, groups, lines, events):
-    """The groups that are shown, in the order of their facts and then most races first; with their windows if `is_whole`."""
+class Asked(typing.NamedTuple):
+    """What is asked of a trace. `is_whole` says whether windows are shown too, `whole` what the facts are of: a trace or a window of
+    one; `lines` are those of the events that the report names, `reads` the writes that a read races with; `events` is how many events
+    the trace has."""
+
+    is_whole: bool
+    whole: str
+    kinds: Kinds
+    lines: dict
+    reads: dict
+    events: int
+
+
+def make_sections(asked, trace, given, groups):
+    """How many groups there are, and those that are shown, in the order of their facts and then most races first; with their windows
+    if these are asked for."""
     if not groups:
-        return []
+        return 0, []
     wanted = {access for group in groups for access in group.accesses()}
-    variables = {variable: number for number, group in enumerate(groups) for variable in group.variables}
-    counting = Counting(variables, lines, wanted)
+    variables = {variable: number for number, group in enumerate(groups) for variable in group.names}
+    counting = Counting(variables, asked.lines, wanted, asked.kinds, asked.reads)
     try:
-        counting.read(trace, events)
-        sections = [make_section(groups[number], counting.counts[number]) for number in first_groups(groups, counting.counts)]
-        if not is_whole:
-            return sections
-        windows = make_windows(trace, [section.group.closest() for section in sections], counting, given.order)
+        counting.read(trace, asked.events)
+        merged = merged_groups(groups, counting.counts)
+        sections = [make_section(*merged[number], asked.whole, counting.seen) for number in first_groups(merged)]
+        if asked.is_whole:
+            windows = make_windows(trace, [section.group.closest() for section in sections], counting, given.order)
+            sections = [section._replace(window=window) for section, window in zip(sections, windows)]
     except (IndexError, KeyError):
         raise Refused(CHANGED) from None
-    return [section._replace(window=window) for section, window in zip(sections, windows)]
+    return len(merged), sections
 
 
-def first_groups(groups, counts):
+def merged_groups(groups, counts):
+    """The groups with their counts, those of one object as one where the same threads race in it and the same is missing."""
+    found = {}
+    for number, group in enumerate(groups):
+        sites = sites_of(group, counts[number])
+        racing = frozenset((thread, thread in site.writers) for site in sites if site.partners for thread in site.threads)
+        thing = object_of(group)
+        fact = fact_of(sites, "")
+        key = (thing, fact.rank, fact.lock, racing) if thing else number
+        found.setdefault(key, []).append(number)
+    return [(joined_groups([groups[number] for number in numbers]), joined_counts([counts[number] for number in numbers]))
+            for numbers in found.values()]
+
+
+def joined_counts(counts):
+    """Counts of several groups of one object as those of one group. A free is a free of all its variables."""
+    found = {}
+    for one in counts:
+        for kind, count in one.items():
+            found[kind] = max(found.get(kind, 0), count) if kind[2] == b"f" else found.get(kind, 0) + count
+    return found
+
+
+def first_groups(merged):
     """The numbers of the groups that are shown. Of the others nothing is kept."""
-    order = [(make_section(group, counts[number]).fact.rank, -group.races(), number) for number, group in enumerate(groups)]
+    order = [(fact_of(sites_of(group, counts), "").rank, -group.races(), number) for number, (group, counts) in enumerate(merged)]
     return [number for _, _, number in sorted(order)[:MOST_GROUPS]]
 
 
-def make_section(group, counts):
-    sites = sites_of(group, counts)
-    return Section(group, sites, fact_of(sites), None, {})
+def make_section(group, counts, whole, seen):
+    """`seen` are the locations of races where the second access reads what the first wrote, of all groups."""
+    sites, places = sites_of(group, counts), group.places()
+    return Section(group, sites, fact_of(sites, whole), None, {}, sorted(pair for pair in seen if tuple(sorted(pair)) in places))
 
 
 def callers_of(group, racing, stacks):
     """The stacks of the racing accesses of each racing line."""
     events = {}
-    for variable in group.variables:
+    for variable in group.names:
         for location in group.locations():
             events.setdefault(location, set()).update(racing.get((variable, location), ()))
     return {location: stacks.counted(found) for location, found in events.items()}

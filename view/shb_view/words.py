@@ -1,12 +1,15 @@
-"""Words that the text and the page share. What is said is a list of parts: plain text, and names as `Code`."""
+"""Words that the text and the page share. What is said is a list of parts: plain text, and names as `Code`. A place is a pair of lines
+that race, whatever their order; a group is the places that share a variable."""
 
+from shb_view.held import read_lock
 from shb_view.names import short
 
-KINDS = {b"r": "read", b"w": "write"}
+KINDS = {b"r": "read", b"w": "write", b"a": "atomic write", b"f": "free"}
+VERBS = {b"r": "reads", b"w": "writes", b"a": "writes atomically", b"f": "frees"}
 MOST_SITES = 20  # lines that are shown of a group
 MOST_LOCKS, MOST_SOME, MOST_PARTNERS, MOST_THREADS = 8, 3, 8, 3  # that are named at a line; MOST_SOME are held at some accesses
 MOST_VARIABLES = 8  # that are named of a group
-NO_LOCK = "no lock in the trace"
+NO_LOCK = "no lock held"
 
 
 class Code(bytes):
@@ -28,6 +31,12 @@ def place(location):
     return Code(location) if location else "(no location)"
 
 
+def lock_parts(name):
+    """A lock that is held, as parts."""
+    shared = read_lock(name)
+    return [Code(shared), " for reading"] if shared else [Code(name)]
+
+
 def listed(items, most):
     """Items, each a list of parts, with commas and an `and` between them; after so many it is said how many more there are."""
     items = list(items)
@@ -45,16 +54,18 @@ def lock_words(site, lock):
     """What is said of the locks held at a line: pairs of `held`, `some` or `none`, and parts. `lock` is the one that the group's
     fact is about, or None."""
     total = site.total()
-    names = sorted(site.locks, key=lambda name: (-site.locks[name], name))
-    always = [name for name in names if site.locks[name] == total][:MOST_LOCKS]
-    some = [name for name in names if site.locks[name] < total][:MOST_SOME]
-    found = [("held", ["holds ", Code(name)]) for name in always]
-    found += [("some", ["holds ", Code(name), f" at {site.locks[name]:,} of {total:,}"]) for name in some]
+    holds = {(name, ""): count for name, count in site.locks.items()}
+    holds.update({(name, " for reading"): count for name, count in site.reading.items()})
+    names = sorted(holds, key=lambda hold: (-holds[hold], hold))
+    always = [hold for hold in names if holds[hold] == total][:MOST_LOCKS]
+    some = [hold for hold in names if holds[hold] < total][:MOST_SOME]
+    found = [("some" if how and site.wrong[name] else "held", ["holds ", Code(name), how]) for name, how in always]
+    found += [("some", ["holds ", Code(name), f"{how} at {holds[name, how]:,} of {total:,}"]) for name, how in some]
     if len(names) > len(always) + len(some):
         found.append(("some", [f"and {len(names) - len(always) - len(some):,} more"]))
     if site.bare:
         found.append(("none", [NO_LOCK]) if site.bare == total else ("some", [NO_LOCK, f" at {site.bare:,} of {total:,}"]))
-    if lock and site.bare < total and not site.locks[lock] and not site.unknown:
+    if lock and site.bare < total and not site.locks[lock] and not site.reading[lock] and not site.unknown:
         found.append(("none", ["without ", Code(lock)]))
     if site.unknown:
         found.append(("some", [f"locks not counted at {site.unknown:,} of {total:,}"]))
@@ -62,8 +73,8 @@ def lock_words(site, lock):
 
 
 def accesses_text(site):
-    """How often a line reads and writes."""
-    return " and ".join(counted(site.accesses[word], KINDS[word]) for word in (b"r", b"w") if site.accesses[word])
+    """How often a line reads, writes and frees."""
+    return "".join(listed([[counted(site.accesses[word], KINDS[word])] for word in KINDS if site.accesses[word]], len(KINDS)))
 
 
 def partner_parts(site):
@@ -76,7 +87,7 @@ def summary(view):
     """How much the report and the trace have."""
     size = ", ".join(counted(count, name[:-1]) for name, count in view.counts._asdict().items())
     races = counted(view.races, "race") if view.listed == view.races else f"{view.listed:,} of {counted(view.races, 'race')}"
-    lines = f" at {counted(view.pairs, 'pair')} of lines, in {counted(view.groups, 'group')}" if view.groups else ""
+    lines = f" at {counted(view.pairs, 'place')}, in {counted(view.groups, 'group')}" if view.groups else ""
     return f"{races}{lines}", size
 
 
@@ -84,18 +95,29 @@ def notes_of(view):
     """What the reader has to know of the report."""
     if view.verdict.is_good:
         yield f"shb check: {view.verdict.words}"
-    elif view.verdict.is_good is None and view.races:
+    elif view.verdict.is_good is None and view.races and view.verdict.words:
         yield view.verdict.words
+    if not view.races:
+        yield "Any two conflicting accesses are ordered in this trace. A run with another interleaving may have races."
     if view.listed < view.races:
         yield "The report has not all races of the trace; the counts are the report's."
     if view.is_sample:
         yield ("The trace has too many races to look at each. Of each place one is known, and what is said of a group holds for "
                "the variables of these.")
-    if view.source.folders and view.sections:
+    if any(section.seen for section in view.sections):
+        yield ("Where a read took the value of the write that it races with, what follows it in its thread is ordered after that write, and "
+               "races with that are behind this one.")
+    if view.source.has_files() and view.sections:
         shown = [site.location for section in view.sections for site in section.sites[:MOST_SITES] if site.location]
         yield view.source.summary(shown)
 
 
+def seen_parts(section):
+    """What is said where the second access of a race reads what the first wrote, as parts for each such pair of lines."""
+    for writer, reader in section.seen[:MOST_SOME]:
+        yield [place(reader), " read what ", place(writer), " wrote: races behind this one are listed only once it is mended."]
+
+
 def races_text(group):
-    """How many races a group has, at how many pairs of lines."""
-    return f"{counted(group.races(), 'race')}, {counted(len(group.pairs), 'pair')} of lines"
+    """How many races a group has, at how many places."""
+    return f"{counted(group.races(), 'race')}, {counted(len(group.pairs), 'place')}"
