@@ -5,10 +5,13 @@ import pathlib
 import re
 import shutil
 import signal
+import subprocess
+import time
 
 import recorder
 
 PLACE = ("status.c:9", "status.c:9")
+LIST = "made-by-shb-record.txt"
 
 
 def text_of(path):
@@ -33,17 +36,24 @@ class Command(recorder.Case):
         return path
 
     def names(self, folder="status.shb"):
-        return sorted(re.sub(r"\d{2,}", "N", path.name) for path in (self.folder / folder).iterdir())
+        """The files of the results, but for the list of them."""
+        names = {path.name for path in (self.folder / folder).iterdir()}
+        self.assertIn(LIST, names)
+        return sorted(re.sub(r"\d{2,}", "N", name) for name in names - {LIST})
 
     def test_a_race(self):
         status, out, said = self.record(self.program(), "0", "race")
         self.assertEqual((status, out), (66, "said by the program\n"))
         self.assertRegex(said, r"(?m)^shb-record: run 1, process \d+ \(\S+/status 0 race\): .*; 1 place with races$")
         self.assertIn("status.c:9", said)
-        self.assertEqual(said.splitlines()[-1], "shb-record: 1 place with races; the program's own status: 0; files in "
-                         f"{self.folder}/status.shb")
+        page, = (self.folder / "status.shb").glob("*.html")
+        self.assertEqual(said.splitlines()[-2:], ["shb-record: 1 place with races; the program's own status: 0; files in "
+                                                  f"{self.folder}/status.shb", f"shb-record: page: {page}"])
+        self.assertRegex(text_of(page), r"<title>\S+/status 0 race \(run 1, process \d+, \d{4}-\d\d-\d\d \d\d:\d\d\): 1 race at 1 place, ")
         self.assertEqual(self.names(), ["places.tsv", "run1.N.html", "run1.N.report", "run1.N.stacks", "run1.N.std",
                                         "unknown.places"])
+        self.assertIn("     | shared = 1; /* RACE */\n", said)  # by the debug information
+        self.assertIn("<code>    shared = 1; /* RACE */</code>", text_of(page))
         self.assertEqual(text_of(self.folder / "status.shb" / "unknown.places"), "status.c:9\tstatus.c:9\n")
         self.assertRegex(text_of(self.folder / "status.shb" / "places.tsv"),  # main forks both, then each writes
                          r"^status.c:9\tstatus.c:9\tunknown\t\d+\t\d+\trun 1, process \d+\trun1\.\d+\.std\n$")
@@ -55,13 +65,20 @@ class Command(recorder.Case):
             text_of(recorder.PROGRAMS / "long_race.c").splitlines(), 1) if "RACE" in line)
         status, _, said = self.record("--window", "2000", program)
         self.assertEqual(status, 66)
-        events, windows = map(int, re.search(r"(\d+) events, (\d+) windows; 2 places with races", said).groups())
+        events, windows = map(int, re.search(r"(\d+) events, (\d+) windows that ", said).groups())
         rows = [line.split("\t") for line in text_of(self.folder / "long_race.shb" / "places.tsv").splitlines()]
         found = {row[0]: (row[1], row[6]) for row in rows}
         self.assertEqual(found, {early: (early, "window-0001.std"), late: (late, f"window-{windows:04}.std")})
         numbers = {row[0]: [int(number) for number in row[3:5]] for row in rows}
         self.assertLess(numbers[early][1], 100)
         self.assertGreater(numbers[late][0], events - 100)
+        reach = re.search(rf"{windows} windows that cover races of accesses up to ([\d,]+) events apart; 2 places with races", said)[1]
+        self.assertIn(int(reach.replace(",", "")), range(950, 1001))  # half a window, but for locks that are held where it begins
+        shown = sorted((self.folder / "long_race.shb").glob("*.windows/*"))  # other windows are gone
+        self.assertEqual([path.name for path in shown], [f"window-{number:04}.{end}" for number in (1, windows) for end in ("html", "report", "std")])
+        for path in shown[0], shown[3]:
+            self.assertIn(f"Races of accesses that are more than {reach} events apart may not be listed.", text_of(path))
+            self.assertIn("In this window ", text_of(path))
 
     def test_statuses_without_a_race(self):
         program = self.program()
@@ -117,8 +134,8 @@ class Command(recorder.Case):
         status, out, said = self.record("--runs", "3", self.program(), "0", "race")
         self.assertEqual((status, out), (66, "said by the program\n" * 3))
         self.assertEqual(len(re.findall(r"(?m)^shb-record: run [123], process ", said)), 3)
-        self.assertEqual(len(re.findall("^run1.*: 1 race at 1 ", said, re.M)), 1)  # the view's first line
-        self.assertNotRegex(said, "(?m)^run[23]")
+        self.assertEqual(len(re.findall("^.*race .run 1, .*: 1 race at 1 ", said, re.M)), 1)  # the view's first line
+        self.assertNotRegex(said, "(?m)^.*race .run [23]")
         self.assertIn("shb-record: 1 place with races;", said)
 
     def test_no_record_has_a_likely_cause(self):
@@ -206,17 +223,51 @@ class Command(recorder.Case):
     def stop(self):
         os.kill(int((self.folder / "number").read_text()), signal.SIGKILL)
 
-    def test_results_of_an_earlier_call_are_removed(self):
+    def test_results_of_an_earlier_call_are_replaced(self):
         program = self.program()
         self.record("--keep", program, "0", "race")
         self.assertEqual(self.names(), ["places.tsv", "run1.N.html", "run1.N.rec", "run1.N.report", "run1.N.stacks",
                                         "run1.N.std", "unknown.places"])
-        self.record(program, "0")
+        _, _, said = self.record(program, "0")
+        self.assertRegex(said, rf"(?m)^shb-record: {self.folder}/status.shb: the results of an earlier call are replaced on \S+ \S+, for: "
+                         rf"{program} 0 race$")
         self.assertEqual(self.names(), ["places.tsv", "unknown.places"])
+
+    def test_files_that_it_did_not_make_stay(self):
+        """Whatever their names; and none is written over."""
+        program, folder = self.program(), self.folder / "mine"
+        (folder / "run3.1.windows").mkdir(parents=True)
+        mine = {folder / name for name in ("run1.2-notes.report", "run1.1.std", "run3.1.windows/window-0001.std")}
+        for path in mine:
+            path.write_text("mine")
+        for _ in range(2):
+            self.assertEqual(self.record("-o", folder, program, "0", "race")[0], 66)
+        self.assertEqual({path.read_text() for path in mine}, {"mine"})
+        for name in ("places.tsv", LIST):
+            other = self.folder / f"other-{name}"
+            other.mkdir()
+            (other / name).write_text("mine")
+            status, out, said = self.record("-o", other, program, "0", "race")
+            self.assertEqual((status, out, f"{name} is there, and shb-record didn't make it" in said), (125, "", True), said)
+            self.assertEqual(text_of(other / name), "mine")
+
+    def test_calls_at_one_time(self):
+        """Each has a folder of its own, and ends as one alone."""
+        program, how = self.program(), {**os.environ, "SHB": str(recorder.SHB)}
+        script = f"touch here.$$; while [ $(ls here.* | wc -l) -lt 4 ]; do sleep 0.01; done; exec {program} 0 race"
+        words = [str(recorder.BUILT / "shb-record"), "sh", "-c", script]
+        ran = [subprocess.Popen(words, cwd=self.folder, env=how, stdout=subprocess.PIPE, stderr=subprocess.PIPE) for _ in range(4)]
+        said = [call.communicate(timeout=recorder.SECONDS)[1].decode() for call in ran]
+        self.assertEqual([call.returncode for call in ran], [66] * 4, said)
+        folders = [re.search(r"files in (.*)", text)[1] for text in said]
+        self.assertEqual(sorted(folders), [f"{self.folder}/sh.shb{end}" for end in ("", "-2", "-3", "-4")])
+        for folder in folders:
+            self.assertEqual(self.names(folder), ["places.tsv", "run1.N.html", "run1.N.report", "run1.N.stacks", "run1.N.std",
+                                                  "unknown.places"])
 
     def test_a_part_of_a_run_is_called_one(self):
         status, _, said = self.record(self.program("mutex_ok.c"), SHB_RECORDS="1000")
-        self.assertEqual(status, 0)
+        self.assertEqual(status, 124)
         self.assertIn("the recording is not the whole run: SHB_RECORDS is reached", said)
         self.assertIn("0 places with races; not the whole of the run was seen;", said)
 
@@ -226,9 +277,9 @@ class Command(recorder.Case):
         status, _, said = self.record(program, SHB_RECORDS="1000")
         self.assertEqual(status, 66, said)
         self.assertIn("shb-record: 1 place with races; not the whole", said)
-        self.assertRegex(said, rf"(?m)^run1.*: .* at .*\n{re.escape(why)}$")  # below the view's first line
+        self.assertRegex(said, rf"(?m)^.*run 1, .*: .* at .*\n{re.escape(why)}$")  # below the view's first line
         page, = (self.folder / "long_race.shb").glob("*.html")
-        self.assertRegex(text_of(page), rf"<h1>run1[^<]*</h1><p class=\"verdict bad\">{re.escape(why)}</p>")
+        self.assertRegex(text_of(page), rf"<h1>[^<]*</h1><p class=\"verdict bad\">{re.escape(why)}</p>")
         _, _, said = self.record(program)
         self.assertNotIn("not the whole run", said)
         page, = (self.folder / "long_race.shb").glob("*.html")
@@ -244,6 +295,53 @@ class Command(recorder.Case):
     def test_an_analyser_that_fails(self):
         status, _, said = self.record(self.program(), "0", "race", SHB=shutil.which("false"))
         self.assertEqual((status, "ended with status 1" in said), (125, True), said)
+
+    def test_what_earlier_runs_recorded_is_shown(self):
+        """The third run leaves no record, for it can't begin one."""
+        program = self.program()
+        script = f"[ -e {self.folder}/two ] && exec true; [ -e {self.folder}/one ] && touch {self.folder}/two; touch {self.folder}/one; exec {program} 0 race"
+        status, _, said = self.record("--runs", "4", "sh", "-c", script)
+        self.assertEqual((status, "sh left no record" in said), (66, True), said)
+        self.assertIn("1 place with races; not all could be looked at;", said)
+        self.assertEqual(text_of(self.folder / "sh.shb" / "unknown.places"), "status.c:9\tstatus.c:9\n")
+
+    def test_an_analyser_that_fails_late(self):
+        """The second process is the one that it doesn't take."""
+        fake = self.folder / "shb"
+        fake.write_text(f'#!/bin/sh\nif [ "$1 $2" = "places --list" ]; then [ -e ran ] && exit 4; touch ran; fi\nexec {recorder.SHB} "$@"\n')
+        fake.chmod(0o755)
+        program = self.program()
+        status, _, said = self.record("sh", "-c", f"{program} 0 race; {program} 0 race", SHB=str(fake))
+        self.assertEqual(status, 66, said)
+        self.assertIn("not all could be looked at", said)
+        self.assertEqual(len(list((self.folder / "sh.shb").glob("*.rec"))), 1)
+
+    def test_a_signal_ends_the_program_and_shows_it(self):
+        """Sent to the command alone; the program, which hangs, has raced before. What ignores it is killed after --wait."""
+        program = self.program("deadlock.c")
+        for number, how, own in ((signal.SIGTERM, "", 143), (signal.SIGINT, "", 130), (signal.SIGTERM, "trap '' TERM; ", 137)):
+            ready = self.folder / f"ready{own}"
+            words = ["--wait", "1", "sh", "-c", f"{how}exec {program} > {ready}"]
+            ran = subprocess.Popen([str(recorder.BUILT / "shb-record"), *words], cwd=self.folder, stderr=subprocess.PIPE,
+                                   env={**os.environ, "SHB": str(recorder.SHB)},
+                                   preexec_fn=lambda: signal.signal(signal.SIGINT, signal.SIG_DFL))
+            while not ready.exists() or ready.read_text() != "..":
+                self.assertIsNone(ran.poll())
+                time.sleep(0.01)
+            ran.send_signal(number)
+            said = ran.communicate(timeout=recorder.SECONDS)[1].decode()
+            self.assertEqual(ran.returncode, 66, said)
+            self.assertIn(f"the program's own status: {own};", said)
+            self.assertIn(f"stopped by {number.name}", said)
+
+    def test_without_an_analyser_the_program_does_not_run(self):
+        status, out, said = self.record(self.program(), "0", SHB="/nowhere/shb")
+        self.assertEqual((status, out), (125, ""))
+        self.assertIn("there is no analyser at /nowhere/shb; in a checkout `make build` makes it", said)
+
+    def test_a_seed_that_is_no_number(self):
+        status, out, said = self.record(self.program(), "0", SHB_SEED="abc")
+        self.assertEqual((status, out, said), (125, "", "shb-record: SHB_SEED takes a number; shb-record --help says more\n"))
 
     def test_help(self):
         for word in ("-h", "--help"):
