@@ -181,7 +181,7 @@ class Shown(program.Case):
             f"Source lines of {self.folder}: 1 of 1 file found, none newer than the trace.", "",
             "1. total: a.c:3 is without door (1 race, 1 place)",
             "   In this trace every write holds door, and a.c:3 reads without it.",
-            "   a.c:3 read what a.c:8 wrote: races behind this one are listed only once it is mended.",
+            "   a.c:3 read what a.c:8 wrote: other races may be behind this one.",
             "   a.c:8: 1 write by A", "     | total++;", "     holds door", "     races with a.c:3 (1 race)",
             "   a.c:3: 1 read by B", "     | static int total;", "     no lock held", "     races with a.c:8 (1 race)"])
 

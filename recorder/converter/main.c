@@ -91,6 +91,8 @@ static const char help[] =
     "\n"
     "  --windows DIR  write a run of any length as overlapping traces, DIR/window-0001.std and so on,\n"
     "                 with the table DIR/windows.tsv (shb-windows --help says what they are)\n"
+    "  --one-by-one   after each window write its row of windows.tsv to standard output, and go on after a\n"
+    "                 line on standard input or its end: so a window can be deleted before the next ones come\n"
     "  --stacks FILE  write the call stack of each event to this file, and where threads were created and\n"
     "                 blocks allocated\n"
     "  -n EVENTS      at most so many events, of the trace or of each window (4194304)\n"
@@ -108,10 +110,10 @@ static void bad_words(void) { die("bad command line; shb-std --help says more");
 
 static void read_words(int count, char **words) {
     static const struct option options[] = {{"windows", required_argument, 0, 'w'}, {"stacks", required_argument, 0, 's'},
-                                            {"strip", required_argument, 0, 'd'},
+                                            {"strip", required_argument, 0, 'd'}, {"one-by-one", no_argument, &one_by_one, 1},
                                             {"help", no_argument, 0, 'h'}, {0, 0, 0, 0}};
     opterr = 0;
-    for (int c; (c = getopt_long(count, words, "ahn:p", options, 0)) > 0;)
+    for (int c; (c = getopt_long(count, words, "ahn:p", options, 0)) >= 0;)
         if (c == 'h') {
             fputs(help, stdout);
             exit(0);
@@ -120,7 +122,7 @@ static void read_words(int count, char **words) {
         else if (c == 'd') strip_folder(optarg);
         else if (c == 'a') whole_trace = 1;
         else if (c == 'p') whole_paths = 1;
-        else if (c != 'n' || !(event_limit = strtoull(optarg, 0, 10))) bad_words();
+        else if (c && (c != 'n' || !(event_limit = strtoull(optarg, 0, 10)))) bad_words();
     if (optind + 1 != count) bad_words();
 }
 

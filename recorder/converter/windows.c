@@ -157,11 +157,27 @@ static void write_hold(const hold *h) {
     count_thread(h->thread);
 }
 
+int one_by_one;
+
+static void write_row(FILE *table, u64 number) {
+    const window *w = &windows[number - 1];
+    fprintf(table, "window-%04lu.std\t%lu\t%lu\t%lu\n", number, w->first, w->last, w->added);
+}
+
+/* Says that a window is whole, and waits until its reader has done with it. */
+static void tell_window(u64 number) {
+    if (!one_by_one) return;
+    write_row(stdout, number);
+    if (fflush(stdout)) die("cannot write to standard output: %s", strerror(errno));
+    for (int byte; (byte = getchar()) != EOF && byte != '\n';) ;
+}
+
 static void begin_half(void) {
     char path[PATH_MAX];
     if (window_count > 1) windows[window_count - 2].last = events_so_far;
     if (newer) write_lines_of_half();
     end_file(older);
+    if (older) tell_window(window_count - 1);
     older = newer;
     halves++;
     half_events = half_bytes = half_threads = 0;
@@ -211,6 +227,7 @@ static void end_last_window(void) {
     if (window_count > 1) window_count--;
     windows[window_count - 1].last = events_so_far;
     for (u64 number = window_count + 1; window_path(path, number), unlink(path) == 0; number++) ;
+    tell_window(window_count);
 }
 
 void end_windows(void) {
@@ -220,8 +237,7 @@ void end_windows(void) {
     FILE *table = fopen(path, "w");
     if (!table) cannot_write();
     fputs("file\tfirst\tlast\tadded\n", table);
-    for (u64 i = 0; i < window_count; i++)
-        fprintf(table, "window-%04lu.std\t%lu\t%lu\t%lu\n", i + 1, windows[i].first, windows[i].last, windows[i].added);
+    for (u64 number = 1; number <= window_count; number++) write_row(table, number);
     end_file(table);
 }
 

@@ -80,6 +80,17 @@ class Command(recorder.Case):
             self.assertIn(f"Races of accesses that are more than {reach} events apart may not be listed.", text_of(path))
             self.assertIn("In this window ", text_of(path))
 
+    def test_windows_are_analysed_one_by_one(self):
+        """Of some ten windows there are at most the first, the one that is looked at, one after it and two that are being written."""
+        fake, log = self.folder / "shb", self.folder / "log"
+        fake.write_text(f'#!/bin/sh\n[ "$1 $2" = "places --list" ] && find . -name "window-*.std" | wc -l >> {log}\nexec {recorder.SHB} "$@"\n')
+        fake.chmod(0o755)
+        status, _, said = self.record("--window", "2000", self.program("long_race.c"), SHB=str(fake))
+        self.assertEqual(status, 66, said)
+        numbers = list(map(int, text_of(log).split()))
+        self.assertGreater(len(numbers), 8)
+        self.assertLessEqual(max(numbers), 5)
+
     def test_statuses_without_a_race(self):
         program = self.program()
         for word, wanted in (("0", 0), ("5", 5), ("signal", 143)):

@@ -105,8 +105,8 @@ def notes_of(view):
         yield ("The trace has too many races to look at each. Of each place one is known, and what is said of a group holds for "
                "the variables of these.")
     if any(section.seen for section in view.sections):
-        yield ("Where a read took the value of the write that it races with, what follows it in its thread is ordered after that write, and "
-               "races with that are behind this one.")
+        yield ("A read that took the value of the write that it races with orders what follows it in its thread after that write: "
+               "races behind it are listed only once it is mended.")
     if view.source.has_files() and view.sections:
         shown = [site.location for section in view.sections for site in section.sites[:MOST_SITES] if site.location]
         yield view.source.summary(shown)
@@ -115,7 +115,7 @@ def notes_of(view):
 def seen_parts(section):
     """What is said where the second access of a race reads what the first wrote, as parts for each such pair of lines."""
     for writer, reader in section.seen[:MOST_SOME]:
-        yield [place(reader), " read what ", place(writer), " wrote: races behind this one are listed only once it is mended."]
+        yield [place(reader), " read what ", place(writer), " wrote: other races may be behind this one."]
 
 
 def races_text(group):
