@@ -23,6 +23,11 @@ for (const button of table.querySelectorAll("th button")) {
   button.click();
   found[button.textContent] = [up, sort, column(number).join(), button.parentElement.getAttribute("aria-sort")];
 }
+const issue = document.querySelector("details.issue");
+issue.open = true;
+issue.querySelector("button").click();
+found.copied = [getSelection().toString() === issue.querySelector("pre").textContent, issue.querySelector("button").textContent];
+issue.open = false;
 found.sorted = table.querySelectorAll("[aria-sort]").length;
 found.before = [...document.querySelectorAll("details")].map((details) => details.open).join();
 history.replaceState(null, "", "#g1e12");  // opens nothing by itself
@@ -77,6 +82,8 @@ class Browser(program.Case):
             self.assertEqual(found["Accesses"][0], "1 read,1 read,1 write,1 write")
             self.assertEqual((found["sorted"], found["before"]), (1, ",".join(["false"] * 6)))
             self.assertEqual(found["after"], "false,false,true,false,false,false")
+            self.assertTrue(found["copied"][0])  # what is selected is copied, where the browser lets a script do that without a click
+            self.assertIn(found["copied"][1], ("Copied", "Press Ctrl+C"))
 
     def test_nothing_is_wider_than_a_narrow_window(self):
         """Of 400 pixels, with all folded parts open and with long names."""
