@@ -38,7 +38,7 @@ MADE = {
     "make dist": "PROVED.md",
     "make test-all": "refused.sums",
     "rt": "out",
-    "shb-record, shb-farm": "runN.PROCESS.std places.txt",
+    "shb-record, shb-farm": "made-by-shb-record.txt places.txt runN.PROCESS.std",
     "the reader's own": "app.std app.report file.c util.c",
 }
 

@@ -13,6 +13,11 @@ class Example(recorder.Case):
         text = (TOP / "README.md").read_text()
         return re.search(r"^((?:    .*\n)*    recorder/shb-record .*\n)", text, re.M)[1]
 
+    def shown(self):
+        """What the README shows of the answer."""
+        block = re.search(r"^    1\. balance: (?:.*\n    )*.*\n", (TOP / "README.md").read_text(), re.M)[0]
+        return "".join(line[4:] + "\n" for line in block.splitlines())
+
     def test_the_commands_of_the_readme(self):
         for name, target in (("recorder", recorder.BUILT), ("examples", TOP / "examples")):
             (self.folder / name).symlink_to(target)
@@ -20,6 +25,7 @@ class Example(recorder.Case):
         answer = recorder.call("sh", "-e", "-c", self.commands(), cwd=self.folder, env=how)
         self.assertEqual(answer.returncode, 66, answer.stderr)
         self.assertRegex((self.folder / "account.shb" / "unknown.places").read_text(), r"^account.c:10\taccount.c:8\n$")
+        self.assertIn(self.shown(), answer.stderr.decode())
 
     def test_the_stored_trace(self):
         trace = (TOP / "examples" / "account.std").read_bytes()
