@@ -4,7 +4,6 @@ pub mod FoundLemmas
 mod KeyOrder
 mod LeadMembers
 pub mod Lists
-pub mod MarkLemmas
 pub mod NoteLemmas
 pub mod NumberedLemmas
 mod RacesByNumber
@@ -12,7 +11,5 @@ pub mod SearchLemmas
 pub mod SiteLemmas
 mod SortedEntries
 pub mod StepLemmas
-pub mod StepTables
 pub mod TakeLemmas
-pub mod WalkLemmas
 pub mod WantedLemmas

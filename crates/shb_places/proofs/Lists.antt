@@ -53,17 +53,6 @@ pub reaches_more : {T : Type 0} (next : T → ℕ) (entries more : List T) (k p 
 reaches_more next entries more k p (here is) = here is
 reaches_more next entries more k p (further entry at falls rest) = further entry (get_more entries more p entry at) falls (reaches_more next entries more k (next entry) rest)
 
--- an entry of before, when entries have come
-pub get_less : {T : Type 0} (entries more : List T) (p : ℕ) (entry : T) → p < length entries → slice_get (entries ++ more) p ≡ Some entry → slice_get entries p ≡ Some entry
-get_less [] more p entry low at = absurd (omega (arith, low))
-get_less (e ∷ entries) more zero entry low at = at
-get_less (e ∷ entries) more (suc p) entry low at = get_less entries more p entry (omega (arith, low)) at
-
--- a list that begins at an entry of before was the same before
-pub reaches_less : {T : Type 0} (next : T → ℕ) (entries more : List T) (k p : ℕ) → p < length entries → Reaches next (entries ++ more) k p → Reaches next entries k p
-reaches_less next entries more k p low (here is) = here is
-reaches_less next entries more k p low (further entry at falls rest) = further entry (get_less entries more p entry low at) falls (reaches_less next entries more k (next entry) (omega (arith, low, falls)) rest)
-
 -- at an entry
 pub reaches_next : {T : Type 0} (next : T → ℕ) (entries : List T) (k p : ℕ) (entry : T) → slice_get entries p ≡ Some entry → Reaches next entries k p → (p ≡ k) ⊎ ((next entry < p) × Reaches next entries k (next entry))
 reaches_next next entries k p entry at (here is) = inl is
@@ -90,11 +79,6 @@ reaches_within next entries k p within (further entry at falls rest) = slice_get
 pub reaches_then : {T : Type 0} (next : T → ℕ) (entries : List T) (k p : ℕ) (entry : T) → slice_get entries k ≡ Some entry → next entry < k → Reaches next entries k p → Reaches next entries (next entry) p
 reaches_then next entries k p entry at falls (here is) = further entry (subst (λ (n : ℕ). slice_get entries n ≡ Some entry) (sym is) at) (subst (λ (n : ℕ). next entry < n) (sym is) falls) (here refl)
 reaches_then next entries k p entry at falls (further other there lower rest) = further other there lower (reaches_then next entries k (next other) entry at falls rest)
-
--- what is in the list of an entry of a list is in that list
-pub reaches_trans : {T : Type 0} (next : T → ℕ) (entries : List T) (k p q : ℕ) → Reaches next entries k p → Reaches next entries p q → Reaches next entries k q
-reaches_trans next entries k p q low (here is) = subst (λ (n : ℕ). Reaches next entries k n) (sym is) low
-reaches_trans next entries k p q low (further entry at falls rest) = further entry at falls (reaches_trans next entries k p (next entry) low rest)
 
 -- an entry that was read from the same table under another name
 pub read_same : {T : Type 0} (entries seen : List T) (k : ℕ) (entry : T) → seen ≡ entries → k < length seen → entry ≡ get_or seen k entry → slice_get entries k ≡ Some entry

@@ -5,10 +5,9 @@ use Rattle.std.proofs.lemmas.Bool.{cases_eq}
 use Rattle.std.proofs.lemmas.Option.{slice_get_within}
 use Rattle.shb_clocks.specs.Open.{is_open}
 use Rattle.shb_lines.specs.declared.event.Pair.{Pair}
-use Rattle.shb_lines.specs.events.Race.{Race, variable_at}
+use Rattle.shb_lines.specs.events.Race.{variable_at}
 use Rattle.shb_lines.specs.text.TraceData.{TraceData}
 use Rattle.shb_pairs.specs.Open.{AreOpen}
-use Rattle.shb_places.specs.declared.by_thread.ByThread.{ByThread}
 use Rattle.shb_places.specs.declared.found.Found.{Found}
 use Rattle.shb_places.specs.declared.found.Place.{Place}
 use Rattle.shb_places.specs.declared.notes.Access.{Access}
@@ -18,18 +17,13 @@ use Rattle.shb_places.specs.declared.sites.Sites.{Sites}
 use Rattle.shb_places.specs.declared.wanted.Wanted.{Wanted}
 use Rattle.shb_places.specs.declared.wanted.WantedLists.{WantedLists}
 use Rattle.shb_places.specs.Access.{IsAccess}
-use Rattle.shb_places.specs.ByThread.{AreFollowed, IsPassed, thread_tables}
-use Rattle.shb_places.specs.Covering.{IsCovered}
-use Rattle.shb_places.specs.Found.{AreFound, Improves}
-use Rattle.shb_places.specs.Marks.{AreMarked}
+use Rattle.shb_places.specs.Found.{AreFound}
 use Rattle.shb_places.specs.Notes.{IsAdded, Tables, tables_of}
-use Rattle.shb_places.specs.Searched.{AreSearched, AreToldFrom, IsAskable, IsAskedAll, IsAskedBy}
+use Rattle.shb_places.specs.Searched.{AreSearched, AreToldFrom, IsAskable, IsAskedBy}
 use Rattle.shb_places.specs.Sites.{AreMore, IsSite}
 use Rattle.shb_places.specs.Wanted.{AreHeld, AreWanted, IsWanted}
-use Rattle.shb_places.proofs.FoundLemmas.{covered_then, known_then}
 use Rattle.shb_places.proofs.Lists.{get_set, get_set_other, same_entry}
 use Rattle.shb_places.proofs.SearchLemmas.{found_later, found_same, kept_grown, searched_other, taken}
-use Rattle.shb_places.proofs.WalkLemmas.{followed_other, followed_taken, rivals_of}
 use Rattle.shb_places.proofs.WantedLemmas.{told_held, wanted_grown, wanted_then}
 
 -- what a list holds for the accesses of its site
@@ -39,16 +33,9 @@ held_of trace sites races n x m s list is of_s h =
     subst (λ (l : ℕ). AreHeld trace sites races list.sites.items x l n list.looked) (ap (λ (k : Site). k.location) same ∙ is.location_is)
     (subst (λ (y : ℕ). AreHeld trace sites races list.sites.items y h.asker.location n list.looked) (ap (λ (k : Site). k.variable) same ∙ is.variable_is) h.held)
 
--- what its marks say
-pub marked_of : (trace : TraceData) (sites : List Site) (races : List Pair) (n x m s : ℕ) (list : Wanted) → IsSite sites x m s → list.asker ≡ s → IsWanted trace sites races n list → AreMarked trace races x m list.marks.items
-marked_of trace sites races n x m s list is of_s h =
-    let same = same_entry sites s h.asker is.site (subst (λ (k : ℕ). slice_get sites k ≡ Some h.asker) of_s h.at_asker) is.there in
-    subst (λ (l : ℕ). AreMarked trace races x l list.marks.items) (ap (λ (k : Site). k.location) same ∙ is.location_is)
-    (subst (λ (y : ℕ). AreMarked trace races y h.asker.location list.marks.items) (ap (λ (k : Site). k.variable) same ∙ is.variable_is) h.marked)
-
 -- the lists after the list k was asked
-pub lists_asked : (trace : TraceData) (sites : List Site) (notes : Tables) (lists : List Wanted) (k s : ℕ) (list after : Wanted) (middle : List ℕ) (start places : List Place) (old new : List Pair) (access : Access) → AreFound trace (access.event + 1) start old → slice_get lists k ≡ Some list → after.asker ≡ s → IsSite sites access.variable access.location s → AreWanted trace sites old access.event lists → AreHeld trace sites old middle access.variable access.location access.event (length sites) → AreToldFrom trace sites notes access 0 middle after.sites.items old places new → after.looked ≤ length sites → AreMarked trace new access.variable access.location after.marks.items → AreWanted trace sites new (access.event + 1) (set lists k after)
-lists_asked trace sites notes lists k s list after middle start places old new access found at of_s is before held told few marks j other at_other = elim (cases_eq j k) [
+pub lists_asked : (trace : TraceData) (sites : List Site) (notes : Tables) (lists : List Wanted) (k s : ℕ) (list after : Wanted) (middle : List ℕ) (start places : List Place) (old new : List Pair) (access : Access) → AreFound trace (access.event + 1) start old → slice_get lists k ≡ Some list → after.asker ≡ s → IsSite sites access.variable access.location s → AreWanted trace sites old access.event lists → AreHeld trace sites old middle access.variable access.location access.event (length sites) → AreToldFrom trace sites notes access 0 middle after.sites.items old places new → after.looked ≤ length sites → AreWanted trace sites new (access.event + 1) (set lists k after)
+lists_asked trace sites notes lists k s list after middle start places old new access found at of_s is before held told few j other at_other = elim (cases_eq j k) [
   | inl same ↦ subst (λ (w : Wanted). IsWanted trace sites new (access.event + 1) w) (same_entry (set lists k after) k after other (get_set lists k after (slice_get_within lists k list at)) (subst (λ (n : ℕ). slice_get (set lists k after) n ≡ Some other) same at_other)) asked
   | inr ne ↦ wanted_then trace sites (access.event + 1) access.event (access.event + 1) start old new other found told.improves (omega arith) (before j other (sym (get_set_other lists k j after ne) ∙ at_other))
 ]
@@ -65,64 +52,28 @@ lists_asked trace sites notes lists k s list after middle start places old new a
       at_asker = subst (λ (n : ℕ). slice_get sites n ≡ Some is.site) (sym of_s) is.there;
       looked = few;
       held = λ t site low at_t same. held_site t site (omega (arith, low, few)) at_t same;
-      marked = subst (λ (l : ℕ). AreMarked trace new is.site.variable l after.marks.items) (sym is.location_is) (subst (λ (x : ℕ). AreMarked trace new x access.location after.marks.items) (sym is.variable_is) marks);
     }
 
 -- an access can be asked when its site is there
-pub can_ask : (trace : TraceData) (flags : List Bool) (sites more : Sites) (notes : Notes) (by : ByThread) (lists : WantedLists) (table : Found) (access : Access) → IsAccess trace access → is_open flags access.variable ≡ true → AreSearched trace flags sites notes by lists table access.event → AreMore sites.newest.items sites.sites.items more.newest.items more.sites.items → IsAskable trace more notes by lists table access
-can_ask trace flags sites more notes by lists table access own is_so h grown = record {
+pub can_ask : (trace : TraceData) (flags : List Bool) (sites more : Sites) (notes : Notes) (lists : WantedLists) (table : Found) (access : Access) → AreSearched trace flags sites notes lists table access.event → AreMore sites.newest.items sites.sites.items more.newest.items more.sites.items → IsAskable trace more notes lists table access
+can_ask trace flags sites more notes lists table access h grown = record {
   listed = grown.listed h.searched.listed;
   kept = kept_grown trace flags sites more notes table access.event h.searched grown;
-  rivals = rivals_of trace flags by access own is_so h.followed;
   found = found_later trace access.event table.places.items table.races.items h.searched.found;
   wanted = λ k list at. wanted_grown trace sites.sites.items more.sites.items table.races.items access.event list grown.stay (h.wanted k list at);
 }
 
 -- an access of an open variable
-pub taken_all : (trace : TraceData) (flags : List Bool) (sites more last : Sites) (notes same after : Notes) (by kept next_by : ByThread) (lists later : WantedLists) (table next : Found) (s : ℕ) (access : Access) → IsAccess trace access → is_open flags access.variable ≡ true → AreSearched trace flags sites notes by lists table access.event → AreMore sites.newest.items sites.sites.items more.newest.items more.sites.items → IsSite more.sites.items access.variable access.location s → last ≡ more → same ≡ notes → kept ≡ by → IsAskedBy trace more notes later table next access → IsAdded trace more.sites.items (tables_of same) (tables_of after) s access.event → next_by.followed ≡ kept.followed → IsPassed trace kept.followed.items (thread_tables kept) (thread_tables next_by) access → AreSearched trace flags last after next_by later next (access.event + 1)
-taken_all trace flags sites more last notes same after by kept next_by lists later table next s access own is_so h grown is last_is same_is kept_is asked added flags_same passed =
-    subst (λ (t : Sites). AreSearched trace flags t after next_by later next (access.event + 1)) (sym last_is) (record {
+pub taken_all : (trace : TraceData) (flags : List Bool) (sites more last : Sites) (notes same after : Notes) (lists later : WantedLists) (table next : Found) (s : ℕ) (access : Access) → IsAccess trace access → is_open flags access.variable ≡ true → AreSearched trace flags sites notes lists table access.event → AreMore sites.newest.items sites.sites.items more.newest.items more.sites.items → IsSite more.sites.items access.variable access.location s → last ≡ more → same ≡ notes → IsAskedBy trace more notes later table next access → IsAdded trace more.sites.items (tables_of same) (tables_of after) s access.event → AreSearched trace flags last after later next (access.event + 1)
+taken_all trace flags sites more last notes same after lists later table next s access own is_so h grown is last_is same_is asked added =
+    subst (λ (t : Sites). AreSearched trace flags t after later next (access.event + 1)) (sym last_is) (record {
       searched = taken trace flags sites more notes after table next s access own is_so h.searched grown is asked.asked (subst (λ (n : Notes). IsAdded trace more.sites.items (tables_of n) (tables_of after) s access.event) same_is added);
-      followed = followed_taken trace flags kept next_by access own flags_same (subst (λ (b : ByThread). AreFollowed trace flags b access.event) (sym kept_is) h.followed) passed;
       wanted = asked.wanted;
     })
 
 -- an event without an access of an open variable
-pub passed_other : (trace : TraceData) (flags : List Bool) (sites : Sites) (notes : Notes) (by : ByThread) (lists : WantedLists) (table : Found) (n : ℕ) → AreOpen trace.events flags → ((x : ℕ) → variable_at trace.events n ≡ Some x → is_open flags x ≡ false) → AreSearched trace flags sites notes by lists table n → AreSearched trace flags sites notes by lists table (n + 1)
-passed_other trace flags sites notes by lists table n settled shut h = record {
+pub passed_other : (trace : TraceData) (flags : List Bool) (sites : Sites) (notes : Notes) (lists : WantedLists) (table : Found) (n : ℕ) → AreOpen trace.events flags → ((x : ℕ) → variable_at trace.events n ≡ Some x → is_open flags x ≡ false) → AreSearched trace flags sites notes lists table n → AreSearched trace flags sites notes lists table (n + 1)
+passed_other trace flags sites notes lists table n settled shut h = record {
   searched = searched_other trace flags sites notes table n settled shut h.searched;
-  followed = followed_other trace flags by n shut h.followed;
   wanted = λ k list at. wanted_then trace sites.sites.items n n (n + 1) table.places.items table.races.items table.races.items list h.searched.found (found_same trace n table.places.items table.races.items h.searched.found) (omega arith) (h.wanted k list at);
-}
-
--- a list stays what it was, for later events and for races that improve
-pub held_then : (trace : TraceData) (sites : List Site) (m n next x l end : ℕ) (places : List Place) (old new : List Pair) (list : List ℕ) → AreFound trace m places old → Improves trace old new → n ≤ next → AreHeld trace sites old list x l n end → AreHeld trace sites new list x l next end
-held_then trace sites m n next x l end places old new list found improves later held s site low at same = elim (held s site low at same) [
-  | inl in_list ↦ inl in_list
-  | inr known ↦ inr (known_then trace m places old new x site.location l n next found improves later known)
-]
-
--- where each race of an access is covered, a list needn't be asked
-pub walked_told : (trace : TraceData) (sites : List Site) (notes : Tables) (access : Access) (list : List ℕ) (places : List Place) (old new : List Pair) → AreFound trace (access.event + 1) places new → Improves trace old new → ((e : ℕ) → Race trace.events e access.event → IsCovered trace new e access.event) → AreToldFrom trace sites notes access 0 list list old places new
-walked_told trace sites notes access list places old new found improves covers = record {
-  found = found;
-  improves = improves;
-  told = λ j s i site le at at_site noted race. covers i race;
-  stays = λ s site in_list at. inl in_list;
-}
-
--- nor the sites of its variable
-pub walked_asked : (trace : TraceData) (sites : List Site) (notes : Tables) (access : Access) (places : List Place) (old new : List Pair) → AreFound trace (access.event + 1) places new → Improves trace old new → ((e : ℕ) → Race trace.events e access.event → IsCovered trace new e access.event) → IsAskedAll trace sites notes access old places new
-walked_asked trace sites notes access places old new found improves covers = record {
-  found = found;
-  improves = improves;
-  covers = λ s i site at same noted race. covers i race;
-}
-
--- sites that were asked after races that improve
-pub asked_then : (trace : TraceData) (sites : List Site) (notes : Tables) (access : Access) (places more : List Place) (old middle new : List Pair) → AreFound trace (access.event + 1) places middle → Improves trace old middle → IsAskedAll trace sites notes access middle more new → IsAskedAll trace sites notes access old more new
-asked_then trace sites notes access places more old middle new found improves asked = record {
-  found = asked.found;
-  improves = λ race is. covered_then trace (access.event + 1) places middle new race.first race.second found asked.improves (improves race is);
-  covers = asked.covers;
 }

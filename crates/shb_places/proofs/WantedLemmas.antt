@@ -21,7 +21,6 @@ use Rattle.shb_places.specs.Sites.{AreSites}
 use Rattle.shb_places.specs.Wanted.{AreHeld, AreWanted, IsListOf, IsWanted}
 use Rattle.shb_places.proofs.FoundLemmas.{covered_by, covered_then, found_variable, key_then, key_to, known_then, same_places}
 use Rattle.shb_places.proofs.Lists.{contains_get, get_cases, get_last, reaches_down, reaches_end, reaches_next, same_entry}
-use Rattle.shb_places.proofs.MarkLemmas.{marked_none, marked_then}
 use Rattle.shb_places.proofs.NoteLemmas.{not_both}
 use Rattle.shb_places.proofs.SearchLemmas.{asked_other, found_same, noted_in}
 
@@ -74,15 +73,14 @@ looked_before trace sites races list x m n looked p before h s site low at same 
 pub listed_new : (lists all : List Wanted) (last : Wanted) (k : ℕ) → all ≡ lists ++ last ∷ [] → k ≡ length lists → IsListOf all last.asker k
 listed_new lists all last k grown is = subst (λ (ls : List Wanted). IsListOf ls last.asker k) (sym grown) (record { list = last; there = get_last lists last k is; asker_is = refl })
 
-pub wanted_new : (trace : TraceData) (sites : List Site) (races : List Pair) (n : ℕ) (lists all : List Wanted) (last : Wanted) (asker : Site) → all ≡ lists ++ last ∷ [] → slice_get sites last.asker ≡ Some asker → last.looked ≡ 0 → last.marks.items ≡ [] → AreWanted trace sites races n lists → AreWanted trace sites races n all
-wanted_new trace sites races n lists all last asker grown at_asker nothing no_marks h k list at = elim (get_cases lists last k list (subst (λ (ls : List Wanted). slice_get ls k ≡ Some list) grown at)) [
+pub wanted_new : (trace : TraceData) (sites : List Site) (races : List Pair) (n : ℕ) (lists all : List Wanted) (last : Wanted) (asker : Site) → all ≡ lists ++ last ∷ [] → slice_get sites last.asker ≡ Some asker → last.looked ≡ 0 → AreWanted trace sites races n lists → AreWanted trace sites races n all
+wanted_new trace sites races n lists all last asker grown at_asker nothing h k list at = elim (get_cases lists last k list (subst (λ (ls : List Wanted). slice_get ls k ≡ Some list) grown at)) [
   | inl old ↦ h k list old
   | inr new ↦ subst (λ (w : Wanted). IsWanted trace sites races n w) new.1 (record {
     asker = asker;
     at_asker = at_asker;
     looked = omega (arith, nothing);
     held = λ s site low. absurd (omega (arith, low, nothing));
-    marked = marked_none trace races asker.variable asker.location last.marks.items no_marks;
   })
 ]
 
@@ -96,7 +94,6 @@ wanted_then trace sites m n next places old new list found improves later h = re
     | inl in_list ↦ inl in_list
     | inr known ↦ inr (known_then trace m places old new h.asker.variable site.location h.asker.location n next found improves later known)
   ];
-  marked = marked_then trace m places old new h.asker.variable h.asker.location list.marks.items found improves h.marked;
 }
 
 within_more : (old new : List Site) (n : ℕ) → ((s : ℕ) (site : Site) → slice_get old s ≡ Some site → slice_get new s ≡ Some site) → n ≤ length old → n ≤ length new
@@ -118,7 +115,6 @@ wanted_grown trace old new races n list stay h = record {
       let before = slice_get-get_or old s d (omega (arith, low, few)) in
       let is = same_entry new s (get_or old s d) site (stay s (get_or old s d) before) at in
       h.held s site low (subst (λ (k : Site). slice_get old s ≡ Some k) is before) same);
-  marked = h.marked;
 }
 
 -- a race that was offered makes its place known

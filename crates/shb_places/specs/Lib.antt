@@ -1,11 +1,9 @@
 pub mod Access
-pub mod ByThread
 pub mod Covering
 pub mod Found
 pub mod Known
 pub mod ListOrder
 pub mod Lists
-pub mod Marks
 pub mod Notes
 pub mod Numbered
 pub mod Searched

@@ -1,7 +1,5 @@
 -- Lists in flat tables: each entry has the number of the next one, which is smaller, or the list ends.
 use Rattle.std.specs.Prelude.{◌≡◌, ℕ, ◌<◌, List, Some, slice_get}
-use Rattle.shb_places.specs.declared.by_thread.Entry.{Entry}
-use Rattle.shb_places.specs.declared.by_thread.Step.{Step}
 use Rattle.shb_places.specs.declared.notes.Class.{Class}
 use Rattle.shb_places.specs.declared.notes.Link.{Link}
 use Rattle.shb_places.specs.declared.sites.Site.{Site}
@@ -23,9 +21,3 @@ link_previous link = link.previous
 
 abbrev pub site_previous : Site → ℕ
 site_previous site = site.previous
-
-abbrev pub entry_next : Entry → ℕ
-entry_next entry = entry.next
-
-abbrev pub step_previous : Step → ℕ
-step_previous step = step.previous

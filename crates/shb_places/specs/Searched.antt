@@ -4,7 +4,6 @@ use Rattle.shb_clocks.specs.Open.{is_open}
 use Rattle.shb_lines.specs.declared.event.Pair.{Pair}
 use Rattle.shb_lines.specs.events.Race.{Race, variable_at}
 use Rattle.shb_lines.specs.text.TraceData.{TraceData}
-use Rattle.shb_places.specs.declared.by_thread.ByThread.{ByThread}
 use Rattle.shb_places.specs.declared.found.Found.{Found}
 use Rattle.shb_places.specs.declared.found.Place.{Place}
 use Rattle.shb_places.specs.declared.notes.Access.{Access}
@@ -12,7 +11,6 @@ use Rattle.shb_places.specs.declared.notes.Notes.{Notes}
 use Rattle.shb_places.specs.declared.sites.Site.{Site}
 use Rattle.shb_places.specs.declared.sites.Sites.{Sites}
 use Rattle.shb_places.specs.declared.wanted.WantedLists.{WantedLists}
-use Rattle.shb_places.specs.ByThread.{AreFollowed, HasRivals}
 use Rattle.shb_places.specs.Covering.{IsCovered}
 use Rattle.shb_places.specs.Found.{AreFound, Improves}
 use Rattle.shb_places.specs.Known.{IsKnown}
@@ -56,10 +54,9 @@ pub record AreToldFrom (trace : TraceData) (sites : List Site) (notes : Tables) 
   pub stays : (s : ℕ) (site : Site) → Contains before s → slice_get sites s ≡ Some site → Contains after s ⊎ IsSettled trace notes access s site new
 
 -- what an access can be asked with
-pub record IsAskable (trace : TraceData) (sites : Sites) (notes : Notes) (by : ByThread) (lists : WantedLists) (table : Found) (access : Access) : Type 0 where
+pub record IsAskable (trace : TraceData) (sites : Sites) (notes : Notes) (lists : WantedLists) (table : Found) (access : Access) : Type 0 where
   pub listed : AreSites sites.newest.items sites.sites.items
   pub kept : AreKept trace sites.sites.items (tables_of notes) access.event
-  pub rivals : HasRivals trace by access
   pub found : AreFound trace (access.event + 1) table.places.items table.races.items
   pub wanted : AreWanted trace sites.sites.items table.races.items access.event lists.lists.items
 
@@ -85,8 +82,7 @@ pub record IsSearched (trace : TraceData) (flags : List Bool) (sites : Sites) (n
   pub found : AreFound trace n table.places.items table.races.items
   pub covered : (i j : ℕ) → j < n → Race trace.events i j → IsCovered trace table.races.items i j
 
--- the same, with the accesses by thread, and the lists of the sites that still have to be asked
-pub record AreSearched (trace : TraceData) (flags : List Bool) (sites : Sites) (notes : Notes) (by : ByThread) (lists : WantedLists) (table : Found) (n : ℕ) : Type 0 where
+-- the same, with the lists of the sites that still have to be asked
+pub record AreSearched (trace : TraceData) (flags : List Bool) (sites : Sites) (notes : Notes) (lists : WantedLists) (table : Found) (n : ℕ) : Type 0 where
   pub searched : IsSearched trace flags sites notes table n
-  pub followed : AreFollowed trace flags by n
   pub wanted : AreWanted trace sites.sites.items table.races.items n lists.lists.items

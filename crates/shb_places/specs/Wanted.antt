@@ -5,19 +5,17 @@ use Rattle.shb_lines.specs.text.TraceData.{TraceData}
 use Rattle.shb_places.specs.declared.sites.Site.{Site}
 use Rattle.shb_places.specs.declared.wanted.Wanted.{Wanted}
 use Rattle.shb_places.specs.Known.{IsKnown}
-use Rattle.shb_places.specs.Marks.{AreMarked}
 
 -- each site of x with a number below an end is in the list, or its place with the location m is known
 abbrev pub AreHeld : TraceData → List Site → List Pair → List ℕ → ℕ → ℕ → ℕ → ℕ → Type 0
 AreHeld trace sites races list x m n end = (s : ℕ) (site : Site) → s < end → slice_get sites s ≡ Some site → site.variable ≡ x → Contains list s ⊎ IsKnown trace races x site.location m n
 
--- a list is that of a site, and has the sites that it looked at, but for those whose place is known; so is that of each mark
+-- a list is that of a site, and has the sites that it looked at, but for those whose place is known
 pub record IsWanted (trace : TraceData) (sites : List Site) (races : List Pair) (n : ℕ) (list : Wanted) : Type 0 where
   pub asker : Site
   pub at_asker : slice_get sites list.asker ≡ Some asker
   pub looked : list.looked ≤ length sites
   pub held : AreHeld trace sites races list.sites.items asker.variable asker.location n list.looked
-  pub marked : AreMarked trace races asker.variable asker.location list.marks.items
 
 -- the same of each list
 abbrev pub AreWanted : TraceData → List Site → List Pair → ℕ → List Wanted → Type 0

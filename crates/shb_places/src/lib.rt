@@ -4,8 +4,7 @@
 //!
 //! The search is one pass over the accesses of open variables, with a sweep. An access asks, of each
 //! location that its variable was accessed at before it, whether the newest accesses there race with it,
-//! where no race of their place is known that stands before. Where its variable has many locations, it asks of
-//! each other thread which of the newest accesses of the variable race with it, if these are fewer. Look-ups propose numbers, and what a number
+//! where no race of their place is known that stands before. Look-ups propose numbers, and what a number
 //! stands for is compared before it is used, so no contract is needed of a table.
 #![tactic(auto)]
 
@@ -14,18 +13,14 @@ ghost use Rattle.shb_lines.specs.events.Race.{ends};
 ghost use Rattle.shb_pairs.specs.Open.{AreOpen};
 ghost use Rattle.shb_report.specs.Report.{LeadingRaces};
 
-mod by_thread;
-mod followed;
 mod found;
 mod hints;
 mod leading;
 mod locations;
-mod marks;
 mod notes;
 mod numbers;
 mod search;
 mod sites;
-mod walk;
 mod wanted;
 
 use crate::leading::leading_of_found;

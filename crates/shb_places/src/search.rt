@@ -1,9 +1,7 @@
 //! The search for a race of each place.
 //!
 //! An access asks the sites of its variable. A site that is new, or whose variable has few, asks all of them.
-//! Else the site has a list of those whose place with it isn't known ([`crate::wanted`]), and asks these. Where the
-//! variable has many sites and is followed, all races of the access are looked for first ([`crate::walk`]), in about as
-//! many steps as there are sites to be asked; where they are found in these, no site is asked.
+//! Else the site has a list of those whose place with it isn't known ([`crate::wanted`]), and asks these.
 
 ghost use Rattle.std.specs.Prelude.{◌≡◌, ◌+◌, ◌<◌, ℕ, Bool, false, true, IfOk, List, OnOk, Some, length, slice_get};
 ghost use Rattle.shb_clocks.specs.Open.{is_open as open_flag};
@@ -17,18 +15,13 @@ ghost use Rattle.shb_places.specs.Notes.{AreKept, tables_of};
 ghost use Rattle.shb_places.specs.Numbered.{AreNumbered};
 ghost use Rattle.shb_places.specs.Searched.{AreSearched, AreToldFrom, IsAskable, IsAsked, IsAskedAll, IsAskedBy, IsTold, IsToldOf};
 ghost use Rattle.shb_places.specs.Sites.{AreSites, IsSite};
-ghost use Rattle.shb_places.specs.declared.by_thread.Step.{Step};
 ghost use Rattle.shb_places.specs.declared.notes.Link.{Link};
 
-use crate::by_thread::ByThread;
-use crate::followed::followed_variables;
 use crate::found::{Found, Place};
 use crate::locations::Locations;
-use crate::marks::make_marks;
 use crate::notes::{Access, Notes};
 use crate::numbers::NONE;
 use crate::sites::{Site, Sites};
-use crate::walk::walk_races;
 use crate::wanted::{WantedLists, look, remove_if};
 use shb_clocks::{Order, Ordered, Sweep};
 use shb_discipline::Disciplined;
@@ -37,15 +30,11 @@ use shb_lines::Pair;
 use shb_links::{Linked, Links};
 use std::alloc::Global;
 
-/// So many steps are taken for a new site of a variable with many sites, before these are asked.
-const STEPS_OF_NEW: u32 = 256;
-
 /// What the search keeps.
 #[derive(Drop)]
 struct Search {
     sites: Sites,
     notes: Notes,
-    by_thread: ByThread,
     wanted: WantedLists,
     found: Found,
 }
@@ -222,23 +211,16 @@ fn ask_list<O: Order>(
     Ok(())
 }
 
-/// In how many steps the races of an access are looked for before so many sites are asked.
-fn steps_for(sites: usize) -> u32 {
-    sites.saturating_mul(2).min(u32::MAX as usize) as u32
-}
-
 impl Search {
-    #[tactic(auto, using(crate::proofs::WalkLemmas::followed_none))]
     /// Before the first event.
-    fn new(alloc: Global, variables: u32, followed: Vec<bool>) -> Result<Search, NoMemory>
+    fn new(alloc: Global, variables: u32) -> Result<Search, NoMemory>
         ensures { (trace : TraceData) (flags : List Bool) → ((e x : ℕ) → variable_at trace.events e ≡ Some x → x < variables)
-            → IfOk result (λ search. AreSearched trace flags search.sites search.notes search.by_thread search.wanted search.found 0) }
+            → IfOk result (λ search. AreSearched trace flags search.sites search.notes search.wanted search.found 0) }
     {
         let sites = Sites::new(alloc, variables)?;
         Ok(Search {
             sites,
             notes: Notes::new(alloc),
-            by_thread: ByThread::new(alloc, followed),
             wanted: WantedLists::new(alloc),
             found: Found::new(alloc),
         })
@@ -255,32 +237,16 @@ impl Search {
         requires access { IsAccess ordered.now.disciplined.now.trace.now access }
         requires asked { O.asks ordered.now.order.now access.event ≡ true }
         requires in_range { (k : ℕ) (link : Link) → slice_get self.old.notes.links.items k ≡ Some link → link.event < length ordered.now.disciplined.now.trace.now.events }
-        requires steps_in_range { (k : ℕ) (step : Step) → slice_get self.old.by_thread.steps.items k ≡ Some step → step.event < length ordered.now.disciplined.now.trace.now.events }
         requires as_many { length self.old.found.races.items ≡ length self.old.found.places.items }
         ensures sites { self.new.sites ≡ self.old.sites }
         ensures notes { self.new.notes ≡ self.old.notes }
-        ensures by_thread { self.new.by_thread ≡ self.old.by_thread }
         ensures asked { IsSite self.old.sites.sites.items access.variable access.location s
-            → IsAskable ordered.now.disciplined.now.trace.now self.old.sites self.old.notes self.old.by_thread self.old.wanted self.old.found access
+            → IsAskable ordered.now.disciplined.now.trace.now self.old.sites self.old.notes self.old.wanted self.old.found access
             → OnOk result (IsAskedBy ordered.now.disciplined.now.trace.now self.old.sites self.old.notes self.new.wanted self.old.found self.new.found access) }
     {
-        let count = self.by_thread.count_of(access.variable);
         let k = self.wanted.number_of(alloc, s)?;
         let list = &mut self.wanted.lists[k as usize];
         look(list, &self.sites, &self.found, access)?;
-        make_marks(&mut list.marks, count)?;
-        let steps = steps_for(list.sites.len());
-        let all = walk_races(
-            ordered,
-            &self.by_thread,
-            &mut self.found,
-            &mut list.marks,
-            access,
-            steps,
-        )?;
-        if all {
-            return Ok(());
-        }
         ask_list(
             ordered,
             &self.sites,
@@ -303,31 +269,16 @@ impl Search {
         requires access { IsAccess ordered.now.disciplined.now.trace.now access }
         requires asked { O.asks ordered.now.order.now access.event ≡ true }
         requires in_range { (k : ℕ) (link : Link) → slice_get self.old.notes.links.items k ≡ Some link → link.event < length ordered.now.disciplined.now.trace.now.events }
-        requires steps_in_range { (k : ℕ) (step : Step) → slice_get self.old.by_thread.steps.items k ≡ Some step → step.event < length ordered.now.disciplined.now.trace.now.events }
         requires as_many { length self.old.found.races.items ≡ length self.old.found.places.items }
         ensures sites { self.new.sites ≡ self.old.sites }
         ensures notes { self.new.notes ≡ self.old.notes }
-        ensures by_thread { self.new.by_thread ≡ self.old.by_thread }
         ensures asked { IsSite self.old.sites.sites.items access.variable access.location s
-            → IsAskable ordered.now.disciplined.now.trace.now self.old.sites self.old.notes self.old.by_thread self.old.wanted self.old.found access
+            → IsAskable ordered.now.disciplined.now.trace.now self.old.sites self.old.notes self.old.wanted self.old.found access
             → OnOk result (IsAskedBy ordered.now.disciplined.now.trace.now self.old.sites self.old.notes self.new.wanted self.old.found self.new.found access) }
     {
         let many = self.sites.has_many(access.variable);
         if many & !is_new {
             return self.ask_by_list(alloc, ordered, s, access);
-        }
-        let steps = STEPS_OF_NEW.saturating_mul(u32::from(many));
-        let mut marks = Vec::new(alloc);
-        let found_all = walk_races(
-            ordered,
-            &self.by_thread,
-            &mut self.found,
-            &mut marks,
-            access,
-            steps,
-        )?;
-        if found_all {
-            return Ok(());
         }
         ask(ordered, &self.sites, &self.notes, &mut self.found, access)
     }
@@ -341,17 +292,16 @@ impl Search {
     ) -> Result<(), NoMemory>
         requires access { IsAccess ordered.now.disciplined.now.trace.now access }
         requires asked { O.asks ordered.now.order.now access.event ≡ true }
-        requires searched { (flags : List Bool) × AreSearched ordered.now.disciplined.now.trace.now flags self.old.sites self.old.notes self.old.by_thread self.old.wanted self.old.found access.event }
-        ensures { (flags : List Bool) → open_flag flags access.variable ≡ true → AreSearched ordered.now.disciplined.now.trace.now flags self.old.sites self.old.notes self.old.by_thread self.old.wanted self.old.found access.event
-            → OnOk result (AreSearched ordered.now.disciplined.now.trace.now flags self.new.sites self.new.notes self.new.by_thread self.new.wanted self.new.found (access.event + 1)) }
+        requires searched { (flags : List Bool) × AreSearched ordered.now.disciplined.now.trace.now flags self.old.sites self.old.notes self.old.wanted self.old.found access.event }
+        ensures { (flags : List Bool) → open_flag flags access.variable ≡ true → AreSearched ordered.now.disciplined.now.trace.now flags self.old.sites self.old.notes self.old.wanted self.old.found access.event
+            → OnOk result (AreSearched ordered.now.disciplined.now.trace.now flags self.new.sites self.new.notes self.new.wanted self.new.found (access.event + 1)) }
     {
         let count = self.sites.count();
         let s = self.sites.number_of(access.variable, access.location)?;
         let is_new = self.sites.count() > count;
         self.ask(alloc, ordered, s, is_new, access)?;
         let local = ordered.links.local(access.event);
-        self.notes.add(s, access, local)?;
-        self.by_thread.add(access, s)
+        self.notes.add(s, access, local)
     }
 
     /// Takes an event.
@@ -366,9 +316,9 @@ impl Search {
         requires in_range { e < length ordered.now.disciplined.now.trace.now.events }
         requires asked { O.asks ordered.now.order.now e ≡ true }
         requires settled { AreOpen ordered.now.disciplined.now.trace.now.events flags.now }
-        requires searched { AreSearched ordered.now.disciplined.now.trace.now flags.now self.old.sites self.old.notes self.old.by_thread self.old.wanted self.old.found e }
+        requires searched { AreSearched ordered.now.disciplined.now.trace.now flags.now self.old.sites self.old.notes self.old.wanted self.old.found e }
         requires numbered { AreNumbered ordered.now.disciplined.now.trace.now locations.old.numbered.items }
-        ensures searched { OnOk result (AreSearched ordered.now.disciplined.now.trace.now flags.now self.new.sites self.new.notes self.new.by_thread self.new.wanted self.new.found (e + 1)) }
+        ensures searched { OnOk result (AreSearched ordered.now.disciplined.now.trace.now flags.now self.new.sites self.new.notes self.new.wanted self.new.found (e + 1)) }
         ensures numbered { OnOk result (AreNumbered ordered.now.disciplined.now.trace.now locations.new.numbered.items) }
     {
         let op = ordered.disciplined.events.op(e);
@@ -412,8 +362,7 @@ pub fn covering_races<'a>(
         return Ok(Vec::new(alloc));
     }
     let mut locations = Locations::new(alloc)?;
-    let followed = followed_variables(alloc, &*trace, flags)?;
-    let mut search = Search::new(alloc, trace.sizes.variables, followed)?;
+    let mut search = Search::new(alloc, trace.sizes.variables)?;
     let mut sweep = Sweep::new(alloc, Linked::new(&*trace, &*links))?;
     for e in 0..trace.events.len() as u32 {
         let ordered = Ordered::new(&sweep, &*trace, &*links);

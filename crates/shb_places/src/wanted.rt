@@ -12,21 +12,18 @@ ghost use Rattle.shb_places.specs.declared.sites.Site.{Site};
 
 use crate::found::Found;
 use crate::hints::{Hints, MOST_TRIED};
-use crate::marks::Mark;
 use crate::notes::Access;
 use crate::numbers::{mixed, next_number};
 use crate::sites::Sites;
 use shb_io::NoMemory;
 use std::alloc::Global;
 
-/// Of a site that asks: the sites that it still has to ask, among those with numbers below `looked`; and marks of
-/// places that are known, by the sites of its variable, where that is followed.
+/// Of a site that asks: the sites that it still has to ask, among those with numbers below `looked`.
 #[derive(Drop)]
 pub struct Wanted {
     pub asker: u32,
     pub looked: u32,
     pub sites: Vec<u32>,
-    pub marks: Vec<Mark>,
 }
 
 /// The lists of the sites that have one.
@@ -112,7 +109,6 @@ pub fn remove_if(list: &mut Vec<u32>, k: usize, known: bool)
 pub fn look(list: &mut Wanted, sites: &Sites, found: &Found, access: Access) -> Result<(), NoMemory>
     requires as_many { length found.now.races.items ≡ length found.now.places.items }
     ensures asker { list.new.asker ≡ list.old.asker }
-    ensures marks { list.new.marks ≡ list.old.marks }
     ensures looked { OnOk result (list.new.looked ≤ length sites.now.sites.items) }
     ensures held { (trace : TraceData) (n : ℕ) → AreSites sites.now.newest.items sites.now.sites.items → AreFound trace n found.now.places.items found.now.races.items → IsAccess trace access
         → AreHeld trace sites.now.sites.items found.now.races.items list.old.sites.items access.variable access.location access.event list.old.looked
@@ -168,7 +164,6 @@ impl WantedLists {
             asker: s,
             looked: 0,
             sites: Vec::new(alloc),
-            marks: Vec::new(alloc),
         })?;
         self.hints.insert(mixed(s, 0), k)?;
         Ok(k)

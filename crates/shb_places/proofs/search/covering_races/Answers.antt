@@ -33,7 +33,7 @@ loop-e-preserved c =
     record {
       of_trace = ap (λ (s : SweepData). s.trace) c.in_ok-pass.ensures ∙ c.loop-e.invariant.of_trace;
       next = ap (λ (s : SweepData). s.next) c.in_ok-pass.ensures ∙ ap (λ (n : ℕ). n + 1) c.loop-e.invariant.next;
-      searched = subst (λ (t : TraceData). AreSearched t c.args.flags.now next.sites next.notes next.by_thread next.wanted next.found (c.loop-e.e + 1)) same c.in_ok-step.ensures.searched;
+      searched = subst (λ (t : TraceData). AreSearched t c.args.flags.now next.sites next.notes next.wanted next.found (c.loop-e.e + 1)) same c.in_ok-step.ensures.searched;
       numbered = subst (λ (t : TraceData). AreNumbered t c.step.new.locations.numbered.items) same c.in_ok-step.ensures.numbered;
     }
 

@@ -1,14 +1,11 @@
 use Rattle.std.proofs.Common.{◌≡◌, length, subst, sym}
 use Rattle.std.proofs.lemmas.Result.{on_ok_weaker}
-use Rattle.shb_places.specs.declared.by_thread.ByThread.{ByThread}
 use Rattle.shb_places.specs.declared.notes.Notes.{Notes}
-use Rattle.shb_places.specs.ByThread.{AreByThread, thread_tables}
 use Rattle.shb_places.specs.Notes.{AreKept, tables_of}
 use Rattle.shb_places.proofs.NoteLemmas.{local_of, within_of}
 use Rattle.shb_pairs.proofs.Found.{accessed_within}
 use Rattle.shb_places.proofs.SearchLemmas.{can_add, links_within}
 use Rattle.shb_places.proofs.TakeLemmas.{can_ask, taken_all}
-use Rattle.shb_places.proofs.WalkLemmas.{steps_within}
 use Rattle.shb_places.proofs.search.Search.take.Goals as goal
 
 pub ask-requires-clause-in_range : goal.ask-requires-clause-in_range
@@ -25,20 +22,14 @@ local-local-requires g c =
 pub add-requires : goal.add-requires
 add-requires g c = record { as_many = subst (λ (n : Notes). length n.newest.items ≡ length n.classes.items) (sym c.in_ok-ask.ensures.notes) c.requires.searched.1.searched.kept.as_many }
 
-pub ask-requires-clause-steps_in_range : goal.ask-requires-clause-steps_in_range
-ask-requires-clause-steps_in_range g c = steps_within c.args.ordered.now.disciplined.now.trace.now c.requires.searched.0 c.args.self.now.by_thread c.args.access c.requires.access c.requires.searched.1.followed
-
 pub returns : goal.returns
 returns g c flags is_so h =
     let trace = c.args.ordered.now.disciplined.now.trace.now in
     let own = c.args.self.now in
     let more = c.number_of.new.self in
-    let next = c.ask.new.self in
-    let able = can_ask trace flags own.sites more own.notes own.by_thread own.wanted own.found c.args.access c.requires.access is_so h c.in_ok-s.ensures.more in
+    let able = can_ask trace flags own.sites more own.notes own.wanted own.found c.args.access h c.in_ok-s.ensures.more in
     let asked = c.in_ok-ask.ensures.asked c.in_ok-s.ensures.site able in
     let kept = subst (λ (n : Notes). AreKept trace more.sites.items (tables_of n) c.args.access.event) (sym c.in_ok-ask.ensures.notes) able.kept in
-    let steps = subst (λ (b : ByThread). AreByThread trace (thread_tables b) c.args.access.event) (sym c.in_ok-ask.ensures.by_thread) able.rivals.kept in
     let time = local_of trace.events _ _ _ c.args.access.event c.args.ordered.now.linked c.args.ordered.now.disciplined.now.of_trace c.local-local.ensures.time c.args.access.thread c.requires.access.thread in
-    let added = c.in_ok-add.ensures trace more.sites.items (can_add trace more.sites.items (tables_of next.notes) c.in_ok-s.s c.local-local.result c.args.access kept c.in_ok-s.ensures.site c.requires.access time) in
-    on_ok_weaker c.add-2.result (λ passed. taken_all trace flags own.sites more next.sites own.notes next.notes c.add.new.self own.by_thread next.by_thread c.add-2.new.self own.wanted next.wanted own.found next.found c.in_ok-s.s c.args.access c.requires.access is_so h c.in_ok-s.ensures.more c.in_ok-s.ensures.site c.in_ok-ask.ensures.sites c.in_ok-ask.ensures.notes c.in_ok-ask.ensures.by_thread asked added c.add-2.ensures.followed passed)
-    (c.add-2.ensures.passed trace steps c.requires.access)
+    on_ok_weaker c.add.result (λ added. taken_all trace flags own.sites more c.ask.new.self.sites own.notes c.ask.new.self.notes c.add.new.self own.wanted c.ask.new.self.wanted own.found c.ask.new.self.found c.in_ok-s.s c.args.access c.requires.access is_so h c.in_ok-s.ensures.more c.in_ok-s.ensures.site c.in_ok-ask.ensures.sites c.in_ok-ask.ensures.notes asked added)
+    (c.add.ensures trace more.sites.items (can_add trace more.sites.items (tables_of c.ask.new.self.notes) c.in_ok-s.s c.local-local.result c.args.access kept c.in_ok-s.ensures.site c.requires.access time))
