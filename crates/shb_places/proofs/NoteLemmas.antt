@@ -1,5 +1,5 @@
 -- What is kept of the accesses, an access at a time.
-use Rattle.std.proofs.Common.{◌≡◌, ◌≢◌, ℕ, ◌+◌, ◌<◌, ◌≤◌, ◌⊎◌, inl, inr, Bool, true, false, List, [], ◌∷◌, ◌++◌, Option, Some, None, length, get_or, slice_get, arith, refl, subst, ap, sym, ◌∙◌}
+use Rattle.std.proofs.Common.{◌≡◌, ◌≢◌, ℕ, ◌+◌, ◌*◌, ◌<◌, ◌≤◌, ◌⊎◌, inl, inr, Bool, true, false, List, [], ◌∷◌, ◌++◌, Option, Some, None, length, get_or, slice_get, arith, refl, subst, ap, sym, ◌∙◌}
 use Rattle.std.specs.Prelude.{option_and_then}
 use Rattle.std.proofs.Math.ListN.{set, length-set}
 use Rattle.std.proofs.lemmas.Bool.{cases_eq, cases_Bool}
@@ -20,9 +20,9 @@ use Rattle.shb_places.specs.declared.notes.Class.{Class}
 use Rattle.shb_places.specs.declared.notes.Link.{Link}
 use Rattle.shb_places.specs.declared.notes.Newest.{Newest}
 use Rattle.shb_places.specs.declared.sites.Site.{Site}
-use Rattle.shb_places.specs.Access.{IsAccess, IsAccessOf, writes_at}
-use Rattle.shb_places.specs.Lists.{Reaches, here, further, class_next, link_previous, none}
-use Rattle.shb_places.specs.Notes.{AreAlike, AreKept, AreLinked, InChain, IsAddable, IsAdded, IsClass, IsClassOf, IsEarliestAt, IsEarliestIn, IsNotedAt, RacesAt, Tables}
+use Rattle.shb_places.specs.Access.{IsAccess, IsAccessOf}
+use Rattle.shb_places.specs.Lists.{Reaches, here, further, class_next, link_previous, list_at, none}
+use Rattle.shb_places.specs.Notes.{AreAlike, AreKept, AreLinked, InChain, IsAddable, IsAdded, IsClass, IsClassOf, IsEarliestAt, IsEarliestIn, IsEarliestOf, IsNotedAt, RacesAt, Tables}
 use Rattle.shb_places.proofs.Lists.{get_cases, get_last, get_more, get_set, get_set_other, reaches_end, reaches_more, reaches_next, reaches_within, same_entry}
 
 -- where a chain ends
@@ -81,7 +81,6 @@ access_alike trace t x l writes e f alike access = record {
   location = alike.location ∙ access.location;
   write = λ is. alike.op ∙ access.write is;
   read = λ is op. access.read is (sym alike.op ∙ op);
-  kind = access.kind;
 }
 
 -- the events of a class are accesses of it, and their local times are no higher than that of the newest
@@ -319,7 +318,7 @@ module _ (trace : TraceData) (sites : List Site) (old : Tables) (s local : ℕ) 
     extended_added new heads classes newests links = subst (λ (t : Tables). IsAdded trace sites old t s access.event) (sym (tables_same new extended heads classes newests links)) ext_added
 
   -- a new class
-  module _ (head : ℕ) (class : Class) (at_head : slice_get old.heads s ≡ Some head) (site_is : class.site ≡ s) (thread_is : class.thread ≡ access.thread) (writes_is : class.writes ≡ access.writes) (next_is : class.next ≡ head) (few : length old.links < none) where
+  module _ (head : ℕ) (class : Class) (at_head : slice_get old.heads (list_at s access.writes) ≡ Some head) (site_is : class.site ≡ s) (thread_is : class.thread ≡ access.thread) (writes_is : class.writes ≡ access.writes) (next_is : class.next ≡ head) (few : length old.links < none) where
     abbrev first : Link
     first = record { event = access.event; previous = none }
 
@@ -327,7 +326,13 @@ module _ (trace : TraceData) (sites : List Site) (old : Tables) (s local : ℕ) 
     only = record { link = length old.links; local = local }
 
     abbrev begun : Tables
-    begun = record { heads = set old.heads s (length old.classes); classes = old.classes ++ class ∷ []; newest = old.newest ++ only ∷ []; links = old.links ++ first ∷ [] }
+    begun = record { heads = set old.heads (list_at s access.writes) (length old.classes); classes = old.classes ++ class ∷ []; newest = old.newest ++ only ∷ []; links = old.links ++ first ∷ [] }
+
+    abbrev own_list : ℕ
+    own_list = list_at s access.writes
+
+    list_is : list_at class.site class.writes ≡ own_list
+    list_is = ap (λ (k : ℕ). list_at k class.writes) site_is ∙ ap (λ (w : Bool). list_at s w) writes_is
 
     begun_linked : AreLinked trace begun.links (access.event + 1)
     begun_linked = linked_more trace old.links access.event first add.kept.links few refl (λ before low there. absurd (omega (arith, low, few)))
@@ -337,15 +342,15 @@ module _ (trace : TraceData) (sites : List Site) (old : Tables) (s local : ℕ) 
       | inl before ↦ (
           let g = add.kept.classes k other before in
           let more : Reaches class_next begun.classes k g.head = reaches_more class_next old.classes (class ∷ []) k g.head g.reached in
-          let parts : (start : ℕ) × (slice_get begun.heads other.site ≡ Some start) × Reaches class_next begun.classes k start = elim (cases_eq other.site s) [
+          let parts : (start : ℕ) × (slice_get begun.heads (list_at other.site other.writes) ≡ Some start) × Reaches class_next begun.classes k start = elim (cases_eq (list_at other.site other.writes) own_list) [
             | inl same ↦ (
-                let same_head : g.head ≡ head = same_entry old.heads s g.head head (subst (λ (m : ℕ). slice_get old.heads m ≡ Some g.head) same g.at_head) at_head in
+                let same_head : g.head ≡ head = same_entry old.heads own_list g.head head (subst (λ (m : ℕ). slice_get old.heads m ≡ Some g.head) same g.at_head) at_head in
                 let low = reaches_within class_next old.classes k g.head (slice_get_within old.classes k other before) g.reached in (
                   length old.classes,
-                  subst (λ (m : ℕ). slice_get begun.heads m ≡ Some (length old.classes)) (sym same) (get_set old.heads s (length old.classes) (slice_get_within old.heads s head at_head)),
+                  subst (λ (m : ℕ). slice_get begun.heads m ≡ Some (length old.classes)) (sym same) (get_set old.heads own_list (length old.classes) (slice_get_within old.heads own_list head at_head)),
                   further class (get_last old.classes class (length old.classes) refl) (omega (arith, low, same_head, next_is)) (subst (λ (m : ℕ). Reaches class_next begun.classes k m) (same_head ∙ sym next_is) more),
                 ))
-            | inr ne ↦ (g.head, get_set_other old.heads s other.site (length old.classes) ne ∙ g.at_head, more)
+            | inr ne ↦ (g.head, get_set_other old.heads own_list (list_at other.site other.writes) (length old.classes) ne ∙ g.at_head, more)
           ] in
           record {
             site = g.site;
@@ -370,7 +375,7 @@ module _ (trace : TraceData) (sites : List Site) (old : Tables) (s local : ℕ) 
               site = add.site;
               at_site = at_site;
               head = length old.classes;
-              at_head = subst (λ (m : ℕ). slice_get begun.heads m ≡ Some (length old.classes)) (sym site_is) (get_set old.heads s (length old.classes) (slice_get_within old.heads s head at_head));
+              at_head = subst (λ (m : ℕ). slice_get begun.heads m ≡ Some (length old.classes)) (sym list_is) (get_set old.heads own_list (length old.classes) (slice_get_within old.heads own_list head at_head));
               reached = here refl;
               newest = only;
               at_newest = get_last old.newest only (length old.classes) (sym add.kept.as_many);
@@ -477,23 +482,24 @@ chain_least trace sites notes s c b r access class newest kept own there at_newe
       });
 }
 
--- all classes of a site are looked at, or from one on
-pub record AreLeast (trace : TraceData) (sites : List Site) (notes : Tables) (s : ℕ) (access : Access) (earliest p : ℕ) : Type 0 where
-  pub least : (e : ℕ) (noted : IsNotedAt notes s e) → Race trace.events e access.event → (earliest ≤ e) ⊎ Reaches class_next notes.classes noted.number p
+-- all classes of a site and a kind are looked at, or from one on
+pub record AreLeast (trace : TraceData) (sites : List Site) (notes : Tables) (s : ℕ) (writes : Bool) (access : Access) (earliest p : ℕ) : Type 0 where
+  pub least : (e : ℕ) (noted : IsNotedAt notes s e) → noted.class.writes ≡ writes → Race trace.events e access.event → (earliest ≤ e) ⊎ Reaches class_next notes.classes noted.number p
   pub races : earliest ≢ none → RacesAt trace sites s earliest access
 
-pub least_start : (trace : TraceData) (sites : List Site) (notes : Tables) (s n head : ℕ) (access : Access) → AreKept trace sites notes n → ((h : ℕ) → slice_get notes.heads s ≡ Some h → head ≡ h) → AreLeast trace sites notes s access none head
-least_start trace sites notes s n head access kept is = record {
-  least = λ e noted race. inr (
+pub least_start : (trace : TraceData) (sites : List Site) (notes : Tables) (s n head : ℕ) (writes : Bool) (access : Access) → AreKept trace sites notes n → ((h : ℕ) → slice_get notes.heads (list_at s writes) ≡ Some h → head ≡ h) → AreLeast trace sites notes s writes access none head
+least_start trace sites notes s n head writes access kept is = record {
+  least = λ e noted kind race. inr (
       let h = kept.classes noted.number noted.class noted.there in
-      subst (λ (p : ℕ). Reaches class_next notes.classes noted.number p) (sym (is h.head (subst (λ (k : ℕ). slice_get notes.heads k ≡ Some h.head) noted.site_is h.at_head))) h.reached);
+      let list_is : list_at noted.class.site noted.class.writes ≡ list_at s writes = ap (λ (k : ℕ). list_at k noted.class.writes) noted.site_is ∙ ap (λ (w : Bool). list_at s w) kind in
+      subst (λ (p : ℕ). Reaches class_next notes.classes noted.number p) (sym (is h.head (subst (λ (k : ℕ). slice_get notes.heads k ≡ Some h.head) list_is h.at_head))) h.reached);
   races = λ some. absurd (some refl);
 }
 
-pub least_next : (trace : TraceData) (sites : List Site) (notes : Tables) (s : ℕ) (access : Access) (earliest p r next : ℕ) (class : Class) → slice_get notes.classes p ≡ Some class → IsEarliestIn trace sites notes s p access r → next ≤ earliest → next ≤ r → (next ≡ earliest) ⊎ (next ≡ r) → AreLeast trace sites notes s access earliest p
-    → ((e : ℕ) (noted : IsNotedAt notes s e) → Race trace.events e access.event → (next ≤ e) ⊎ ((class.next < p) × Reaches class_next notes.classes noted.number class.next)) × (next ≢ none → RacesAt trace sites s next access)
-least_next trace sites notes s access earliest p r next class there here_is low_e low_r one before = (
-  (λ e noted race. elim (before.least e noted race) [
+pub least_next : (trace : TraceData) (sites : List Site) (notes : Tables) (s : ℕ) (writes : Bool) (access : Access) (earliest p r next : ℕ) (class : Class) → slice_get notes.classes p ≡ Some class → IsEarliestIn trace sites notes s p access r → next ≤ earliest → next ≤ r → (next ≡ earliest) ⊎ (next ≡ r) → AreLeast trace sites notes s writes access earliest p
+    → ((e : ℕ) (noted : IsNotedAt notes s e) → noted.class.writes ≡ writes → Race trace.events e access.event → (next ≤ e) ⊎ ((class.next < p) × Reaches class_next notes.classes noted.number class.next)) × (next ≢ none → RacesAt trace sites s next access)
+least_next trace sites notes s writes access earliest p r next class there here_is low_e low_r one before = (
+  (λ e noted kind race. elim (before.least e noted kind race) [
     | inl le ↦ inl (omega (arith, le, low_e))
     | inr rest ↦ elim (reaches_next class_next notes.classes noted.number p class there rest) [
       | inl same ↦ inl (let le = here_is.least e noted (sym same) race in omega (arith, le, low_r))
@@ -506,9 +512,9 @@ least_next trace sites notes s access earliest p r next class there here_is low_
   ]),
 )
 
-pub least_end : (trace : TraceData) (sites : List Site) (notes : Tables) (s : ℕ) (access : Access) (earliest p : ℕ) → length notes.classes ≤ p → AreLeast trace sites notes s access earliest p → IsEarliestAt trace sites notes s access earliest
-least_end trace sites notes s access earliest p past h = record {
-  least = λ e noted race. elim (h.least e noted race) [
+pub least_end : (trace : TraceData) (sites : List Site) (notes : Tables) (s : ℕ) (writes : Bool) (access : Access) (earliest p : ℕ) → length notes.classes ≤ p → AreLeast trace sites notes s writes access earliest p → IsEarliestOf trace sites notes s writes access earliest
+least_end trace sites notes s writes access earliest p past h = record {
+  least = λ e noted kind race. elim (h.least e noted kind race) [
     | inl le ↦ le
     | inr rest ↦ absurd (let same = reaches_end class_next notes.classes noted.number p past rest in let low = slice_get_within notes.classes noted.number noted.class noted.there in omega (arith, same, low, past))
   ];
@@ -529,7 +535,7 @@ addable_more trace sites old s local access heads more grown add = record {
           site = g.site;
           at_site = g.at_site;
           head = g.head;
-          at_head = subst (λ (hs : List ℕ). slice_get hs class.site ≡ Some g.head) (sym grown) (get_more old.heads more class.site g.head g.at_head);
+          at_head = subst (λ (hs : List ℕ). slice_get hs (list_at class.site class.writes) ≡ Some g.head) (sym grown) (get_more old.heads more (list_at class.site class.writes) g.head g.at_head);
           reached = g.reached;
           newest = g.newest;
           at_newest = g.at_newest;
@@ -569,15 +575,36 @@ added_more trace sites old new s e heads added = record {
 pub not_both : (known : Bool) → known ≡ false → known ≡ true → ⊥
 not_both known isnt is = let f : true ≡ false = sym is ∙ isnt in (let none : ⊥ = cc in none)
 
--- a read doesn't race with an access at a site of reads
-pub reads_alone : (trace : TraceData) (sites : List Site) (notes : Tables) (s : ℕ) (site : Site) (access : Access) → AreKept trace sites notes access.event → IsAccess trace access → slice_get sites s ≡ Some site → access.writes ≡ false → writes_at trace.events site.location ≡ false → IsEarliestAt trace sites notes s access none
-reads_alone trace sites notes s site access kept own at_site reads no_write = record {
-  least = λ e noted race.
-      let at : slice_get sites noted.class.site ≡ Some site = subst (λ (k : ℕ). slice_get sites k ≡ Some site) (sym noted.site_is) at_site in
-      let other = (class_access trace sites notes access.event noted.number e noted.class noted.newest site kept noted.there noted.at_newest at noted.chain).0 in
-      absurd (elim (race_class trace noted.class.thread site.variable site.location e noted.class.writes access own other race).1 [
-        | inl w ↦ not_both (writes_at trace.events site.location) no_write (other.kind w)
-        | inr w ↦ not_both access.writes reads w
-      ]);
-  races = λ ne. absurd (ne refl);
+-- a class of reads doesn't race with a read
+pub reads_alone : (trace : TraceData) (sites : List Site) (notes : Tables) (s : ℕ) (access : Access) (e : ℕ) → AreKept trace sites notes access.event → IsAccess trace access → access.writes ≡ false → (noted : IsNotedAt notes s e) → Race trace.events e access.event → noted.class.writes ≡ true
+reads_alone trace sites notes s access e kept own reads noted race =
+    let h = chain_in trace sites notes s noted.number e access.event noted.class noted.newest kept noted.there noted.at_newest noted.site_is noted.chain in
+    elim (race_class trace noted.class.thread h.site.variable h.site.location e noted.class.writes access own h.access race).1 [
+      | inl w ↦ w
+      | inr w ↦ absurd (not_both access.writes reads w)
+    ]
+
+-- the earliest write is the earliest access that races with a read
+pub earliest_write : (trace : TraceData) (sites : List Site) (notes : Tables) (s : ℕ) (access : Access) (write : ℕ) → AreKept trace sites notes access.event → IsAccess trace access → access.writes ≡ false → IsEarliestOf trace sites notes s true access write → IsEarliestAt trace sites notes s access write
+earliest_write trace sites notes s access write kept own reads found = record {
+  least = λ e noted race. found.least e noted (reads_alone trace sites notes s access e kept own reads noted race) race;
+  races = found.races;
 }
+
+-- the earliest access is the earliest write or the earliest read
+pub earliest_both : (trace : TraceData) (sites : List Site) (notes : Tables) (s : ℕ) (access : Access) (write read earliest : ℕ) → IsEarliestOf trace sites notes s true access write → IsEarliestOf trace sites notes s false access read → earliest ≤ write → earliest ≤ read → (earliest ≡ write) ⊎ (earliest ≡ read) → IsEarliestAt trace sites notes s access earliest
+earliest_both trace sites notes s access write read earliest of_writes of_reads low_write low_read one = record {
+  least = λ e noted race. elim (cases_Bool noted.class.writes) [
+    | inl w ↦ (let le = of_writes.least e noted w race in omega (arith, le, low_write))
+    | inr r ↦ (let le = of_reads.least e noted r race in omega (arith, le, low_read))
+  ];
+  races = λ some. elim one [
+    | inl is ↦ subst (λ (k : ℕ). RacesAt trace sites s k access) (sym is) (of_writes.races (λ same. some (is ∙ same)))
+    | inr is ↦ subst (λ (k : ℕ). RacesAt trace sites s k access) (sym is) (of_reads.races (λ same. some (is ∙ same)))
+  ];
+}
+
+-- both lists of a site stand before the end
+pub list_within : (s n : ℕ) (writes : Bool) → s * 2 + 1 < n → list_at s writes < n
+list_within s n true low = low
+list_within s n false low = omega (arith, low)

@@ -1,43 +1,35 @@
 -- Events whose lines are kept, one more at a time.
-use Rattle.std.proofs.Common.{◌≡◌, ℕ, zero, suc, ◌<◌, ◌≤◌, ◌⊎◌, inl, inr, false, List, [], ◌∷◌, Option, Some, None, length, slice_get, arith, ap, subst, sym, ◌∙◌}
+use Rattle.std.proofs.Common.{◌≡◌, ℕ, zero, suc, ◌<◌, ◌≤◌, ◌⊎◌, inl, inr, List, [], ◌∷◌, Option, Some, None, length, slice_get, arith, ap, subst, sym, ◌∙◌}
 use Rattle.std.specs.Prelude.{get_or, replicate, unwrap_or}
 use Rattle.std.proofs.Math.ListN.{set, length-replicate, get_or-replicate}
 use Rattle.std.proofs.lemmas.Bool.{cases_eq}
 use Rattle.std.proofs.lemmas.Option.{get_or_from_slice_get, slice_get_within}
-use Rattle.shb_lines.specs.declared.event.Op.{Op}
-use Rattle.shb_lines.specs.events.Events.{op_at}
-use Rattle.shb_lines.specs.events.Tests.{is_write}
 use Rattle.shb_lines.specs.text.TraceData.{TraceData, location_of}
 use Rattle.shb_report.specs.Places.{location_at}
 use Rattle.shb_places.specs.declared.locations.Numbered.{Numbered}
-use Rattle.shb_places.specs.Access.{IsLocatedAt, writes_at}
+use Rattle.shb_places.specs.Access.{IsLocatedAt}
 use Rattle.shb_places.specs.Lists.{none}
 use Rattle.shb_places.specs.Numbered.{AreNumbered, HasLine}
 use Rattle.shb_places.proofs.Lists.{get_set_other}
-
--- whether an event writes, whose operation is known
-writes_known : (trace : TraceData) (e : ℕ) (op : Op) → op_at trace.events e ≡ Some op → writes_at trace.events e ≡ is_write op
-writes_known trace e op does = ap (λ (o : Option Op). elim o [ Some p ↦ is_write p | None ↦ false ]) does
 
 -- the location of an event whose line is known
 location_known : (trace : TraceData) (e : ℕ) (line : List ℕ) → slice_get trace.lines e ≡ Some line → location_at trace e ≡ location_of line
 location_known trace e line is = ap (λ (l : Option (List ℕ)). location_of (unwrap_or l [])) is
 
 -- the number of an event is that of each event with its line
-pub located_line : (trace : TraceData) (numbered : List Numbered) (k : ℕ) (one : Numbered) (op : Op) (line : List ℕ) → AreNumbered trace numbered → slice_get numbered k ≡ Some one → HasLine trace one.event op line → IsLocatedAt trace one.number (location_of line) (is_write op)
-located_line trace numbered k one op line are at has =
+pub located_line : (trace : TraceData) (numbered : List Numbered) (k : ℕ) (one : Numbered) (line : List ℕ) → AreNumbered trace numbered → slice_get numbered k ≡ Some one → HasLine trace one.event line → IsLocatedAt trace one.number (location_of line)
+located_line trace numbered k one line are at has =
     let located = are k one at has.in_range in
     record {
       in_range = located.in_range;
       located = located.located ∙ location_known trace one.event line has.line_is;
-      kind = λ yes. located.kind (writes_known trace one.event op has.op_is ∙ yes);
     }
 
 -- an event in the place of another
-pub numbered_set : (trace : TraceData) (numbered : List Numbered) (k : ℕ) (one : Numbered) → AreNumbered trace numbered → IsLocatedAt trace one.number (location_at trace one.event) (writes_at trace.events one.event) → AreNumbered trace (set numbered k one)
+pub numbered_set : (trace : TraceData) (numbered : List Numbered) (k : ℕ) (one : Numbered) → AreNumbered trace numbered → IsLocatedAt trace one.number (location_at trace one.event) → AreNumbered trace (set numbered k one)
 numbered_set trace numbered k one are located j other at lt = elim (cases_eq j k) [
   | inl same ↦ elim (cases_within numbered k one j other same at) [
-    | inl is ↦ subst (λ (o : Numbered). IsLocatedAt trace o.number (location_at trace o.event) (writes_at trace.events o.event)) is located
+    | inl is ↦ subst (λ (o : Numbered). IsLocatedAt trace o.number (location_at trace o.event)) is located
     | inr before ↦ are j other before lt
   ]
   | inr ne ↦ are j other (subst (λ o. o ≡ Some other) (get_set_other numbered k j one ne) at) lt

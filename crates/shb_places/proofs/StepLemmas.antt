@@ -1,5 +1,5 @@
 -- What an event is to the search.
-use Rattle.std.proofs.Common.{◌≡◌, ℕ, Bool, false, List, Option, Some, None, ap, subst, sym, ◌∙◌}
+use Rattle.std.proofs.Common.{◌≡◌, ℕ, Bool, false, List, Some, None, subst, sym, ◌∙◌}
 use Rattle.shb_clocks.specs.Open.{is_open}
 use Rattle.shb_lines.specs.declared.event.Event.{Event}
 use Rattle.shb_lines.specs.declared.event.Op.{Op}
@@ -11,7 +11,7 @@ use Rattle.shb_links.proofs.Owners.{apart, variable_known}
 use Rattle.shb_report.specs.Places.{location_at}
 use Rattle.shb_pairs.proofs.Found.{write_at}
 use Rattle.shb_pairs.proofs.FreeWrites.{not_write_at}
-use Rattle.shb_places.specs.Access.{IsAccessOf, IsLocatedAt, writes_at}
+use Rattle.shb_places.specs.Access.{IsAccessOf, IsLocatedAt}
 
 -- the variable of an event whose operation is known
 variable_here : (trace : TraceData) (events : List Event) (op : Op) (e : ℕ) → events ≡ trace.events → op_at events e ≡ Some op → variable_at trace.events e ≡ variable_of op
@@ -29,7 +29,7 @@ shut_known trace events op e y flags same does variable shut x access =
     subst (λ (k : ℕ). is_open flags k ≡ false) is shut
 
 -- the access that the event is
-pub access_of : (trace : TraceData) (events : List Event) (op : Op) (t x l e : ℕ) (writes : Bool) → events ≡ trace.events → op_at events e ≡ Some op → thread_at events e ≡ Some t → Some x ≡ variable_of op → IsLocatedAt trace l (location_at trace e) (writes_at trace.events e) → writes ≡ is_write op → IsAccessOf trace t x l writes e
+pub access_of : (trace : TraceData) (events : List Event) (op : Op) (t x l e : ℕ) (writes : Bool) → events ≡ trace.events → op_at events e ≡ Some op → thread_at events e ≡ Some t → Some x ≡ variable_of op → IsLocatedAt trace l (location_at trace e) → writes ≡ is_write op → IsAccessOf trace t x l writes e
 access_of trace events op t x l e writes same does thread variable located is =
     let here : op_at trace.events e ≡ Some op = subst (λ (es : List Event). op_at es e ≡ Some op) same does in
     let of_e : variable_at trace.events e ≡ Some x = variable_known trace.events e op here ∙ sym variable in
@@ -39,5 +39,4 @@ access_of trace events op t x l e writes same does thread variable located is =
       location = sym located.located;
       write = λ yes. write_at trace.events e x op here (sym is ∙ yes) of_e;
       read = λ no. not_write_at trace.events e x op here (sym is ∙ no);
-      kind = λ yes. located.kind (ap (λ (o : Option Op). elim o [ Some p ↦ is_write p | None ↦ false ]) here ∙ (sym is ∙ yes));
     }

@@ -1,32 +1,24 @@
 -- Accesses and their locations.
-use Rattle.std.specs.Prelude.{◌≡◌, ◌≢◌, ℕ, ◌<◌, Bool, true, false, List, Some, None, length}
-use Rattle.shb_lines.specs.declared.event.Event.{Event}
+use Rattle.std.specs.Prelude.{◌≡◌, ◌≢◌, ℕ, ◌<◌, Bool, true, false, List, Some, length}
 use Rattle.shb_lines.specs.declared.event.Op.TheVariants.{Write}
 use Rattle.shb_lines.specs.events.Events.{thread_at, op_at}
 use Rattle.shb_lines.specs.events.Race.{variable_at}
-use Rattle.shb_lines.specs.events.Tests.{is_write}
 use Rattle.shb_lines.specs.text.TraceData.{TraceData}
 use Rattle.shb_report.specs.Places.{location_at}
 use Rattle.shb_places.specs.declared.notes.Access.{Access}
 
--- whether the event is a write
-abbrev pub writes_at : List Event → ℕ → Bool
-writes_at trace e = elim (op_at trace e) [ Some op ↦ is_write op | None ↦ false ]
-
--- the event has this location, and is a write where a write is at it
-pub record IsLocatedAt (trace : TraceData) (e : ℕ) (text : List ℕ) (writes : Bool) : Type 0 where
+-- the event has this location
+pub record IsLocatedAt (trace : TraceData) (e : ℕ) (text : List ℕ) : Type 0 where
   pub in_range : e < length trace.events
   pub located : location_at trace e ≡ text
-  pub kind : writes ≡ true → writes_at trace.events e ≡ true
 
--- the event is an access of x by thread t, at the location of the event l, and writes or doesn't; where it writes, so does l
+-- the event is an access of x by thread t, at the location of the event l, and writes or doesn't
 pub record IsAccessOf (trace : TraceData) (t x l : ℕ) (writes : Bool) (e : ℕ) : Type 0 where
   pub thread : thread_at trace.events e ≡ Some t
   pub variable : variable_at trace.events e ≡ Some x
   pub location : location_at trace e ≡ location_at trace l
   pub write : writes ≡ true → op_at trace.events e ≡ Some (Write x)
   pub read : writes ≡ false → op_at trace.events e ≢ Some (Write x)
-  pub kind : writes ≡ true → writes_at trace.events l ≡ true
 
 abbrev pub IsAccess : TraceData → Access → Type 0
 IsAccess trace access = IsAccessOf trace access.thread access.variable access.location access.writes access.event

@@ -1,5 +1,5 @@
 -- What is kept of the accesses so far.
-use Rattle.std.specs.Prelude.{◌≡◌, ◌≢◌, ℕ, ◌+◌, ◌<◌, ◌≤◌, ◌∷◌, [], ◌++◌, List, Some, length, slice_get}
+use Rattle.std.specs.Prelude.{◌≡◌, ◌≢◌, ℕ, ◌+◌, ◌<◌, ◌≤◌, ◌∷◌, [], ◌++◌, Bool, List, Some, length, slice_get}
 use Rattle.std.proofs.Math.ListN.{set}
 use Rattle.shb_lines.specs.events.Discipline.{local_time}
 use Rattle.shb_lines.specs.events.Events.{thread_at, op_at}
@@ -13,7 +13,7 @@ use Rattle.shb_places.specs.declared.notes.Newest.{Newest}
 use Rattle.shb_places.specs.declared.notes.Notes.{Notes}
 use Rattle.shb_places.specs.declared.sites.Site.{Site}
 use Rattle.shb_places.specs.Access.{IsAccess, IsAccessOf}
-use Rattle.shb_places.specs.Lists.{Reaches, class_next, link_previous, none}
+use Rattle.shb_places.specs.Lists.{Reaches, class_next, link_previous, list_at, none}
 
 -- an event is that of a link which the link p leads to
 pub record InChain (links : List Link) (p e : ℕ) : Type 0 where
@@ -46,12 +46,12 @@ pub record Tables : Type 0 where
 abbrev pub tables_of : Notes → Tables
 tables_of notes = record { heads = notes.heads.items; classes = notes.classes.items; newest = notes.newest.items; links = notes.links.items }
 
--- what holds of the class c: its site leads to it, and its newest link is of an access of it
+-- what holds of the class c: the list of its site and kind leads to it, and its newest link is of an access of it
 pub record IsClass (trace : TraceData) (sites : List Site) (notes : Tables) (c : ℕ) (class : Class) : Type 0 where
   pub site : Site
   pub at_site : slice_get sites class.site ≡ Some site
   pub head : ℕ
-  pub at_head : slice_get notes.heads class.site ≡ Some head
+  pub at_head : slice_get notes.heads (list_at class.site class.writes) ≡ Some head
   pub reached : Reaches class_next notes.classes c head
   pub newest : Newest
   pub at_newest : slice_get notes.newest c ≡ Some newest
@@ -111,11 +111,11 @@ pub record IsExtended (old new : Tables) (c : ℕ) (newest : Newest) (event loca
 
 -- a new class of the site s with one access
 pub record IsBegun (old new : Tables) (s head : ℕ) (class : Class) (event local : ℕ) : Type 0 where
-  pub at_head : slice_get old.heads s ≡ Some head
+  pub at_head : slice_get old.heads (list_at s class.writes) ≡ Some head
   pub few : length old.links < none
   pub site_is : class.site ≡ s
   pub next_is : class.next ≡ head
-  pub heads : new.heads ≡ set old.heads s (length old.classes)
+  pub heads : new.heads ≡ set old.heads (list_at s class.writes) (length old.classes)
   pub classes : new.classes ≡ old.classes ++ class ∷ []
   pub links : new.links ≡ old.links ++ record { event = event; previous = none } ∷ []
   pub newests : new.newest ≡ old.newest ++ record { link = length old.links; local = local } ∷ []
@@ -130,6 +130,11 @@ pub record RacesAt (trace : TraceData) (sites : List Site) (s e : ℕ) (access :
 -- an access in the class c of the site s races with an access, and no earlier one does; or none does
 pub record IsEarliestIn (trace : TraceData) (sites : List Site) (notes : Tables) (s c : ℕ) (access : Access) (earliest : ℕ) : Type 0 where
   pub least : (e : ℕ) (noted : IsNotedAt notes s e) → noted.number ≡ c → Race trace.events e access.event → earliest ≤ e
+  pub races : earliest ≢ none → RacesAt trace sites s earliest access
+
+-- the same of all classes of the site that write, or of those that don't
+pub record IsEarliestOf (trace : TraceData) (sites : List Site) (notes : Tables) (s : ℕ) (writes : Bool) (access : Access) (earliest : ℕ) : Type 0 where
+  pub least : (e : ℕ) (noted : IsNotedAt notes s e) → noted.class.writes ≡ writes → Race trace.events e access.event → earliest ≤ e
   pub races : earliest ≢ none → RacesAt trace sites s earliest access
 
 -- the same of all classes of the site

@@ -1,18 +1,15 @@
 -- Events whose lines are kept, with the numbers of their locations.
 use Rattle.std.specs.Prelude.{◌≡◌, ℕ, ◌<◌, List, Some, length, slice_get}
-use Rattle.shb_lines.specs.declared.event.Op.{Op}
-use Rattle.shb_lines.specs.events.Events.{op_at}
 use Rattle.shb_lines.specs.text.TraceData.{TraceData}
 use Rattle.shb_report.specs.Places.{location_at}
 use Rattle.shb_places.specs.declared.locations.Numbered.{Numbered}
-use Rattle.shb_places.specs.Access.{IsLocatedAt, writes_at}
+use Rattle.shb_places.specs.Access.{IsLocatedAt}
 
--- the event has this operation and this line
-pub record HasLine (trace : TraceData) (e : ℕ) (op : Op) (line : List ℕ) : Type 0 where
+-- the event has this line
+pub record HasLine (trace : TraceData) (e : ℕ) (line : List ℕ) : Type 0 where
   pub in_range : e < length trace.events
-  pub op_is : op_at trace.events e ≡ Some op
   pub line_is : slice_get trace.lines e ≡ Some line
 
--- the number of each event of the trace is an event with its location, which writes where it does
+-- the number of each event of the trace is an event with its location
 abbrev pub AreNumbered : TraceData → List Numbered → Type 0
-AreNumbered trace numbered = (k : ℕ) (one : Numbered) → slice_get numbered k ≡ Some one → one.event < length trace.events → IsLocatedAt trace one.number (location_at trace one.event) (writes_at trace.events one.event)
+AreNumbered trace numbered = (k : ℕ) (one : Numbered) → slice_get numbered k ≡ Some one → one.event < length trace.events → IsLocatedAt trace one.number (location_at trace one.event)

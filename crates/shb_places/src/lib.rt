@@ -52,6 +52,6 @@ pub fn leading_races<'a, R: RandomSource>(
     requires settled { AreOpen trace.now.events.now flags.now }
     ensures { IfOk result (λ leading. LeadingRaces trace.now.trace.now (map ends leading.items)) }
 {
-    let found = covering_races(alloc, &*trace, &*links, flags)?;
+    let found = covering_races(rt, alloc, &*trace, &*links, flags)?;
     leading_of_found(rt, alloc, &*trace, found)
 }

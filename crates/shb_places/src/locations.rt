@@ -1,13 +1,11 @@
-//! Numbers of locations: the number of a location is that of an event that has it. Reads and writes have
-//! numbers of their own, so that reads needn't ask reads.
+//! Numbers of locations: the number of a location is that of an event that has it.
 //!
 //! An event mostly has the same line as an earlier one. So whole lines are compared first, and a location is looked
 //! for in its line where none is known to be the same.
 
 ghost use Rattle.std.specs.Prelude.{◌≡◌, ◌<◌, ◌≤◌, true, IfOk, IfSome, IsTrue, OnOk, Some, length, slice_get};
-ghost use Rattle.shb_lines.specs.events.Tests.{is_write};
 ghost use Rattle.shb_lines.specs.text.TraceData.{TraceData, location_of};
-ghost use Rattle.shb_places.specs.Access.{IsLocatedAt, writes_at};
+ghost use Rattle.shb_places.specs.Access.{IsLocatedAt};
 ghost use Rattle.shb_places.specs.Lists.{none};
 ghost use Rattle.shb_places.specs.Numbered.{AreNumbered, HasLine};
 ghost use Rattle.shb_report.specs.Places.{location_at};
@@ -18,6 +16,7 @@ use shb_discipline::Disciplined;
 use shb_io::NoMemory;
 use shb_lines::{Op, location_in};
 use std::alloc::Global;
+use std::random::RandomSource;
 
 /// So many events are kept for their lines.
 const LINES: usize = 4096;
@@ -35,13 +34,14 @@ pub struct Numbered {
 pub struct Locations {
     pub numbered: Vec<Numbered>,
     hints: Hints,
+    keys: Keys,
 }
 
-/// Whether an event has this operation and this line.
-fn has_line(trace: &Disciplined<'_>, e: u32, op: Op, line: &[u8]) -> bool
-    ensures { IsTrue result → HasLine trace.now.trace.now e op line.now }
+/// Whether an event has this line.
+fn has_line(trace: &Disciplined<'_>, e: u32, line: &[u8]) -> bool
+    ensures { IsTrue result → HasLine trace.now.trace.now e line.now }
 {
-    e < trace.trace.len() && trace.events.op(e) == op && trace.trace.line_text(e) == line
+    e < trace.trace.len() && trace.trace.line_text(e) == line
 }
 
 /// The key of a line, by its thread, its operation and its last two bytes. Lines with other keys differ, so that most
@@ -64,27 +64,58 @@ fn slot_of(key: u32) -> usize {
     key as usize % LINES
 }
 
-/// Whether an event has this location, and is a write or isn't.
-fn has_location(trace: &Disciplined<'_>, e: u32, text: &[u8], writes: bool) -> bool
-    ensures { IsTrue result → IsLocatedAt trace.now.trace.now e text.now writes }
+/// Whether an event has this location.
+fn has_location(trace: &Disciplined<'_>, e: u32, text: &[u8]) -> bool
+    ensures { IsTrue result → IsLocatedAt trace.now.trace.now e text.now }
 {
-    e < trace.trace.len()
-        && trace.events.op(e).is_write() == writes
-        && trace.trace.location(e) == text
+    e < trace.trace.len() && trace.trace.location(e) == text
 }
 
-/// A hash of a location of reads or of writes.
-fn hash_of(text: &[u8], writes: bool) -> u32 {
-    let mut hash = u32::from(writes);
-    for byte in text {
-        hash = mixed(hash, u32::from(*byte));
+/// Two random keys. Without them no locations are known whose hashes meet more often than by chance, so that nobody
+/// can choose those of a trace to cost time with their square.
+#[derive(Clone, Copy)]
+struct Keys {
+    first: u64,
+    second: u64,
+}
+
+/// Both halves of the 128 bits of a product, joined by xor.
+fn folded_product(a: u64, b: u64) -> u64 {
+    let product = u128::from(a).wrapping_mul(u128::from(b));
+    (product & 0xFFFF_FFFF_FFFF_FFFF) as u64 ^ (product >> 64) as u64
+}
+
+impl Keys {
+    /// Keys from the random source. A source that fails is answered like want of memory.
+    fn new<R: RandomSource>(rt: &R) -> Result<Keys, NoMemory> {
+        let mut bytes = [0; 16];
+        let Ok(()) = rt.fill_bytes(&mut bytes) else {
+            return Err(NoMemory);
+        };
+        let keys = u128::from_le_bytes(bytes);
+        Ok(Keys {
+            first: (keys & 0xFFFF_FFFF_FFFF_FFFF) as u64,
+            second: (keys >> 64) as u64,
+        })
     }
-    hash
+
+    /// The hash of a location.
+    fn hash_of(&self, text: &[u8]) -> u32 {
+        let mut state = folded_product(self.first ^ text.len() as u64, self.second);
+        for byte in text {
+            state = folded_product(state ^ u64::from(*byte), self.second);
+        }
+        (state & 0xFFFF_FFFF) as u32
+    }
 }
 
 impl Locations {
     /// No event.
-    pub fn new(alloc: Global) -> Result<Locations, NoMemory>
+    ///
+    /// # Errors
+    ///
+    /// `NoMemory` where a growth was refused, or where there were no random numbers for the keys.
+    pub fn new<R: RandomSource>(rt: &R, alloc: Global) -> Result<Locations, NoMemory>
         ensures { (trace : TraceData) → length trace.events ≤ none → IfOk result (λ locations. AreNumbered trace locations.numbered.items) }
     {
         let free = Numbered {
@@ -93,16 +124,18 @@ impl Locations {
             key: 0,
         };
         let numbered = vec![in alloc; free; LINES]?;
+        let keys = Keys::new(rt)?;
         Ok(Locations {
             numbered,
             hints: Hints::new(alloc),
+            keys,
         })
     }
 
     /// The number of the location of a line with this key, if the event that is kept has the same line.
-    fn kept(&self, trace: &Disciplined<'_>, key: u32, op: Op, line: &[u8]) -> Option<u32>
+    fn kept(&self, trace: &Disciplined<'_>, key: u32, line: &[u8]) -> Option<u32>
         requires { AreNumbered trace.now.trace.now self.now.numbered.items }
-        ensures { IfSome result (λ l. IsLocatedAt trace.now.trace.now l (location_of line.now) (is_write op)) }
+        ensures { IfSome result (λ l. IsLocatedAt trace.now.trace.now l (location_of line.now)) }
     {
         let slot = slot_of(key);
         let Some(one) = self.numbered.get(slot) else {
@@ -111,7 +144,7 @@ impl Locations {
         if one.key != key {
             return None;
         }
-        if has_line(trace, one.event, op, line) {
+        if has_line(trace, one.event, line) {
             return Some(one.number);
         }
         None
@@ -120,7 +153,7 @@ impl Locations {
     /// Keeps an event for its line, which has this key, with the number of its location.
     fn note(&mut self, key: u32, e: u32, number: u32)
         ensures { (trace : TraceData) → AreNumbered trace self.old.numbered.items
-            → IsLocatedAt trace number (location_at trace e) (writes_at trace.events e)
+            → IsLocatedAt trace number (location_at trace e)
             → AreNumbered trace self.new.numbered.items }
     {
         let slot = slot_of(key);
@@ -134,14 +167,14 @@ impl Locations {
     }
 
     /// The event with this location that was noted under a hash.
-    fn noted(&self, trace: &Disciplined<'_>, text: &[u8], writes: bool, hash: u32) -> Option<u32>
-        ensures { IfSome result (λ e. IsLocatedAt trace.now.trace.now e text.now writes) }
+    fn noted(&self, trace: &Disciplined<'_>, text: &[u8], hash: u32) -> Option<u32>
+        ensures { IfSome result (λ e. IsLocatedAt trace.now.trace.now e text.now) }
     {
         for k in 0..MOST_TRIED {
             let Some(e) = self.hints.candidate(hash, k) else {
                 return None;
             };
-            if has_location(trace, e, text, writes) {
+            if has_location(trace, e, text) {
                 return Some(e);
             }
         }
@@ -153,20 +186,18 @@ impl Locations {
         requires in_range { e < length trace.now.trace.now.events }
         requires line { slice_get trace.now.trace.now.lines e ≡ Some line.now }
         ensures numbered { self.new.numbered ≡ self.old.numbered }
-        ensures located { IfOk result (λ l. IsLocatedAt trace.now.trace.now l (location_at trace.now.trace.now e) (writes_at trace.now.trace.now.events e)) }
+        ensures located { IfOk result (λ l. IsLocatedAt trace.now.trace.now l (location_at trace.now.trace.now e)) }
     {
         let text = location_in(line);
-        let writes = trace.events.op(e).is_write();
-        let hash = hash_of(text, writes);
-        if let Some(l) = self.noted(trace, text, writes, hash) {
+        let hash = self.keys.hash_of(text);
+        if let Some(l) = self.noted(trace, text, hash) {
             return Ok(l);
         }
         self.hints.insert(hash, e)?;
         Ok(e)
     }
 
-    /// The number of an event's location, which is an event with the same location; of a write, one that
-    /// writes.
+    /// The number of an event's location, which is an event with the same location.
     ///
     /// # Errors
     ///
@@ -179,13 +210,13 @@ impl Locations {
     ) -> Result<u32, NoMemory>
         requires in_range { e < length trace.now.trace.now.events }
         requires numbered { AreNumbered trace.now.trace.now self.old.numbered.items }
-        ensures located { IfOk result (λ l. IsLocatedAt trace.now.trace.now l (location_at trace.now.trace.now e) (writes_at trace.now.trace.now.events e)) }
+        ensures located { IfOk result (λ l. IsLocatedAt trace.now.trace.now l (location_at trace.now.trace.now e)) }
         ensures numbered { OnOk result (AreNumbered trace.now.trace.now self.new.numbered.items) }
     {
         let op = trace.events.op(e);
         let line = trace.trace.line_text(e);
         let key = key_of(thread, op, line);
-        if let Some(l) = self.kept(trace, key, op, line) {
+        if let Some(l) = self.kept(trace, key, line) {
             return Ok(l);
         }
         let l = self.look(trace, e, line)?;

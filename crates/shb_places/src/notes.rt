@@ -1,14 +1,14 @@
 //! The accesses so far, by site, thread and kind.
 
-ghost use Rattle.std.specs.Prelude.{◌≡◌, ◌≢◌, ◌⊎◌, ◌↔◌, ◌∷◌, [], ◌++◌, ◌+◌, ℕ, ◌<◌, ◌≤◌, false, true, IfOk, IfSome, IsTrue, List, OnOk, Some, length, slice_get};
+ghost use Rattle.std.specs.Prelude.{◌≡◌, ◌≢◌, ◌⊎◌, ◌↔◌, ◌∷◌, [], ◌++◌, ◌+◌, ℕ, ◌<◌, ◌≤◌, Bool, false, true, IfOk, IfSome, IsTrue, List, OnOk, Some, length, slice_get};
 ghost use Rattle.shb_lines.specs.events.Discipline.{local_time};
 ghost use Rattle.shb_lines.specs.events.Events.{thread_at};
 ghost use Rattle.shb_lines.specs.events.Race.{Race};
 ghost use Rattle.shb_lines.specs.text.TraceData.{TraceData};
 ghost use Rattle.shb_report.specs.Places.{location_at};
-ghost use Rattle.shb_places.specs.Access.{IsAccess, writes_at};
-ghost use Rattle.shb_places.specs.Lists.{Reaches, class_next, none};
-ghost use Rattle.shb_places.specs.Notes.{AreKept, AreLinked, InChain, IsAddable, IsAdded, IsBegun, IsClassOf, IsEarliestAt, IsEarliestIn, IsExtended, IsNotedAt, tables_of};
+ghost use Rattle.shb_places.specs.Access.{IsAccess};
+ghost use Rattle.shb_places.specs.Lists.{list_at, none};
+ghost use Rattle.shb_places.specs.Notes.{AreKept, AreLinked, InChain, IsAddable, IsAdded, IsBegun, IsClassOf, IsEarliestAt, IsEarliestIn, IsEarliestOf, IsExtended, IsNotedAt, tables_of};
 ghost use Rattle.shb_places.specs.declared.sites.Site.{Site};
 ghost use Rattle.shb_places.specs.declared.notes.Newest.{Newest};
 
@@ -16,14 +16,13 @@ use crate::hints::{Hints, MOST_TRIED};
 use crate::numbers::{NONE, mixed, next_number};
 use crate::sites::Site;
 use shb_clocks::{Order, Ordered};
-use shb_discipline::Disciplined;
 use shb_io::NoMemory;
 use std::alloc::Global;
 
 /// So many of the newest classes of a site are looked at before the hints.
 const NEAR: u32 = 8;
 
-/// The accesses of a site by one thread, of one kind; and the number of the class of the site before it.
+/// The accesses of a site by one thread, of one kind; and the number of the class of the same site and kind before it.
 #[derive(Clone, Copy)]
 pub struct Class {
     pub site: u32,
@@ -46,7 +45,8 @@ pub struct Link {
     pub previous: u32,
 }
 
-/// The accesses so far: for each site its newest class, for each class its newest link.
+/// The accesses so far: for each site its newest class that writes and its newest one that doesn't, for each class its
+/// newest link.
 #[derive(Drop)]
 pub struct Notes {
     pub heads: Vec<u32>,
@@ -94,12 +94,12 @@ fn add_link(links: &mut Vec<Link>, event: u32, previous: u32) -> Result<u32, NoM
     Ok(k)
 }
 
-/// Sees that a table of numbers has one at `s`, where `NONE` stands for no number.
-pub fn make_room(heads: &mut Vec<u32>, s: u32) -> Result<(), NoMemory>
+/// Sees that a site has both its lists of classes, which are empty where they are new.
+fn make_room(heads: &mut Vec<u32>, s: u32) -> Result<(), NoMemory>
     ensures more { OnOk result ((more : List ℕ) × (heads.new.items ≡ heads.old.items ++ more)) }
-    ensures room { OnOk result (s < length heads.new.items) }
+    ensures room { (writes : Bool) → OnOk result (list_at s writes < length heads.new.items) }
 {
-    for _ in heads.len()..s as usize + 1 {
+    for _ in heads.len()..(s as usize + 1) * 2 {
         heads.push(NONE)?;
     }
     Ok(())
@@ -146,11 +146,12 @@ fn can_race(class: Class, access: Access) -> bool
     class.thread != access.thread && (class.writes || access.writes)
 }
 
-/// Whether an event may be a write: it is one, or isn't an event of the trace.
-fn may_write(trace: &Disciplined<'_>, e: u32) -> bool
-    ensures { result ≡ false → writes_at trace.now.trace.now.events e ≡ false }
+/// The number of the list of the classes of a site that write, or of those that don't.
+fn list_of(s: u32, writes: bool) -> usize
+    ensures { result ≡ list_at s writes }
 {
-    e >= trace.trace.len() || trace.events.op(e).is_write()
+    let both = s as usize * 2;
+    if writes { both + 1 } else { both }
 }
 
 impl Notes {
@@ -167,11 +168,11 @@ impl Notes {
         }
     }
 
-    /// The number of the newest class of a site, or `NONE`.
-    fn head_of(&self, s: u32) -> u32
-        ensures { (head : ℕ) → slice_get self.now.heads.items s ≡ Some head → result ≡ head }
+    /// The number of the newest class of a site that writes, or of one that doesn't, or `NONE`.
+    fn head_of(&self, s: u32, writes: bool) -> u32
+        ensures { (head : ℕ) → slice_get self.now.heads.items (list_at s writes) ≡ Some head → result ≡ head }
     {
-        match self.heads.get(s as usize) {
+        match self.heads.get(list_of(s, writes)) {
             Some(head) => *head,
             None => NONE,
         }
@@ -189,7 +190,7 @@ impl Notes {
     fn near(&self, s: u32, access: Access) -> Option<u32>
         ensures { IfSome result (IsClassOf self.now.classes.items s access) }
     {
-        let mut at = self.head_of(s);
+        let mut at = self.head_of(s, access.writes);
         for _ in 0..NEAR {
             if is_class(self.classes.as_slice(), at, s, access) {
                 return Some(at);
@@ -199,9 +200,9 @@ impl Notes {
         None
     }
 
-    /// Whether a site has more classes than are looked at before the hints.
-    fn has_many(&self, s: u32) -> bool {
-        let mut at = self.head_of(s);
+    /// Whether a site has more classes of a kind than are looked at before the hints.
+    fn has_many(&self, s: u32, writes: bool) -> bool {
+        let mut at = self.head_of(s, writes);
         for _ in 0..NEAR {
             at = self.next_of(at);
         }
@@ -247,12 +248,13 @@ impl Notes {
 
     /// Adds an access as the first of a new class.
     fn begin(&mut self, s: u32, access: Access, local: u32) -> Result<u32, NoMemory>
-        requires { s < length self.old.heads.items }
+        requires { list_at s access.writes < length self.old.heads.items }
         ensures { IfOk result (λ c. (head : ℕ) × IsBegun (tables_of self.old) (tables_of self.new) s head
             (record { site = s; thread = access.thread; writes = access.writes; next = head }) access.event local) }
     {
         let c = next_number(self.classes.len())?;
-        let next = self.heads[s as usize];
+        let list = list_of(s, access.writes);
+        let next = self.heads[list];
         let link = add_link(&mut self.links, access.event, NONE)?;
         self.newest.push(Newest { link, local })?;
         self.classes.push(Class {
@@ -261,13 +263,13 @@ impl Notes {
             writes: access.writes,
             next,
         })?;
-        self.heads[s as usize] = c;
+        self.heads[list] = c;
         Ok(c)
     }
 
     /// Adds an access at a site to its class, or as the first of a new one.
     fn put(&mut self, s: u32, access: Access, local: u32) -> Result<(), NoMemory>
-        requires room { s < length self.old.heads.items }
+        requires room { list_at s access.writes < length self.old.heads.items }
         requires as_many { length self.old.newest.items ≡ length self.old.classes.items }
         ensures { (trace : TraceData) (sites : List Site) → IsAddable trace sites (tables_of self.old) s access local
             → OnOk result (IsAdded trace sites (tables_of self.old) (tables_of self.new) s access.event) }
@@ -275,7 +277,7 @@ impl Notes {
         if let Some(c) = self.class_of(s, access) {
             return self.extend(c, access.event, local);
         }
-        let many = self.has_many(s);
+        let many = self.has_many(s, access.writes);
         let c = self.begin(s, access, local)?;
         if many {
             self.hints.insert(hash_of(s, access), c)?;
@@ -324,16 +326,22 @@ impl Notes {
         earliest_from(ordered, self.links.as_slice(), newest.link, bound)
     }
 
-    /// The same of all classes of the site.
-    fn earliest_at<O: Order>(&self, ordered: &Ordered<'_, O>, s: u32, access: Access) -> u32
+    /// The same of all classes of the site that write, or of those that don't.
+    fn earliest_of<O: Order>(
+        &self,
+        ordered: &Ordered<'_, O>,
+        s: u32,
+        writes: bool,
+        access: Access,
+    ) -> u32
         requires access { IsAccess ordered.now.disciplined.now.trace.now access }
         requires asked { O.asks ordered.now.order.now access.event ≡ true }
         requires in_range { (k : ℕ) (link : Link) → slice_get self.now.links.items k ≡ Some link → link.event < length ordered.now.disciplined.now.trace.now.events }
         ensures { (sites : List Site) → AreKept ordered.now.disciplined.now.trace.now sites (tables_of self.now) access.event
-            → IsEarliestAt ordered.now.disciplined.now.trace.now sites (tables_of self.now) s access result }
+            → IsEarliestOf ordered.now.disciplined.now.trace.now sites (tables_of self.now) s writes access result }
     {
         let mut earliest = NONE;
-        let mut at = self.head_of(s);
+        let mut at = self.head_of(s, writes);
         loop {
             let Some(class) = self.classes.get(at as usize) else {
                 return earliest;
@@ -346,24 +354,19 @@ impl Notes {
         }
     }
 
-    /// The earliest access at a site that races with an access, or `NONE`. A read doesn't ask a site of reads.
-    pub fn earliest_of<O: Order>(
-        &self,
-        ordered: &Ordered<'_, O>,
-        s: u32,
-        site: Site,
-        access: Access,
-    ) -> u32
+    /// The earliest access at a site that races with an access, or `NONE`. An access that reads asks only those
+    /// that write.
+    pub fn earliest_at<O: Order>(&self, ordered: &Ordered<'_, O>, s: u32, access: Access) -> u32
         requires access { IsAccess ordered.now.disciplined.now.trace.now access }
         requires asked { O.asks ordered.now.order.now access.event ≡ true }
         requires in_range { (k : ℕ) (link : Link) → slice_get self.now.links.items k ≡ Some link → link.event < length ordered.now.disciplined.now.trace.now.events }
         ensures { (sites : List Site) → AreKept ordered.now.disciplined.now.trace.now sites (tables_of self.now) access.event
-            → slice_get sites s ≡ Some site
             → IsEarliestAt ordered.now.disciplined.now.trace.now sites (tables_of self.now) s access result }
     {
-        if !access.writes && !may_write(ordered.disciplined, site.location) {
-            return NONE;
+        let write = self.earliest_of(ordered, s, true, access);
+        if !access.writes {
+            return write;
         }
-        self.earliest_at(ordered, s, access)
+        lesser(write, self.earliest_of(ordered, s, false, access))
     }
 }

@@ -1,7 +1,7 @@
 //! The search for a race of each place.
 //!
-//! An access asks the sites of its variable. A site that is new, or whose variable has few, asks all of them.
-//! Else the site has a list of those whose place with it isn't known ([`crate::wanted`]), and asks these.
+//! An access asks the sites of its variable. A site that is new asks all of them. From then on the site has a list of
+//! those whose place with it isn't known ([`crate::wanted`]), and asks these.
 
 ghost use Rattle.std.specs.Prelude.{◌≡◌, ◌+◌, ◌<◌, ℕ, Bool, false, true, IfOk, List, OnOk, Some, length, slice_get};
 ghost use Rattle.shb_clocks.specs.Open.{is_open as open_flag};
@@ -29,6 +29,7 @@ use shb_io::NoMemory;
 use shb_lines::Pair;
 use shb_links::{Linked, Links};
 use std::alloc::Global;
+use std::random::RandomSource;
 
 /// What the search keeps.
 #[derive(Drop)]
@@ -82,7 +83,7 @@ fn ask_unknown<O: Order>(
         → AreFound ordered.now.disciplined.now.trace.now (access.event + 1) found.old.places.items found.old.races.items
         → IfOk result (λ known. IsTold ordered.now.disciplined.now.trace.now (tables_of notes.now) access s site known found.old.races.items found.new.places.items found.new.races.items) }
 {
-    let earliest = notes.earliest_of(ordered, s, site, access);
+    let earliest = notes.earliest_at(ordered, s, access);
     if earliest == NONE {
         return Ok(false);
     }
@@ -276,8 +277,7 @@ impl Search {
             → IsAskable ordered.now.disciplined.now.trace.now self.old.sites self.old.notes self.old.wanted self.old.found access
             → OnOk result (IsAskedBy ordered.now.disciplined.now.trace.now self.old.sites self.old.notes self.new.wanted self.old.found self.new.found access) }
     {
-        let many = self.sites.has_many(access.variable);
-        if many & !is_new {
+        if !is_new {
             return self.ask_by_list(alloc, ordered, s, access);
         }
         ask(ordered, &self.sites, &self.notes, &mut self.found, access)
@@ -347,8 +347,9 @@ impl Search {
 ///
 /// # Errors
 ///
-/// `NoMemory` where memory was refused.
-pub fn covering_races<'a>(
+/// `NoMemory` where memory was refused, or where there were no random numbers for the hashes of locations.
+pub fn covering_races<'a, R: RandomSource>(
+    rt: &R,
     alloc: Global,
     trace: &'a Disciplined<'a>,
     links: &'a Links<'a>,
@@ -361,7 +362,7 @@ pub fn covering_races<'a>(
     if !any_open(flags, trace.sizes.variables) {
         return Ok(Vec::new(alloc));
     }
-    let mut locations = Locations::new(alloc)?;
+    let mut locations = Locations::new(rt, alloc)?;
     let mut search = Search::new(alloc, trace.sizes.variables)?;
     let mut sweep = Sweep::new(alloc, Linked::new(&*trace, &*links))?;
     for e in 0..trace.events.len() as u32 {

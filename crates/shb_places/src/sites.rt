@@ -27,6 +27,13 @@ pub struct Sites {
     pub hints: Hints,
 }
 
+/// What was found among the newest sites of a variable: the site, or whether there are more of them.
+#[derive(Clone, Copy)]
+struct Near {
+    site: Option<u32>,
+    more: bool,
+}
+
 /// Whether the site of this number is that of a variable and a location.
 fn is_site(sites: &[Site], s: u32, variable: u32, location: u32) -> bool
     ensures { IsTrue result → IsSite sites.now variable location s }
@@ -51,27 +58,24 @@ impl Sites {
         })
     }
 
-    /// The site of a variable and a location among the newest ones of the variable.
-    fn near(&self, variable: u32, location: u32) -> Option<u32>
-        ensures { IfSome result (IsSite self.now.sites.items variable location) }
+    /// Looks for the site of a variable and a location among the newest ones of the variable.
+    fn near(&self, variable: u32, location: u32) -> Near
+        ensures { IfSome result.site (IsSite self.now.sites.items variable location) }
     {
         let mut at = self.newest_of(variable);
         for _ in 0..NEAR {
             if is_site(self.sites.as_slice(), at, variable, location) {
-                return Some(at);
+                return Near {
+                    site: Some(at),
+                    more: false,
+                };
             }
             at = self.previous_of(at);
         }
-        None
-    }
-
-    /// Whether a variable has more sites than are looked at before the hints.
-    pub fn has_many(&self, variable: u32) -> bool {
-        let mut at = self.newest_of(variable);
-        for _ in 0..NEAR {
-            at = self.previous_of(at);
+        Near {
+            site: None,
+            more: at != NONE,
         }
-        at != NONE
     }
 
     /// The number of the newest site of a variable, or `NONE`.
@@ -142,10 +146,11 @@ impl Sites {
         ensures site { IfOk result (IsSite self.new.sites.items variable location) }
         ensures more { OnOk result (AreMore self.old.newest.items self.old.sites.items self.new.newest.items self.new.sites.items) }
     {
-        if let Some(s) = self.near(variable, location) {
+        let near = self.near(variable, location);
+        if let Some(s) = near.site {
             return Ok(s);
         }
-        if !self.has_many(variable) {
+        if !near.more {
             return self.add(variable, location);
         }
         if let Some(s) = self.noted(variable, location) {

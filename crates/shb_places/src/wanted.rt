@@ -11,9 +11,8 @@ ghost use Rattle.shb_places.specs.Wanted.{AreHeld, AreWanted, IsListOf};
 ghost use Rattle.shb_places.specs.declared.sites.Site.{Site};
 
 use crate::found::Found;
-use crate::hints::{Hints, MOST_TRIED};
 use crate::notes::Access;
-use crate::numbers::{mixed, next_number};
+use crate::numbers::{NONE, next_number};
 use crate::sites::Sites;
 use shb_io::NoMemory;
 use std::alloc::Global;
@@ -26,11 +25,11 @@ pub struct Wanted {
     pub sites: Vec<u32>,
 }
 
-/// The lists of the sites that have one.
+/// The lists of the sites that have one. The table of their numbers by site only proposes them.
 #[derive(Drop)]
 pub struct WantedLists {
     pub lists: Vec<Wanted>,
-    pub hints: Hints,
+    numbers: Vec<u32>,
 }
 
 /// Whether the list of this number is that of a site.
@@ -119,6 +118,17 @@ pub fn look(list: &mut Wanted, sites: &Sites, found: &Found, access: Access) -> 
     Ok(())
 }
 
+/// Notes the number of a site's list.
+fn note_list(numbers: &mut Vec<u32>, s: u32, k: u32) -> Result<(), NoMemory> {
+    for _ in numbers.len()..s as usize + 1 {
+        numbers.push(NONE)?;
+    }
+    if let Some(number) = numbers.get_mut(s as usize) {
+        *number = k;
+    }
+    Ok(())
+}
+
 impl WantedLists {
     /// No list.
     pub fn new(alloc: Global) -> WantedLists
@@ -126,21 +136,17 @@ impl WantedLists {
     {
         WantedLists {
             lists: Vec::new(alloc),
-            hints: Hints::new(alloc),
+            numbers: Vec::new(alloc),
         }
     }
 
-    /// The list of a site that was noted under a hash.
+    /// The list of a site, if it has one.
     fn noted(&self, s: u32) -> Option<u32>
         ensures { IfSome result (IsListOf self.now.lists.items s) }
     {
-        for i in 0..MOST_TRIED {
-            let Some(k) = self.hints.candidate(mixed(s, 0), i) else {
-                return None;
-            };
-            if is_list(self.lists.as_slice(), k, s) {
-                return Some(k);
-            }
+        let k = self.numbers.get(s as usize).copied().unwrap_or(NONE);
+        if is_list(self.lists.as_slice(), k, s) {
+            return Some(k);
         }
         None
     }
@@ -165,7 +171,7 @@ impl WantedLists {
             looked: 0,
             sites: Vec::new(alloc),
         })?;
-        self.hints.insert(mixed(s, 0), k)?;
+        note_list(&mut self.numbers, s, k)?;
         Ok(k)
     }
 }

@@ -14,7 +14,7 @@ use Rattle.shb_places.proofs.SearchLemmas.{searched_all}
 use Rattle.shb_places.proofs.search.covering_races.Goals as goal
 
 pub loop-e-init : goal.loop-e-init
-loop-e-init c =
+loop-e-init g c =
     let trace = c.args.trace.now in
     record {
       of_trace = ap (λ (s : SweepData). s.trace) c.in_ok-sweep.ensures ∙ c.new-4.ensures.events;
@@ -27,7 +27,7 @@ loop-e-init c =
     }
 
 pub loop-e-preserved : goal.loop-e-preserved
-loop-e-preserved c =
+loop-e-preserved g c =
     let same = ap (λ d. d.trace.now) c.new-ordered.ensures.disciplined in
     let next = c.step.new.self in
     record {
@@ -38,7 +38,7 @@ loop-e-preserved c =
     }
 
 pub returns-then-not-any_open : goal.returns-then-not-any_open
-returns-then-not-any_open c =
+returns-then-not-any_open g c =
     let trace = c.args.trace.now in
     let back = sym trace.of_trace in
     subst (λ (l : List Pair). Covers trace.trace.now l) (sym c.new.ensures.items) (record {
@@ -51,13 +51,13 @@ returns-then-not-any_open c =
     })
 
 pub step-requires-clause-settled : goal.step-requires-clause-settled
-step-requires-clause-settled c = rw c.new-ordered.ensures.disciplined (subst (λ (l : List Event). AreOpen l c.args.flags.now) c.args.trace.now.of_trace c.requires.settled)
+step-requires-clause-settled g c = rw c.new-ordered.ensures.disciplined (subst (λ (l : List Event). AreOpen l c.args.flags.now) c.args.trace.now.of_trace c.requires.settled)
 
 pub step-requires-clause-numbered : goal.step-requires-clause-numbered
-step-requires-clause-numbered c = rw c.new-ordered.ensures.disciplined c.loop-e.invariant.numbered
+step-requires-clause-numbered g c = rw c.new-ordered.ensures.disciplined c.loop-e.invariant.numbered
 
 pub returns : goal.returns
-returns c =
+returns g c =
     let trace = c.args.trace.now in
     let kept = c.loop-e.search in
     let all : c.loop-e.e ≡ length trace.events.now = omega arith in

@@ -4,7 +4,7 @@ use Rattle.shb_places.specs.Searched.{AreSearched}
 use Rattle.shb_places.proofs.search.covering_races.Given as goal
 
 abbrev pub invariant-loop-e : goal.invariant-loop-e
-invariant-loop-e l = record {
+invariant-loop-e g l = record {
   of_trace : l.sweep.trace ≡ l.trace.events.now;
   next : l.sweep.next ≡ l.e;
   searched : AreSearched l.trace.trace.now l.flags l.search.sites l.search.notes l.search.wanted l.search.found l.e;

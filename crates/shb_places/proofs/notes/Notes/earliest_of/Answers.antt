@@ -1,7 +1,31 @@
-use Rattle.std.proofs.lemmas.Bool.{not-true}
-use Rattle.shb_places.specs.Notes.{tables_of}
-use Rattle.shb_places.proofs.NoteLemmas.{reads_alone}
+use Rattle.std.proofs.Common.{inl, inr, length, arith, ap}
+use Rattle.shb_places.proofs.Lists.{read_same}
+use Rattle.shb_places.proofs.NoteLemmas.{least_end, least_next, least_start}
 use Rattle.shb_places.proofs.notes.Notes.earliest_of.Goals as goal
 
-pub returns-then-not-may_write : goal.returns-then-not-may_write
-returns-then-not-may_write g c sites kept at_site = reads_alone c.args.ordered.now.disciplined.now.trace.now sites (tables_of c.args.self.now) c.args.s c.args.site c.args.access kept c.requires.access at_site (not-true _ c.if-not-access.true) (c.may_write.ensures c.if-not-may_write.true)
+pub loop-class-init : goal.loop-class-init
+loop-class-init g c sites kept = least_start c.args.ordered.now.disciplined.now.trace.now sites _ c.args.s c.args.access.event c.head_of-at.result c.args.writes c.args.access kept c.head_of-at.ensures
+
+pub returns-in_default : goal.returns-in_default
+returns-in_default g c sites kept = least_end c.args.ordered.now.disciplined.now.trace.now sites _ c.args.s c.args.writes c.args.access c.loop-class.earliest c.loop-class.at (let past = c.in_default.ensures.lookup.3 in let same = ap length c.deref.ensures.value in omega (arith, past, same)) (c.loop-class.invariant sites kept)
+
+pub returns-then-class-at : goal.returns-then-class-at
+returns-then-class-at g c sites kept =
+    let at = read_same c.args.self.now.classes.items c.deref.result.now c.loop-class.at c.in-Some.class.now c.deref.ensures.value c.in-Some.ensures.lookup.3.0 c.in-Some.ensures.lookup.1 in
+    let h = least_next c.args.ordered.now.disciplined.now.trace.now sites _ c.args.s c.args.writes c.args.access c.loop-class.earliest c.loop-class.at c.earliest_in.result c.lesser-earliest.result c.in-Some.class.now at (c.earliest_in.ensures sites kept) c.lesser-earliest.ensures.first c.lesser-earliest.ensures.second c.lesser-earliest.ensures.one (c.loop-class.invariant sites kept) in
+    record {
+      least = λ e noted kind race. elim (h.0 e noted kind race) [
+        | inl le ↦ le
+        | inr more ↦ absurd (let low = more.0 in let high = c.if-class-at.true in omega (arith, low, high))
+      ];
+      races = h.1;
+    }
+
+pub loop-class-preserved : goal.loop-class-preserved
+loop-class-preserved g c sites kept =
+    let at = read_same c.args.self.now.classes.items c.deref.result.now c.loop-class.at c.in-Some.class.now c.deref.ensures.value c.in-Some.ensures.lookup.3.0 c.in-Some.ensures.lookup.1 in
+    let h = least_next c.args.ordered.now.disciplined.now.trace.now sites _ c.args.s c.args.writes c.args.access c.loop-class.earliest c.loop-class.at c.earliest_in.result c.lesser-earliest.result c.in-Some.class.now at (c.earliest_in.ensures sites kept) c.lesser-earliest.ensures.first c.lesser-earliest.ensures.second c.lesser-earliest.ensures.one (c.loop-class.invariant sites kept) in
+    record {
+      least = λ e noted kind race. elim (h.0 e noted kind race) [ inl le ↦ inl le | inr more ↦ inr more.1 ];
+      races = h.1;
+    }
