@@ -58,14 +58,6 @@ row_of_index classes stride end numbers rows positive within h =
     div-le : (w a b : ℕ) → 0 < w → a ≤ b → a / w ≤ b / w
     div-le w a b pos le = (le-div_iff_mul-le {k = w} {x = a / w} {y = b} pos).1 (let most = div-mul-le_self a w in omega (arith, most, le))
 
--- where each index has a row
-pub row_of_each : (classes stride end : ℕ) (numbers rows : List ℕ) → stride ≡ 1 → end ≤ length numbers → HasRows classes stride numbers (length numbers / stride + 1) rows → (end * classes + classes ≤ length rows) × AreCountsBefore classes numbers end (row_at classes rows end)
-row_of_each classes stride end numbers rows one within h =
-    let count : length numbers / stride ≡ length numbers = rw one (omega arith) in
-    let lt : end < length numbers / stride + 1 = omega (arith, count, within) in
-    let at : end * stride ≡ end = rw one (omega arith) in
-    ((let fits = row_within classes end (length numbers / stride + 1) lt in let long = h.as_many in omega (arith, fits, long)), subst (λ (n : ℕ). AreCountsBefore classes numbers n (row_at classes rows end)) at (h.each end lt))
-
 -- counts that are the row before an index
 pub row_copied : (classes stride end : ℕ) (numbers rows seen counts : List ℕ) → 0 < stride → end ≤ length numbers → HasRows classes stride numbers (length numbers / stride + 1) rows → seen ≡ rows → counts ≡ row_at classes seen (end / stride) → (length counts ≡ classes) × AreCountsBefore (length counts) numbers (end / stride * stride) counts
 row_copied classes stride end numbers rows seen counts positive within h same is =

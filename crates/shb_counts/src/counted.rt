@@ -51,8 +51,6 @@ fn has_many(located: &Located<'_, '_>, events: u32, races: u64, accesses: u32) -
 struct Many<'a> {
     tables: Tables<'a>,
     room: Room<'a>,
-    /// Whether the accesses of the piece that was counted last had many races.
-    had_many: bool,
 }
 
 /// What the races of the variable of a search are counted by: what is known, if it is of this variable.
@@ -78,25 +76,7 @@ fn many_of<'a, O: Order>(
     Ok(Many {
         tables,
         room: Room::new(alloc, search),
-        had_many: true,
     })
-}
-
-/// Whether the races of a piece are counted by the numbers of their locations before it is known that they
-/// are many: where those of the piece before were, and are of the same variable.
-fn expects_many(
-    known: &Option<Many<'_>>,
-    located: &Located<'_, '_>,
-    events: u32,
-    variable: u32,
-) -> bool
-    ensures { IsTrue result → events ≤ length located.now.trace.now.events }
-{
-    let had_many = match known {
-        Some(many) => many.had_many && many.tables.variable == variable,
-        None => false,
-    };
-    events <= located.trace.len() && had_many
 }
 
 /// Counts the races of a piece one by one.
@@ -137,24 +117,13 @@ fn count_many<'a, 't, O: Order>(
     let search = job.search(k);
     let piece = job.piece(k);
     let many = many_of(alloc, located.numbers, &search, known)?;
-    let Many {
-        tables,
-        mut room,
-        had_many: _,
-    } = many;
+    let Many { tables, mut room } = many;
     let indices = Indices {
         from: piece.from as usize,
         to: piece.to as usize,
     };
-    let before = counter.races;
     count_accesses(&mut room, counter, located, &search, &tables, &indices)?;
-    let races = counter.races.saturating_sub(before);
-    let had_many = has_many(located, job.events(), races, piece.to - piece.from);
-    Ok(Many {
-        tables,
-        room,
-        had_many,
-    })
+    Ok(Many { tables, room })
 }
 
 /// Counts the races of a piece. Gives what those of the last piece with many were counted by.
@@ -177,10 +146,6 @@ fn count_piece<'a, 't, O: Order>(
         → HasCounted located.now.trace.now (before ++ races_at job.now k) counter.new) }
 {
     let piece = job.piece(k);
-    if expects_many(&known, located, job.events(), piece.variable) {
-        let many = count_many(alloc, counter, located, job, known, k)?;
-        return Ok(Some(many));
-    }
     let races = job.run(alloc, k)?;
     if has_many(located, job.events(), races.len(), piece.to - piece.from) {
         let many = count_many(alloc, counter, located, job, known, k)?;

@@ -1,10 +1,10 @@
 //! The number of all races of a trace and their places, without a step for each race.
 //!
 //! [`counted_races`] goes over the pieces of a search in order. A piece with few races is counted race by race. For
-//! one with many, and for the next ones of its variable as long as they have many, `Tables` are made of its variable, once for all its pieces: the accesses by thread, and of their
-//! locations' numbers ([`location_numbers`]) how often each stands before every so many of them ([`PrefixCounts`]).
+//! one with many, `Tables` are made of its variable, once for all its pieces: the accesses by thread, and of their
+//! locations' numbers (`location_numbers`) how often each stands before every so many of them (`PrefixCounts`).
 //! The accesses that race with a later one are spans of that list, one for each thread, so how many of them have
-//! each location is a difference of rows ([`racing_counts`]). Where the place of each is known, the table of places
+//! each location is a difference of rows (`racing_counts`). Where the place of each is known, the table of places
 //! takes these counts; else the races of that access are counted one by one, and their places are known from then on.
 #![tactic(auto)]
 
@@ -18,7 +18,3 @@ mod span_counts;
 mod tables;
 
 pub use counted::{RaceCount, counted_races};
-pub use numbering::{LocationNumbers, location_numbers};
-pub use prefix_counts::PrefixCounts;
-pub use racing::{Room, numbers_at, racing_counts};
-pub use span_counts::{Rows, counts_in_spans};

@@ -12,11 +12,11 @@ use std::hash::RandomState;
 use std::random::RandomSource;
 
 /// The number of each event's location, and for each number an event that has it.
-pub struct LocationNumbers {
+pub(crate) struct LocationNumbers {
     /// By event, from 0.
-    pub numbers: Vec<u32>,
+    pub(crate) numbers: Vec<u32>,
     /// By number, from 0.
-    pub events: Vec<u32>,
+    pub(crate) events: Vec<u32>,
 }
 
 // By hand: a derived one stands in each function that drops it, with a step for each vector.
@@ -74,7 +74,7 @@ fn add_event(found: &mut LocationNumbers, first: Option<u32>, e: u32) -> Result<
 /// # Errors
 ///
 /// `NoMemory` where a growth was refused, or where there were no random numbers for a table.
-pub fn location_numbers<R: RandomSource>(
+pub(crate) fn location_numbers<R: RandomSource>(
     rt: &R,
     alloc: Global,
     trace: &Trace,

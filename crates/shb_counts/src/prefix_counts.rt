@@ -1,6 +1,6 @@
 //! How often each number stands in the first part of a list of numbers.
 
-ghost use Rattle.std.specs.Prelude.{◌≡◌, ℕ, ◌+◌, ◌*◌, ◌/◌, ◌<◌, ◌≤◌, ◌^◌, All, IfOk, IfSome, OnOk, length, replicate};
+ghost use Rattle.std.specs.Prelude.{◌≡◌, ℕ, ◌+◌, ◌*◌, ◌/◌, ◌<◌, ◌≤◌, ◌^◌, All, IfOk, OnOk, length, replicate};
 ghost use Rattle.shb_counts.specs.Counts.{AreCountsBefore, HasRows, row_at};
 
 use shb_io::NoMemory;
@@ -16,7 +16,7 @@ const ROW_BY_STRIDE: usize = 4;
 /// The table has a row for each stride of numbers. A stride is a quarter of the length of a row, or 1 where
 /// a row has less than eight entries: so the table has at most seven entries and a row for each number, and
 /// a question costs little more than two rows.
-pub struct PrefixCounts {
+pub(crate) struct PrefixCounts {
     numbers: Vec<u32>,
     classes: usize,
     stride: usize,
@@ -115,7 +115,11 @@ impl PrefixCounts {
     /// # Errors
     ///
     /// `NoMemory` where a growth was refused.
-    pub fn of(alloc: Global, numbers: Vec<u32>, classes: usize) -> Result<PrefixCounts, NoMemory>
+    pub(crate) fn of(
+        alloc: Global,
+        numbers: Vec<u32>,
+        classes: usize,
+    ) -> Result<PrefixCounts, NoMemory>
         requires few { length numbers.items < 2 ^ 32 }
         requires numbered { All (λ n. n < classes) numbers.items }
         ensures { IfOk result (λ table. table ≡ (classes, numbers.items)) }
@@ -130,21 +134,9 @@ impl PrefixCounts {
         })
     }
 
-    /// How often each number stands before an index, where the table has a row for each index.
-    pub(crate) fn row(&self, end: usize) -> Option<&[u32]>
-        requires { end ≤ length self.now.1 }
-        ensures { IfSome result (λ row. AreCountsBefore self.now.0 self.now.1 end row.now) }
-    {
-        if self.stride == 1 {
-            Some(row_of(self.rows.as_slice(), self.classes, end))
-        } else {
-            None
-        }
-    }
-
     /// How often each number stands before an index. What `counts` had is lost. After `NoMemory` nothing
     /// is known of it.
-    pub fn counts_before(&self, end: usize, counts: &mut Vec<u32>) -> Result<(), NoMemory>
+    pub(crate) fn counts_before(&self, end: usize, counts: &mut Vec<u32>) -> Result<(), NoMemory>
         requires { end ≤ length self.now.1 }
         ensures { OnOk result (AreCountsBefore self.now.0 self.now.1 end counts.new.items) }
     {

@@ -16,7 +16,11 @@ use std::alloc::Global;
 /// # Errors
 ///
 /// `NoMemory` where a growth was refused.
-pub fn numbers_at(alloc: Global, numbers: &[u32], positions: &[u32]) -> Result<Vec<u32>, NoMemory>
+pub(crate) fn numbers_at(
+    alloc: Global,
+    numbers: &[u32],
+    positions: &[u32],
+) -> Result<Vec<u32>, NoMemory>
     requires { All (λ k. k < length numbers.now) positions.now }
     ensures { IfOk result (λ v. v.items ≡ map (number_in numbers.now) positions.now) }
 {
@@ -29,12 +33,12 @@ pub fn numbers_at(alloc: Global, numbers: &[u32], positions: &[u32]) -> Result<V
 
 /// What the races of one later access after another are counted with: where the search for those of the
 /// last one ended, and room for its spans and counts.
-pub struct Room<'a> {
+pub(crate) struct Room<'a> {
     pub(crate) alloc: Global,
     cursors: Cursors<'a>,
     spans: Vec<Span>,
     /// The counts that were made last.
-    pub rows: Rows,
+    pub(crate) rows: Rows,
 }
 
 // By hand: a derived one stands in each function that drops the room, with a step for each part.
@@ -51,7 +55,7 @@ impl<'a> Drop for Room<'a> {
 
 impl<'a> Room<'a> {
     /// The room for the later accesses of the variable of a search.
-    pub fn new<O: Order>(alloc: Global, search: &Search<'_, 'a, O>) -> Room<'a> {
+    pub(crate) fn new<O: Order>(alloc: Global, search: &Search<'_, 'a, O>) -> Room<'a> {
         Room {
             alloc,
             cursors: Cursors::new(alloc, search),
@@ -69,7 +73,7 @@ impl<'a> Room<'a> {
 /// # Errors
 ///
 /// `NoMemory` where a growth was refused.
-pub fn racing_counts<O: Order>(
+pub(crate) fn racing_counts<O: Order>(
     room: &mut Room<'_>,
     ordered: &Ordered<'_, O>,
     positions: &[u32],

@@ -1,7 +1,6 @@
 //! How often each number stands in some spans of a list.
 
-ghost use Rattle.std.specs.Prelude.{◌≡◌, ◌++◌, ◌+◌, ◌-◌, ◌<◌, ◌^◌, ℕ, List, false, All, OnOk, length, slice_range};
-ghost use Rattle.std.specs.Bool.{IsTrue};
+ghost use Rattle.std.specs.Prelude.{◌≡◌, ◌++◌, ◌+◌, ◌-◌, ◌<◌, ◌^◌, ℕ, List, All, OnOk, length, slice_range};
 ghost use Rattle.shb_counts.specs.Counts.{AreCountsOf, HaveGrown, MayGrow};
 ghost use Rattle.shb_pairs.specs.Spans.{IsSpanOf, in_spans};
 
@@ -11,9 +10,9 @@ use shb_pairs::Span;
 use std::alloc::Global;
 
 /// Counts, and room for the two rows of which each of them grows.
-pub struct Rows {
+pub(crate) struct Rows {
     /// The counts that were made last.
-    pub counts: Vec<u32>,
+    pub(crate) counts: Vec<u32>,
     before: Vec<u32>,
     after: Vec<u32>,
 }
@@ -31,7 +30,7 @@ impl Drop for Rows {
 
 impl Rows {
     /// No counts yet.
-    pub fn new(alloc: Global) -> Rows {
+    pub(crate) fn new(alloc: Global) -> Rows {
         Rows {
             counts: Vec::new(alloc),
             before: Vec::new(alloc),
@@ -50,25 +49,6 @@ fn add_growth(counts: &mut Vec<u32>, before: &[u32], after: &[u32])
     }
 }
 
-/// Adds to each count how often its number stands in a span, where both ends of the span have a row in the
-/// table. Else the answer is false and nothing changes.
-fn add_by_rows(table: &PrefixCounts, span: Span, counts: &mut Vec<u32>) -> bool
-    requires within { IsSpanOf (length table.now.1) span }
-    requires counted { (list : List ℕ) × (length list + (span.to - span.from) < 2 ^ 32) × AreCountsOf table.now.0 list counts.old.items }
-    ensures added { IsTrue result → (list : List ℕ) → AreCountsOf table.now.0 list counts.old.items
-        → AreCountsOf table.now.0 (list ++ slice_range table.now.1 span.from span.to) counts.new.items }
-    ensures left { result ≡ false → counts.new.items ≡ counts.old.items }
-{
-    let Some(before) = table.row(span.from) else {
-        return false;
-    };
-    let Some(after) = table.row(span.to) else {
-        return false;
-    };
-    add_growth(counts, before, after);
-    true
-}
-
 /// Adds to each count how often its number stands in a span.
 fn add_span(table: &PrefixCounts, span: Span, rows: &mut Rows) -> Result<(), NoMemory>
     requires within { IsSpanOf (length table.now.1) span }
@@ -76,9 +56,6 @@ fn add_span(table: &PrefixCounts, span: Span, rows: &mut Rows) -> Result<(), NoM
     ensures { OnOk result ((list : List ℕ) → AreCountsOf table.now.0 list rows.old.counts.items
         → AreCountsOf table.now.0 (list ++ slice_range table.now.1 span.from span.to) rows.new.counts.items) }
 {
-    if add_by_rows(table, span, &mut rows.counts) {
-        return Ok(());
-    }
     table.counts_before(span.from, &mut rows.before)?;
     table.counts_before(span.to, &mut rows.after)?;
     add_growth(
@@ -96,7 +73,7 @@ fn add_span(table: &PrefixCounts, span: Span, rows: &mut Rows) -> Result<(), NoM
 /// # Errors
 ///
 /// `NoMemory` where a growth was refused.
-pub fn counts_in_spans(
+pub(crate) fn counts_in_spans(
     table: &PrefixCounts,
     spans: &[Span],
     rows: &mut Rows,
