@@ -4,7 +4,6 @@
 #include <stdint.h>
 #include <stdlib.h>
 #include <string.h>
-#include <sys/syscall.h>
 #include <unistd.h>
 #include "runtime.h"
 
@@ -253,35 +252,34 @@ static const char *const unseen_texts[UNSEEN] = {
     "teams, which gcc's library runs one after the other: races between teams are missed\n",
 };
 
-static void tell(enum unseen what) {
+static void tell_of(enum unseen what) {
     static _Atomic int told[UNSEEN];
     if (!recording || atomic_exchange(&told[what], 1)) return;
-    const char *texts[] = {"shb recorder: the program uses OpenMP's ", unseen_texts[what]};
-    for (int i = 0; i < 2; i++) syscall(SYS_write, 2, texts[i], strlen(texts[i]));
+    tell("shb recorder: the program uses OpenMP's %s", unseen_texts[what]);
 }
 
 typedef void (*copy_function)(void *, void *);
 PUBLIC void GOMP_taskloop(function f, void *data, copy_function copy, long size, long align, unsigned flags, unsigned long n,
                           int priority, long from, long to, long step) {
-    tell(TASKLOOP);
+    tell_of(TASKLOOP);
     REAL(GOMP_taskloop)(f, data, copy, size, align, flags, n, priority, from, to, step);
 }
 PUBLIC void GOMP_doacross_post(long *counts) {
-    tell(DOACROSS);
+    tell_of(DOACROSS);
     REAL(GOMP_doacross_post)(counts);
 }
 
 PUBLIC void GOMP_target(int device, function f, const void *unused, size_t count, void **addresses, size_t *sizes,
                         unsigned char *kinds) {
-    tell(TARGET);
+    tell_of(TARGET);
     REAL(GOMP_target)(device, f, unused, count, addresses, sizes, kinds);
 }
 PUBLIC void GOMP_target_ext(int device, function f, size_t count, void **addresses, size_t *sizes, unsigned short *kinds,
                             unsigned flags, void **depend, void **arguments) {
-    tell(TARGET);
+    tell_of(TARGET);
     REAL(GOMP_target_ext)(device, f, count, addresses, sizes, kinds, flags, depend, arguments);
 }
 PUBLIC void GOMP_teams_reg(function f, void *data, unsigned teams, unsigned thread_limit, unsigned flags) {
-    tell(TEAMS);
+    tell_of(TEAMS);
     REAL(GOMP_teams_reg)(f, data, teams, thread_limit, flags);
 }

@@ -1,4 +1,4 @@
-/* The file of the record: it is mapped, and grows in steps.  Whatever fails ends the recording and not the program.
+/* The record: it is mapped, and its file grows in steps.  Whatever fails ends the recording and not the program.
    Of a process made by fork the record stays in memory until it starts a thread, or has no room there. */
 #define _GNU_SOURCE
 #include <errno.h>
@@ -6,9 +6,7 @@
 #include <limits.h>
 #include <stdio.h>
 #include <string.h>
-#include <sys/file.h>
 #include <sys/mman.h>
-#include <sys/resource.h>
 #include <sys/syscall.h>
 #include <unistd.h>
 #include "runtime.h"
@@ -19,32 +17,19 @@ int stall_seconds;
 static char *header;
 static struct record *records;
 static uint64_t written, most_records;
-static const char *most_is = "SHB_RECORDS is reached";      /* why there may be no more */
 static _Atomic uint64_t room;          /* records that the file has disk space for */
-static int file = -1;                  /* -1 also while the record is in memory */
-static char pattern[PATH_MAX];         /* the path of the record, as it was asked for */
-enum { COMMAND_BYTES = 1024 };
+static int in_memory;                  /* it has no file yet */
 static char command[COMMAND_BYTES];    /* its line of the header */
 
-/* ---- disk space: taken before it is written, for a full disk would be a SIGBUS at the write ---- */
-static int add_space(uint64_t from, uint64_t bytes) {
-    static const char zeros[1 << 16];
-    if (syscall(SYS_fallocate, file, 0, from, bytes) == 0) return 1;
-    if (errno != EOPNOTSUPP && errno != ENOSYS) return 0;
-    for (uint64_t at = from; at < from + bytes; at += sizeof zeros)      /* this file system has no such call */
-        if (syscall(SYS_pwrite64, file, zeros, sizeof zeros, at) != sizeof zeros) return 0;
-    return 1;
-}
-
 static void grow(void) {
-    if (file < 0 && !move_to_file()) return;
+    if (!move_to_file()) return;
     uint64_t have = atomic_load(&room);
     int saved = errno, done = add_space(HEADER_BYTES + have * sizeof *records, STEP_BYTES);
     if (done) atomic_compare_exchange_strong(&room, &have, have + STEP_BYTES / sizeof *records);
     else if (errno != EINTR) {
         char reason[120];
         snprintf(reason, sizeof reason, "no disk space for the record (%s)", strerror(errno));
-        stop_recording(reason);
+        stop_recording(errno == EFBIG ? "the limit of a file's size is reached (ulimit -f)" : reason);
     }
     errno = saved;
 }
@@ -111,7 +96,7 @@ int make_room(thread *t, int count) {
         if (!keep_turn(t)) take_turn(t);
         if (!recording) return 0;
         if (written + count > most_records) {
-            stop_recording(most_is);
+            stop_recording("SHB_RECORDS is reached");
             return 0;
         }
         if (written + count <= atomic_load(&room)) break;
@@ -151,11 +136,9 @@ void note_end(const char *how) {
 }
 
 void stop_recording(const char *reason) {
-    char text[240];
-    int n = snprintf(text, sizeof text, "shb recorder: %s; the recording ends here, the program goes on\n", reason);
     if (!end_turns()) return;
     note_end(reason);
-    syscall(SYS_write, 2, text, n);
+    tell("shb recorder: %s; the recording ends here, the program goes on\n", reason);
 }
 
 /* The calls of the C library would be points where a thread may be cancelled. */
@@ -171,52 +154,11 @@ int read_task_file(pid_t system_id, const char *leaf, char *text, int size) {
     return n;
 }
 
-static int refuse(const char *path) {
-    fprintf(stderr, "shb recorder: cannot write %s: %s; the program runs unrecorded\n", path, strerror(errno));
-    return 0;
-}
-
-/* Past the limit of a file's size a signal would kill the program: so there are fewer records, or none. */
-static int fit_size_limit(uint64_t *most) {
-    struct rlimit limit;
-    if (getrlimit(RLIMIT_FSIZE, &limit) || limit.rlim_cur >= HEADER_BYTES + *most * sizeof *records + STEP_BYTES) return 1;
-    errno = EFBIG;
-    if (limit.rlim_cur < 2 * STEP_BYTES) return 0;
-    *most = (limit.rlim_cur - STEP_BYTES - HEADER_BYTES) / sizeof *records;
-    most_is = "the limit of a file's size is reached (ulimit -f)";
-    return 1;
-}
-
 static int can_look_at_threads(void) { /* without it no turn could be taken over */
     char text[512];
     if (read_task_file(syscall(SYS_gettid), "syscall", text, sizeof text) > 0) return 1;
-    fprintf(stderr, "shb recorder: cannot read /proc/self/task/*/syscall; the program runs unrecorded\n");
+    tell("shb recorder: cannot read /proc/self/task/*/syscall; the program runs unrecorded\n");
     return 0;
-}
-
-/* A path with %p is one for each process: its number stands there. */
-int has_number(void) { return strstr(pattern, "%p") != 0; }
-
-/* The folder may be another one when a child opens its record. */
-static int keep_path(const char *path) {
-    char here[PATH_MAX] = "";
-    if (*path != '/' && !getcwd(here, sizeof here)) return 0;
-    if (strlen(here) + 1 + strlen(path) + 20 < sizeof pattern) {
-        snprintf(pattern, sizeof pattern, "%s%s%s", here, *here ? "/" : "", path);
-        return 1;
-    }
-    errno = ENAMETOOLONG;
-    return 0;
-}
-
-static void numbered(char *path) {     /* a program that execs keeps its number: then a count follows it */
-    char *mark = strstr(pattern, "%p"), number[40];
-    snprintf(path, PATH_MAX, "%s", pattern);
-    for (int n = 0; mark && n < 1000; n++) {
-        snprintf(number, sizeof number, n ? "%d-%d" : "%d", getpid(), n);
-        snprintf(path, PATH_MAX, "%.*s%s%s", (int)(mark - pattern), pattern, number, mark + 2);
-        if (access(path, F_OK)) return;
-    }
 }
 
 /* The command line, in which nothing may look like a line of the header. */
@@ -232,36 +174,9 @@ static void read_command(void) {
     strcpy(command + at + (n > 0 ? n : 0), "\n");
 }
 
-/* Whose record stands in the file, where it isn't one of this command: a script that runs two would lose it in silence. */
-static void tell_what_is_replaced(const char *path) {
-    char text[sizeof RECORD_MAGIC + COMMAND_BYTES] = "", *line = text + strlen(RECORD_MAGIC);
-    if (pread(file, text, sizeof text - 1, 0) < 0 || strncmp(text, RECORD_MAGIC "command ", strlen(RECORD_MAGIC "command "))) return;
-    if (!strncmp(line, command, strlen(command))) return;
-    line[strcspn(line, "\n")] = 0;
-    fprintf(stderr, "shb recorder: in %s the record of another command is replaced (%s); %%p in the path gives each process a "
-            "record of its own\n", path, line + strlen("command "));
-}
-
-/* Opens the file and locks it: cut by a second process it would be a SIGBUS in the first. */
-static int open_file(void) {
-    char path[PATH_MAX];
-    numbered(path);
-    file = open(path, O_RDWR | O_CREAT | O_CLOEXEC, 0666);
-    if (file < 0) return refuse(path);
-    if (flock(file, LOCK_EX | LOCK_NB) && errno == EWOULDBLOCK) {
-        fprintf(stderr, "shb recorder: another process records to %s; the program runs unrecorded (%%p in the path gives "
-                "each process a record of its own)\n", path);
-        return 0;
-    }
-    if (!has_number()) tell_what_is_replaced(path);
-    if ((ftruncate(file, 0) && errno != EINVAL) || !add_space(0, HEADER_BYTES)) return refuse(path);
-    return 1;
-}
-
 static uint64_t map_bytes(void) { return HEADER_BYTES + most_records * sizeof *records; }
 
-static int map_record(void *at, int flags) {
-    void *map = mmap(at, map_bytes(), PROT_READ | PROT_WRITE, flags | MAP_NORESERVE, file, 0);
+static int use_map(void *map) {
     if (map == MAP_FAILED) return 0;
     header = map;
     records = (struct record *)(header + HEADER_BYTES);
@@ -269,48 +184,42 @@ static int map_record(void *at, int flags) {
 }
 
 int open_recording(const char *path, uint64_t most) {
+    begin_messages();
     if (!can_look_at_threads()) return 0;
-    if (!fit_size_limit(&most) || !keep_path(path)) return refuse(path);
+    if (!keep_path(path)) return refuse(path);
     read_command();
-    if (!open_file()) return 0;
+    if (!open_file(command, HEADER_BYTES + STEP_BYTES)) return 0;
     most_records = most;
-    if (!map_record(0, MAP_SHARED)) return refuse(path);
+    if (!use_map(map_file(0, map_bytes()))) return refuse(path);
     note_text(RECORD_MAGIC);
     note_text(command);
     return 1;
 }
 
 /* ---- a process made by fork ---- */
-/* Leaves the parent's record, which it would hold open and locked, and goes on in memory with the header alone. */
+/* Leaves the parent's record and goes on in memory with the header alone. */
 int leave_recording(void) {
     char *parents = header;
-    int of_parent = file;
-    file = -1;
     header = 0;
-    int going_on = has_number() && map_record(0, MAP_PRIVATE | MAP_ANONYMOUS);
+    leave_file();
+    in_memory = 1;
+    int going_on = has_number() && use_map(mmap(0, map_bytes(), PROT_READ | PROT_WRITE,
+                                                MAP_PRIVATE | MAP_ANONYMOUS | MAP_NORESERVE, -1, 0));
     if (going_on) strcpy(header, parents);
     written = 0;
     atomic_store(&room, STEP_BYTES / sizeof *records);
     munmap(parents, map_bytes());
-    if (of_parent >= 0) syscall(SYS_close, of_parent);
     return going_on;
-}
-
-static int write_whole(const char *from, uint64_t bytes) {
-    for (uint64_t done = 0; done < bytes;) {
-        ssize_t n = syscall(SYS_pwrite64, file, from + done, bytes - done, done);
-        if (n <= 0) return 0;
-        done += n;
-    }
-    return 1;
 }
 
 /* Gives the record in memory its file; where that fails the recording ends. */
 int move_to_file(void) {
-    if (file >= 0) return 1;
-    int moved = open_file() && write_whole(header, HEADER_BYTES + written * sizeof *records);
+    if (!in_memory) return 1;
+    uint64_t bytes = HEADER_BYTES + written * sizeof *records;
+    int moved = open_file(command, HEADER_BYTES + STEP_BYTES) && write_file(header, bytes);
     atomic_store(&room, written);
-    if (moved && map_record(header, MAP_SHARED | MAP_FIXED)) return 1;
+    in_memory = 0;
+    if (moved && use_map(map_file(header, map_bytes()))) return 1;
     stop_recording("its record cannot be written");
     return 0;
 }
@@ -321,10 +230,19 @@ void close_recording(void) {
     thread *t = enter(NEVER_YIELD);
     end_turns();
     if (!t) return;
-    int failed = file >= 0 && ftruncate(file, HEADER_BYTES + written * sizeof *records);
-    (void)failed;                                            /* then the zeros stay too */
+    if (!in_memory) cut_file(HEADER_BYTES + written * sizeof *records);
     note_end(ENDED_WHOLE);
     leave(t);
+}
+
+/* What a program locks in memory is its own, and not the room for the record. */
+void unlock_record(void) { if (header) munlock(header, map_bytes()); }
+
+/* After the recording has ended: gives the room back, but for a page or two in which another thread's last record may be
+   on its way. */
+void give_back_room(void) {
+    uint64_t page = getpagesize(), used = (HEADER_BYTES / page + written * sizeof *records / page + 2) * page;
+    if (header && used < map_bytes()) munmap(header + used, map_bytes() - used);
 }
 
 void note_text(const char *line) {

@@ -72,16 +72,34 @@ void forget_recorded_frames(thread *t);                      /* the record is an
 frame push_frame(thread *t, uint64_t caller, uint64_t function);       /* gives what lay there, for pop_frame */
 void pop_frame(thread *t, uint32_t depth, frame old);
 
-/* recording.c: the file. */
+/* file.c: the file of the record and its descriptor. */
+enum { COMMAND_BYTES = 1024 };         /* of the header's line with the command, with its end */
+void begin_messages(void);
+void tell(const char *format, ...) __attribute__((format(printf, 1, 2)));   /* on standard error, if it still is that */
+int is_for_record(int descriptor);
+int descriptor_of_record(void);        /* or -1 */
+void leave_number(int descriptor);     /* so that the program can have it */
+int keep_path(const char *path);
+int has_number(void);                  /* is there a record for each process? */
+int refuse(const char *path);          /* says that it can't be written, as errno has it; gives 0 */
+int open_file(const char *command, uint64_t first_bytes);    /* will it be allowed so many? */
+int add_space(uint64_t from, uint64_t bytes);
+int write_file(const char *from, uint64_t bytes);
+void cut_file(uint64_t bytes);
+void *map_file(void *at, uint64_t bytes);                    /* or MAP_FAILED */
+void leave_file(void);
+
+/* recording.c: the record. */
 extern int stall_seconds;
 int open_recording(const char *path, uint64_t most_records);
-int has_number(void);                  /* is there a record for each process? */
 int leave_recording(void);             /* in a process made by fork; does it go on in memory? */
 int move_to_file(void);
 void close_recording(void);
 void stop_recording(const char *reason);
 void note_end(const char *how);
 void note_text(const char *line);      /* adds a line to the header */
+void unlock_record(void);
+void give_back_room(void);
 enum { ROOM = 5, ROOM_OF_COPY = 10 };  /* records of one access, its depth and its way, with sizes; of a copy's read and write */
 int make_room(thread *t, int count);
 void put(thread *t, enum operation operation, const volatile void *address, uint64_t size, uint64_t caller);

@@ -80,7 +80,7 @@ static void in_child(void) {
 static void tell_of_child(void) {
     static const char text[] = "shb recorder: a process made by fork starts threads and runs unrecorded (%p in SHB_RECORD "
         "gives each process a record of its own)\n";
-    if (is_unrecorded_child) syscall(SYS_write, 2, text, sizeof text - 1);
+    if (is_unrecorded_child) tell("%s", text);
     is_unrecorded_child = 0;
 }
 

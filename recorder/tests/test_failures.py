@@ -28,7 +28,7 @@ class Failures(recorder.Case):
             self.assertEqual(b"File too large" in ran.stderr, refused)
 
     def test_a_limit_of_the_size_of_files_that_is_reached_later(self):
-        path, limit = self.folder / "app.rec", (9000000, 9000000)
+        path, limit = self.folder / "app.rec", (5000000, 5000000)
         ran = recorder.must(recorder.call(self.program("long_run.c"), env=recorder.settings(path),
                                           preexec_fn=lambda: resource.setrlimit(resource.RLIMIT_FSIZE, limit)))
         self.assertIn(b"the limit of a file's size is reached (ulimit -f); the recording ends here", ran.stderr)

@@ -1,0 +1,191 @@
+/* The file of the record.  Its descriptor has a number that programs aren't given, and is spared where they close all
+   that they have; what reached it nevertheless is seen before each use, for then the number may stand for a file of the
+   program's.  Whatever fails leaves errno. */
+#define _GNU_SOURCE
+#include <errno.h>
+#include <fcntl.h>
+#include <limits.h>
+#include <stdarg.h>
+#include <stdio.h>
+#include <string.h>
+#include <sys/file.h>
+#include <sys/mman.h>
+#include <sys/resource.h>
+#include <sys/stat.h>
+#include <sys/syscall.h>
+#include <unistd.h>
+#include "runtime.h"
+
+enum { HIGHEST_DESCRIPTOR = 1023 };    /* the kernel's tables grow with the highest */
+typedef struct { dev_t device; ino_t inode; } identity;
+
+static int file = -1;                  /* -1 while there is none */
+static identity of_file, of_messages;
+static char pattern[PATH_MAX];         /* the path of the record, as it was asked for */
+static char path[PATH_MAX];            /* of this process's */
+
+/* ---- which file a descriptor stands for ---- */
+static identity identity_of(int descriptor) {
+    struct stat status;
+    if (syscall(SYS_fstat, descriptor, &status)) return (identity){0, 0};
+    return (identity){status.st_dev, status.st_ino};
+}
+
+static int is_file(int descriptor, identity which) {
+    identity now = identity_of(descriptor);
+    return now.inode && now.inode == which.inode && now.device == which.device;
+}
+
+/* Messages go where they went at first: a program may have closed that, and have a file of its own there. */
+void begin_messages(void) { of_messages = identity_of(2); }
+void tell(const char *format, ...) {
+    char text[PATH_MAX + 300];
+    va_list more;
+    va_start(more, format);
+    vsnprintf(text, sizeof text, format, more);
+    va_end(more);
+    if (is_file(2, of_messages)) syscall(SYS_write, 2, text, strlen(text));
+}
+
+/* ---- the number ---- */
+/* The descriptor's file under a number from `from` on, or else from its half on, and so on; or as it is. */
+static int moved_up(int descriptor, int from) {
+    int up = -1;
+    for (; up < 0 && from > 2; from /= 2) up = syscall(SYS_fcntl, descriptor, F_DUPFD_CLOEXEC, from);
+    if (up < 0) return descriptor;
+    syscall(SYS_close, descriptor);
+    return up;
+}
+
+static int highest(void) {
+    struct rlimit limit = {0, 0};
+    getrlimit(RLIMIT_NOFILE, &limit);
+    return limit.rlim_cur > HIGHEST_DESCRIPTOR ? HIGHEST_DESCRIPTOR : (int)limit.rlim_cur - 1;
+}
+
+int is_for_record(int descriptor) { return descriptor >= 0 && descriptor == file && is_file(file, of_file); }
+int descriptor_of_record(void) { return is_for_record(file) ? file : -1; }
+
+/* The program wants this number: the record's moves elsewhere, or the recording ends. */
+void leave_number(int descriptor) {
+    if (!is_for_record(descriptor)) return;
+    thread *t = enter(NEVER_YIELD);    /* so nobody uses the old one now */
+    file = moved_up(file, file + 1);
+    if (t) leave(t);
+}
+
+/* Is it still the record's?  If not it is opened again by its path, unless that leads elsewhere now. */
+static int have_file(void) {
+    if (is_file(file, of_file)) return 1;
+    int again = syscall(SYS_openat, AT_FDCWD, path, O_RDWR | O_CLOEXEC, 0);
+    if (again < 0) return 0;
+    if (!is_file(again, of_file)) {
+        syscall(SYS_close, again);
+        errno = ENOENT;
+        return 0;
+    }
+    file = moved_up(again, highest());
+    return 1;
+}
+
+/* ---- disk space: taken before it is written, for a full disk would be a SIGBUS at the write ---- */
+static int may_have(uint64_t bytes) {  /* past the limit of a file's size a signal would kill the program */
+    struct rlimit limit;
+    if (getrlimit(RLIMIT_FSIZE, &limit) || limit.rlim_cur >= bytes) return 1;
+    errno = EFBIG;
+    return 0;
+}
+
+int add_space(uint64_t from, uint64_t bytes) {
+    static const char zeros[1 << 16];
+    if (!have_file() || !may_have(from + bytes)) return 0;
+    if (syscall(SYS_fallocate, file, 0, from, bytes) == 0) return 1;
+    if (errno != EOPNOTSUPP && errno != ENOSYS) return 0;
+    for (uint64_t at = from; at < from + bytes; at += sizeof zeros)      /* this file system has no such call */
+        if (syscall(SYS_pwrite64, file, zeros, sizeof zeros, at) != sizeof zeros) return 0;
+    return 1;
+}
+
+int write_file(const char *from, uint64_t bytes) {
+    if (!have_file()) return 0;
+    for (uint64_t done = 0; done < bytes;) {
+        ssize_t n = syscall(SYS_pwrite64, file, from + done, bytes - done, done);
+        if (n <= 0) return 0;
+        done += n;
+    }
+    return 1;
+}
+
+void cut_file(uint64_t bytes) {
+    int failed = have_file() && syscall(SYS_ftruncate, file, bytes);
+    (void)failed;                                            /* then zeros stay behind the records */
+}
+
+void *map_file(void *at, uint64_t bytes) {
+    return have_file() ? mmap(at, bytes, PROT_READ | PROT_WRITE, MAP_SHARED | MAP_NORESERVE | (at ? MAP_FIXED : 0), file, 0)
+                       : MAP_FAILED;
+}
+
+/* ---- begin and end ---- */
+/* A path with %p is one for each process: its number stands there. */
+int has_number(void) { return strstr(pattern, "%p") != 0; }
+
+/* The folder may be another one when a child opens its record. */
+int keep_path(const char *asked) {
+    char here[PATH_MAX] = "";
+    if (*asked != '/' && !getcwd(here, sizeof here)) return 0;
+    if (strlen(here) + 1 + strlen(asked) + 20 < sizeof pattern) {
+        snprintf(pattern, sizeof pattern, "%s%s%s", here, *here ? "/" : "", asked);
+        return 1;
+    }
+    errno = ENAMETOOLONG;
+    return 0;
+}
+
+static void number_path(void) {        /* a program that execs keeps its number: then a count follows it */
+    char *mark = strstr(pattern, "%p"), number[40];
+    snprintf(path, PATH_MAX, "%s", pattern);
+    for (int n = 0; mark && n < 1000; n++) {
+        snprintf(number, sizeof number, n ? "%d-%d" : "%d", getpid(), n);
+        snprintf(path, PATH_MAX, "%.*s%s%s", (int)(mark - pattern), pattern, number, mark + 2);
+        if (access(path, F_OK)) return;
+    }
+}
+
+int refuse(const char *which) {
+    tell("shb recorder: cannot write %s: %s; the program runs unrecorded\n", which, strerror(errno));
+    return 0;
+}
+
+/* Whose record stands in the file, where it isn't one of this command: a script that runs two would lose it in silence. */
+static void tell_what_is_replaced(const char *command) {
+    char text[sizeof RECORD_MAGIC + COMMAND_BYTES] = "", *line = text + strlen(RECORD_MAGIC);
+    if (pread(file, text, sizeof text - 1, 0) < 0 || strncmp(text, RECORD_MAGIC "command ", strlen(RECORD_MAGIC "command "))) return;
+    if (!strncmp(line, command, strlen(command))) return;
+    line[strcspn(line, "\n")] = 0;
+    tell("shb recorder: in %s the record of another command is replaced (%s); %%p in the path gives each process a "
+            "record of its own\n", path, line + strlen("command "));
+}
+
+/* Opens the file and locks it: cut by a second process it would be a SIGBUS in the first.  Says why it can't. */
+int open_file(const char *command, uint64_t first_bytes) {
+    number_path();
+    int opened = syscall(SYS_openat, AT_FDCWD, path, O_RDWR | O_CREAT | O_CLOEXEC, 0666);
+    if (opened < 0) return refuse(path);
+    file = moved_up(opened, highest());
+    of_file = identity_of(file);
+    if (flock(file, LOCK_EX | LOCK_NB) && errno == EWOULDBLOCK) {
+        tell("shb recorder: another process records to %s; the program runs unrecorded (%%p in the path gives "
+                "each process a record of its own)\n", path);
+        return 0;
+    }
+    if (!has_number()) tell_what_is_replaced(command);
+    if (!may_have(first_bytes) || (ftruncate(file, 0) && errno != EINVAL) || !add_space(0, HEADER_BYTES)) return refuse(path);
+    return 1;
+}
+
+/* In a process made by fork, which would hold its parent's open and locked. */
+void leave_file(void) {
+    if (is_for_record(file)) syscall(SYS_close, file);
+    file = -1;
+}

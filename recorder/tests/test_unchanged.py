@@ -1,0 +1,81 @@
+"""A recorded program behaves, finds its files and ends as it does without the recorder."""
+
+import recorder
+
+
+class Unchanged(recorder.Case):
+    def program(self, name, *words):
+        """Builds a program as for gcc's own library."""
+        out = self.folder / name.split(".")[0]
+        recorder.must(recorder.call("gcc", "-w", "-g", "-O1", "-fsanitize=thread", "-pthread", recorder.PROGRAMS / name, "-o", out, *words))
+        return out
+
+    def settings(self, **more):
+        """Our library under the name of gcc's."""
+        return {**recorder.settings(self.folder / "app.rec", LD_LIBRARY_PATH=str(recorder.BUILT / "lib")), **more}
+
+    def run_recorded(self, *words, **more):
+        (self.folder / "app.rec").unlink(missing_ok=True)
+        return recorder.must(recorder.call(*words, env=self.settings(**more), cwd=self.folder))
+
+    def racing_lines(self, name, answer=None):
+        """The lines with races of the record, which are marked in the program."""
+        trace = (answer or recorder.must(recorder.convert(self.folder / "app.rec"))).stdout
+        return {line for pair in recorder.places(trace) for line in pair}
+
+    def marked(self, name):
+        lines = enumerate((recorder.PROGRAMS / name).read_text().splitlines(), 1)
+        return {f"{name}:{number}" for number, line in lines if "RACE" in line}
+
+
+class OwnFiles(Unchanged):
+    """The record's descriptor is never one that the program was given."""
+
+    def test_a_program_that_closes_what_it_inherited(self):
+        program = self.program("own_files.c")
+        for way in ("nothing", "close", "closefrom", "close_range", "dup2", "dup3", "syscall"):
+            with self.subTest(way):
+                ran = self.run_recorded(program, way, "data")
+                self.assertEqual((ran.stdout, ran.stderr), (b"3: 1048576 of 1048576\n", b""))
+                self.assertEqual((self.folder / "data").read_bytes(), b"x" * (1 << 20))
+                self.assertEqual(self.racing_lines("own_files.c"), self.marked("own_files.c"))
+
+    def test_a_record_that_is_gone_ends_the_recording(self):
+        ran = self.run_recorded(self.program("own_files.c"), "syscall", "moved.rec", "app.rec")
+        self.assertEqual(ran.stdout, b"3: 1048576 of 1048576\n")
+        self.assertEqual((self.folder / "other").read_bytes(), b"x" * (1 << 20))
+        self.assertEqual(ran.stderr, b"shb recorder: no disk space for the record (No such file or directory); "
+                                     b"the recording ends here, the program goes on\n")
+        answer = recorder.part(recorder.convert(self.folder / "moved.rec"))
+        self.assertEqual(self.racing_lines("own_files.c", answer), self.marked("own_files.c"))
+
+
+class OwnLimits(Unchanged):
+    """A limit that a program sets on itself ends the recording at most."""
+
+    def ends(self, way, reason):
+        program = self.program("own_limits.c")
+        if recorder.call(program, way, env=self.settings(SHB_RECORD="")).returncode:
+            self.skipTest(f"{way} isn't possible here")
+        ran = self.run_recorded(program, way)
+        said = b"shb recorder: " + reason + b"; the recording ends here, the program goes on\n" if reason else b""
+        self.assertEqual(ran.stderr, said)
+        answer = recorder.convert(self.folder / "app.rec")
+        self.assertIn(b"is not the whole run: " + reason if reason else b"events", answer.stderr)
+        return ran.stdout, self.racing_lines("own_limits.c", answer)
+
+    def test_the_size_of_files(self):
+        reason = b"the limit of a file's size is reached (ulimit -f)"
+        self.assertEqual(self.ends("fsize", reason), (b"ended\n", self.marked("own_limits.c")))
+
+    def test_memory_that_is_locked(self):
+        self.assertEqual(self.ends("mlockall", b""), (b"locked\nended\n", self.marked("own_limits.c")))
+
+    def test_a_limit_of_locked_memory(self):
+        reason = b"the program locks its memory (mlockall), and the record takes more than it may lock"
+        self.assertEqual(self.ends("mlockall-limited", reason), (b"locked\nended\n", set()))
+
+    def test_system_calls(self):
+        for way in ("prctl", "seccomp"):
+            with self.subTest(way):
+                self.assertEqual(self.ends(way, b"the program limits its system calls (seccomp)"), (b"ended\n", set()))
