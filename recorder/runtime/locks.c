@@ -197,7 +197,7 @@ PUBLIC void call_once(once_flag *flag, void (*function)(void)) { pthread_once((p
 /* of C++ local statics: like an atomic byte */
 /* Without a C++ library behind this one (it is linked into the program, or came by dlopen) it is done here: the first
    byte says that the variable is ready, the second that somebody makes it. */
-int __cxa_guard_acquire(char *), __cxa_guard_release(char *);
+int __cxa_guard_acquire(char *), __cxa_guard_release(char *), __cxa_guard_abort(char *);
 static int plain_acquire(char *byte) {
     for (;;) {
         char idle = 0;
@@ -215,8 +215,13 @@ static int plain_release(char *byte) {
     __atomic_store_n(byte + 1, 0, __ATOMIC_RELEASE);
     return 0;
 }
+static int plain_abort(char *byte) {
+    __atomic_store_n(byte + 1, 0, __ATOMIC_RELEASE);
+    return 0;
+}
 static int real_acquire(char *byte) { return REAL(__cxa_guard_acquire) ? REAL(__cxa_guard_acquire)(byte) : plain_acquire(byte); }
 static int real_release(char *byte) { return REAL(__cxa_guard_release) ? REAL(__cxa_guard_release)(byte) : plain_release(byte); }
+static int real_abort(char *byte) { return REAL(__cxa_guard_abort) ? REAL(__cxa_guard_abort)(byte) : plain_abort(byte); }
 PUBLIC int __cxa_guard_acquire(char *byte) {
     thread *t = enter(MAY_YIELD);
     if (!t) return real_acquire(byte);
@@ -225,11 +230,15 @@ PUBLIC int __cxa_guard_acquire(char *byte) {
     leave(t);
     return r;
 }
-PUBLIC int __cxa_guard_release(char *byte) {
-    if (others) {
-        thread *t = enter(MAY_YIELD);
-        if (t) put(t, OP_ATOMIC_STORE, byte, 1 | __ATOMIC_RELEASE << ATOMIC_SIZE_BITS, CALLER);
-        if (t) leave(t);
+/* What was done for the variable until here comes before what the next thread does for it, also where it threw. */
+#define LEAVES_GUARD(name, real) \
+    PUBLIC int name(char *byte) { \
+        thread *t = others ? enter(MAY_YIELD) : 0; \
+        if (t) { \
+            put(t, OP_ATOMIC_STORE, byte, 1 | __ATOMIC_RELEASE << ATOMIC_SIZE_BITS, CALLER); \
+            leave(t); \
+        } \
+        return real(byte); \
     }
-    return real_release(byte);
-}
+LEAVES_GUARD(__cxa_guard_release, real_release)
+LEAVES_GUARD(__cxa_guard_abort, real_abort)

@@ -71,36 +71,55 @@ PUBLIC void *mremap(void *old, size_t old_size, size_t size, int flags, ...) {
     return p;
 }
 
-/* C++: the block's place is that of the `new`, and the free below a `delete` is the program's. */
-void *_Znwm(size_t), *_Znam(size_t);
-void _ZdlPv(void *), _ZdaPv(void *), _ZdlPvm(void *, size_t), _ZdaPvm(void *, size_t);
+/* C++: the block's place is that of the `new`, and the free below a `delete` is the program's. Of a form of `new` that may
+   not throw, `nothrow` is not null; one for greater alignment has that before it. */
+typedef void *(*new_function)(size_t, size_t, const void *);
 
 static void end_new(thread **t) { (*t)->new_caller = 0; }    /* also where it throws */
 
-static void *called_new(void *(*real)(size_t), size_t n, uint64_t caller) {
+static void *called_new(new_function real, size_t n, size_t align, const void *nothrow, uint64_t caller) {
+    size_t second = align ? align : (size_t)nothrow;
     if (!real) {                                             /* the C++ library is linked into the program: no way to throw */
-        void *p = allocated(__libc_malloc(n ? n : 1), n, caller);
-        if (!p) abort();
-        return p;
+        void *p = align ? __libc_memalign(align, n ? n : 1) : __libc_malloc(n ? n : 1);
+        if (!p && !nothrow) abort();
+        return allocated(p, n, caller);
     }
-    if (!self || self->new_caller) return real(n);
+    if (!self || self->new_caller) return real(n, second, nothrow);
     thread *t __attribute__((cleanup(end_new))) = self;
     t->new_caller = caller;
-    return real(n);
+    return real(n, second, nothrow);
 }
 
-PUBLIC void *_Znwm(size_t n) { return called_new(REAL(_Znwm), n, CALLER); }
-PUBLIC void *_Znam(size_t n) { return called_new(REAL(_Znam), n, CALLER); }
+#define NEW(name, parameters, align, nothrow) \
+    void *name parameters; \
+    PUBLIC void *name parameters { return called_new((new_function)(void *)REAL(name), n, align, nothrow, CALLER); }
+NEW(_Znwm, (size_t n), 0, 0)
+NEW(_Znam, (size_t n), 0, 0)
+NEW(_ZnwmRKSt9nothrow_t, (size_t n, const void *nothrow), 0, nothrow)
+NEW(_ZnamRKSt9nothrow_t, (size_t n, const void *nothrow), 0, nothrow)
+NEW(_ZnwmSt11align_val_t, (size_t n, size_t align), align, 0)
+NEW(_ZnamSt11align_val_t, (size_t n, size_t align), align, 0)
+NEW(_ZnwmSt11align_val_tRKSt9nothrow_t, (size_t n, size_t align, const void *nothrow), align, nothrow)
+NEW(_ZnamSt11align_val_tRKSt9nothrow_t, (size_t n, size_t align, const void *nothrow), align, nothrow)
 
-#define DELETES(name, parameters) \
-    PUBLIC void name parameters { \
+#define DELETE(name, ...) \
+    void name(void *, ##__VA_ARGS__); \
+    PUBLIC void name(void *p, ##__VA_ARGS__) { \
         will_free(p, CALLER); \
         __libc_free(p); \
     }
-DELETES(_ZdlPv, (void *p))
-DELETES(_ZdaPv, (void *p))
-DELETES(_ZdlPvm, (void *p, size_t n))
-DELETES(_ZdaPvm, (void *p, size_t n))
+DELETE(_ZdlPv)
+DELETE(_ZdaPv)
+DELETE(_ZdlPvm, size_t n)
+DELETE(_ZdaPvm, size_t n)
+DELETE(_ZdlPvRKSt9nothrow_t, const void *nothrow)
+DELETE(_ZdaPvRKSt9nothrow_t, const void *nothrow)
+DELETE(_ZdlPvSt11align_val_t, size_t align)
+DELETE(_ZdaPvSt11align_val_t, size_t align)
+DELETE(_ZdlPvmSt11align_val_t, size_t n, size_t align)
+DELETE(_ZdaPvmSt11align_val_t, size_t n, size_t align)
+DELETE(_ZdlPvSt11align_val_tRKSt9nothrow_t, size_t align, const void *nothrow)
+DELETE(_ZdaPvSt11align_val_tRKSt9nothrow_t, size_t align, const void *nothrow)
 
 /* ---- ranges: never yields, for this may be the tail of a structure's copy ---- */
 static void note_copy(void *to, const void *from, size_t n, uint64_t caller) {

@@ -1,5 +1,6 @@
 """Names that people read: of threads, globals, heap blocks, stacks and places; and those that programs are linked with."""
 
+import collections
 import pathlib
 import re
 
@@ -11,15 +12,41 @@ FOR_PROGRAMS = re.compile("__(tsan_(default_|on_|symbolize_external|test_only_on
 INTERFACE = re.compile("(__tsan_|__sanitizer_|__sancov_|Annotate|WTFAnnotate|RunningOnValgrind|ValgrindSlowdown|ThreadSanitizerQuery)")
 
 
+# What else gcc's library exports and a program needn't find in ours, and why.
+LEFT_OUT = re.compile("|".join((
+    "_*(__)?interceptor_.*",  # the library's own names of functions that have another
+    "__asan_.*",  # what it is made of
+    "_ZN6__tsan.*",  # what a program may define for it
+    "__sanitizer_syscall_.*",  # hooks of system calls; README names them
+    "__isoc99_v?s?n?f?printf",  # no C library has them
+    "sigsetjmp|xdr_destroy",  # macros in the C library's headers
+    "__tls_get_addr",  # the loader's own
+    "crypt|crypt_r",  # of libcrypt, whose versions are one function
+)))
+
+
+def versions(library):
+    """The names that a library has, each with how many versions."""
+    return collections.Counter(name.split("@")[0] for name in symbols(library))
+
+
+def symbols(library):
+    return recorder.must(recorder.call("nm", "-D", "--defined-only", library)).stdout.decode().split()[2::3]
+
+
 def exported(library):
     """The names of the interface that a library has."""
-    names = recorder.must(recorder.call("nm", "-D", "--defined-only", library)).stdout.decode().split()[2::3]
-    return {name.split("@")[0] for name in names if INTERFACE.match(name)}
+    return {name for name in versions(library) if INTERFACE.match(name)}
+
+
+def library_of_gcc(name):
+    """Its path, or None."""
+    found = pathlib.Path(recorder.call("gcc", f"-print-file-name={name}").stdout.decode().strip())
+    return found if found.is_absolute() else None
 
 
 def libraries_of_compilers():
-    found = recorder.call("gcc", "-print-file-name=libtsan.so").stdout.decode().strip()
-    yield from [pathlib.Path(found)] if pathlib.Path(found).is_absolute() else []
+    yield from filter(None, [library_of_gcc("libtsan.so")])
     yield from pathlib.Path("/usr/lib").glob("llvm-14/lib/clang/*/lib/linux/libclang_rt.tsan-x86_64.so")
 
 
@@ -31,6 +58,17 @@ class Names(recorder.Case):
                       if not FOR_PROGRAMS.match(name) and not name.startswith("__sanitizer_syscall_")}
             self.assertGreater(len(wanted), 200)
             self.assertEqual(wanted - exported(recorder.BUILT / "lib" / "libtsan.so"), set(), library)
+
+    def test_the_names_that_gcc_finds_in_its_library(self):
+        """A program asks for these without a version: each is in ours, or the C library has it in one version alone."""
+        tsan = library_of_gcc("libtsan.so")
+        if not tsan:
+            self.skipTest("gcc has no libtsan")
+        of_c_library = versions(library_of_gcc("libc.so.6")) | versions(library_of_gcc("libm.so.6"))  # the greater number
+        names, ours = versions(tsan), versions(recorder.BUILT / "lib" / "libtsan.so")
+        wanted = {name for name in names if of_c_library[name] != 1 and not FOR_PROGRAMS.match(name) and not LEFT_OUT.fullmatch(name)}
+        self.assertGreater(len(wanted), 300)
+        self.assertEqual(wanted - set(ours), set())
 
     def test_names(self):
         recorder.build(recorder.PROGRAMS / "names.c", "-O1", self.folder / "app")

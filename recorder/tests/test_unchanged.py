@@ -79,3 +79,18 @@ class OwnLimits(Unchanged):
         for way in ("prctl", "seccomp"):
             with self.subTest(way):
                 self.assertEqual(self.ends(way, b"the program limits its system calls (seccomp)"), (b"ended\n", set()))
+
+
+class Names(Unchanged):
+    """A program that was linked with gcc's libtsan gets the functions that it gets alone."""
+
+    def test_functions_that_the_c_library_has_in_two_versions(self):
+        ran = self.run_recorded(self.program("versions.c"))
+        self.assertEqual((ran.stdout, ran.stderr), (b"bye\n", b""))
+        self.assertEqual(self.racing_lines("versions.c"), self.marked("versions.c"))
+
+    def test_the_cxx_library_linked_into_a_program_that_was_linked_with_libtsan(self):
+        program = self.folder / "news"
+        source = recorder.PROGRAMS / "news.cc"
+        recorder.must(recorder.call("g++", "-w", "-g", "-O1", "-fsanitize=thread", "-static-libstdc++", source, "-o", program))
+        self.assertEqual(self.run_recorded(program).stdout, b"8 blocks\n")

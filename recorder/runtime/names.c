@@ -1,0 +1,27 @@
+/* Names that gcc's libtsan has and that a program would not find in the C library, or not in the version that it gets without
+   libtsan (forward.S). */
+#define _GNU_SOURCE
+#include <stdlib.h>
+#include <unistd.h>
+#include "runtime.h"
+
+/* ---- functions that are handed on ---- */
+struct forwarded { const char *name; void *function; };
+extern struct forwarded __start_forwarded[] __attribute__((weak, visibility("hidden")));
+extern struct forwarded __stop_forwarded[] __attribute__((weak, visibility("hidden")));
+
+void *find_forwarded(struct forwarded *which) {
+    which->function = next_symbol(which->name);
+    if (which->function) return which->function;
+    tell("shb recorder: no library has %s\n", which->name);
+    _exit(127);                        /* as the loader does */
+}
+
+/* All at once, for a handler of a signal may not look for a name. */
+__attribute__((constructor(101))) static void find_all(void) {
+    for (struct forwarded *f = __start_forwarded; f < __stop_forwarded; f++) f->function = next_symbol(f->name);
+}
+
+/* ---- what programs have from a part of the C library that is linked into them ---- */
+int __cxa_atexit(void (*)(void *), void *, void *);
+PUBLIC int atexit(void (*function)(void)) { return __cxa_atexit((void (*)(void *))function, 0, 0); }
