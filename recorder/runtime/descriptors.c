@@ -1,4 +1,4 @@
-/* Descriptors: the order that they give, and the record's own, which the program never meets. */
+/* Descriptors: the order that they give, and the recorder's own, which the program never meets. */
 #define _GNU_SOURCE
 #include <errno.h>
 #include <sys/epoll.h>
@@ -77,9 +77,9 @@ static int note_pair(int error, int *f, uint64_t caller) {
 PUBLIC int pipe(int f[2]) { return note_pair(REAL(pipe)(f), f, CALLER); }
 PUBLIC int pipe2(int f[2], int k) { return note_pair(REAL(pipe2)(f, k), f, CALLER); }
 PUBLIC int socketpair(int d, int k, int p, int f[2]) { return note_pair(REAL(socketpair)(d, k, p, f), f, CALLER); }
-/* ---- the end of a descriptor; the record's own is not the program's to close ---- */
+/* ---- the end of a descriptor; the recorder's own are not the program's to close ---- */
 PUBLIC int close(int f) {
-    if (is_for_record(f)) {
+    if (is_kept(f)) {
         errno = EBADF;
         return -1;
     }
@@ -99,13 +99,14 @@ PUBLIC int dup3(int f, int g, int flags) {
 }
 
 PUBLIC int close_range(unsigned first, unsigned last, int flags) {
-    unsigned ours = descriptor_of_record();
-    if (ours < first || ours > last) return REAL(close_range)(first, last, flags);
-    int failed = ours > first && REAL(close_range)(first, ours - 1, flags);
-    return failed || ours == last ? -failed : REAL(close_range)(ours + 1, last, flags);
+    unsigned ours = next_kept(first);
+    if (first > last || ours > last || ours == ~0u) return REAL(close_range)(first, last, flags);
+    if (ours > first && REAL(close_range)(first, ours - 1, flags)) return -1;
+    return ours == last ? 0 : close_range(ours + 1, last, flags);
 }
 PUBLIC void closefrom(int first) {
-    int ours = descriptor_of_record();
-    for (int f = first < 0 ? 0 : first; f < ours; f++) syscall(SYS_close, f);
-    REAL(closefrom)(first > ours ? first : ours + 1);
+    unsigned ours = first < 0 ? 0 : first;
+    for (; next_kept(ours) != ~0u; ours++)
+        if (!is_kept(ours)) syscall(SYS_close, ours);
+    REAL(closefrom)(ours);
 }

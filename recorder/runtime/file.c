@@ -1,6 +1,6 @@
-/* The file of the record.  Its descriptor has a number that programs aren't given, and is spared where they close all
-   that they have; what reached it nevertheless is seen before each use, for then the number may stand for a file of the
-   program's.  Whatever fails leaves errno. */
+/* The file of the record, and /proc.  Their descriptors have numbers that programs aren't given, and are spared where they
+   close all that they have; what reached one nevertheless is seen before each use, for then the number may stand for a file
+   of the program's.  Whatever fails leaves errno. */
 #define _GNU_SOURCE
 #include <errno.h>
 #include <fcntl.h>
@@ -19,8 +19,9 @@
 enum { HIGHEST_DESCRIPTOR = 1023 };    /* the kernel's tables grow with the highest */
 typedef struct { dev_t device; ino_t inode; } identity;
 
-static int file = -1;                  /* -1 while there is none */
-static identity of_file, of_messages;
+enum { RECORD, PROC, KEPT };
+static struct { int number; identity of; } kept[KEPT] = {{.number = -1}, {.number = -1}};
+static identity of_messages;
 static char pattern[PATH_MAX];         /* the path of the record, as it was asked for */
 static char path[PATH_MAX];            /* of this process's */
 
@@ -63,29 +64,72 @@ static int highest(void) {
     return limit.rlim_cur > HIGHEST_DESCRIPTOR ? HIGHEST_DESCRIPTOR : (int)limit.rlim_cur - 1;
 }
 
-int is_for_record(int descriptor) { return descriptor >= 0 && descriptor == file && is_file(file, of_file); }
-int descriptor_of_record(void) { return is_for_record(file) ? file : -1; }
+static int has(int which) { return is_file(kept[which].number, kept[which].of); }
 
-/* The program wants this number: the record's moves elsewhere, or the recording ends. */
+static void keep(int which, int opened) {
+    kept[which].number = moved_up(opened, highest());
+    kept[which].of = identity_of(kept[which].number);
+}
+
+/* The lowest number from `from` on that is the recorder's, or one that no descriptor has. */
+unsigned next_kept(unsigned from) {
+    unsigned lowest = ~0u;
+    for (int which = 0; which < KEPT; which++) {
+        unsigned number = kept[which].number;
+        if (number >= from && number < lowest && has(which)) lowest = number;
+    }
+    return lowest;
+}
+
+int is_kept(int descriptor) { return descriptor >= 0 && next_kept(descriptor) == (unsigned)descriptor; }
+
+/* The program wants this number: what is kept there moves elsewhere. */
 void leave_number(int descriptor) {
-    if (!is_for_record(descriptor)) return;
-    thread *t = enter(NEVER_YIELD);    /* so nobody uses the old one now */
-    file = moved_up(file, file + 1);
+    thread *t = is_kept(descriptor) ? enter(NEVER_YIELD) : 0;           /* so nobody uses the old one now */
+    for (int which = 0; which < KEPT; which++)
+        if (is_kept(descriptor) && kept[which].number == descriptor) kept[which].number = moved_up(descriptor, descriptor + 1);
     if (t) leave(t);
 }
 
-/* Is it still the record's?  If not it is opened again by its path, unless that leads elsewhere now. */
-static int have_file(void) {
-    if (is_file(file, of_file)) return 1;
-    int again = syscall(SYS_openat, AT_FDCWD, path, O_RDWR | O_CLOEXEC, 0);
+/* Is it still the recorder's?  If not it is opened again by its path, unless that leads elsewhere now. */
+static int have(int which, const char *path, int flags) {
+    if (has(which)) return 1;
+    int again = syscall(SYS_openat, AT_FDCWD, path, flags | O_CLOEXEC, 0);
     if (again < 0) return 0;
-    if (!is_file(again, of_file)) {
+    if (!is_file(again, kept[which].of)) {
         syscall(SYS_close, again);
         errno = ENOENT;
         return 0;
     }
-    file = moved_up(again, highest());
+    kept[which].number = moved_up(again, highest());
     return 1;
+}
+
+static int have_file(void) { return have(RECORD, path, O_RDWR); }
+
+/* ---- /proc, which a program may lose by chroot ---- */
+enum { LOOKS = O_PATH | O_DIRECTORY };
+
+int open_proc(void) {
+    int opened = syscall(SYS_openat, AT_FDCWD, "/proc", LOOKS | O_CLOEXEC, 0);
+    if (opened < 0) return 0;
+    keep(PROC, opened);
+    return 1;
+}
+
+/* Reads a file of one of the process's threads; gives how many bytes, or an error below 0.  The calls of the C library would
+   be points where a thread may be cancelled. */
+int read_task_file(pid_t system_id, const char *leaf, char *text, int size) {
+    char name[64];
+    snprintf(name, sizeof name, "self/task/%d/%s", system_id, leaf);
+    if (!have(PROC, "/proc", LOOKS)) return -errno;
+    int f = syscall(SYS_openat, kept[PROC].number, name, O_RDONLY | O_CLOEXEC, 0);
+    if (f < 0) return -errno;
+    int n = syscall(SYS_read, f, text, size - 1), error = errno;
+    syscall(SYS_close, f);
+    if (n < 0) return -error;
+    text[n] = 0;
+    return n;
 }
 
 /* ---- disk space: taken before it is written, for a full disk would be a SIGBUS at the write ---- */
@@ -99,17 +143,17 @@ static int may_have(uint64_t bytes) {  /* past the limit of a file's size a sign
 int add_space(uint64_t from, uint64_t bytes) {
     static const char zeros[1 << 16];
     if (!have_file() || !may_have(from + bytes)) return 0;
-    if (syscall(SYS_fallocate, file, 0, from, bytes) == 0) return 1;
+    if (syscall(SYS_fallocate, kept[RECORD].number, 0, from, bytes) == 0) return 1;
     if (errno != EOPNOTSUPP && errno != ENOSYS) return 0;
     for (uint64_t at = from; at < from + bytes; at += sizeof zeros)      /* this file system has no such call */
-        if (syscall(SYS_pwrite64, file, zeros, sizeof zeros, at) != sizeof zeros) return 0;
+        if (syscall(SYS_pwrite64, kept[RECORD].number, zeros, sizeof zeros, at) != sizeof zeros) return 0;
     return 1;
 }
 
 int write_file(const char *from, uint64_t bytes) {
     if (!have_file()) return 0;
     for (uint64_t done = 0; done < bytes;) {
-        ssize_t n = syscall(SYS_pwrite64, file, from + done, bytes - done, done);
+        ssize_t n = syscall(SYS_pwrite64, kept[RECORD].number, from + done, bytes - done, done);
         if (n <= 0) return 0;
         done += n;
     }
@@ -117,13 +161,13 @@ int write_file(const char *from, uint64_t bytes) {
 }
 
 void cut_file(uint64_t bytes) {
-    int failed = have_file() && syscall(SYS_ftruncate, file, bytes);
+    int failed = have_file() && syscall(SYS_ftruncate, kept[RECORD].number, bytes);
     (void)failed;                                            /* then zeros stay behind the records */
 }
 
 void *map_file(void *at, uint64_t bytes) {
-    return have_file() ? mmap(at, bytes, PROT_READ | PROT_WRITE, MAP_SHARED | MAP_NORESERVE | (at ? MAP_FIXED : 0), file, 0)
-                       : MAP_FAILED;
+    int flags = MAP_SHARED | MAP_NORESERVE | (at ? MAP_FIXED : 0);
+    return have_file() ? mmap(at, bytes, PROT_READ | PROT_WRITE, flags, kept[RECORD].number, 0) : MAP_FAILED;
 }
 
 /* ---- begin and end ---- */
@@ -160,7 +204,7 @@ int refuse(const char *which) {
 /* Whose record stands in the file, where it isn't one of this command: a script that runs two would lose it in silence. */
 static void tell_what_is_replaced(const char *command) {
     char text[sizeof RECORD_MAGIC + COMMAND_BYTES] = "", *line = text + strlen(RECORD_MAGIC);
-    if (pread(file, text, sizeof text - 1, 0) < 0 || strncmp(text, RECORD_MAGIC "command ", strlen(RECORD_MAGIC "command "))) return;
+    if (pread(kept[RECORD].number, text, sizeof text - 1, 0) < 0 || strncmp(text, RECORD_MAGIC "command ", strlen(RECORD_MAGIC "command "))) return;
     if (!strncmp(line, command, strlen(command))) return;
     line[strcspn(line, "\n")] = 0;
     tell("shb recorder: in %s the record of another command is replaced (%s); %%p in the path gives each process a "
@@ -172,8 +216,8 @@ int open_file(const char *command, uint64_t first_bytes) {
     number_path();
     int opened = syscall(SYS_openat, AT_FDCWD, path, O_RDWR | O_CREAT | O_CLOEXEC, 0666);
     if (opened < 0) return refuse(path);
-    file = moved_up(opened, highest());
-    of_file = identity_of(file);
+    keep(RECORD, opened);
+    int file = kept[RECORD].number;
     if (flock(file, LOCK_EX | LOCK_NB) && errno == EWOULDBLOCK) {
         tell("shb recorder: another process records to %s; the program runs unrecorded (%%p in the path gives "
                 "each process a record of its own)\n", path);
@@ -186,6 +230,6 @@ int open_file(const char *command, uint64_t first_bytes) {
 
 /* In a process made by fork, which would hold its parent's open and locked. */
 void leave_file(void) {
-    if (is_for_record(file)) syscall(SYS_close, file);
-    file = -1;
+    if (has(RECORD)) syscall(SYS_close, kept[RECORD].number);
+    kept[RECORD].number = -1;
 }

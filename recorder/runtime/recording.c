@@ -141,23 +141,10 @@ void stop_recording(const char *reason) {
     tell("shb recorder: %s; the recording ends here, the program goes on\n", reason);
 }
 
-/* The calls of the C library would be points where a thread may be cancelled. */
-int read_task_file(pid_t system_id, const char *leaf, char *text, int size) {
-    char path[64];
-    snprintf(path, sizeof path, "/proc/self/task/%d/%s", system_id, leaf);
-    int f = syscall(SYS_openat, AT_FDCWD, path, O_RDONLY | O_CLOEXEC, 0);
-    if (f < 0) return -errno;
-    int n = syscall(SYS_read, f, text, size - 1), error = errno;
-    syscall(SYS_close, f);
-    if (n < 0) return -error;
-    text[n] = 0;
-    return n;
-}
-
 static int can_look_at_threads(void) { /* without it no turn could be taken over */
     char text[512];
-    if (read_task_file(syscall(SYS_gettid), "syscall", text, sizeof text) > 0) return 1;
-    tell("shb recorder: cannot read /proc/self/task/*/syscall; the program runs unrecorded\n");
+    if (open_proc() && read_task_file(syscall(SYS_gettid), "stat", text, sizeof text) > 0) return 1;
+    tell("shb recorder: cannot read /proc/self/task/*/stat; the program runs unrecorded\n");
     return 0;
 }
 

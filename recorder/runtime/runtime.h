@@ -76,8 +76,8 @@ void pop_frame(thread *t, uint32_t depth, frame old);
 enum { COMMAND_BYTES = 1024 };         /* of the header's line with the command, with its end */
 void begin_messages(void);
 void tell(const char *format, ...) __attribute__((format(printf, 1, 2)));   /* on standard error, if it still is that */
-int is_for_record(int descriptor);
-int descriptor_of_record(void);        /* or -1 */
+int is_kept(int descriptor);           /* is it the recorder's own? */
+unsigned next_kept(unsigned from);     /* the lowest such number from there on, or ~0u */
 void leave_number(int descriptor);     /* so that the program can have it */
 int keep_path(const char *path);
 int has_number(void);                  /* is there a record for each process? */
@@ -88,6 +88,8 @@ int write_file(const char *from, uint64_t bytes);
 void cut_file(uint64_t bytes);
 void *map_file(void *at, uint64_t bytes);                    /* or MAP_FAILED */
 void leave_file(void);
+int open_proc(void);
+int read_task_file(pid_t system_id, const char *leaf, char *text, int size);
 
 /* recording.c: the record. */
 extern int stall_seconds;
@@ -104,7 +106,6 @@ enum { ROOM = 5, ROOM_OF_COPY = 10 };  /* records of one access, its depth and i
 int make_room(thread *t, int count);
 void put(thread *t, enum operation operation, const volatile void *address, uint64_t size, uint64_t caller);
 void note(enum operation operation, const volatile void *object, uint64_t caller);
-int read_task_file(pid_t system_id, const char *leaf, char *text, int size);
 
 /* modules.c */
 struct module { uint64_t low, high; };

@@ -135,19 +135,27 @@ static long user_ticks(const char *state) {
     return p ? strtol(p, 0, 10) : 0;
 }
 
-/* Is the thread gone, or asleep inside a system call?  A page fault is no system call.  *ticks gets its time. */
+static int is_gone(pid_t system_id) { return syscall(SYS_tgkill, getpid(), system_id, 0) && errno == ESRCH; }
+
+/* Is the thread gone, or asleep inside a system call?  A page fault is no system call.  *ticks gets its time.  Where nobody
+   can say, the recording ends. */
 static int gone_or_asleep(pid_t system_id, long *ticks) {
     char text[512];
+    if (is_gone(system_id)) return 1;
     int n = read_task_file(system_id, "stat", text, sizeof text);
-    if (n == -ENOENT || n == -ESRCH) return 1;
     char *p = n > 0 ? strrchr(text, ')') : 0;
-    if (!p || !p[1]) return 0;
+    if (!p || !p[1]) {
+        if (is_gone(system_id)) return 1;
+        stop_recording("a thread's state cannot be read in /proc");
+        return 0;
+    }
     char state = p[2];
     *ticks = user_ticks(p + 2);
     if (state == 'Z' || state == 'X') return 1;
     if (state != 'S' && state != 'D') return 0;
     n = read_task_file(system_id, "syscall", text, sizeof text);
-    return n > 0 && text[0] >= '0' && text[0] <= '9';
+    if (n <= 0) return state == 'S';                         /* it gave up its rights: a page fault is waited for in state D */
+    return text[0] >= '0' && text[0] <= '9';
 }
 
 struct watch { uint64_t word; long ticks; time_t since; };   /* the turn when it was last seen to change */

@@ -1,5 +1,7 @@
 """A recorded program behaves, finds its files and ends as it does without the recorder."""
 
+import re
+
 import recorder
 
 
@@ -94,3 +96,23 @@ class Names(Unchanged):
         source = recorder.PROGRAMS / "news.cc"
         recorder.must(recorder.call("g++", "-w", "-g", "-O1", "-fsanitize=thread", "-static-libstdc++", source, "-o", program))
         self.assertEqual(self.run_recorded(program).stdout, b"8 blocks\n")
+
+
+class NoRights(Unchanged):
+    """A program may give up its rights, and /proc: threads that sleep are known as such, and no others."""
+
+    def test_a_program_that_gives_up_proc_or_its_rights(self):
+        program = self.program("no_proc.c")
+        for what in ("chroot", "setuid", "both"):
+            with self.subTest(what):
+                if recorder.call(program, what, env=self.settings(SHB_RECORD="")).returncode == 2:
+                    self.skipTest("it takes root's rights")
+                ran = self.run_recorded(program, what)
+                self.assertEqual(ran.stderr, b"")
+                answer = recorder.must(recorder.convert(self.folder / "app.rec"))
+                self.assertEqual(self.racing_lines("no_proc.c", answer), self.marked("no_proc.c"))
+                filled, expected = 0, []
+                for thread in re.findall(r"^(\w+)\S*\|[wr]\(block\+67108863\)", answer.stdout.decode(), re.M):
+                    filled += thread != "main"
+                    expected += [filled] * (thread == "main")
+                self.assertEqual([int(value) for value in ran.stdout.split()], expected)
