@@ -17,6 +17,7 @@ int stall_seconds;
 static char *header;
 static struct record *records;
 static uint64_t written, most_records;
+static uint64_t changes = 1;           /* records so far of anything but reads */
 static _Atomic uint64_t room;          /* records that the file has disk space for */
 static int in_memory;                  /* it has no file yet */
 static char command[COMMAND_BYTES];    /* its line of the header */
@@ -72,18 +73,17 @@ static void add_depth(thread *t) {
     t->recorded_depth = depth;
 }
 
-/* What stands in the place of the size. The depth stands there too, or is told before, as is the way to the caller. */
-static uint64_t inside_of(thread *t, enum operation operation, uint64_t size, uint64_t caller) {
-    int is_access = operation == OP_READ || operation == OP_WRITE;
-    if (is_access && size <= 16 && !(size & (size - 1))) {
+static int is_plain(enum operation operation) { return operation == OP_READ || operation == OP_WRITE; }
+
+/* What stands in the place of the size. The depth stands there too, or is told before. */
+static uint64_t inside_of(thread *t, enum operation operation, uint64_t size) {
+    if (is_plain(operation) && size <= 16 && !(size & (size - 1))) {
         uint32_t depth = recordable_depth(t);
         if (depth >= DEPTH_BEFORE) add_depth(t);
         return __builtin_ctzl(size) | (depth < DEPTH_BEFORE ? depth : DEPTH_BEFORE) << LOGARITHM_BITS;
     }
     add_depth(t);
-    uint64_t way = is_access ? 0 : way_to(t, t->depth, caller);
-    if (way) add(t, OP_WAY, 0, 0, way);
-    if (is_access) size += IS_RANGE;
+    if (is_plain(operation)) size += IS_RANGE;
     return size < SIZE_FOLLOWS ? size : SIZE_FOLLOWS;
 }
 
@@ -106,14 +106,29 @@ int make_room(thread *t, int count) {
     return 1;
 }
 
+/* Is it a read that the thread made before, with nothing but reads of any thread in between?  Then it got the same value, by
+   the same order. */
+static int is_repeated(thread *t, enum operation operation, struct record r) {
+    if (operation != OP_READ && operation != OP_ATOMIC_LOAD) {
+        changes++;
+        return 0;
+    }
+    for (int i = 0; i < RECENT_READS; i++) {
+        struct read *recent = &t->recent[i];
+        if (recent->where == r.where && recent->what == r.what && recent->changes == changes) return 1;
+    }
+    t->recent[t->next_recent++ % RECENT_READS] = (struct read){r.where, r.what, changes};
+    return 0;
+}
+
 void put(thread *t, enum operation operation, const volatile void *address, uint64_t size, uint64_t caller) {
     int count = operation == OP_WRITE ? ROOM_OF_COPY : ROOM;
     if (!make_room(t, count)) return;
-    uint64_t inside = inside_of(t, operation, size, caller);
+    uint64_t inside = inside_of(t, operation, size);
     struct record r = record_of(t, operation, (uint64_t)address, inside, caller);
-    struct record *before = written ? &records[written - 1] : 0;
-    if (operation == OP_READ && before && before->where == r.where && before->what == r.what)
-        return;                                              /* the same read with nothing in between */
+    if (is_repeated(t, operation, r)) return;
+    uint64_t way = is_plain(operation) ? 0 : way_to(t, t->depth, caller);
+    if (way) add(t, OP_WAY, 0, 0, way);
     records[written++] = r;
     if (inside == SIZE_FOLLOWS) records[written++] = (struct record){size, (uint64_t)OP_SIZE << 48};
 }
@@ -194,6 +209,7 @@ int leave_recording(void) {
                                                 MAP_PRIVATE | MAP_ANONYMOUS | MAP_NORESERVE, -1, 0));
     if (going_on) strcpy(header, parents);
     written = 0;
+    changes++;                         /* the new record has no read */
     atomic_store(&room, STEP_BYTES / sizeof *records);
     munmap(parents, map_bytes());
     return going_on;

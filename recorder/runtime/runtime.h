@@ -13,6 +13,8 @@
 typedef struct { uint64_t caller, function, way, stack; } frame; /* way: as way_to gives it; stack: its stack pointer */
 #define NOT_RECORDED (1ull << 63)
 
+enum { RECENT_READS = 4 };             /* a loop that waits reads no more */
+
 typedef struct thread {
     uint32_t number;                   /* in the order of creation, from 0 */
     pid_t system_id;
@@ -21,6 +23,8 @@ typedef struct thread {
     int quantum;                       /* hooks until it gives the turn to a waiter */
     uint64_t last_read;                /* which read was its last, to see that it spins */
     int spins;                         /* how often in a row it made that one */
+    struct read { uint64_t where, what, changes; } recent[RECENT_READS];    /* its last ones in the record */
+    unsigned next_recent;
     volatile char inside;              /* the recorder: hooks met now are not recorded */
     volatile char deferred;            /* a signal came meanwhile and waits for the end of the hook */
     uint64_t written, write_caller;    /* if its last hook was of a write: the size, and who called it; else size 0 */

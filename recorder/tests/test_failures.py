@@ -58,6 +58,12 @@ class Failures(recorder.Case):
         self.assertRegex(answer.stderr, rb"shb-std: (99\d|1000) records")
         self.assertEqual(recorder.places(answer.stdout), set())
 
+    def test_loops_that_wait_do_not_reach_it(self):
+        path = self.folder / "app.rec"
+        ran = recorder.must(recorder.call(self.program("spin.c"), env=recorder.settings(path, SHB_RECORDS="1000")))
+        self.assertEqual(ran.stderr, b"")
+        self.assertEqual(recorder.places(recorder.must(recorder.convert(path)).stdout), {("spin.c:13", "spin.c:13")})
+
     def test_too_many_threads(self):
         path = self.folder / "app.rec"
         recorder.must(recorder.call(self.program("many_threads.c"), env=recorder.settings(path)))

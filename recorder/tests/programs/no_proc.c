@@ -4,6 +4,7 @@
 #define _GNU_SOURCE
 #include <pthread.h>
 #include <signal.h>
+#include <stdatomic.h>
 #include <stdio.h>
 #include <stdlib.h>
 #include <string.h>
@@ -12,10 +13,13 @@
 
 enum { BYTES = 64 << 20, ROUNDS = 8 };
 static char block[BYTES];
-static int count, racy;
+static int count;
+int racy;
+static atomic_int filling;
 static pthread_mutex_t lock = PTHREAD_MUTEX_INITIALIZER;
 
 static void *fill(void *value) {
+    atomic_store_explicit(&filling, (int)(long)value, memory_order_relaxed);
     memset(block, (int)(long)value, BYTES);                  /* RACE */
     return 0;
 }
@@ -56,6 +60,7 @@ int main(int argc, char **argv) {
     if (give_up(argv[1])) return 2;
     for (long i = 1; i <= ROUNDS; i++) {
         pthread_create(&t, 0, fill, (void *)i);
+        while (atomic_load_explicit(&filling, memory_order_relaxed) != i) usleep(100);
         usleep(1000);
         printf("%d\n", block[BYTES - 1]);                    /* RACE */
         pthread_join(t, 0);
