@@ -29,6 +29,7 @@ typedef struct thread {
     volatile char deferred;            /* a signal came meanwhile and waits for the end of the hook */
     uint64_t written, write_caller;    /* if its last hook was of a write: the size, and who called it; else size 0 */
     char joined;
+    struct thread *next_ended;
     int exit_rounds;                   /* of destructors of thread-specific data */
     uint64_t new_caller;               /* who called operator new */
     void *(*function)(void *);         /* what it runs; or of a C11 thread the next */
@@ -50,6 +51,7 @@ void begin_turns(int slice, uint64_t seed);
 void restart_turns(thread *t);         /* in a process made by fork, where there is t alone; it has the turn */
 int end_turns(void);                   /* all threads run free from here on; gives whether they took turns before */
 thread *new_thread(void);
+void end_thread(thread *t);            /* it is joined */
 int number_thread(thread *t);
 thread *thread_of(pthread_t handle);
 thread *enter(enum yields yields);

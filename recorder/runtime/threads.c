@@ -2,6 +2,7 @@
 #define _GNU_SOURCE
 #include <errno.h>
 #include <limits.h>
+#include <mqueue.h>
 #include <stdarg.h>
 #include <stdlib.h>
 #include <sys/syscall.h>
@@ -84,6 +85,10 @@ static void tell_of_child(void) {
     is_unrecorded_child = 0;
 }
 
+__attribute__((destructor(101))) static void end(void) {
+    if (process && getpid() == process) close_recording();
+}
+
 __attribute__((constructor(101))) static void begin(void) {
     const char *path = getenv("SHB_RECORD");
     if (!path || !*path || process) return;
@@ -94,12 +99,9 @@ __attribute__((constructor(101))) static void begin(void) {
     note_modules();
     thread *t = new_thread();
     if (!t || !number_thread(t) || pthread_key_create(&at_exit, thread_exits) || pthread_atfork(0, 0, in_child)) return;
+    at_quick_exit(end);                                      /* the last of its handlers */
     begin_turns(setting("SHB_SLICE", 200), setting("SHB_SEED", 0));
     begin_thread(t, 0);
-}
-
-__attribute__((destructor(101))) static void end(void) {
-    if (process && getpid() == process) close_recording();
 }
 
 /* Ways out that run no destructor.  A process made by vfork uses its parent's memory and says nothing. */
@@ -167,15 +169,17 @@ static void *run(void *t_) {
     return result;
 }
 
-/* Records the fork and starts the thread, whose function and argument are in `start`.  The thread may sleep in
-   new_thread, and then the turn may be taken over: so it is asked for after that, before the child gets its number. */
+/* Records the fork and starts the thread, whose function and argument are in `start`; NOT_STARTED where it can't have a number.
+   The thread may sleep in new_thread, and then the turn may be taken over: so it is asked for after that, before the child
+   gets its number. */
+enum { NOT_STARTED = -1 };
 static int create(thread *t, thread start, pthread_t *handle, const pthread_attr_t *attributes, uint64_t caller) {
     thread *child = new_thread();
     move_to_file();
     if (!keep_turn(t)) take_turn(t);
     if (!child || !number_thread(child)) {
         stop_recording("too many threads");
-        return EAGAIN;
+        return NOT_STARTED;
     }
     child->function = start.function;
     child->c11_function = start.c11_function;
@@ -198,7 +202,7 @@ PUBLIC int pthread_create(pthread_t *handle, const pthread_attr_t *attributes, v
     }
     int error = create(t, (thread){.function = function, .argument = argument}, handle, attributes, CALLER);
     leave(t);
-    return error;
+    return error == NOT_STARTED ? REAL(pthread_create)(handle, attributes, function, argument) : error;
 }
 
 PUBLIC int thrd_create(thrd_t *handle, thrd_start_t function, void *argument) {
@@ -209,6 +213,7 @@ PUBLIC int thrd_create(thrd_t *handle, thrd_start_t function, void *argument) {
     }
     int error = create(t, (thread){.c11_function = function, .argument = argument}, handle, 0, CALLER);
     leave(t);
+    if (error == NOT_STARTED) return REAL(thrd_create)(handle, function, argument);
     return !error ? thrd_success : error == EAGAIN || error == ENOMEM ? thrd_nomem : thrd_error;
 }
 
@@ -219,9 +224,9 @@ PUBLIC int thrd_create(thrd_t *handle, thrd_start_t function, void *argument) {
         thread *child = thread_of(h); \
         int error = BLOCKING(t, REAL(name) arguments); \
         if (!error && child) { \
-            child->joined = 1; \
             others--; \
             put(t, OP_JOIN, (void *)(uint64_t)child->number, 0, CALLER); \
+            end_thread(child); \
         } \
         leave(t); \
         return error; \
@@ -229,4 +234,22 @@ PUBLIC int thrd_create(thrd_t *handle, thrd_start_t function, void *argument) {
 JOIN(pthread_join, (pthread_t h, void **value), (h, value))
 JOIN(pthread_tryjoin_np, (pthread_t h, void **value), (h, value))
 JOIN(pthread_timedjoin_np, (pthread_t h, void **value, deadline d), (h, value, d))
+JOIN(pthread_clockjoin_np, (pthread_t h, void **value, clockid_t c, deadline d), (h, value, c, d))
 JOIN(thrd_join, (thrd_t h, int *value), (h, value))
+
+/* ---- functions that the C library calls in threads of its own ---- */
+static void tell_of_calls_in_other_threads(const struct sigevent *event) {
+    static _Atomic int told;
+    if (!event || event->sigev_notify != SIGEV_THREAD || !recording || atomic_exchange(&told, 1)) return;
+    tell("shb recorder: the program has a function called in threads of the C library (SIGEV_THREAD), which aren't seen: their "
+         "races are missed\n");
+}
+
+PUBLIC int timer_create(clockid_t clock, struct sigevent *event, timer_t *timer) {
+    tell_of_calls_in_other_threads(event);
+    return REAL(timer_create)(clock, event, timer);
+}
+PUBLIC int mq_notify(mqd_t queue, const struct sigevent *event) {
+    tell_of_calls_in_other_threads(event);
+    return REAL(mq_notify)(queue, event);
+}

@@ -252,8 +252,33 @@ int end_turns(void) {
     return was;
 }
 
+/* ---- the memory of threads: one that is joined is used again, for a waiter may still look into it ---- */
+static thread *ended;                  /* a list; under the guard */
+
+void end_thread(thread *t) {
+    t->joined = 1;
+    lock_guard();
+    t->next_ended = ended;
+    ended = t;
+    unlock_guard();
+}
+
+static thread *used_again(void) {
+    lock_guard();
+    thread *t = ended;
+    if (t) ended = t->next_ended;
+    unlock_guard();
+    if (!t) return 0;
+    memset(t, 0, sizeof *t);
+    t->frames = t->own_frames;
+    forget_recorded_frames(t);
+    return t;
+}
+
 thread *new_thread(void) {             /* it may sleep in the system */
-    thread *t = mmap(0, sizeof *t + MOST_FRAMES * sizeof *t->frames, PROT_READ | PROT_WRITE,
+    thread *t = used_again();
+    if (t) return t;
+    t = mmap(0, sizeof *t + MOST_FRAMES * sizeof *t->frames, PROT_READ | PROT_WRITE,
                      MAP_PRIVATE | MAP_ANONYMOUS | MAP_NORESERVE, -1, 0);
     if (t == MAP_FAILED) return 0;
     t->frames = t->own_frames;

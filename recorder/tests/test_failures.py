@@ -73,6 +73,18 @@ class Failures(recorder.Case):
         self.assertNotIn(b"T1024", answer.stdout)
         self.assertEqual(recorder.places(answer.stdout), set())
 
+    def test_more_threads_than_a_record_can_number(self):
+        path = self.folder / "app.rec"
+        ran = recorder.must(recorder.call(self.program("many_in_turn.c"), env=recorder.settings(path)))
+        self.assertEqual(ran.stdout, b"66000\n")
+        self.assertEqual(ran.stderr, b"shb recorder: too many threads; the recording ends here, the program goes on\n")
+        self.assertIn(b"is not the whole run: too many threads", recorder.part(recorder.convert(path)).stderr)
+
+    def test_threads_of_the_c_library_are_told_of(self):
+        ran = recorder.must(recorder.call(self.program("sigev_thread.c"), env=recorder.settings(self.folder / "app.rec")))
+        self.assertEqual(ran.stderr, b"shb recorder: the program has a function called in threads of the C library "
+                                     b"(SIGEV_THREAD), which aren't seen: their races are missed\n")
+
     def test_a_deadlocked_program_that_is_killed(self):
         path = self.folder / "app.rec"
         with subprocess.Popen([self.program("deadlock.c")], env=recorder.settings(path), stdout=subprocess.PIPE) as running:
@@ -86,7 +98,7 @@ class Failures(recorder.Case):
     def test_ways_out_that_leave_the_whole_run(self):
         """By _exit and by exec, tried once in vain, there is no destructor; the run up to there is whole."""
         program, path = self.program("ways_out.c"), self.folder / "app.rec"
-        for way in ("_exit", "_Exit", "execl", "execlp", "execle", "execv", "execvp", "execvpe", "execve", "vfork"):
+        for way in ("_exit", "_Exit", "execl", "execlp", "execle", "execv", "execvp", "execvpe", "execve", "vfork", "quick_exit"):
             with self.subTest(way):
                 recorder.must(recorder.call(program, way, env=recorder.settings(path)))
                 answer = recorder.must(recorder.convert(path))

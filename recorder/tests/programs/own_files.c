@@ -10,11 +10,12 @@
 #include <unistd.h>
 
 enum { NUMBERS = 1100, BYTES = 1 << 20 };
-static volatile int count;
+static int count, kept[2];
 static char block[BYTES];
 
-static void *work(void *unused) {
-    for (int i = 0; i < 80000; i++) count++;                /* RACE; the record takes more than its first steps */
+static void *work(void *own) {
+    count++;                                                 /* RACE */
+    for (volatile int *n = own; *n < 60000; ) ++*n;          /* the record takes more than its first steps */
     return 0;
 }
 
@@ -36,8 +37,8 @@ int main(int argc, char **argv) {
     if (argc > 3 && rename(argv[3], argv[2])) return 1;      /* away with the record, too */
     int f = open(argc > 3 ? "other" : argv[2], O_RDWR | O_CREAT | O_TRUNC, 0644);
     for (int n = f + 1; n < NUMBERS; n++) dup2(f, n);        /* whatever number is used now is this file's */
-    pthread_create(&a, 0, work, 0);
-    pthread_create(&b, 0, work, 0);
+    pthread_create(&a, 0, work, &kept[0]);
+    pthread_create(&b, 0, work, &kept[1]);
     memset(block, 'x', BYTES);
     if (write(f, block, BYTES) != BYTES) return 1;
     pthread_join(a, 0);

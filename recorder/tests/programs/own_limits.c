@@ -13,10 +13,11 @@
 #include <unistd.h>
 
 enum { MEGABYTE = 1 << 20 };
-static volatile int count;
+static int count, kept[2];
 
-static void *work(void *unused) {
-    for (int i = 0; i < 80000; i++) count++;                /* RACE */
+static void *work(void *own) {
+    count++;                                                 /* RACE */
+    for (volatile int *n = own; *n < 60000; ) ++*n;          /* the record takes more than its first steps */
     return 0;
 }
 
@@ -53,8 +54,8 @@ int main(int argc, char **argv) {
         failed = setrlimit(RLIMIT_MEMLOCK, &little) || (!getuid() && setuid(65534)) || lock_memory();
     if (!strcmp(argv[1], "prctl")) failed = limit_calls(0);
     if (!strcmp(argv[1], "seccomp")) failed = limit_calls(1);
-    pthread_create(&a, 0, work, 0);
-    pthread_create(&b, 0, work, 0);
+    pthread_create(&a, 0, work, &kept[0]);
+    pthread_create(&b, 0, work, &kept[1]);
     pthread_join(a, 0);
     pthread_join(b, 0);
     if (!failed) puts("ended");
