@@ -28,6 +28,7 @@ MADE = {
     "shb_lines/src/hashing.rt": 1,
     "shb_lines/src/read.rt": 1,
     "shb_lines/src/whole.rt": 1,
+    "shb_places/src/locations.rt": 1,
     "shb_places/src/numbers.rt": 1,
     "shb_reading/src/entries.rt": 2,
     "shb_reading/src/position.rt": 1,
