@@ -112,6 +112,15 @@ exec REAL "$@"
     def test_a_window(self):
         self.assertIn("   In this window 2 threads write", run_here(["--window", TRACE])[1])
 
+    def test_a_name_that_is_not_utf8(self):
+        """No word of `shb` may be so."""
+        trace = os.fsencode(self.folder) + b"/\xff.std"
+        with open(trace, "wb") as file:
+            file.write(TRACE.read_bytes())
+        answer = run(["--check", trace, REPORT])
+        self.assertEqual((answer.status, answer.err), (0, b""))
+        self.assertTrue(answer.out.startswith(b"\\xff.std: 1 race "))
+
     def test_a_name_like_an_option(self):
         trace = self.file(TRACE.read_bytes(), "-t.std")
         answer = subprocess.run([sys.executable, "-B", VIEW / "shb-view", "--", "-t.std"], cwd=self.folder, env=settings(),

@@ -84,6 +84,18 @@ class Stacks(program.Case):
         self.assertIn("   a.c:7: 1 free by main\n", out)
         self.assertIn("     free by main at a.c:7 (event 4)\n", out)
 
+    def test_an_atomic_that_hands_on_without_order(self):
+        """The trace need not have it. With release and acquire it orders, and is no reason; nor is one that one of the threads alone uses."""
+        trace = b"main|fork(T1)|a.c:1\nmain|w(a.c:9#2)|a.c:5\nT1|r(a.c:9#2)|a.c:7\nmain|join(T1)|a.c:8\nmain|fork(T2)|a.c:9\n"
+        says = ("   main and T1 use the atomic slot: a.c:6 writes it {}, a.c:4 reads it {}. A write with release and a read with acquire "
+                "would order what stands before the one and after the other.\n")
+        for store, load, words in (("relaxed", "acquire", ("relaxed", "with acquire")), ("release", "relaxed", ("with release", "relaxed")),
+                                   ("release", "acquire", None), ("both", "both", None)):
+            tables = f"atomic slot\tmain\ta.c:6\tstore {store}\natomic slot\tT1\ta.c:4\tload {load}\natomic own\tT1\ta.c:3\tstore relaxed\n"
+            _, out, err = self.shown(stacks(tables=TABLES + tables.encode()), trace=trace)
+            self.assertEqual((err, "use the atomic" in out), ("", words is not None))
+            self.assertTrue(words is None or says.format(*words) in out, out)
+
     def test_sources_that_were_recorded(self):
         """Only where that is asked for, for a file may name any path."""
         code = self.file(b"int x;\n" * 4 + b"  x = 1;\n", "code")
@@ -106,7 +118,7 @@ class Stacks(program.Case):
             self.assertEqual(self.shown(stacks(), f"--shift={shift}")[0], 2)
 
     def test_damaged_tables_are_refused_or_shown(self):
-        for line in (b"frame x", b"stack x", b"stack 1", b"stack 1 1 99", b"thread T1", b"block 1", b"block a b", b"free 1", b"free a b", b"source a"):
+        for line in (b"frame x", b"stack x", b"stack 1", b"stack 1 1 99", b"thread T1", b"block 1", b"block a b", b"free 1", b"free a b", b"source a", b"atomic a\tb\tc", b"atomic a\tb\tc\tload"):
             with self.subTest(line=line):
                 status, _, err = self.shown(stacks(tables=TABLES + line + b"\n"))
                 self.assertEqual(status, 2)

@@ -113,6 +113,7 @@ void stack_of_event(u32 number);       /* of the event that comes next */
 void stack_of_thread(u32 t, u32 number);
 void stack_of_block(const block *b, u32 number);
 void note_free(u64 first, u64 last);   /* the events of one call that frees a block */
+void note_atomic(u64 i, u64 object);   /* a use of an atomic that several threads use */
 void end_stacks(void);
 
 /* accesses.c, objects.c: what the passes do with a record. */

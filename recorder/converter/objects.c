@@ -334,6 +334,7 @@ static void atomic_events(u64 i, object *o) {
     u64 caller = caller_of(i);
     int stores = operation_of(i) == OP_ATOMIC_STORE, loads = operation_of(i) == OP_ATOMIC_LOAD;
     int by_lock = is_by_lock(i) || (stores && gives(i));
+    if (o->many_users) note_atomic(i, o - objects);
     if (!stores) read_value(i, o, by_lock, take_version);
     if (!loads) write_value(i, o);
     if (by_lock) lock_event(o, t, "acq", tail(o, o->head), caller);

@@ -9,6 +9,8 @@
        thread NAME TAB NODE                          where the thread was created
        block NUMBER NODE                             where the block was allocated
        free FIRST LAST                               these events are of one call that freed a block
+       atomic NAME TAB THREAD TAB LOCATION TAB KIND ORDER       an atomic that several threads use: a load, store or update with
+                                                     the order relaxed, acquire, release or both, whether or not it is an event
        source NAME TAB PATH                          a source file, as locations name it, and where it was when it was compiled */
 #include <errno.h>
 #include <stdio.h>
@@ -48,6 +50,9 @@ static u64 block_count, block_capacity;
 static u32 thread_nodes[THREADS];
 static struct { u64 first, last; } *frees;
 static u64 free_count, free_capacity;
+static FILE *atomics;                  /* their lines, in memory */
+static char *atomics_text;
+static size_t atomics_bytes;
 
 static void cannot_write(void) { die("cannot write to %s: %s", path, strerror(errno)); }
 
@@ -55,6 +60,8 @@ void open_stacks(const char *path_) {
     path = path_;
     file = fopen(path, "w");
     if (!file || fprintf(file, STACKS_BEGIN, 0ul) < 0) cannot_write();
+    atomics = open_memstream(&atomics_text, &atomics_bytes);
+    if (!atomics) die("out of memory");
     with_stacks = 1;
 }
 
@@ -166,6 +173,20 @@ void stack_of_event(u32 number) {
 
 void stack_of_thread(u32 t, u32 number) { thread_nodes[t] = number; }
 
+void note_atomic(u64 i, u64 object) {
+    static const char *const orders[] = {"relaxed", "acquire", "release", "both"};
+    static map met;
+    static u64 count;
+    int order = acquires(i) + 2 * releases(i);
+    enum operation operation = operation_of(i);
+    u64 use = caller_of(i) | (u64)operation << 48 | (u64)order << 56;
+    if (!with_stacks || map_number(&met, object << 16 | thread_of(i), use) <= count) return;
+    count++;
+    part name = variable_name(address_of(i), block_at(address_of(i))), place = place_of(caller_of(i));
+    fprintf(atomics, "atomic %.*s\t%s\t%.*s\t%s %s\n", (int)name.length, name.at, thread_name(thread_of(i)), (int)place.length, place.at,
+            operation == OP_ATOMIC_LOAD ? "load" : operation == OP_ATOMIC_STORE ? "store" : "update", orders[order]);
+}
+
 void note_free(u64 first, u64 last) {
     if (!with_stacks || first > last) return;
     GROW(frees, free_count, free_capacity);
@@ -240,6 +261,8 @@ void end_stacks(void) {
     for (u64 b = 1; b < block_count; b++)
         if (block_of(b)->named && block_nodes[b]) fprintf(file, "block %lu %u\n", b, block_nodes[b]);
     for (u64 i = 0; i < free_count; i++) fprintf(file, "free %lu %lu\n", frees[i].first, frees[i].last);
+    if (fclose(atomics)) die("out of memory");
+    fwrite(atomics_text, 1, atomics_bytes, file);
     write_sources(file);
     rewind(file);
     fprintf(file, STACKS_BEGIN, written);

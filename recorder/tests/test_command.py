@@ -91,6 +91,26 @@ class Command(recorder.Case):
         self.assertGreater(len(numbers), 8)
         self.assertLessEqual(max(numbers), 5)
 
+    def test_a_publication_without_release(self):
+        """The trace doesn't have the atomic, which orders nothing; the text names it."""
+        status, _, said = self.record(self.program("publication.c"))
+        self.assertEqual(status, 66, said)
+        self.assertIn("T2.produce and T1.consume use the atomic slot: publication.c:10 writes it relaxed, publication.c:15 reads it with "
+                      "acquire.", said)
+
+    def test_an_early_free(self):
+        status, _, said = self.record(self.program("early_free.c"))
+        self.assertEqual(status, 66, said)
+        self.assertRegex(said, r"In this trace main frees the block at early_free.c:20, and nothing orders that and the use at early_free.c:10\.\n")
+        self.assertIn("   early_free.c:20: 1 free by main\n", said)
+
+    def test_a_folder_whose_name_is_not_utf8(self):
+        folder = os.fsencode(self.folder) + b"/r\xff"
+        how = {**os.environ, "SHB": str(recorder.SHB)}
+        ran = subprocess.run([str(recorder.BUILT / "shb-record"), "-o", folder, str(self.program()), "0", "race"], env=how, capture_output=True,
+                             timeout=recorder.SECONDS)
+        self.assertEqual((ran.returncode, b"1 race at 1 place" in ran.stderr), (66, True), ran.stderr)
+
     def test_statuses_without_a_race(self):
         program = self.program()
         for word, wanted in (("0", 0), ("5", 5), ("signal", 143)):

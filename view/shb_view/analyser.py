@@ -25,15 +25,17 @@ class Verdict(typing.NamedTuple):
 
 
 class Analyser:
-    def __init__(self, program, trace):
-        self.program, self.trace = str(program), os.path.abspath(trace)
+    def __init__(self, program, trace, file):
+        """`file` is the trace, opened: where its path isn't UTF-8 the program, which takes no such word, opens it by its number."""
+        self.program, self.path, self.file = str(program), os.path.abspath(trace), file.fileno()
+        self.trace = self.path if is_utf8(self.path) else f"/proc/self/fd/{self.file}"
         self.errors = tempfile.TemporaryFile()  # what the program says on standard error
 
     def started(self, words, **how):
         self.errors.seek(0)
         self.errors.truncate()
         try:
-            return subprocess.Popen([self.program, *words, self.trace], stderr=self.errors, **how)
+            return subprocess.Popen([self.program, *words, self.trace], stderr=self.errors, pass_fds=[self.file], **how)
         except OSError as fault:
             name = short(os.fsencode(self.program), MOST_SAID)
             raise Refused(f"`{name}` can't be run ({fault.strerror}); SHB=PROGRAM names another `shb`") from None
@@ -88,6 +90,14 @@ class Analyser:
         self.errors.seek(0)
         said = short(self.errors.read(MOST_BYTES).rstrip(b"\n"), MOST_SAID)
         if status == REFUSED and said:
-            raise Refused(f"`shb` refuses the trace: {said}{refused_line(self.trace, said)}")
+            raise Refused(f"`shb` refuses the trace: {said}{refused_line(self.path, said)}")
         how = f"was ended by signal {-status}" if status < 0 else f"ended with status {status}"
         raise Refused(f"`shb {' '.join(words)}` {how}{': ' if said else ''}{said}")
+
+
+def is_utf8(path):
+    try:
+        os.fsencode(path).decode()
+    except UnicodeDecodeError:
+        return False
+    return True

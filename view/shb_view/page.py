@@ -10,7 +10,7 @@ from shb_view.markup import Markup, code, element, joined, marked
 from shb_view.names import code_line, short
 from shb_view.picture import picture
 from shb_view.source import excerpt
-from shb_view.stacks import frame_parts, origins
+from shb_view.stacks import frame_parts, origins, publication_parts
 from shb_view.words import (VERBS, MOST_SITES, MOST_THREADS, MOST_VARIABLES, NO_LOCK, Code, accesses_text, counted, listed,
                             lock_parts, lock_words, notes_of, partner_parts, place, races_text, seen_parts, summary)
 
@@ -90,7 +90,7 @@ def section_part(view, number, section):
                      marked(section.fact.tag, NAME)),
              element("p", marked(section.fact.sentence, NAME), " ", races_text(section.group), ". ",
                      element("a", "All groups", href="#groups", class_="back"))]
-    parts += [element("p", marked(words, NAME)) for words in seen_parts(section)]
+    parts += [element("p", marked(words, NAME)) for words in [*publication_parts(view, section), *seen_parts(section)]]
     if len(section.group.variables) > 1:
         names = listed([[Code(name)] for name in section.group.variables], MOST_VARIABLES)
         parts.append(element("p", "Variables: ", marked(names, NAME)))

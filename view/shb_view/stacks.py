@@ -10,13 +10,15 @@ import typing
 
 from shb_view.faults import Refused
 from shb_view.names import shown
-from shb_view.words import Code, counted
+from shb_view.words import Code, counted, place
 
 BEGIN = re.compile(rb"shb-stacks 1 ([0-9]{20})\n")
 BEGIN_BYTES = 34
 BLOCK = re.compile(rb".*#([0-9]+)(?:\+[0-9]+)?", re.S)  # a variable in a block, as the recorder names it
 QUALIFIERS = re.compile(rb"(?: const| volatile)+$")
 BLOCK_PART = re.compile(rb"\+[0-9]+$")  # behind the name of a block
+WITH = {b"relaxed": "relaxed", b"acquire": "with acquire", b"release": "with release", b"both": "with acquire and release"}
+MOST_ATOMICS = 3  # that are named of a group
 MOST_DEEP = 200  # calls of a stack that are looked at
 
 
@@ -28,12 +30,33 @@ class Frame(typing.NamedTuple):
     in_system: bool
 
 
+class AtomicUse(typing.NamedTuple):
+    """How a thread uses an atomic at a line: `kind` is load, store or update, `order` relaxed, acquire, release or both."""
+
+    name: bytes
+    thread: bytes
+    location: bytes
+    kind: bytes
+    order: bytes
+
+    def publishes(self):
+        return self.kind != b"load"
+
+    def gives(self):
+        """Whether what stands before it is ordered before what takes the value."""
+        return self.order in (b"release", b"both")
+
+    def takes(self):
+        return self.order in (b"acquire", b"both")
+
+
 class Stacks:
     """The stacks of a trace, by their numbers. `shift` is how many events of the file come before the trace's first."""
 
     def __init__(self, path, shift, events):
         self.path = path
         self.frames, self.calls, self.threads, self.blocks = [None], {}, {}, {}
+        self.atomics = []
         self.sources = {}  # by the name in a location: the file's path
         self.free_starts, self.free_ends, self.shift = array.array("Q"), array.array("Q"), shift
         with open(path, "rb") as file:
@@ -62,6 +85,12 @@ class Stacks:
         elif kind == b"block":
             block, number = map(int, rest.split())
             self.blocks[block] = self.stack(number)
+        elif kind == b"atomic":
+            name, thread, location, how = rest.split(b"\t")
+            use, order = how.split(b" ")
+            if order not in WITH:
+                raise ValueError
+            self.atomics.append(AtomicUse(name, thread, location, use, order))
         elif kind == b"source":
             name, file = rest.split(b"\t")
             self.sources[name] = file
@@ -105,7 +134,7 @@ class Stacks:
 class NoStacks:
     """Of a trace without such a file nothing is known."""
 
-    sources = {}
+    sources, atomics = {}, ()
 
     def of_event(self, event):
         return ()
@@ -140,6 +169,31 @@ def origins(view, section):
         blocks.setdefault(BLOCK_PART.sub(b"", name), view.stacks.of_variable(name))
     found += [(["block ", Code(name), " was allocated"], frames) for name, frames in blocks.items()]
     return [(parts, frames) for parts, frames in found if frames]
+
+
+def publications(view, section):
+    """Atomics that a racing thread which writes stores to and another racing thread loads, without an order that the language gives:
+    each as the store and the load. Where a lock tells what is missing there are none."""
+    if section.fact.lock or section.fact.rank == 1:
+        return []
+    racing = [site for site in section.sites if site.partners]
+    writers, others = set().union(*(site.writers for site in racing)), {thread for site in racing for thread in site.threads}
+    uses = [use for use in view.stacks.atomics if use.thread in others]
+    found = {}
+    for store in uses:
+        for load in uses:
+            is_pair = store.name == load.name and store.thread != load.thread and store.thread in writers
+            if is_pair and store.publishes() and load.kind != b"store" and not (store.gives() and load.takes()):
+                found.setdefault((store.name, store.location, load.location), (store, load))
+    return list(found.values())
+
+
+def publication_parts(view, section):
+    """What is said of atomics by which a group's threads hand on something without order, as parts for each."""
+    for store, load in publications(view, section)[:MOST_ATOMICS]:
+        yield [Code(store.thread), " and ", Code(load.thread), " use the atomic ", Code(store.name), ": ", place(store.location), f" writes it {WITH[store.order]}, ", place(load.location),
+               f" reads it {WITH[load.order]}. A write with release and a read with acquire would order what stands before the one and "
+               "after the other."]
 
 
 def caller_lines(frames, most):

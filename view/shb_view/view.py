@@ -80,7 +80,7 @@ def make_view(options, progress):
     """The view of what the options name."""
     with contextlib.ExitStack() as stack:
         file = stack.enter_context(open_regular(options.trace))
-        analyser = Analyser(options.shb, options.trace)
+        analyser = Analyser(options.shb, options.trace, file)
         gathered = Gathered()
         head = analyser.head(None if options.report else gathered.share)
         given = given_report(options, analyser, stack) if options.report else own_report(analyser, head, stack)
