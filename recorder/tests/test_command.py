@@ -168,6 +168,9 @@ class Command(recorder.Case):
         self.assertEqual(len(re.findall("^.*race .run 1, .*: 1 race at 1 ", said, re.M)), 1)  # the view's first line
         self.assertNotRegex(said, "(?m)^.*race .run [23]")
         self.assertIn("shb-record: 1 place with races;", said)
+        self.assertRegex(said, r"(?m)^shb-record: 3 runs gave [123] different traces?$")
+        traces = {path.read_bytes() for path in (self.folder / "status.shb").glob("*.std")}
+        self.assertIn(f"3 runs gave {len(traces)} different trace", said)
 
     def test_no_record_has_a_likely_cause(self):
         for compiled, cause in (((), "was compiled with -fsanitize=thread"),
