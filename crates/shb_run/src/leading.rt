@@ -1,5 +1,5 @@
 //! The report of the leading races of a trace: of each place the first race.
-ghost use Rattle.std.specs.Prelude.{◌≡◌, ◌⊎◌, ◌-◌, ◌^◌, ◌<◌, IfOk, map};
+ghost use Rattle.std.specs.Prelude.{◌≡◌, ◌⊎◌, ◌-◌, ◌^◌, ◌<◌, IfOk, false, map};
 ghost use Rattle.shb_io.specs.Devices.{CountsFailure};
 ghost use Rattle.shb_lines.specs.events.Race.{ends};
 ghost use Rattle.shb_report.specs.Report.{LeadingRaces};
@@ -18,14 +18,36 @@ use shb_lines::Pair;
 use shb_links::Linked;
 use shb_pairs::open_variables;
 use shb_places::leading_races;
+use shb_report::Places;
 use shb_witness::order_of_races;
-use shb_write::{BlockPlan, WriteError, write_report};
+use shb_write::{BlockPlan, WriteError, write_list, write_report};
 use std::alloc::Global;
 use std::random::RandomSource;
 use std::sync::Wait;
 use std::thread::Threads;
 
-/// Writes the report of the leading races of a trace, which are known.
+/// Writes the report without schedules of the leading races of a trace, which are known.
+fn list_leading<K: Sink>(
+    alloc: Global,
+    sink: &mut K,
+    trace: &Disciplined<'_>,
+    races: &[Pair],
+) -> Result<Summary, WriteError>
+    requires countable { K.failure_count sink.old < 2 ^ 64 - 1 }
+    requires listed { LeadingRaces trace.now.trace.now (map ends races.now) }
+    ensures report { IfOk result (λ summary. ReportsTrace LeadingRaces false trace.now.trace.now summary (K.taken sink.old) (K.taken sink.new)) }
+    ensures fits { IfOk result FitsU64 }
+    ensures cut { OnFailedSink result (CutsReportOn LeadingRaces false trace.now.trace.now (K.taken sink.old) (K.taken sink.new)) }
+    ensures memory { OnNoMemory result ((sink.new ≡ sink.old)
+        ⊎ CutsBlocksOn LeadingRaces false trace.now.trace.now (K.taken sink.old) (K.taken sink.new)) }
+    ensures counted { CountsFailure write_failed (K.failure_count sink.old) (K.failure_count sink.new) result }
+{
+    let places = Places::of_leading(alloc, races)?;
+    write_list(sink, trace.trace, races, &places)?;
+    Ok(summary_of(trace.trace, races.len() as u64))
+}
+
+/// Writes the report with schedules of the leading races of a trace, which are known.
 fn write_leading<R: Threads + Wait + Sync + RandomSource, K: Sink, O: Order + Sync, G: Gate + Sync>(
     rt: &R,
     alloc: Global,
@@ -51,8 +73,8 @@ fn write_leading<R: Threads + Wait + Sync + RandomSource, K: Sink, O: Order + Sy
     Ok(summary_of(ordered.disciplined.trace, races.len() as u64))
 }
 
-/// Finds the leading races of a trace, and writes their report. No list of all races is made, and
-/// schedules go by an order that can be asked about the events of the leading races alone.
+/// Finds the leading races of a trace, and writes their report. No list of all races is made. Schedules go by
+/// an order that can be asked about the events of the leading races alone; without them no order is made.
 pub(crate) fn report_leading<R: Threads + Wait + Sync + RandomSource, K: Sink, W: Gate + Sync>(
     rt: &R,
     alloc: Global,
@@ -75,6 +97,9 @@ pub(crate) fn report_leading<R: Threads + Wait + Sync + RandomSource, K: Sink, W
     let links = links_for(alloc, &*trace, settings.schedules)?;
     let flags = open_variables(alloc, &*trace, &links)?;
     let races = leading_races(rt, alloc, &*trace, &links, &flags)?;
+    if !settings.schedules {
+        return list_leading(alloc, sink, trace, &races);
+    }
     let order = order_of_races(alloc, Linked::new(&*trace, &links), &races)?;
     let ordered = Ordered::new(&order, &*trace, &links);
     let plan = BlockPlan {

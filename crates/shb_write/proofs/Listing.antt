@@ -23,11 +23,11 @@ use Rattle.shb_write.specs.declared.counted.Counted.{Counted}
 use Rattle.shb_write.specs.declared.errors.WriteError.{WriteError}
 use Rattle.shb_write.specs.declared.errors.WriteError.TheVariants as errors
 use Rattle.shb_write.specs.declared.race_lister.RaceLister.{RaceLister}
-use Rattle.shb_write.specs.Listed.{HasFailedListing, HasKept, HasListed, IsCountOf, IsRaceOf, MayList, count_after, failures_after, listed_blocks, pairs_in, shown_alone}
-use Rattle.shb_write.specs.Written.{AppendsFront, WritesBlocks}
+use Rattle.shb_write.specs.Listed.{HasFailedListing, HasKept, HasListed, IsCountOf, IsRaceOf, MayList, count_after, failures_after, list_bytes, listed_blocks, pairs_in, shown_alone}
+use Rattle.shb_write.specs.Written.{AppendsFront, CutsReportOn, These, WritesBlocks, WritesReport}
 use Rattle.shb_write.proofs.Blocks.{ends-take, front_of}
 use Rattle.shb_write.proofs.Ranges.{first_in_range, second_in_range}
-use Rattle.shb_write.proofs.Reports.{pairs_back}
+use Rattle.shb_write.proofs.Reports.{pairs_back, report_cut, report_written}
 
 -- ---- lists
 
@@ -244,6 +244,13 @@ AreBlocks-listed trace races = record {
   schedules_are = All-map (HasSchedule false trace) shown_alone races (λ k d lt. refl);
   bytes_are = refl;
 }
+
+-- the report was written, or the front of it
+pub list_written : (trace : TraceData) (races : List (ℕ × ℕ)) (old new : Option (List ℕ)) → Appends old new (list_bytes trace races) → WritesReport (These races) false trace old new
+list_written trace races old new written = report_written false trace races (listed_blocks trace 1 races) (AreBlocks-listed trace races) old new written
+
+pub list_cut : (trace : TraceData) (races : List (ℕ × ℕ)) (old new : Option (List ℕ)) → AppendsPrefix old new (list_bytes trace races) → CutsReportOn (These races) false trace old new
+list_cut trace races old new front = report_cut false trace races (listed_blocks trace 1 races) (AreBlocks-listed trace races) old new front
 
 -- the blocks up to an index, and the one there
 blocks_next : (trace : TraceData) (before number : ℕ) (pairs : List Pair) (k : ℕ) (d : Pair) → k < length pairs → number ≡ before + k + 1

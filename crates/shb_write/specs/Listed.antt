@@ -9,7 +9,7 @@ use Rattle.shb_clocks.specs.Open.{OpenTrace}
 use Rattle.shb_pairs.specs.Pieces.{pieces_in}
 use Rattle.shb_pairs.specs.Races.{joined, races_at}
 use Rattle.shb_report.specs.Places.{IsPairOf, IsPlaceOf, counts_in, places_of_pairs}
-use Rattle.shb_report.specs.Report.{ShownRace, blocks_from, pair_of}
+use Rattle.shb_report.specs.Report.{ShownRace, blocks_from, front_bytes, pair_of, tail_bytes}
 use Rattle.shb_write.specs.declared.counted.Counted.{Counted}
 use Rattle.shb_write.specs.declared.errors.WriteError.{WriteError}
 use Rattle.shb_write.specs.declared.race_lister.RaceLister.{RaceLister}
@@ -29,6 +29,10 @@ shown_alone race = record { pair = race; schedule = None }
 
 abbrev pub listed_blocks : TraceData → ℕ → List (ℕ × ℕ) → List ℕ
 listed_blocks trace number races = blocks_from trace number (map shown_alone races)
+
+-- the report of a trace that lists these races, without schedules
+abbrev pub list_bytes : TraceData → List (ℕ × ℕ) → List ℕ
+list_bytes trace races = front_bytes trace races ++ (listed_blocks trace 1 races ++ tail_bytes)
 
 -- the races of a piece, as pairs
 abbrev pub pairs_in : List (List (ℕ × ℕ)) → List Pair

@@ -31,4 +31,4 @@ pub use errors::WriteError;
 pub use plan::BlockPlan;
 pub use race_search::RaceSearch;
 pub use searched::write_search;
-pub use write::write_report;
+pub use write::{write_list, write_report};

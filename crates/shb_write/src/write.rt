@@ -1,10 +1,11 @@
 //! The report of a trace that lists races which are known.
 ghost use Rattle.std.specs.Prelude.{◌≡◌, ◌⊎◌, ◌+◌, ◌-◌, ◌^◌, ◌<◌, ℕ, All, IfOk, List, false, length, map, true};
 ghost use Rattle.shb_io.specs.Devices.{CountsFailure, IsCounted, Writes};
-ghost use Rattle.shb_report.specs.Places.{IsPlaceOf, counts_in, places_of_pairs};
+ghost use Rattle.shb_report.specs.Places.{IsPairOf, IsPlaceOf, counts_in, places_of_pairs};
 ghost use Rattle.shb_report.specs.Report.{counts_of, front_bytes, pair_of};
 ghost use Rattle.shb_witness.specs.Checkpoints.{IsReached};
 ghost use Rattle.shb_witness.specs.Schedules.{AreRaces, AsksEach};
+ghost use Rattle.shb_write.specs.Listed.{list_bytes};
 ghost use Rattle.shb_write.specs.Written.{CutsBlocksOn, CutsReportOn, OnFailedSink, OnNoMemory, These, WritesBlocks, WritesReport, write_failed};
 ghost use Rattle.shb_write.specs.Windows.{WritesBlocksFrom};
 ghost use Rattle.shb_lines.specs.events.Race.{ends};
@@ -15,6 +16,7 @@ use crate::found::Found;
 use crate::making::Making;
 use crate::plan::BlockPlan;
 use crate::prepared::prepared_for;
+use crate::race_lister::write_listed;
 use shb_clocks::{Order, Ordered};
 use shb_fan::{Gate, StreamError, stream};
 use shb_io::{Failed, Sink};
@@ -155,6 +157,29 @@ pub(crate) fn write_front<K: Sink>(
     let counts = counts_of(trace);
     head(sink, &counts, races)?;
     place_lines(sink, trace, places)
+}
+
+/// Writes the report of a trace that lists these races, without schedules. Both events of each race must be
+/// events of the trace, and the places must be those of the races.
+///
+/// # Errors
+///
+/// [`Failed`]: the sink failed. It took less than the report, the front of it.
+pub fn write_list<K: Sink>(
+    sink: &mut K,
+    trace: &Trace,
+    races: &[Pair],
+    places: &Places,
+) -> Result<(), Failed>
+    requires countable { K.failure_count sink.old < 2 ^ 64 - 1 }
+    requires in_range { All (IsPairOf trace.now) races.now }
+    requires places { places.now ≡ counts_in (places_of_pairs trace.now races.now) }
+    ensures written { Writes (K.taken sink.old) (K.taken sink.new) result (list_bytes trace.now (map ends races.now)) }
+    ensures counted { IsCounted (K.failure_count sink.old) (K.failure_count sink.new) result }
+{
+    write_front(sink, trace, races.len() as u64, places)?;
+    write_listed(sink, trace, 0, races)?;
+    tail(sink)
 }
 
 /// Writes the report of a trace that lists these races. The order can be asked about their events.
