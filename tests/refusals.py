@@ -40,7 +40,7 @@ MADE = {
     "shb_write/src/list.rt": 2,
     "shb_write/src/race_keeper.rt": 2,
     "shb_write/src/race_lister.rt": 1,
-    "shb_write/src/window.rt": 2,
+    "shb_write/src/searched.rt": 1,
     "shb_write/src/write.rt": 1,
 }
 # Which files may have a name or an item of the kit's.

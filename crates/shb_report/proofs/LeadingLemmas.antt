@@ -334,9 +334,9 @@ each_once trace past [] apart = ap (map (only_one trace)) (sym (append-nil past)
 each_once trace past (pair ∷ rest) apart =
     let split : past ++ pair ∷ rest ≡ (past ++ pair ∷ []) ++ rest = sym (append_assoc past (pair ∷ []) rest) in
     let new : Covers (map (only_one trace) past) (location_at trace pair.first) (location_at trace pair.second) → ⊥ = λ c.
-        let known = only_at trace past _ _ c in
-        let low = slice_get_within past known.0 known.1 known.2 in
-        apart known.0 (length past) known.1 pair (in_front past (pair ∷ rest) known.0 known.1 known.2) (at_seam past pair rest) (λ k. (sym known.3 k, sym known.4 k)) low in
+    let known = only_at trace past _ _ c in
+    let low = slice_get_within past known.0 known.1 known.2 in
+    apart known.0 (length past) known.1 pair (in_front past (pair ∷ rest) known.0 known.1 known.2) (at_seam past pair rest) (λ k. (sym known.3 k, sym known.4 k)) low in
     let next : with_pair (map (only_one trace) past) (location_at trace pair.first) (location_at trace pair.second) pair ≡ map (only_one trace) (past ++ pair ∷ []) =
     stands_last _ _ pair (map (only_one trace) past) new ∙ sym (map_push (only_one trace) past pair) in
     ap (λ (places : List PlaceOf). fold (λ places pair. with_pair places (location_at trace pair.first) (location_at trace pair.second) pair) places rest) next

@@ -19,7 +19,8 @@ use std::random::RandomSource;
 use std::sync::Wait;
 use std::thread::Threads;
 
-/// Finds all races of an ordered trace, and writes their report. No list of more races than events is made.
+/// Finds all races of an ordered trace, and writes their report. Without schedules no list of more races than
+/// events is made.
 pub(crate) fn report_found<
     R: Threads + Wait + Sync + RandomSource,
     K: Sink,
@@ -58,10 +59,9 @@ pub(crate) fn report_found<
     );
     let search = RaceSearch::new(ordered, &job, gates.pair, settings.workers);
     let plan = BlockPlan {
-        schedules: settings.schedules,
         workers: settings.workers,
         gate: gates.witness,
     };
-    let races = write_search(rt, alloc, sink, &search, &plan)?;
+    let races = write_search(rt, alloc, sink, &search, settings.schedules, &plan)?;
     Ok(summary_of(ordered.disciplined.trace, races))
 }

@@ -1,5 +1,5 @@
 //! The report of the leading races of a trace: of each place the first race.
-ghost use Rattle.std.specs.Prelude.{◌≡◌, ◌⊎◌, ◌-◌, ◌^◌, ◌<◌, IfOk, false, map};
+ghost use Rattle.std.specs.Prelude.{◌≡◌, ◌⊎◌, ◌-◌, ◌^◌, ◌<◌, IfOk, false, map, true};
 ghost use Rattle.shb_io.specs.Devices.{CountsFailure};
 ghost use Rattle.shb_lines.specs.events.Race.{ends};
 ghost use Rattle.shb_report.specs.Report.{LeadingRaces};
@@ -59,13 +59,13 @@ fn write_leading<R: Threads + Wait + Sync + RandomSource, K: Sink, O: Order + Sy
     requires countable { K.failure_count sink.old < 2 ^ 64 - 1 }
     requires listed { LeadingRaces ordered.now.disciplined.now.trace.now (map ends races.now) }
     requires asked { AsksEach (O.asks ordered.now.order.now) races.now }
-    ensures report { IfOk result (λ summary. ReportsTrace LeadingRaces plan.now.schedules ordered.now.disciplined.now.trace.now summary
+    ensures report { IfOk result (λ summary. ReportsTrace LeadingRaces true ordered.now.disciplined.now.trace.now summary
         (K.taken sink.old) (K.taken sink.new)) }
     ensures fits { IfOk result FitsU64 }
-    ensures cut { OnFailedSink result (CutsReportOn LeadingRaces plan.now.schedules ordered.now.disciplined.now.trace.now
+    ensures cut { OnFailedSink result (CutsReportOn LeadingRaces true ordered.now.disciplined.now.trace.now
         (K.taken sink.old) (K.taken sink.new)) }
     ensures memory { OnNoMemory result ((sink.new ≡ sink.old)
-        ⊎ CutsBlocksOn LeadingRaces plan.now.schedules ordered.now.disciplined.now.trace.now
+        ⊎ CutsBlocksOn LeadingRaces true ordered.now.disciplined.now.trace.now
         (K.taken sink.old) (K.taken sink.new)) }
     ensures counted { CountsFailure write_failed (K.failure_count sink.old) (K.failure_count sink.new) result }
 {
@@ -97,15 +97,14 @@ pub(crate) fn report_leading<R: Threads + Wait + Sync + RandomSource, K: Sink, W
     let links = links_for(alloc, &*trace, settings.schedules)?;
     let flags = open_variables(alloc, &*trace, &links)?;
     let races = leading_races(rt, alloc, &*trace, &links, &flags)?;
-    if !settings.schedules {
-        return list_leading(alloc, sink, trace, &races);
+    if settings.schedules {
+        let order = order_of_races(alloc, Linked::new(&*trace, &links), &races)?;
+        let ordered = Ordered::new(&order, &*trace, &links);
+        let plan = BlockPlan {
+            workers: settings.workers,
+            gate,
+        };
+        return write_leading(rt, alloc, sink, &ordered, &races, &plan);
     }
-    let order = order_of_races(alloc, Linked::new(&*trace, &links), &races)?;
-    let ordered = Ordered::new(&order, &*trace, &links);
-    let plan = BlockPlan {
-        schedules: settings.schedules,
-        workers: settings.workers,
-        gate,
-    };
-    write_leading(rt, alloc, sink, &ordered, &races, &plan)
+    list_leading(alloc, sink, trace, &races)
 }

@@ -141,9 +141,7 @@ pub fn run<S: Source, K: Sink, R: Threads + Wait + Sync + RandomSource>(
 }
 
 /// [`run`] with gates: `pair_gate` is passed before the races of a piece are looked for, each time that they
-/// are, and `witness_gate` before the schedule of a race is made. Where there are more races than events, the
-/// caller's thread makes the last search for a report with schedules, and `witness_gate` is told the number of
-/// a race in its window. Tests hold workers back with gates.
+/// are, and `witness_gate` before the schedule of a race is made. Tests hold workers back with gates.
 ///
 /// # Errors
 ///

@@ -70,55 +70,9 @@ pub shows_printed : (ws : Bool) (trace : TraceData) (events : List Event) (pair 
 shows_printed true trace events pair s wanted same printed = subst (λ e. IsPrintedSchedule e s pair.0 pair.1) same printed
 shows_printed false trace events pair s wanted same printed = absurd (let f : ⊥ = cc in f)
 
-pub shows_none : (ws : Bool) (trace : TraceData) (pair : ℕ × ℕ) → ws ≡ false → HasSchedule ws trace (record { pair = pair; schedule = None })
-shows_none true trace pair unwanted = absurd (let f : ⊥ = cc in f)
-shows_none false trace pair unwanted = refl
-
--- a block has some bytes
-pub block_is_some : (trace : TraceData) (number : ℕ) (pair : ℕ × ℕ) (schedule : Option (List ℕ)) → 0 < length (block_bytes trace number pair schedule)
-block_is_some trace number pair schedule = omega arith
-
--- the blocks of these races were written
-pub record HasBlocks (ws : Bool) (trace : TraceData) (races : List (ℕ × ℕ)) (old new : Option (List ℕ)) : Type 0 where
-  pub bytes : List ℕ
-  pub blocks : AreBlocks ws trace races bytes
-  pub appended : Appends old new bytes
-
-pub HasBlocks-nil : (ws : Bool) (trace : TraceData) (old : Option (List ℕ)) → HasBlocks ws trace [] old old
-HasBlocks-nil ws trace old = record { bytes = []; blocks = AreBlocks-nil ws trace; appended = Appends-nil old }
-
 -- the races up to an index, and the one there
 pub ends-take : (races : List Pair) (i : ℕ) (d : Pair) → i < length races → map ends (take (i + 1) races) ≡ map ends (take i races) ++ ends (get_or races i d) ∷ []
 ends-take races i d lt = ap (map ends) (take_more races i d lt) ∙ map-append ends (take i races) (get_or races i d ∷ [])
-
-length-ends-take : (races : List Pair) (i : ℕ) → i < length races → length (map ends (take i races)) ≡ i
-length-ends-take races i lt = length-map (take i races) ends ∙ length-take-le i races (omega arith)
-
--- the block of a race was written
-pub record AddsBlock (ws : Bool) (trace : TraceData) (number : ℕ) (pair : ℕ × ℕ) (old new : Option (List ℕ)) : Type 0 where
-  pub schedule : Option (List ℕ)
-  pub shown : HasSchedule ws trace (record { pair = pair; schedule = schedule })
-  pub written : Appends old new (block_bytes trace number pair schedule)
-
--- less than the block of a race was written
-pub record CutsBlock (ws : Bool) (trace : TraceData) (number : ℕ) (pair : ℕ × ℕ) (old new : Option (List ℕ)) : Type 0 where
-  pub schedule : Option (List ℕ)
-  pub shown : HasSchedule ws trace (record { pair = pair; schedule = schedule })
-  pub cut : AppendsPrefix old new (block_bytes trace number pair schedule)
-
--- and the block of the next race was written
-pub HasBlocks-push : (ws : Bool) (trace : TraceData) (races : List Pair) (i number : ℕ) (pair d : Pair) (old now new : Option (List ℕ))
-    → i < length races → pair ≡ get_or races i d → number ≡ i + 1 → HasBlocks ws trace (map ends (take i races)) old now → AddsBlock ws trace number (ends pair) now new
-    → HasBlocks ws trace (map ends (take (i + 1) races)) old new
-HasBlocks-push ws trace races i number pair d old now new lt is numbered before next =
-    let place : number ≡ 1 + length (map ends (take i races)) = omega (arith, length-ends-take races i lt) in
-    let block = block_bytes trace (1 + length (map ends (take i races))) (ends pair) next.schedule in
-    let pushed = AreBlocks-push ws trace (map ends (take i races)) before.bytes (record { pair = ends pair; schedule = next.schedule }) before.blocks next.shown in
-    record {
-      bytes = before.bytes ++ block;
-      blocks = subst (λ r. AreBlocks ws trace r (before.bytes ++ block)) (sym (ends-take races i d lt ∙ ap (λ p. map ends (take i races) ++ ends p ∷ []) (sym is))) pushed;
-      appended = Appends-trans old now new before.bytes block before.appended (subst (λ n. Appends now new (block_bytes trace n (ends pair) next.schedule)) place next.written);
-    }
 
 -- less than all bytes are the front of them
 pub front_of : (old new : Option (List ℕ)) (bs : List ℕ) → AppendsPrefix old new bs → AppendsFront old new bs
@@ -136,36 +90,6 @@ AppendsFront-then old new xs ys some front = cases (cases_lt front.0 (length xs)
     cases : (front.0 < length xs) ⊎ (length xs ≤ front.0) → AppendsPrefix old new (xs ++ ys)
     cases (inl lt) = AppendsPrefix-front old new xs ys (front.0, lt, front.1)
     cases (inr le) = AppendsPrefix-whole old new xs ys some (subst (Appends old new) (take_all front.0 xs le) front.1)
-
--- the block of the next race was not written whole
-pub WritesBlocks-stop : {U : Type 0} (ws : Bool) (trace : TraceData) (races : List Pair) (i number : ℕ) (pair d : Pair) (old now new : Option (List ℕ)) (Q : WriteError → Type 0) (r : Result U WriteError)
-    → IsDisciplined trace.events → i < length races → pair ≡ get_or races i d → number ≡ i + 1 → HasBlocks ws trace (map ends (take i races)) old now → CutsBlock ws trace number (ends pair) now new
-    → IsErrAnd r Q → WritesBlocks ws trace (map ends races) old new r
-WritesBlocks-stop ws trace races i number pair d old now new Q r disciplined lt is numbered before next failed =
-    let place : number ≡ 1 + length (map ends (take i races)) = omega (arith, length-ends-take races i lt) in
-    let block = block_bytes trace (1 + length (map ends (take i races))) (ends pair) next.schedule in
-    let pushed = AreBlocks-push ws trace (map ends (take i races)) before.bytes (record { pair = ends pair; schedule = next.schedule }) before.blocks next.shown in
-    let more = AreBlocks-more ws trace (map ends (take i races) ++ ends pair ∷ []) (map ends (drop (i + 1) races)) (before.bytes ++ block) disciplined pushed in
-    let whole : (map ends (take i races) ++ ends pair ∷ []) ++ map ends (drop (i + 1) races) ≡ map ends races =
-    ap (λ p. (map ends (take i races) ++ ends p ∷ []) ++ map ends (drop (i + 1) races)) is
-    ∙ ap (λ l. l ++ map ends (drop (i + 1) races)) (sym (ends-take races i d lt))
-    ∙ sym (map-append ends (take (i + 1) races) (drop (i + 1) races))
-    ∙ ap (map ends) (take-append-drop (i + 1) races) in
-    let prefix : AppendsPrefix now new block = subst (λ n. AppendsPrefix now new (block_bytes trace n (ends pair) next.schedule)) place next.cut in
-    record {
-      bytes = (before.bytes ++ block) ++ more.0;
-      blocks = subst (λ l. AreBlocks ws trace l ((before.bytes ++ block) ++ more.0)) whole more.1;
-      written = front_written Q r old new _ failed (front_of old new _ (AppendsPrefix-front old new (before.bytes ++ block) more.0 (AppendsPrefix-after old now new before.bytes block before.appended prefix)));
-    }
-
--- all races have their blocks
-pub WritesBlocks-all : {T : Type 0} (ws : Bool) (trace : TraceData) (races : List Pair) (i : ℕ) (old new : Option (List ℕ)) (x : T)
-    → length races ≤ i → HasBlocks ws trace (map ends (take i races)) old new → WritesBlocks ws trace (map ends races) old new (Ok x)
-WritesBlocks-all ws trace races i old new x le before = record {
-  bytes = before.bytes;
-  blocks = subst (λ l. AreBlocks ws trace (map ends l) before.bytes) (take_all i races le) before.blocks;
-  written = before.appended;
-}
 
 -- nothing was written
 pub WritesBlocks-none : {U : Type 0} (ws : Bool) (trace : TraceData) (races : List (ℕ × ℕ)) (old : Option (List ℕ)) (Q : WriteError → Type 0) (r : Result U WriteError) → IsDisciplined trace.events → IsErrAnd r Q → WritesBlocks ws trace races old old r

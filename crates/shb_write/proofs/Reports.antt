@@ -1,5 +1,5 @@
 -- A report from its parts.
-use Rattle.std.proofs.Common.{◌≡◌, ℕ, ◌+◌, Bool, List, [], ◌∷◌, ◌++◌, length, map, take, get_or, All, Option, Result, Ok, Err, refl, sym, ap, subst, ◌∙◌, arith, length-append}
+use Rattle.std.proofs.Common.{◌≡◌, ℕ, ◌+◌, Bool, List, [], ◌∷◌, ◌++◌, length, map, take, get_or, All, Option, Result, Ok, Err, IsErrAnd, refl, sym, ap, subst, ◌∙◌, arith, length-append}
 use Rattle.std.specs.Io.KnownBytes.{Appends}
 use Rattle.std.proofs.Math.Seq.{take-append-add}
 use Rattle.shb_io.specs.Devices.{AppendsPrefix}
@@ -86,3 +86,20 @@ pub on_memory : {T : Type 0} (r : Result T WriteError) (P : Type 0) → P → On
 on_memory (Ok x) P p = tt
 on_memory (Err Sink) P p = tt
 on_memory (Err Memory) P p = p
+
+-- the same of another result with that error
+pub cut_as : {T : Type 0} (U : Type 0) (P Q : Type 0) → (P → Q) → (error : WriteError) (r : Result T WriteError) → IsErrAnd r (λ e. e ≡ error) → OnFailedSink {T = U} (Err error) P → OnFailedSink r Q
+cut_as U P Q then error (Ok x) is cut = absurd is
+cut_as {T} U P Q then error (Err e) is cut = subst (λ (e : WriteError). OnFailedSink {T = T} (Err e) Q) (sym is) (by error cut)
+  where
+    by : (error : WriteError) → OnFailedSink {T = U} (Err error) P → OnFailedSink {T = T} (Err error) Q
+    by Sink cut = then cut
+    by Memory cut = tt
+
+pub memory_as : {T : Type 0} (U : Type 0) (P Q : Type 0) → (P → Q) → (error : WriteError) (r : Result T WriteError) → IsErrAnd r (λ e. e ≡ error) → OnNoMemory {T = U} (Err error) P → OnNoMemory r Q
+memory_as U P Q then error (Ok x) is cut = absurd is
+memory_as {T} U P Q then error (Err e) is cut = subst (λ (e : WriteError). OnNoMemory {T = T} (Err e) Q) (sym is) (by error cut)
+  where
+    by : (error : WriteError) → OnNoMemory {T = U} (Err error) P → OnNoMemory {T = T} (Err error) Q
+    by Sink cut = tt
+    by Memory cut = then cut

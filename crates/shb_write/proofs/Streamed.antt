@@ -12,15 +12,14 @@ use Rattle.shb_lines.specs.declared.event.Event.{Event}
 use Rattle.shb_lines.specs.declared.event.Pair.{Pair}
 use Rattle.shb_lines.specs.events.Discipline.{IsDisciplined}
 use Rattle.shb_lines.specs.text.TraceData.{TraceData}
-use Rattle.shb_report.specs.Report.{HasSchedule, ShownRace, block_bytes, blocks_from}
+use Rattle.shb_report.specs.Report.{AreBlocks, HasSchedule, ShownRace, block_bytes, blocks_from}
 use Rattle.shb_witness.specs.Schedules.{Asked, schedule_at}
 use Rattle.shb_witness.proofs.Printed.{computed_is_printed}
 use Rattle.shb_write.specs.declared.block_writer.BlockWriter.{BlockWriter}
 use Rattle.shb_write.specs.declared.errors.WriteError.{WriteError}
 use Rattle.shb_write.specs.Scheduled.{HasStopped, HasWritten, MayWrite, next_number, number_after, scheduled_blocks, shown_from}
-use Rattle.shb_write.specs.Windows.{AreBlocksFrom, WritesBlocksFrom}
-use Rattle.shb_write.proofs.Blocks.{blocks_from-push, front_of, shows_printed}
-use Rattle.shb_write.proofs.Moving.{from_more}
+use Rattle.shb_write.specs.Written.{WritesBlocks}
+use Rattle.shb_write.proofs.Blocks.{AreBlocks-more, blocks_from-push, front_of, shows_printed}
 use Rattle.shb_lines.specs.events.Race.{ends}
 
 abbrev pub none : Pair
@@ -60,22 +59,21 @@ module _ {K : Type 0} (taken : K → Option (List ℕ)) (failures : K → ℕ) w
   next_block start before schedules s race number is numbered has =
       let many : before.written ≡ start.written + length schedules = has.as_many ∙ number_after-is start.written schedules in
       let there : race ≡ get_or start.races.now (start.written + length schedules) none = is ∙ ap (λ l. get_or l before.written none) has.same_races ∙ ap (λ n. get_or start.races.now n none) many in
-      let place : number ≡ next_number start + length schedules = omega (arith, numbered, many, has.same_earlier) in
+      let place : number ≡ next_number start + length schedules = omega (arith, numbered, many) in
       blocks-push start.trace.now (next_number start) start.written start.races.now schedules s race number there place
       ∙ ap (λ t. scheduled_blocks start.trace.now (next_number start) start.written start.races.now schedules ++ block_bytes t number (ends race) (Some s)) (sym has.same_trace)
 
   -- the next block was written
   pub took : {T E : Type 0} (start before after : BlockWriter K) (given : List (List ℕ)) (s : List ℕ) (race : Pair) (number : ℕ) (r : Result T E)
       → race ≡ get_or before.races.now before.written none → number ≡ next_number before → after.written ≡ before.written + 1
-      → after.sink.ghost_name ≡ before.sink.ghost_name → after.trace.now ≡ before.trace.now → after.races.now ≡ before.races.now → after.earlier ≡ before.earlier
+      → after.sink.ghost_name ≡ before.sink.ghost_name → after.trace.now ≡ before.trace.now → after.races.now ≡ before.races.now
       → Writes (taken before.sink.now) (taken after.sink.now) r (block_bytes before.trace.now number (ends race) (Some s)) → IsCounted (failures before.sink.now) (failures after.sink.now) r
       → HasWritten taken failures start given before → IfOk r (λ _. HasWritten taken failures start (given ++ s ∷ []) after)
-  took start before after given s race number (Err e) is numbered more sink trace races earlier written counted has = tt
-  took start before after given s race number (Ok x) is numbered more sink trace races earlier written counted has = record {
+  took start before after given s race number (Err e) is numbered more sink trace races written counted has = tt
+  took start before after given s race number (Ok x) is numbered more sink trace races written counted has = record {
     same_sink = sink ∙ has.same_sink;
     same_trace = trace ∙ has.same_trace;
     same_races = races ∙ has.same_races;
-    same_earlier = earlier ∙ has.same_earlier;
     as_many = omega (arith, more, has.as_many, number_after-is start.written given, number_after-is start.written (given ++ s ∷ []), length-append given (s ∷ []));
     appended = subst (Appends (taken start.sink.now) (taken after.sink.now)) (sym (next_block start before given s race number is numbered has)) (Appends-trans _ _ _ _ _ has.appended written);
     counted = counted ∙ has.counted;
@@ -100,11 +98,6 @@ module _ {K : Type 0} (taken : K → Option (List ℕ)) (failures : K → ℕ) w
   pub next_there : (start before : BlockWriter K) (schedules : List (List ℕ)) (s : List ℕ) → HasWritten taken failures start schedules before → MayWrite failures start schedules s → before.written < length before.races.now
   next_there start before schedules s has may = omega (arith, may.room, has.as_many, number_after-is start.written schedules, ap length has.same_races)
 
-  -- the number of its block has 64 bits
-  pub next_has_number : (start before : BlockWriter K) (schedules : List (List ℕ)) (s : List ℕ) → HasWritten taken failures start schedules before → MayWrite failures start schedules s
-      → before.earlier + length before.races.now < 2 ^ 64 → before.earlier + (before.written + 1) < 2 ^ 64
-  next_has_number start before schedules s has may room = omega (arith, room, next_there start before schedules s has may)
-
   -- the sink can count a failure more
   pub next_countable : (start before : BlockWriter K) (schedules : List (List ℕ)) (s : List ℕ) → HasWritten taken failures start schedules before → MayWrite failures start schedules s → failures before.sink.now < 2 ^ 64 - 1
   next_countable start before schedules s has may = omega (arith, may.countable, has.counted)
@@ -118,7 +111,7 @@ counted_on f n (suc m) none_before =
     ap (λ l. l ++ f m ∷ []) (counted_on f n m none_before)
     ∙ ap (λ k. values_of (λ j. f (n + j)) m ++ f k ∷ []) (let e : m ≡ n + m = omega (arith, none_before) in e)
 
-module _ (trace : TraceData) (events : List Event) (races : List Pair) (earlier : ℕ) (same : events ≡ trace.events) where
+module _ (trace : TraceData) (events : List Event) (races : List Pair) (same : events ≡ trace.events) where
   abbrev schedules : ℕ → List (List ℕ)
   schedules k = values_of (schedule_at events races) k
 
@@ -146,41 +139,41 @@ module _ (trace : TraceData) (events : List Event) (races : List Pair) (earlier 
       (All-push (HasSchedule true trace) (shown_from 0 races (values_of (schedule_at events races) k)) (record { pair = ends (get_or races k none); schedule = Some (schedule_at events races k) }) (first_schedules k)
       (shows_printed true trace events (ends (get_or races k none)) (schedule_at events races k) refl same (computed_is_printed events (get_or races k none))))
 
-  first_blocks : (k : ℕ) → k ≤ length races → AreBlocksFrom trace (earlier + 1) (take k races) (scheduled_blocks trace (earlier + 1) 0 races (values_of (schedule_at events races) k))
+  first_blocks : (k : ℕ) → k ≤ length races → AreBlocks true trace (map ends (take k races)) (scheduled_blocks trace 1 0 races (values_of (schedule_at events races) k))
   first_blocks k le = record { shown = shown_from 0 races (values_of (schedule_at events races) k); races_are = first_races k le; schedules_are = first_schedules k; bytes_are = refl }
 
   -- all blocks, of which the first k are those
-  all_blocks : (k : ℕ) → k ≤ length races → IsDisciplined trace.events → (rest : List ℕ) × AreBlocksFrom trace (earlier + 1) races (scheduled_blocks trace (earlier + 1) 0 races (values_of (schedule_at events races) k) ++ rest)
+  all_blocks : (k : ℕ) → k ≤ length races → IsDisciplined trace.events → (rest : List ℕ) × AreBlocks true trace (map ends races) (scheduled_blocks trace 1 0 races (values_of (schedule_at events races) k) ++ rest)
   all_blocks k le disciplined =
-      let more = from_more trace (earlier + 1) (take k races) (drop k races) (scheduled_blocks trace (earlier + 1) 0 races (values_of (schedule_at events races) k)) disciplined (first_blocks k le) in
-      (more.0, subst (λ l. AreBlocksFrom trace (earlier + 1) l (scheduled_blocks trace (earlier + 1) 0 races (values_of (schedule_at events races) k) ++ more.0)) (take-append-drop k races) more.1)
+      let more = AreBlocks-more true trace (map ends (take k races)) (map ends (drop k races)) (scheduled_blocks trace 1 0 races (values_of (schedule_at events races) k)) disciplined (first_blocks k le) in
+      (more.0, subst (λ l. AreBlocks true trace l (scheduled_blocks trace 1 0 races (values_of (schedule_at events races) k) ++ more.0)) (sym (map-append ends (take k races) (drop k races)) ∙ ap (map ends) (take-append-drop k races)) more.1)
 
   -- all schedules came
-  streamed_all : {T : Type 0} (old new : Option (List ℕ)) (x : T) → Appends old new (scheduled_blocks trace (earlier + 1) 0 races (values_of (schedule_at events races) (length races))) → WritesBlocksFrom trace (earlier + 1) races old new (Ok x)
+  streamed_all : {T : Type 0} (old new : Option (List ℕ)) (x : T) → Appends old new (scheduled_blocks trace 1 0 races (values_of (schedule_at events races) (length races))) → WritesBlocks true trace (map ends races) old new (Ok x)
   streamed_all old new x written = record {
-    bytes = scheduled_blocks trace (earlier + 1) 0 races (values_of (schedule_at events races) (length races));
-    blocks = subst (λ l. AreBlocksFrom trace (earlier + 1) l (scheduled_blocks trace (earlier + 1) 0 races (values_of (schedule_at events races) (length races)))) (take_all (length races) races (omega arith)) (first_blocks (length races) (omega arith));
+    bytes = scheduled_blocks trace 1 0 races (values_of (schedule_at events races) (length races));
+    blocks = subst (λ (l : List Pair). AreBlocks true trace (map ends l) (scheduled_blocks trace 1 0 races (values_of (schedule_at events races) (length races)))) (take_all (length races) races (omega arith)) (first_blocks (length races) (omega arith));
     written = written;
   }
 
   -- the first k schedules came
   streamed_some : {T : Type 0} (k : ℕ) (old new : Option (List ℕ)) (e : WriteError) → k ≤ length races → IsDisciplined trace.events
-      → Appends old new (scheduled_blocks trace (earlier + 1) 0 races (values_of (schedule_at events races) k)) → WritesBlocksFrom {T = T} trace (earlier + 1) races old new (Err e)
+      → Appends old new (scheduled_blocks trace 1 0 races (values_of (schedule_at events races) k)) → WritesBlocks {T = T} true trace (map ends races) old new (Err e)
   streamed_some k old new e le disciplined written =
       let all = all_blocks k le disciplined in record {
-        bytes = scheduled_blocks trace (earlier + 1) 0 races (values_of (schedule_at events races) k) ++ all.0;
+        bytes = scheduled_blocks trace 1 0 races (values_of (schedule_at events races) k) ++ all.0;
         blocks = all.1;
-        written = (length (scheduled_blocks trace (earlier + 1) 0 races (values_of (schedule_at events races) k)), subst (Appends old new) (sym (take-append_seam (scheduled_blocks trace (earlier + 1) 0 races (values_of (schedule_at events races) k)) all.0)) written);
+        written = (length (scheduled_blocks trace 1 0 races (values_of (schedule_at events races) k)), subst (Appends old new) (sym (take-append_seam (scheduled_blocks trace 1 0 races (values_of (schedule_at events races) k)) all.0)) written);
       }
 
   -- the block of schedule k was not written whole
   streamed_less : {T : Type 0} (k : ℕ) (old new : Option (List ℕ)) (e : WriteError) → k < length races → IsDisciplined trace.events
-      → AppendsPrefix old new (scheduled_blocks trace (earlier + 1) 0 races (values_of (schedule_at events races) k ++ schedule_at events races k ∷ [])) → WritesBlocksFrom {T = T} trace (earlier + 1) races old new (Err e)
+      → AppendsPrefix old new (scheduled_blocks trace 1 0 races (values_of (schedule_at events races) k ++ schedule_at events races k ∷ [])) → WritesBlocks {T = T} true trace (map ends races) old new (Err e)
   streamed_less k old new e lt disciplined cut =
       let all = all_blocks (suc k) (omega (arith, lt)) disciplined in record {
-        bytes = scheduled_blocks trace (earlier + 1) 0 races (values_of (schedule_at events races) (suc k)) ++ all.0;
+        bytes = scheduled_blocks trace 1 0 races (values_of (schedule_at events races) (suc k)) ++ all.0;
         blocks = all.1;
-        written = front_of old new (scheduled_blocks trace (earlier + 1) 0 races (values_of (schedule_at events races) (suc k)) ++ all.0) (AppendsPrefix-front old new (scheduled_blocks trace (earlier + 1) 0 races (values_of (schedule_at events races) (suc k))) all.0 cut);
+        written = front_of old new (scheduled_blocks trace 1 0 races (values_of (schedule_at events races) (suc k)) ++ all.0) (AppendsPrefix-front old new (scheduled_blocks trace 1 0 races (values_of (schedule_at events races) (suc k))) all.0 cut);
       }
 
   -- ---- the same in the terms of the work
@@ -193,16 +186,16 @@ module _ (trace : TraceData) (events : List Event) (races : List Pair) (earlier 
     as_long = ap (λ (a : Asked). length a.races) is
 
     -- all schedules came
-    pub all_came : {T : Type 0} (first_number : ℕ) → first_number ≡ earlier + 1 → (given : List (List ℕ)) (old new : Option (List ℕ)) (x : T) → given ≡ values_of (schedule_at asked.trace asked.races) (length asked.races)
-        → Appends old new (scheduled_blocks trace first_number 0 races given) → WritesBlocksFrom trace (earlier + 1) races old new (Ok x)
-    all_came first_number at given old new x first written =
-        streamed_all old new x (subst (λ l. Appends old new (scheduled_blocks trace (earlier + 1) 0 races l)) (came (length asked.races) given first ∙ ap (values_of (schedule_at events races)) as_long) (subst (λ (n : ℕ). Appends old new (scheduled_blocks trace n 0 races given)) at written))
+    pub all_came : {T : Type 0} (given : List (List ℕ)) (old new : Option (List ℕ)) (x : T) → given ≡ values_of (schedule_at asked.trace asked.races) (length asked.races)
+        → Appends old new (scheduled_blocks trace 1 0 races given) → WritesBlocks true trace (map ends races) old new (Ok x)
+    all_came given old new x first written =
+        streamed_all old new x (subst (λ l. Appends old new (scheduled_blocks trace 1 0 races l)) (came (length asked.races) given first ∙ ap (values_of (schedule_at events races)) as_long) written)
 
     -- memory ran out after the first k
-    pub some_came : {T : Type 0} (first_number : ℕ) → first_number ≡ earlier + 1 → (k : ℕ) (given : List (List ℕ)) (old new : Option (List ℕ)) (e : WriteError) → k ≤ length asked.races → given ≡ values_of (schedule_at asked.trace asked.races) k
-        → IsDisciplined trace.events → Appends old new (scheduled_blocks trace first_number 0 races given) → WritesBlocksFrom {T = T} trace (earlier + 1) races old new (Err e)
-    some_came first_number at k given old new e le first disciplined written =
-        streamed_some k old new e (omega (arith, le, as_long)) disciplined (subst (λ l. Appends old new (scheduled_blocks trace (earlier + 1) 0 races l)) (came k given first) (subst (λ (n : ℕ). Appends old new (scheduled_blocks trace n 0 races given)) at written))
+    pub some_came : {T : Type 0} (k : ℕ) (given : List (List ℕ)) (old new : Option (List ℕ)) (e : WriteError) → k ≤ length asked.races → given ≡ values_of (schedule_at asked.trace asked.races) k
+        → IsDisciplined trace.events → Appends old new (scheduled_blocks trace 1 0 races given) → WritesBlocks {T = T} true trace (map ends races) old new (Err e)
+    some_came k given old new e le first disciplined written =
+        streamed_some k old new e (omega (arith, le, as_long)) disciplined (subst (λ l. Appends old new (scheduled_blocks trace 1 0 races l)) (came k given first) written)
 
     -- each schedule may come after those before it
     pub may_come : {K : Type 0} (failures : K → ℕ) (start : BlockWriter K) → start.trace.now ≡ trace → start.races.now ≡ races → start.written ≡ 0 → failures start.sink.now < 2 ^ 64 - 1
@@ -221,11 +214,11 @@ module _ (trace : TraceData) (events : List Event) (races : List Pair) (earlier 
         }
 
     -- the sink failed in the block of schedule k
-    pub less_came : {T : Type 0} (first_number : ℕ) → first_number ≡ earlier + 1 → (k : ℕ) (given : List (List ℕ)) (s : List ℕ) (old new : Option (List ℕ)) (e : WriteError) → k < length asked.races → given ≡ values_of (schedule_at asked.trace asked.races) k
-        → s ≡ schedule_at asked.trace asked.races k → IsDisciplined trace.events → AppendsPrefix old new (scheduled_blocks trace first_number 0 races (given ++ s ∷ [])) → WritesBlocksFrom {T = T} trace (earlier + 1) races old new (Err e)
-    less_came first_number at k given s old new e lt first next disciplined cut =
+    pub less_came : {T : Type 0} (k : ℕ) (given : List (List ℕ)) (s : List ℕ) (old new : Option (List ℕ)) (e : WriteError) → k < length asked.races → given ≡ values_of (schedule_at asked.trace asked.races) k
+        → s ≡ schedule_at asked.trace asked.races k → IsDisciplined trace.events → AppendsPrefix old new (scheduled_blocks trace 1 0 races (given ++ s ∷ [])) → WritesBlocks {T = T} true trace (map ends races) old new (Err e)
+    less_came k given s old new e lt first next disciplined cut =
         streamed_less k old new e (omega (arith, lt, as_long)) disciplined
-        (subst (λ l. AppendsPrefix old new (scheduled_blocks trace (earlier + 1) 0 races l)) (ap (λ l. l ++ s ∷ []) (came k given first) ∙ ap (λ v. values_of (schedule_at events races) k ++ v ∷ []) (next ∙ ap (λ (a : Asked). schedule_at a.trace a.races k) is)) (subst (λ (n : ℕ). AppendsPrefix old new (scheduled_blocks trace n 0 races (given ++ s ∷ []))) at cut))
+        (subst (λ l. AppendsPrefix old new (scheduled_blocks trace 1 0 races l)) (ap (λ l. l ++ s ∷ []) (came k given first) ∙ ap (λ v. values_of (schedule_at events races) k ++ v ∷ []) (next ∙ ap (λ (a : Asked). schedule_at a.trace a.races k) is)) cut)
 
 -- what holds of what was found there holds of what was left after
 pub left_after : {K : Type 0} (P : K → Type 0) (left found : K) → P found → left ≡ found → P left

@@ -1,4 +1,3 @@
 pub mod Written
 pub mod Scheduled
 pub mod Listed
-pub mod Windows

@@ -19,6 +19,10 @@ use Rattle.shb_write.specs.Written.{AppendsFront, write_failed}
 abbrev pub races_found : OpenTrace → List (ℕ × ℕ)
 races_found search = joined (values_of (races_at search) (length (pieces_in search)))
 
+-- and the same as pairs
+abbrev pub pairs_found : OpenTrace → List Pair
+pairs_found search = map pair_of (races_found search)
+
 -- both events of the race are events of the trace
 abbrev pub IsRaceOf : TraceData → ℕ × ℕ → Type 0
 IsRaceOf trace race = (race.0 < length trace.events) × (race.1 < length trace.events)

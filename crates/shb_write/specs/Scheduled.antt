@@ -26,7 +26,7 @@ scheduled_blocks trace number n races schedules = blocks_from trace number (show
 
 -- the number of the next block
 abbrev pub next_number : {K : Type 0} → BlockWriter K → ℕ
-next_number writer = writer.earlier + writer.written + 1
+next_number writer = writer.written + 1
 
 -- these schedules and the next are those of the next races, and the sink can count a failure
 pub record MayWrite {K : Type 0} (failures : K → ℕ) (start : BlockWriter K) (schedules : List (List ℕ)) (next : List ℕ) : Type 0 where
@@ -40,7 +40,6 @@ module _ {K : Type 0} (taken : K → Option (List ℕ)) (failures : K → ℕ) w
     pub same_sink : end.sink.ghost_name ≡ start.sink.ghost_name
     pub same_trace : end.trace.now ≡ start.trace.now
     pub same_races : end.races.now ≡ start.races.now
-    pub same_earlier : end.earlier ≡ start.earlier
     pub as_many : end.written ≡ number_after start.written schedules
     pub appended : Appends (taken start.sink.now) (taken end.sink.now) (scheduled_blocks start.trace.now (next_number start) start.written start.races.now schedules)
     pub counted : failures end.sink.now ≡ failures start.sink.now

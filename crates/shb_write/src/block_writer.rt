@@ -1,5 +1,5 @@
 //! The blocks of races, each written when its schedule comes.
-ghost use Rattle.std.specs.Prelude.{◌+◌, ◌^◌, ◌<◌, All, length};
+ghost use Rattle.std.specs.Prelude.{◌<◌, All, length};
 
 use shb_fan::Taker;
 use shb_io::{Failed, Sink};
@@ -7,7 +7,7 @@ use shb_lines::{Pair, Trace};
 use shb_positions::Positions;
 use shb_report::{NumberTexts, scheduled_block};
 
-/// Writes the blocks of races, numbered on from those before, each when its schedule comes.
+/// Writes the blocks of races, numbered from 1, each when its schedule comes.
 #[derive(Drop)]
 pub(crate) struct BlockWriter<'s, 't, 'r, 'n, K> {
     /// Where the blocks go.
@@ -18,12 +18,9 @@ pub(crate) struct BlockWriter<'s, 't, 'r, 'n, K> {
     pub(crate) races: &'r [Pair],
     /// The numbers of events, from which runs of schedules are copied.
     pub(crate) numbers: &'n NumberTexts,
-    /// How many blocks stand before those of these races.
-    pub(crate) earlier: u64,
-    /// How many blocks of these races are written.
+    /// How many blocks are written.
     pub(crate) written: usize,
     pub(crate) ghost in_range: { All (λ race. (race.first < length trace.now.events) × (race.second < length trace.now.events)) races.now },
-    pub(crate) ghost room: { earlier + length races.now < 2 ^ 64 },
 }
 
 impl<'s, 't, 'r, 'n, K: Sink> Taker<Positions> for BlockWriter<'s, 't, 'r, 'n, K> {
@@ -43,7 +40,6 @@ impl<'s, 't, 'r, 'n, K: Sink> Taker<Positions> for BlockWriter<'s, 't, 'r, 'n, K
       same_sink = refl;
       same_trace = refl;
       same_races = refl;
-      same_earlier = refl;
       as_many = refl;
       appended = Appends-nil (K.taken s.sink.now);
       counted = refl;
@@ -52,7 +48,7 @@ impl<'s, 't, 'r, 'n, K: Sink> Taker<Positions> for BlockWriter<'s, 't, 'r, 'n, K
     fn take(&mut self, _k: u64, schedule: Positions) -> Result<(), Failed> {
         let race = self.races[self.written];
         self.written += 1;
-        let number = self.earlier + self.written as u64;
+        let number = self.written as u64;
         scheduled_block(self.sink, self.trace, number, race, self.numbers, &schedule)
     }
 }

@@ -1,30 +1,27 @@
 //! The writing of a report of a trace, of races that a search finds or that are known.
 //!
-//! [`write_search`] writes the report of the races that a search finds. A first search keeps them, as long
-//! as there are not more than events (`keep_races`); where there are more, it stops, and they and their
-//! places are counted without keeping them, many of one access at once (`count_many`). Once head and places
-//! are written, the blocks of those kept follow; or another search writes each block as its race comes
-//! (`RaceLister`), or with schedules a window of races at a time (`write_windows`).
+//! [`write_search`] writes the report of the races that a search finds. With schedules it keeps them all
+//! (`keep_races`), and goes on as with known races. Without them it keeps them as long as there are not more than
+//! events; where there are more, it stops, and they and their places are counted without keeping them, many of
+//! one access at once (`count_many`). Once head and places are written, the blocks of those kept follow; or
+//! another search writes each block as its race comes (`RaceLister`).
 //!
-//! [`write_report`] writes the report of races that are known: head, places, blocks and tail. Without
-//! schedules the blocks go out one after the other (`write_pairs`); with schedules each goes out as soon as
-//! workers have made its schedule (`write_schedules`), through a taker that writes (`BlockWriter`). The sink
+//! [`write_list`] and [`write_report`] write the report of races that are known: head, places, blocks and tail.
+//! Without schedules the blocks go out one after the other (`write_listed`); with schedules each goes out as soon
+//! as workers have made its schedule (`write_schedules`), through a taker that writes (`BlockWriter`). The sink
 //! is written by the caller's thread alone and needn't be able to move.
 #![tactic(auto)]
 
 mod block_writer;
 mod counted;
 mod errors;
-mod found;
 mod list;
-mod making;
 mod plan;
 mod prepared;
 mod race_keeper;
 mod race_lister;
 mod race_search;
 mod searched;
-mod window;
 mod write;
 
 pub use errors::WriteError;

@@ -1,11 +1,9 @@
-//! How the blocks of a report are made.
+//! How the schedules of a report are made.
 use shb_fan::Workers;
 
-/// How the blocks of a report are made.
+/// How the schedules of a report are made.
 #[derive(Drop)]
 pub struct BlockPlan<'g, G> {
-    /// Whether each race is shown with its schedule.
-    pub schedules: bool,
     /// How many workers make schedules. The report is the same for every number of them.
     pub workers: Workers,
     /// What a worker passes before it makes a schedule.

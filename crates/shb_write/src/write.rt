@@ -1,19 +1,15 @@
 //! The report of a trace that lists races which are known.
-ghost use Rattle.std.specs.Prelude.{◌≡◌, ◌⊎◌, ◌+◌, ◌-◌, ◌^◌, ◌<◌, ℕ, All, IfOk, List, false, length, map, true};
+ghost use Rattle.std.specs.Prelude.{◌≡◌, ◌⊎◌, ◌-◌, ◌^◌, ◌<◌, ℕ, All, IfOk, List, length, map, true};
 ghost use Rattle.shb_io.specs.Devices.{CountsFailure, IsCounted, Writes};
 ghost use Rattle.shb_report.specs.Places.{IsPairOf, IsPlaceOf, counts_in, places_of_pairs};
 ghost use Rattle.shb_report.specs.Report.{counts_of, front_bytes, pair_of};
-ghost use Rattle.shb_witness.specs.Checkpoints.{IsReached};
 ghost use Rattle.shb_witness.specs.Schedules.{AreRaces, AsksEach};
 ghost use Rattle.shb_write.specs.Listed.{list_bytes};
 ghost use Rattle.shb_write.specs.Written.{CutsBlocksOn, CutsReportOn, OnFailedSink, OnNoMemory, These, WritesBlocks, WritesReport, write_failed};
-ghost use Rattle.shb_write.specs.Windows.{WritesBlocksFrom};
 ghost use Rattle.shb_lines.specs.events.Race.{ends};
 
 use crate::block_writer::BlockWriter;
 use crate::errors::WriteError;
-use crate::found::Found;
-use crate::making::Making;
 use crate::plan::BlockPlan;
 use crate::prepared::prepared_for;
 use crate::race_lister::write_listed;
@@ -21,53 +17,30 @@ use shb_clocks::{Order, Ordered};
 use shb_fan::{Gate, StreamError, stream};
 use shb_io::{Failed, Sink};
 use shb_lines::{Pair, Trace};
-use shb_report::{Counts, Places, block, head, place_lines, places_of, tail};
+use shb_report::{Counts, Places, head, place_lines, places_of, tail};
 use shb_witness::WitnessJob;
 use std::alloc::Global;
 use std::random::RandomSource;
 use std::sync::Wait;
 use std::thread::Threads;
 
-/// Writes the blocks of some races, numbered from 1, without schedules.
-fn write_pairs<K: Sink, O: Order>(
-    sink: &mut K,
-    found: &Found<'_, '_, '_, O>,
-) -> Result<(), WriteError>
-    requires countable { K.failure_count sink.old < 2 ^ 64 - 1 }
-    requires races { AreRaces found.now.ordered.now.disciplined.now.events.now found.now.races.now }
-    ensures blocks { WritesBlocks false found.now.ordered.now.disciplined.now.trace.now (map ends found.now.races.now)
-        (K.taken sink.old) (K.taken sink.new) result }
-    ensures counted { CountsFailure write_failed (K.failure_count sink.old) (K.failure_count sink.new) result }
-{
-    let mut number: u64 = 0;
-    for pair in found.races {
-        number += 1;
-        block(sink, found.ordered.disciplined.trace, number, *pair, None)?;
-    }
-    Ok(())
-}
-
-/// Writes the blocks of some races, numbered on from those before, each as soon as workers have made its
-/// schedule.
-pub(crate) fn write_made<R: Threads + Wait + Sync, K: Sink, O: Order + Sync, G: Gate + Sync>(
+/// Writes the blocks of some races, numbered from 1, each as soon as workers have made its schedule.
+fn write_schedules<R: Threads + Wait + Sync, K: Sink, O: Order + Sync, G: Gate + Sync>(
     rt: &R,
     alloc: Global,
     sink: &mut K,
-    making: &Making<'_, '_, '_, '_, '_, O, G>,
-    earlier: u64,
+    ordered: &Ordered<'_, O>,
     races: &[Pair],
+    plan: &BlockPlan<'_, G>,
 ) -> Result<(), WriteError>
     requires countable { K.failure_count sink.old < 2 ^ 64 - 1 }
-    requires room { earlier + length races.now < 2 ^ 64 }
-    requires races { AreRaces making.now.ordered.now.disciplined.now.events.now races.now }
-    requires asked { AsksEach (O.asks making.now.ordered.now.order.now) races.now }
-    requires points { All (IsReached making.now.ordered.now.disciplined.now.events.now) making.now.prepared.now.points.items }
-    ensures blocks { WritesBlocksFrom making.now.ordered.now.disciplined.now.trace.now (earlier + 1) races.now
+    requires races { AreRaces ordered.now.disciplined.now.events.now races.now }
+    requires asked { AsksEach (O.asks ordered.now.order.now) races.now }
+    ensures blocks { WritesBlocks true ordered.now.disciplined.now.trace.now (map ends races.now)
         (K.taken sink.old) (K.taken sink.new) result }
     ensures counted { CountsFailure write_failed (K.failure_count sink.old) (K.failure_count sink.new) result }
 {
-    let ordered = making.ordered;
-    let prepared = making.prepared;
+    let prepared = prepared_for(alloc, ordered, races.len())?;
     let job = WitnessJob::new(
         ordered.order,
         ordered.disciplined,
@@ -79,54 +52,13 @@ pub(crate) fn write_made<R: Threads + Wait + Sync, K: Sink, O: Order + Sync, G: 
         trace: ordered.disciplined.trace,
         races,
         numbers: &prepared.numbers,
-        earlier,
         written: 0,
     };
-    let plan = making.plan;
     match stream(rt, alloc, &job, plan.gate, plan.workers, &mut writer) {
         Ok(_) => Ok(()),
         Err(StreamError::Taker(_)) => Err(WriteError::Sink),
         Err(StreamError::Memory) => Err(WriteError::Memory),
     }
-}
-
-/// Writes the blocks of some races, numbered from 1, with schedules.
-fn write_schedules<R: Threads + Wait + Sync, K: Sink, O: Order + Sync, G: Gate + Sync>(
-    rt: &R,
-    alloc: Global,
-    sink: &mut K,
-    found: &Found<'_, '_, '_, O>,
-    plan: &BlockPlan<'_, G>,
-) -> Result<(), WriteError>
-    requires countable { K.failure_count sink.old < 2 ^ 64 - 1 }
-    requires races { AreRaces found.now.ordered.now.disciplined.now.events.now found.now.races.now }
-    ensures blocks { WritesBlocks true found.now.ordered.now.disciplined.now.trace.now (map ends found.now.races.now)
-        (K.taken sink.old) (K.taken sink.new) result }
-    ensures counted { CountsFailure write_failed (K.failure_count sink.old) (K.failure_count sink.new) result }
-{
-    let prepared = prepared_for(alloc, found.ordered, found.races.len())?;
-    let making = Making::new(found.ordered, &prepared, plan);
-    write_made(rt, alloc, sink, &making, 0, found.races)
-}
-
-/// Writes the blocks of some races, numbered from 1, with schedules or without.
-pub(crate) fn write_blocks<R: Threads + Wait + Sync, K: Sink, O: Order + Sync, G: Gate + Sync>(
-    rt: &R,
-    alloc: Global,
-    sink: &mut K,
-    found: &Found<'_, '_, '_, O>,
-    plan: &BlockPlan<'_, G>,
-) -> Result<(), WriteError>
-    requires countable { K.failure_count sink.old < 2 ^ 64 - 1 }
-    requires races { AreRaces found.now.ordered.now.disciplined.now.events.now found.now.races.now }
-    ensures blocks { WritesBlocks plan.now.schedules found.now.ordered.now.disciplined.now.trace.now (map ends found.now.races.now)
-        (K.taken sink.old) (K.taken sink.new) result }
-    ensures counted { CountsFailure write_failed (K.failure_count sink.old) (K.failure_count sink.new) result }
-{
-    if plan.schedules {
-        return write_schedules(rt, alloc, sink, found, plan);
-    }
-    write_pairs(sink, found)
 }
 
 /// How many events and names a trace has.
@@ -182,7 +114,8 @@ pub fn write_list<K: Sink>(
     tail(sink)
 }
 
-/// Writes the report of a trace that lists these races. The order can be asked about their events.
+/// Writes the report with schedules of a trace that lists these races. The order can be asked about their
+/// events.
 ///
 /// The places are made before anything is written: so where memory is refused either nothing was
 /// written, or at least all lines before the first block.
@@ -208,22 +141,18 @@ pub fn write_report<
     requires countable { K.failure_count sink.old < 2 ^ 64 - 1 }
     requires races { AreRaces ordered.now.disciplined.now.events.now races.now }
     requires asked { AsksEach (O.asks ordered.now.order.now) races.now }
-    ensures report { IfOk result (λ _. WritesReport (These (map ends races.now)) plan.now.schedules ordered.now.disciplined.now.trace.now
+    ensures report { IfOk result (λ _. WritesReport (These (map ends races.now)) true ordered.now.disciplined.now.trace.now
         (K.taken sink.old) (K.taken sink.new)) }
-    ensures cut { OnFailedSink result (CutsReportOn (These (map ends races.now)) plan.now.schedules ordered.now.disciplined.now.trace.now
+    ensures cut { OnFailedSink result (CutsReportOn (These (map ends races.now)) true ordered.now.disciplined.now.trace.now
         (K.taken sink.old) (K.taken sink.new)) }
-    ensures memory { OnNoMemory result ((sink.new ≡ sink.old) ⊎ CutsBlocksOn (These (map ends races.now)) plan.now.schedules
+    ensures memory { OnNoMemory result ((sink.new ≡ sink.old) ⊎ CutsBlocksOn (These (map ends races.now)) true
         ordered.now.disciplined.now.trace.now (K.taken sink.old) (K.taken sink.new)) }
     ensures counted { CountsFailure write_failed (K.failure_count sink.old) (K.failure_count sink.new) result }
 {
     let trace = ordered.disciplined.trace;
     let places = places_of(rt, alloc, trace, races)?;
     write_front(sink, trace, races.len() as u64, &places)?;
-    let found = Found {
-        ordered: &*ordered,
-        races: &*races,
-    };
-    write_blocks(rt, alloc, sink, &found, plan)?;
+    write_schedules(rt, alloc, sink, ordered, races, plan)?;
     tail(sink)?;
     Ok(())
 }

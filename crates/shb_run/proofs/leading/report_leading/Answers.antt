@@ -13,8 +13,8 @@ leading_races-requires-clause-settled g c = rw c.deref.ensures.value c.in_ok-fla
 pub order_of_races-requires : goal.order_of_races-requires
 order_of_races-requires g c =
     let trace = c.args.trace.now in
-    let lists = subst (λ (races : List Pair). LeadingRaces trace.trace.now (map ends races)) (sym c.deref-2.ensures.value) c.in_ok-races.ensures in
+    let lists = subst (λ (races : List Pair). LeadingRaces trace.trace.now (map ends races)) (sym c.deref-then-settings.ensures.value) c.in_ok-races.ensures in
     record {
-      races = subst (λ (events : List Event). All (λ (p : Pair). Race events p.first p.second) c.deref-2.result.now) (sym c.new.ensures.events)
-          (races_listed choices.Leading trace.trace.now trace.events.now c.deref-2.result.now trace.of_trace lists);
+      races = subst (λ (events : List Event). All (λ (p : Pair). Race events p.first p.second) c.deref-then-settings.result.now) (sym c.new.ensures.events)
+          (races_listed choices.Leading trace.trace.now trace.events.now c.deref-then-settings.result.now trace.of_trace lists);
     }

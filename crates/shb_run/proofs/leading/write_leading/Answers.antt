@@ -1,4 +1,4 @@
-use Rattle.std.proofs.Common.{length, map, refl}
+use Rattle.std.proofs.Common.{length, map, refl, true}
 use Rattle.shb_lines.specs.events.Race.{ends}
 use Rattle.shb_report.specs.Report.{LeadingRaces}
 use Rattle.shb_run.specs.declared.settings.Choice.TheVariants as choices
@@ -14,15 +14,15 @@ write_report-requires-clause-races g c κs alive =
 pub returns-in_err-write_report-clause-cut : goal.returns-in_err-write_report-clause-cut
 returns-in_err-write_report-clause-cut g c =
     let trace = c.args.ordered.now.disciplined.now in
-    cut_known choices.Leading c.args.plan.now.schedules trace.trace.now (map ends c.args.races.now) c.requires.listed (Unit {0}) _ _ _ c.from_residual.result c.from_residual.ensures.1 c.in_err-write_report.ensures.cut
+    cut_known choices.Leading true trace.trace.now (map ends c.args.races.now) c.requires.listed (Unit {0}) _ _ _ c.from_residual.result c.from_residual.ensures.1 c.in_err-write_report.ensures.cut
 
 pub returns-in_err-write_report-clause-memory : goal.returns-in_err-write_report-clause-memory
 returns-in_err-write_report-clause-memory g c =
     let trace = c.args.ordered.now.disciplined.now in
-    memory_known choices.Leading c.args.plan.now.schedules trace.trace.now (map ends c.args.races.now) c.requires.listed (Unit {0}) _ _ _ _ c.from_residual.result c.from_residual.ensures.1 c.in_err-write_report.ensures.memory
+    memory_known choices.Leading true trace.trace.now (map ends c.args.races.now) c.requires.listed (Unit {0}) _ _ _ _ c.from_residual.result c.from_residual.ensures.1 c.in_err-write_report.ensures.memory
 
 pub returns-clause-report : goal.returns-clause-report
 returns-clause-report g c =
     let trace = c.args.ordered.now.disciplined.now in
-    reports_of LeadingRaces c.args.plan.now.schedules trace.trace.now c.args.races.now (length c.args.races.now) c.summary_of.result
+    reports_of LeadingRaces true trace.trace.now c.args.races.now (length c.args.races.now) c.summary_of.result
     (g.K.Sink.taken c.args.sink.now) (g.K.Sink.taken c.write_report.new.sink) c.summary_of.ensures.summary refl c.requires.listed c.in_ok-write_report.ensures.report

@@ -14,7 +14,7 @@ pub returns-in_err-write_front-clause-written : goal.returns-in_err-write_front-
 returns-in_err-write_front-clause-written g c =
     let trace = c.args.trace.now in
     let races = c.args.races.now in
-    Writes-err _ _ _ _ _ c.from_residual-in_err-write_front.ensures.1
+    Writes-err _ _ _ _ _ c.from_residual.ensures.1
     (AppendsPrefix-front _ _ _ _ (c.in_err-write_front.ensures.written (map ends races) (sym (length-map races ends)) (places_of_ends trace races _ c.requires.places)))
 
 pub returns-in_err-write_listed-clause-written : goal.returns-in_err-write_listed-clause-written

@@ -1,5 +1,5 @@
-use Rattle.std.proofs.Common.{rules, ◌+◌, arith, refl, get_or}
-use Rattle.shb_write.proofs.Streamed.{next_countable, next_has_number, next_there, none, refused, took}
+use Rattle.std.proofs.Common.{rules, ◌+◌, refl, get_or}
+use Rattle.shb_write.proofs.Streamed.{next_countable, next_there, none, refused, took}
 use Rattle.shb_write.proofs.block_writer.BlockWriterTakerPositions.take.Goals as goal
 
 pub bounds-self-self : goal.bounds-self-self
@@ -15,11 +15,6 @@ overflow_add-self g c =
     let there = next_there g.K.Sink.taken g.K.Sink.failure_count c.requires.0 c.args.self.now c.requires.1 c.args.schedule c.requires.3 c.requires.4 in
     search rules
 
-pub overflow_add-number : goal.overflow_add-number
-overflow_add-number g c =
-    let fits = next_has_number g.K.Sink.taken g.K.Sink.failure_count c.requires.0 c.args.self.now c.requires.1 c.args.schedule c.requires.3 c.requires.4 c.args.self.now.room in
-    search rules
-
 pub scheduled_block-requires-clause-countable : goal.scheduled_block-requires-clause-countable
 scheduled_block-requires-clause-countable g c = next_countable g.K.Sink.taken g.K.Sink.failure_count c.requires.0 c.args.self.now c.requires.1 c.args.schedule c.requires.3 c.requires.4
 
@@ -31,10 +26,10 @@ scheduled_block-requires-clause-second g c = (c.args.self.now.in_range c.args.se
 
 pub returns-clause-taken : goal.returns-clause-taken
 returns-clause-taken g c start given long has may =
-    took g.K.Sink.taken g.K.Sink.failure_count start c.args.self.now _ given c.args.schedule (get_or c.args.self.now.races.now c.args.self.now.written none) (c.args.self.now.earlier + (c.args.self.now.written + 1)) c.scheduled_block.result
-    refl (omega arith) refl refl refl refl refl c.scheduled_block.ensures.written c.scheduled_block.ensures.counted has
+    took g.K.Sink.taken g.K.Sink.failure_count start c.args.self.now _ given c.args.schedule (get_or c.args.self.now.races.now c.args.self.now.written none) (c.args.self.now.written + 1) c.scheduled_block.result
+    refl refl refl refl refl refl c.scheduled_block.ensures.written c.scheduled_block.ensures.counted has
 
 pub returns-clause-refused : goal.returns-clause-refused
 returns-clause-refused g c start given long has may =
-    refused g.K.Sink.taken g.K.Sink.failure_count start c.args.self.now _ given c.args.schedule (get_or c.args.self.now.races.now c.args.self.now.written none) (c.args.self.now.earlier + (c.args.self.now.written + 1)) c.scheduled_block.result
-    refl (omega arith) refl c.scheduled_block.ensures.written c.scheduled_block.ensures.counted has
+    refused g.K.Sink.taken g.K.Sink.failure_count start c.args.self.now _ given c.args.schedule (get_or c.args.self.now.races.now c.args.self.now.written none) (c.args.self.now.written + 1) c.scheduled_block.result
+    refl refl refl c.scheduled_block.ensures.written c.scheduled_block.ensures.counted has

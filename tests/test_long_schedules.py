@@ -1,14 +1,11 @@
-"""Reports with schedules of more races than events, which the program makes a window of 65,536 races or more at a time:
-three windows whole, more races than fit into memory as pairs, a pipe that breaks in the middle, and each request for
-memory on the way."""
+"""Reports with schedules of more races than events: long ones whole, a pipe that breaks in the middle, and each
+request for memory on the way."""
 
 import program
 import test_long_lists
 import test_refusals
 
-WINDOW = 65_536
 ROUNDS = 400
-LONG_ROUNDS = 3_000
 ROOM = 48 * 2**20
 
 
@@ -34,9 +31,6 @@ class Report:
         schedule = b"schedule %d:%s%s\n" % (first + second, self.firsts[first], self.seconds[second])
         return test_long_lists.block(self.rounds, number) + schedule
 
-    def blocks(self):
-        return map(self.block, range(1, self.rounds * self.rounds + 1))
-
     def parts(self):
         """The head, the blocks of the races of one later write after the other, and the end."""
         yield test_long_lists.head_of(self.rounds)
@@ -45,7 +39,7 @@ class Report:
         yield b"end\n"
 
 
-class Windows(test_refusals.Refusing):
+class LongSchedules(test_refusals.Refusing):
     def expect_parts(self, out, parts):
         for k, part in enumerate(parts):
             self.assertTrue(out.read(len(part)) == part, f"part {k} differs")
@@ -58,16 +52,15 @@ class Windows(test_refusals.Refusing):
         self.assertEqual((running.wait(program.SECONDS), said), (4, b"cannot write\n"))
 
     def test_whole_reports(self):
-        """Of two rounds the races are kept, of the others they are one window."""
+        """Of two rounds there are as many races as events, of the others there are more."""
         for rounds in (2, 3, 50):
             trace, report = self.file(test_long_lists.two_writers(rounds)), b"".join(Report(rounds).parts())
             for workers in ("1", "4", "64"):
                 self.expect(program.run(["races", "--workers", workers, trace]), 0, report)
             self.expect(program.run(["check", trace], report), 0, b"ok %d\n" % (rounds * rounds))
 
-    def test_three_windows(self):
-        """A window ends with the races of a later write, so the first two have 164 times 400 races each."""
-        self.assertTrue(2 * 164 * ROUNDS < ROUNDS * ROUNDS and 163 * ROUNDS < WINDOW <= 164 * ROUNDS)
+    def test_160000_races(self):
+        """The report has some 250 MB, the program at most 48 MiB of memory: blocks aren't kept."""
         trace = self.file(test_long_lists.two_writers(ROUNDS))
         for workers in ("1", "4"):
             running = program.start(["races", "--workers", workers, trace], **test_long_lists.at_most(ROOM))
@@ -77,14 +70,14 @@ class Windows(test_refusals.Refusing):
             running.stderr.close()
             self.assertEqual(running.wait(program.SECONDS), 0)
 
-    def test_that_three_windows_are_a_good_report(self):
+    def test_that_160000_races_are_a_good_report(self):
         trace, report = self.file(test_long_lists.two_writers(ROUNDS)), self.folder / "report"
         with open(report, "wb") as out:
             self.expect(program.run(["races", trace], stdout=out), 0, None)
         with open(report, "rb") as given:
             self.expect(program.run_over(["check", trace], given), 0, b"ok %d\n" % (ROUNDS * ROUNDS))
 
-    def test_a_pipe_that_breaks_in_the_second_window(self):
+    def test_a_pipe_that_breaks_in_the_middle(self):
         trace, report = self.file(test_long_lists.two_writers(ROUNDS)), Report(ROUNDS)
         for workers in ("1", "4"):
             running = program.start(["races", "--workers", workers, trace])
@@ -92,18 +85,8 @@ class Windows(test_refusals.Refusing):
             self.expect_parts(running.stdout, (next(parts) for _ in range(1 + 164 + 10)))
             self.expect_broken(running)
 
-    def test_more_races_than_fit_into_memory_as_pairs(self):
-        """A pair has 8 bytes. The reader goes away after the front."""
-        self.assertGreater(8 * LONG_ROUNDS * LONG_ROUNDS, ROOM)
-        trace, report = self.file(test_long_lists.two_writers(LONG_ROUNDS)), Report(LONG_ROUNDS)
-        for workers in ("1", "4"):
-            running = program.start(["races", "--workers", workers, trace], **test_long_lists.at_most(ROOM))
-            self.expect_parts(running.stdout, [test_long_lists.head_of(LONG_ROUNDS)])
-            self.expect_parts(running.stdout, (block for block, _ in zip(report.blocks(), range(1000))))
-            self.expect_broken(running)
-
     def test_memory(self):
-        """Each request of all searches is refused in turn. Six threads have fifteen races with twelve events."""
+        """Each request is refused in turn. Six threads have fifteen races with twelve events."""
         self.assertIn(b"\nraces 15\n", program.run(["races"], test_refusals.racing(6)).out)
         for workers in ("1", "2"):
             self.refuse_in_turn(["races", "--workers", workers], test_refusals.racing(6))
