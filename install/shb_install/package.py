@@ -21,8 +21,8 @@ by the Rattle kit (logic {logic}), which builds a crate only after all its proof
 The other commands aren't part of what is proved. [docs/GUARANTEES.md](docs/GUARANTEES.md) says what is proved,
 and on what it rests.
 
-The commands need Linux on x86-64, a processor of level x86-64-v{level} or higher, for which shb is built, and glibc {glibc} or
-later, the highest version of a symbol that their files ask for. shb-farm and shb-view need Python 3.8 or later too,
+The commands need Linux on x86-64, a processor of level x86-64-v{level} or higher, for which shb is built, and
+glibc {glibc} or later, the highest version of a symbol that their files ask for. shb-farm and shb-view need Python 3.8 or later too,
 shb-record also gcc and binutils.
 """
 

@@ -123,8 +123,11 @@ def put(tree, name, place):
         target.parent.mkdir(parents=True, exist_ok=True)
         new.symlink_to(os.path.relpath(real(target), os.path.realpath(new.parent)))
         return
-    with open(source, "rb") as content, open(new, "xb") as file:
-        shutil.copyfileobj(content, file)
+    try:
+        with open(source, "rb") as content, open(new, "xb") as file:
+            shutil.copyfileobj(content, file)
+    except OSError as fault:
+        raise OSError(fault.errno, fault.strerror, str(place / name)) from None     # a full disk names no file
     new.chmod(0o755 if os.access(source, os.X_OK) else 0o644)
 
 

@@ -174,6 +174,13 @@ class Broken(Base):
             self.assertFalse(self.place.exists(), number)
         self.assertGreater(undone, 8)
 
+    def test_a_full_disk_is_said_with_the_file_that_has_no_room(self):
+        full = OSError(errno.ENOSPC, "No space left on device")
+        with mock.patch.object(placing.shutil, "copyfileobj", mock.Mock(side_effect=full)), self.assertRaises(OSError) as raised:
+            placing.install(self.tree(FIRST), self.place)
+        self.assertEqual((raised.exception.errno, raised.exception.filename), (errno.ENOSPC, str(self.place / "bin/old")))
+        self.assertFalse(self.place.exists())
+
     def test_a_failure_of_a_first_installation_leaves_nothing(self):
         full = OSError(errno.ENOSPC, "No space left on device")
         undone = 0
