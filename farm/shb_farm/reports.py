@@ -11,6 +11,8 @@ from shb_farm.files import put_file, temporary_file
 from shb_farm.limits import MOST_BYTES, TOO_LONG
 from shb_farm.running import End
 
+MARKED = "a byte order mark before the first line is part of the first thread's name"
+
 
 def analysed(work, name, trace):
     """How the program ended on a trace, which is an open file of this name, and the places that it found. A full report is put
@@ -49,7 +51,13 @@ def report_of(work, trace, path):
         if work.form == passes.FULL:
             put_file(new, path)
             return End("report", str(os.fstat(report.fileno()).st_size)), []
-        return End("report", counts), places
+        return End("report", f"{counts}; {MARKED}" if is_marked(trace) else counts), places
+
+
+def is_marked(trace):
+    """Whether a trace begins with a byte order mark, which some editors write."""
+    trace.seek(0)
+    return trace.read(len(refused.MARK)) == refused.MARK
 
 
 def places_of(file):

@@ -45,8 +45,9 @@ def set_limits(work):
 
 
 def run(work, words, given, out):
-    """Runs a command to its end, with open files as its input and output; gives its status and its words."""
+    """Runs a command to its end, with open files as its input, from its beginning, and its output; gives its status and its words."""
     check_machine(work)
+    os.lseek(given.fileno(), 0, os.SEEK_SET)    # Python's own `seek` may move in its buffer alone
     ran = subprocess.run(words, stdin=given, stdout=out, stderr=subprocess.PIPE, preexec_fn=lambda: set_limits(work))
     said = " ".join(ran.stderr[:MOST_WORDS].decode("utf-8", "backslashreplace").split())
     return ran.returncode, said

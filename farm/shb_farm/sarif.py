@@ -121,19 +121,23 @@ def plain(text):
     return re.sub(r"([\\\[\]])", r"\\\1", text)
 
 
+LEVELS = {"missing": "error", "report": "note"}
+
+
 def notification_of(name, ending):
-    text = f"{shown(tables.field(name))}: {shown(tables.field(tables.why(ending)))}"
-    return {"level": "error" if ending.kind == "missing" else "warning", "message": {"text": text}}
+    """What is said of a trace that has no report, or of whose report something is to know."""
+    text = f"{shown(tables.field(name))}: {shown(tables.field(tables.note_of(ending) or tables.why(ending)))}"
+    return {"level": LEVELS.get(ending.kind, "warning"), "message": {"text": text}}
 
 
 def log(rows, endings, status, sources):
     """The log of a farm as bytes."""
-    lost = [notification_of(name, ending) for name, ending in endings.items() if ending.kind != "report"]
+    said = [notification_of(name, ending) for name, ending in endings.items() if ending.kind != "report" or tables.note_of(ending)]
     seen, installed = collections.Counter(), version.installed()
     run = {
         "tool": {"driver": {"name": "shb", **({"version": installed} if installed else {}), "rules": [RULE]}},
         "originalUriBaseIds": {name: {"description": {"text": text}} for name, text in BASES.items()},
-        "invocations": [{"executionSuccessful": status != 3, "exitCode": status, "toolExecutionNotifications": lost}],
+        "invocations": [{"executionSuccessful": status != 3, "exitCode": status, "toolExecutionNotifications": said}],
         "results": [result_of(row, len(endings), sources, seen) for row in rows],
     }
     return (json.dumps({"$schema": SCHEMA, "version": "2.1.0", "runs": [run]}, indent=1) + "\n").encode()

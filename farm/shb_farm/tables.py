@@ -48,6 +48,15 @@ def why(ending):
             "size": f"its report is longer than {ending.words} MiB"}.get(ending.kind, ending.words)
 
 
+def note_of(ending):
+    """What a reader must know of a trace that has a report; nothing mostly."""
+    if ending.kind != "report":
+        return ""
+    if ending.words.endswith(" windows"):
+        return f"searched in {ending.words}: races of accesses that are further apart than these overlap aren't found"
+    return ending.words.partition("; ")[2]
+
+
 def aligned(lines):
     """Lines of fields, each column as wide as its longest field up to WIDEST; the last one is left as it is."""
     lines = [[shown(part) for part in line] for line in lines]
@@ -56,7 +65,7 @@ def aligned(lines):
 
 
 def text(rows, endings):
-    """What the farm prints: how much there is, the places, and the traces without a report."""
+    """What the farm prints: how much there is, the places, the traces without a report, and those of which something is to know."""
     kinds = [ending.kind for ending in endings.values()]
     reports, missing = kinds.count("report"), kinds.count("missing")
     unknown = sum(not row.is_known for row in rows)
@@ -71,6 +80,9 @@ def text(rows, endings):
         words = ["missing" if ending.kind == "missing" else "refused" for _, ending in lost]
         table = [[field(word), field(name), field(why(ending))] for word, (name, ending) in zip(words, lost)]
         lines += ["", *aligned(table)]
+    noted = [[b"report", field(name), field(note_of(ending))] for name, ending in endings.items() if note_of(ending)]
+    if noted:
+        lines += ["", *aligned(noted)]
     return "".join(line + "\n" for line in lines)
 
 

@@ -42,6 +42,13 @@ class Refused(farm.Case):
         for words in ("it can't be unpacked", "line 0: x", "line x: y"):
             self.assertEqual(refused.explained(words, io.BytesIO(b"T1|w(x)\n")), words)
 
+    def test_a_byte_order_mark_is_said(self):
+        """The trace is read as it is: its first thread has another name than the later lines'."""
+        self.trace("mark.std", b"\xef\xbb\xbfT1|w(x)|1\nT1|w(x)|2\n")
+        answer = self.farm()
+        self.assertEqual((answer.status, self.table("places.tsv")[0][2:4]), (1, ["1", "2"]))
+        self.assertTrue(answer.out.endswith("\n\nreport  mark.std  a byte order mark before the first line is part of the first thread's name\n"))
+
     def test_a_farm_shows_it(self):
         self.trace("bad.std", RACE + b"T1|w(x)\nT1|READ(x)|1\n")
         self.trace("oops.std", farm.BAD)

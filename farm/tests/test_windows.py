@@ -1,5 +1,7 @@
 """A trace that is longer than the program takes, with a stand-in of the command that cuts it."""
 
+import json
+
 import farm
 from farm import BAD, CLEAN, RACE
 
@@ -33,6 +35,10 @@ class Windows(farm.Case):
         self.assertEqual((self.folder / "words").read_text(), "-n 4194304 -o\n")
         self.assertEqual(int((self.folder / "given").read_text()), len(LONG))
         self.assertEqual(self.ends()["long.std"], ("report", "3 windows"))
+        note = "searched in 3 windows: races of accesses that are further apart than these overlap aren't found"
+        self.assertTrue((self.out / "places.txt").read_text().endswith(f"\n\nreport  long.std  {note}\n"))
+        [invocation] = json.loads((self.out / "places.sarif").read_text())["runs"][0]["invocations"]
+        self.assertEqual(invocation["toolExecutionNotifications"], [{"level": "note", "message": {"text": f"long.std: {note}"}}])
         self.assertEqual(self.table("places.tsv"), [["2", "unknown", "a.c:1", "b.c:2", "race.std", "reports/race.std.report"],
                                                     ["1", "unknown", "k.c:1", "k.c:2", "long.std", "reports/long.std.windows"]])
         kept = self.out / "reports" / "long.std.windows"
