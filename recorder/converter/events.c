@@ -10,7 +10,7 @@ u64 event_limit = SHB_EVENTS, events;
 int into_windows;
 const char *cut_reason;
 static u64 bytes;
-static struct { char name[THREAD_BYTES]; u32 length, in_windows; u64 epoch; } threads[THREADS];   /* in_windows: its number there */
+static struct { char name[THREAD_BYTES]; u32 length, in_windows; u64 epoch; } threads[THREADS];   /* in_windows: its number in windows.c */
 
 void name_thread(u32 t, u64 function) {
     char of_function[60];
@@ -143,32 +143,30 @@ static enum window_kind kind_of(const char *operation) {
     return *operation == 'a' ? WINDOW_ACQUIRE : *operation == 'r' ? WINDOW_RELEASE : *operation == 'f' ? WINDOW_FORK : WINDOW_JOIN;
 }
 
-static void event_in_window(u32 t, const char *operation, part name, const char *tail, part place) {
-    char line[SHB_LINE], *end = add_line(line, t, operation, name, tail, place);
-    part thread = name_of_thread(t);
-    if (!threads[t].in_windows) threads[t].in_windows = window_thread(thread.at, thread.length);
-    const char *operand = line + thread.length + strlen(operation) + 2;
-    const char *fault = window_event(line, end - line - 1, kind_of(operation), threads[t].in_windows,
-                                     (part){operand, end - operand - place.length - 3}, place);
+/* A record that was changed may tell what no trace has. */
+static void refuse_fault(const char *line, const char *end, const char *fault) {
     if (fault) die("event %lu, %.*s: %s", events + 1, (int)(end - line - 1), line, fault);
-    events++;
 }
 
 void hold_event(u32 t, const char *operation, part name, const char *tail, u64 caller, u32 stack) {
-    if (into_windows) {
-        event_in_window(t, operation, name, tail, place_of(caller));
-        stack_of_event(stack);
-        return;
-    }
     if (lines_bytes > sizeof lines - SHB_LINE) write_lines();
-    char *line = lines + lines_bytes, *end = add_line(line, t, operation, name, tail, place_of(caller));
-    if (events == event_limit) cut_reason = "at the limit of events";
-    else if (bytes + (end - line) > SHB_BYTES) cut_reason = "at 1 GiB of text";
-    if (cut_reason) return;
+    part place = place_of(caller), thread = name_of_thread(t);
+    char *line = lines + lines_bytes, *end = add_line(line, t, operation, name, tail, place);
+    u64 length = end - line - 1;
+    const char *operand = line + thread.length + strlen(operation) + 2;
+    part operand_part = {operand, end - operand - place.length - 3};
+    if (!threads[t].in_windows) threads[t].in_windows = window_thread(thread.at, thread.length);
+    if (into_windows) refuse_fault(line, end, window_event(line, length, kind_of(operation), threads[t].in_windows, operand_part, place));
+    else {
+        if (events == event_limit) cut_reason = "at the limit of events";
+        else if (bytes + length + 1 > SHB_BYTES) cut_reason = "at 1 GiB of text";
+        if (cut_reason) return;
+        refuse_fault(line, end, trace_event(length, kind_of(operation), threads[t].in_windows, operand_part, place));
+        bytes += length + 1;
+        lines_bytes += length + 1;
+    }
     stack_of_event(stack);
     events++;
-    bytes += end - line;
-    lines_bytes += end - line;
 }
 
 /* `name` and `tail` may lie in buffers that the writing of another event uses. */

@@ -264,7 +264,7 @@ static part before(part p, char byte, part *rest) {
 }
 
 /* An event: its thread, its operation, and the lock that it takes or releases or the thread that it forks or joins. */
-static const char too_long[] = "the line is longer than 4096 bytes";
+static const char too_long[] = "the line is longer than 4096 bytes", no_operand[] = "the operand is not a name in parentheses";
 typedef struct { enum window_kind kind; u32 t, lock, other; part place; } operation;
 
 static const char *fork_fault(u32 t, u32 child) {
@@ -308,7 +308,7 @@ static const char *read_fields(part all, operation *found) {
     if (kind == WINDOW_UNKNOWN) return "the operation is not known";
     int closed = operand.length && operand.at[operand.length - 1] == ')';
     int bare = word.length == whole.length;
-    if (kind == WINDOW_MARK ? !bare && !closed : !closed || operand.length < 2) return "the operand is not a name in parentheses";
+    if (kind == WINDOW_MARK ? !bare && !closed : !closed || operand.length < 2) return no_operand;
     operand.length -= closed;
     *found = operation_of_parts(kind, window_thread(name.at, name.length), operand, place);
     return 0;
@@ -323,8 +323,17 @@ static const char *add_operation(const char *line, u64 length, operation o) {
 }
 
 const char *window_event(const char *line, u64 length, enum window_kind kind, u32 thread, part operand, part place) {
-    if (length > SHB_LINE) return too_long;
+    if (length > SHB_LINE || !operand.length) return length > SHB_LINE ? too_long : no_operand;
     return add_operation(line, length, operation_of_parts(kind, thread, operand, place));
+}
+
+const char *trace_event(u64 length, enum window_kind kind, u32 thread, part operand, part place) {
+    if (length > SHB_LINE || !operand.length) return length > SHB_LINE ? too_long : no_operand;
+    operation o = operation_of_parts(kind, thread, operand, place);
+    const char *fault = fault_of(o);
+    if (!fault && thread_names.count > SHB_THREADS) fault = "there are more than 1,024 threads";
+    if (!fault) take(o);
+    return fault;
 }
 
 const char *window_line(const char *line, u64 length) {

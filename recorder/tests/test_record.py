@@ -225,6 +225,8 @@ class Damaged(recorder.Case):
         answer = recorder.call(converter, "--stacks", self.folder / "app.stacks", record,
                                env={**os.environ, "ASAN_OPTIONS": "detect_leaks=0"})
         self.assertIn(answer.returncode, (0, 2, 3), answer.stderr[-2000:])
+        if answer.returncode != 2:
+            recorder.places(answer.stdout)  # it is a trace that shb takes
         self.assertIn(b"shb-std: ", answer.stderr)
         self.assertNotRegex(answer.stderr, b"Sanitizer|runtime error")
         return answer.returncode
@@ -247,6 +249,21 @@ class Damaged(recorder.Case):
             program.write_bytes(damaged)
             with self.subTest(number):
                 self.assertEqual(self.convert(converter, record), 0)
+
+    def test_what_no_trace_can_have_is_refused(self):
+        fork, start, join = entry(0, "FORK", 1, 0x101), entry(1, "START", STACK, 0x500, 4096), entry(0, "JOIN", 1, 0x103)
+        write = entry(0, "WRITE", BLOCK, 0x104, 8), entry(1, "WRITE", BLOCK, 0x201, 8)
+        block, record = entry(0, "ALLOC", BLOCK, 0x100, 16), self.folder / "app.rec"
+        for reason, entries in (("the thread was forked before", [fork, fork]), ("a thread cannot fork itself", [entry(1, "FORK", 1, 1)]),
+                                ("the forked thread has started already", [start, *write, fork]),
+                                ("the thread was joined before", [fork, start, join, *write]),
+                                ("a thread cannot join itself", [entry(0, "JOIN", 0, 0x101)])):
+            record.write_bytes(HEADER + block + b"".join(entries))
+            for options in ((), ("--windows", self.folder / "windows")):
+                with self.subTest(reason, options=options):
+                    answer = recorder.convert(record, *options)
+                    self.assertEqual(answer.returncode, 2)
+                    self.assertIn(reason, answer.stderr.decode())
 
     def test_a_record_of_another_version(self):
         path = self.folder / "app.rec"
