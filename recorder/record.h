@@ -1,8 +1,10 @@
 /* The record: a file that the run-time library writes and the converter reads.
 
    HEADER_BYTES of text: the magic line, "command WORD WORD..", and a line "LOW HIGH BASE PATH" (hexadecimal numbers) for
-   each module of code, in whose path LINE_END_IN_PATH stands for the end of a line; at ENDED_AT how the recording ended: "whole", or the reason why it stopped before the program,
-   or nothing where the program was killed.
+   each module of code, in whose path LINE_END_IN_PATH stands for the end of a line; at ENDED_AT how the recording ended:
+   "whole", or the reason why it stopped before the program, or nothing where the program was killed.  Behind "whole"
+   stand how many entries there are and the sum of their entry_sum (hexadecimal), so that a copy that was cut or changed is
+   known; not where an exec ended the recording, for another thread may have added some meanwhile.
    Then records of 16 bytes in the order in which things happened, until one of zeros or the file's end. */
 #include <stdint.h>
 
@@ -27,6 +29,11 @@ struct record {
     uint64_t where;                    /* 48 bits: the address (of a fork or join: the other thread); 16: the thread */
     uint64_t what;                     /* 48 bits: the return address of the call; 6: the operation; 10: the size */
 };
+
+/* Of the entry with this number, from 0. */
+static inline uint64_t entry_sum(uint64_t number, struct record r) {
+    return (r.where ^ number << 20) * 0x9E3779B97F4A7C15u + (r.what ^ number) * 0xD6E8FEB86659FD93u;
+}
 
 enum operation {
     OP_NONE, OP_SIZE,

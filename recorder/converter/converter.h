@@ -34,6 +34,7 @@ extern u64 record_count;               /* before the first pass: no more than th
 extern const char *recording_cut;      /* why the record is not that of the whole run; or null */
 void open_record(const char *path);
 int is_record(u64 i);                  /* in the first pass; after it there are `record_count` */
+void check_sum(void);                  /* after the first pass over all records; dies where a copy was cut or changed */
 enum { RECORDS_AT_ONCE = 1 << 20 };    /* a multiple of a page's; so many are in memory at a time */
 void forget_records(u64 from, u64 end);
 enum operation operation_of(u64 i);

@@ -149,6 +149,7 @@ int main(int count, char **words) {
     if (stacks_path) open_stacks(stacks_path);
     if (windows_folder) prepare_windows();
     pass(meet_record, 1);
+    if (!shortened) check_sum();
     pass(find_cuts, 0);
     find_places();
     pass(find_sharing, 0);

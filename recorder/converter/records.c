@@ -2,6 +2,7 @@
 #define _GNU_SOURCE
 #include <errno.h>
 #include <fcntl.h>
+#include <stdio.h>
 #include <string.h>
 #include <sys/mman.h>
 #include <sys/stat.h>
@@ -44,10 +45,20 @@ static int is_good(u64 i) {
     return (operation != OP_FORK && operation != OP_JOIN) || address_of(i) < THREADS;
 }
 
+/* What a record that is whole says of itself, and what was met of it in the first pass. */
+static u64 whole_count, whole_sum, met_sum;
+static int has_sum;
+
 int is_record(u64 i) {
     if (!records[i].what || (size_follows(i) && (i + 1 == record_count || !records[i + 1].what))) return 0;   /* or is cut in two */
     if (!is_good(i)) die("record %lu of %s is damaged", i + 1, record_path);
+    met_sum += entry_sum(i, records[i]);
     return 1;
+}
+
+void check_sum(void) {
+    if (has_sum && record_count < whole_count) die("%s was cut: %lu of its %lu records are there", record_path, record_count, whole_count);
+    if (has_sum && (record_count > whole_count || met_sum != whole_sum)) die("%s was changed after it was recorded", record_path);
 }
 
 static char *map_file(const char *path, u64 *size) {
@@ -69,6 +80,7 @@ static void note_how_it_ended(const char *how) {
     for (char *p = reason; *p; p++)
         if ((unsigned char)*p < ' ') *p = '!';
     if (!*reason) recording_cut = "the program was killed";
+    else if (sscanf(reason, ENDED_WHOLE " %lx %lx", &whole_count, &whole_sum) == 2) has_sum = 1;
     else if (strcmp(reason, ENDED_WHOLE)) recording_cut = reason;
 }
 

@@ -35,7 +35,7 @@ typedef struct {
 /* function: what was called, by a place in it; of an event 0. A way has a node of its own. */
 typedef struct { u64 caller, function; u32 outer; uint8_t used, is_way; } node;
 
-static int with_stacks;
+static int with_stacks, has_calls;
 static FILE *file;
 static const char *path;
 static calls_of_thread stacks[THREADS];
@@ -83,6 +83,7 @@ static void meet_frame(calls_of_thread *s, u64 i) {
 void note_call(u64 i) {
     if (operation_of(i) == OP_DEPTH) return;
     note_caller(caller_of(i));
+    has_calls |= operation_of(i) == OP_FRAME;
     if (operation_of(i) == OP_FRAME && with_stacks) note_caller(address_of(i));
 }
 
@@ -264,6 +265,8 @@ void end_stacks(void) {
     if (fclose(atomics)) die("out of memory");
     fwrite(atomics_text, 1, atomics_bytes, file);
     write_sources(file);
+    if (!has_calls && written) fprintf(stderr, "shb-std: no call stacks are known: the program was recorded with SHB_STACKS=0, or compiled without "
+                                               "hooks of functions\n");
     rewind(file);
     fprintf(file, STACKS_BEGIN, written);
     if (fflush(file) || ferror(file) || fclose(file)) cannot_write();

@@ -6,6 +6,8 @@
 #include <setjmp.h>
 #include "runtime.h"
 
+int records_calls = 1;
+
 /* Where the innermost of so many functions called code without hooks, in which this caller lies: the call left its return
    address at that function's stack pointer. 0 where the caller has hooks, or that isn't known. (What lay on the stack by
    another call, or after an alloca, may be no such address; the converter looks whether it is in that function.) */
@@ -33,6 +35,7 @@ PUBLIC void __tsan_func_entry(void *caller) {
     thread *t = self;
     if (!t) return;
     t->written = 0;
+    if (!records_calls) return;
     uint32_t depth = t->depth;
     if (depth < MOST_FRAMES) {
         uint64_t stack = (uint64_t)__builtin_dwarf_cfa();
@@ -61,6 +64,7 @@ void forget_recorded_frames(thread *t) {
    handler may have a stack of its own. */
 frame push_frame(thread *t, uint64_t caller, uint64_t function) {
     frame old = {0};
+    if (!records_calls) return old;
     if (t->depth < MOST_FRAMES) {
         old = t->frames[t->depth];
         set_frame(t, t->depth, caller, function);

@@ -227,6 +227,14 @@ int move_to_file(void) {
     return 0;
 }
 
+static void note_whole(void) {
+    char text[ENDED_BYTES];
+    uint64_t sum = 0;
+    for (uint64_t i = 0; i < written; i++) sum += entry_sum(i, records[i]);
+    snprintf(text, sizeof text, "%s %lx %lx", ENDED_WHOLE, written, sum);
+    note_end(text);
+}
+
 /* With the turn nobody else writes, so the file can be cut.  Without it (the recording had ended before) a last record
    may still be on its way: then the zeros after the records stay. */
 void close_recording(void) {
@@ -234,7 +242,7 @@ void close_recording(void) {
     end_turns();
     if (!t) return;
     if (!in_memory) cut_file(HEADER_BYTES + written * sizeof *records);
-    note_end(ENDED_WHOLE);
+    note_whole();
     leave(t);
 }
 

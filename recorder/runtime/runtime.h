@@ -73,6 +73,7 @@ void note_spin(thread *t, uint64_t read);
 })
 
 /* calls.c: the functions that it is in. */
+extern int records_calls;              /* 0 where the user asks for none */
 uint64_t way_to(const thread *t, uint32_t depth, uint64_t caller);
 void forget_recorded_frames(thread *t);                      /* the record is another one, or the frames are */
 frame push_frame(thread *t, uint64_t caller, uint64_t function);       /* gives what lay there, for pop_frame */

@@ -5,6 +5,7 @@
 #include <mqueue.h>
 #include <stdarg.h>
 #include <stdlib.h>
+#include <string.h>
 #include <sys/syscall.h>
 #include <threads.h>
 #include <time.h>
@@ -94,6 +95,8 @@ __attribute__((constructor(101))) static void begin(void) {
     if (!path || !*path || process) return;
     process = getpid();
     stall_seconds = setting("SHB_STALL", 60);
+    const char *stacks = getenv("SHB_STACKS");
+    records_calls = !stacks || strcmp(stacks, "0");
     if (!open_recording(path, setting("SHB_RECORDS", 64000000))) return;
     if (!has_number()) unsetenv("SHB_RECORD");               /* a program started by this one would write over it */
     note_modules();

@@ -279,3 +279,37 @@ class Damaged(recorder.Case):
             answer = recorder.convert(path)
             self.assertEqual(answer.returncode, 2)
             self.assertIn(reason, answer.stderr)
+
+
+class Copies(recorder.Case):
+    """A record that was cut or changed after it was written is known, wherever that was."""
+
+    def record(self):
+        program, record = self.folder / "app", self.folder / "app.rec"
+        recorder.build(recorder.PROGRAMS / "names.c", "-O1", program)
+        recorder.must(recorder.call(program, env=recorder.settings(record)))
+        recorder.must(recorder.convert(record))
+        return record.read_bytes()
+
+    def refused(self, content, reason):
+        copy = self.folder / "copy.rec"
+        copy.write_bytes(content)
+        answer = recorder.convert(copy)
+        self.assertEqual((answer.returncode, answer.stdout), (2, b""))
+        self.assertRegex(answer.stderr.decode(), reason)
+
+    def test_a_copy_that_was_cut(self):
+        good = self.record()
+        for size in (65536, 65536 + 16, (65536 + len(good)) // 32 * 16, len(good) - 16, len(good) - 1):
+            with self.subTest(size):
+                self.refused(good[:size], "copy.rec was cut: [0-9]+ of its [0-9]+ records are there")
+
+    def test_a_copy_that_was_changed(self):
+        good, draw = self.record(), random.Random(3)
+        for _ in range(40):
+            changed = bytearray(good)
+            changed[draw.randrange(65536, len(good))] ^= 1 << draw.randrange(8)
+            with self.subTest():
+                self.refused(changed, "copy.rec was changed|was cut: |record [0-9]+ of .* is damaged")
+        self.refused(good[:-16] + good[-32:-16], "was changed")
+        self.refused(good + good[-16:], "was changed")

@@ -123,6 +123,19 @@ class Programs(recorder.Case):
     def test_in_cxx(self):
         self.check(recorder.PROGRAMS / "calls_cxx.cc")
 
+    def test_without_stacks(self):
+        """The same trace as far as the events go; each stack is the place of its event alone."""
+        program, record, path = self.folder / "program", self.folder / "app.rec", self.folder / "app.stacks"
+        recorder.build(recorder.PROGRAMS / "names.c", "-O1", program)
+        said = []
+        for setting in ("1", "0"):
+            recorder.must(recorder.call(program, env=recorder.settings(record, SHB_STACKS=setting)))
+            answer = recorder.must(recorder.convert(record, "--stacks", path))
+            said.append(b"no call stacks are known: the program was recorded with SHB_STACKS=0" in answer.stderr)
+        self.assertEqual(said, [False, True])
+        lines = answer.stdout.decode().splitlines()
+        self.assertEqual(places(Stacks(path, 0, len(lines)), len(lines)), [line.split("|")[2] for line in lines])
+
     def test_code_of_headers_is_told_by_the_programs_own_lines(self):
         source, program, record = recorder.PROGRAMS / "headers.cc", self.folder / "program", self.folder / "app.rec"
         lines = source.read_text().splitlines()
