@@ -10,8 +10,8 @@ import unittest
 
 HERE = pathlib.Path(__file__).resolve().parent
 PATH = HERE.parent / "crates" / "shb" / "out" / "shb"
-SECONDS = 30
-LONG_SECONDS = 600
+SECONDS = 120  # after so long a command hangs, also where proofs run beside it
+LONG_SECONDS = 1200
 
 
 class Answer(typing.NamedTuple):

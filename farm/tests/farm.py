@@ -13,7 +13,7 @@ HERE = pathlib.Path(__file__).resolve().parent
 TOP = HERE.parents[1]
 COMMAND = HERE.parent / "shb-farm"
 SHB = TOP / "crates" / "shb" / "out" / "shb"
-SECONDS = 120       # after so long a command hangs
+SECONDS = 600       # after so long a command hangs
 
 RACE = b"T1|w(x)|a.c:1\nT2|w(x)|b.c:2\n"            # one place
 OTHER_ORDER = b"T2|w(x)|b.c:2\nT1|w(x)|a.c:1\n"     # the same place, the other access first

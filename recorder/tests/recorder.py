@@ -13,7 +13,7 @@ SOURCES = HERE.parent
 PROGRAMS = HERE / "programs"
 SHB = SOURCES.parent / "crates" / "shb" / "out" / "shb"
 BUILT = None  # where the recorder was built
-SECONDS = 300  # after so long a command hangs
+SECONDS = 600  # after so long a command hangs
 
 
 def call(*words, **how):
