@@ -1,22 +1,104 @@
 /* Descriptors: the order that they give, and the recorder's own, which the program never meets. */
 #define _GNU_SOURCE
 #include <errno.h>
+#include <fcntl.h>
+#include <netinet/in.h>
+#include <stdarg.h>
+#include <string.h>
 #include <sys/epoll.h>
 #include <sys/eventfd.h>
 #include <sys/socket.h>
+#include <sys/stat.h>
 #include <sys/syscall.h>
 #include <sys/uio.h>
+#include <sys/un.h>
 #include <unistd.h>
 #include "runtime.h"
 
 /* ---- what is written, closed or added to an epoll comes before what reads it, gets its number or is woken ---- */
 enum { DESCRIPTORS = 1 << 16 };
-static int pair_of[DESCRIPTORS];       /* the ends of a pipe or a pair of sockets have one number; plus one */
+static int pair_of[DESCRIPTORS];       /* what leads to the same data has one number, that of one of them; plus one */
+static uint64_t key_of[DESCRIPTORS];   /* equal at both ends of a connection, and of a FIFO that is opened by its name; or 0 */
+static char is_known[DESCRIPTORS];
 
+static int is_small(int f) { return f >= 0 && f < DESCRIPTORS; }
+static int first_of(int f) { return pair_of[f] ? pair_of[f] - 1 : f; }
 static void *number_of(int f) { return (void *)(FIRST_DESCRIPTOR + (uint64_t)(unsigned)f * 16); }
+
+/* It is another file now. */
+static void is_new(int f) {
+    if (!is_small(f)) return;
+    pair_of[f] = is_known[f] = 0;
+    key_of[f] = 0;
+}
+
+/* The descriptor that has this key already, also if it is closed by now, is of the same data. Both ends may come here at once;
+   no handler of a signal does meanwhile. */
+static void know_by_key(int f, uint64_t key) {
+    static _Atomic int busy;
+    thread *t = self && !self->inside ? self : 0;
+    if (t) t->inside = 1;
+    while (atomic_exchange(&busy, 1)) syscall(SYS_sched_yield);
+    is_known[f] = 1;
+    for (int other = 0; other < DESCRIPTORS; other++)
+        if (key_of[other] == key && other != f) pair_of[f] = first_of(other) + 1;
+    key_of[f] = key;
+    atomic_store(&busy, 0);
+    if (t) leave(t);
+}
+
+static void know_file(int f);
+
 static void *data_of(int f) {
-    int first = f >= 0 && f < DESCRIPTORS && pair_of[f] ? pair_of[f] - 1 : f;
-    return (char *)number_of(first) + 8;
+    if (is_small(f) && others && !is_known[f]) know_file(f);
+    return (char *)number_of(is_small(f) ? first_of(f) : f) + 8;
+}
+
+static int has_data_of(int f, int copy) {                    /* a duplicate */
+    is_new(copy);
+    if (is_small(f) && is_small(copy)) pair_of[copy] = (data_of(f), first_of(f) + 1);
+    return copy;
+}
+
+/* ---- connections within the process: both ends have the same two addresses ---- */
+static uint64_t mixed(uint64_t sum, const void *bytes, size_t size) {
+    const unsigned char *p = bytes;
+    for (size_t i = 0; i < size; i++) sum = (sum ^ p[i]) * 0x100000001b3ull;
+    return sum;
+}
+
+/* Of an address; the same of one of IPv4 that is written as one of IPv6. */
+static uint64_t sum_of(const struct sockaddr_storage *a, socklen_t size) {
+    const struct sockaddr_in *four = (const void *)a;
+    const struct sockaddr_in6 *six = (const void *)a;
+    if (a->ss_family == AF_INET) return mixed(mixed(4, &four->sin_addr, 4), &four->sin_port, 2);
+    if (a->ss_family == AF_INET6 && IN6_IS_ADDR_V4MAPPED(&six->sin6_addr))
+        return mixed(mixed(4, &six->sin6_addr.s6_addr[12], 4), &six->sin6_port, 2);
+    if (a->ss_family == AF_INET6) return mixed(mixed(6, &six->sin6_addr, 16), &six->sin6_port, 2);
+    return mixed(1, a, size < sizeof *a ? size : sizeof *a);
+}
+
+static void know_connection(int f) {
+    struct sockaddr_storage here, there;
+    socklen_t here_size = sizeof here, there_size = sizeof there;
+    int saved = errno;
+    memset(&here, 0, sizeof here);
+    memset(&there, 0, sizeof there);
+    if (is_small(f) && !getsockname(f, (void *)&here, &here_size) && !getpeername(f, (void *)&there, &there_size))
+        know_by_key(f, (sum_of(&here, here_size) + sum_of(&there, there_size)) | 1ull << 63);
+    errno = saved;
+}
+
+/* A FIFO may be opened by its name at both ends, and a connection may have come about by now. */
+static void know_file(int f) {
+    struct stat status;
+    int saved = errno;
+    is_known[f] = 1;
+    if (!pair_of[f] && !syscall(SYS_fstat, f, &status)) {
+        if (S_ISFIFO(status.st_mode)) know_by_key(f, (status.st_dev * 31 + status.st_ino) | 1ull << 63);
+        if (S_ISSOCK(status.st_mode)) know_connection(f);
+    }
+    errno = saved;
 }
 
 static void note_descriptor(enum operation operation, void *what, uint64_t caller) {
@@ -62,15 +144,36 @@ RECEIVES(ssize_t, recvfrom, data_of(f), (int f, void *p, size_t n, int k, struct
          (f, p, n, k, a, l))
 RECEIVES(int, epoll_wait, data_of(f), (int f, struct epoll_event *e, int n, int ms), (f, e, n, ms))
 RECEIVES(int, epoll_pwait, data_of(f), (int f, struct epoll_event *e, int n, int ms, const sigset_t *s), (f, e, n, ms, s))
-RECEIVES(int, accept, number_of(r), (int f, struct sockaddr *a, socklen_t *n), (f, a, n))
-RECEIVES(int, accept4, number_of(r), (int f, struct sockaddr *a, socklen_t *n, int k), (f, a, n, k))
-RECEIVES(int, socket, number_of(r), (int d, int k, int p), (d, k, p))
-RECEIVES(int, eventfd, number_of(r), (unsigned v, int k), (v, k))
+/* A number that is given again; an accepted connection gets what was done before it was made, too. */
+#define GIVES_NUMBER(name, know, parameters, arguments) \
+    PUBLIC int name parameters { \
+        let_others_run(); \
+        int r = REAL(name) arguments; \
+        if (r < 0) return r; \
+        is_new(r); \
+        know; \
+        note_descriptor(OP_WAIT, number_of(r), CALLER); \
+        return r; \
+    }
+#define KNOW_ACCEPTED (know_connection(r), note_descriptor(OP_WAIT, data_of(r), CALLER))
+GIVES_NUMBER(accept, KNOW_ACCEPTED, (int f, struct sockaddr *a, socklen_t *n), (f, a, n))
+GIVES_NUMBER(accept4, KNOW_ACCEPTED, (int f, struct sockaddr *a, socklen_t *n, int k), (f, a, n, k))
+GIVES_NUMBER(socket, , (int d, int k, int p), (d, k, p))
+GIVES_NUMBER(eventfd, , (unsigned v, int k), (v, k))
+PUBLIC int connect(int f, const struct sockaddr *a, socklen_t n) {
+    note_descriptor(OP_POST, data_of(f), CALLER);
+    int r = REAL(connect)(f, a, n);
+    if (is_small(f)) is_known[f] = 0;  /* it may still come about */
+    if (!r) know_connection(f);
+    return r;
+}
 
 static int note_pair(int error, int *f, uint64_t caller) {
     if (error || f[0] < 0 || f[1] < 0 || f[0] >= DESCRIPTORS || f[1] >= DESCRIPTORS) return error;
     note_descriptor(OP_WAIT, number_of(f[0]), caller);
     note_descriptor(OP_WAIT, number_of(f[1]), caller);
+    is_new(f[0]);
+    is_new(f[1]);
     pair_of[f[0]] = pair_of[f[1]] = f[0] + 1;
     return error;
 }
@@ -85,18 +188,30 @@ PUBLIC int close(int f) {
     }
     note_descriptor(OP_POST, number_of(f), CALLER);
     note_descriptor(OP_POST, data_of(f), CALLER);
-    if (f >= 0 && f < DESCRIPTORS) pair_of[f] = 0;
+    if (is_small(f)) pair_of[f] = is_known[f] = 0;           /* its key stays for a connection that isn't accepted yet */
     return REAL(close)(f);
 }
 
 PUBLIC int dup2(int f, int g) {
     leave_number(g);
-    return REAL(dup2)(f, g);
+    return f == g ? REAL(dup2)(f, g) : has_data_of(f, REAL(dup2)(f, g));
 }
 PUBLIC int dup3(int f, int g, int flags) {
     leave_number(g);
-    return REAL(dup3)(f, g, flags);
+    return has_data_of(f, REAL(dup3)(f, g, flags));
 }
+PUBLIC int dup(int f) { return has_data_of(f, REAL(dup)(f)); }
+#define CONTROLS(name) \
+    PUBLIC int name(int f, int command, ...) { \
+        va_list more; \
+        va_start(more, command); \
+        void *argument = va_arg(more, void *); \
+        va_end(more); \
+        int r = REAL(name)(f, command, argument); \
+        return command == F_DUPFD || command == F_DUPFD_CLOEXEC ? has_data_of(f, r) : r; \
+    }
+CONTROLS(fcntl)
+CONTROLS(fcntl64)
 
 PUBLIC int close_range(unsigned first, unsigned last, int flags) {
     unsigned ours = next_kept(first);

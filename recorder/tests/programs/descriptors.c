@@ -1,0 +1,71 @@
+/* What is written to a descriptor comes before what is read at its other end: through a duplicate, a FIFO that is opened by
+   its name, and a connection within the process. */
+#define _GNU_SOURCE
+#include <fcntl.h>
+#include <netinet/in.h>
+#include <pthread.h>
+#include <stdlib.h>
+#include <sys/socket.h>
+#include <sys/stat.h>
+#include <unistd.h>
+
+enum { WAYS = 5 };
+static int data[WAYS], reply, racy, ends[2], copies[3];
+static char folder[] = "/tmp/descriptorsXXXXXX";
+static struct sockaddr_in at = {.sin_family = AF_INET};
+
+static void send_byte(int f) {
+    if (write(f, "x", 1) != 1) exit(1);
+}
+static void get_byte(int f) {
+    char byte;
+    if (read(f, &byte, 1) != 1) exit(1);
+}
+
+static void *work(void *unused) {
+    racy++;                                                  /* RACE */
+    for (int i = 0; i < 3; i++) {
+        data[i] = 1;
+        send_byte(copies[i]);
+    }
+    int fifo = open("fifo", O_WRONLY), f = socket(AF_INET, SOCK_STREAM, 0);
+    data[3] = 1;
+    send_byte(fifo);
+    data[4] = 1;
+    if (connect(f, (struct sockaddr *)&at, sizeof at)) exit(1);
+    send_byte(f);
+    get_byte(f);
+    return reply == 1 ? 0 : &data;
+}
+
+int main(void) {
+    pthread_t t;
+    socklen_t size = sizeof at;
+    void *failed;
+    int listener = socket(AF_INET, SOCK_STREAM, 0), sum = 0;
+    at.sin_addr.s_addr = htonl(INADDR_LOOPBACK);
+    if (bind(listener, (struct sockaddr *)&at, size) || listen(listener, 5)) return 1;
+    getsockname(listener, (struct sockaddr *)&at, &size);
+    if (!mkdtemp(folder) || chdir(folder) || mkfifo("fifo", 0600) || pipe(ends)) return 1;
+    copies[0] = dup(ends[1]);
+    copies[1] = fcntl(ends[1], F_DUPFD, 50);
+    copies[2] = dup2(copies[1], 70);
+    pthread_create(&t, 0, work, 0);
+    racy++;                                                  /* RACE */
+    for (int i = 0; i < 3; i++) {
+        get_byte(ends[0]);
+        sum += data[i];
+    }
+    int fifo = open("fifo", O_RDONLY);
+    get_byte(fifo);
+    sum += data[3];
+    int f = accept(listener, 0, 0);
+    get_byte(f);
+    sum += data[4];
+    reply = 1;
+    send_byte(f);
+    pthread_join(t, &failed);
+    unlink("fifo");
+    if (chdir("/") || rmdir(folder)) return 1;
+    return failed || sum != WAYS;
+}
