@@ -19,7 +19,7 @@ MADE = [
     ("counter", 1_000_000, 2),
     ("counter", 15_000, 64),
     ("counter", 3_750, 256),
-    ("counter", 937, 1024),
+    ("counter", 937, 1023),
     ("progress", 200_000, 2),
     ("progress", 10_000, 64),
     ("mixed", 300_000, 8),
