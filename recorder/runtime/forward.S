@@ -1,3 +1,4 @@
+.file "forward.S"      /* else the library has the name of a temporary file, and the package other bytes each time */
 /* Functions of the C library that are handed on to it in its newest version (forwarded.py says which). A function of this
    library takes the place of one that is here. */
 
