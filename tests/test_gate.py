@@ -104,6 +104,13 @@ class Edits(unittest.TestCase):
         said = "fn low::first: not proved\nfn low::third: not proved\n"
         self.assertEqual(self.tried([self.edit("first.same", FIRST)], (1, said)), {"first.same.edit": False})
 
+    def test_functions_that_call_one_another_are_refused_together(self):
+        said = "fn low::first: no proof: expected answers in ./proofs/+pair/Answers.antt; `search` did not prove `x`\n"
+        for other, is_refused in (("+pair", True), ("third", False)):
+            with self.subTest(other):
+                both = said + f"fn low::third: no proof: expected answers in ./proofs/{other}/Answers.antt; `search` did not prove `x`\n"
+                self.assertEqual(self.tried([self.edit("first.same", FIRST)], (1, both)), {"first.same.edit": is_refused})
+
     def test_empty_answers_and_checks_that_die_say_nothing(self):
         for status, said in ((0, ""), (1, ""), (2, "fn low::first: not proved\n"), (-9, "fn low::first: not proved\n"), (3, "")):
             with self.subTest(status=status, said=said):

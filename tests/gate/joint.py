@@ -12,8 +12,8 @@ import tempfile
 
 import kit
 
-# How the checker says that a function's own proof fails. 'no proof: it calls G, which is not proved' blames G.
-REFUSED = re.compile(r"(?m)^fn (\S+): (?:not proved(?:;|$)|no proof: expected answers in )")
+# How the checker says that a function's own proof fails, and of which file. 'no proof: it calls G, which is not proved' blames G.
+REFUSED = re.compile(r"(?m)^fn (\S+): (?:not proved(?:;|$)|no proof: expected answers in (\S*))")
 
 
 def owner_of(head):
@@ -81,13 +81,16 @@ def batches(crate, edits):
 
 
 def refused_in(status, said, batch, name, texts):
-    """Of a check's status and output, the edits of a batch that a function of their own shows refused. Nothing is where
-    the check didn't come to its end, couldn't read a text, or refused a function that no edit changes."""
+    """Of a check's status and output, the edits of a batch that a function of their own shows refused. None is where
+    the check didn't come to its end, couldn't read a text, or refused a function that no edit changes. Functions that call
+    one another have one proof, in a folder whose name begins with '+', and are refused together."""
     names = set().union(*batch.values())
-    failed = {it.removeprefix(f"{name}::") for it in REFUSED.findall(said)}
-    if status != 1 or failed - names or any(kit.is_unread(line, texts) for line in said.splitlines()):
+    failed = {function.removeprefix(f"{name}::"): file for function, file in REFUSED.findall(said)}
+    cycles = {file for function, file in failed.items() if function in names and "/+" in file}
+    others = {function for function, file in failed.items() if function not in names and file not in cycles}
+    if status != 1 or others or any(kit.is_unread(line, texts) for line in said.splitlines()):
         return set()
-    return {edit for edit, functions in batch.items() if failed & functions}
+    return {edit for edit, functions in batch.items() if functions & {*failed}}
 
 
 def refused(crate, batch, kept):
