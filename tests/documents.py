@@ -23,7 +23,7 @@ OUTSIDE = {
     "words and messages of rt": "dac8208d650f15bf holes incremental lemma nearest proposition rattle start_lib tidy",
     "a file of rt's template": "BUILD bazel",
     "modules and words of the kit's library": "IsOk Mem le_bytes Display",
-    "commands and packages of Linux": "chroot debootstrap minbase nice pbzip2 poppler python3 utils zstd",
+    "commands and packages of Linux": "callgrind chroot debootstrap minbase nice pbzip2 poppler python3 utils valgrind zstd",
     "messages and options of Slurm, and a package of Python": "Duplicate jobid night python om",
     "options of gcc": "func instrument lubsan param",
     "names of ThreadSanitizer's that the recorder leaves out": "__interceptor_* __sanitizer_syscall_pre_* _post_*",
