@@ -1,6 +1,6 @@
 #!/usr/bin/env python3
 """Finds in the documents what the repository doesn't have: names in back quotes, files, links, headings, commits and
-numbers of lines. Ends with the line 'N passed, N failed'.
+numbers of lines; and where README is too long. Ends with the line 'N passed, N failed'.
 
 Documents are the files *.md. A word in back quotes has to occur in another file of the repository, in the name of one,
 or in OUTSIDE, and `crate::word` in that crate. A path has to be the end of a file's or folder's path, or stand in MADE;
@@ -42,6 +42,9 @@ MADE = {
     "the reader's own": "app.std app.report file.c util.c",
 }
 
+# The most lines of a document, and the most words of a sentence in it.
+LENGTHS = {"README.md": (110, 35)}
+
 IS_OUTSIDE = {word for words in OUTSIDE.values() for word in words.split()}
 IS_MADE = {name for names in MADE.values() for name in names.split()}
 
@@ -57,6 +60,8 @@ SUFFIXES = ("antt", "c", "cc", "css", "edit", "h", "js", "md", "png", "py", "rep
 NAMES_FILE = re.compile(r"[\w*{},.<>-]+\.(?:%s)" % "|".join(SUFFIXES))
 COUNTED = re.compile(r"`([^`]+)` \((\d[\d,]*) lines\b")
 ROW = re.compile(r"^\| `([^` ]+\.\w+)` \| (\d[\d,]*) \|", re.M)
+PART = re.compile(r"\n\s*\n|\n(?=[-#|])|\|\s")       # where no sentence goes on: a paragraph, an item, a heading, a cell
+SENTENCE_END = re.compile(r"(?<=[.!?])[\"')*`]*\s+")
 SUM = re.compile(r"(\d[\d,]*) files, (\d[\d,]*) lines[^\n]*\n\n((?:\|.*\n)+)")
 
 
@@ -165,6 +170,21 @@ def faults_of_counts(repository, text):
     return faults
 
 
+def sentences(text):
+    """The sentences of a text, each as its words, without its blocks of code."""
+    parts = PART.split(BLOCK.sub("\n\n", text))
+    return [re.findall(r"\S*\w\S*", sentence) for part in parts for sentence in SENTENCE_END.split(part)]
+
+
+def faults_of_length(document, text):
+    """Where a document or a sentence in it is longer than LENGTHS allows."""
+    if document not in LENGTHS:
+        return []
+    lines, words = LENGTHS[document]
+    faults = [f"more than {lines} lines"] if text.count("\n") > lines else []
+    return faults + [f"a sentence of {len(found)} words: {' '.join(found)}" for found in sentences(text) if len(found) > words]
+
+
 def faults_of(repository, document):
     """What is wrong with a document."""
     text = (repository.root / document).read_text()
@@ -175,7 +195,7 @@ def faults_of(repository, document):
     for path in re.findall(rf"(?<![\w./-])(?:{tops})/[\w.*{{}}<>/-]+", QUOTED.sub("", text)):
         if not repository.has_path(path.rstrip("."), document):
             faults.append(f"no file or folder: {path}")
-    return sorted(set(faults + faults_of_counts(repository, text)))
+    return sorted({*faults, *faults_of_counts(repository, text), *faults_of_length(document, text)})
 
 
 # Texts in which a fault has to be found, and texts in which none is, in a repository of the two files below.
@@ -186,11 +206,13 @@ PLANTED = (
     "`docs/OTHER.md`", "[one](docs/B.md)", "[a](docs/A.md#second)", "`abcdef1`", "`src/read.rt` (3 lines)",
     "| `one/src/read.rt` | 1 |", "1 files, 3 lines:\n\n| `one/src/read.rt` | 2 |\n", "    crates/three/src\n",
     "    read_some\n\n`read_some`", "```\nread_some\n```\n\n`read_some`",
+    "a.\n" * 110, "One.\n- " + "word " * 35 + "end. More.", "| `read_all` | " + "word, " * 36 + "|",
 )
 RIGHT = (
     "`read_all`", "`read_a*`", "`*_all`", "`one::read_all`", "`src/read.rt`", "`crates/NAME/src/*.rt`",
     "[one](docs/A.md#the-first-one)", "`1234567`", "`src/read.rt` (2 lines)", "[x](https://x.y/z)",
     "1 files, 2 lines:\n\n| `one/src/read.rt` | 2 |\n", "    read_some crates/two/src\n", "```\nread_some\n```\n",
+    "a.\n" * 109, "One.\n- " + "word " * 34 + "end. More.", "| " + "word " * 30 + "| " + "word " * 30 + "|", "    " + "word " * 40 + "\n",
 )
 
 
