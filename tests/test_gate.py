@@ -183,6 +183,16 @@ class Records(unittest.TestCase):
         self.assertEqual(self.state(), self.before)
         self.assertNotEqual(self.state("kit 2"), self.before)
 
+    def test_a_crate_is_built_where_it_is_proved_and_where_an_earlier_run_proved_it(self):
+        lines = {
+            "rt: low proved\n": "low",
+            "rt: low is kept: an earlier run on this machine proved the same files over the same libraries\n": "low",
+            "rt: low NOT PROVED\n": None,
+            "rt: low: its tests are proved\n": None,
+            "fn low::first: proved\n": None,
+        }
+        self.assertEqual({line: kit.built_in(line) for line in lines}, lines)
+
     def test_about_a_tenth_is_drawn_and_each_commit_draws_others(self):
         edits = [self.root / "crates" / "high" / "must-fail" / f"f.{number}.edit" for number in range(1000)]
         drawn = [{edit for edit in edits if record.is_drawn(commit, edit)} for commit in ("a", "b")]

@@ -1,15 +1,17 @@
-"""The gate's longest part: every proof from nothing, the must-fail edits, and the tests of the program beside them.
+"""The gate's longest part: every proof, the must-fail edits, and the tests of the program beside them.
 
-    python3 tests/gate [--all] [--record] [--room FOLDER] [--steps LOG]
+    python3 tests/gate [--all] [--anew] [--record] [--room FOLDER] [--steps LOG]
         --all     tries every edit, and not those alone that the record asks for
+        --anew    proves everything, also what an earlier run on this machine has proved of the same files
         --record  writes tests/gate/refused.sums where nothing failed
         --room    works in this empty folder and leaves it, with the built program in crates/shb/out/shb
         --steps   writes what each check costs (steps.py)
 
-`rt ci` proves the crates and their tests in a copy of the repository that has no must-fail edits. As soon as a crate is
-proved its edits are tried over the libraries that are built by then (joint.py), those that the record (record.py) doesn't
-answer for and of the others a tenth; as soon as the program is linked the tests of tests/, recorder/, farm/ and install/
-run on it, one folder after the other. Each part ends with a line 'N passed, N failed', and so does the whole.
+`rt ci` proves the crates and their tests in a copy of the repository that has no must-fail edits; it takes over what an
+earlier run on this machine has proved of the same files over the same libraries. As soon as a crate is proved its edits
+are tried over the libraries that are built by then (joint.py), those that the record (record.py) doesn't answer for and of
+the others a tenth; as soon as the program is linked the tests of tests/, recorder/, farm/ and install/ run on it, one
+folder after the other. Each part ends with a line 'N passed, N failed', and so does the whole.
 """
 
 import argparse
@@ -138,11 +140,11 @@ def prove(room, command, edits, pool, count):
         for line in proofs.stdout:
             print(line, end="", flush=True)
             last = line if line.strip() else last
-            proved = re.fullmatch(r"rt: (\w+) proved\n", line)
-            if proved:
-                print(f"{proved[1]}: proved after {time.monotonic() - began:.0f} s", flush=True)
-                edits.begin(proved[1])
-            if proved and proved[1] == "shb":
+            built = kit.built_in(line)
+            if built:
+                print(f"{built}: built after {time.monotonic() - began:.0f} s", flush=True)
+                edits.begin(built)
+            if built == "shb":
                 suites = pool.submit(lambda: [*run_suites(room / "crates/shb/out/shb")])
     count.add_command(proofs.returncode, last)
     return suites
@@ -151,9 +153,10 @@ def prove(room, command, edits, pool, count):
 def run_gate(room, options):
     count, began = Count(), time.monotonic()
     copy_without_edits(room)
-    command = ["rt", "ci"]
+    words = ["--anew"] if options.anew else []
+    command = ["rt", "ci", *words]
     if options.steps:
-        command = [sys.executable, str(ROOT / "tests/gate/steps.py"), options.steps]
+        command = [sys.executable, str(ROOT / "tests/gate/steps.py"), options.steps, *words]
         subprocess.Popen = steps.measured(options.steps, "edits")
     edits = Edits(room, options.all)
     with concurrent.futures.ThreadPoolExecutor(1) as pool:
@@ -177,6 +180,7 @@ def run_gate(room, options):
 def main():
     parser = argparse.ArgumentParser(description=__doc__.splitlines()[0])
     parser.add_argument("--all", action="store_true")
+    parser.add_argument("--anew", action="store_true")
     parser.add_argument("--record", action="store_true")
     parser.add_argument("--room", type=pathlib.Path)
     parser.add_argument("--steps", type=os.path.abspath)

@@ -1,6 +1,7 @@
 """What the gate takes from the kit beside its commands. Another kit may want changes here, and only here.
 
 - the kit's command `rt` as a module: it reads an edit, and checks a copy of a crate over the libraries that `rt ci` left;
+- the lines of `rt ci` that tell when a crate's library is there;
 - the checked modules of a built library, which lie in an archive of ar: their names tell how the checker names functions.
 """
 
@@ -38,6 +39,12 @@ def crates_of(room):
     os.chdir(room)
     command().rtlib.guarded()
     return {crate.name: crate for crate in command().rtlib.crates_below(str(room))}
+
+
+def built_in(line):
+    """The crate whose library is there by this line of `rt ci`: proved now, or by an earlier run on this machine."""
+    found = re.fullmatch(r"rt: (\w+) (?:proved|is kept: .*)\n", line)
+    return found and found[1]
 
 
 def names_in(archive):

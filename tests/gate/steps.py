@@ -1,7 +1,7 @@
 #!/usr/bin/env python3
 """What each check of the gate costs, for docs/GATE.md.
 
-    steps.py LOG          runs `rt ci` in this folder; the gate's option --steps LOG does so
+    steps.py LOG [--anew] runs `rt ci` in this folder; the gate's option --steps LOG does so
     steps.py --sum LOG    prints the sums by crate and kind, and the ten dearest steps
 
 A line of LOG is a check: CPU seconds, wall seconds, MB, what it was (proof, tests or edits), the crate. Written by the
@@ -61,13 +61,13 @@ def main(words):
     if len(words) == 2 and words[0] == "--sum":
         print_sums(words[1])
         return 0
-    if len(words) != 1:
+    if len(words) not in (1, 2):
         print(__doc__, file=sys.stderr)
         return 2
     import kit
 
     subprocess.Popen = measured(os.path.abspath(words[0]))
-    return kit.command().main(["ci"])
+    return kit.command().main(["ci", *words[1:]])
 
 
 if __name__ == "__main__":
