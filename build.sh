@@ -1,5 +1,5 @@
 #!/bin/sh
-# Proves every crate of the program from nothing, side by side, and builds the program into bin/shb. That is
+# Proves every crate of the program, side by side, and builds the program into bin/shb. That is
 # what the gate does with proofs, without its tests and must-fail edits, so it works in a copy that has neither
 # these nor the crates that tests alone use. It keeps no proofs for later checks: while you change a crate, work
 # in its folder (CONTRIBUTING.md).
