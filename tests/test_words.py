@@ -17,17 +17,17 @@ Commands:
 Options:
   -h, --help  Print help
 
-With no words at all it does what 'shb races --list' does: it reads a trace from
-standard input and lists its races. Begin with 'shb places --list': one race of
-each place, however many there are. Without --list it shows their schedules.
+Without arguments it runs 'shb races --list': it reads a trace from standard
+input and lists its races. Begin with 'shb places --list', which lists one race
+for each place. Without --list each race has a schedule.
 
   $ printf 'T1|w(y)|1\\nT2|r(y)|2\\n' | shb places --list
 
 'shb help races' says what a trace and a report look like, and 'shb help check'
 what a good report means.
 
-Exit status: 0 done, 2 trace refused, 3 words refused, 4 a file, a device or the
-memory failed, 5 report rejected
+Exit status: 0 done, 2 trace refused, 3 wrong command line, 4 a file, a device
+or the memory failed, 5 report rejected
 """
 
 HINT = b"\nFor more information, try '--help'.\n"

@@ -43,8 +43,8 @@ Known places:
 
 Exit status:
   The first that applies:
-  4  the words are refused, there is no trace, or a folder, a file or an engine
-     fails; the reason is on standard error
+  4  wrong command line, no trace, or a folder, a file or an engine failed; the
+     reason is on standard error
   3  a trace has no outcome: it is missing
   1  there is a place that isn't known
   2  a trace was refused, or memory, time or size didn't suffice

@@ -22,7 +22,7 @@ static const char help[] =
     "  -o DIR      the folder; it is made if it isn't there\n"
     "  -h, --help  this text\n"
     "\n"
-    "Exit status: 0; 2 the trace is refused, as shb would refuse it; 3 the command line is refused;\n"
+    "Exit status: 0; 2 the trace is refused, as shb would refuse it; 3 wrong command line;\n"
     "4 a file can't be read or written.\n" VERSION_LINE;
 
 static const char *folder;

@@ -1,7 +1,7 @@
 //! What the program says on standard error, and the statuses that no run and no check gives.
 ghost use Rattle.std.specs.Prelude.{◌≡◌};
 
-/// The status where the words are refused.
+/// The status of a wrong command line.
 pub(crate) const WORDS_REFUSED: u8 = 3;
 
 /// The status where a device or the memory failed.

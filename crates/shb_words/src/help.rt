@@ -2,17 +2,17 @@
 
 /// Under the list of commands: what to begin with, and the statuses.
 pub const ABOUT_THE_PROGRAM: &str =
-    "With no words at all it does what 'shb races --list' does: it reads a trace from
-standard input and lists its races. Begin with 'shb places --list': one race of
-each place, however many there are. Without --list it shows their schedules.
+    "Without arguments it runs 'shb races --list': it reads a trace from standard
+input and lists its races. Begin with 'shb places --list', which lists one race
+for each place. Without --list each race has a schedule.
 
   $ printf 'T1|w(y)|1\\nT2|r(y)|2\\n' | shb places --list
 
 'shb help races' says what a trace and a report look like, and 'shb help check'
 what a good report means.
 
-Exit status: 0 done, 2 trace refused, 3 words refused, 4 a file, a device or the
-memory failed, 5 report rejected
+Exit status: 0 done, 2 trace refused, 3 wrong command line, 4 a file, a device
+or the memory failed, 5 report rejected
 ";
 
 /// Under the options of `races`: what a trace and a report look like, and what they cost.
@@ -52,7 +52,7 @@ Costs:
 Exit status:
   0  the report was written, or the help that was asked for
   2  the trace is refused; 'line N: REASON' is on standard error
-  3  the words are refused
+  3  wrong command line
   4  a file, a device or the memory failed
 
 Example:
@@ -77,9 +77,9 @@ pub const ABOUT_PLACES: &str =
 the second. Two locations in either order are two places. Of each place the
 first race is listed, in the order of 'shb races', so each race that there is
 has the place of one that is listed. The trace and the form of the report are
-those of 'shb help races'; the races have numbers of their own, and each place
-counts one. 'shb check' judges such a report as any other, and other tools read
-it as any other.
+those of 'shb help races'; the races are numbered from 1, and each place has
+a count of 1. 'shb check' judges such a report as any other, and other tools
+read it as any other.
 
 Costs:
   One race of each place is looked for, and no list of all races is made: time
@@ -90,7 +90,7 @@ Costs:
 Exit status:
   0  the report was written, or the help that was asked for
   2  the trace is refused; 'line N: REASON' is on standard error
-  3  the words are refused
+  3  wrong command line
   4  a file, a device or the memory failed
 
 Example:
@@ -114,8 +114,9 @@ pub const ABOUT_CHECKS: &str =
     "One line is written to standard output, the first of these that applies:
 
   bad line N    no report begins with the first N lines, or line N is missing
-  bad counts    the numbers of events, threads, locks and variables are others
-  bad race K    race K isn't shown to be one, and those before it are
+  bad counts    the numbers of events, threads, locks and variables aren't
+                those of the trace
+  bad race K    race K isn't shown to be a race; all before it are
   bad places    the places aren't those of the listed races
   ok R          the report is good; it lists R races
 
@@ -135,7 +136,7 @@ Exit status:
   0  the report is good
   2  the trace is refused, whatever the report is; 'line N: REASON' is on
      standard error
-  3  the words are refused
+  3  wrong command line
   4  a file, a device or the memory failed
   5  the report is rejected
 
