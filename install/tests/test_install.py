@@ -1,8 +1,10 @@
 """An installation: what is where, that it works from there, and that nothing stays of it."""
 
+import ast
 import os
 import re
 import shutil
+import sys
 
 import installing
 from installing import TOP, call, contents
@@ -21,6 +23,7 @@ WANTED = ([f"bin/{name}" for name in COMMANDS]
 SHARED = ("bin/shb", "share/man/man1/shb", "share/bash-completion/completions/shb", "share/zsh/site-functions/_shb",
           "share/fish/vendor_completions.d/shb")
 OWN = ("lib/shb/", "share/doc/shb/")
+STATUSES = {"shb-farm": 4, "shb-record": 125, "shb-view": 2}     # where a command can do nothing
 
 
 class Tree(installing.Case):
@@ -101,6 +104,17 @@ class Tree(installing.Case):
         results = self.folder / "results"
         call(self.links() / "shb-record", "-o", results, program, status=66, env={"PATH": os.environ["PATH"]})
         self.assertEqual((results / "unknown.places").read_text(), "account.c:10\taccount.c:8\n")
+
+    def test_an_older_python_is_said(self):
+        """Whatever it doesn't know comes later in a command than the sentence, or in another file."""
+        home = self.prefix / "lib/shb"
+        for path in (home / "shb_common/__init__.py", home / "shb_common/python.py", *map(home.joinpath, STATUSES)):
+            ast.parse(path.read_text(), feature_version=(3, 7))
+        for command, status in STATUSES.items():
+            script = f"import runpy, sys; sys.version_info = (3, 7, 0); runpy.run_path({str(home / command)!r}, run_name='__main__')"
+            ran = installing.subprocess.run([sys.executable, "-B", "-c", script], stdout=installing.subprocess.PIPE, stderr=installing.subprocess.PIPE)
+            said = f"{command}: Python 3.8 or later is needed, and this is 3.7\n"
+            self.assertEqual((ran.returncode, ran.stdout, ran.stderr.decode()), (status, b"", said))
 
     def test_a_farm_cuts_a_long_trace(self):
         self.need("python3", os.defpath)
