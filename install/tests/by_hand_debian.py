@@ -3,8 +3,8 @@
 
     by_hand_debian.py PACKAGE WORK
 
-It is run by hand, as root, with debootstrap and a network. WORK/bare is made where it isn't there. Commands run without an
-environment in a copy of it, WORK/debian, with a /proc of its own: at first without Python, then with Python and xz, then with
+It is run by hand, as root, with debootstrap and a network. WORK/bare is made where it isn't there. Commands run with
+nothing but a PATH in a copy of it, WORK/debian, with a /proc of its own: at first without Python, then with Python and xz, then with
 gcc and binutils too. The last line is 'N passed, N failed'.
 """
 
@@ -19,7 +19,7 @@ TOP = pathlib.Path(__file__).resolve().parents[2]
 README = (TOP / "README.md").read_text()
 FARM = (TOP / "farm/README.md").read_text()
 MIRROR = "http://deb.debian.org/debian"
-IN_PACKAGE = (("recorder/shb", "bin/shb"), ("farm/shb", "bin/shb"), ("examples/", "share/doc/shb/examples/"))
+IN_PACKAGE = ((r"(recorder|farm)/(?=shb-)", "bin/"), (r"(?<![\w/])examples/", "share/doc/shb/examples/"))
 SECONDS = 600
 RESULTS = []
 
@@ -36,7 +36,7 @@ class Debian:
 
     def call(self, script):
         """What a script writes and says, with its status. It ends when its first process does."""
-        inside = f'mount -t proc proc "{self.root}/proc" && exec chroot "{self.root}" env -i /bin/sh -c "$1"'
+        inside = f'mount -t proc proc "{self.root}/proc" && exec chroot "{self.root}" env -i PATH=/usr/bin:/bin /bin/sh -c "$1"'
         words = ["unshare", "--mount", "--pid", "--fork", "--kill-child", "sh", "-c", inside, "sh", script]
         ran = subprocess.run(words, stdin=subprocess.DEVNULL, stdout=subprocess.PIPE, stderr=subprocess.PIPE, timeout=SECONDS)
         return ran.stdout.decode(), ran.stderr.decode(), ran.returncode
@@ -58,8 +58,8 @@ def block_from(text, start):
     """The code block of a text that begins so, as it stands in a package."""
     shown = re.search(rf"^    {re.escape(start)}.*\n(?:(?:    .*)?\n)*", text, re.M)[0]
     block = "".join(line[4:] + "\n" for line in shown.rstrip("\n").split("\n"))
-    for here, there in IN_PACKAGE:
-        block = block.replace(here, there)
+    for in_checkout, there in IN_PACKAGE:
+        block = re.sub(in_checkout, there, block)
     return block
 
 
@@ -84,12 +84,13 @@ def with_python(debian, package, top):
     debian.call(f"cd /root/{top} && cp share/doc/shb/examples/places.std app.std && mkdir src traces && cp app.std traces")
     for command in re.findall(r"^\| `(shb[ -].*?)` \|", README, re.M):
         said = debian.call(f"cd /root/{top} && bin/{command}")
-        expect(command, said[1] == "" and said[2] == (1 if command.startswith("shb-farm") else 0), said)
+        is_farm = command.startswith("shb-farm")     # it says on standard error how far it is, and has places that aren't known
+        expect(command, said[2] == 1 if is_farm else said[1:] == ("", 0), said)
     debian.call(f"cd /root/{top} && rm -r traces out")
     lines = block_from(FARM, "$ mkdir traces").splitlines()
     said = debian.call(f"cd /root/{top}\n" + "\n".join(line[2:] for line in lines if line.startswith("$ ")))
     shown = "".join(f"{line}\n" for line in lines if not line.startswith("$ "))
-    expect("farm/README's example", said[:2] == (shown, ""), said)
+    expect("farm/README's example", said[0] == shown, said)
 
 
 def with_gcc(debian, package, top):
