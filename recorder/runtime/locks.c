@@ -12,12 +12,14 @@
 typedef const struct timespec *deadline;
 
 /* ---- the shapes of the calls below; r is what the real call gives ---- */
+enum { MOST_TRIES = 8 };
 /* TAKES: it may wait; recorded after it, if it was done.  The quick form is tried first, for it needs no hand-over. */
 #define TAKES(name, operation, object, busy, quick, done, parameters, arguments) \
     PUBLIC int name parameters { \
         thread *t = enter(MAY_YIELD); \
         if (!t) return REAL(name) arguments; \
         int r = quick; \
+        for (int n = 0; busy && n < MOST_TRIES && let_another_run(t); n++) r = quick; \
         if (busy) r = BLOCKING(t, REAL(name) arguments); \
         if (done) put(t, operation, object, 0, CALLER); \
         leave(t); \

@@ -20,6 +20,8 @@ typedef struct thread {
     pid_t system_id;
     pthread_t handle;
     _Atomic int wakes;                 /* futex: raised to make the thread look at the turn again */
+    _Atomic char began;                /* it was at its first hook */
+    char may_be_held;                  /* there */
     int quantum;                       /* hooks until it gives the turn to a waiter */
     uint64_t last_read;                /* which read was its last, to see that it spins */
     int spins;                         /* how often in a row it made that one */
@@ -47,12 +49,13 @@ typedef struct thread {
 enum yields { NEVER_YIELD, MAY_YIELD };
 extern __thread thread *self __attribute__((tls_model("initial-exec")));
 extern volatile int recording;
-void begin_turns(int slice, uint64_t seed);
+void begin_turns(int slice, uint64_t seed);                  /* with 0 slices of many lengths */
 void restart_turns(thread *t);         /* in a process made by fork, where there is t alone; it has the turn */
 int end_turns(void);                   /* all threads run free from here on; gives whether they took turns before */
 thread *new_thread(void);
 void end_thread(thread *t);            /* it is joined */
 int number_thread(thread *t);
+void wait_for_start(const thread *child);
 thread *thread_of(pthread_t handle);
 thread *enter(enum yields yields);
 thread *enter_access(enum yields yields);                    /* to put one record, and nothing before */
@@ -60,6 +63,7 @@ void leave(thread *t);
 void give_turn(thread *t);
 void take_turn(thread *t);
 int keep_turn(thread *t);
+int let_another_run(thread *t);        /* if it may help; says whether */
 void note_spin(thread *t, uint64_t read);
 
 /* A call that may block, made inside a hook: without the turn, and its own hooks (of handlers, say) are recorded. */

@@ -103,7 +103,7 @@ __attribute__((constructor(101))) static void begin(void) {
     thread *t = new_thread();
     if (!t || !number_thread(t) || pthread_key_create(&at_exit, thread_exits) || pthread_atfork(0, 0, in_child)) return;
     at_quick_exit(end);                                      /* the last of its handlers */
-    begin_turns(setting("SHB_SLICE", 200), setting("SHB_SEED", 0));
+    begin_turns(setting("SHB_SLICE", 0), setting("SHB_SEED", 0));
     begin_thread(t, 0);
 }
 
@@ -191,6 +191,7 @@ static int create(thread *t, thread start, pthread_t *handle, const pthread_attr
     put(t, OP_FORK, (void *)(uint64_t)child->number, 0, caller);
     pthread_t created;                 /* where the caller wants it only when it is known: others may read that */
     int error = REAL(pthread_create)(&created, attributes, run, child);
+    if (!error) wait_for_start(child);
     if (!keep_turn(t)) take_turn(t);   /* it may have slept again */
     if (error) others--;
     else *handle = child->handle = created;

@@ -37,6 +37,13 @@
 #define PATIENCE_NS 300000             /* then a lone waiter looks at the holder; one of several after ten times it */
 #define TEST_YIELD() (void)0
 #endif
+#define START_NS 20000000              /* the longest wait for a new thread */
+#define FIRST_SLICES 4                 /* without SHB_SLICE slices begin with 1, 2, 4 or 8 hooks, on average, */
+#define SLICES_OF_A_SCALE 64           /* are twice as long after so many, and end with */
+#define LEAST_LAST_SLICE 100           /* 100, 200 or 400: to hand the turn over costs some 50 hooks */
+#define LAST_SLICES 3
+#define MOST_STARTS 64                 /* the first threads with which they begin anew */
+#define SLICES_HELD 16                 /* on average */
 
 __thread thread *self __attribute__((tls_model("initial-exec")));
 volatile int recording;
@@ -48,7 +55,8 @@ static volatile int waiters;
 static thread *threads[MAX_THREADS];
 static uint32_t thread_count;
 static uint64_t random_state = 88172645463325252ull;
-static int slice;
+static int slice, last_slice, slices, given_slice;
+static thread *held;                   /* one of the waiters, or nobody; under the guard */
 
 static uint64_t draw(void) {           /* xorshift; with the turn or the guard */
     random_state ^= random_state << 13;
@@ -86,20 +94,49 @@ int keep_turn(thread *t) {
     return HOLDER(word) == NAME(t) && swap_in(t, word);
 }
 
-void give_turn(thread *t) {
+static int are_slices_short(void) { return slice < last_slice; }
+
+static void begin_slices(void) {
+    slice = given_slice ? given_slice : 1 << draw() % FIRST_SLICES;
+    last_slice = given_slice ? given_slice : LEAST_LAST_SLICE << draw() % LAST_SLICES;
+    slices = 0;
+}
+
+/* A slice's length in hooks; with the turn. */
+static int draw_slice(void) {
+    if (are_slices_short() && ++slices % SLICES_OF_A_SCALE == 0) slice *= 2;
+    return 1 + draw() % (2 * slice);
+}
+
+/* Who is next: the held thread only where no other waits. */
+static thread *draw_waiter(void) {
+    if (!waiters) return 0;
+    int i = draw() % waiters;
+    return waiting[waiting[i] == held ? (i + 1) % waiters : i];
+}
+
+/* Gives the turn away; at the end of a slice not to the held thread. */
+static void hand_over(thread *t, int is_slice_end) {
     thread *next = 0;
     lock_guard();
     uint64_t word = atomic_load(&turn);
     if (HOLDER(word) == NAME(t)) {
-        if (waiters) next = waiting[draw() % waiters];
-        atomic_store(&turn, next_word(next, word));
+        if (held && draw() % SLICES_HELD == 0) held = 0;
+        next = draw_waiter();
+        if (is_slice_end && next && next == held) {
+            next = 0;
+            t->quantum = draw_slice();
+        } else atomic_store(&turn, next_word(next, word));
     }
     unlock_guard();
     TEST_YIELD();
     if (next) wake(next);
 }
 
+void give_turn(thread *t) { hand_over(t, 0); }
+
 static void stop_waiting(thread *t) {
+    if (held == t) held = 0;
     for (int i = 0; i < waiters; i++)
         if (waiting[i] == t) {
             waiting[i] = waiting[--waiters];
@@ -107,14 +144,30 @@ static void stop_waiting(thread *t) {
         }
 }
 
-/* Takes the turn if nobody has it, else stands among the waiters. */
+/* Takes the turn if nobody has it, else stands among the waiters, at its first hook perhaps as the held one. */
 static int take_free(thread *t) {
+    int is_first = !t->began;
     lock_guard();
     uint64_t word = atomic_load(&turn);
     int done = !recording || (HOLDER(word) == NOBODY && swap_in(t, word));
     if (!done) waiting[waiters++] = t;
+    if (is_first) held = !held && !done && t->may_be_held ? t : 0;
     unlock_guard();
+    if (is_first) atomic_store(&t->began, 1);
     return done;
+}
+
+/* Waits until a new thread is at its first hook.  It doesn't sleep, for then a waiter would take the turn over. */
+void wait_for_start(const thread *child) {
+    struct timespec now, end;
+    clock_gettime(CLOCK_MONOTONIC, &end);
+    end.tv_sec += (end.tv_nsec += START_NS) / 1000000000;
+    end.tv_nsec %= 1000000000;
+    while (recording && !child->began && are_slices_short()) {
+        syscall(SYS_sched_yield);
+        clock_gettime(CLOCK_MONOTONIC, &now);
+        if (now.tv_sec > end.tv_sec || (now.tv_sec == end.tv_sec && now.tv_nsec > end.tv_nsec)) return;
+    }
 }
 
 /* The waiter's last step: takes the turn if its word is still the one seen; also where the recording has ended. */
@@ -183,8 +236,17 @@ void take_turn(thread *t) {
             if (accept(t, word)) break;
         look = syscall(SYS_futex, &t->wakes, FUTEX_WAIT_PRIVATE, wakes, &patience, 0, 0) && errno == ETIMEDOUT;
     }
-    t->quantum = 1 + draw() % (2 * slice);
+    t->quantum = draw_slice();
     errno = saved;
+}
+
+/* Lets another thread run a slice, which may give back the lock that t wants: who slept in the system for it would mostly come
+   too late.  Not where nobody wants the turn, nor where slices are long: there to sleep costs less. */
+int let_another_run(thread *t) {
+    if (!recording || !waiters || !are_slices_short()) return 0;
+    give_turn(t);
+    take_turn(t);
+    return 1;
 }
 
 /* ---- hooks ---- */
@@ -193,7 +255,7 @@ thread *enter_access(enum yields yields) {
     thread *t = self;
     if (!t || !recording || t->inside) return 0;
     t->inside = 1;
-    if (--t->quantum <= 0 && yields && waiters) give_turn(t);
+    if (--t->quantum <= 0 && yields && waiters) hand_over(t, 1);
     return t;
 }
 
@@ -225,15 +287,17 @@ void note_spin(thread *t, uint64_t read) {
 
 /* ---- begin and end ---- */
 void begin_turns(int slice_, uint64_t seed) {
-    slice = slice_;
+    given_slice = slice_;
     random_state ^= seed * 0x9E3779B97F4A7C15ull;
     if (!random_state) random_state = 1;
     for (int i = 0; i < 8; i++) draw();
+    begin_slices();
     recording = 1;
 }
 
 void restart_turns(thread *t) {
     waiters = 0;
+    held = 0;
     thread_count = 0;
     number_thread(t);
     t->system_id = syscall(SYS_gettid);
@@ -288,6 +352,8 @@ thread *new_thread(void) {             /* it may sleep in the system */
 int number_thread(thread *t) {         /* with the turn */
     if (thread_count >= MAX_THREADS) return 0;
     t->number = thread_count;
+    if (thread_count <= MOST_STARTS) begin_slices();
+    t->may_be_held = are_slices_short() && draw() & 1;
     threads[thread_count++] = t;
     return 1;
 }

@@ -14,6 +14,7 @@ PROGRAMS = HERE / "programs"
 SHB = SOURCES.parent / "crates" / "shb" / "out" / "shb"
 BUILT = None  # where the recorder was built
 SECONDS = 600  # after so long a command hangs
+OWN_SLICES = 0  # the recorder draws them
 
 
 def call(*words, **how):

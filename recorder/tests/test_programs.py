@@ -6,7 +6,7 @@ import unittest
 
 import recorder
 
-SLICES = [200, 7, 50, 1, 20, 3]
+SLICES = [200, 7, 50, 1, 20, recorder.OWN_SLICES]
 CUT = {"many_threads.c"}  # the trace is a prefix, and a longer one with -a
 
 
@@ -51,7 +51,7 @@ def load_tests(loader, tests, pattern):
     others = {"order.c", "deadlock.c", "long_run.c", "processes.c", "daemon.c", "plugin_host.c", "plugin.cc", "openmp_taskloop.c", "openmp_unseen.c",
               "ways_out.c", "status.c", "loop.c", "copies.c", "long_race.c", "calls.c",
               "calls_cxx.cc", "headers.cc", "own_files.c", "own_limits.c", "versions.c", "news.cc", "no_proc.c", "many_in_turn.c", "sigev_thread.c",
-              "spin.c"}
+              "spin.c", "short_threads.c"}
     suite = unittest.TestSuite()
     for source in sources:
         if source.name not in others:
