@@ -22,6 +22,7 @@
 #define LOGARITHM_BITS 3
 #define DEPTH_BEFORE 63
 #define IS_RANGE 512
+#define MAX_SIZE (1ull << 36)          /* of a range; none is as long */
 #define MOST_FRAMES 16384              /* of a thread; those further in aren't recorded */
 #define ATOMIC_SIZE_BITS 5             /* of an atomic access: the memory order stands above the size, as __ATOMIC_.. */
 

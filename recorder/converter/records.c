@@ -9,7 +9,6 @@
 #include "converter.h"
 
 enum { MAX_FREED = 1024 };
-#define MAX_SIZE (1ull << 36)
 
 static struct record *records;
 static const char *record_path;

@@ -2,6 +2,7 @@
 #define _GNU_SOURCE
 #include <errno.h>
 #include <fcntl.h>
+#include <limits.h>
 #include <netinet/in.h>
 #include <stdarg.h>
 #include <string.h>
@@ -13,7 +14,7 @@
 #include <sys/uio.h>
 #include <sys/un.h>
 #include <unistd.h>
-#include "runtime.h"
+#include "library.h"
 
 /* ---- what is written, closed or added to an epoll comes before what reads it, gets its number or is woken ---- */
 enum { DESCRIPTORS = 1 << 16 };
@@ -114,36 +115,85 @@ static void note_descriptor(enum operation operation, void *what, uint64_t calle
     errno = saved;
 }
 
-#define SENDS(type, name, parameters, arguments) \
+/* ---- what is read and written goes through memory of the program's ---- */
+enum { MOST_BYTES = 0x7ffff000 };      /* that the kernel takes at once */
+
+/* Copies what may not be there: the call will say so. */
+static int copy_in(void *to, const void *from, size_t bytes) {
+    struct iovec here = {to, bytes}, there = {(void *)from, bytes};
+    int saved = errno, done = syscall(SYS_process_vm_readv, getpid(), &here, 1, &there, 1, 0) == (ssize_t)bytes;
+    errno = saved;
+    return done;
+}
+
+/* As many bytes of several pieces of memory, in their order. */
+static void note_pieces(uint64_t seen, enum operation operation, const struct iovec *pieces, size_t count, size_t bytes) {
+    struct iovec piece;
+    for (size_t i = 0; seen && i < count && i < IOV_MAX && bytes && copy_in(&piece, &pieces[i], sizeof piece); i++) {
+        size_t part = least(piece.iov_len, bytes);
+        note_range(seen, operation, piece.iov_base, part);
+        bytes -= part;
+    }
+}
+
+static void note_message(uint64_t seen, enum operation operation, const struct msghdr *message, size_t bytes) {
+    struct msghdr m;
+    if (seen && copy_in(&m, message, sizeof m)) note_pieces(seen, operation, m.msg_iov, m.msg_iovlen, bytes);
+}
+
+/* What is sent is read before the post; what is received is written after the wait. */
+#define SENDS(type, name, parameters, arguments, accesses) \
     PUBLIC type name parameters { \
+        uint64_t seen __attribute__((unused)) = begin_call(CALLER); \
+        accesses; \
         note_descriptor(OP_POST, data_of(f), CALLER); \
         return REAL(name) arguments; \
     }
-#define RECEIVES(type, name, what, parameters, arguments) \
+#define RECEIVES(type, name, parameters, arguments, accesses) \
     PUBLIC type name parameters { \
         let_others_run(); \
         type r = REAL(name) arguments; \
-        if (r >= 0) note_descriptor(OP_WAIT, what, CALLER); \
+        if (r < 0) return r; \
+        note_descriptor(OP_WAIT, data_of(f), CALLER); \
+        uint64_t seen = begin_call(CALLER); \
+        accesses; \
         return r; \
     }
-SENDS(ssize_t, write, (int f, const void *p, size_t n), (f, p, n))
-SENDS(ssize_t, writev, (int f, const struct iovec *p, int n), (f, p, n))
-SENDS(ssize_t, send, (int f, const void *p, size_t n, int k), (f, p, n, k))
-SENDS(ssize_t, sendmsg, (int f, const struct msghdr *m, int k), (f, m, k))
-SENDS(ssize_t, sendto, (int f, const void *p, size_t n, int k, const struct sockaddr *a, socklen_t l), (f, p, n, k, a, l))
-SENDS(int, sendmmsg, (int f, struct mmsghdr *m, unsigned n, int k), (f, m, n, k))
-SENDS(int, eventfd_write, (int f, eventfd_t value), (f, value))
-SENDS(int, epoll_ctl, (int f, int o, int g, struct epoll_event *e), (f, o, g, e))
-RECEIVES(ssize_t, read, data_of(f), (int f, void *p, size_t n), (f, p, n))
-RECEIVES(int, eventfd_read, data_of(f), (int f, eventfd_t *value), (f, value))
-RECEIVES(ssize_t, readv, data_of(f), (int f, const struct iovec *p, int n), (f, p, n))
-RECEIVES(ssize_t, recv, data_of(f), (int f, void *p, size_t n, int k), (f, p, n, k))
-RECEIVES(ssize_t, recvmsg, data_of(f), (int f, struct msghdr *m, int k), (f, m, k))
-RECEIVES(int, recvmmsg, data_of(f), (int f, struct mmsghdr *m, unsigned n, int k, struct timespec *d), (f, m, n, k, d))
-RECEIVES(ssize_t, recvfrom, data_of(f), (int f, void *p, size_t n, int k, struct sockaddr *a, socklen_t *l),
-         (f, p, n, k, a, l))
-RECEIVES(int, epoll_wait, data_of(f), (int f, struct epoll_event *e, int n, int ms), (f, e, n, ms))
-RECEIVES(int, epoll_pwait, data_of(f), (int f, struct epoll_event *e, int n, int ms, const sigset_t *s), (f, e, n, ms, s))
+#define SENDS_BYTES(n) if (seen) READS(p, least(n, MOST_BYTES))
+#define SENDS_PIECES note_pieces(seen, OP_READ, p, n, MOST_BYTES)
+#define GETS_BYTES(n) if (seen) WRITES(p, n)
+#define GETS_PIECES note_pieces(seen, OP_WRITE, p, n, r)
+SENDS(ssize_t, write, (int f, const void *p, size_t n), (f, p, n), SENDS_BYTES(n))
+SENDS(ssize_t, writev, (int f, const struct iovec *p, int n), (f, p, n), SENDS_PIECES)
+SENDS(ssize_t, send, (int f, const void *p, size_t n, int k), (f, p, n, k), SENDS_BYTES(n))
+SENDS(ssize_t, sendmsg, (int f, const struct msghdr *m, int k), (f, m, k), note_message(seen, OP_READ, m, MOST_BYTES))
+SENDS(ssize_t, sendto, (int f, const void *p, size_t n, int k, const struct sockaddr *a, socklen_t l), (f, p, n, k, a, l),
+      SENDS_BYTES(n))
+SENDS(int, sendmmsg, (int f, struct mmsghdr *m, unsigned n, int k), (f, m, n, k),
+      for (unsigned i = 0; i < least(n, IOV_MAX); i++) note_message(seen, OP_READ, &m[i].msg_hdr, MOST_BYTES))
+SENDS(int, eventfd_write, (int f, eventfd_t value), (f, value), )
+SENDS(int, epoll_ctl, (int f, int o, int g, struct epoll_event *e), (f, o, g, e), )
+RECEIVES(ssize_t, read, (int f, void *p, size_t n), (f, p, n), GETS_BYTES(r))
+RECEIVES(int, eventfd_read, (int f, eventfd_t *p), (f, p), GETS_BYTES(sizeof *p))
+RECEIVES(ssize_t, readv, (int f, const struct iovec *p, int n), (f, p, n), GETS_PIECES)
+RECEIVES(ssize_t, recv, (int f, void *p, size_t n, int k), (f, p, n, k), GETS_BYTES(least(r, n)))
+RECEIVES(ssize_t, recvmsg, (int f, struct msghdr *m, int k), (f, m, k), note_message(seen, OP_WRITE, m, r))
+RECEIVES(int, recvmmsg, (int f, struct mmsghdr *m, unsigned n, int k, struct timespec *d), (f, m, n, k, d),
+         for (int i = 0; i < r; i++) note_message(seen, OP_WRITE, &m[i].msg_hdr, m[i].msg_len))
+RECEIVES(ssize_t, recvfrom, (int f, void *p, size_t n, int k, struct sockaddr *a, socklen_t *l), (f, p, n, k, a, l),
+         GETS_BYTES(least(r, n)))
+RECEIVES(int, epoll_wait, (int f, struct epoll_event *p, int n, int ms), (f, p, n, ms), GETS_BYTES(r * sizeof *p))
+RECEIVES(int, epoll_pwait, (int f, struct epoll_event *p, int n, int ms, const sigset_t *s), (f, p, n, ms, s),
+         GETS_BYTES(r * sizeof *p))
+/* At a place of a file, which is no order: a pipe has none. */
+BEFORE(ssize_t, pwrite, (int f, const void *p, size_t n, off_t at), (f, p, n, at), READS(p, least(n, MOST_BYTES)))
+BEFORE(ssize_t, pwrite64, (int f, const void *p, size_t n, off64_t at), (f, p, n, at), READS(p, least(n, MOST_BYTES)))
+BEFORE(ssize_t, pwritev, (int f, const struct iovec *p, int n, off_t at), (f, p, n, at), SENDS_PIECES)
+BEFORE(ssize_t, pwritev64, (int f, const struct iovec *p, int n, off64_t at), (f, p, n, at), SENDS_PIECES)
+AFTER(ssize_t, pread, (int f, void *p, size_t n, off_t at), (f, p, n, at), if (r > 0) WRITES(p, r))
+AFTER(ssize_t, pread64, (int f, void *p, size_t n, off64_t at), (f, p, n, at), if (r > 0) WRITES(p, r))
+AFTER(ssize_t, preadv, (int f, const struct iovec *p, int n, off_t at), (f, p, n, at), if (r > 0) GETS_PIECES)
+AFTER(ssize_t, preadv64, (int f, const struct iovec *p, int n, off64_t at), (f, p, n, at), if (r > 0) GETS_PIECES)
 /* A number that is given again; an accepted connection gets what was done before it was made, too. */
 #define GIVES_NUMBER(name, know, parameters, arguments) \
     PUBLIC int name parameters { \

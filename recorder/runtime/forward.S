@@ -8,7 +8,7 @@
 .Lname\@:
     .string "\name"
     .section forwarded, "aw"
-    .balign 8
+    .balign 16
 .Lentry\@:
     .quad .Lname\@, 0
     .text

@@ -60,9 +60,15 @@ static int see_module(struct dl_phdr_info *info, size_t size, void *unused) {
     return 0;
 }
 
+/* By no function of the C library, which might be the one that is looked for. */
+static int begins_with(const char *name, const char *begin) {
+    while (*begin && *name == *begin) name++, begin++;
+    return !*begin;
+}
+
 void *next_symbol(const char *name) {
     void *p = 0;
-    if (!strncmp(name, "pthread_cond_", 13)) p = dlvsym(RTLD_NEXT, name, "GLIBC_2.3.2");   /* not the older interface */
+    if (begins_with(name, "pthread_cond_")) p = dlvsym(RTLD_NEXT, name, "GLIBC_2.3.2");   /* not the older interface */
     return p ? p : dlsym(RTLD_NEXT, name);
 }
 

@@ -3,10 +3,9 @@
 #define _GNU_SOURCE
 #include <stdlib.h>
 #include <unistd.h>
-#include "runtime.h"
+#include "library.h"
 
 /* ---- functions that are handed on ---- */
-struct forwarded { const char *name; void *function; };
 extern struct forwarded __start_forwarded[] __attribute__((weak, visibility("hidden")));
 extern struct forwarded __stop_forwarded[] __attribute__((weak, visibility("hidden")));
 

@@ -51,7 +51,7 @@ def load_tests(loader, tests, pattern):
     others = {"order.c", "deadlock.c", "long_run.c", "processes.c", "daemon.c", "plugin_host.c", "plugin.cc", "openmp_taskloop.c", "openmp_unseen.c",
               "ways_out.c", "status.c", "loop.c", "copies.c", "long_race.c", "calls.c",
               "calls_cxx.cc", "headers.cc", "own_files.c", "own_limits.c", "versions.c", "news.cc", "no_proc.c", "many_in_turn.c", "sigev_thread.c",
-              "spin.c", "short_threads.c"}
+              "spin.c", "short_threads.c", "library_unchanged.c"}
     suite = unittest.TestSuite()
     for source in sources:
         if source.name not in others:

@@ -98,6 +98,20 @@ class Names(Unchanged):
         self.assertEqual(self.run_recorded(program).stdout, b"8 blocks\n")
 
 
+class Library(Unchanged):
+    """Functions of the C library do what they do alone, with what they accept, refuse or fault at."""
+
+    def test_calls_of_the_c_library(self):
+        for words in (["-O0"], ["-O2"], ["-O2", "-D_FORTIFY_SOURCE=2"]):
+            with self.subTest(words):
+                program = self.program("library_unchanged.c", *words)
+                alone = recorder.must(recorder.call(program, env=self.settings(SHB_RECORD=""), cwd=self.folder))
+                ran = self.run_recorded(program)
+                self.assertIn(b"errno 77\nended\n", alone.stdout)
+                self.assertEqual((ran.stdout, ran.stderr), (alone.stdout, b""))
+                self.assertEqual(self.racing_lines("library_unchanged.c"), self.marked("library_unchanged.c"))
+
+
 class NoRights(Unchanged):
     """A program may give up its rights, and /proc: threads that sleep are known as such, and no others."""
 

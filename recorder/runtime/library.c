@@ -1,0 +1,260 @@
+/* What functions of the C library read and write.  Those that move memory are in memory.c, formatted output and input in
+   formats.c, what goes through descriptors in descriptors.c.  A null pointer that a function accepts stands for nothing. */
+#define _GNU_SOURCE
+#include <arpa/inet.h>
+#include <ctype.h>
+#include <errno.h>
+#include <grp.h>
+#include <inttypes.h>
+#include <netdb.h>
+#include <pwd.h>
+#include <stdio.h>
+#include <stdlib.h>
+#include <string.h>
+#include <strings.h>
+#include <sys/random.h>
+#include <sys/time.h>
+#include <sys/times.h>
+#include <sys/utsname.h>
+#include <time.h>
+#include <unistd.h>
+#include <wchar.h>
+#include "library.h"
+
+uint64_t begin_call(uint64_t caller) {
+    if (!others || !instrumented(caller)) return 0;
+    int saved = errno;
+    thread *t = enter(MAY_YIELD);
+    if (t) {
+        t->written = 0;
+        leave(t);
+    }
+    errno = saved;
+    return t ? caller : 0;
+}
+
+void note_range(uint64_t seen, enum operation operation, const volatile void *p, uint64_t bytes) {
+    uint64_t from = (uint64_t)p;
+    if (!p || !bytes || bytes >= MAX_SIZE || from >= FIRST_DESCRIPTOR || bytes > FIRST_DESCRIPTOR - from) return;
+    int saved = errno;
+    thread *t = enter_access(NEVER_YIELD);
+    if (t) {
+        put(t, operation, p, bytes, seen);
+        leave(t);
+    }
+    errno = saved;
+}
+
+/* ---- how far a function looks ---- */
+static size_t up_to(const void *p, const void *end) { return (const char *)end - (const char *)p; }
+static size_t to_match(const char *s, const char *match) { return match ? up_to(s, match) + 1 : text(s); }
+static size_t wide(size_t characters) { return characters * sizeof(wchar_t); }
+static size_t array(size_t count, size_t size) {             /* 0 where there is none of that size */
+    size_t bytes;
+    return __builtin_mul_overflow(count, size, &bytes) ? 0 : bytes;
+}
+
+/* To the first difference, or the end. */
+static size_t compared(const char *s, const char *o, size_t n, int without_case) {
+    size_t i = 0;
+    while (i < n && s[i] && (s[i] == o[i] || (without_case && tolower((unsigned char)s[i]) == tolower((unsigned char)o[i])))) i++;
+    return least(i, n - 1) + 1;
+}
+
+static void compare(uint64_t seen, const char *s, const char *o, size_t n, int without_case) {
+    size_t bytes = n ? compared(s, o, n, without_case) : 0;
+    READS(s, bytes);
+    READS(o, bytes);
+}
+
+static void copies(uint64_t seen, const char *to, const char *from) {
+    READS(from, text(to));
+    WRITES(to, text(to));
+}
+
+static void copies_within(uint64_t seen, const char *to, const char *from, size_t n) {
+    READS(from, text_within(from, n));
+    WRITES(to, n);
+}
+
+static void appends(uint64_t seen, const char *to, const char *from, size_t n) {
+    size_t added = strnlen(from, n), before = strlen(to) - added;
+    READS(to, before + 1);
+    READS(from, least(added + 1, n));
+    WRITES(to + before, added + 1);
+}
+
+/* ---- strings ---- */
+AFTER(size_t, strlen, (const char *s), (s), READS(s, r + 1))
+AFTER(size_t, strnlen, (const char *s, size_t n), (s, n), READS(s, least(r + 1, n)))
+AFTER(int, strcmp, (const char *s, const char *o), (s, o), compare(seen, s, o, SIZE_MAX, 0))
+AFTER(int, strncmp, (const char *s, const char *o, size_t n), (s, o, n), compare(seen, s, o, n, 0))
+AFTER(int, strcasecmp, (const char *s, const char *o), (s, o), compare(seen, s, o, SIZE_MAX, 1))
+AFTER(int, strncasecmp, (const char *s, const char *o, size_t n), (s, o, n), compare(seen, s, o, n, 1))
+AFTER(char *, strchr, (const char *s, int c), (s, c), READS(s, to_match(s, r)))
+AFTER(char *, strchrnul, (const char *s, int c), (s, c), READS(s, r - s + 1))
+AFTER(char *, strrchr, (const char *s, int c), (s, c), READS(s, text(s)))
+AFTER(char *, strstr, (const char *s, const char *o), (s, o), READS(s, r ? up_to(s, r) + strlen(o) : text(s)), READS(o, text(o)))
+AFTER(char *, strcasestr, (const char *s, const char *o), (s, o), READS(s, r ? up_to(s, r) + strlen(o) : text(s)), READS(o, text(o)))
+AFTER(size_t, strspn, (const char *s, const char *set), (s, set), READS(s, r + 1), READS(set, text(set)))
+AFTER(size_t, strcspn, (const char *s, const char *set), (s, set), READS(s, r + 1), READS(set, text(set)))
+AFTER(char *, strpbrk, (const char *s, const char *set), (s, set), READS(s, to_match(s, r)), READS(set, text(set)))
+AFTER(char *, strcpy, (char *to, const char *from), (to, from), copies(seen, to, from))
+AFTER(char *, stpcpy, (char *to, const char *from), (to, from), copies(seen, to, from))
+AFTER(char *, strncpy, (char *to, const char *from, size_t n), (to, from, n), copies_within(seen, to, from, n))
+AFTER(char *, stpncpy, (char *to, const char *from, size_t n), (to, from, n), copies_within(seen, to, from, n))
+AFTER(char *, strcat, (char *to, const char *from), (to, from), appends(seen, to, from, SIZE_MAX))
+AFTER(char *, strncat, (char *to, const char *from, size_t n), (to, from, n), appends(seen, to, from, n))
+AFTER(char *, strdup, (const char *s), (s), READS(s, text(s)); if (r) WRITES(r, text(r)))
+AFTER(char *, strndup, (const char *s, size_t n), (s, n), READS(s, text_within(s, n)); if (r) WRITES(r, text(r)))
+AFTER(char *, __strdup, (const char *s), (s), READS(s, text(s)); if (r) WRITES(r, text(r)))
+AFTER(char *, __strndup, (const char *s, size_t n), (s, n), READS(s, text_within(s, n)); if (r) WRITES(r, text(r)))
+AFTER(char *, strtok, (char *s, const char *set), (s, set), READS(set, text(set)); if (r) READS(r, text(r)))
+/* The byte behind the piece becomes its end, unless it was the text's. */
+AFTER(char *, strtok_r, (char *s, const char *set, char **rest), (s, set, rest),
+      READS(set, text(set)), WRITES(rest, sizeof *rest);
+      if (r) READS(r, text(r));
+      if (r && *rest == r + text(r)) WRITES(*rest - 1, 1))
+
+/* By their symbols, for a header may give the first of each pair the name of the second. Of a base that there isn't, nothing
+   is said of the end. */
+#define NUMBER(type, name) \
+    KNOW(name); \
+    type as_##name(const char *s, char **end, int base) __asm__(#name); \
+    PUBLIC type as_##name(const char *s, char **end, int base) { \
+        uint64_t seen = begin_call(CALLER); \
+        char *stop; \
+        type r = KNOWN(name, __typeof__(&as_##name))(s, end ? end : &stop, base); \
+        if (!seen || base < 0 || base == 1 || base > 36) return r; \
+        READS(s, up_to(s, end ? *end : stop) + 1); \
+        WRITES(end, sizeof *end); \
+        return r; \
+    }
+#define NUMBERS(type, name) NUMBER(type, name) NUMBER(type, __isoc23_##name)
+NUMBERS(long, strtol)
+NUMBERS(long long, strtoll)
+NUMBERS(intmax_t, strtoimax)
+NUMBERS(unsigned long, strtoul)
+NUMBERS(unsigned long long, strtoull)
+NUMBERS(uintmax_t, strtoumax)
+
+AFTER(size_t, wcslen, (const wchar_t *s), (s), READS(s, wide(r + 1)))
+AFTER(size_t, wcsnlen, (const wchar_t *s, size_t n), (s, n), READS(s, wide(least(r + 1, n))))
+AFTER(wchar_t *, wcsdup, (const wchar_t *s), (s), READS(s, wide(wcslen(s) + 1)); if (r) WRITES(r, wide(wcslen(r) + 1)))
+AFTER(wchar_t *, wcscat, (wchar_t *to, const wchar_t *from), (to, from),
+      size_t added = wcslen(from), before = wcslen(to) - added;
+      READS(to, wide(before + 1)), READS(from, wide(added + 1)), WRITES(to + before, wide(added + 1)))
+AFTER(wchar_t *, wcsncat, (wchar_t *to, const wchar_t *from, size_t n), (to, from, n),
+      size_t added = wcsnlen(from, n), before = wcslen(to) - added;
+      READS(to, wide(before + 1)), READS(from, wide(least(added + 1, n))), WRITES(to + before, wide(added + 1)))
+
+/* ---- memory ---- */
+AFTER(int, memcmp, (const void *p, const void *q, size_t n), (p, q, n), READS(p, n), READS(q, n))
+AFTER(int, bcmp, (const void *p, const void *q, size_t n), (p, q, n), READS(p, n), READS(q, n))
+AFTER(void *, memchr, (const void *p, int c, size_t n), (p, c, n), READS(p, r ? up_to(p, r) + 1 : n))
+AFTER(void *, rawmemchr, (const void *p, int c), (p, c), READS(p, up_to(p, r) + 1))
+AFTER(void *, memrchr, (const void *p, int c, size_t n), (p, c, n), READS(r ? r : p, r ? n - up_to(p, r) : n))
+AFTER(void *, memmem, (const void *p, size_t n, const void *q, size_t m), (p, n, q, m),
+      READS(p, r ? up_to(p, r) + m : n), READS(q, m))
+BEFORE(void *, mempcpy, (void *to, const void *from, size_t n), (to, from, n), READS(from, n), WRITES(to, n))
+KNOW(bzero);
+PUBLIC void bzero(void *p, size_t n) {
+    uint64_t seen = begin_call(CALLER);
+    if (seen) WRITES(p, n);
+    KNOWN(bzero, __typeof__(&bzero))(p, n);
+}
+
+/* What -D_FORTIFY_SOURCE makes of them. */
+typedef size_t room;                   /* of what is written to */
+BEFORE(void *, __memcpy_chk, (void *to, const void *from, size_t n, room k), (to, from, n, k), READS(from, n), WRITES(to, n))
+BEFORE(void *, __memmove_chk, (void *to, const void *from, size_t n, room k), (to, from, n, k), READS(from, n), WRITES(to, n))
+BEFORE(void *, __mempcpy_chk, (void *to, const void *from, size_t n, room k), (to, from, n, k), READS(from, n), WRITES(to, n))
+BEFORE(void *, __memset_chk, (void *to, int c, size_t n, room k), (to, c, n, k), WRITES(to, n))
+AFTER(char *, __strcpy_chk, (char *to, const char *from, room k), (to, from, k), copies(seen, to, from))
+AFTER(char *, __stpcpy_chk, (char *to, const char *from, room k), (to, from, k), copies(seen, to, from))
+AFTER(char *, __strncpy_chk, (char *to, const char *from, size_t n, room k), (to, from, n, k), copies_within(seen, to, from, n))
+AFTER(char *, __stpncpy_chk, (char *to, const char *from, size_t n, room k), (to, from, n, k), copies_within(seen, to, from, n))
+AFTER(char *, __strcat_chk, (char *to, const char *from, room k), (to, from, k), appends(seen, to, from, SIZE_MAX))
+AFTER(char *, __strncat_chk, (char *to, const char *from, size_t n, room k), (to, from, n, k), appends(seen, to, from, n))
+
+/* Elements are moved between calls of a function that may give up the turn: so from the beginning on they are others. (bsearch
+   reads elements by that function alone.) */
+KNOW(qsort);
+KNOW(qsort_r);
+static void sorts(uint64_t seen, void *p, size_t count, size_t size) {
+    if (!seen || count < 2) return;
+    READS(p, array(count, size));
+    WRITES(p, array(count, size));
+}
+PUBLIC void qsort(void *p, size_t count, size_t size, int (*order)(const void *, const void *)) {
+    sorts(begin_call(CALLER), p, count, size);
+    KNOWN(qsort, __typeof__(&qsort))(p, count, size, order);
+}
+PUBLIC void qsort_r(void *p, size_t count, size_t size, int (*order)(const void *, const void *, void *), void *more) {
+    sorts(begin_call(CALLER), p, count, size);
+    KNOWN(qsort_r, __typeof__(&qsort_r))(p, count, size, order, more);
+}
+
+/* ---- files: what goes out is read before, for the call may wait ---- */
+BEFORE(int, puts, (const char *s), (s), READS(s, text(s)))
+BEFORE(int, fputs, (const char *s, FILE *f), (s, f), READS(s, text(s)))
+BEFORE(size_t, fwrite, (const void *p, size_t size, size_t n, FILE *f), (p, size, n, f), READS(p, array(size, n)))
+AFTER(size_t, fread, (void *p, size_t size, size_t n, FILE *f), (p, size, n, f), WRITES(p, array(size, r)))
+AFTER(char *, fgets, (char *s, int n, FILE *f), (s, n, f), if (r) WRITES(s, text(s)))
+static void got_line(uint64_t seen, char **line, size_t *room, ssize_t length) {
+    WRITES(line, sizeof *line);
+    WRITES(room, sizeof *room);
+    WRITES(*line, length + 1);
+}
+AFTER(ssize_t, getline, (char **line, size_t *n, FILE *f), (line, n, f), if (r >= 0) got_line(seen, line, n, r))
+AFTER(ssize_t, getdelim, (char **line, size_t *n, int c, FILE *f), (line, n, c, f), if (r >= 0) got_line(seen, line, n, r))
+AFTER(ssize_t, __getdelim, (char **line, size_t *n, int c, FILE *f), (line, n, c, f), if (r >= 0) got_line(seen, line, n, r))
+AFTER(ssize_t, getrandom, (void *p, size_t n, unsigned flags), (p, n, flags), if (r > 0) WRITES(p, r))
+
+/* ---- time: some results are in the library's own memory, the same for all threads ---- */
+AFTER(time_t, time, (time_t *p), (p), WRITES(p, sizeof *p))
+AFTER(int, gettimeofday, (struct timeval *p, void *zone), (p, zone), if (!r) WRITES(p, sizeof *p))
+AFTER(int, clock_gettime, (clockid_t c, struct timespec *p), (c, p), if (!r) WRITES(p, sizeof *p))
+AFTER(int, clock_getres, (clockid_t c, struct timespec *p), (c, p), if (!r) WRITES(p, sizeof *p))
+AFTER(clock_t, times, (struct tms *p), (p), if (r != -1) WRITES(p, sizeof *p))
+AFTER(struct tm *, localtime, (const time_t *p), (p), READS(p, sizeof *p); if (r) WRITES(r, sizeof *r))
+AFTER(struct tm *, gmtime, (const time_t *p), (p), READS(p, sizeof *p); if (r) WRITES(r, sizeof *r))
+AFTER(struct tm *, localtime_r, (const time_t *p, struct tm *to), (p, to), READS(p, sizeof *p); if (r) WRITES(r, sizeof *r))
+AFTER(struct tm *, gmtime_r, (const time_t *p, struct tm *to), (p, to), READS(p, sizeof *p); if (r) WRITES(r, sizeof *r))
+AFTER(char *, ctime, (const time_t *p), (p), READS(p, sizeof *p); if (r) WRITES(r, text(r)))
+AFTER(char *, ctime_r, (const time_t *p, char *to), (p, to), READS(p, sizeof *p); if (r) WRITES(r, text(r)))
+AFTER(char *, asctime, (const struct tm *p), (p), if (r) READS(p, sizeof *p), WRITES(r, text(r)))
+AFTER(char *, asctime_r, (const struct tm *p, char *to), (p, to), if (r) READS(p, sizeof *p), WRITES(r, text(r)))
+AFTER(time_t, mktime, (struct tm *p), (p), READS(p, sizeof *p), WRITES(p, sizeof *p))
+
+/* ---- names: of files, users, machines ---- */
+static void gets_text(uint64_t seen, const char *s) { if (s) WRITES(s, text(s)); }
+static size_t address_bytes(int family) { return family == AF_INET6 ? sizeof(struct in6_addr) : sizeof(struct in_addr); }
+AFTER(char *, getcwd, (char *s, size_t n), (s, n), gets_text(seen, r))
+AFTER(char *, realpath, (const char *path, char *s), (path, s), if (r) READS(path, text(path)), gets_text(seen, r))
+AFTER(ssize_t, readlink, (const char *path, char *s, size_t n), (path, s, n), if (r > 0) READS(path, text(path)), WRITES(s, r))
+AFTER(ssize_t, readlinkat, (int f, const char *path, char *s, size_t n), (f, path, s, n),
+      if (r > 0) READS(path, text(path)), WRITES(s, r))
+AFTER(char *, ttyname, (int f), (f), gets_text(seen, r))
+AFTER(int, ttyname_r, (int f, char *s, size_t n), (f, s, n), if (!r) gets_text(seen, s))
+AFTER(char *, strerror_r, (int error, char *s, size_t n), (error, s, n), if (r == s && n) gets_text(seen, s))
+AFTER(int, gethostname, (char *s, size_t n), (s, n), if (!r) WRITES(s, text_within(s, n)))
+AFTER(int, uname, (struct utsname *p), (p), if (!r) WRITES(p, sizeof *p))
+AFTER(int, inet_aton, (const char *s, struct in_addr *p), (s, p), if (r) READS(s, text(s)), WRITES(p, sizeof *p))
+AFTER(int, inet_pton, (int family, const char *s, void *p), (family, s, p),
+      if (r == 1) READS(s, text(s)), WRITES(p, address_bytes(family)))
+AFTER(const char *, inet_ntop, (int family, const void *p, char *s, socklen_t n), (family, p, s, n),
+      if (r) READS(p, address_bytes(family)), gets_text(seen, s))
+AFTER(struct passwd *, getpwnam, (const char *s), (s), READS(s, text(s)); if (r) WRITES(r, sizeof *r))
+AFTER(struct passwd *, getpwuid, (uid_t u), (u), if (r) WRITES(r, sizeof *r))
+AFTER(struct group *, getgrnam, (const char *s), (s), READS(s, text(s)); if (r) WRITES(r, sizeof *r))
+AFTER(struct group *, getgrgid, (gid_t g), (g), if (r) WRITES(r, sizeof *r))
+AFTER(struct hostent *, gethostbyname, (const char *s), (s), READS(s, text(s)); if (r) WRITES(r, sizeof *r))
+AFTER(int, getpwnam_r, (const char *s, struct passwd *p, char *room, size_t n, struct passwd **to), (s, p, room, n, to),
+      READS(s, text(s)), WRITES(to, sizeof *to); if (!r && *to) WRITES(p, sizeof *p))
+AFTER(int, getpwuid_r, (uid_t u, struct passwd *p, char *room, size_t n, struct passwd **to), (u, p, room, n, to),
+      WRITES(to, sizeof *to); if (!r && *to) WRITES(p, sizeof *p))
+AFTER(int, getgrnam_r, (const char *s, struct group *p, char *room, size_t n, struct group **to), (s, p, room, n, to),
+      READS(s, text(s)), WRITES(to, sizeof *to); if (!r && *to) WRITES(p, sizeof *p))
+AFTER(int, getgrgid_r, (gid_t g, struct group *p, char *room, size_t n, struct group **to), (g, p, room, n, to),
+      WRITES(to, sizeof *to); if (!r && *to) WRITES(p, sizeof *p))

@@ -1,0 +1,45 @@
+/* How the accesses of a function of the C library are recorded: as those of its caller, where that was compiled with
+   -fsanitize=thread.  They are measured outside of a hook, so memory that isn't there is a fault of the program's own. */
+#include <stdarg.h>
+#include <stddef.h>
+#include <string.h>
+#include "runtime.h"
+
+/* The caller, and then the thread has the turn; or 0 where nothing is to be recorded. */
+uint64_t begin_call(uint64_t caller);
+/* Never yields, so the turn is kept until the thread's next hook.  Nothing of a null pointer, or of a range that can't
+   be there. */
+void note_range(uint64_t seen, enum operation operation, const volatile void *p, uint64_t bytes);
+#define READS(p, bytes) note_range(seen, OP_READ, p, bytes)
+#define WRITES(p, bytes) note_range(seen, OP_WRITE, p, bytes)
+
+/* How far a text goes, with its end; of at most n bytes, where the end may not be met. */
+static inline size_t least(size_t n, size_t m) { return n < m ? n : m; }
+static inline size_t text(const char *s) { return strlen(s) + 1; }
+static inline size_t text_within(const char *s, size_t n) { return least(strnlen(s, n) + 1, n); }
+
+/* names.c: the function of the C library, looked up before a handler of a signal may ask for it. */
+struct forwarded { const char *name; void *function; };
+void *find_forwarded(struct forwarded *which);
+#define KNOW(name) static struct forwarded real_##name __attribute__((section("forwarded"), aligned(16), used)) = {#name, 0}
+#define KNOWN(name, type) ((type)(real_##name.function ? real_##name.function : find_forwarded(&real_##name)))
+
+/* A function whose accesses are known after it, by its result r.  It doesn't wait, so they are recorded where they are made. */
+#define AFTER(type, name, parameters, arguments, ...) \
+    KNOW(name); \
+    type name parameters; \
+    PUBLIC type name parameters { \
+        uint64_t seen = begin_call(CALLER); \
+        type r = KNOWN(name, __typeof__(&name)) arguments; \
+        if (seen) { __VA_ARGS__; } \
+        return r; \
+    }
+/* One whose accesses are known before it. */
+#define BEFORE(type, name, parameters, arguments, ...) \
+    KNOW(name); \
+    type name parameters; \
+    PUBLIC type name parameters { \
+        uint64_t seen = begin_call(CALLER); \
+        if (seen) { __VA_ARGS__; } \
+        return KNOWN(name, __typeof__(&name)) arguments; \
+    }
