@@ -94,8 +94,7 @@ def with_python(debian, package, top):
 
 
 def with_gcc(debian, package, top):
-    compiling, recording = block_from(README, "gcc -fsanitize").splitlines()
-    said = debian.call(f"cd /root/{top} && {compiling} && {recording}")
+    said = debian.call(f"cd /root/{top}\n" + block_from(README, "gcc -fsanitize"))
     expect("recording", said[0] == "" and said[2] == 66, said)
     expect("what is said of the run", block_from(README, "1. balance") in said[1], said)
     said = debian.call(f"cd /root/{top} && ls account.shb/*.html && cat account.shb/unknown.places")
