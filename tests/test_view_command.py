@@ -103,7 +103,7 @@ exec REAL "$@"
         self.assertNotIn("items", out)
         self.assertIn("items", page.read_text())
         wrong = self.file(b"a.c:1 b.c:2\n", "wrong")
-        self.assertEqual(self.said(["--only", wrong, trace]), f"--only: {wrong} has a line without two locations and a tab between them")
+        self.assertEqual(self.said(["--only", wrong, trace]), f"--only: {wrong}, line 1: a place is two locations or functions with a tab between them")
 
     def test_a_title(self):
         status, out, _ = run_here(["--title", "./app 3\x1b", TRACE])

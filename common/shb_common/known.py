@@ -2,12 +2,15 @@
 
 Which of two accesses comes first depends on the interleaving, so the two orders of a pair of locations are one place here.
 
-The file has two locations a line with a tab between them, in either order. `*` stands for any text, and `\\*` for the sign
-itself. Empty lines, and lines that begin with `#`, are passed over; a location that begins with `#` is written with a
-backslash before it. Lines end with LF or CR LF.
+The file has two of these a line with a tab between them, in either order: a location, or the function that it lies in,
+`FILE:FUNCTION()`, which an edit above doesn't change. `*` stands for any text, and `\\*` for the sign itself. Empty lines, and
+lines that begin with `#`, are passed over; a location that begins with `#` is written with a backslash before it. Lines end with
+LF or CR LF.
 """
 
+import itertools
 import re
+import types
 
 MARK = b"\xef\xbb\xbf"      # some editors put it before the first line
 STAR = re.compile(rb"\\\*|\*")
@@ -62,6 +65,23 @@ def matches(pieces, location):
     return at <= end
 
 
+def functions_of(pair, functions):
+    """The functions that the locations of a place lie in, the lesser first; None where one isn't known, or one of several.
+    `functions` has those of each location."""
+    found = [functions.get(location, ()) for location in pair]
+    return pair_of(*(name for [name] in found)) if all(len(names) == 1 for names in found) else None
+
+
+def lines_of(pairs, functions):
+    """A file of known places with these: by their functions where these are known, with the locations in a comment above."""
+    found = {}
+    for pair in pairs:
+        found.setdefault(functions_of(pair, functions) or pair, []).append(pair)
+    for place, locations in found.items():
+        yield from (b"# " + b"\t".join(pair) + b"\n" for pair in locations if pair != place)
+        yield line_of(place)
+
+
 class Known:
     """The places of a file."""
 
@@ -76,19 +96,24 @@ class Known:
         if line.lstrip(b"\\").startswith(b"#"):
             line = line[1:]
         if line.count(b"\t") != 1:
-            raise BadLine(f"line {number}: a place is two locations with a tab between them")
+            raise BadLine(f"line {number}: a place is two locations or functions with a tab between them")
         pair = [pieces_of(part) for part in line.split(b"\t")]
         if all(len(pieces) == 1 for pieces in pair):
             self.places.add(tuple(sorted(pieces[0] for pieces in pair)))
         else:
             self.patterns.append(pair)
 
-    def has(self, pair):
-        """Whether a place, as `pair_of` gives it, is known."""
-        if pair in self.places:
+    def has(self, pair, functions=types.MappingProxyType({})):
+        """Whether a place, as `pair_of` gives it, is known. `functions` has those that each location lies in."""
+        names = [{location, *functions.get(location, ())} for location in pair]
+        if any(tuple(sorted(both)) in self.places for both in itertools.product(*names)):
             return True
-        (first, second), (other_first, other_second) = map(self.patterns_of, pair)
+        (first, second), (other_first, other_second) = map(self.patterns_of_any, names)
         return not (first.isdisjoint(other_second) and second.isdisjoint(other_first))
+
+    def patterns_of_any(self, names):
+        """The lines with stars whose first location or function is one of these, and those whose second."""
+        return [set().union(*numbers) for numbers in zip(*map(self.patterns_of, names))]
 
     def patterns_of(self, location):
         """The lines with stars whose first location this one matches, and those whose second."""

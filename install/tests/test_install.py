@@ -103,7 +103,7 @@ class Tree(installing.Case):
         call("gcc", "-fsanitize=thread", "-g", TOP / "examples" / "account.c", "-o", program)
         results = self.folder / "results"
         call(self.links() / "shb-record", "-o", results, program, status=66, env={"PATH": os.environ["PATH"]})
-        self.assertEqual((results / "unknown.places").read_text(), "account.c:10\taccount.c:8\n")
+        self.assertEqual((results / "unknown.places").read_text(), "# account.c:10\taccount.c:8\naccount.c:pay()\taccount.c:pay()\n")
 
     def test_an_older_python_is_said(self):
         """Whatever it doesn't know comes later in a command than the sentence, or in another file."""

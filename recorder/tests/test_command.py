@@ -11,6 +11,7 @@ import time
 import recorder
 
 PLACE = ("status.c:9", "status.c:9")
+UNKNOWN = "# status.c:9\tstatus.c:9\nstatus.c:work()\tstatus.c:work()\n"
 LIST = "made-by-shb-record.txt"
 
 
@@ -54,7 +55,7 @@ class Command(recorder.Case):
                                         "unknown.places"])
         self.assertIn("     | shared = 1; /* RACE */\n", said)  # by the debug information
         self.assertIn("<code>    shared = 1; /* RACE */</code>", text_of(page))
-        self.assertEqual(text_of(self.folder / "status.shb" / "unknown.places"), "status.c:9\tstatus.c:9\n")
+        self.assertEqual(text_of(self.folder / "status.shb" / "unknown.places"), UNKNOWN)
         self.assertRegex(text_of(self.folder / "status.shb" / "places.tsv"),  # main forks both, then each writes
                          r"^status.c:9\tstatus.c:9\tunknown\t\d+\t\d+\trun 1, process \d+\trun1\.\d+\.std\n$")
 
@@ -144,6 +145,8 @@ class Command(recorder.Case):
         first, second = [f"atomic_plain.c:{number}" for number, line in enumerate(
             (recorder.PROGRAMS / "atomic_plain.c").read_text().splitlines(), 1) if "RACE" in line]
         for text, wanted in ((f"# a comment\n\n{first}\t{second}\n", 0), (f"{second}\t{first}\n", 0), ("*plain.c:*\tatomic*\n", 0),
+                             ("atomic_plain.c:reads()\tatomic_plain.c:writes()\r\n", 0), (f"{first}\tatomic_plain.c:reads()\n", 0),
+                             ("atomic_plain.c:reads()\tatomic_plain.c:reads()\n", 66), ("reads()\twrites()\n", 66),
                              (f"#{first}\t{second}\n", 66), (f"{first}\t{first}\n", 66), ("atomic_plain?c:*\t*\n", 66)):
             status, _, said = self.record("--known", self.known(text), program)
             self.assertEqual(status, wanted, text)
@@ -156,10 +159,30 @@ class Command(recorder.Case):
         status, _, _ = self.record("--known", "status.shb/unknown.places", "-o", "again", program, "0", "race")
         self.assertEqual(status, 0)
 
+    def test_known_places_stay_known_when_lines_move(self):
+        """What one call wrote as unknown is passed over after an edit above; another function of the same name isn't."""
+        program = self.program()
+        self.record(program, "0", "race")
+        for text, folder, wanted in (("\n\nint more;\n", "status", 0), ("", "other", 66)):
+            moved = self.folder / f"{folder}.c"
+            moved.write_text(text + text_of(recorder.PROGRAMS / "status.c"))
+            recorder.must(recorder.call("gcc", "-w", "-g", "-O1", "-fsanitize=thread", "-pthread", moved, "-o", program))
+            status, _, said = self.record("--known", "status.shb/unknown.places", "-o", f"{folder}.results", program, "0", "race")
+            self.assertEqual(status, wanted, said)
+            ends = {path.suffix for path in (self.folder / f"{folder}.results").glob("run*")}
+            self.assertEqual(ends, {".std", ".stacks", *[".html", ".report"] * bool(wanted)})
+
+    def test_windows_without_an_unknown_place_are_deleted(self):
+        """That their places are known by functions is found out when all are made."""
+        program = self.program("long_race.c")
+        status, _, said = self.record("--window", "2000", "--known", self.known("long_race.c:*()\tlong_race.c:*()\n"), program)
+        self.assertEqual((status, "0 unknown places with races, 2 known ones passed over" in said), (0, True), said)
+        self.assertEqual(list((self.folder / "long_race.shb").glob("*.windows/*")), [])
+
     def test_a_file_of_known_places_with_a_line_that_is_none(self):
         status, _, said = self.record("--known", self.known("a.c:1\tb.c:2\na.c:1 b.c:2\n"), self.program(), "0")
         self.assertEqual(status, 125)
-        self.assertIn("line 2: two locations with a tab between them are wanted", said)
+        self.assertIn("known, line 2: a place is two locations or functions with a tab between them", said)
 
     def test_runs_show_each_place_once(self):
         status, out, said = self.record("--runs", "3", self.program(), "0", "race")
@@ -337,7 +360,7 @@ class Command(recorder.Case):
         status, _, said = self.record("--runs", "4", "sh", "-c", script)
         self.assertEqual((status, "sh left no record" in said), (66, True), said)
         self.assertIn("1 place with races; not all could be looked at;", said)
-        self.assertEqual(text_of(self.folder / "sh.shb" / "unknown.places"), "status.c:9\tstatus.c:9\n")
+        self.assertEqual(text_of(self.folder / "sh.shb" / "unknown.places"), UNKNOWN)
 
     def test_an_analyser_that_fails_late(self):
         """The second process is the one that it doesn't take."""

@@ -24,7 +24,8 @@ class Example(recorder.Case):
         how = {**os.environ, "SHB": str(recorder.SHB)}
         answer = recorder.call("sh", "-e", "-c", self.commands(), cwd=self.folder, env=how)
         self.assertEqual(answer.returncode, 66, answer.stderr)
-        self.assertRegex((self.folder / "account.shb" / "unknown.places").read_text(), r"^account.c:10\taccount.c:8\n$")
+        self.assertEqual((self.folder / "account.shb" / "unknown.places").read_text(),
+                         "# account.c:10\taccount.c:8\naccount.c:pay()\taccount.c:pay()\n")
         self.assertIn(self.shown(), answer.stderr.decode())
 
     def test_the_stored_trace(self):

@@ -7,8 +7,8 @@ import sys
 import recorder
 from test_record import BLOCK, HEADER, entry
 
-sys.path.insert(0, str(recorder.SOURCES.parent / "view"))
-from shb_view.stacks import Stacks  # noqa: E402
+sys.path.insert(0, str(recorder.SOURCES.parent / "common"))
+from shb_common.stacks import Stacks  # noqa: E402
 
 
 def plain(thread, operation, address, caller, depth):

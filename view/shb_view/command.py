@@ -33,8 +33,8 @@ def arguments(words, program):
     parser = Parser(prog="shb-view", description=ABOUT, epilog=with_version(STATUS), formatter_class=argparse.RawDescriptionHelpFormatter)
     parser.add_argument("--html", metavar="PAGE", help="write a page to this file, not text to standard output")
     parser.add_argument("--text", action="store_true", help="beside the page, write the text too")
-    parser.add_argument("--only", metavar="FILE", help="in the text, show only the groups with a place of this file: two locations "
-                        "with a tab between them on each line")
+    parser.add_argument("--only", metavar="FILE", help="in the text, show only the groups with a place of this file, which has the form of "
+                        "a file of known places (docs/FORMATS.md)")
     parser.add_argument("--title", metavar="TEXT", help="the title, if it isn't to be the trace's name")
     parser.add_argument("--source", metavar="DIR", action="append", default=[],
                         help="show lines of the source files below this folder; may be given again")

@@ -1,162 +1,24 @@
-"""Call stacks: the file that `shb-std --stacks` writes beside a trace, and what is shown of it."""
+"""What is shown of call stacks."""
 
-import array
-import bisect
-import collections
 import os
 import re
-import sys
-import typing
 
+from shb_common.stacks import BadStacks, Stacks, bare
 from shb_view.faults import Refused
 from shb_view.names import shown
 from shb_view.words import Code, counted, place
 
-BEGIN = re.compile(rb"shb-stacks 1 ([0-9]{20})\n")
-BEGIN_BYTES = 34
-BLOCK = re.compile(rb".*#([0-9]+)(?:\+[0-9]+)?", re.S)  # a variable in a block, as the recorder names it
-QUALIFIERS = re.compile(rb"(?: const| volatile)+$")
 BLOCK_PART = re.compile(rb"\+[0-9]+$")  # behind the name of a block
 WITH = {b"relaxed": "relaxed", b"acquire": "with acquire", b"release": "with release", b"both": "with acquire and release"}
 MOST_ATOMICS = 3  # that are named of a group
-MOST_DEEP = 200  # calls of a stack that are looked at
 
 
-class Frame(typing.NamedTuple):
-    """A function and the place in it. Where the location is empty, the function called code without hooks, which called on."""
-
-    function: bytes
-    location: bytes
-    in_system: bool
-
-
-class AtomicUse(typing.NamedTuple):
-    """How a thread uses an atomic at a line: `kind` is load, store or update, `order` relaxed, acquire, release or both."""
-
-    name: bytes
-    thread: bytes
-    location: bytes
-    kind: bytes
-    order: bytes
-
-    def publishes(self):
-        return self.kind != b"load"
-
-    def gives(self):
-        """Whether what stands before it is ordered before what takes the value."""
-        return self.order in (b"release", b"both")
-
-    def takes(self):
-        return self.order in (b"acquire", b"both")
-
-
-class Stacks:
-    """The stacks of a trace, by their numbers. `shift` is how many events of the file come before the trace's first."""
-
-    def __init__(self, path, shift, events):
-        self.path = path
-        self.frames, self.calls, self.threads, self.blocks = [None], {}, {}, {}
-        self.atomics = []
-        self.sources = {}  # by the name in a location: the file's path
-        self.free_starts, self.free_ends, self.shift = array.array("Q"), array.array("Q"), shift
-        with open(path, "rb") as file:
-            begin = BEGIN.fullmatch(file.read(BEGIN_BYTES))
-            self.numbers = numbers_of(file, shift, events) if begin and 0 <= shift <= int(begin[1]) - events else ()
-            if len(self.numbers) != events:
-                raise Refused(f"{shown(os.fsencode(path))} doesn't have the stacks of this trace")
-            file.seek(BEGIN_BYTES + 4 * int(begin[1]))
-            for line in file:
-                try:
-                    self.read(line.rstrip(b"\n"))
-                except (ValueError, IndexError):
-                    raise Refused(f"{shown(os.fsencode(path))} is damaged: `{shown(line[:80])}`") from None
-
-    def read(self, line):
-        kind, _, rest = line.partition(b" ")
-        if kind in (b"frame", b"system-frame"):
-            function, location = rest.split(b"\t")
-            self.frames.append(Frame(function, location, kind == b"system-frame"))
-        elif kind == b"stack":
-            number, outer, *frames = map(int, rest.split())
-            self.calls[number] = outer, tuple(self.frames[frame] for frame in frames)
-        elif kind == b"thread":
-            name, number = rest.split(b"\t")
-            self.threads[name] = self.stack(int(number))
-        elif kind == b"block":
-            block, number = map(int, rest.split())
-            self.blocks[block] = self.stack(number)
-        elif kind == b"atomic":
-            name, thread, location, how = rest.split(b"\t")
-            use, order = how.split(b" ")
-            if order not in WITH:
-                raise ValueError
-            self.atomics.append(AtomicUse(name, thread, location, use, order))
-        elif kind == b"source":
-            name, file = rest.split(b"\t")
-            self.sources[name] = file
-        elif kind == b"free":
-            first, last = map(int, rest.split())
-            self.free_starts.append(first)
-            self.free_ends.append(last)
-
-    def stack(self, number):
-        """The frames of a stack, the innermost first."""
-        found = []
-        for _ in range(MOST_DEEP):
-            if number not in self.calls:
-                break
-            number, frames = self.calls[number]
-            found.extend(frames)
-        return tuple(found)
-
-    def of_event(self, event):
-        return self.stack(self.numbers[event - 1]) if 0 < event <= len(self.numbers) else ()
-
-    def free_of(self, event):
-        """The number of the free that an event is of, or None."""
-        number = bisect.bisect(self.free_starts, event + self.shift) - 1
-        return number if number >= 0 and event + self.shift <= self.free_ends[number] else None
-
-    def of_thread(self, name):
-        """Where a thread was created."""
-        return self.threads.get(name, ())
-
-    def of_variable(self, name):
-        """Where the block of a variable was allocated."""
-        found = BLOCK.fullmatch(name)
-        return self.blocks.get(int(found[1]), ()) if found else ()
-
-    def counted(self, events):
-        """The stacks of some events, each with how many have it, the most frequent first."""
-        return collections.Counter(map(self.of_event, sorted(events))).most_common()
-
-
-class NoStacks:
-    """Of a trace without such a file nothing is known."""
-
-    sources, atomics = {}, ()
-
-    def of_event(self, event):
-        return ()
-
-    of_thread = of_variable = of_event
-
-    def free_of(self, event):
-        return None
-
-    def counted(self, events):
-        return []
-
-
-def numbers_of(file, first, count):
-    """Numbers of 4 bytes, the least byte first."""
-    found = array.array("I")
-    file.seek(BEGIN_BYTES + 4 * first)
-    read = file.read(4 * count)
-    found.frombytes(read[:len(read) // 4 * 4])
-    if sys.byteorder == "big":
-        found.byteswap()
-    return found
+def stacks_of(path, shift, events):
+    """The stacks of a trace with so many events, from a file."""
+    try:
+        return Stacks(path, shift, events)
+    except BadStacks as fault:
+        raise Refused(f"{shown(os.fsencode(path))} {fault}") from None
 
 
 def origins(view, section):
@@ -218,29 +80,3 @@ def caller_lines(frames, most):
 def frame_parts(frame):
     where = [" ", Code(frame.location)] if frame.location else [" (no line is known: it called code without hooks)"]
     return [Code(bare(frame.function)), *where] if frame.function else where[-1:]
-
-
-def bare(function):
-    """A function's name without its parameters, and without arguments of templates."""
-    name = QUALIFIERS.sub(b"", function)
-    if name.endswith(b")") and not name.endswith(b"operator()"):
-        name = name[:opening(name, b"(", b")")]
-    if b"operator" in name or b"->" in name:
-        return name
-    found, depth = bytearray(), 0
-    for byte in name:
-        depth -= byte == ord(">")
-        if not depth:
-            found.append(byte)
-        depth += byte == ord("<")
-    return bytes(found) if not depth else name
-
-
-def opening(name, opens, closes):
-    """Where the parenthesis opens that the name ends with, or its end."""
-    depth = 0
-    for at in range(len(name) - 1, -1, -1):
-        depth += (name[at:at + 1] == closes) - (name[at:at + 1] == opens)
-        if not depth:
-            return at
-    return len(name)

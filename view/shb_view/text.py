@@ -1,5 +1,6 @@
 """The text form: the groups, each with its fact and the lines that use its variables."""
 
+from shb_common import known
 from shb_view.groups import group_name
 from shb_view.issue import issue_lines
 from shb_view.names import code_line, columns, padded, short
@@ -45,7 +46,7 @@ def text_lines(view, colours, is_whole):
     yield f"{colours.bold(f'{view.title}: {races}')} ({size})"
     yield from map(colours.red, view.notes)
     yield from notes_of(view)
-    chosen = [numbered for numbered in enumerate(view.sections, 1) if view.only is None or view.only & numbered[1].group.places()]
+    chosen = chosen_sections(view)
     if len(chosen) < len(view.sections):
         yield f"Of {counted(len(view.sections), 'group')} {len(chosen):,} are shown, those with a place that is asked for."
     for number, section in chosen:
@@ -58,6 +59,13 @@ def text_lines(view, colours, is_whole):
     if view.groups > len(view.sections):
         yield ""
         yield f"and {counted(view.groups - len(view.sections), 'more group')}"
+
+
+def chosen_sections(view):
+    """The groups that have a place which is asked for, with their numbers."""
+    numbered, functions = list(enumerate(view.sections, 1)), view.stacks.functions() if view.only else {}
+    return [(number, section) for number, section in numbered
+            if view.only is None or any(view.only.has(known.pair_of(*pair), functions) for pair in section.group.places())]
 
 
 def section_lines(view, number, section, colours):

@@ -7,6 +7,8 @@ import sys
 import tempfile
 import typing
 
+from shb_common.known import BadLine, Known
+from shb_common.stacks import NoStacks, Stacks
 from shb_view.analyser import MOST_LISTED, Analyser, Verdict
 from shb_view.counting import Counting, Kinds
 from shb_view.facts import Fact, Site, fact_of, sites_of
@@ -16,7 +18,7 @@ from shb_view.names import shown
 from shb_view.refused import warnings
 from shb_view.report import BLOCK, MOST_BYTES, Counts, Report, in_order
 from shb_view.source import Source
-from shb_view.stacks import NoStacks, Stacks
+from shb_view.stacks import stacks_of
 from shb_view.trace import CHANGED, Trace
 from shb_view.windows import Window, make_windows
 
@@ -58,7 +60,7 @@ class View(typing.NamedTuple):
     notes: typing.List[str]
     stacks: typing.Union[Stacks, NoStacks]
     kinds: Kinds
-    only: typing.Optional[typing.Set[typing.Tuple[bytes, bytes]]]
+    only: typing.Optional[Known]
 
 
 class Given(typing.NamedTuple):
@@ -90,7 +92,7 @@ def make_view(options, progress):
             given = given._replace(verdict=NO_SCHEDULES)
         is_whole = bool(options.html or options.all)
         whole = "window" if options.window else "trace"
-        stacks = Stacks(options.stacks, options.shift, head.counts.events) if options.stacks else NoStacks()
+        stacks = stacks_of(options.stacks, options.shift, head.counts.events) if options.stacks else NoStacks()
         asked = Asked(is_whole, whole, Kinds(gathered.atomics, stacks), gathered.lines, gathered.reads, head.counts.events)
         count, sections = make_sections(asked, Trace(file, progress), given, groups)
         sections = [section._replace(callers=callers_of(section.group, gathered.racing, stacks)) for section in sections]
@@ -104,12 +106,12 @@ def make_view(options, progress):
 
 
 def places_of(path):
-    """The places of a file, the lesser location first: two locations with a tab between them on each line."""
+    """The places of a file of known places."""
     with open(path, "rb") as file:
-        lines = [line.rstrip(b"\n").split(b"\t") for line in file]
-    if any(len(line) != 2 for line in lines):
-        raise Refused(f"--only: {shown(os.fsencode(path))} has a line without two locations and a tab between them")
-    return {tuple(sorted(line)) for line in lines}
+        try:
+            return Known(file.read())
+        except BadLine as fault:
+            raise Refused(f"--only: {shown(os.fsencode(path))}, {fault}") from None
 
 
 def open_regular(path):
