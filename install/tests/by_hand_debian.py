@@ -98,7 +98,7 @@ def with_gcc(debian, package, top):
     expect("recording", said[0] == "" and said[2] == 66, said)
     expect("what is said of the run", block_from(README, "1. balance") in said[1], said)
     said = debian.call(f"cd /root/{top} && ls account.shb/*.html && cat account.shb/unknown.places")
-    expect("the page and the known places", said[0].endswith("account.c:10\taccount.c:8\n"), said)
+    expect("the page and the unknown places", said[0].endswith("# account.c:10\taccount.c:8\naccount.c:pay()\taccount.c:pay()\n"), said)
 
 
 def main(package, work):
