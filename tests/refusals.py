@@ -21,7 +21,6 @@ MADE = {
     "shb_counts/src/numbering.rt": 1,
     "shb_discipline/src/checking.rt": 1,
     "shb_fan/src/gathered.rt": 2,
-    "shb_fan/src/joined.rt": 2,
     "shb_fan/src/streaming.rt": 4,
     "shb_io/src/traits.rt": 2,
     "shb_judging/src/text.rt": 3,

@@ -5,7 +5,7 @@ import unittest
 import refusals
 
 FILE = "shb_pairs/src/piece.rt"
-COUNTED = "shb_fan/src/joined.rt"
+COUNTED = "shb_fan/src/gathered.rt"
 NEEDLESS = """fn f(n: u32) -> Result<u32, NoMemory>
     ensures { OnErr result ⊤ }
 {

@@ -17,4 +17,3 @@ pub mod BatchValues
 pub mod Accounts
 pub mod SeatSteps
 pub mod FanSteps
-pub mod JoinedLists

@@ -17,7 +17,7 @@ use std::thread::Threads;
 const BATCHES_EACH: u64 = 16;
 
 /// Whether there are so many pieces that they are drawn in batches.
-pub(crate) fn has_many(pieces: u64, workers: Workers) -> bool {
+fn has_many(pieces: u64, workers: Workers) -> bool {
     u64::from(workers.get()) * (BATCH * BATCHES_EACH) <= pieces
 }
 
@@ -49,8 +49,8 @@ impl<T: Drop> Taker<T> for Keeper<T> {
 
 /// Keeps the values of the lists that it is given, one list after the other.
 #[derive(Drop)]
-pub(crate) struct ListKeeper<T: Drop> {
-    pub(crate) values: Vec<T>,
+struct ListKeeper<T: Drop> {
+    values: Vec<T>,
 }
 
 impl<T: Drop> Taker<Vec<T>> for ListKeeper<T> {

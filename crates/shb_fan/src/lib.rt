@@ -6,8 +6,7 @@
 //! says how far its piece is (4k empty, 4k + 1 claimed, 4k + 2 placed, 4k + 3 lifted, 4(k + 64)
 //! freed). [`stream`] hands the values of all pieces to a [`Taker`] in order while workers run
 //! pieces; [`gather`] is `stream` into a list, over batches of sixteen neighbours where there are
-//! many pieces, and [`gather_joined`] is the same for pieces that give lists, into one list of all
-//! their elements.
+//! many pieces.
 //!
 //! All that threads share is words and slots of two tables of `atomic_table`, each with a rule that
 //! every single step keeps; there is no lock. `ticket_table` and `ring_table` are the two rules,
@@ -31,7 +30,6 @@ mod crew;
 mod gate;
 mod gathered;
 mod job;
-mod joined;
 pub mod machine;
 mod pass;
 mod ring;
@@ -50,7 +48,6 @@ mod workers;
 pub use gate::{FreeGate, Gate};
 pub use gathered::gather;
 pub use job::Job;
-pub use joined::gather_joined;
 pub use pass::Pass;
 pub use shares::{Ring, RingSeat};
 pub use streaming::stream;
