@@ -7,14 +7,14 @@ use Rattle.std.proofs.lemmas.List.{length-take}
 use Rattle.std.proofs.lemmas.List.Sums.{count_by-le-length}
 use Rattle.shb_lines.specs.declared.event.Event.{Event}
 use Rattle.shb_lines.specs.declared.event.Op.{Op}
-use Rattle.shb_lines.specs.declared.event.Op.TheVariants.{Read, Fork}
+use Rattle.shb_lines.specs.declared.event.Op.TheVariants.{Read}
 use Rattle.shb_lines.specs.events.Events.{thread_at, op_at}
 use Rattle.shb_lines.specs.events.Discipline.{IsDisciplined, is_of, local_time}
 use Rattle.shb_lines.specs.events.Order.{IsPred, in_thread, by_fork, LastWrite}
-use Rattle.shb_lines.proofs.events.Counts.{count_more_yes, count_gap}
-use Rattle.shb_lines.proofs.events.Events.{thread_is, event_of_thread, is_of_true, fork_earlier}
+use Rattle.shb_lines.proofs.events.Counts.{count_more_yes, count_gap, counted_before}
+use Rattle.shb_lines.proofs.events.Events.{thread_is, event_of_thread, is_of_true}
 use Rattle.shb_lines.proofs.events.Prefix.{is_of_thread}
-use Rattle.shb_lines.proofs.events.Items.{op_other_at, op_within_at, thread_within}
+use Rattle.shb_lines.proofs.events.Items.{op_other_at, thread_within}
 use Rattle.shb_links.proofs.Tables.{thread_alone}
 use Rattle.shb_links.specs.Latest.{IsLatestBefore, Latest, IsLatestTable, OfThread, WritesVariable, ForksThread}
 use Rattle.shb_links.specs.Links.{Exactly, HasLocals}
@@ -45,23 +45,29 @@ module _ (trace : List Event) (e t : ℕ) (of_e : thread_at trace e ≡ Some t) 
   pub time_after : (p : ℕ) → IsLatestBefore (OfThread trace t) e p → local_time trace t e ≡ local_time trace t p + 1
   time_after p latest = let gap = none_of (p + 1) (λ m low high. latest.last m (omega arith) high) (let lt = latest.earlier in omega arith) in let own = time_here in omega (arith, gap, own)
 
-  pub pred_link : IsDisciplined trace → (last fork : Option ℕ) → Latest (OfThread trace t) e last → Latest (ForksThread trace t) e fork → Exactly (λ p. IsPred trace p e) (option_or last fork)
-  pred_link disciplined (Some p) fork latest forks = in_thread t latest.holds of_e latest.earlier latest.last
-  pred_link disciplined None (Some f) none latest = by_fork t latest.holds of_e none
-  pred_link disciplined None None none no_fork = λ p pred. refuse p pred
-    where
-      refuse : (p : ℕ) → IsPred trace p e → ⊥
-      refuse p (in_thread u of_p of_e' lt last) = let same : u ≡ t = cc in none p lt (rw (← same) of_p)
-      refuse p (by_fork u forks of_e' last) =
-          let same : u ≡ t = cc in
-          let forks_t : op_at trace p ≡ Some (Fork t) = rw (← same) forks in
-          no_fork p (fork_earlier trace disciplined t p e forks_t of_e) forks_t
+  -- the first event of a thread
+  pub none_earlier : local_time trace t e ≡ 1 → (m : ℕ) → m < e → thread_at trace m ≢ Some t
+  none_earlier first m lt of_m =
+      let d = event_of_thread trace m t of_m in
+      let before = counted_before (is_of t) trace m e d.0 d.1 (is_of_true t d.0 d.2) lt in
+      let own = time_here in
+      omega (arith, first, before, own)
 
-  -- the same by the one fork of the thread
   pub pred_by_fork : IsDisciplined trace → (last fork : Option ℕ) → Latest (OfThread trace t) e last → Exactly (ForksThread trace t) fork → Exactly (λ p. IsPred trace p e) (option_or last fork)
   pred_by_fork disciplined (Some p) fork latest forks = in_thread t latest.holds of_e latest.earlier latest.last
   pred_by_fork disciplined None (Some f) none forks = by_fork t forks of_e none
-  pred_by_fork disciplined None None none no_fork = pred_link disciplined None None none (λ k lt. no_fork k)
+  pred_by_fork disciplined None None none no_fork = λ p pred. refuse p pred
+    where
+      refuse : (p : ℕ) → IsPred trace p e → ⊥
+      refuse p (in_thread u of_p of_e' lt last) = let same : u ≡ t = cc in none p lt (rw (← same) of_p)
+      refuse p (by_fork u forks of_e' last) = let same : u ≡ t = cc in no_fork p (rw (← same) forks)
+
+-- the predecessor of the first event of a thread, where the links are seen as the trace
+pub pred_first : (trace seen : List Event) (e t time : ℕ) (fork : Option ℕ) → trace ≡ seen → IsDisciplined trace → thread_at trace e ≡ Some t → ((u : ℕ) → thread_at seen e ≡ Some u → time ≡ local_time seen u e) → time ≡ 1 → Exactly (ForksThread seen t) fork → Exactly (λ p. IsPred seen p e) fork
+pred_first trace seen e t time fork same disciplined of_e local first forks =
+    let of_seen : thread_at seen e ≡ Some t = subst (λ (tr : List Event). thread_at tr e ≡ Some t) same of_e in
+    let meets : IsDisciplined seen = subst (λ (tr : List Event). IsDisciplined tr) same disciplined in
+    pred_by_fork seen e t of_seen meets None fork (none_earlier seen e t of_seen (sym (local t of_seen) ∙ first)) forks
 
 -- the last write of a read, and of what is no read
 pub write_link : (trace : List Event) (e x : ℕ) → op_at trace e ≡ Some (Read x) → (o : Option ℕ) → Latest (WritesVariable trace x) e o → Exactly (λ w. LastWrite trace w e) o
@@ -97,15 +103,6 @@ module _ (trace : List Event) (sizes : Sizes) (e t : ℕ) (within : IsWithin tra
       let next = next_here locals last p times has is in
       let low = time_bound trace t e in
       omega (arith, next, low, lt)
-
-  pub pred_found : (last forks : List (Option ℕ)) → IsDisciplined trace → IsLatestTable (OfThread trace) e sizes.threads last → IsLatestTable (ForksThread trace) e sizes.threads forks → Exactly (λ p. IsPred trace p e) (option_or (get_or last t None) (get_or forks t None))
-  pred_found last forks disciplined has has_forks =
-      pred_link trace e t of_e disciplined _ _ (thread_entry (OfThread trace) trace sizes last e t within has of_e) (thread_entry (ForksThread trace) trace sizes forks e t within has_forks of_e)
-
-pub write_found : (trace : List Event) (sizes : Sizes) (e : ℕ) (within : IsWithin trace sizes) (writes : List (Option ℕ)) (x : ℕ) → IsLatestTable (WritesVariable trace) e sizes.variables writes → op_at trace e ≡ Some (Read x) → Exactly (λ w. LastWrite trace w e) (get_or writes x None)
-write_found trace sizes e within writes x has reads =
-    let low : x < sizes.variables = op_within_at trace sizes e (Read x) within reads in
-    write_link trace e x reads (get_or writes x None) (has.each x low)
 
 -- what is no read reads from no write
 pub no_read_at : (trace : List Event) (e : ℕ) (op : Op) → op_at trace e ≡ Some op → ((x : ℕ) → op ≡ Read x → ⊥) → (w : ℕ) → LastWrite trace w e → ⊥

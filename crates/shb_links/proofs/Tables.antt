@@ -7,11 +7,11 @@ use Rattle.std.proofs.lemmas.List.{get_or_past}
 use Rattle.std.proofs.lemmas.Option.{slice_get_within}
 use Rattle.shb_lines.specs.declared.event.Event.{Event}
 use Rattle.shb_lines.specs.declared.event.Op.{Op}
-use Rattle.shb_lines.specs.declared.event.Op.TheVariants.{Write, Fork}
+use Rattle.shb_lines.specs.declared.event.Op.TheVariants.{Fork}
 use Rattle.shb_lines.specs.events.Events.{op_at, thread_at}
 use Rattle.shb_lines.proofs.events.Events.{event_of_op, event_of_thread}
 use Rattle.shb_lines.proofs.events.Items.{op_other_at, op_within_at, thread_within}
-use Rattle.shb_links.specs.Latest.{Latest, IsLatestTable, OfThread, WritesVariable, ForksThread}
+use Rattle.shb_links.specs.Latest.{Latest, IsLatestTable, OfThread, ForksThread}
 use Rattle.shb_links.specs.Links.{Exactly, HasForks, HasLastEvents}
 use Rattle.shb_lines.specs.events.Sizes.{IsOpWithin, IsWithin}
 use Rattle.shb_lines.specs.declared.event.Sizes.{Sizes}
@@ -55,24 +55,13 @@ table_skip P n size table none old = record {
 pub thread_alone : (trace : List Event) (e t u : ℕ) → OfThread trace t e → OfThread trace u e → u ≡ t
 thread_alone trace e t u h g = let s : Some t ≡ Some u = sym h ∙ g in cc
 
-pub write_alone : (trace : List Event) (e x y : ℕ) → op_at trace e ≡ Some (Write x) → op_at trace e ≡ Some (Write y) → y ≡ x
-write_alone trace e x y h g = let s : Some (Write x) ≡ Some (Write y) = sym h ∙ g in cc
-
 pub fork_alone : (trace : List Event) (e t u : ℕ) → op_at trace e ≡ Some (Fork t) → op_at trace e ≡ Some (Fork u) → u ≡ t
 fork_alone trace e t u h g = let s : Some (Fork t) ≡ Some (Fork u) = sym h ∙ g in cc
 
--- the event at e is noted as the last of its thread, as the last write of its variable, and as the fork of a thread
+-- the event at e is noted as the last of its thread, and as the fork of a thread
 module _ (trace : List Event) (sizes : Sizes) (e : ℕ) (within : IsWithin trace sizes) where
   pub thread_noted : (t : ℕ) (table : List (Option ℕ)) → thread_at trace e ≡ Some t → IsLatestTable (OfThread trace) e sizes.threads table → IsLatestTable (OfThread trace) (e + 1) sizes.threads (set table t (Some e))
   thread_noted t table of_e old = table_mark (OfThread trace) e sizes.threads t table (thread_within trace sizes e t within of_e) of_e (λ u. thread_alone trace e t u of_e) old
-
-  pub write_noted : (table : List (Option ℕ)) (x : ℕ) → op_at trace e ≡ Some (Write x) → IsLatestTable (WritesVariable trace) e sizes.variables table → IsLatestTable (WritesVariable trace) (e + 1) sizes.variables (set table x (Some e))
-  write_noted table x writes old =
-      let low : x < sizes.variables = op_within_at trace sizes e (Write x) within writes in
-      table_mark (WritesVariable trace) e sizes.variables x table low writes (λ y. write_alone trace e x y writes) old
-
-  pub no_write_noted : (table : List (Option ℕ)) (op : Op) → op_at trace e ≡ Some op → ((x : ℕ) → op ≡ Write x → ⊥) → IsLatestTable (WritesVariable trace) e sizes.variables table → IsLatestTable (WritesVariable trace) (e + 1) sizes.variables table
-  no_write_noted table op does other old = table_skip (WritesVariable trace) e sizes.variables table (λ x. op_other_at trace e op (Write x) does (other x)) old
 
   pub fork_noted : (table : List (Option ℕ)) (t : ℕ) → op_at trace e ≡ Some (Fork t) → IsLatestTable (ForksThread trace) e sizes.threads table → IsLatestTable (ForksThread trace) (e + 1) sizes.threads (set table t (Some e))
   fork_noted table t forks old =

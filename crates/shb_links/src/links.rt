@@ -9,8 +9,7 @@ ghost use Rattle.shb_links.specs.Latest.{Latest, OfThread, ForksThread};
 ghost use Rattle.shb_links.specs.Links.{Exactly, IsLocal, HasLinks};
 ghost use Rattle.shb_links.specs.Sharing.{IsShared};
 
-use crate::link::Link;
-use crate::pass::{Entries, LatestEvents, LocalTimes};
+use crate::pass::LocalTimes;
 use crate::search::{latest_of_thread, latest_write};
 use crate::sharing::shared_variables;
 use shb_discipline::Disciplined;
@@ -20,13 +19,10 @@ use std::alloc::Global;
 use std::marker::Model;
 
 /// The links of a trace, and which of its variables are shared. Contracts see it as the list of the
-/// trace's events, since that list fixes both. Predecessors and last writes stand in tables, or are
-/// searched for where these have none.
+/// trace's events, since that list fixes both.
 pub struct Links<'a> {
     trace: &'a Disciplined<'a>,
     locals: Vec<u32>,
-    preds: Vec<Link>,
-    last_writes: Vec<Link>,
     forks: Vec<Option<u32>>,
     last: Vec<Option<u32>>,
     shared: Vec<bool>,
@@ -38,8 +34,6 @@ impl<'a> Drop for Links<'a> {
         let Links {
             trace: _,
             locals: _,
-            preds: _,
-            last_writes: _,
             forks: _,
             last: _,
             shared: _,
@@ -52,8 +46,8 @@ impl<'a> Model for Links<'a> {
 
     ghost view = { λ l. l.trace.now.events.now };
 
-    ghost invariant = { λ l. HasLinks l.trace.now.events.now l.locals.items l.preds.items
-        l.last_writes.items l.forks.items l.last.items l.shared.items };
+    ghost invariant = { λ l. HasLinks l.trace.now.events.now l.locals.items l.forks.items
+        l.last.items l.shared.items };
 }
 
 impl<'a> Links<'a> {
@@ -70,25 +64,18 @@ impl<'a> Links<'a> {
 
     /// The predecessor of event `e`: the event before `e` in its thread or, where `e` is the first
     /// of its thread, the fork of that thread. `None` exactly where `e` has neither. That a fork
-    /// precedes the first event of its thread is this project's own rule.
+    /// precedes the first event of its thread is this project's own rule. It is searched for: a step for
+    /// each event between the two, none where `e` is the first of its thread.
     pub fn pred(&self, e: u32) -> Option<u32>
         requires { e < length self.now }
         ensures { Exactly (λ p. IsPred self.now p e) result }
     {
-        if (e as usize) < self.preds.len() {
-            return self.preds[e as usize].position();
-        }
-        self.searched_pred(e)
-    }
-
-    /// The predecessor of event `e`, searched for.
-    fn searched_pred(&self, e: u32) -> Option<u32>
-        requires { e < length self.now }
-        ensures { Exactly (λ p. IsPred self.now p e) result }
-    {
         let thread = self.trace.events.thread(e);
-        let last = latest_of_thread(self.trace.events, thread, e);
-        last.or(self.forked_by(thread))
+        let fork = self.forked_by(thread);
+        if self.local(e) == 1 {
+            return fork;
+        }
+        latest_of_thread(self.trace.events, thread, e).or(fork)
     }
 
     /// The fork of thread `t`. `None` exactly where no event forks it, as for every number that
@@ -127,19 +114,8 @@ impl<'a> Links<'a> {
 
     /// The last write of event `e`: where `e` reads a variable, the latest earlier write of that
     /// variable, by any thread. `None` exactly where there is none, as for every event that is no
-    /// read.
+    /// read. It is searched for: a step for each event between the two.
     pub fn last_write(&self, e: u32) -> Option<u32>
-        requires { e < length self.now }
-        ensures { Exactly (λ w. LastWrite self.now w e) result }
-    {
-        if (e as usize) < self.last_writes.len() {
-            return self.last_writes[e as usize].position();
-        }
-        self.searched_write(e)
-    }
-
-    /// The last write of event `e`, searched for.
-    fn searched_write(&self, e: u32) -> Option<u32>
         requires { e < length self.now }
         ensures { Exactly (λ w. LastWrite self.now w e) result }
     {
@@ -150,41 +126,9 @@ impl<'a> Links<'a> {
     }
 }
 
-/// The links of a trace, by two forward passes, in twelve bytes an event and one a variable. `NoMemory`
+/// The links of a trace, by two forward passes, in four bytes an event and one a variable. `NoMemory`
 /// where memory was refused.
 pub fn links_of<'a>(alloc: Global, trace: &'a Disciplined<'a>) -> Result<Links<'a>, NoMemory>
-    ensures { IfOk result (λ links. links ≡ trace.now.events.now) }
-{
-    let mut latest = LatestEvents::new(alloc, trace)?;
-    let mut entries = Entries::new(alloc, trace)?;
-    for e in 0..trace.events.len() as u32 {
-        entries.push(trace, &latest, e)?;
-        latest.note(trace, e);
-    }
-    let LatestEvents { last, forks, .. } = latest;
-    let Entries {
-        locals,
-        preds,
-        last_writes,
-    } = entries;
-    Ok(Links {
-        trace,
-        locals,
-        preds,
-        last_writes,
-        forks,
-        last,
-        shared: shared_variables(alloc, trace)?,
-    })
-}
-
-/// The same links in four bytes an event and one a variable, without tables of predecessors and last
-/// writes: these are searched for in the trace when they are asked for, which takes a step for each event
-/// between. It is for reports without schedules, which ask for none. `NoMemory` where memory was refused.
-pub fn links_without_tables<'a>(
-    alloc: Global,
-    trace: &'a Disciplined<'a>,
-) -> Result<Links<'a>, NoMemory>
     ensures { IfOk result (λ links. links ≡ trace.now.events.now) }
 {
     let mut found = LocalTimes::new(alloc, trace)?;
@@ -200,8 +144,6 @@ pub fn links_without_tables<'a>(
     Ok(Links {
         trace,
         locals,
-        preds: Vec::new(alloc),
-        last_writes: Vec::new(alloc),
         forks,
         last,
         shared: shared_variables(alloc, trace)?,

@@ -4,7 +4,7 @@ pub mod Cuts
 pub mod FrontDiscipline
 pub mod LastWrites
 pub mod Law
-pub mod Handovers
+pub mod Origins
 pub mod Lowest
 pub mod OneAnswer
 pub mod OrderReasons

@@ -19,7 +19,7 @@ use Rattle.shb_links.specs.Links.{Exactly}
 use Rattle.shb_replay.specs.declared.broken.Why.{Why}
 use Rattle.shb_replay.specs.declared.broken.Why.TheVariants as whys
 use Rattle.shb_replay.specs.Reasons.{number_of, StandsEarlier, IsLatestWrite, HasReason, IsUnbroken}
-use Rattle.shb_replay.specs.Walks.{AreLatestWrites, HasHandovers, IsLowestIn, JoinStands, TellsLack}
+use Rattle.shb_replay.specs.Walks.{AreLatestWrites, IsLowestIn, JoinStands, TellsLack}
 use Rattle.shb_replay.proofs.Standing.{widen}
 use Rattle.shb_replay.proofs.Closed.{thread_stands, release_stands}
 use Rattle.shb_links.proofs.Balance.{HasHolder, IsPassing, balanced, disciplined_below, holder_after, some_counted}
@@ -208,9 +208,6 @@ module _ (trace : List Event) (disciplined : IsDisciplined trace) (s : List ℕ)
 -- an entry that was read of a table
 pub entry_is : (P : ℕ → ℕ → Type 0) (n size t : ℕ) (table : List (Option ℕ)) (x : Option ℕ) → IsLatestTable P n size table → t < size → x ≡ get_or table t x → Latest (P t) n x
 entry_is P n size t table x has lt is = subst (λ (o : Option ℕ). Latest (P t) n o) (sym (get_or_read table t x (let long = has.as_long in omega (arith, long, lt)) is None)) (has.each t lt)
-
-pub handover_is : (trace : List Event) (n e l : ℕ) (handovers : List (Option ℕ)) (x : Option ℕ) → HasHandovers trace n handovers → e < n → op_at trace e ≡ Some (Acquire l) → x ≡ get_or handovers e x → Latest (ReleasesLock trace l) e x
-handover_is trace n e l handovers x has lt takes is = subst (λ (o : Option ℕ). Latest (ReleasesLock trace l) e o) (sym (get_or_read handovers e x (let long = has.as_long in omega (arith, long, lt)) is None)) (has.each e l lt takes)
 
 pub write_is : (trace : List Event) (s : List ℕ) (p size y : ℕ) (writes : List (Option ℕ)) (x : Option ℕ) → AreLatestWrites trace s p size writes → y < size → x ≡ get_or writes y x → Exactly (IsLatestWrite trace s p y) x
 write_is trace s p size y writes x has lt is = subst (λ (o : Option ℕ). Exactly (IsLatestWrite trace s p y) o) (sym (get_or_read writes y x (let long = has.as_long in omega (arith, long, lt)) is None)) (has.each y lt)

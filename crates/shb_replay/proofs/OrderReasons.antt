@@ -36,11 +36,11 @@ pub flag_false : (P : ℕ → Type 0) (n k : ℕ) (flags : List Bool) (flag : Bo
 flag_false P n k flags flag h at is = subst (λ (b : Bool). Tells b (P k)) is (h.each k flag at)
 
 -- what a link is that was asked for
-pub link_is : (P : List Event → ℕ → Type 0) (trace seen : List Event) (o : Option ℕ) (a : ℕ) → seen ≡ trace → Exactly (P seen) o → o ≡ Some a → P trace a
-link_is P trace seen o a same known is = subst (λ (tr : List Event). P tr a) same (subst (λ (q : Option ℕ). Exactly (P seen) q) is known)
+pub link_is : (P : ℕ → Type 0) (o : Option ℕ) (a : ℕ) → Exactly P o → o ≡ Some a → P a
+link_is P o a known is = subst (λ (q : Option ℕ). Exactly P q) is known
 
-pub link_none : (P : List Event → ℕ → Type 0) (trace seen : List Event) (o : Option ℕ) → seen ≡ trace → Exactly (P seen) o → o ≡ None → (a : ℕ) → ¬ P trace a
-link_none P trace seen o same known is a = subst (λ (tr : List Event). ¬ P tr a) same (subst (λ (q : Option ℕ). Exactly (P seen) q) is known a)
+pub link_none : (P : ℕ → Type 0) (o : Option ℕ) → Exactly P o → o ≡ None → (a : ℕ) → ¬ P a
+link_none P o known is = subst (λ (q : Option ℕ). Exactly P q) is known
 
 pub threads_same : (trace : List Event) (a x t u : ℕ) → thread_at trace a ≡ Some t → thread_at trace x ≡ Some u → t ≡ u → thread_at trace a ≡ thread_at trace x
 threads_same trace a x t u of_a of_x h = of_a ∙ (ap (λ (n : ℕ). Some n) h ∙ sym of_x)
@@ -154,6 +154,6 @@ module _ (trace : List Event) (disciplined : IsDisciplined trace) (s : List ℕ)
   pub standing_not_next : StandsEarlier s (length s) e → ¬ IsNext trace s e
   standing_not_next stands next = next.absent (stands_member s (length s) e stands)
 
-pub preds_in_trace : (trace seen : List Event) (e : ℕ) (o : Option ℕ) (n : ℕ) → seen ≡ trace → Exactly (λ a. IsPred seen a e) o → n ≡ length trace → IfSome o (λ a. a < n)
-preds_in_trace trace seen e (Some a) n same pred long = let low = pred_in_trace seen a e pred in let size = ap (λ (tr : List Event). length tr) same in omega (arith, low, size, long)
-preds_in_trace trace seen e None n same pred long = tt
+pub preds_in_trace : (trace : List Event) (e : ℕ) (o : Option ℕ) (n : ℕ) → Exactly (λ a. IsPred trace a e) o → n ≡ length trace → IfSome o (λ a. a < n)
+preds_in_trace trace e (Some a) n pred long = let low = pred_in_trace trace a e pred in omega (arith, low, long)
+preds_in_trace trace e None n pred long = tt

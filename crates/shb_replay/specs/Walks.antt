@@ -2,24 +2,37 @@
 use Rattle.std.specs.Prelude.{◌≡◌, ℕ, ◌<◌, ◌≤◌, Bool, true, false, List, Option, Some, slice_get, slice_index_or, length, None}
 use Rattle.shb_lines.specs.declared.event.Event.{Event}
 use Rattle.shb_lines.specs.declared.event.Sizes.{Sizes}
-use Rattle.shb_lines.specs.declared.event.Op.TheVariants.{Write, Acquire, Join}
+use Rattle.shb_lines.specs.declared.event.Op.TheVariants.{Read, Write, Acquire, Join}
 use Rattle.shb_lines.specs.events.Events.{op_at}
+use Rattle.shb_lines.specs.events.Order.{IsPred}
 use Rattle.shb_lines.specs.events.Schedule.{IsNext}
-use Rattle.shb_links.specs.Latest.{Latest, ReleasesLock}
+use Rattle.shb_links.specs.Latest.{Latest, ReleasesLock, WritesVariable}
 use Rattle.shb_links.specs.Links.{Exactly}
+use Rattle.shb_replay.specs.declared.rules.Rules.{Rules}
 use Rattle.shb_replay.specs.declared.walked.Walked.{Walked}
 use Rattle.shb_replay.specs.declared.broken.Why.{Why}
 use Rattle.shb_replay.specs.declared.broken.Broken.{Broken}
 use Rattle.shb_replay.specs.Reasons.{number_of, StandsEarlier, IsLatestWrite, IsBroken, IsUnbroken}
 
--- for each of the first n events that acquires a lock, the latest earlier release of the lock
-pub record HasHandovers (trace : List Event) (n : ℕ) (handovers : List (Option ℕ)) : Type 0 where
-  pub as_long : length handovers ≡ n
-  pub each : (e l : ℕ) → e < n → op_at trace e ≡ Some (Acquire l) → Latest (ReleasesLock trace l) e (slice_index_or handovers e None)
+-- the predecessors of the first n events
+pub record HasPreds (trace : List Event) (n : ℕ) (preds : List (Option ℕ)) : Type 0 where
+  pub as_long : length preds ≡ n
+  pub each : (e : ℕ) → e < n → Exactly (λ p. IsPred trace p e) (slice_index_or preds e None)
 
--- the handovers of all events
-abbrev pub AreRules : List Event → List (Option ℕ) → Type 0
-AreRules trace handovers = HasHandovers trace (length trace) handovers
+-- where e acquires a lock, the latest earlier release of the lock; where it reads a variable, the latest earlier write of the variable
+pub record IsOrigin (trace : List Event) (e : ℕ) (origin : Option ℕ) : Type 0 where
+  pub releases : (l : ℕ) → op_at trace e ≡ Some (Acquire l) → Latest (ReleasesLock trace l) e origin
+  pub writes : (x : ℕ) → op_at trace e ≡ Some (Read x) → Latest (WritesVariable trace x) e origin
+
+-- those of the first n events
+pub record HasOrigins (trace : List Event) (n : ℕ) (origins : List (Option ℕ)) : Type 0 where
+  pub as_long : length origins ≡ n
+  pub each : (e : ℕ) → e < n → IsOrigin trace e (slice_index_or origins e None)
+
+-- what must stand before each event
+pub record AreRules (rules : Rules) : Type 0 where
+  pub preds : HasPreds rules.linked.events.now (length rules.linked.events.now) rules.preds.items
+  pub origins : HasOrigins rules.linked.events.now (length rules.linked.events.now) rules.origins.items
 
 -- the flag tells whether the fact holds
 abbrev pub Tells : Bool → Type 0 → Type 0

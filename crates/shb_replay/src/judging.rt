@@ -21,7 +21,7 @@ use std::marker::Model;
 fn walk(walked: &mut Walked, rules: &Rules<'_>, list: &[u32], pair: Pair) -> Option<Broken>
     requires first { pair.first < length rules.now.linked.events.now }
     requires second { pair.second < length rules.now.linked.events.now }
-    requires rules { AreRules rules.now.linked.events.now rules.now.handovers.items }
+    requires rules { AreRules rules.now }
     requires blank { IsBlank rules.now.linked.events.now rules.now.linked.sizes walked.old }
     ensures answer { IsAnswer rules.now.linked.events.now list.now pair.first pair.second result }
     ensures walked { IsWalked rules.now.linked.events.now rules.now.linked.sizes list.now
@@ -35,10 +35,10 @@ fn walk(walked: &mut Walked, rules: &Rules<'_>, list: &[u32], pair: Pair) -> Opt
     }
     let at = list.len();
     let why = Why::NotNext;
-    if !walked.is_next(&rules.linked, list, pair.first) {
+    if !walked.is_next(rules, list, pair.first) {
         return Some(Broken { at, why });
     }
-    if !walked.is_next(&rules.linked, list, pair.second) {
+    if !walked.is_next(rules, list, pair.second) {
         return Some(Broken { at, why });
     }
     None
@@ -76,7 +76,7 @@ impl<'a> Model for Judge<'a> {
 
     ghost view = { λ j. j.rules.linked.events.now };
 
-    ghost invariant = { λ j. AreRules j.rules.linked.events.now j.rules.handovers.items
+    ghost invariant = { λ j. AreRules j.rules
         × IsBlank j.rules.linked.events.now j.rules.linked.sizes j.walked };
 }
 

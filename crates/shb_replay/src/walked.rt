@@ -7,10 +7,10 @@ ghost use Rattle.shb_replay.specs.Walks.{AreFlags, AreRules, IsBlank, IsLeft, Is
 ghost use Rattle.shb_lines.specs.Lowest.{IsLowest};
 
 use crate::broken::Why;
-use crate::rules::{Rules, no_positions};
+use crate::rules::Rules;
 use shb_io::NoMemory;
 use shb_lines::Op;
-use shb_links::Linked;
+use shb_links::{Linked, empty_table};
 use std::alloc::Global;
 
 /// What stands at the indices of a list that were walked.
@@ -39,7 +39,7 @@ impl Walked {
         Ok(Walked {
             stands: unset_flags(alloc, linked.events.len())?,
             joined: unset_flags(alloc, linked.sizes.threads as usize)?,
-            writes: no_positions(alloc, linked.sizes.variables)?,
+            writes: empty_table(alloc, linked.sizes.variables)?,
         })
     }
 
@@ -57,22 +57,23 @@ impl Walked {
 
     /// The reason of thread order that the event at an index has, if it has one: its predecessor
     /// doesn't stand.
-    fn order_reason(&self, linked: &Linked<'_>, list: &[u32], at: usize) -> Option<Why>
+    fn order_reason(&self, rules: &Rules<'_>, list: &[u32], at: usize) -> Option<Why>
         requires at { at < length list.now }
         requires in_trace { (e : ℕ) → slice_get list.now at ≡ Some e
-            → e < length linked.now.events.now }
-        requires walked { IsWalked linked.now.events.now linked.now.sizes list.now at self.now }
+            → e < length rules.now.linked.events.now }
+        requires rules { AreRules rules.now }
+        requires walked { IsWalked rules.now.linked.events.now rules.now.linked.sizes list.now at self.now }
         ensures { (e : ℕ) → slice_get list.now at ≡ Some e
-            → IsLowestIn 3 4 (HasReason linked.now.events.now list.now at e) result }
+            → IsLowestIn 3 4 (HasReason rules.now.linked.events.now list.now at e) result }
     {
         let e = list[at];
-        let Some(p) = linked.links.pred(e) else {
+        let Some(p) = rules.pred(e) else {
             return None;
         };
         if self.stands[p as usize] {
             return None;
         }
-        if linked.events.thread(p) == linked.events.thread(e) {
+        if rules.linked.events.thread(p) == rules.linked.events.thread(e) {
             Some(Why::ThreadOrder)
         } else {
             Some(Why::ForkMissing)
@@ -84,7 +85,7 @@ impl Walked {
         requires at { at < length list.now }
         requires in_trace { (e : ℕ) → slice_get list.now at ≡ Some e
             → e < length rules.now.linked.events.now }
-        requires rules { AreRules rules.now.linked.events.now rules.now.handovers.items }
+        requires rules { AreRules rules.now }
         requires walked { IsWalked rules.now.linked.events.now rules.now.linked.sizes list.now at self.now }
         requires unbroken { IsUnbroken rules.now.linked.events.now list.now at }
         ensures { (e : ℕ) → slice_get list.now at ≡ Some e
@@ -107,14 +108,14 @@ impl Walked {
                 }
             }
             Op::Acquire(_) => {
-                if self.lacks(rules.handovers[e as usize]) {
+                if self.lacks(rules.origin(e)) {
                     Some(Why::LockOrder)
                 } else {
                     None
                 }
             }
             Op::Read(variable) => {
-                if self.writes[variable as usize] == rules.linked.links.last_write(e) {
+                if self.writes[variable as usize] == rules.origin(e) {
                     None
                 } else {
                     Some(Why::LastWrite)
@@ -127,7 +128,7 @@ impl Walked {
     /// The reason of lowest number that the event at an index has, if it has one.
     pub(crate) fn reason(&self, rules: &Rules<'_>, list: &[u32], at: usize) -> Option<Why>
         requires at { at < length list.now }
-        requires rules { AreRules rules.now.linked.events.now rules.now.handovers.items }
+        requires rules { AreRules rules.now }
         requires walked { IsWalked rules.now.linked.events.now rules.now.linked.sizes list.now at self.now }
         requires unbroken { IsUnbroken rules.now.linked.events.now list.now at }
         ensures { (e : ℕ) → slice_get list.now at ≡ Some e
@@ -140,7 +141,7 @@ impl Walked {
         if self.stands[e] {
             return Some(Why::Repeated);
         }
-        match self.order_reason(&rules.linked, list, at) {
+        match self.order_reason(rules, list, at) {
             Some(why) => Some(why),
             None => self.operation_reason(rules, list, at),
         }
@@ -193,16 +194,17 @@ impl Walked {
     }
 
     /// Whether an event is next after the list that was walked.
-    pub(crate) fn is_next(&self, linked: &Linked<'_>, list: &[u32], e: u32) -> bool
-        requires in_trace { e < length linked.now.events.now }
-        requires walked { IsWalked linked.now.events.now linked.now.sizes list.now (length list.now)
+    pub(crate) fn is_next(&self, rules: &Rules<'_>, list: &[u32], e: u32) -> bool
+        requires in_trace { e < length rules.now.linked.events.now }
+        requires rules { AreRules rules.now }
+        requires walked { IsWalked rules.now.linked.events.now rules.now.linked.sizes list.now (length list.now)
             self.now }
-        requires unbroken { IsUnbroken linked.now.events.now list.now (length list.now) }
-        ensures { Tells result (IsNext linked.now.events.now list.now e) }
+        requires unbroken { IsUnbroken rules.now.linked.events.now list.now (length list.now) }
+        ensures { Tells result (IsNext rules.now.linked.events.now list.now e) }
     {
         if self.stands[e as usize] {
             return false;
         }
-        !self.lacks(linked.links.pred(e))
+        !self.lacks(rules.pred(e))
     }
 }

@@ -8,14 +8,14 @@ ghost use Rattle.shb_run.specs.Written.{ReportsTrace};
 ghost use Rattle.shb_witness.specs.Schedules.{AsksEach};
 ghost use Rattle.shb_write.specs.Written.{CutsBlocksOn, CutsReportOn, OnFailedSink, OnNoMemory, write_failed};
 
-use crate::pipeline::{links_for, summary_of};
+use crate::pipeline::summary_of;
 use crate::settings::{Settings, Summary};
 use shb_clocks::{Order, Ordered};
 use shb_discipline::Disciplined;
 use shb_fan::Gate;
 use shb_io::Sink;
 use shb_lines::Pair;
-use shb_links::Linked;
+use shb_links::{Linked, links_of};
 use shb_pairs::open_variables;
 use shb_places::leading_races;
 use shb_report::Places;
@@ -94,7 +94,7 @@ pub(crate) fn report_leading<R: Threads + Wait + Sync + RandomSource, K: Sink, W
         (K.taken sink.old) (K.taken sink.new)) }
     ensures counted { CountsFailure write_failed (K.failure_count sink.old) (K.failure_count sink.new) result }
 {
-    let links = links_for(alloc, &*trace, settings.schedules)?;
+    let links = links_of(alloc, &*trace)?;
     let flags = open_variables(alloc, &*trace, &links)?;
     let races = leading_races(rt, alloc, &*trace, &links, &flags)?;
     if settings.schedules {

@@ -16,9 +16,9 @@ use shb_check::{RunError, judge};
 use shb_clocks::{Ordered, by_event};
 use shb_discipline::Disciplined;
 use shb_fan::{FreeGate, Gate};
-use shb_io::{NoMemory, Sink, Source};
+use shb_io::{Sink, Source};
 use shb_lines::{Limits, Trace, parse};
-use shb_links::{Linked, Links, links_of, links_without_tables};
+use shb_links::{Linked, links_of};
 use shb_pairs::open_variables;
 use shb_write::WriteError;
 use std::alloc::Global;
@@ -37,21 +37,6 @@ pub(crate) fn summary_of(trace: &Trace, races: u64) -> Summary
         locks: u64::from(trace.locks()),
         variables: u64::from(trace.variables()),
         races,
-    }
-}
-
-/// The links that a report needs: one without schedules asks for no predecessors and no last writes.
-pub(crate) fn links_for<'a>(
-    alloc: Global,
-    trace: &'a Disciplined<'a>,
-    schedules: bool,
-) -> Result<Links<'a>, NoMemory>
-    ensures { IfOk result (λ links. links ≡ trace.now.events.now) }
-{
-    if schedules {
-        links_of(alloc, trace)
-    } else {
-        links_without_tables(alloc, trace)
     }
 }
 
@@ -75,7 +60,7 @@ fn report_all<R: Threads + Wait + Sync + RandomSource, K: Sink, P: Gate + Sync, 
         (K.taken sink.old) (K.taken sink.new)) }
     ensures counted { CountsFailure write_failed (K.failure_count sink.old) (K.failure_count sink.new) result }
 {
-    let links = links_for(alloc, &*trace, settings.schedules)?;
+    let links = links_of(alloc, &*trace)?;
     let flags = open_variables(alloc, &*trace, &links)?;
     let order = by_event(alloc, Linked::new(&*trace, &links), &flags)?;
     let ordered = Ordered::new(&order, &*trace, &links);

@@ -4,7 +4,7 @@ ghost use Rattle.std.specs.Prelude.{◌≡◌};
 use shb_discipline::{Disciplined, check};
 use shb_io::{NoMemory, Text};
 use shb_lines::{Limits, Pair, Parsed, ReadError, parse};
-use shb_links::{Links, links_of, links_without_tables};
+use shb_links::{Links, links_of};
 use std::alloc::Global;
 use std::test::Fail;
 
@@ -38,18 +38,6 @@ pub fn asked<Q: Question>(rt: &HostRuntime, text: &[u8], question: &Q) -> Result
     let parsed = parsed(rt, text)?;
     let trace = check(rt.alloc(), &parsed.trace)?;
     let links = links_of(rt.alloc(), &trace)?;
-    question.ask(rt.alloc(), &trace, &links)
-}
-
-/// The answer by links that search for what they keep no tables of.
-pub fn asked_by_search<Q: Question>(
-    rt: &HostRuntime,
-    text: &[u8],
-    question: &Q,
-) -> Result<Q::Answer, Fail> {
-    let parsed = parsed(rt, text)?;
-    let trace = check(rt.alloc(), &parsed.trace)?;
-    let links = links_without_tables(rt.alloc(), &trace)?;
     question.ask(rt.alloc(), &trace, &links)
 }
 

@@ -2,7 +2,7 @@
 ghost use Rattle.std.specs.Prelude.{◌≡◌, ◌<◌, length};
 
 use crate::asserting::same;
-use crate::fixtures::{Question, asked, asked_by_search};
+use crate::fixtures::{Question, asked};
 use shb_discipline::Disciplined;
 use shb_lines::Op;
 use shb_links::Links;
@@ -191,7 +191,5 @@ fn a_made_trace(rt: HostRuntime) -> Result<(), Fail> {
     let wanted = (0, 0, 200);
     let found = asked(&rt, text.as_slice(), &WrongLinks)?;
     same(&rt, &found, &wanted, "wrong events and threads, events");
-    let searched = asked_by_search(&rt, text.as_slice(), &WrongLinks)?;
-    same(&rt, &searched, &wanted, "the same by search");
     Ok(())
 }

@@ -1,7 +1,7 @@
 use Rattle.shb_lines.specs.declared.event.Op.TheVariants.{Release}
 use Rattle.std.proofs.Common.{◌<◌, arith}
 use Rattle.shb_lines.proofs.events.Items.{op_known, op_within_at}
-use Rattle.shb_replay.proofs.Handovers.{release_noted, no_release_noted}
+use Rattle.shb_replay.proofs.Origins.{release_noted, no_release_noted}
 use Rattle.shb_replay.proofs.rules.note_release.Goals as goal
 
 pub index_mut-requires : goal.index_mut-requires

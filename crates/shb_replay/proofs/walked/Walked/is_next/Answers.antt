@@ -1,15 +1,12 @@
-use Rattle.std.proofs.Common.{List, length, arith, subst}
+use Rattle.std.proofs.Common.{length, arith}
 use Rattle.std.proofs.lemmas.Option.{slice_get_read}
-use Rattle.shb_lines.specs.declared.event.Event.{Event}
-use Rattle.shb_lines.specs.events.Order.{IsPred}
-use Rattle.shb_links.specs.Links.{Exactly}
 use Rattle.shb_replay.specs.Reasons.{StandsEarlier}
 use Rattle.shb_replay.proofs.OrderReasons.{flag_false, flag_true, next_tells, preds_in_trace, standing_not_next}
 use Rattle.shb_replay.proofs.walked.Walked.is_next.Goals as goal
 
 pub returns-then-index : goal.returns-then-index
 returns-then-index c =
-    let trace = c.args.linked.now in
+    let trace = c.args.rules.now.linked in
     let stands = c.args.self.now.stands in
     let long = c.requires.walked.stands.as_long in
     let lt = c.requires.in_trace in
@@ -19,13 +16,13 @@ returns-then-index c =
 pub lacks-requires : goal.lacks-requires
 lacks-requires c =
     let long = c.requires.walked.stands.as_long in
-    preds_in_trace c.args.linked.now.events.now c.args.linked.now.links.now c.args.e c.pred.result c.args.self.now.stands.len c.args.linked.now.of_links c.pred.ensures (let len = c.args.self.now.stands.ok.0 in omega (arith, long, len))
+    preds_in_trace c.args.rules.now.linked.events.now c.args.e c.pred.result c.args.self.now.stands.len c.pred.ensures (let len = c.args.self.now.stands.ok.0 in omega (arith, long, len))
 
 pub returns : goal.returns
 returns c =
-    let trace = c.args.linked.now in
+    let trace = c.args.rules.now.linked in
     let stands = c.args.self.now.stands in
     let long = c.requires.walked.stands.as_long in
     let lt = c.requires.in_trace in
     let flag = slice_get_read stands.items stands.len c.args.e c.index.result.now stands.ok.0 (let len = stands.ok.0 in omega (arith, lt, long, len)) c.index.ensures in
-    next_tells trace.events.now trace.meets c.args.list.now c.requires.unbroken c.args.e c.pred.result c.lacks.result (subst (λ (tr : List Event). Exactly (λ a. IsPred tr a c.args.e) c.pred.result) c.args.linked.now.of_links c.pred.ensures) (flag_false (StandsEarlier c.args.list.now (length c.args.list.now)) (length trace.events.now) c.args.e stands.items c.index.result.now c.requires.walked.stands flag c.if-index.false) (c.lacks.ensures c.args.list.now (length c.args.list.now) (length trace.events.now) c.requires.walked.stands)
+    next_tells trace.events.now trace.meets c.args.list.now c.requires.unbroken c.args.e c.pred.result c.lacks.result c.pred.ensures (flag_false (StandsEarlier c.args.list.now (length c.args.list.now)) (length trace.events.now) c.args.e stands.items c.index.result.now c.requires.walked.stands flag c.if-index.false) (c.lacks.ensures c.args.list.now (length c.args.list.now) (length trace.events.now) c.requires.walked.stands)

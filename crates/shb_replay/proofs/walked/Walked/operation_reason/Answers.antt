@@ -2,15 +2,14 @@ use Rattle.std.proofs.Common.{◌<◌, List, Some, None, length, arith, slice_in
 use Rattle.std.proofs.lemmas.Option.{slice_get-get_or, slice_get_read}
 use Rattle.shb_lines.specs.declared.event.Event.{Event}
 use Rattle.shb_lines.specs.declared.event.Op.TheVariants.{Read, Fork}
-use Rattle.shb_lines.specs.events.Order.{LastWrite}
 use Rattle.shb_lines.proofs.events.Items.{op_within_at}
 use Rattle.shb_links.specs.Latest.{Latest, OfThread}
-use Rattle.shb_links.specs.Links.{Exactly}
+use Rattle.shb_links.proofs.Steps.{write_link}
 use Rattle.shb_replay.specs.Reasons.{HasReason}
 use Rattle.shb_replay.specs.Walks.{IsLowestIn, JoinStands, TellsLack}
 use Rattle.shb_replay.specs.declared.broken.Why.TheVariants as whys
 use Rattle.shb_replay.proofs.OrderReasons.{at_index, flag_false, flag_true}
-use Rattle.shb_replay.proofs.OperationReasons.{fork_no_reason, fork_reason, handover_in_trace, handover_is, join_no_reason, join_reason, lock_no_reason, lock_reason, options_differ, options_same, other_operation, read_no_reason, read_reason, write_is}
+use Rattle.shb_replay.proofs.OperationReasons.{fork_no_reason, fork_reason, handover_in_trace, join_no_reason, join_reason, lock_no_reason, lock_reason, options_differ, options_same, other_operation, read_no_reason, read_reason, write_is}
 use Rattle.shb_replay.proofs.walked.Walked.operation_reason.Goals as goal
 
 pub index-requires : goal.index-requires
@@ -18,11 +17,6 @@ index-requires c =
     let trace = c.args.rules.now.linked in
     let low : c.in-Fork.thread < trace.sizes.threads = op_within_at trace.events.now trace.sizes _ (Fork c.in-Fork.thread) trace.within (c.op.ensures ∙ ap (λ o. Some o) c.in-Fork.is) in
     omega (arith, low, c.requires.walked.joined.as_long, c.args.self.now.joined.ok.0)
-
-pub index-requires-in-Acquire : goal.index-requires-in-Acquire
-index-requires-in-Acquire c =
-    let lt = c.requires.in_trace _ (slice_get-get_or c.args.list.now c.args.at 0 c.requires.at) in
-    omega (arith, lt, c.requires.rules.as_long, c.args.rules.now.handovers.ok.0)
 
 pub lacks-requires-in-Acquire : goal.lacks-requires-in-Acquire
 lacks-requires-in-Acquire c =
@@ -32,7 +26,7 @@ lacks-requires-in-Acquire c =
     let takes = c.op.ensures ∙ ap (λ o. Some o) c.in-Acquire.is in
     let long = c.requires.walked.stands.as_long in
     let len = c.args.self.now.stands.ok.0 in
-    handover_in_trace trace.events.now c.in-Acquire.field-0 x c.args.self.now.stands.len c.index-in-Acquire.result.now (handover_is trace.events.now (length trace.events.now) x c.in-Acquire.field-0 c.args.rules.now.handovers.items c.index-in-Acquire.result.now c.requires.rules lt takes c.index-in-Acquire.ensures) (omega (arith, lt, long, len))
+    handover_in_trace trace.events.now c.in-Acquire.field-0 x c.args.self.now.stands.len c.origin.result (c.origin.ensures.releases c.in-Acquire.field-0 takes) (omega (arith, lt, long, len))
 
 pub index-requires-in-Read : goal.index-requires-in-Read
 index-requires-in-Read c =
@@ -42,12 +36,6 @@ index-requires-in-Read c =
     let long = c.requires.walked.writes.as_long in
     let len = c.args.self.now.writes.ok.0 in
     omega (arith, low, long, len)
-
-pub last_write-requires : goal.last_write-requires
-last_write-requires c =
-    let lt = c.requires.in_trace _ (slice_get-get_or c.args.list.now c.args.at 0 c.requires.at) in
-    let size = ap (λ (tr : List Event). length tr) c.args.rules.now.linked.of_links in
-    omega (arith, lt, size)
 
 pub returns-then-lacks : goal.returns-then-lacks
 returns-then-lacks c =
@@ -111,9 +99,9 @@ returns-then-lacks-2 c =
     let x = slice_index_or s p 0 in
     let lt = c.requires.in_trace _ (slice_get-get_or s p 0 c.requires.at) in
     let takes = c.op.ensures ∙ ap (λ o. Some o) c.in-Acquire.is in
-    let latest = handover_is trace.events.now (length trace.events.now) x c.in-Acquire.field-0 c.args.rules.now.handovers.items c.index-in-Acquire.result.now c.requires.rules lt takes c.index-in-Acquire.ensures in
-    let lacks = subst (λ (b : Bool). TellsLack s p c.index-in-Acquire.result.now b) c.if-lacks-2.true (c.lacks-in-Acquire.ensures s p (length trace.events.now) c.requires.walked.stands) in
-    at_index (λ e. IsLowestIn 5 8 (HasReason trace.events.now s p e) (Some whys.LockOrder)) s p (lock_reason trace.events.now trace.meets s p c.requires.unbroken x c.in-Acquire.field-0 c.index-in-Acquire.result.now takes latest lacks)
+    let latest = c.origin.ensures.releases c.in-Acquire.field-0 takes in
+    let lacks = subst (λ (b : Bool). TellsLack s p c.origin.result b) c.if-lacks-2.true (c.lacks-in-Acquire.ensures s p (length trace.events.now) c.requires.walked.stands) in
+    at_index (λ e. IsLowestIn 5 8 (HasReason trace.events.now s p e) (Some whys.LockOrder)) s p (lock_reason trace.events.now trace.meets s p c.requires.unbroken x c.in-Acquire.field-0 c.origin.result takes latest lacks)
 
 pub returns-else-lacks-2 : goal.returns-else-lacks-2
 returns-else-lacks-2 c =
@@ -123,9 +111,9 @@ returns-else-lacks-2 c =
     let x = slice_index_or s p 0 in
     let lt = c.requires.in_trace _ (slice_get-get_or s p 0 c.requires.at) in
     let takes = c.op.ensures ∙ ap (λ o. Some o) c.in-Acquire.is in
-    let latest = handover_is trace.events.now (length trace.events.now) x c.in-Acquire.field-0 c.args.rules.now.handovers.items c.index-in-Acquire.result.now c.requires.rules lt takes c.index-in-Acquire.ensures in
-    let all = subst (λ (b : Bool). TellsLack s p c.index-in-Acquire.result.now b) c.if-lacks-2.false (c.lacks-in-Acquire.ensures s p (length trace.events.now) c.requires.walked.stands) in
-    at_index (λ e. IsLowestIn 5 8 (HasReason trace.events.now s p e) None) s p (lock_no_reason trace.events.now trace.meets s p c.requires.unbroken x c.in-Acquire.field-0 c.index-in-Acquire.result.now takes latest all)
+    let latest = c.origin.ensures.releases c.in-Acquire.field-0 takes in
+    let all = subst (λ (b : Bool). TellsLack s p c.origin.result b) c.if-lacks-2.false (c.lacks-in-Acquire.ensures s p (length trace.events.now) c.requires.walked.stands) in
+    at_index (λ e. IsLowestIn 5 8 (HasReason trace.events.now s p e) None) s p (lock_no_reason trace.events.now trace.meets s p c.requires.unbroken x c.in-Acquire.field-0 c.origin.result takes latest all)
 
 pub returns-then-eq : goal.returns-then-eq
 returns-then-eq c =
@@ -137,8 +125,8 @@ returns-then-eq c =
     let reads = c.op.ensures ∙ ap (λ o. Some o) c.in-Read.is in
     let within : c.in-Read.variable < trace.sizes.variables = op_within_at trace.events.now trace.sizes _ (Read c.in-Read.variable) trace.within (c.op.ensures ∙ ap (λ o. Some o) c.in-Read.is) in
     let latest = write_is trace.events.now s p trace.sizes.variables c.in-Read.variable c.args.self.now.writes.items c.index-in-Read.result.now c.requires.walked.writes within c.index-in-Read.ensures in
-    let last = subst (λ (tr : List Event). Exactly (λ w. LastWrite tr w x) c.last_write.result) c.args.rules.now.linked.of_links c.last_write.ensures in
-    at_index (λ e. IsLowestIn 5 8 (HasReason trace.events.now s p e) None) s p (read_no_reason trace.events.now trace.meets s p c.requires.unbroken x c.in-Read.variable c.index-in-Read.result.now c.last_write.result reads latest last (options_same c.index-in-Read.result.now c.last_write.result c.if-eq.ensures))
+    let last = write_link trace.events.now x c.in-Read.variable reads c.origin-in-Read.result (c.origin-in-Read.ensures.writes c.in-Read.variable reads) in
+    at_index (λ e. IsLowestIn 5 8 (HasReason trace.events.now s p e) None) s p (read_no_reason trace.events.now trace.meets s p c.requires.unbroken x c.in-Read.variable c.index-in-Read.result.now c.origin-in-Read.result reads latest last (options_same c.index-in-Read.result.now c.origin-in-Read.result c.if-eq.ensures))
 
 pub returns-else-eq : goal.returns-else-eq
 returns-else-eq c =
@@ -150,8 +138,8 @@ returns-else-eq c =
     let reads = c.op.ensures ∙ ap (λ o. Some o) c.in-Read.is in
     let within : c.in-Read.variable < trace.sizes.variables = op_within_at trace.events.now trace.sizes _ (Read c.in-Read.variable) trace.within (c.op.ensures ∙ ap (λ o. Some o) c.in-Read.is) in
     let latest = write_is trace.events.now s p trace.sizes.variables c.in-Read.variable c.args.self.now.writes.items c.index-in-Read.result.now c.requires.walked.writes within c.index-in-Read.ensures in
-    let last = subst (λ (tr : List Event). Exactly (λ w. LastWrite tr w x) c.last_write.result) c.args.rules.now.linked.of_links c.last_write.ensures in
-    at_index (λ e. IsLowestIn 5 8 (HasReason trace.events.now s p e) (Some whys.LastWrite)) s p (read_reason trace.events.now trace.meets s p c.requires.unbroken x c.in-Read.variable c.index-in-Read.result.now c.last_write.result reads latest last (options_differ c.index-in-Read.result.now c.last_write.result c.if-eq.ensures))
+    let last = write_link trace.events.now x c.in-Read.variable reads c.origin-in-Read.result (c.origin-in-Read.ensures.writes c.in-Read.variable reads) in
+    at_index (λ e. IsLowestIn 5 8 (HasReason trace.events.now s p e) (Some whys.LastWrite)) s p (read_reason trace.events.now trace.meets s p c.requires.unbroken x c.in-Read.variable c.index-in-Read.result.now c.origin-in-Read.result reads latest last (options_differ c.index-in-Read.result.now c.origin-in-Read.result c.if-eq.ensures))
 
 pub returns-in_default : goal.returns-in_default
 returns-in_default c =

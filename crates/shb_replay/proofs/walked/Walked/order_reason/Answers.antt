@@ -9,16 +9,16 @@ use Rattle.shb_replay.proofs.walked.Walked.order_reason.Goals as goal
 
 pub returns-in_default : goal.returns-in_default
 returns-in_default c =
-    let trace = c.args.linked.now in
+    let trace = c.args.rules.now.linked in
     let x = slice_index_or c.args.list.now c.args.at 0 in
     at_index (λ e. IsLowestIn 3 4 (HasReason trace.events.now c.args.list.now c.args.at e) None) c.args.list.now c.args.at
-    (order_none trace.events.now trace.meets c.args.list.now c.args.at x (λ a pred. absurd (link_none (λ events b. IsPred events b x) trace.events.now c.args.linked.now.links.now c.pred.result c.args.linked.now.of_links c.pred.ensures c.in_default.is a pred)))
+    (order_none trace.events.now trace.meets c.args.list.now c.args.at x (λ a pred. absurd (link_none (λ b. IsPred trace.events.now b x) c.pred.result c.pred.ensures c.in_default.is a pred)))
 
 pub index-requires : goal.index-requires
 index-requires c =
-    let trace = c.args.linked.now in
+    let trace = c.args.rules.now.linked in
     let x = slice_index_or c.args.list.now c.args.at 0 in
-    let pred = link_is (λ events b. IsPred events b x) trace.events.now c.args.linked.now.links.now c.pred.result c.in-Some.p c.args.linked.now.of_links c.pred.ensures c.in-Some.is in
+    let pred = link_is (λ b. IsPred trace.events.now b x) c.pred.result c.in-Some.p c.pred.ensures c.in-Some.is in
     let low = pred_in_trace trace.events.now c.in-Some.p x pred in
     let long = c.requires.walked.stands.as_long in
     let len = c.args.self.now.stands.ok.0 in
@@ -26,10 +26,10 @@ index-requires c =
 
 pub returns-then-index : goal.returns-then-index
 returns-then-index c =
-    let trace = c.args.linked.now in
+    let trace = c.args.rules.now.linked in
     let stands = c.args.self.now.stands in
     let x = slice_index_or c.args.list.now c.args.at 0 in
-    let pred = link_is (λ events b. IsPred events b x) trace.events.now c.args.linked.now.links.now c.pred.result c.in-Some.p c.args.linked.now.of_links c.pred.ensures c.in-Some.is in
+    let pred = link_is (λ b. IsPred trace.events.now b x) c.pred.result c.in-Some.p c.pred.ensures c.in-Some.is in
     let low = pred_in_trace trace.events.now c.in-Some.p x pred in
     let long = c.requires.walked.stands.as_long in
     let flag = slice_get_read stands.items stands.len c.in-Some.p c.index.result.now stands.ok.0 (let len = stands.ok.0 in omega (arith, low, long, len)) c.index.ensures in
@@ -39,17 +39,17 @@ returns-then-index c =
 pub thread-requires : goal.thread-requires
 thread-requires c =
     let x = slice_index_or c.args.list.now c.args.at 0 in
-    pred_in_trace c.args.linked.now.events.now c.in-Some.p x (link_is (λ events b. IsPred events b x) c.args.linked.now.events.now c.args.linked.now.links.now c.pred.result c.in-Some.p c.args.linked.now.of_links c.pred.ensures c.in-Some.is)
+    pred_in_trace c.args.rules.now.linked.events.now c.in-Some.p x (link_is (λ b. IsPred c.args.rules.now.linked.events.now b x) c.pred.result c.in-Some.p c.pred.ensures c.in-Some.is)
 
 pub thread-requires-2 : goal.thread-requires-2
 thread-requires-2 c = c.requires.in_trace _ (slice_get-get_or c.args.list.now c.args.at 0 c.requires.at)
 
 pub returns-then-thread : goal.returns-then-thread
 returns-then-thread c =
-    let trace = c.args.linked.now in
+    let trace = c.args.rules.now.linked in
     let stands = c.args.self.now.stands in
     let x = slice_index_or c.args.list.now c.args.at 0 in
-    let pred = link_is (λ events b. IsPred events b x) trace.events.now c.args.linked.now.links.now c.pred.result c.in-Some.p c.args.linked.now.of_links c.pred.ensures c.in-Some.is in
+    let pred = link_is (λ b. IsPred trace.events.now b x) c.pred.result c.in-Some.p c.pred.ensures c.in-Some.is in
     let low = pred_in_trace trace.events.now c.in-Some.p x pred in
     let long = c.requires.walked.stands.as_long in
     let flag = slice_get_read stands.items stands.len c.in-Some.p c.index.result.now stands.ok.0 (let len = stands.ok.0 in omega (arith, low, long, len)) c.index.ensures in
@@ -58,10 +58,10 @@ returns-then-thread c =
 
 pub returns-else-thread : goal.returns-else-thread
 returns-else-thread c =
-    let trace = c.args.linked.now in
+    let trace = c.args.rules.now.linked in
     let stands = c.args.self.now.stands in
     let x = slice_index_or c.args.list.now c.args.at 0 in
-    let pred = link_is (λ events b. IsPred events b x) trace.events.now c.args.linked.now.links.now c.pred.result c.in-Some.p c.args.linked.now.of_links c.pred.ensures c.in-Some.is in
+    let pred = link_is (λ b. IsPred trace.events.now b x) c.pred.result c.in-Some.p c.pred.ensures c.in-Some.is in
     let low = pred_in_trace trace.events.now c.in-Some.p x pred in
     let long = c.requires.walked.stands.as_long in
     let flag = slice_get_read stands.items stands.len c.in-Some.p c.index.result.now stands.ok.0 (let len = stands.ok.0 in omega (arith, low, long, len)) c.index.ensures in

@@ -1,5 +1,0 @@
-use Rattle.shb_links.specs.Pass.{AreLocalTimes}
-use Rattle.shb_links.proofs.links.links_without_tables.Given as goal
-
-abbrev pub invariant-loop-e : goal.invariant-loop-e
-invariant-loop-e l = AreLocalTimes l.trace.events.now l.e l.trace.sizes l.found

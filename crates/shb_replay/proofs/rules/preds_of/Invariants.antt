@@ -1,0 +1,9 @@
+use Rattle.shb_links.specs.Latest.{IsLatestTable, OfThread}
+use Rattle.shb_replay.specs.Walks.{HasPreds}
+use Rattle.shb_replay.proofs.rules.preds_of.Given as goal
+
+abbrev pub invariant-loop-e : goal.invariant-loop-e
+invariant-loop-e l = record {
+  last : IsLatestTable (OfThread l.linked.events.now) l.e l.linked.sizes.threads l.last.items;
+  preds : HasPreds l.linked.events.now l.e l.preds.items;
+}
