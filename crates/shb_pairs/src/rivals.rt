@@ -23,9 +23,6 @@ use shb_lines::Events;
 use shb_links::Links;
 use std::alloc::Global;
 
-/// So many of a thread's accesses are looked at one by one before the others are halved.
-const NEAR: usize = 8;
-
 /// What a search found of one thread's accesses: where they end among the positions by thread, how many of
 /// them stand before the later access, and where among them those start that race with it. The search for
 /// the next access tries these first. They say where to look, and not what is there: nothing is known of
@@ -181,25 +178,6 @@ fn halved_start(links: &Links<'_>, positions: &[u32], end: usize, below: u32) ->
     start
 }
 
-/// The same, where the newest are looked at one by one first: mostly few race.
-fn tail_start(links: &Links<'_>, positions: &[u32], end: usize, below: u32) -> usize
-    requires one_thread { IsOfOneThread links.now positions.now }
-    requires within { end ≤ length positions.now }
-    ensures start { result ≤ end }
-    ensures above { (t k : ℕ) → result ≤ k → k < end → thread_at links.now (slice_index_or positions.now k 0) ≡ Some t
-        → below < local_time links.now t (slice_index_or positions.now k 0) }
-    ensures under { (t k : ℕ) → k + 1 ≡ result → thread_at links.now (slice_index_or positions.now k 0) ≡ Some t
-        → local_time links.now t (slice_index_or positions.now k 0) ≤ below }
-{
-    let near = end.saturating_sub(NEAR);
-    for k in (near..end).rev() {
-        if links.local(positions[k]) <= below {
-            return k + 1;
-        }
-    }
-    halved_start(links, positions, near, below)
-}
-
 /// Whether the position before an index, if there is one, is among the first `below` events of its thread.
 fn is_under_before(links: &Links<'_>, positions: &[u32], index: usize, below: u32) -> bool
     requires in_range { All (λ k. k < length links.now) positions.now }
@@ -210,7 +188,8 @@ fn is_under_before(links: &Links<'_>, positions: &[u32], index: usize, below: u3
     index == 0 || links.local(positions[index - 1]) <= below
 }
 
-/// The same, where it is tried first whether there are any, and then whether they start at a guess.
+/// The same as by halving, where it is tried first whether there are any, and then whether they start at a
+/// guess.
 fn guessed_start(
     links: &Links<'_>,
     positions: &[u32],
@@ -234,7 +213,7 @@ fn guessed_start(
             return guess;
         }
     }
-    tail_start(links, positions, end, below)
+    halved_start(links, positions, end, below)
 }
 
 /// Adds a range, unless it is empty.
