@@ -1,6 +1,8 @@
 -- The races of the pieces of a search, one piece more.
-use Rattle.std.proofs.Common.{◌≡◌, ℕ, zero, suc, ◌+◌, ◌<◌, inl, inr, List, [], ◌∷◌, ◌++◌, length, map, All, ap, subst, ◌∙◌, arith, append-nil}
+use Rattle.std.proofs.Common.{◌≡◌, ℕ, zero, suc, ◌+◌, ◌<◌, ◌≤◌, inl, inr, List, [], ◌∷◌, ◌++◌, length, map, All, ap, subst, sym, ◌∙◌, arith, append-nil, take}
+use Rattle.std.specs.Prelude.{flat_map}
 use Rattle.std.proofs.lemmas.Bool.{cases_lt}
+use Rattle.std.proofs.lemmas.List.{length-append}
 use Rattle.std.proofs.lemmas.List.Concat.{flat_map-append}
 use Rattle.std.proofs.lemmas.List.Elements.{All-nil}
 use Rattle.shb_fan.specs.Values.{values_of}
@@ -42,3 +44,27 @@ pub pairs_of_trace : (trace : TraceData) (pairs : List Pair) → All (λ race. (
 pairs_of_trace trace [] h k d lt = All-nil (IsPairOf trace) k d lt
 pairs_of_trace trace (pair ∷ pairs) h zero d lt = let both = h 0 (ends d) (omega arith) in record { first = both.0; second = both.1 }
 pairs_of_trace trace (pair ∷ pairs) h (suc k) d lt = pairs_of_trace trace pairs (λ j e l. h (suc j) e (omega arith)) k d (omega arith)
+
+-- the races of a piece and those before it are no more than all
+pub piece_room : {A : Type 0} (f : ℕ → List A) (n k : ℕ) → k < n → length (joined (values_of f k)) + length (f k) ≤ length (joined (values_of f n))
+piece_room f zero k lt = absurd (omega arith)
+piece_room {A} f (suc n) k lt =
+    let next = ap length (joined_suc f n) in
+    let size = length-append (joined (values_of f n)) (f n) in
+    elim (cases_lt k n) [
+      | inl less ↦ (let rest = piece_room f n k less in omega (arith, rest, next, size))
+      | inr past ↦ (
+        let e : n ≡ k = omega (arith, lt, past) in
+        subst (λ (m : ℕ). length (joined (values_of f m)) + length (f m) ≤ length (joined (values_of f (suc n)))) e (omega (arith, next, size)))
+    ]
+
+-- the values of the first elements are no more than those of more of them
+pub flat_front : {A B : Type 0} (f : A → List B) (xs : List A) (k n : ℕ) → k ≤ n → length (flat_map f (take k xs)) ≤ length (flat_map f (take n xs))
+flat_front f xs zero n le = omega arith
+flat_front f [] (suc k) n le = omega arith
+flat_front f (x ∷ xs) (suc k) zero le = absurd (omega arith)
+flat_front f (x ∷ xs) (suc k) (suc n) le =
+    let fewer = length-append (f x) (flat_map f (take k xs)) in
+    let more = length-append (f x) (flat_map f (take n xs)) in
+    let rest = flat_front f xs k n (omega arith) in
+    omega (arith, fewer, more, rest)

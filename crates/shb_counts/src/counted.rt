@@ -1,6 +1,6 @@
 //! The number of all races of a search, and their places.
 
-ghost use Rattle.std.specs.Prelude.{◌≡◌, ◌++◌, ◌<◌, ◌≤◌, ℕ, List, All, IfOk, IfSome, OnOk, [], length, map, slice_index_or};
+ghost use Rattle.std.specs.Prelude.{◌≡◌, ◌++◌, ◌+◌, ◌<◌, ◌≤◌, ◌^◌, ℕ, List, All, IfOk, IfSome, OnOk, [], length, map, slice_index_or};
 ghost use Rattle.std.specs.Bool.{IsTrue};
 ghost use Rattle.shb_fan.specs.Values.{values_of};
 ghost use Rattle.shb_pairs.specs.Pieces.{pieces_in};
@@ -87,6 +87,7 @@ fn count_few<'t>(
     races: &RaceRanges<'_>,
 ) -> Result<(), NoMemory>
     requires races { All (λ race. (race.0 < length trace.now.events) × (race.1 < length trace.now.events)) (joined races.now) }
+    requires room { counter.old.races + length (joined races.now) < 2 ^ 64 }
     requires counted { (before : List (ℕ × ℕ)) × HasCounted trace.now before counter.old }
     ensures { OnOk result ((before : List (ℕ × ℕ)) → HasCounted trace.now before counter.old
         → HasCounted trace.now (before ++ joined races.now) counter.new) }
@@ -108,6 +109,7 @@ fn count_many<'a, 't, O: Order>(
     requires within { length job.now.trace ≤ length located.now.trace.now.events }
     requires known { IfSome known (λ many. AreTables job.now.trace located.now.numbers.now.numbers.items
         (length located.now.numbers.now.events.items) many.tables.variable many.tables) }
+    requires room { counter.old.races + length (races_at job.now k) < 2 ^ 64 }
     requires counted { (before : List (ℕ × ℕ)) × HasCounted located.now.trace.now before counter.old }
     ensures tables { IfOk result (λ many. AreTables job.now.trace located.now.numbers.now.numbers.items
         (length located.now.numbers.now.events.items) many.tables.variable many.tables) }
@@ -139,6 +141,7 @@ fn count_piece<'a, 't, O: Order>(
     requires races { All (λ race. (race.0 < length located.now.trace.now.events) × (race.1 < length located.now.trace.now.events)) (races_at job.now k) }
     requires known { IfSome known (λ many. AreTables job.now.trace located.now.numbers.now.numbers.items
         (length located.now.numbers.now.events.items) many.tables.variable many.tables) }
+    requires room { counter.old.races + length (races_at job.now k) < 2 ^ 64 }
     requires counted { (before : List (ℕ × ℕ)) × HasCounted located.now.trace.now before counter.old }
     ensures tables { IfOk result (λ known. IfSome known (λ many. AreTables job.now.trace located.now.numbers.now.numbers.items
         (length located.now.numbers.now.events.items) many.tables.variable many.tables)) }
@@ -164,6 +167,7 @@ fn count_pieces<'t, O: Order>(
 ) -> Result<(), NoMemory>
     requires races { All (λ race. (race.0 < length located.now.trace.now.events) × (race.1 < length located.now.trace.now.events))
         (joined (values_of (races_at job.now) (length (pieces_in job.now)))) }
+    requires few { length (joined (values_of (races_at job.now) (length (pieces_in job.now)))) < 2 ^ 64 }
     requires counted { HasCounted located.now.trace.now [] counter.old }
     ensures { OnOk result (HasCounted located.now.trace.now (joined (values_of (races_at job.now) (length (pieces_in job.now)))) counter.new) }
 {
@@ -207,6 +211,7 @@ pub fn counted_races<R: RandomSource, O: Order>(
         places: PlaceTable::new(rt, alloc)?,
         races: 0,
     };
+    job.has_few_races();
     count_pieces(alloc, &mut counter, &located, job)?;
     let places = counter.places.to_places(alloc)?;
     Ok(RaceCount {

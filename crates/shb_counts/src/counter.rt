@@ -1,6 +1,6 @@
 //! What is counted of races as they come.
 
-ghost use Rattle.std.specs.Prelude.{◌≡◌, ◌++◌, ◌<◌, ◌^◌, ℕ, false, List, All, IfOk, OnOk, length, map, sum};
+ghost use Rattle.std.specs.Prelude.{◌≡◌, ◌++◌, ◌+◌, ◌<◌, ◌^◌, ℕ, false, List, All, OnOk, length, map, sum};
 ghost use Rattle.std.specs.Bool.{IsTrue};
 ghost use Rattle.shb_lines.specs.declared.event.Event.{Event};
 ghost use Rattle.shb_lines.specs.events.Race.{ends};
@@ -56,20 +56,16 @@ fn total(counts: &[u32]) -> u64
 }
 
 impl<'t> RaceCounter<'t> {
-    /// Counts some races. A trace has too few events for more races than 64 bits can count; a list of
-    /// more would be answered with `NoMemory`.
+    /// Counts some races.
     pub(crate) fn count(&mut self, trace: &'t Trace, pairs: &[Pair]) -> Result<(), NoMemory>
         requires pairs { All (IsPairOf trace.now) pairs.now }
+        requires room { self.old.races + length pairs.now < 2 ^ 64 }
         requires counted { (races : List (ℕ × ℕ)) × HasCounted trace.now races self.old }
         ensures { OnOk result ((races : List (ℕ × ℕ)) → HasCounted trace.now races self.old
             → HasCounted trace.now (races ++ map ends pairs.now) self.new) }
     {
-        let more = pairs.len() as u64;
-        if more > u64::MAX - self.races {
-            return Err(NoMemory);
-        }
         self.places.add(trace, pairs)?;
-        self.races += more;
+        self.races += pairs.len() as u64;
         Ok(())
     }
 
@@ -80,22 +76,20 @@ impl<'t> RaceCounter<'t> {
         located: &Located<'t, '_>,
         counts: &[u32],
         second: u32,
-    ) -> Result<bool, NoMemory>
+    ) -> bool
         requires second { second < length located.now.trace.now.events }
         requires racing { (events : List Event) × AreRacingCounts events located.now.numbers.now.numbers.items second
             (length located.now.numbers.now.events.items) counts.now }
+        requires room { self.old.races + sum counts.now < 2 ^ 64 }
         requires counted { (races : List (ℕ × ℕ)) × HasCounted located.now.trace.now races self.old }
-        ensures known { IfOk result (λ known. IsTrue known → (events : List Event) → AreRacingCounts events
+        ensures known { IsTrue result → (events : List Event) → AreRacingCounts events
             located.now.numbers.now.numbers.items second (length located.now.numbers.now.events.items) counts.now
             → (races : List (ℕ × ℕ)) → HasCounted located.now.trace.now races self.old
-            → HasCounted located.now.trace.now (races ++ races_with events second) self.new) }
-        ensures left { IfOk result (λ known. known ≡ false → (races : List (ℕ × ℕ))
-            → HasCounted located.now.trace.now races self.old → HasCounted located.now.trace.now races self.new) }
+            → HasCounted located.now.trace.now (races ++ races_with events second) self.new }
+        ensures left { result ≡ false → (races : List (ℕ × ℕ))
+            → HasCounted located.now.trace.now races self.old → HasCounted located.now.trace.now races self.new }
     {
         let more = total(counts);
-        if more > u64::MAX - self.races {
-            return Err(NoMemory);
-        }
         let events = located.numbers.events.as_slice();
         let known = self
             .places
@@ -103,6 +97,6 @@ impl<'t> RaceCounter<'t> {
         if known {
             self.races += more;
         }
-        Ok(known)
+        known
     }
 }

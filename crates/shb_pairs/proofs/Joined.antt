@@ -34,7 +34,7 @@ values_of_front {X} {M} f xs d (suc n) le =
     let more : map f (take (suc n) xs) ≡ map f (take n xs) ++ f (get_or xs n d) ∷ [] = rw (← add-one) (map_more f xs n d (omega arith)) in
     ap (λ (ms : List M). ms ++ f (get_or xs n d) ∷ []) ih ∙ sym more
 
-joined_values : {X A : Type 0} (f : X → List A) (xs : List X) (d : X) → joined (values_of (λ k. f (get_or xs k d)) (length xs)) ≡ flat_map f xs
+pub joined_values : {X A : Type 0} (f : X → List A) (xs : List X) (d : X) → joined (values_of (λ k. f (get_or xs k d)) (length xs)) ≡ flat_map f xs
 joined_values f xs d = ap (λ lists. joined lists) (values_of_front f xs d (length xs) (omega arith) ∙ ap (λ (ys : List _). map f ys) (take_all (length xs) xs (omega arith))) ∙ joined-map f xs
 
 -- the runs of one variable
@@ -65,7 +65,7 @@ all_joined trace x (suc k) =
 pub pieces_enough : (n : ℕ) → n ≤ 64 * div_ceil n 64
 pieces_enough n = omega arith
 
-open_joined : (trace : List Event) (x : ℕ) → flat_map (races_of trace) (first_pieces x (length (accesses_in trace x)) (div_ceil (length (accesses_in trace x)) 64)) ≡ races_on trace x
+pub open_joined : (trace : List Event) (x : ℕ) → flat_map (races_of trace) (first_pieces x (length (accesses_in trace x)) (div_ceil (length (accesses_in trace x)) 64)) ≡ races_on trace x
 open_joined trace x = all_joined trace x _ ∙ ap (λ (ys : List ℕ). flat_map (races_with trace) ys) (take_all _ (accesses_in trace x) (pieces_enough (length (accesses_in trace x))))
 
 -- a variable without races adds none

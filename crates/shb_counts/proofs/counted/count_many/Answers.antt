@@ -1,4 +1,4 @@
-use Rattle.std.proofs.Common.{◌≡◌, ◌++◌, ◌∙◌, ℕ, List, ap, subst, sym}
+use Rattle.std.proofs.Common.{◌≡◌, ◌++◌, ◌∙◌, ℕ, List, ap, arith, length, subst, sym}
 use Rattle.std.specs.Prelude.{flat_map, slice_range}
 use Rattle.shb_lines.specs.declared.event.Event.{Event}
 use Rattle.shb_pairs.specs.Accesses.{accesses_in}
@@ -18,3 +18,8 @@ returns-clause-counted g c = λ before has.
     subst (λ (l : List (ℕ × ℕ)). HasCounted c.args.located.now.trace.now (before ++ l) c.count_accesses.new.counter)
     (run_seen _ c.args.job.now.trace _ c.piece-piece.result.variable c.piece-piece.result.from c.piece-piece.result.to _ c.search-search.ensures.of_trace (c.search-search.ensures.variable ∙ sym (ap (λ (p : Piece). p.variable) c.piece-piece.ensures.value)) c.piece-piece.ensures.races)
     (c.in_ok-count_accesses.ensures before has)
+
+pub count_accesses-requires-clause-room : goal.count_accesses-requires-clause-room
+count_accesses-requires-clause-room g c =
+    let is = ap length (run_seen _ c.args.job.now.trace _ c.piece-piece.result.variable c.piece-piece.result.from c.piece-piece.result.to _ c.search-search.ensures.of_trace (c.search-search.ensures.variable ∙ sym (ap (λ (p : Piece). p.variable) c.piece-piece.ensures.value)) c.piece-piece.ensures.races) in
+    omega (arith, is, c.requires.room)

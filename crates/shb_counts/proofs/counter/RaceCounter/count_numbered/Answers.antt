@@ -17,7 +17,7 @@ add_numbered-known-requires-clause-events c =
 
 pub add_numbered-known-requires-clause-few : goal.add_numbered-known-requires-clause-few
 add_numbered-known-requires-clause-few c =
-    counted_few c.args.located.now.trace.now c.requires.counted.0 c.args.self.now (sum c.args.counts.now) c.requires.counted.1 (omega (arith, c.if-more-self.false, c.total-more.ensures))
+    counted_few c.args.located.now.trace.now c.requires.counted.0 c.args.self.now (sum c.args.counts.now) c.requires.counted.1 (omega (arith, c.requires.room))
 
 pub returns-then-known-clause-known : goal.returns-then-known-clause-known
 returns-then-known-clause-known c is seen racing races has =
