@@ -12,8 +12,9 @@ ghost use Rattle.shb_pairs.specs.Search.{IsFreeWrite, racing};
 
 use crate::race::{is_below_pred, is_race_by};
 use crate::ranges::RaceRanges;
-use crate::rivals::{Cursors, rivals_of};
+use crate::rivals::Cursors;
 use crate::search::Search;
+use crate::spans::rivals_of;
 use shb_clocks::{Order, Ordered};
 use shb_discipline::Disciplined;
 use shb_io::NoMemory;

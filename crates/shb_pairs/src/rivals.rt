@@ -1,19 +1,13 @@
-//! The accesses that race with a later one, as ranges, found thread by thread.
+//! The accesses of one thread that race with a later one, and where the search for them begins.
 
-ghost use Rattle.std.specs.Prelude.{◌≡◌, ◌++◌, ℕ, ◌+◌, ◌<◌, ◌≤◌, true, Some, All, AllPairs, IfOk, IsTrue, OnOk, length, slice_index_or, slice_range};
+ghost use Rattle.std.specs.Prelude.{◌≡◌, ℕ, ◌+◌, ◌<◌, ◌≤◌, true, Some, All, AllPairs, IsTrue, OnOk, length, slice_index_or, slice_range};
 ghost use Rattle.shb_lines.specs.events.Discipline.{local_time};
 ghost use Rattle.shb_lines.specs.events.Events.{thread_at};
-ghost use Rattle.shb_lines.specs.events.Race.{variable_at};
-ghost use Rattle.shb_lines.specs.events.Reach.{is_race, numbers_where};
 ghost use Rattle.shb_pairs.specs.Accesses.{IsBeforeByThread};
 ghost use Rattle.shb_pairs.specs.Buckets.{key_at};
-ghost use Rattle.shb_clocks.specs.Open.{is_open};
-ghost use Rattle.shb_pairs.specs.Ranges.{in_ranges, sorted};
 ghost use Rattle.shb_pairs.specs.Search.{AreRivals, IsOfOneThread, racing};
 ghost use Rattle.shb_pairs.specs.declared.buckets.Key.TheVariants.{Thread};
 
-use crate::buckets::part;
-use crate::ranges::Range;
 use crate::search::Search;
 use crate::spans::Span;
 use crate::thread_ends::ThreadEnd;
@@ -216,16 +210,6 @@ fn guessed_start(
     halved_start(links, positions, end, below)
 }
 
-/// Adds a range, unless it is empty.
-fn add_range<'p>(found: &mut Vec<Range<'p>>, firsts: &'p [u32]) -> Result<(), NoMemory>
-    ensures { IfOk result (λ _. in_ranges found.new.items ≡ in_ranges found.old.items ++ firsts.now) }
-{
-    if !firsts.is_empty() {
-        found.push(Range { firsts })?;
-    }
-    Ok(())
-}
-
 /// Those positions, all of one thread, that race with a later access. Local times rise with positions, so
 /// the races are the last ones before it: those after the events of the thread that are SHB-below its
 /// predecessor.
@@ -259,91 +243,4 @@ pub(crate) fn tail_of<O: Order>(
         from: start,
         to: end,
     }
-}
-
-/// Adds the range of those positions, all of one thread, that race with a later access, if there are any.
-fn add_tail<'p, O: Order>(
-    found: &mut Vec<Range<'p>>,
-    ordered: &Ordered<'_, O>,
-    positions: &'p [u32],
-    cursor: &mut Cursor,
-    second: u32,
-) -> Result<(), NoMemory>
-    requires in_range { second < length ordered.now.disciplined.now.events.now }
-    requires asked { O.asks ordered.now.order.now second ≡ true }
-    requires some { 0 < length positions.now }
-    requires rivals { AreRivals ordered.now.disciplined.now.events.now second positions.now }
-    requires one_thread { IsOfOneThread ordered.now.disciplined.now.events.now positions.now }
-    ensures { IfOk result (λ _. in_ranges found.new.items
-        ≡ in_ranges found.old.items ++ racing ordered.now.disciplined.now.events.now second positions.now) }
-{
-    let tail = tail_of(ordered, positions, cursor, second);
-    add_range(found, part(positions, tail.from, tail.to))
-}
-
-/// Adds the ranges of those positions, by thread, that race with a later access.
-fn add_rivals<'p, O: Order>(
-    found: &mut Vec<Range<'p>>,
-    ordered: &Ordered<'_, O>,
-    positions: &'p [u32],
-    cursors: &mut ThreadCursors<'_>,
-    second: u32,
-) -> Result<(), NoMemory>
-    requires in_range { second < length ordered.now.disciplined.now.events.now }
-    requires asked { O.asks ordered.now.order.now second ≡ true }
-    requires rivals { AreRivals ordered.now.disciplined.now.events.now second positions.now }
-    requires each_in_range { All (λ k. k < length ordered.now.disciplined.now.events.now) positions.now }
-    requires sorted { AllPairs (IsBeforeByThread ordered.now.disciplined.now.events.now) positions.now }
-    ensures { IfOk result (λ _. in_ranges found.new.items
-        ≡ in_ranges found.old.items ++ racing ordered.now.disciplined.now.events.now second positions.now) }
-{
-    let mut start = 0;
-    let mut number = 0;
-    while start < positions.len() {
-        cursors.reach(number)?;
-        let cursor = &mut cursors.cursors[number];
-        let end = thread_end(ordered.disciplined.events, positions, start, cursor.end);
-        cursor.end = end;
-        let of_thread = part(positions, start, end);
-        add_tail(found, ordered, of_thread, cursor, second)?;
-        start = end;
-        number += 1;
-    }
-    Ok(())
-}
-
-/// The ranges of the accesses that race with a later access of a variable: one for each thread that has
-/// any. The cursors are those of earlier searches for this variable.
-pub(crate) fn rivals_of<'a, O: Order>(
-    alloc: Global,
-    search: &Search<'_, 'a, O>,
-    cursors: &mut Cursors<'_>,
-    second: u32,
-) -> Result<Vec<Range<'a>>, NoMemory>
-    requires accessed { variable_at search.now.ordered.now.disciplined.now.events.now second ≡ Some search.now.variable }
-    ensures { IfOk result (λ v. sorted (in_ranges v.items)
-        ≡ numbers_where (λ i. is_race search.now.ordered.now.disciplined.now.events.now i second) second) }
-{
-    let mut found = Vec::new(alloc);
-    // A read conflicts with writes alone.
-    if search.ordered.disciplined.events.op(second).is_write() {
-        let accesses = search.accesses.both_by_thread(search.variable);
-        add_rivals(
-            &mut found,
-            search.ordered,
-            accesses,
-            &mut cursors.both,
-            second,
-        )?;
-    } else {
-        let writes = search.accesses.writes_by_thread(search.variable);
-        add_rivals(
-            &mut found,
-            search.ordered,
-            writes,
-            &mut cursors.writes,
-            second,
-        )?;
-    }
-    Ok(found)
 }

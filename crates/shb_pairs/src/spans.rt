@@ -1,16 +1,20 @@
-//! The accesses that race with a later one, as spans of the accesses by thread.
+//! The accesses that race with a later one, as spans of the accesses by thread, found thread by thread.
 
-ghost use Rattle.std.specs.Prelude.{◌≡◌, ◌<◌, true, All, AllPairs, OnOk, length};
+ghost use Rattle.std.specs.Prelude.{◌≡◌, ◌++◌, ◌<◌, ◌≤◌, ℕ, List, true, Some, All, AllPairs, IfOk, OnOk, length, slice_range};
+ghost use Rattle.shb_lines.specs.events.Race.{variable_at};
 ghost use Rattle.shb_lines.specs.events.Reach.{is_race, numbers_where};
 ghost use Rattle.shb_pairs.specs.Accesses.{IsBeforeByThread};
-ghost use Rattle.shb_pairs.specs.Ranges.{sorted};
+ghost use Rattle.shb_pairs.specs.Ranges.{in_ranges, sorted};
 ghost use Rattle.shb_pairs.specs.Search.{AreRivals, racing};
 ghost use Rattle.shb_pairs.specs.Spans.{AreComparedWith, IsSpanOf, in_spans};
 
 use crate::buckets::part;
+use crate::ranges::Range;
 use crate::rivals::{Cursors, ThreadCursors, tail_of, thread_end};
+use crate::search::Search;
 use shb_clocks::{Order, Ordered};
 use shb_io::NoMemory;
+use std::alloc::Global;
 
 /// Neighbouring elements of a list.
 #[derive(Clone, Copy, Debug, Drop, PartialEq, Eq)]
@@ -19,6 +23,21 @@ pub struct Span {
     pub from: usize,
     /// The index after the last one.
     pub to: usize,
+}
+
+/// Adds a span, unless it is empty.
+fn add_span(found: &mut Vec<Span>, span: Span) -> Result<(), NoMemory>
+    requires ordered { span.from ≤ span.to }
+    ensures found { OnOk result ((list : List ℕ) → in_spans list found.new.items
+        ≡ in_spans list found.old.items ++ slice_range list span.from span.to) }
+    ensures within { OnOk result ((count : ℕ) → span.to ≤ count → All (IsSpanOf count) found.old.items
+        → All (IsSpanOf count) found.new.items) }
+{
+    if span.from == span.to {
+        return Ok(());
+    }
+    found.push(span)?;
+    Ok(())
 }
 
 /// The spans of those positions, by thread, that race with a later access. What `found` had is lost.
@@ -47,10 +66,11 @@ fn spans_of<O: Order>(
         let end = thread_end(ordered.disciplined.events, positions, start, cursor.end);
         cursor.end = end;
         let tail = tail_of(ordered, part(positions, start, end), cursor, second);
-        found.push(Span {
+        let span = Span {
             from: start + tail.from,
             to: start + tail.to,
-        })?;
+        };
+        add_span(found, span)?;
         start = end;
         number += 1;
     }
@@ -59,8 +79,8 @@ fn spans_of<O: Order>(
 
 /// The accesses that race with a later access, as spans of the list of all that it can conflict with: of
 /// its variable's writes by thread, or of all accesses by thread where it writes itself. A span for each
-/// thread in the list, which may be empty. What `found` had is lost; after `NoMemory` nothing is known of
-/// it. The order can be asked about the later access.
+/// thread in the list that has such accesses. What `found` had is lost; after `NoMemory` nothing is known
+/// of it. The order can be asked about the later access.
 ///
 /// The cursors are those of earlier searches for this variable. Where later accesses are asked about in
 /// trace order, a thread costs a few steps.
@@ -86,4 +106,53 @@ pub fn racing_spans<O: Order>(
     } else {
         spans_of(ordered, positions, &mut cursors.writes, second, found)
     }
+}
+
+/// The accesses by thread that an access of the variable of a search can conflict with.
+fn compared_with<'a, O: Order>(search: &Search<'_, 'a, O>, second: u32) -> &'a [u32]
+    requires accessed { variable_at search.now.ordered.now.disciplined.now.events.now second ≡ Some search.now.variable }
+    ensures { AreComparedWith search.now.ordered.now.disciplined.now.events.now second result.now }
+{
+    // A read conflicts with writes alone.
+    if search.ordered.disciplined.events.op(second).is_write() {
+        search.both_by_thread()
+    } else {
+        search.writes_by_thread()
+    }
+}
+
+/// The parts of a list that some spans name.
+fn parts_of<'p>(
+    alloc: Global,
+    list: &'p [u32],
+    spans: &[Span],
+) -> Result<Vec<Range<'p>>, NoMemory>
+    requires { All (IsSpanOf (length list.now)) spans.now }
+    ensures { IfOk result (λ v. in_ranges v.items ≡ in_spans list.now spans.now) }
+{
+    let mut parts = Vec::new(alloc);
+    for span in spans {
+        parts.push(Range {
+            firsts: part(list, span.from, span.to),
+        })?;
+    }
+    Ok(parts)
+}
+
+/// The accesses that race with a later access of the variable of a search, as ranges: one for each thread
+/// that has any. The cursors are those of earlier searches for this variable.
+pub(crate) fn rivals_of<'a, O: Order>(
+    alloc: Global,
+    search: &Search<'_, 'a, O>,
+    cursors: &mut Cursors<'_>,
+    second: u32,
+) -> Result<Vec<Range<'a>>, NoMemory>
+    requires accessed { variable_at search.now.ordered.now.disciplined.now.events.now second ≡ Some search.now.variable }
+    ensures { IfOk result (λ v. sorted (in_ranges v.items)
+        ≡ numbers_where (λ i. is_race search.now.ordered.now.disciplined.now.events.now i second) second) }
+{
+    let accesses = compared_with(search, second);
+    let mut spans = Vec::new(alloc);
+    racing_spans(search.ordered, accesses, cursors, second, &mut spans)?;
+    parts_of(alloc, accesses, &spans)
 }

@@ -15,7 +15,7 @@ tail_of-tail-requires-clause-one_thread g c = rw c.part.ensures (part_of_thread 
 
 pub loop-start-preserved : goal.loop-start-preserved
 loop-start-preserved g c =
-    let more = span_more c.args.ordered.now.disciplined.now.events.now c.args.second c.loop-start.start c.thread_end-end.result c.tail_of-tail.result.from c.tail_of-tail.result.to c.args.positions.now c.part.result.now c.loop-start.found.items c.push.new.self.items c.thread_end-end.ensures.more c.thread_end-end.ensures.within c.tail_of-tail.ensures.ordered c.tail_of-tail.ensures.within c.part.ensures c.tail_of-tail.ensures.races c.loop-start.invariant.1 c.loop-start.invariant.2 c.in_ok-push.ensures.items in (
+    let more = span_more c.args.ordered.now.disciplined.now.events.now c.args.second c.loop-start.start c.thread_end-end.result c.tail_of-tail.result.from c.tail_of-tail.result.to c.args.positions.now c.part.result.now c.loop-start.found.items c.add_span.new.found.items c.thread_end-end.ensures.more c.thread_end-end.ensures.within c.tail_of-tail.ensures.ordered c.tail_of-tail.ensures.within c.part.ensures c.tail_of-tail.ensures.races c.loop-start.invariant.1 c.loop-start.invariant.2 c.in_ok-add_span.ensures.found c.in_ok-add_span.ensures.within in (
       c.thread_end-end.ensures.within,
       more.0,
       more.1,
