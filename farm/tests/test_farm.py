@@ -125,7 +125,7 @@ class Tables(farm.Case):
                             (["--memory", "x"], "argument --memory: invalid numbers value: 'x'"),
                             (["--known", self.folder / "none"], f"{self.folder}/none: No such file or directory"),
                             (["--known", self.known(b"# one\nno tab\n")],
-                             f"{self.folder}/known: line 2: a place is two locations with a tab between them")):
+                             f"{self.folder}/known: line 2: a place is two locations or functions with a tab between them")):
             answer = self.farm(*words)
             self.assertEqual((answer.status, answer.out), (4, ""))
             self.assertTrue(answer.err.startswith(f"shb-farm: {said}"), answer.err)
