@@ -23,6 +23,7 @@
 #define DEPTH_BEFORE 63
 #define IS_RANGE 512
 #define MAX_SIZE (1ull << 36)          /* of a range; none is as long */
+#define THREAD_NUMBERS 65534           /* a joined thread's is used again when there is no new one: each fork begins another thread */
 #define MOST_FRAMES 16384              /* of a thread; those further in aren't recorded */
 #define ATOMIC_SIZE_BITS 5             /* of an atomic access: the memory order stands above the size, as __ATOMIC_.. */
 

@@ -146,7 +146,8 @@ static int repeats(u64 i, use u, u32 number) {
     typedef struct { u64 site, epoch, locks; u32 piece, writes; } read;
     static read *recent;
     if (!recent) recent = zeroed(RECENT, sizeof *recent);
-    read this = {own_place(u.thread, caller_of(i)) | (u64)u.thread << 48, thread_epoch(u.thread) + 1, held_locks(u.thread), number, piece_of(number)->writes};
+    u64 site = own_place(u.thread, caller_of(i)) | (u64)u.thread << 48, epoch = thread_epoch(u.thread) + 1;
+    read this = {site, epoch | (u64)(u.thread >> 16) << 48, held_locks(u.thread), number, piece_of(number)->writes};
     read *last = &recent[(mix(this.site, 0) + number) & (RECENT - 1)];           /* neighbours stand side by side */
     int same = last->site == this.site && last->piece == number && last->writes == this.writes && last->epoch == this.epoch
         && last->locks == this.locks;

@@ -7,7 +7,7 @@
 
 typedef uint64_t u64;
 typedef uint32_t u32;
-enum { THREADS = 65536 };
+enum { THREADS = 1 << 20 };            /* of a record, whose numbers may be used again */
 
 /* The last line of a help text, after an empty one: what is installed. The installation defines it. */
 #ifdef SHB_VERSION
@@ -40,7 +40,13 @@ void forget_records(u64 from, u64 end);
 enum operation operation_of(u64 i);
 u64 address_of(u64 i), caller_of(u64 i), size_of(u64 i);
 u64 depth_inside(u64 i);               /* DEPTH_BEFORE where it is told by records before */
+extern u32 thread_count;               /* of those met in this pass */
+void begin_thread_pass(void);
+int meet_fork(u64 i);                  /* each pass calls these for each fork and join; 0 where there are too many threads */
+void meet_join(u64 i);
+u32 thread_bound(void);                /* all threads are below it */
 u32 thread_of(u64 i);
+u32 other_thread_of(u64 i);            /* of a fork or join */
 int writes_plainly(u64 i), is_atomic(u64 i), writes_atomically(u64 i);
 int is_for_object(u64 i);
 int acquires(u64 i), releases(u64 i);  /* of an atomic access or a fence */
@@ -86,8 +92,8 @@ typedef struct {
 } piece;
 /* Who uses a piece. It stands apart, for most accesses ask no more, and of several neighbours. */
 typedef struct {
-    u32 user : 17, many_users : 1, written : 1, written_atomically : 1;          /* the first thread that used it, plus one */
-    u32 reader : 17, many_readers : 1;                       /* and that read it plainly */
+    u32 user : 28, many_users : 1, written : 1, written_atomically : 1;          /* the first thread that used it, plus one */
+    u32 reader : 28, many_readers : 1;                       /* and that read it plainly */
 } piece_use;
 extern u64 range_steps;                /* in this pass: pages and pieces after the first of each range */
 void begin_memory_pass(void);

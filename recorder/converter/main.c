@@ -13,9 +13,7 @@
 #include "converter.h"
 
 enum { SHB_THREADS = 1024, SHB_EVENTS = 4194304, NOT_WHOLE = 3 };   /* the status where the trace is a part of the run */
-#define MAX_RANGE_STEPS (1ull << 27)   /* in a pass: seconds */
-
-static u32 thread_count = 1;
+#define MAX_RANGE_STEPS (1ull << 28)   /* in a pass: seconds */
 
 static int is_of_stack(enum operation operation) { return operation >= OP_FRAME && operation <= OP_DEPTH; }
 
@@ -25,7 +23,6 @@ static void meet_record(u64 i) {
     if (is_of_stack(operation)) note_call(i);
     if (operation == OP_READ || operation == OP_WRITE || is_of_stack(operation)) return;
     if (operation == OP_FENCE) has_fences = 1;
-    if (operation == OP_FORK && address_of(i) >= thread_count) thread_count = address_of(i) + 1;
     note_caller(caller_of(i));
 }
 
@@ -40,12 +37,12 @@ static void write_events(u64 i) {
     enum operation operation = operation_of(i);
     meet_call(i);
     if (is_of_stack(operation)) return;
-    if (operation == OP_FORK && address_of(i) >= SHB_THREADS && !into_windows) cut_reason = "before a thread too many: shb takes 1,024";
+    if (operation == OP_FORK && other_thread_of(i) >= SHB_THREADS && !into_windows) cut_reason = "before a thread too many: shb takes 1,024";
     else if (operation == OP_FORK) {
-        event(thread_of(i), "fork", name_of_thread(address_of(i)), "", caller_of(i));
-        stack_of_thread(address_of(i), stack_at(thread_of(i), caller_of(i)));
+        event(thread_of(i), "fork", name_of_thread(other_thread_of(i)), "", caller_of(i));
+        stack_of_thread(other_thread_of(i), stack_at(thread_of(i), caller_of(i)));
     }
-    else if (operation == OP_JOIN) event(thread_of(i), "join", name_of_thread(address_of(i)), "", caller_of(i));
+    else if (operation == OP_JOIN) event(thread_of(i), "join", name_of_thread(other_thread_of(i)), "", caller_of(i));
     else if (operation == OP_FENCE) fence_events(i);
     else if (is_for_object(i)) object_events(i);
     else {
@@ -60,12 +57,14 @@ static void name_block(block *b, u64 i) {
     b->caller = own_place(thread_of(i), caller_of(i));
 }
 
-/* A record of ranges so long and so many that no pass would end soon is cut: its beginning is a record too. */
+/* A record of ranges so long and so many that no pass would end soon is cut, or of so many threads: its beginning is a record too. */
 static const char *shortened;
+static u32 threads_of_record;
 
 /* One step with each record that is of use. Inline, for a step that is called by its address costs more than most do. */
 static inline __attribute__((always_inline)) void pass(void (*step)(u64), int is_first) {
     begin_memory_pass();
+    begin_thread_pass();
     for (u64 i = 0; i < record_count && !cut_reason; i++) {
         if (i && i % RECORDS_AT_ONCE == 0) forget_records(i - RECORDS_AT_ONCE, i);
         if (!is_first && !known[i]) continue;
@@ -74,6 +73,12 @@ static inline __attribute__((always_inline)) void pass(void (*step)(u64), int is
             break;
         }
         if (operation_of(i) == OP_SIZE) continue;
+        if (operation_of(i) == OP_FORK && !meet_fork(i)) {
+            shortened = "before a thread too many: shb-std takes 1,048,576";
+            record_count = i;
+            break;
+        }
+        if (operation_of(i) == OP_JOIN) meet_join(i);
         block *b = meet_block(i);
         step(i);
         if (b && step == write_events && operation_of(i) == OP_ALLOC) name_block(b, i);
@@ -138,7 +143,7 @@ static void end_trace(void) {
     end_stacks();
     write_lines();
     if (fflush(stdout) || ferror(stdout)) die("cannot write the trace: %s", strerror(errno));
-    fprintf(stderr, "shb-std: %lu records, %u threads, %lu events", record_count, thread_count, events);
+    fprintf(stderr, "shb-std: %lu records, %u threads, %lu events", record_count, threads_of_record, events);
     if (windows_folder) fprintf(stderr, ", %lu windows", count_windows());
     fputc('\n', stderr);
 }
@@ -149,6 +154,7 @@ int main(int count, char **words) {
     if (stacks_path) open_stacks(stacks_path);
     if (windows_folder) prepare_windows();
     pass(meet_record, 1);
+    threads_of_record = thread_count;
     if (!shortened) check_sum();
     pass(find_cuts, 0);
     find_places();

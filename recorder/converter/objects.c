@@ -219,7 +219,7 @@ void forget_states(void) {
         objects[i].depth = objects[i].holder = objects[i].version = objects[i].head = 0;
         objects[i].gift_count = 0;
     }
-    for (u32 t = 0; t < THREADS; t++) fences[t].count = fences[t].fenced = 0;
+    for (u32 t = 0; t < thread_bound(); t++) fences[t].count = fences[t].fenced = 0;
     if (seen_count) memset(seen, 0, seen_count * sizeof *seen);
     if (seen_count) memset(noted, 0, seen_count * sizeof *noted);
 }

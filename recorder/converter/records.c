@@ -17,7 +17,33 @@ u64 record_count;
 enum operation operation_of(u64 i) { return records[i].what >> 48 & 63; }
 u64 address_of(u64 i) { return records[i].where & LOW_48_BITS; }
 u64 caller_of(u64 i) { return records[i].what & LOW_48_BITS; }
-u32 thread_of(u64 i) { return records[i].where >> 48; }
+
+/* ---- threads: a number that was joined is used again by the next one that is forked with it ---- */
+u32 thread_count;
+static u32 with_number[THREAD_NUMBERS];
+static uint8_t is_joined[THREAD_NUMBERS];
+
+u32 thread_of(u64 i) { return with_number[records[i].where >> 48]; }
+u32 other_thread_of(u64 i) { return with_number[address_of(i)]; }
+
+void begin_thread_pass(void) {
+    thread_count = 1;
+    for (u32 n = 0; n < THREAD_NUMBERS; n++) with_number[n] = n;
+    memset(is_joined, 0, sizeof is_joined);
+}
+
+void meet_join(u64 i) { is_joined[address_of(i)] = 1; }
+
+u32 thread_bound(void) { return thread_count < THREAD_NUMBERS ? THREAD_NUMBERS : thread_count; }
+
+int meet_fork(u64 i) {
+    u32 number = address_of(i);
+    if (is_joined[number]) with_number[number] = thread_bound();
+    if (with_number[number] == THREADS) return 0;
+    is_joined[number] = 0;
+    if (with_number[number] >= thread_count) thread_count = with_number[number] + 1;
+    return 1;
+}
 
 static int size_follows(u64 i) { return records[i].what >> 54 == SIZE_FOLLOWS; }
 static int is_access(u64 i) { return operation_of(i) == OP_READ || operation_of(i) == OP_WRITE; }
@@ -37,11 +63,12 @@ u64 depth_inside(u64 i) {
 static int is_good(u64 i) {
     enum operation operation = operation_of(i);
     if (operation == OP_NONE || operation >= OPERATIONS) return 0;
+    if (records[i].where >> 48 >= THREAD_NUMBERS && operation != OP_SIZE) return 0;
     if (operation == OP_SIZE) return i > 0 && size_follows(i - 1) && !size_follows(i);
     if (is_access(i) && size_of(i) > 16 && !(records[i].what >> 54 & IS_RANGE)) return 0;
     if (size_follows(i) && (operation_of(i + 1) != OP_SIZE || size_of(i) >= MAX_SIZE)) return 0;
     if (operation == OP_FRAME || operation == OP_DEPTH) return size_of(i) <= MOST_FRAMES;
-    return (operation != OP_FORK && operation != OP_JOIN) || address_of(i) < THREADS;
+    return (operation != OP_FORK && operation != OP_JOIN) || address_of(i) < THREAD_NUMBERS;
 }
 
 /* What a record that is whole says of itself, and what was met of it in the first pass. */

@@ -181,7 +181,7 @@ void note_atomic(u64 i, u64 object) {
     int order = acquires(i) + 2 * releases(i);
     enum operation operation = operation_of(i);
     u64 use = caller_of(i) | (u64)operation << 48 | (u64)order << 56;
-    if (!with_stacks || map_number(&met, object << 16 | thread_of(i), use) <= count) return;
+    if (!with_stacks || map_number(&met, object << 20 | thread_of(i), use) <= count) return;
     count++;
     part name = variable_name(address_of(i), block_at(address_of(i))), place = place_of(caller_of(i));
     fprintf(atomics, "atomic %.*s\t%s\t%.*s\t%s %s\n", (int)name.length, name.at, thread_name(thread_of(i)), (int)place.length, place.at,
@@ -252,12 +252,12 @@ static void write_stack(u32 k) {
 void end_stacks(void) {
     if (!with_stacks) return;
     write_nodes();
-    for (u32 t = 0; t < THREADS; t++) use(thread_nodes[t]);
+    for (u32 t = 0; t < thread_bound(); t++) use(thread_nodes[t]);
     for (u64 b = 1; b < block_count; b++)
         if (block_of(b)->named) use(block_nodes[b]);
     for (u64 k = 1; k <= node_count; k++)
         if (nodes[k].used) write_stack(k);
-    for (u32 t = 0; t < THREADS; t++)
+    for (u32 t = 0; t < thread_bound(); t++)
         if (thread_nodes[t]) fprintf(file, "thread %s\t%u\n", thread_name(t), thread_nodes[t]);
     for (u64 b = 1; b < block_count; b++)
         if (block_of(b)->named && block_nodes[b]) fprintf(file, "block %lu %u\n", b, block_nodes[b]);

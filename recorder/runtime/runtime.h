@@ -16,7 +16,7 @@ typedef struct { uint64_t caller, function, way, stack; } frame; /* way: as way_
 enum { RECENT_READS = 4 };             /* a loop that waits reads no more */
 
 typedef struct thread {
-    uint32_t number;                   /* in the order of creation, from 0 */
+    uint32_t number;                   /* in the order of creation, from 0; or that of one that was joined */
     pid_t system_id;
     pthread_t handle;
     _Atomic int wakes;                 /* futex: raised to make the thread look at the turn again */
@@ -53,7 +53,7 @@ void begin_turns(int slice, uint64_t seed);                  /* with 0 slices of
 void restart_turns(thread *t);         /* in a process made by fork, where there is t alone; it has the turn */
 int end_turns(void);                   /* all threads run free from here on; gives whether they took turns before */
 thread *new_thread(void);
-void end_thread(thread *t);            /* it is joined */
+void end_thread(thread *t);            /* it is joined, and the record has that */
 int number_thread(thread *t);
 void wait_for_start(const thread *child);
 thread *thread_of(pthread_t handle);

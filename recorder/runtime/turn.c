@@ -25,7 +25,6 @@
 #include <unistd.h>
 #include "runtime.h"
 
-#define MAX_THREADS 65534              /* the holder's number plus one takes 16 bits */
 #define NOBODY 0
 #define HOLDER(word) ((uint32_t)((word) >> 48))
 #define NAME(t) ((t)->number + 1)
@@ -50,10 +49,11 @@ volatile int recording;
 
 static _Atomic uint64_t turn;
 static _Atomic int guard;
-static thread *waiting[MAX_THREADS];
+static thread *waiting[THREAD_NUMBERS];
 static volatile int waiters;
-static thread *threads[MAX_THREADS];
+static thread *threads[THREAD_NUMBERS];
 static uint32_t thread_count;
+static uint32_t joined_numbers[THREAD_NUMBERS], joined_count;          /* to be used again; with the turn */
 static uint64_t random_state = 88172645463325252ull;
 static int slice, last_slice, slices, given_slice;
 static thread *held;                   /* one of the waiters, or nobody; under the guard */
@@ -194,7 +194,7 @@ static int is_gone(pid_t system_id) { return syscall(SYS_tgkill, getpid(), syste
    can say, the recording ends. */
 static int gone_or_asleep(pid_t system_id, long *ticks) {
     char text[512];
-    if (is_gone(system_id)) return 1;
+    if (!system_id || is_gone(system_id)) return 1;          /* its number was used again, by one that isn't there yet */
     int n = read_task_file(system_id, "stat", text, sizeof text);
     char *p = n > 0 ? strrchr(text, ')') : 0;
     if (!p || !p[1]) {
@@ -298,7 +298,7 @@ void begin_turns(int slice_, uint64_t seed) {
 void restart_turns(thread *t) {
     waiters = 0;
     held = 0;
-    thread_count = 0;
+    thread_count = joined_count = 0;
     number_thread(t);
     t->system_id = syscall(SYS_gettid);
     t->quantum = 1;
@@ -319,8 +319,10 @@ int end_turns(void) {
 /* ---- the memory of threads: one that is joined is used again, for a waiter may still look into it ---- */
 static thread *ended;                  /* a list; under the guard */
 
+/* With the turn, so no word of the turn names it from here on. */
 void end_thread(thread *t) {
     t->joined = 1;
+    joined_numbers[joined_count++] = t->number;
     lock_guard();
     t->next_ended = ended;
     ended = t;
@@ -350,11 +352,11 @@ thread *new_thread(void) {             /* it may sleep in the system */
 }
 
 int number_thread(thread *t) {         /* with the turn */
-    if (thread_count >= MAX_THREADS) return 0;
-    t->number = thread_count;
+    if (thread_count == THREAD_NUMBERS && !joined_count) return 0;
     if (thread_count <= MOST_STARTS) begin_slices();
     t->may_be_held = are_slices_short() && draw() & 1;
-    threads[thread_count++] = t;
+    t->number = thread_count < THREAD_NUMBERS ? thread_count++ : joined_numbers[--joined_count];
+    threads[t->number] = t;
     return 1;
 }
 

@@ -73,12 +73,15 @@ class Failures(recorder.Case):
         self.assertNotIn(b"T1024", answer.stdout)
         self.assertEqual(recorder.places(answer.stdout), set())
 
-    def test_more_threads_than_a_record_can_number(self):
-        path = self.folder / "app.rec"
+    def test_more_threads_than_a_record_has_numbers(self):
+        path, windows = self.folder / "app.rec", self.folder / "windows"
         ran = recorder.must(recorder.call(self.program("many_in_turn.c"), env=recorder.settings(path)))
-        self.assertEqual(ran.stdout, b"66000\n")
-        self.assertEqual(ran.stderr, b"shb recorder: too many threads; the recording ends here, the program goes on\n")
-        self.assertIn(b"is not the whole run: too many threads", recorder.part(recorder.convert(path)).stderr)
+        self.assertEqual((ran.stdout, ran.stderr), (b"66002\n", b""))
+        answer = recorder.must(recorder.convert(path, "--windows", windows))
+        self.assertIn(b" 66003 threads, ", answer.stderr)
+        last = sorted(windows.glob("window-*.std"))[-1].read_bytes()
+        self.assertIn(b"\nmain|join(T66002.work_with_another)|", last)
+        self.assertEqual(recorder.places(last), {("many_in_turn.c:14", "many_in_turn.c:14")})
 
     def test_threads_of_the_c_library_are_told_of(self):
         ran = recorder.must(recorder.call(self.program("sigev_thread.c"), env=recorder.settings(self.folder / "app.rec")))

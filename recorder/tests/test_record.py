@@ -265,6 +265,17 @@ class Damaged(recorder.Case):
                     self.assertEqual(answer.returncode, 2)
                     self.assertIn(reason, answer.stderr.decode())
 
+    def test_a_number_that_is_used_again(self):
+        """After its thread was joined: the next one that is forked with it is another thread."""
+        fork, start, join = entry(0, "FORK", 1, 0x101), entry(1, "START", STACK, 0x500, 4096), entry(0, "JOIN", 1, 0x103)
+        write, record = entry(1, "WRITE", BLOCK, 0x201, 8), self.folder / "app.rec"
+        record.write_bytes(HEADER + entry(0, "ALLOC", BLOCK, 0x100, 16) + (fork + start + write + join) * 3)
+        recorder.must(recorder.convert(record, "--windows", self.folder / "windows"))
+        trace = (self.folder / "windows" / "window-0001.std").read_text()
+        self.assertEqual(re.findall(r"^(\w+)\|(\w+)(?:\((T\d+)\))?", trace, re.M),
+                         [event for thread in ("T1", "T65534", "T65535")
+                          for event in (("main", "fork", thread), (thread, "w", ""), ("main", "join", thread))])
+
     def test_a_record_of_another_version(self):
         path = self.folder / "app.rec"
         for version in (b"3", b"10"):
