@@ -16,7 +16,7 @@ BLOCK = re.compile(rb".*#([0-9]+)(?:\+[0-9]+)?", re.S)  # a variable in a block,
 LOCATION = re.compile(rb"(.+):[0-9]+", re.S)
 QUALIFIERS = re.compile(rb"(?: const| volatile)+$")
 ORDERS = b"relaxed", b"acquire", b"release", b"both"
-FRAMES = b"frame ", b"system-frame "
+FRAMES = b"frame", b"system-frame"
 OTHER = "doesn't have the stacks of this trace"
 MOST_DEEP = 200  # calls of a stack that are looked at
 
@@ -75,7 +75,7 @@ class Stacks:
 
     def read(self, line):
         kind, _, rest = line.partition(b" ")
-        if line.startswith(FRAMES):
+        if kind in FRAMES:
             function, location = rest.split(b"\t")
             self.frames.append(Frame(function, location, kind == b"system-frame"))
         elif kind == b"stack":
@@ -164,12 +164,19 @@ def events_in(file):
     return int(begin[1])
 
 
-def functions_in(path):
-    """The functions that each location of a file of stacks lies in, as `functions_of` has them."""
+def tables_in(path):
+    """Of a file of stacks: the functions that each location lies in, as `functions_of` has them, and the path of each source file."""
+    frames, sources = [], {}
     with open(path, "rb") as file:
         file.seek(BEGIN_BYTES + NUMBER_BYTES * events_in(file))
-        fields = [line.rstrip(b"\n").partition(b" ")[2].split(b"\t") for line in file if line.startswith(FRAMES)]
-    return functions_of(fields)
+        for line in file:
+            kind, _, rest = line.rstrip(b"\n").partition(b" ")
+            one, _, other = rest.partition(b"\t")
+            if kind in FRAMES:
+                frames.append((one, other))
+            elif kind == b"source":
+                sources[one] = other
+    return functions_of(frames), sources
 
 
 def functions_of(frames):

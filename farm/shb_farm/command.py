@@ -15,6 +15,7 @@ import typing
 from shb_common.known import BadLine, Known
 from shb_common.version import with_version
 from shb_farm import engines, files, limits, merging, passes, tables, traces
+from shb_farm.calls import Calls
 from shb_farm.sources import Sources
 
 ABOUT = """\
@@ -37,9 +38,11 @@ Files in OUT:
                   that has it
 
 Known places:
-  Two locations a line with a tab between them, in either order; * stands for
-  any text, and \\* for the sign itself. Empty lines, and lines that begin with
-  #, are passed over; \\# begins a location with this sign.
+  On a line two locations, or functions as FILE:FUNCTION(), with a tab between
+  them, in either order; * stands for any text, and \\* for the sign itself.
+  Empty lines, and lines that begin with #, are passed over; \\# begins a
+  location with this sign. Functions are known where the recorder's NAME.stacks
+  stands beside NAME.std.
 
 Exit status:
   The first that applies:
@@ -159,10 +162,9 @@ def known_in(path):
         raise Refused(f"{path}: {fault}")
 
 
-def sources_in(folder):
+def check_sources(folder):
     if folder and not os.path.isdir(folder):
         raise Refused(f"{folder}: no such folder of sources")
-    return Sources(folder)
 
 
 def clean(room):
@@ -213,17 +215,19 @@ def report_of(work, name, ending):
 
 def run(options):
     """Runs the farm, writes its tables, and gives the status."""
+    check_sources(options.source)
     known_places, work = known_in(options.known), pass_of(options)
-    sources = sources_in(options.source)
     farm = Farm(options.engine, options.jobs, memory_of(options), options.sbatch)
     clean(passes.room_in(work.out))
     names = traces.names_in(work.traces, work.out)
     if not names:
         raise Refused(f"{options.traces}: there is no trace in this folder and below (NAME.std, NAME.std.gz or NAME.std.xz)")
     endings = run_passes(farm, work, names)
-    rows = with_reports(farm, work, merging.rows_of(endings, known_places))
+    calls = Calls(work.traces, [name for name, ending in endings.items() if ending.places])
+    sources = Sources(options.source, calls.sources)
+    rows = with_reports(farm, work, merging.rows_of(endings, known_places, calls.functions))
     status = merging.status_of(rows, endings)
-    write_out(tables.write(pathlib.Path(work.out), rows, endings, status, sources))
+    write_out(tables.write(pathlib.Path(work.out), tables.Found(rows, endings, status), sources, calls))
     return status
 
 

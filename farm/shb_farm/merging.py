@@ -55,13 +55,14 @@ def ending_of(work, name):
     return Ending("missing", why, [], state.st_size)
 
 
-def rows_of(endings, known_places):
-    """A row for each place of the endings (name: Ending): unknown ones first, and of these what most traces have."""
+def rows_of(endings, known_places, functions):
+    """A row for each place of the endings (name: Ending): unknown ones first, and of these what most traces have.
+    `functions` has those of each location."""
     found = {}
     for name, ending in endings.items():
         for pair in {known.pair_of(*place) for place in ending.places}:
             found.setdefault(pair, []).append((ending.size, name))
-    rows = [Row(pair, len(traces), known_places.has(pair), min(traces)[1], "") for pair, traces in found.items()]
+    rows = [Row(pair, len(traces), known_places.has(pair, functions), min(traces)[1], "") for pair, traces in found.items()]
     return sorted(rows, key=lambda row: (row.is_known, -row.traces, row.pair))
 
 

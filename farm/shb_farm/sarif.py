@@ -11,6 +11,7 @@ import urllib.parse
 
 from shb_common import version
 from shb_common.shown import shown
+from shb_common.stacks import bare
 from shb_farm import tables
 
 SCHEMA = "https://docs.oasis-open.org/sarif/sarif/v2.1.0/errata01/os/schemas/sarif-schema-2.1.0.json"
@@ -94,6 +95,24 @@ def line_fingerprint(first, second):
     return hashlib.blake2b(b"\n".join(parts), digest_size=8).hexdigest()
 
 
+def code_flows(accesses, sources):
+    """The property of a result with the ways to the two accesses of a race, a thread each; nothing where they aren't known."""
+    flows = [thread_flow(access, sources) for access in accesses]
+    return {"codeFlows": [{"threadFlows": flows}]} if flows and all(flow["locations"] for flow in flows) else {}
+
+
+def thread_flow(access, sources):
+    """The calls of a thread that lead to its access, the outermost first. What is no line of the program's own isn't shown."""
+    thread, operation, *_ = access.line.split(b"|")
+    name = shown(thread)
+    steps = []
+    for frame in reversed(access.frames):
+        place = place_of(frame.location, sources)
+        if place.kind != NAME and not frame.in_system:
+            steps.append({"location": location_of(place, message={"text": f"{name} in {plain(shown(bare(frame.function)) or 'a function')}"})})
+    return {"id": name, "message": {"text": plain(f"{name}: {shown(operation)}")}, "locations": steps}
+
+
 def result_of(row, count, sources, seen):
     """The result of one place, of a farm of so many traces. `seen` counts the fingerprints of lines before it."""
     first, second = sorted((place_of(part, sources) for part in row.pair), key=lambda place: (place.kind, place.text))
@@ -130,14 +149,15 @@ def notification_of(name, ending):
     return {"level": LEVELS.get(ending.kind, "warning"), "message": {"text": text}}
 
 
-def log(rows, endings, status, sources):
-    """The log of a farm as bytes."""
+def log(found, sources, accesses):
+    """The log of a farm as bytes. `accesses` has the accesses of a race at each place, where their stacks are known."""
+    rows, endings, status = found
     said = [notification_of(name, ending) for name, ending in endings.items() if ending.kind != "report" or tables.note_of(ending)]
     seen, installed = collections.Counter(), version.installed()
     run = {
         "tool": {"driver": {"name": "shb", **({"version": installed} if installed else {}), "rules": [RULE]}},
         "originalUriBaseIds": {name: {"description": {"text": text}} for name, text in BASES.items()},
         "invocations": [{"executionSuccessful": status != 3, "exitCode": status, "toolExecutionNotifications": said}],
-        "results": [result_of(row, len(endings), sources, seen) for row in rows],
+        "results": [{**result_of(row, len(endings), sources, seen), **code_flows(accesses.get(row.pair, ()), sources)} for row in rows],
     }
     return (json.dumps({"$schema": SCHEMA, "version": "2.1.0", "runs": [run]}, indent=1) + "\n").encode()

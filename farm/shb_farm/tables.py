@@ -1,13 +1,21 @@
 """The tables of a farm, as tab-separated values and as text."""
 
 import os
+import typing
 
 from shb_common import known
 from shb_common.shown import shown
 from shb_farm import files, passes, sarif
 
-
 WIDEST = 60     # columns of the text's tables; a longer field moves what stands after it
+
+
+class Found(typing.NamedTuple):
+    """What a farm has found: a row for each place, how each trace ended, and the status."""
+
+    rows: list
+    endings: dict
+    status: int
 
 
 def field(text):
@@ -37,9 +45,9 @@ def traces_table(endings):
     return b"".join(lines)
 
 
-def unknown_places(rows):
+def unknown_places(rows, functions):
     """The unknown places as a file of known places has them."""
-    return b"".join(known.line_of(row.pair) for row in rows if not row.is_known)
+    return b"".join(known.lines_of([row.pair for row in rows if not row.is_known], functions))
 
 
 def why(ending):
@@ -86,12 +94,12 @@ def text(rows, endings):
     return "".join(line + "\n" for line in lines)
 
 
-def write(out, rows, endings, status, sources):
-    """Writes all tables, each whole, and gives the text. `sources` has the files that locations name."""
-    said = text(rows, endings)
+def write(out, found, sources, calls):
+    """Writes all tables, each whole, and gives the text. `sources` has the files that locations name, `calls` the call stacks."""
+    rows, endings, said = found.rows, found.endings, text(found.rows, found.endings)
     room = passes.room_in(out)
     for name, content in (("places.tsv", places_table(rows)), ("traces.tsv", traces_table(endings)),
-                          ("unknown.places", unknown_places(rows)), ("places.txt", said.encode("utf-8", "surrogateescape")),
-                          ("places.sarif", sarif.log(rows, endings, status, sources))):
+                          ("unknown.places", unknown_places(rows, calls.functions)), ("places.txt", said.encode("utf-8", "surrogateescape")),
+                          ("places.sarif", sarif.log(found, sources, calls.accesses_of(rows, out)))):
         files.put(out / name, content, room)
     return said

@@ -16,7 +16,10 @@ OBJECTS = {
     "invocation": ({"executionSuccessful", "exitCode", "toolExecutionNotifications"}, {"executionSuccessful"}),
     "notification": ({"level", "message"}, {"message"}),
     "result": ({"ruleId", "ruleIndex", "level", "message", "locations", "relatedLocations", "partialFingerprints", "suppressions",
-                "properties"}, {"message"}),
+                "properties", "codeFlows"}, {"message"}),
+    "codeFlow": ({"threadFlows"}, {"threadFlows"}),
+    "threadFlow": ({"id", "message", "locations"}, {"locations"}),
+    "threadFlowLocation": ({"location"}, set()),
     "location": ({"id", "message", "physicalLocation", "logicalLocations"}, set()),
     "physicalLocation": ({"artifactLocation", "region"}, {"artifactLocation"}),
     "artifactLocation": ({"uri", "uriBaseId", "description"}, set()),
@@ -90,9 +93,22 @@ class Base(farm.Case):
         for name, value in result["partialFingerprints"].items():
             self.assertRegex(name, r"^([^/]+/v[0-9]+|primaryLocationLineHash)$")
             self.assertTrue(value and isinstance(value, str))
+        for code_flow in result.get("codeFlows", []):
+            self.check_code_flow(run, code_flow)
         for suppression in result["suppressions"]:          # all results have this property, or none has
             self.expect("suppression", suppression)
             self.assertIn(suppression["kind"], ("inSource", "external"))
+
+    def check_code_flow(self, run, code_flow):
+        self.expect("codeFlow", code_flow)
+        for flow in code_flow["threadFlows"]:
+            self.expect("threadFlow", flow)
+            self.check_message(flow["message"])
+            self.assertTrue(flow["locations"])
+            for step in flow["locations"]:
+                self.expect("threadFlowLocation", step)
+                self.check_location(run, step["location"])
+                self.check_message(step["location"]["message"])
 
     def check_location(self, run, location):
         self.expect("location", location)

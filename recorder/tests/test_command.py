@@ -75,8 +75,9 @@ class Command(recorder.Case):
         self.assertGreater(numbers[late][0], events - 100)
         reach = re.search(rf"{windows} windows that cover races of accesses up to ([\d,]+) events apart; 2 places with races", said)[1]
         self.assertIn(int(reach.replace(",", "")), range(950, 1001))  # half a window, but for locks that are held where it begins
-        shown = sorted((self.folder / "long_race.shb").glob("*.windows/*"))  # other windows are gone
+        *shown, table = sorted((self.folder / "long_race.shb").glob("*.windows/*"))  # other windows are gone
         self.assertEqual([path.name for path in shown], [f"window-{number:04}.{end}" for number in (1, windows) for end in ("html", "report", "std")])
+        self.assertRegex(text_of(table), rf"\Afile\tfirst\tlast\tadded\nwindow-0001.std\t1\t\d+\t0\n(.*\n)+window-{windows:04}.std\t\d+\t{events}\t\d+\n\Z")
         for path in shown[0], shown[3]:
             self.assertIn(f"Races of accesses that are more than {reach} events apart may not be listed.", text_of(path))
             self.assertIn("In this window ", text_of(path))

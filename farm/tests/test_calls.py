@@ -1,0 +1,98 @@
+"""The call stacks beside traces: places by functions, and the ways to the accesses in the log."""
+
+import struct
+
+import farm
+from test_sarif import Base
+
+TRACE = b"main|fork(T1)|a.c:30\nT1|w(x)|a.c:5\nmain|w(x)|a.c:7\n"
+MOVED = TRACE.replace(b"a.c:5", b"a.c:15").replace(b"a.c:7", b"a.c:17")
+TABLES = b"""\
+frame main\ta.c:30
+frame add<int>(int)\ta.c:5
+system-frame std::each(f)\t/usr/include/each.h:8
+frame run\ta.c:20
+frame get()\ta.c:7
+stack 1 0 1
+stack 2 3 2
+stack 3 4 3
+stack 4 0 4
+stack 5 1 5
+source a.c\t%b
+"""
+FUNCTIONS = b"a.c:add<>()\ta.c:get()\n"
+OTHER = b"main|fork(T1)|a.c:30\nT1|w(x)|a.c:5\nmain|w(x)|b.c:1\n"
+
+
+def stacks(numbers=(1, 2, 5), tables=TABLES % b"/none/a.c"):
+    return b"shb-stacks 1 %020d\n" % len(numbers) + struct.pack(f"<{len(numbers)}I", *numbers) + tables
+
+
+class Calls(Base):
+    def unknown(self):
+        return (self.out / "unknown.places").read_bytes()
+
+    def test_places_by_functions(self):
+        """What was written as unknown is known when the lines have moved; where a trace has no stacks its lines decide."""
+        self.trace("app.std", TRACE)
+        self.trace("app.stacks", stacks())
+        self.trace("other.std", OTHER)
+        self.assertEqual(self.farm().status, 1)
+        self.assertEqual(self.unknown(), b"# a.c:5\ta.c:7\n" + FUNCTIONS + b"a.c:5\tb.c:1\n")
+        known = self.known(self.unknown())
+        self.trace("app.std", MOVED)
+        self.trace("app.stacks", stacks(tables=TABLES.replace(b"a.c:5", b"a.c:15").replace(b"a.c:7", b"a.c:17") % b"/none/a.c"))
+        self.assertEqual(self.farm("--known", known).status, 0)
+        (self.traces / "app.stacks").unlink()
+        self.assertEqual(self.farm("--known", known).status, 1)
+        self.assertEqual(self.unknown(), b"a.c:15\ta.c:17\n")
+
+    def steps(self, *words):
+        """For each access of the only result: its thread, what it does, and the lines and functions on the way to it."""
+        [result] = self.log(*words)["results"]
+        return [(flow["id"], flow["message"]["text"], [
+            "{} {}:{}".format(step["location"]["message"]["text"], place["artifactLocation"]["uri"], place["region"]["startLine"])
+            for step in flow["locations"] for place in [step["location"]["physicalLocation"]]])
+            for code_flow in result.get("codeFlows", []) for flow in code_flow["threadFlows"]]
+
+    WAYS = [("T1", "T1: w(x)", ["T1 in run {}:20", "T1 in add<> {}:5"]), ("main", "main: w(x)", ["main in main {}:30", "main in get {}:7"])]
+
+    def ways(self, path):
+        return [(thread, does, [step.format(path) for step in steps]) for thread, does, steps in self.WAYS]
+
+    def test_the_ways_to_the_accesses(self):
+        self.trace("app.std", TRACE)
+        self.assertEqual(self.steps(), [])
+        self.trace("app.stacks", stacks())
+        self.assertEqual(self.steps(), self.ways("a.c"))
+
+    def test_a_window_of_a_run(self):
+        """Its stacks are beside the folder of the windows, whose table says where it begins; without the table none are shown."""
+        self.trace("run1.7.windows/window-0002.std", TRACE)
+        self.trace("run1.7.stacks", stacks((1, 1, 1, 1, 2, 5, 4)))
+        table = self.trace("run1.7.windows/windows.tsv", b"file\tfirst\tlast\tadded\nwindow-0001.std\t1\t4\t0\nwindow-0002.std\t5\t7\t1\n")
+        self.assertEqual(self.steps(), self.ways("a.c"))
+        table.unlink()
+        answer = self.farm()
+        self.assertEqual((answer.status, answer.err), (1, f"shb-farm: {self.traces}/run1.7.stacks: No such file or directory; its call stacks are left out\n"))
+        self.assertEqual(self.unknown(), b"# a.c:5\ta.c:7\n" + FUNCTIONS)
+
+    def test_a_file_that_is_none(self):
+        self.trace("app.std", TRACE)
+        for content in (b"", b"shb-stacks 2 %020d\n" % 3, stacks((1, 2))):
+            self.trace("app.stacks", content)
+            answer = self.farm()
+            said = f"shb-farm: {self.traces}/app.stacks: doesn't have the stacks of this trace; its call stacks are left out"
+            self.assertEqual((answer.status, said in answer.err.splitlines()), (1, True), answer.err)
+
+    def test_the_file_that_was_compiled(self):
+        """Of two files whose paths end as the location's it is the one that the program was made of, where that is known."""
+        top = self.folder / "repository"
+        for name in ("one", "two"):
+            (top / name).mkdir(parents=True)
+            (top / name / "a.c").write_text("x\n" * 40)
+        self.trace("app.std", TRACE)
+        self.trace("app.stacks", stacks())
+        self.assertEqual(self.steps("--source", top), self.ways("a.c"))
+        self.trace("app.stacks", stacks(tables=TABLES % bytes(top / "two" / "a.c")))
+        self.assertEqual(self.steps("--source", top), self.ways("two/a.c"))
