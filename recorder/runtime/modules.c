@@ -1,10 +1,13 @@
 /* The modules of code in the program: which are instrumented, and the functions that the wrappers here stand for. */
 #define _GNU_SOURCE
 #include <dlfcn.h>
+#include <errno.h>
 #include <limits.h>
 #include <link.h>
 #include <stdio.h>
 #include <string.h>
+#include <sys/mman.h>
+#include <sys/syscall.h>
 #include <unistd.h>
 #include "runtime.h"
 
@@ -86,6 +89,50 @@ PUBLIC void __tsan_init(void) {        /* called by each instrumented file's con
     if (count == seen_modules) return;
     seen_modules = count;
     dl_iterate_phdr(see_module, 0);
+}
+
+/* ---- modules that go: no other one comes to their addresses, for the record names code and variables by these ---- */
+enum { MOST_GONE = 200 };              /* then others may: a table of modules has an end */
+typedef struct { struct module at[MAX_MODULES]; int count; } loaded;
+
+static int add_loaded(struct dl_phdr_info *info, size_t size, void *loaded_) {
+    loaded *l = loaded_;
+    uint64_t low = ~0ull, high = 0;
+    for (int i = 0; i < info->dlpi_phnum; i++) {
+        const ElfW(Phdr) *part = &info->dlpi_phdr[i];
+        if (part->p_type != PT_LOAD) continue;
+        uint64_t from = info->dlpi_addr + part->p_vaddr;
+        if (from < low) low = from;
+        if (from + part->p_memsz > high) high = from + part->p_memsz;
+    }
+    if (high && l->count < MAX_MODULES) l->at[l->count++] = (struct module){low, high};
+    return 0;
+}
+
+static int is_loaded(const loaded *l, uint64_t low) {
+    for (int i = 0; i < l->count; i++)
+        if (l->at[i].low == low) return 1;
+    return 0;
+}
+
+static void keep_addresses(struct module gone) {
+    static _Atomic int kept;
+    uint64_t page = getpagesize(), from = gone.low & -page, bytes = ((gone.high + page - 1) & -page) - from;
+    if (atomic_fetch_add(&kept, 1) >= MOST_GONE) return;
+    long at = syscall(SYS_mmap, from, bytes, PROT_NONE, MAP_PRIVATE | MAP_ANONYMOUS | MAP_NORESERVE | MAP_FIXED_NOREPLACE, -1, 0L);
+    if (at > 0 && (uint64_t)at != from) syscall(SYS_munmap, at, bytes);     /* an old kernel */
+}
+
+PUBLIC int dlclose(void *handle) {
+    if (!recording) return REAL(dlclose)(handle);
+    loaded before = {.count = 0}, after = {.count = 0};
+    dl_iterate_phdr(add_loaded, &before);
+    int error = REAL(dlclose)(handle), saved = errno;
+    dl_iterate_phdr(add_loaded, &after);
+    for (int i = 0; i < before.count; i++)
+        if (!is_loaded(&after, before.at[i].low)) keep_addresses(before.at[i]);
+    errno = saved;
+    return error;
 }
 
 void note_modules(void) {              /* once there is a record; gcc's own library has __tsan_init called before that */

@@ -99,6 +99,12 @@ class Processes(recorder.Case):
         recorder.must(recorder.call(program, library, env=how))
         self.assertEqual(racing_lines(*self.records()), marked("plugin.cc"))
 
+    def test_plugins_that_come_and_go(self):
+        plugins = [self.program(f"plugin_{name}.c", "-shared", "-fPIC") for name in ("one", "two")]
+        program = self.program("plugins.c", "-ldl")
+        recorder.must(recorder.call(program, *plugins, env=self.settings()))
+        self.assertEqual(racing_lines(*self.records()), marked("plugin_two.c"))
+
     def test_the_cxx_library_linked_into_the_program(self):
         program, how = self.program("cxx.cc", "-static-libstdc++", compiler="g++"), self.settings()
         recorder.must(recorder.call(program, env={**how, "SHB_RECORD": ""}))

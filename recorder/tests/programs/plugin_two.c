@@ -1,0 +1,6 @@
+/* Loaded by plugins.c, at the address where plugin_one.c was. */
+int counter;
+
+
+
+void hit(void) { counter++; } /* RACE */
