@@ -59,6 +59,13 @@ class Stacks(program.Case):
         self.assertIn("   thread T1 was created in main a.c:30\n", out)
         self.assertIn("   block a.c:9#2 was allocated in make a.c:9, from main a.c:31\n", out)
 
+    def test_stacks_that_differ_in_what_is_not_shown_are_one(self):
+        """One of the two ways to a line goes through a system header, which the text leaves out."""
+        tables = TABLES + b"system-frame std::less(f)\tless.h:9\nstack 10 3 2 10\nstack 11 4 10 2\nstack 12 4 2\n"
+        _, out, err = self.shown(stacks([1, 12, 11, 11, 7], tables=tables))
+        self.assertEqual(err, "")
+        self.assertIn("     races with a.c:5 (2 races) and a.c:7 (1 race)\n     in add<>\n       from run a.c:20\n   a.c:7: ", out)
+
     def test_the_page(self):
         path = self.folder / "page.html"
         status, _, err = self.shown(stacks(), "--html", path)

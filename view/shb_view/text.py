@@ -1,5 +1,7 @@
 """The text form: the groups, each with its fact and the lines that use its variables."""
 
+import collections
+
 from shb_common import known
 from shb_view.groups import group_name
 from shb_view.issue import issue_lines
@@ -101,16 +103,18 @@ def site_lines(view, section, site, colours):
 
 
 def stack_lines(callers):
-    """The stacks of a line's racing accesses."""
-    total = sum(count for _, count in callers)
-    for frames, count in callers[:MOST_STACKS]:
+    """The stacks of a line's racing accesses. Those that differ in what isn't shown are one."""
+    shown = collections.Counter()
+    for frames, count in callers:
         first, *others = caller_lines(frames, MOST_FRAMES) or [["(no stack is known)"]]
-        some = f" ({count:,} of {counted(total, 'racing access', 'racing accesses')})" if len(callers) > 1 else ""
-        yield f"     in {flat(first[:1])}{some}"
-        yield from (f"       from {flat(parts)}" for parts in others)
-    if len(callers) > MOST_STACKS:
-        rest = sum(count for _, count in callers[MOST_STACKS:])
-        yield f"     and {counted(len(callers) - MOST_STACKS, 'more stack')} ({counted(rest, 'racing access', 'racing accesses')})"
+        shown[(flat(first[:1]), *map(flat, others))] += count
+    for (first, *others), count in shown.most_common(MOST_STACKS):
+        some = f" ({count:,} of {counted(sum(shown.values()), 'racing access', 'racing accesses')})" if len(shown) > 1 else ""
+        yield f"     in {first}{some}"
+        yield from (f"       from {parts}" for parts in others)
+    if len(shown) > MOST_STACKS:
+        rest = sum(count for _, count in shown.most_common()[MOST_STACKS:])
+        yield f"     and {counted(len(shown) - MOST_STACKS, 'more stack')} ({counted(rest, 'racing access', 'racing accesses')})"
 
 
 def window_lines(window):
