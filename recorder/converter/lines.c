@@ -20,7 +20,7 @@ enum { MOST_FORMS = 16, WHOLE_PATH = 4096 };
 
 static void skip(bytes *b, u64 count) {
     if (count > (u64)(b->end - b->at)) b->is_bad = 1;
-    else b->at += count;
+    else if (count) b->at += count;    /* of a section that isn't there nothing is added to a null pointer */
 }
 
 static u64 fixed(bytes *b, unsigned count) {

@@ -3,6 +3,7 @@
 import os
 import random
 import re
+import shutil
 import struct
 
 import recorder
@@ -214,11 +215,11 @@ def damaged_programs(good):
 
 
 class Damaged(recorder.Case):
-    def converter(self):
+    def converter(self, compiler="gcc"):
         """The converter, built so that it ends at the first access that isn't allowed."""
-        sanitizers = "-fsanitize=address,undefined", "-fno-sanitize-recover"
+        sanitizers = "-fsanitize=address,undefined", "-fno-sanitize-recover=all"
         sources = sorted(recorder.SOURCES.glob("converter/*.c"))
-        recorder.must(recorder.call("gcc", "-g", "-O1", *sanitizers, *sources, "-o", self.folder / "shb-std"))
+        recorder.must(recorder.call(compiler, "-g", "-O1", *sanitizers, *sources, "-o", self.folder / "shb-std"))
         return self.folder / "shb-std"
 
     def convert(self, converter, record):
@@ -249,6 +250,17 @@ class Damaged(recorder.Case):
             program.write_bytes(damaged)
             with self.subTest(number):
                 self.assertEqual(self.convert(converter, record), 0)
+
+    def test_a_program_without_a_section_of_its_debug_information(self):
+        """clang's sanitizer knows what gcc's doesn't: that nothing may be added to a null pointer."""
+        if not shutil.which("clang"):
+            self.skipTest("clang isn't installed")
+        converter, record, program = self.converter("clang"), self.folder / "app.rec", self.folder / "app"
+        recorder.must(recorder.call("gcc", "-g", *recorder.two_of_one_name(self.folder / "sources"), "-o", program, "-pthread"))
+        record.write_bytes((b"shb-record 4\n0 ffffff 0 " + os.fsencode(program) + b"\n").ljust(65536 - 256, b"\0")
+                           + b"whole".ljust(256, b"\0") + ENTRIES)
+        program.write_bytes(program.read_bytes().replace(b".debug_line_str", b".debug_line_xxx"))
+        self.assertEqual(self.convert(converter, record), 0)
 
     def test_what_no_trace_can_have_is_refused(self):
         fork, start, join = entry(0, "FORK", 1, 0x101), entry(1, "START", STACK, 0x500, 4096), entry(0, "JOIN", 1, 0x103)
