@@ -50,7 +50,7 @@ fn follow<R: Print + Eprint + Input + AllocGlobal + Files + RandomSource + Threa
             let _ = rt.eprint(text.as_str());
             WORDS_REFUSED
         }
-        Err(WordsFault::Memory) => complain(rt, "out of memory", FAILED),
+        Err(WordsFault::Memory(_) | WordsFault::Unread(_)) => complain(rt, "out of memory", FAILED),
     }
 }
 

@@ -58,7 +58,7 @@ refused_of read stop error (Err e) is refusal = subst (IsRefusalOf read stop) (s
   where
     told : (error : CheckError) → IsRefusal read.events error → IsRefusalOf read stop (error_of_checking error)
     told (checking.Undisciplined line fault) first = λ text reading. undisciplined standard_limits text read stop line fault reading first
-    told checking.Memory first = tt
+    told (checking.Memory _) first = tt
 
 -- the fault of a refusal is the first of the text that was read
 pub refusal_first : {T : Type 0} (read : TraceData) (stop : Option LineFault) (n : ℕ) (known left : Option (List ℕ)) (before given : ℕ) (error : RunError) (r : Result T RunError) → IsErrAnd r (λ e. e ≡ error)
@@ -71,7 +71,7 @@ refusal_first {T} read stop n known left before given error (Err e) is reading r
     told (Trace line fault) refusal = reads_then n known left before given (λ text. IsReadingOf standard_limits text read stop) (λ text. IsFirstFault standard_limits text line fault) reading refusal
     told Source refusal = tt
     told Sink refusal = tt
-    told Memory refusal = tt
+    told (Memory _) refusal = tt
 
 -- a text with no fault has none of which anything is to be said
 pub none_found : (read : TraceData) (stop : Option LineFault) (trace : TraceData) (known : Option (List ℕ)) (P : Type 0)
@@ -84,7 +84,7 @@ judged (Ok x) P p = p
 judged (Err (Trace line fault)) P p = p
 judged (Err Source) P p = tt
 judged (Err Sink) P p = p
-judged (Err Memory) P p = tt
+judged (Err (Memory _)) P p = tt
 
 -- a text that was not read was not judged
 pub not_judged : {T : Type 0} (error : ReadError) (r : Result T RunError) (P : Type 0) → IsErrAnd r (λ e. e ≡ error_of_reading error) → OnJudged r P
@@ -93,7 +93,7 @@ not_judged {T} error (Err e) P is = subst (λ (e : RunError). OnJudged {T = T} (
   where
     told : (error : ReadError) → OnJudged {T = T} (Err (error_of_reading error)) P
     told reading.Source = tt
-    told reading.Memory = tt
+    told (reading.Memory _) = tt
 
 -- a source of which nothing was taken
 pub Takes-none : (n : ℕ) (a : Option (List ℕ)) → TakesAtMost n a a
@@ -126,14 +126,14 @@ of_any_trace (Ok x) P p = tt
 of_any_trace (Err (Trace line fault)) P p = p
 of_any_trace (Err Source) P p = tt
 of_any_trace (Err Sink) P p = tt
-of_any_trace (Err Memory) P p = tt
+of_any_trace (Err (Memory _)) P p = tt
 
 pub of_no_trace : {T : Type 0} (r : Result T RunError) (P : Type 0) → P → OnNoTrace r P
 of_no_trace (Ok x) P p = tt
 of_no_trace (Err (Trace line fault)) P p = p
 of_no_trace (Err Source) P p = p
 of_no_trace (Err Sink) P p = tt
-of_no_trace (Err Memory) P p = tt
+of_no_trace (Err (Memory _)) P p = tt
 
 pub of_any_fault : (known : Option (List ℕ)) (P : Type 0) → P → IfSome known (λ text. (line : ℕ) (fault : Fault) → IsFirstFault standard_limits text line fault → P)
 of_any_fault None P p = tt
@@ -154,4 +154,4 @@ counted_judged {T} read stop error (Err e) old new old_report new_report is refu
     told (Trace line fault) refusal = inl (same, same_report)
     told Source refusal = absurd refusal
     told Sink refusal = inl (same, same_report)
-    told Memory refusal = inl (same, same_report)
+    told (Memory _) refusal = inl (same, same_report)

@@ -8,8 +8,8 @@ use Rattle.shb_check.specs.declared.errors.RunError.TheVariants.{Trace, Source, 
 
 abbrev pub error_of_reading : ReadError → RunError
 error_of_reading reading.Source = Source
-error_of_reading reading.Memory = Memory
+error_of_reading (reading.Memory refused) = Memory refused
 
 abbrev pub error_of_checking : CheckError → RunError
 error_of_checking (checking.Undisciplined line fault) = Trace line fault
-error_of_checking checking.Memory = Memory
+error_of_checking (checking.Memory refused) = Memory refused

@@ -17,6 +17,6 @@ pub record IsAccepted (read : TraceData) (stop : Option LineFault) (trace : Trac
 -- a text that was read so is refused for its first fault, or there was no memory to judge it
 abbrev pub IsRefusalOf : TraceData → Option LineFault → RunError → Type 0
 IsRefusalOf read stop (Trace line fault) = (text : List ℕ) → IsReadingOf standard_limits text read stop → IsFirstFault standard_limits text line fault
-IsRefusalOf read stop Memory = ⊤
+IsRefusalOf read stop (Memory _) = ⊤
 IsRefusalOf read stop Source = ⊥
 IsRefusalOf read stop Sink = ⊥

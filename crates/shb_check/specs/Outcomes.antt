@@ -23,7 +23,7 @@ OnSink _ P = ⊤
 
 -- for a run to which memory was refused
 abbrev pub OnMemory : {T : Type 0} → Result T RunError → Type 0 → Type 0
-OnMemory (Err Memory) P = P
+OnMemory (Err (Memory _)) P = P
 OnMemory _ P = ⊤
 
 -- for a run that read a trace and judged it: it was refused, or the report was written, or the sink failed

@@ -11,7 +11,7 @@ abbrev pub exit_status_of : RunError → ℕ
 exit_status_of (Trace line fault) = 2
 exit_status_of Source = 4
 exit_status_of Sink = 4
-exit_status_of Memory = 4
+exit_status_of (Memory _) = 4
 
 -- a good report ends with 0, a rejected one with 5
 abbrev pub check_status_of : Result Verdict RunError → ℕ
@@ -24,4 +24,4 @@ abbrev pub fault_line_of : RunError → List ℕ
 fault_line_of (Trace line fault) = codes "line " ++ (decimal line ++ (codes ": " ++ message_of fault))
 fault_line_of Source = codes "cannot read"
 fault_line_of Sink = codes "cannot write"
-fault_line_of Memory = codes "out of memory"
+fault_line_of (Memory _) = codes "out of memory"

@@ -1,5 +1,6 @@
 //! Why a run gives no report, and a check no verdict.
 use shb_discipline::CheckError;
+use shb_io::NoMemory;
 use shb_lines::{Fault, ReadError};
 use thiserror::Error;
 
@@ -17,7 +18,7 @@ pub enum RunError {
     Sink,
     /// Memory was refused. What was written is less than the report, the front of it, perhaps nothing.
     #[error("out of memory")]
-    Memory,
+    Memory(NoMemory),
 }
 
 impl From<ReadError> for RunError {
@@ -29,7 +30,7 @@ impl From<ReadError> for RunError {
     fn from(error: ReadError) -> RunError {
         match error {
             ReadError::Source => RunError::Source,
-            ReadError::Memory => RunError::Memory,
+            ReadError::Memory(refused) => RunError::Memory(refused),
         }
     }
 }
@@ -43,7 +44,7 @@ impl From<CheckError> for RunError {
     fn from(error: CheckError) -> RunError {
         match error {
             CheckError::Undisciplined { line, fault } => RunError::Trace { line, fault },
-            CheckError::Memory => RunError::Memory,
+            CheckError::Memory(refused) => RunError::Memory(refused),
         }
     }
 }

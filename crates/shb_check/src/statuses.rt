@@ -13,7 +13,7 @@ pub fn exit_status(error: &RunError) -> u8
 {
     match error {
         RunError::Trace { .. } => 2,
-        RunError::Source | RunError::Sink | RunError::Memory => 4,
+        RunError::Source | RunError::Sink | RunError::Memory(_) => 4,
     }
 }
 
@@ -41,7 +41,7 @@ pub fn fault_line(alloc: Global, error: &RunError) -> Result<String, NoMemory>
         }
         RunError::Source => String::from_str(alloc, "cannot read")?,
         RunError::Sink => String::from_str(alloc, "cannot write")?,
-        RunError::Memory => String::from_str(alloc, "out of memory")?,
+        RunError::Memory(_) => String::from_str(alloc, "out of memory")?,
     };
     Ok(line)
 }

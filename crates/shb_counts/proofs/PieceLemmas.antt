@@ -54,8 +54,8 @@ piece_room {A} f (suc n) k lt =
     elim (cases_lt k n) [
       | inl less ↦ (let rest = piece_room f n k less in omega (arith, rest, next, size))
       | inr past ↦ (
-        let e : n ≡ k = omega (arith, lt, past) in
-        subst (λ (m : ℕ). length (joined (values_of f m)) + length (f m) ≤ length (joined (values_of f (suc n)))) e (omega (arith, next, size)))
+          let e : n ≡ k = omega (arith, lt, past) in
+          subst (λ (m : ℕ). length (joined (values_of f m)) + length (f m) ≤ length (joined (values_of f (suc n)))) e (omega (arith, next, size)))
     ]
 
 -- the values of the first elements are no more than those of more of them

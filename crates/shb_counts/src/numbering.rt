@@ -5,7 +5,7 @@ ghost use Rattle.shb_counts.specs.Numbering.{AreNumbered, HasNumber};
 ghost use Rattle.shb_report.specs.Places.{location_at};
 
 use indexmap::IndexMap;
-use shb_io::NoMemory;
+use shb_io::{NoMemory, random_state};
 use shb_lines::Trace;
 use std::alloc::Global;
 use std::hash::RandomState;
@@ -81,10 +81,7 @@ pub(crate) fn location_numbers<R: RandomSource>(
 ) -> Result<LocationNumbers, NoMemory>
     ensures { IfOk result (λ n. AreNumbered trace.now (length trace.now.events) n.numbers.items n.events.items) }
 {
-    let Ok(state) = RandomState::new(rt) else {
-        return Err(NoMemory);
-    };
-    let mut firsts: Firsts<'_> = IndexMap::with_hasher(alloc, state);
+    let mut firsts: Firsts<'_> = IndexMap::with_hasher(alloc, random_state(rt)?);
     let mut found = LocationNumbers {
         numbers: Vec::new(alloc),
         events: Vec::new(alloc),

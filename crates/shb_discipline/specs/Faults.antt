@@ -40,4 +40,4 @@ IsFirstIfAny trace (Some found) = IsFirstDisciplineFault trace found.line found.
 -- the answer to a trace that is refused
 abbrev pub IsRefusal : List Event → CheckError → Type 0
 IsRefusal trace (Undisciplined line fault) = IsFirstDisciplineFault trace line fault
-IsRefusal trace Memory = Unit {0}
+IsRefusal trace (Memory _) = Unit {0}

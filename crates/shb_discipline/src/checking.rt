@@ -18,16 +18,16 @@ pub enum CheckError {
     /// counted from 1, and its fault of lowest number.
     Undisciplined { line: u32, fault: Fault },
     /// There is no memory for the check. Nothing is said of the trace.
-    Memory,
+    Memory(NoMemory),
 }
 
 impl From<NoMemory> for CheckError {
     ghost use Rattle.shb_discipline.specs.declared.checking.CheckError.TheVariants.{Memory};
 
-    ghost from_gives = { λ _ e. e ≡ Memory };
+    ghost from_gives = { λ refused e. e ≡ Memory refused };
 
-    fn from(_error: NoMemory) -> CheckError {
-        CheckError::Memory
+    fn from(refused: NoMemory) -> CheckError {
+        CheckError::Memory(refused)
     }
 }
 

@@ -108,5 +108,5 @@ module _ {T M : Type 0} (meaning : T → M) (value : ℕ → M) where
 
   abbrev pub Ended : {K E A : Type 0} → (K → List T → K → Type 0) → (K → List T → T → E → K → Type 0) → ℕ → K → Result A (StreamError E) → K → Type 0
   Ended takes refuses count start (Ok _) end = HasTaken takes start count end
-  Ended takes refuses count start (Err Memory) end = (k : ℕ) × (k ≤ count) × HasTaken takes start k end
+  Ended takes refuses count start (Err (Memory _)) end = (k : ℕ) × (k ≤ count) × HasTaken takes start k end
   Ended takes refuses count start (Err (Taker e)) end = (k : ℕ) × (k < count) × HasRefused refuses start k e end

@@ -6,7 +6,7 @@ use crate::batches::{BATCH, BatchGate, Batches};
 use crate::gate::Gate;
 use crate::job::Job;
 use crate::streaming::stream;
-use crate::taker::Taker;
+use crate::taker::{StreamError, Taker};
 use crate::workers::Workers;
 use shb_io::NoMemory;
 use std::alloc::Global;
@@ -86,9 +86,10 @@ fn gather_pieces<
     let mut keeper = Keeper {
         values: Vec::with_capacity(alloc, job.pieces() as usize)?,
     };
-    let Ok(_) = stream(rt, alloc, job, gate, workers, &mut keeper) else {
-        return Err(NoMemory);
-    };
+    match stream(rt, alloc, job, gate, workers, &mut keeper) {
+        Ok(_) => {}
+        Err(StreamError::Memory(refused) | StreamError::Taker(refused)) => return Err(refused),
+    }
     let Keeper { values } = keeper;
     Ok(values)
 }
@@ -109,9 +110,10 @@ fn gather_batches<
     let mut keeper = ListKeeper {
         values: Vec::with_capacity(alloc, pieces as usize)?,
     };
-    let Ok(_) = stream(rt, alloc, &batches, &batch_gate, workers, &mut keeper) else {
-        return Err(NoMemory);
-    };
+    match stream(rt, alloc, &batches, &batch_gate, workers, &mut keeper) {
+        Ok(_) => {}
+        Err(StreamError::Memory(refused) | StreamError::Taker(refused)) => return Err(refused),
+    }
     let ListKeeper { values } = keeper;
     Ok(values)
 }

@@ -11,9 +11,10 @@ use crate::sides::{CallerSide, WorkerSide, run_both_sides};
 use crate::taker::{StreamError, Taker};
 use crate::tickets::{DrawEnd, Tickets};
 use crate::workers::Workers;
+use shb_io::NoMemory;
 use std::alloc::Global;
-use std::sync::Wait;
 use std::sync::atomic::{AtomicBool, Ordering};
+use std::sync::{OnceLock, Wait};
 use std::thread::Threads;
 
 /// The caller's own pass and seat, and a piece that it drew and has not run.
@@ -31,12 +32,14 @@ pub(crate) struct GatedJob<'a, J, G> {
     pub(crate) alloc: Global,
 }
 
-/// What all workers and the caller share. `begun` says that some worker has begun; it is a hint alone.
+/// What all workers and the caller share. `begun` says that some worker has begun; it is a hint alone. `refused`
+/// keeps the first refusal of memory, from before the draw is stopped for it.
 #[derive(Drop)]
 pub(crate) struct Shared<'a, T: Drop, M, J: Job<Out = T, Meaning = M>, G> {
     pub(crate) gated: GatedJob<'a, J, G>,
     pub(crate) desk: &'a Desk<T, M, J>,
     pub(crate) begun: &'a AtomicBool,
+    pub(crate) refused: &'a OnceLock<NoMemory>,
     pub(crate) pieces: u64,
 }
 
@@ -86,9 +89,13 @@ fn make<R: Wait, T: Drop, M, J: Job<Out = T, Meaning = M>, G: Gate>(
     ensures lifted { lifted_of worker.new.seat ≡ lifted_of worker.old.seat }
 {
     shared.gated.gate.enter(rt, k);
-    let Ok(out) = shared.gated.job.run(shared.gated.alloc, k) else {
-        shared.desk.tickets.stop(&mut worker.pass);
-        return false;
+    let out = match shared.gated.job.run(shared.gated.alloc, k) {
+        Ok(out) => out,
+        Err(refused) => {
+            let _ = shared.refused.set(rt, refused);
+            shared.desk.tickets.stop(&mut worker.pass);
+            return false;
+        }
     };
     if !wait_to_claim(rt, shared, worker, k) {
         return false;
@@ -217,7 +224,7 @@ fn take_all<R: Wait, T: Drop, M, J: Job<Out = T, Meaning = M>, G: Gate, E, K: Ta
 {
     for k in 0..shared.pieces {
         let Some(out) = wait_to_lift(rt, shared, caller, k) else {
-            return Err(StreamError::Memory);
+            return Err(StreamError::Memory(*shared.refused.wait(rt)));
         };
         match taker.take(k, out) {
             Ok(()) => {}
@@ -306,11 +313,13 @@ fn work_and_take<
     ensures stopped { IfErr result (λ _. KnowsStop caller.new.own) }
 {
     let begun = AtomicBool::new(false);
+    let refused = OnceLock::new();
     let pieces = gated.job.pieces();
     let shared = Shared {
         gated,
         desk,
         begun: &begun,
+        refused: &refused,
         pieces,
     };
     run_both_sides(rt, &shared, workers, &shared, caller, taker)
@@ -350,15 +359,18 @@ pub fn stream<
     ensures drawn { IfOk result (λ end. (end.drawn ≡ J.count job.now) × (end.stopped ≡ false)) }
 {
     let threads = workers.get() + 1;
-    let Ok((tickets, mut passes)) = Tickets::new(alloc, job.pieces(), threads) else {
-        return Err(StreamError::Memory);
+    let (tickets, mut passes) = match Tickets::new(alloc, job.pieces(), threads) {
+        Ok(made) => made,
+        Err(refused) => return Err(StreamError::Memory(refused)),
     };
-    let Ok((ring, mut seats)) = Ring::new(alloc, job) else {
-        return Err(StreamError::Memory);
+    let (ring, mut seats) = match Ring::new(alloc, job) {
+        Ok(made) => made,
+        Err(refused) => return Err(StreamError::Memory(refused)),
     };
     let desk = Desk { tickets, ring };
-    let Ok(mut workers) = desk.make_workers(alloc, &mut passes, &mut seats) else {
-        return Err(StreamError::Memory);
+    let mut workers = match desk.make_workers(alloc, &mut passes, &mut seats) {
+        Ok(made) => made,
+        Err(refused) => return Err(StreamError::Memory(refused)),
     };
     let Some(own) = workers.pop() else {
         unreachable!()

@@ -1,6 +1,8 @@
 //! Who takes results in order.
 ghost use Rattle.std.specs.Prelude.{◌≡◌, ℕ, ◌∷◌, ◌++◌, [], List, length, IfOk, IfErr};
 
+use shb_io::NoMemory;
+
 /// What takes results in the order of their pieces.
 pub trait Taker<T> {
     /// Why a result was refused.
@@ -30,8 +32,8 @@ pub trait Taker<T> {
 /// Why not all results were taken.
 #[derive(Debug, Drop, Clone, Copy, PartialEq, Eq)]
 pub enum StreamError<E> {
-    /// Memory was refused, or a stop was seen for that.
-    Memory,
+    /// Memory was refused.
+    Memory(NoMemory),
     /// The taker refused a result.
     Taker(E),
 }

@@ -6,7 +6,8 @@ ghost use Rattle.shb_io.specs.Devices.{IsCounted};
 ghost use Rattle.shb_io.specs.Memory.{PageState, counted_on, IsCallToFail};
 
 use crate::calls::is_call_to_fail;
-use crate::traits::{Failed, NoMemory, Sink};
+use crate::no_memory::NoMemory;
+use crate::traits::{Failed, Sink};
 use std::alloc::Global;
 use std::marker::Model;
 

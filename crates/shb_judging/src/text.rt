@@ -14,7 +14,7 @@ use crate::judged::{JudgedBlocks, judge_block};
 use crate::positions::AsPositions;
 use crate::verdict::Verdict;
 use shb_discipline::Disciplined;
-use shb_io::Source;
+use shb_io::{NoMemory, Source};
 use shb_lines::{MOST_BYTES, ReadError, read_whole};
 use shb_links::{Linked, links_of};
 use shb_reading::{
@@ -45,9 +45,9 @@ fn judge_blocks(
     let keeping = AsPositions {
         count: trace.trace.len(),
     };
-    let Ok(mut positions) = Vec::with_capacity(alloc, keeping.count as usize + 1) else {
-        return Err(ReadStop::Memory);
-    };
+    let mut positions = Vec::with_capacity(alloc, keeping.count as usize + 1).map_err(
+        NoMemory::from,
+    )?;
     let mut judged = JudgedBlocks::new(alloc);
     let mut number = 0;
     while number < count {
@@ -55,9 +55,7 @@ fn judge_blocks(
         positions.clear();
         let entry = read_block(text, at, number, &keeping, &mut positions)?;
         let lines = lines_at(text, entry);
-        let Ok(()) = judge_block(&mut judged, judge, trace, lines, positions.as_slice()) else {
-            return Err(ReadStop::Memory);
-        };
+        judge_block(&mut judged, judge, trace, lines, positions.as_slice())?;
     }
     Ok(judged)
 }
@@ -173,6 +171,6 @@ pub fn judge_report<S: Source, R: RandomSource>(
     match verdict_of(rt, alloc, trace, text.as_slice()) {
         Ok(verdict) => Ok(verdict),
         Err(ReadStop::BadLine(line)) => Ok(Verdict::BadLine { line }),
-        Err(ReadStop::Memory) => Err(ReadError::Memory),
+        Err(ReadStop::Memory(refused)) => Err(ReadError::Memory(refused)),
     }
 }

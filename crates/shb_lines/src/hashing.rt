@@ -11,7 +11,7 @@ ghost use Rattle.std.specs.Prelude.{◌≡◌, ◌+◌, ◌<◌, ◌≤◌, leng
 ghost use Rattle.shb_lines.specs.text.Hashing as spec;
 
 use crate::recent::{MOST_TOLD, eight, ends_of};
-use shb_io::NoMemory;
+use shb_io::{NoMemory, random_keys};
 use std::hash::{BuildHasher, Hasher};
 use std::random::RandomSource;
 
@@ -108,15 +108,8 @@ pub struct NameKeys {
 impl NameKeys {
     /// Keys from the random source. A source that fails is answered like want of memory.
     pub fn new<R: RandomSource>(rt: &R) -> Result<NameKeys, NoMemory> {
-        let mut bytes = [0; 16];
-        let Ok(()) = rt.fill_bytes(&mut bytes) else {
-            return Err(NoMemory);
-        };
-        let keys = u128::from_le_bytes(bytes);
-        Ok(NameKeys {
-            first: (keys & 0xFFFF_FFFF_FFFF_FFFF) as u64,
-            second: (keys >> 64) as u64,
-        })
+        let (first, second) = random_keys(rt)?;
+        Ok(NameKeys { first, second })
     }
 }
 

@@ -42,10 +42,10 @@ fn read_onto<S: Source>(
     let Ok(count) = source.read(&mut buffer[..room]) else {
         return Err(ReadError::Source);
     };
-    let Ok(()) = text.extend_from_slice(&buffer[..count]) else {
-        return Err(ReadError::Memory);
-    };
-    Ok(count)
+    match text.extend_from_slice(&buffer[..count]) {
+        Ok(()) => Ok(count),
+        Err(refused) => Err(ReadError::Memory(NoMemory::from(refused))),
+    }
 }
 
 /// Reads the source to its end, or to one byte more than the limit.

@@ -82,12 +82,12 @@ accesses_few trace n (suc m) =
 variable_few : (a : OpenTrace) (x : ℕ) → length a.trace ≤ 4294967296 → length (flat_map (races_of a.trace) (pieces_on x (listed_accesses a x))) ≤ 4294967296 * length (accesses_in a.trace x)
 variable_few a x small = elim (cases_Bool (is_open a.flags x)) [
   | inl h ↦ (
-    let is = ap (λ (ks : List ℕ). length (flat_map (races_of a.trace) (pieces_on x ks))) (listed_open a x h) ∙ ap length (open_joined a.trace x) in
-    let few = races_few a.trace (accesses_in a.trace x) (numbers_all (λ j. j < 4294967296) (accesses_at a.trace x) (length a.trace) (λ k lt t. omega (arith, lt, small))) in
-    omega (arith, is, few))
+      let is = ap (λ (ks : List ℕ). length (flat_map (races_of a.trace) (pieces_on x ks))) (listed_open a x h) ∙ ap length (open_joined a.trace x) in
+      let few = races_few a.trace (accesses_in a.trace x) (numbers_all (λ j. j < 4294967296) (accesses_at a.trace x) (length a.trace) (λ k lt t. omega (arith, lt, small))) in
+      omega (arith, is, few))
   | inr h ↦ (
-    let is = ap (λ (ks : List ℕ). length (flat_map (races_of a.trace) (pieces_on x ks))) (listed_closed a x h) ∙ ap (λ (ps : List Piece). length (flat_map (races_of a.trace) ps)) (no_pieces x) in
-    omega (arith, is))
+      let is = ap (λ (ks : List ℕ). length (flat_map (races_of a.trace) (pieces_on x ks))) (listed_closed a x h) ∙ ap (λ (ps : List Piece). length (flat_map (races_of a.trace) ps)) (no_pieces x) in
+      omega (arith, is))
 ]
 
 pieces_few : (a : OpenTrace) (n : ℕ) → length a.trace ≤ 4294967296 → length (flat_map (races_of a.trace) (pieces_below a n)) ≤ 4294967296 * accesses_below a.trace n (length a.trace)

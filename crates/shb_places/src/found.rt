@@ -144,7 +144,7 @@ impl Found {
             → OnOk result (IsOffered trace n self.new.places.items self.old.races.items self.new.races.items race) }
         ensures as_many { OnOk result (length self.new.races.items ≡ length self.new.places.items) }
     {
-        let q = next_number(self.places.len())?;
+        let q = next_number(self.places.as_slice())?;
         self.places.push(place)?;
         self.races.push(race)?;
         self.hints.insert(mixed(place.first, place.second), q)?;

@@ -13,7 +13,7 @@ ghost use Rattle.shb_report.specs.Places.{location_at};
 use crate::hints::{Hints, MOST_TRIED};
 use crate::numbers::{NONE, mixed};
 use shb_discipline::Disciplined;
-use shb_io::NoMemory;
+use shb_io::{NoMemory, random_keys};
 use shb_lines::{Op, location_in};
 use std::alloc::Global;
 use std::random::RandomSource;
@@ -88,15 +88,8 @@ fn folded_product(a: u64, b: u64) -> u64 {
 impl Keys {
     /// Keys from the random source. A source that fails is answered like want of memory.
     fn new<R: RandomSource>(rt: &R) -> Result<Keys, NoMemory> {
-        let mut bytes = [0; 16];
-        let Ok(()) = rt.fill_bytes(&mut bytes) else {
-            return Err(NoMemory);
-        };
-        let keys = u128::from_le_bytes(bytes);
-        Ok(Keys {
-            first: (keys & 0xFFFF_FFFF_FFFF_FFFF) as u64,
-            second: (keys >> 64) as u64,
-        })
+        let (first, second) = random_keys(rt)?;
+        Ok(Keys { first, second })
     }
 
     /// The hash of a location.

@@ -89,7 +89,7 @@ fn add_link(links: &mut Vec<Link>, event: u32, previous: u32) -> Result<u32, NoM
     ensures number { IfOk result (λ k. (k ≡ length links.old.items) × (k < none)) }
     ensures pushed { OnOk result (links.new.items ≡ links.old.items ++ record { event = event; previous = previous } ∷ []) }
 {
-    let k = next_number(links.len())?;
+    let k = next_number(links.as_slice())?;
     links.push(Link { event, previous })?;
     Ok(k)
 }
@@ -252,7 +252,7 @@ impl Notes {
         ensures { IfOk result (λ c. (head : ℕ) × IsBegun (tables_of self.old) (tables_of self.new) s head
             (record { site = s; thread = access.thread; writes = access.writes; next = head }) access.event local) }
     {
-        let c = next_number(self.classes.len())?;
+        let c = next_number(self.classes.as_slice())?;
         let list = list_of(s, access.writes);
         let next = self.heads[list];
         let link = add_link(&mut self.links, access.event, NONE)?;

@@ -1,6 +1,6 @@
 //! The numbers of records in a table.
 
-ghost use Rattle.std.specs.Prelude.{◌≡◌, ◌<◌, IfOk};
+ghost use Rattle.std.specs.Prelude.{◌≡◌, ◌<◌, IfOk, length};
 ghost use Rattle.shb_places.specs.Lists.{none};
 
 use shb_io::NoMemory;
@@ -8,18 +8,19 @@ use shb_io::NoMemory;
 /// The number of no record.
 pub const NONE: u32 = u32::MAX;
 
-/// The number of the next record of a table that has so many.
+/// The number of the next record of a table.
 ///
 /// # Errors
 ///
 /// `NoMemory` where the table is full.
-pub fn next_number(count: usize) -> Result<u32, NoMemory>
-    ensures { IfOk result (λ number. (number ≡ count) × (number < none)) }
+pub fn next_number<T>(table: &[T]) -> Result<u32, NoMemory>
+    ensures { IfOk result (λ number. (number ≡ length table.now) × (number < none)) }
 {
+    let count = table.len();
     if count < NONE as usize {
         Ok(count as u32)
     } else {
-        Err(NoMemory)
+        Err(NoMemory::of_full(table))
     }
 }
 

@@ -124,7 +124,7 @@ impl Sites {
         ensures site { IfOk result (IsSite self.new.sites.items variable location) }
         ensures more { OnOk result (AreMore self.old.newest.items self.old.sites.items self.new.newest.items self.new.sites.items) }
     {
-        let s = next_number(self.sites.len())?;
+        let s = next_number(self.sites.as_slice())?;
         let previous = self.newest[variable as usize];
         self.sites.push(Site {
             variable,

@@ -165,7 +165,7 @@ impl WantedLists {
         if let Some(k) = self.noted(s) {
             return Ok(k);
         }
-        let k = next_number(self.lists.len())?;
+        let k = next_number(self.lists.as_slice())?;
         self.lists.push(Wanted {
             asker: s,
             looked: 0,

@@ -19,7 +19,7 @@ use Rattle.shb_report.specs.Value.{Block, IsBlock, IsPlace, IsRest, IsShown, blo
 
 pub stop_weaker : (stop : ReadStop) (P Q : ℕ → Type 0) → ((n : ℕ) → P n → Q n) → IfStop stop P → IfStop stop Q
 stop_weaker (BadLine n) P Q weaker h = weaker n h
-stop_weaker Memory P Q weaker h = tt
+stop_weaker (Memory _) P Q weaker h = tt
 
 -- the same where the question mark hands the reason on
 pub bad_weaker : {T : Type 0} (result : Result T ReadStop) (stop : ReadStop) (P Q : ℕ → Type 0) → IsErrAnd result (λ s. s ≡ stop) → ((n : ℕ) → P n → Q n) → IfStop stop P → IfBad result Q

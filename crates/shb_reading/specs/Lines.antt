@@ -34,7 +34,7 @@ Lacks form bytes = (line : List ℕ) (added : List Form) (rest : List ℕ) → T
 -- the number of the line that is bad, where that is why the reading stopped
 abbrev pub IfStop : ReadStop → (ℕ → Type 0) → Type 0
 IfStop (BadLine n) P = P n
-IfStop Memory P = Unit {0}
+IfStop (Memory _) P = Unit {0}
 
 abbrev pub IfBad : {T : Type 0} → Result T ReadStop → (ℕ → Type 0) → Type 0
 IfBad (Ok x) P = Unit {0}

@@ -30,10 +30,10 @@ abbrev pub IfBadLine : {T : Type 0} → Result T ReportError → (ℕ → Type 0
 IfBadLine (Ok report) P = Unit {0}
 IfBadLine (Err (errors.BadLine n)) P = P n
 IfBadLine (Err errors.Source) P = Unit {0}
-IfBadLine (Err errors.Memory) P = Unit {0}
+IfBadLine (Err (errors.Memory _)) P = Unit {0}
 
 -- the error of the reading of a report that names its source
 abbrev pub report_read_failed : ReportError → Bool
 report_read_failed (errors.BadLine n) = false
 report_read_failed errors.Source = true
-report_read_failed errors.Memory = false
+report_read_failed (errors.Memory _) = false

@@ -109,9 +109,10 @@ pub(crate) fn read_blocks(
     while number < count {
         number += 1;
         let entry = read_block(text, at, number, &AsWritten, &mut numbers)?;
-        let Ok(()) = races.push(entry) else {
-            return Err(ReadStop::Memory);
-        };
+        match races.push(entry) {
+            Ok(()) => {}
+            Err(refused) => return Err(ReadStop::Memory(NoMemory::from(refused))),
+        }
     }
     Ok(BlockEntries { races, numbers })
 }
@@ -152,9 +153,7 @@ pub(crate) fn read_place_entries(
     while number < count {
         number += 1;
         let entry = read_place(text, at, number)?;
-        let Ok(()) = add_place(&mut places, most, number, entry) else {
-            return Err(ReadStop::Memory);
-        };
+        add_place(&mut places, most, number, entry)?;
     }
     Ok(places)
 }

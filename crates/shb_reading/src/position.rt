@@ -22,16 +22,16 @@ pub enum ReadStop {
     /// The line of this number, counted from 1, is the first that no report has there.
     BadLine(u64),
     /// There was no memory.
-    Memory,
+    Memory(NoMemory),
 }
 
 impl From<NoMemory> for ReadStop {
     ghost use Rattle.shb_reading.specs.declared.position.ReadStop.TheVariants.{Memory};
 
-    ghost from_gives = { λ _ e. e ≡ Memory };
+    ghost from_gives = { λ refused e. e ≡ Memory refused };
 
-    fn from(_error: NoMemory) -> ReadStop {
-        ReadStop::Memory
+    fn from(refused: NoMemory) -> ReadStop {
+        ReadStop::Memory(refused)
     }
 }
 

@@ -13,7 +13,7 @@ use crate::listed::{Listed, Section, bytes_in, listed_at, numbers_in, section_of
 use crate::parts::Parts;
 use crate::position::ReadStop;
 use crate::whole::scan;
-use shb_io::Source;
+use shb_io::{NoMemory, Source};
 use shb_lines::{MOST_BYTES, ReadError, read_whole};
 use shb_report::Counts;
 use std::alloc::Global;
@@ -27,7 +27,7 @@ pub enum ReportError {
     /// The source failed.
     Source,
     /// There was no memory.
-    Memory,
+    Memory(NoMemory),
 }
 
 /// A report as it was read, over its text. Races and places have numbers from 0.
@@ -251,12 +251,12 @@ pub fn read_report_within<S: Source>(
     let text = match read_whole(alloc, source, limit) {
         Ok(text) => text,
         Err(ReadError::Source) => return Err(ReportError::Source),
-        Err(ReadError::Memory) => return Err(ReportError::Memory),
+        Err(ReadError::Memory(refused)) => return Err(ReportError::Memory(refused)),
     };
     match report_of(alloc, text, limit) {
         Ok(report) => Ok(report),
         Err(ReadStop::BadLine(n)) => Err(ReportError::BadLine(n)),
-        Err(ReadStop::Memory) => Err(ReportError::Memory),
+        Err(ReadStop::Memory(refused)) => Err(ReportError::Memory(refused)),
     }
 }
 

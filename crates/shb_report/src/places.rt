@@ -9,7 +9,7 @@ ghost use Rattle.shb_report.specs.Report.{LeadingRaces};
 ghost use Rattle.shb_report.specs.Places.{HasEach, HasPlace, IsPairOf, IsPlaceOf, counts_in, location_at, location_with, places_after, places_in, places_of_pairs, with_many, with_numbered, with_one_more, with_pair};
 
 use indexmap::IndexMap;
-use shb_io::NoMemory;
+use shb_io::{NoMemory, random_state};
 use shb_lines::{Pair, Trace};
 use std::alloc::Global;
 use std::hash::RandomState;
@@ -137,11 +137,8 @@ impl<'t> PlaceTable<'t> {
     pub fn new<R: RandomSource>(rt: &R, alloc: Global) -> Result<PlaceTable<'t>, NoMemory>
         ensures { IfOk result (λ table. table ≡ []) }
     {
-        let Ok(state) = RandomState::new(rt) else {
-            return Err(NoMemory);
-        };
         Ok(PlaceTable {
-            table: IndexMap::with_hasher(alloc, state),
+            table: IndexMap::with_hasher(alloc, random_state(rt)?),
         })
     }
 

@@ -114,7 +114,7 @@ module _ (choice : Choice) (ws : Bool) (trace : TraceData) (races : List (ℕ ×
     where
       by : (error : WriteError) → OnFailedSink {T = U} (Err error) (CutsReportOn (These races) ws trace old new) → OnFailedSink {T = T} (Err error) (CutsReportOn (ListedBy choice) ws trace old new)
       by writing.Sink cut = known_cut (ListedBy choice) ws trace races lists old new cut
-      by writing.Memory cut = tt
+      by (writing.Memory _) cut = tt
 
   pub memory_known : {T : Type 0} (U : Type 0) (same : Type 0) (old new : Option (List ℕ)) (error : WriteError) (r : Result T WriteError) → IsErrAnd r (λ e. e ≡ error)
       → OnNoMemory {T = U} (Err error) (same ⊎ CutsBlocksOn (These races) ws trace old new) → OnNoMemory r (same ⊎ CutsBlocksOn (ListedBy choice) ws trace old new)
@@ -123,7 +123,7 @@ module _ (choice : Choice) (ws : Bool) (trace : TraceData) (races : List (ℕ ×
     where
       by : (error : WriteError) → OnNoMemory {T = U} (Err error) (same ⊎ CutsBlocksOn (These races) ws trace old new) → OnNoMemory {T = T} (Err error) (same ⊎ CutsBlocksOn (ListedBy choice) ws trace old new)
       by writing.Sink cut = tt
-      by writing.Memory cut = or_then cut (known_blocks (ListedBy choice) ws trace races lists old new)
+      by (writing.Memory _) cut = or_then cut (known_blocks (ListedBy choice) ws trace races lists old new)
 
 -- known bytes that grew by the front of a report, or by nothing
 pub grown_of_refused : {K : Type 0} (taken : K → Option (List ℕ)) (Lists : TraceData → List (ℕ × ℕ) → Type 0) (ws : Bool) (trace : TraceData) (before after : K)

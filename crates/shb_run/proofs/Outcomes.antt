@@ -1,6 +1,7 @@
 -- From what the parts of a run answer to its outcome, exit by exit.
 use Rattle.std.proofs.Common.{◌≡◌, ◌⊎◌, ◌+◌, ◌≤◌, ℕ, inl, Bool, List, Option, Result, Ok, Err, IsErrAnd, refl, sym, subst}
 use Rattle.shb_io.specs.Devices.{CountsFailure}
+use Rattle.shb_io.specs.declared.no_memory.NoMemory.{NoMemory}
 use Rattle.shb_lines.specs.declared.event.Event.{Event}
 use Rattle.shb_lines.specs.declared.fault.LineFault.{LineFault}
 use Rattle.shb_lines.specs.declared.read.ReadError.{ReadError}
@@ -50,7 +51,7 @@ module _ {A B : Type 0} (choice : Choice) (ws : Bool) (remaining : A → Option 
         source_counted = counted;
         sink_counted = refl;
       }
-      by reading.Memory counted = record {
+      by (reading.Memory _) counted = record {
         read = tt;
         refused = tt;
         unwritten = tt;
@@ -92,7 +93,7 @@ module _ {A B : Type 0} (choice : Choice) (ws : Bool) (remaining : A → Option 
         }
         by Source refusal = absurd refusal
         by Sink refusal = absurd refusal
-        by Memory refusal = record {
+        by (Memory _) refusal = record {
           read = tt;
           refused = tt;
           unwritten = tt;
@@ -147,9 +148,9 @@ module _ {A B : Type 0} (choice : Choice) (ws : Bool) (remaining : A → Option 
       }
 
       -- memory was refused after the trace was judged
-      pub of_no_memory : (written ≡ sink) ⊎ CutsBlocksOn (ListedBy choice) ws trace (taken sink) (taken written) → failed_writes written ≡ failed_writes sink
-          → IsOutcome choice ws remaining given failed_reads source left taken failed_writes sink written (Err Memory)
-      of_no_memory refused no_failed_write = record {
+      pub of_no_memory : (why : NoMemory) → (written ≡ sink) ⊎ CutsBlocksOn (ListedBy choice) ws trace (taken sink) (taken written) → failed_writes written ≡ failed_writes sink
+          → IsOutcome choice ws remaining given failed_reads source left taken failed_writes sink written (Err (Memory why))
+      of_no_memory why refused no_failed_write = record {
         read = tt;
         refused = tt;
         unwritten = tt;

@@ -188,6 +188,6 @@ pub(crate) fn run_task<
     match report_asked(rt, alloc, sink, &trace, task, gates) {
         Ok(summary) => Ok(summary),
         Err(WriteError::Sink) => Err(RunError::Sink),
-        Err(WriteError::Memory) => Err(RunError::Memory),
+        Err(WriteError::Memory(refused)) => Err(RunError::Memory(refused)),
     }
 }

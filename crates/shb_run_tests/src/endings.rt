@@ -1,6 +1,7 @@
 //! What is answered where a source fails after the first fault or a writer takes nothing, and that
 //! errors show themselves in the words of `fault_line`.
 use crate::asserting::{holds, same, same_bytes};
+use crate::refusal::ask_too_much;
 use shb_io::{Failed, Page, Sink, Text, ToWrite};
 use shb_lines::Fault;
 use shb_reading::{ReportError, read_report_within};
@@ -62,6 +63,9 @@ fn a_trace_is_read_on_after_its_faulty_line(rt: HostRuntime) -> Result<(), Fail>
 
 #[test]
 fn errors_show_the_words_of_fault_line(rt: HostRuntime) -> Result<(), Fail> {
+    let Err(refused) = ask_too_much(rt.alloc()) else {
+        return Err("memory was given".into());
+    };
     let errors = [
         RunError::Trace {
             line: 12,
@@ -69,7 +73,7 @@ fn errors_show_the_words_of_fault_line(rt: HostRuntime) -> Result<(), Fail> {
         },
         RunError::Source,
         RunError::Sink,
-        RunError::Memory,
+        RunError::Memory(refused),
     ];
     for error in &errors {
         let shown = format!(in rt.alloc(); "{error}")?;

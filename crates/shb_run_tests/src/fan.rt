@@ -5,6 +5,7 @@ ghost use Rattle.shb_fan.specs.Seated.{IsNewSeat, job_of};
 
 use crate::asserting::{holds, is_false, is_true, same};
 use crate::counters::{all_one, zeros};
+use crate::refusal::ask_too_much;
 use shb_fan::*;
 use shb_io::NoMemory;
 use std::alloc::Global;
@@ -37,9 +38,9 @@ impl Job for Count {
         self.pieces
     }
 
-    fn run(&self, _alloc: Global, k: u64) -> Result<u64, NoMemory> {
+    fn run(&self, alloc: Global, k: u64) -> Result<u64, NoMemory> {
         if self.refused == Some(k) {
-            return Err(NoMemory);
+            ask_too_much(alloc)?;
         }
         Ok(k)
     }
@@ -356,7 +357,8 @@ fn job_refuses_each(rt: HostRuntime) {
         let mut taker = make_keeper(rt.alloc(), None);
         let workers = so_many(&rt, 3);
         let answer = stream(&rt, rt.alloc(), &job, &FreeGate, workers, &mut taker);
-        same(&rt, &answer, &Err(StreamError::Memory), "the answer");
+        let refused = matches!(answer, Err(StreamError::Memory(_)));
+        holds(&rt, refused, "memory was refused");
         let taken = taker.values.len() as u64;
         holds(&rt, taken <= k, "no value after the refused piece");
         holds(

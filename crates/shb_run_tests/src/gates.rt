@@ -4,6 +4,7 @@ ghost use Rattle.std.specs.Prelude.{◌≤◌, ◌^◌};
 
 use crate::asserting::{holds, same};
 use crate::counters::{all_one, zeros};
+use crate::refusal::ask_too_much;
 use shb_fan::{Gate, Job, StreamError, Taker, Workers, gather, stream};
 use shb_io::NoMemory;
 use std::alloc::Global;
@@ -41,12 +42,12 @@ impl Job for Counted<'_> {
         self.pieces
     }
 
-    fn run(&self, _alloc: Global, k: u64) -> Result<u64, NoMemory> {
+    fn run(&self, alloc: Global, k: u64) -> Result<u64, NoMemory> {
         if let Some(runs) = self.runs.get(k as usize) {
             runs.fetch_add(1, Ordering::SeqCst);
         }
         if self.refused == Some(k) {
-            return Err(NoMemory);
+            ask_too_much(alloc)?;
         }
         Ok(k)
     }

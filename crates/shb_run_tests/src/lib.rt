@@ -23,6 +23,8 @@ mod io;
 #[cfg(test)]
 mod leading;
 #[cfg(test)]
+mod refusal;
+#[cfg(test)]
 mod report_reading;
 #[cfg(test)]
 mod run;

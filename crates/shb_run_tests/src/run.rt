@@ -1,6 +1,7 @@
 //! Whole runs over texts in memory: read and written byte by byte, and with devices that fail.
 //! The reports of many traces are in `tests/rows`, on which the built program is run.
 use crate::asserting::{same, same_bytes};
+use crate::refusal::ask_too_much;
 use shb_io::{NoMemory, Page, Text};
 use shb_lines::Fault;
 use shb_run::{RunError, Settings, Summary, Workers, exit_status, fault_line, run};
@@ -241,7 +242,10 @@ fn errors_show_themselves(rt: HostRuntime) -> Result<(), Fail> {
     expect_shown(&rt, &refused, words)?;
     expect_shown(&rt, &RunError::Source, "cannot read")?;
     expect_shown(&rt, &RunError::Sink, "cannot write")?;
-    expect_shown(&rt, &RunError::Memory, "out of memory")?;
+    let Err(refused) = ask_too_much(rt.alloc()) else {
+        return Err("memory was given".into());
+    };
+    expect_shown(&rt, &RunError::Memory(refused), "out of memory")?;
     Ok(())
 }
 

@@ -25,7 +25,7 @@ fn first_fault(rt: &HostRuntime, text: &[u8], threads: u32) -> Result<Option<(u3
     match check(rt.alloc(), &parsed.trace) {
         Ok(_) => Ok(parsed.stop.map(|stop| (stop.line, stop.fault))),
         Err(CheckError::Undisciplined { line, fault }) => Ok(Some((line, fault))),
-        Err(CheckError::Memory) => Err("out of memory".into()),
+        Err(CheckError::Memory(_)) => Err("out of memory".into()),
     }
 }
 

@@ -1,7 +1,7 @@
 -- The list of the members found is the printed schedule, and there is just one.
 use Rattle.std.proofs.Common.{◌≡◌, ℕ, ◌<◌, List, Some, Vec, Global, Result, Ok, Err, length, subst, sym}
 use Rattle.std.specs.Prelude.{◌||◌, IfOk, slice_get, slice_index_or}
-use Rattle.shb_io.specs.declared.traits.NoMemory.{NoMemory}
+use Rattle.shb_io.specs.declared.no_memory.NoMemory.{NoMemory}
 use Rattle.shb_lines.specs.declared.event.Event.{Event}
 use Rattle.shb_lines.specs.declared.event.Pair.{Pair}
 use Rattle.shb_lines.specs.events.Race.{Race}

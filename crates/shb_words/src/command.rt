@@ -1,7 +1,8 @@
 //! The command line that is read.
 use crate::help::{ABOUT_CHECKS, ABOUT_PLACES, ABOUT_THE_PROGRAM, ABOUT_TRACES};
 use clap::{Arg, ArgAction, Command, value_parser};
-use std::alloc::{AllocError, Global};
+use shb_io::NoMemory;
+use std::alloc::Global;
 
 /// `--workers N`
 fn workers_argument<'a>(alloc: Global) -> Arg<'a> {
@@ -33,25 +34,27 @@ fn report_command<'a>(
     name: &'a str,
     about: &'a str,
     details: &'a str,
-) -> Result<Command<'a>, AllocError> {
-    Command::new(alloc, name)
+) -> Result<Command<'a>, NoMemory> {
+    let command = Command::new(alloc, name)
         .about(about)
         .after_help(details)
         .arg(workers_argument(alloc))?
         .arg(list_argument(alloc))?
-        .arg(trace_argument(alloc))
+        .arg(trace_argument(alloc))?;
+    Ok(command)
 }
 
 /// `check TRACE`
-fn check_command<'a>(alloc: Global) -> Result<Command<'a>, AllocError> {
+fn check_command<'a>(alloc: Global) -> Result<Command<'a>, NoMemory> {
     let trace = Arg::new(alloc, "trace")
         .value_name("TRACE")
         .help("The file of the trace")
         .required(true);
-    Command::new(alloc, "check")
+    let command = Command::new(alloc, "check")
         .about("Checks the report on standard input against its trace")
         .after_help(ABOUT_CHECKS)
-        .arg(trace)
+        .arg(trace)?;
+    Ok(command)
 }
 
 /// The command line without its commands. Its first word is the program's own name.
@@ -63,27 +66,29 @@ fn program<'a>(alloc: Global) -> Command<'a> {
 }
 
 /// This command line with `races`.
-fn with_races<'a>(alloc: Global, line: Command<'a>) -> Result<Command<'a>, AllocError> {
-    line.subcommand(report_command(
+fn with_races<'a>(alloc: Global, line: Command<'a>) -> Result<Command<'a>, NoMemory> {
+    let races = report_command(
         alloc,
         "races",
         "Writes the report of a trace to standard output",
         ABOUT_TRACES,
-    )?)
+    )?;
+    Ok(line.subcommand(races)?)
 }
 
 /// This command line with `places`.
-fn with_places<'a>(alloc: Global, line: Command<'a>) -> Result<Command<'a>, AllocError> {
-    line.subcommand(report_command(
+fn with_places<'a>(alloc: Global, line: Command<'a>) -> Result<Command<'a>, NoMemory> {
+    let places = report_command(
         alloc,
         "places",
         "Writes the report of one race of each place of a trace",
         ABOUT_PLACES,
-    )?)
+    )?;
+    Ok(line.subcommand(places)?)
 }
 
 /// The whole command line.
-pub fn command<'a>(alloc: Global) -> Result<Command<'a>, AllocError> {
+pub fn command<'a>(alloc: Global) -> Result<Command<'a>, NoMemory> {
     let reports = with_places(alloc, with_races(alloc, program(alloc))?)?;
-    reports.subcommand(check_command(alloc)?)
+    Ok(reports.subcommand(check_command(alloc)?)?)
 }

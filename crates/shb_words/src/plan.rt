@@ -6,7 +6,8 @@ use crate::command::command;
 use clap::error::ErrorKind;
 use clap::{ArgMatches, Error};
 use shb_fan::Workers;
-use std::alloc::{AllocError, AllocFailed, Global};
+use shb_io::NoMemory;
+use std::alloc::Global;
 
 /// Which races of a trace a report lists.
 #[derive(Clone, Copy, Debug, Drop)]
@@ -44,19 +45,20 @@ pub enum WordsFault {
     /// The words ask for nothing that there is. The text says why, and ends in a line feed.
     Refused { text: String },
     /// Memory was refused.
-    Memory,
+    Memory(NoMemory),
+    /// Memory was refused while the command line was read: its error says so.
+    Unread(Error),
 }
 
-impl From<AllocError> for WordsFault {
-    fn from(_error: AllocError) -> WordsFault {
-        WordsFault::Memory
+impl From<NoMemory> for WordsFault {
+    fn from(refused: NoMemory) -> WordsFault {
+        WordsFault::Memory(refused)
     }
 }
 
-impl<T: Drop> From<AllocFailed<T>> for WordsFault {
-    fn from(_error: AllocFailed<T>) -> WordsFault {
-        WordsFault::Memory
-    }
+/// A text of these characters.
+fn text_of(alloc: Global, characters: &str) -> Result<String, NoMemory> {
+    Ok(characters.to_string(alloc)?)
 }
 
 /// The number of workers where the words name none: 4.
@@ -80,7 +82,7 @@ fn workers_in(matches: &ArgMatches<'_>) -> Workers {
 /// The file of the trace that these words name.
 fn trace_in(alloc: Global, matches: &ArgMatches<'_>) -> Result<Option<String>, WordsFault> {
     match matches.get_str("trace") {
-        Some(path) => Ok(Some(path.to_string(alloc)?)),
+        Some(path) => Ok(Some(text_of(alloc, path)?)),
         None => Ok(None),
     }
 }
@@ -103,7 +105,7 @@ fn report_plan(
 fn check_plan(alloc: Global, matches: &ArgMatches<'_>) -> Result<Plan, WordsFault> {
     match matches.get_str("trace") {
         Some(path) => Ok(Plan::Check {
-            trace: path.to_string(alloc)?,
+            trace: text_of(alloc, path)?,
         }),
         None => refused(alloc, "error: no TRACE was given\n"),
     }
@@ -112,17 +114,17 @@ fn check_plan(alloc: Global, matches: &ArgMatches<'_>) -> Result<Plan, WordsFaul
 /// Words refused for this reason.
 fn refused(alloc: Global, reason: &str) -> Result<Plan, WordsFault> {
     Err(WordsFault::Refused {
-        text: reason.to_string(alloc)?,
+        text: text_of(alloc, reason)?,
     })
 }
 
 /// What stands for an error of the command line: help that was asked for is no error.
-fn plan_of_error(alloc: Global, error: &Error) -> Result<Plan, WordsFault> {
+fn plan_of_error(alloc: Global, error: Error) -> Result<Plan, WordsFault> {
     let kind = error.kind();
     if matches!(kind, ErrorKind::OutOfMemory) {
-        return Err(WordsFault::Memory);
+        return Err(WordsFault::Unread(error));
     }
-    let text = error.to_string(alloc)?;
+    let text = error.to_string(alloc).map_err(NoMemory::from)?;
     if matches!(kind, ErrorKind::DisplayHelp) {
         return Ok(Plan::Help { text });
     }
@@ -139,6 +141,16 @@ fn plan_in(alloc: Global, matches: &ArgMatches<'_>) -> Result<Plan, WordsFault> 
     }
 }
 
+/// The words of the command line, the program's own name first.
+fn line_of(alloc: Global, words: &[String]) -> Result<Vec<&str>, NoMemory> {
+    let mut line = Vec::with_capacity(alloc, words.len() + 1)?;
+    line.push("shb")?;
+    for word in words {
+        line.push(word.as_str())?;
+    }
+    Ok(line)
+}
+
 /// The plan that the words of a command line ask for, the program's own name left out:
 /// `races` or `places`, each with `[--workers N] [--list] [TRACE]` and N from 1 to 64, `check TRACE`, or
 /// help. No words at all are `races --list`, with 4 workers.
@@ -146,7 +158,7 @@ fn plan_in(alloc: Global, matches: &ArgMatches<'_>) -> Result<Plan, WordsFault> 
 /// # Errors
 ///
 /// [`WordsFault::Refused`] where the words ask for nothing of this, with the text that says so;
-/// [`WordsFault::Memory`] where memory was refused. The words stay as they are.
+/// [`WordsFault::Memory`] or [`WordsFault::Unread`] where memory was refused. The words stay as they are.
 pub fn plan_of(alloc: Global, words: &[String]) -> Result<Plan, WordsFault>
     // No words ask for the report of all races of standard input without schedules, by 4 workers, and need no memory.
     ensures no_words { words.now ≡ [] → IsOkAnd result ListsInput }
@@ -159,13 +171,9 @@ pub fn plan_of(alloc: Global, words: &[String]) -> Result<Plan, WordsFault>
             trace: None,
         });
     }
-    let mut line: Vec<&str> = Vec::with_capacity(alloc, words.len() + 1)?;
-    line.push("shb")?;
-    for word in words {
-        line.push(word.as_str())?;
-    }
+    let line = line_of(alloc, words)?;
     match command(alloc)?.try_get_matches_from(line.as_slice()) {
         Ok(matches) => plan_in(alloc, &matches),
-        Err(error) => plan_of_error(alloc, &error),
+        Err(error) => plan_of_error(alloc, error),
     }
 }

@@ -10,6 +10,7 @@ use Rattle.std.specs.Io.KnownBytes.{Appends}
 use Rattle.shb_io.specs.Devices.{AppendsPrefix}
 use Rattle.shb_io.proofs.Growth.{Appends-nil, Appends-trans, AppendsPrefix-after, AppendsPrefix-front}
 use Rattle.shb_fan.specs.Values.{values_of}
+use Rattle.shb_io.specs.declared.no_memory.NoMemory.{NoMemory}
 use Rattle.shb_lines.specs.declared.event.Event.{Event}
 use Rattle.shb_lines.specs.declared.event.Pair.{Pair}
 use Rattle.shb_lines.specs.events.Race.{Race, ends}
@@ -347,8 +348,8 @@ module _ {K : Type 0} (taken : K → Option (List ℕ)) (failures : K → ℕ) w
     counted = has.counted;
   }
 
-  pub stopped : (start end : RaceLister K) (xs : List Pair) → HasListed taken failures start xs end → HasFailedListing taken failures start xs errors.Memory end
-  stopped start end xs has = record { same_sink = has.same_sink; front = whole_front _ _ _ has.appended; counted = has.counted }
+  pub stopped : (start end : RaceLister K) (xs : List Pair) (refused : NoMemory) → HasListed taken failures start xs end → HasFailedListing taken failures start xs (errors.Memory refused) end
+  stopped start end xs refused has = record { same_sink = has.same_sink; front = whole_front _ _ _ has.appended; counted = has.counted }
 
   -- the races of a piece, one later access after the other
   module _ (start : RaceLister K) (piece : List (List (ℕ × ℕ))) (k : ℕ) (here : List Pair) (lt : k < length piece) (is : here ≡ map pair_of (get_or piece k [])) where
@@ -371,10 +372,10 @@ module _ {K : Type 0} (taken : K → Option (List ℕ)) (failures : K → ℕ) w
   pub still_countable : (start before : RaceLister K) (xs : List Pair) → failures start.sink.now < 2 ^ 64 - 1 → HasListed taken failures start xs before → failures before.sink.now < 2 ^ 64 - 1
   still_countable start before xs countable has = omega (arith, countable, has.counted)
 
-  pub part_stopped : (start end : RaceLister K) (piece : List (List (ℕ × ℕ))) (k : ℕ) → HasListed taken failures start (pairs_in (take k piece)) end → HasFailedListing taken failures start (pairs_in piece) errors.Memory end
-  part_stopped start end piece k has =
-      subst (λ (l : List Pair). HasFailedListing taken failures start l errors.Memory end) (sym (ap (λ (l : List (List (ℕ × ℕ))). pairs_in l) (sym (take-append-drop k piece)) ∙ pairs_append (take k piece) (drop k piece)))
-      (failed_more start end (pairs_in (take k piece)) (pairs_in (drop k piece)) errors.Memory (stopped start end (pairs_in (take k piece)) has))
+  pub part_stopped : (start end : RaceLister K) (piece : List (List (ℕ × ℕ))) (k : ℕ) (refused : NoMemory) → HasListed taken failures start (pairs_in (take k piece)) end → HasFailedListing taken failures start (pairs_in piece) (errors.Memory refused) end
+  part_stopped start end piece k refused has =
+      subst (λ (l : List Pair). HasFailedListing taken failures start l (errors.Memory refused) end) (sym (ap (λ (l : List (List (ℕ × ℕ))). pairs_in l) (sym (take-append-drop k piece)) ∙ pairs_append (take k piece) (drop k piece)))
+      (failed_more start end (pairs_in (take k piece)) (pairs_in (drop k piece)) (errors.Memory refused) (stopped start end (pairs_in (take k piece)) refused has))
 
   pub listed_piece_whole : (start end : RaceLister K) (piece : List (List (ℕ × ℕ))) (k : ℕ) → length piece ≤ k → HasListed taken failures start (pairs_in (take k piece)) end → HasListed taken failures start (pairs_in piece) end
   listed_piece_whole start end piece k le has = subst (λ (l : List (List (ℕ × ℕ))). HasListed taken failures start (pairs_in l) end) (take_all k piece le) has

@@ -80,12 +80,12 @@ module _ (ws : Bool) (trace : TraceData) (races : List (ℕ × ℕ)) (blocks : L
 pub on_sink : {T : Type 0} (r : Result T WriteError) (P : Type 0) → P → OnFailedSink r P
 on_sink (Ok x) P p = tt
 on_sink (Err Sink) P p = p
-on_sink (Err Memory) P p = tt
+on_sink (Err (Memory _)) P p = tt
 
 pub on_memory : {T : Type 0} (r : Result T WriteError) (P : Type 0) → P → OnNoMemory r P
 on_memory (Ok x) P p = tt
 on_memory (Err Sink) P p = tt
-on_memory (Err Memory) P p = p
+on_memory (Err (Memory _)) P p = p
 
 -- the same of another result with that error
 pub cut_as : {T : Type 0} (U : Type 0) (P Q : Type 0) → (P → Q) → (error : WriteError) (r : Result T WriteError) → IsErrAnd r (λ e. e ≡ error) → OnFailedSink {T = U} (Err error) P → OnFailedSink r Q
@@ -94,7 +94,7 @@ cut_as {T} U P Q then error (Err e) is cut = subst (λ (e : WriteError). OnFaile
   where
     by : (error : WriteError) → OnFailedSink {T = U} (Err error) P → OnFailedSink {T = T} (Err error) Q
     by Sink cut = then cut
-    by Memory cut = tt
+    by (Memory _) cut = tt
 
 pub memory_as : {T : Type 0} (U : Type 0) (P Q : Type 0) → (P → Q) → (error : WriteError) (r : Result T WriteError) → IsErrAnd r (λ e. e ≡ error) → OnNoMemory {T = U} (Err error) P → OnNoMemory r Q
 memory_as U P Q then error (Ok x) is cut = absurd is
@@ -102,4 +102,4 @@ memory_as {T} U P Q then error (Err e) is cut = subst (λ (e : WriteError). OnNo
   where
     by : (error : WriteError) → OnNoMemory {T = U} (Err error) P → OnNoMemory {T = T} (Err error) Q
     by Sink cut = tt
-    by Memory cut = then cut
+    by (Memory _) cut = then cut

@@ -9,7 +9,7 @@ use Rattle.shb_write.specs.declared.errors.WriteError.TheVariants.{Sink, Memory}
 -- the error of a writing that names its sink
 abbrev pub write_failed : WriteError → Bool
 write_failed Sink = true
-write_failed Memory = false
+write_failed (Memory _) = false
 
 -- for a writing in which the sink failed
 abbrev pub OnFailedSink : {T : Type 0} → Result T WriteError → Type 0 → Type 0
@@ -18,7 +18,7 @@ OnFailedSink _ P = ⊤
 
 -- for a writing to which memory was refused
 abbrev pub OnNoMemory : {T : Type 0} → Result T WriteError → Type 0 → Type 0
-OnNoMemory (Err Memory) P = P
+OnNoMemory (Err (Memory _)) P = P
 OnNoMemory _ P = ⊤
 
 -- known bytes grow by the first bytes of bs, perhaps by all of them

@@ -7,7 +7,7 @@ pub enum WriteError {
     /// The sink failed.
     Sink,
     /// Memory was refused.
-    Memory,
+    Memory(NoMemory),
 }
 
 impl From<Failed> for WriteError {
@@ -25,9 +25,9 @@ impl From<NoMemory> for WriteError {
     ghost use Rattle.std.specs.Prelude.{◌≡◌};
     ghost use Rattle.shb_write.specs.declared.errors.WriteError.TheVariants.{Memory};
 
-    ghost from_gives = { λ _ e. e ≡ Memory };
+    ghost from_gives = { λ refused e. e ≡ Memory refused };
 
-    fn from(_error: NoMemory) -> WriteError {
-        WriteError::Memory
+    fn from(refused: NoMemory) -> WriteError {
+        WriteError::Memory(refused)
     }
 }

@@ -1,7 +1,7 @@
 //! The writing of a report of a trace, of races that a search finds or that are known.
 //!
 //! [`write_search`] writes the report of the races that a search finds. With schedules it keeps them all
-//! (`keep_races`), and goes on as with known races. Without them it keeps them as long as there are not more than
+//! (`keep_all`), and goes on as with known races. Without them it keeps them as long as there are not more than
 //! events; where there are more, it stops, and they and their places are counted without keeping them, many of
 //! one access at once (`count_many`). Once head and places are written, the blocks of those kept follow; or
 //! another search writes each block as its race comes (`RaceLister`).

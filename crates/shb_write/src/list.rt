@@ -84,7 +84,7 @@ pub(crate) fn count_races<R: Threads + Wait + Sync + RandomSource, O: Order + Sy
     match keep_races(rt, alloc, search, most) {
         Ok(kept) => counted_of_kept(rt, alloc, trace, kept),
         Err(KeepError::Many) => count_many(rt, alloc, trace, search.job),
-        Err(KeepError::Memory) => Err(NoMemory),
+        Err(KeepError::Memory(refused)) => Err(refused),
     }
 }
 
@@ -124,7 +124,7 @@ fn write_found_in<R: Threads + Wait + Sync, K: Sink, O: Order + Sync, G: Gate + 
     ) {
         Ok(_) => Ok(()),
         Err(StreamError::Taker(error)) => Err(error),
-        Err(StreamError::Memory) => Err(WriteError::Memory),
+        Err(StreamError::Memory(refused)) => Err(WriteError::Memory(refused)),
     }
 }
 

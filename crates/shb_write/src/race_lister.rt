@@ -80,9 +80,10 @@ fn list_piece<K: Sink>(
 {
     for k in 0..piece.later_accesses() {
         room.clear();
-        let Ok(()) = piece.expand(alloc, k, room) else {
-            return Err(WriteError::Memory);
-        };
+        match piece.expand(alloc, k, room) {
+            Ok(()) => {}
+            Err(refused) => return Err(WriteError::Memory(refused)),
+        }
         lister.list(room.as_slice())?;
     }
     Ok(())

@@ -11,7 +11,7 @@ use crate::counted::Counted;
 use crate::errors::WriteError;
 use crate::list::{count_races, write_found};
 use crate::plan::BlockPlan;
-use crate::race_keeper::keep_races;
+use crate::race_keeper::keep_all;
 use crate::race_lister::write_listed;
 use crate::race_search::RaceSearch;
 use crate::write::{write_front, write_report};
@@ -115,9 +115,7 @@ fn schedule_search<
         search.now.ordered.now.disciplined.now.trace.now (K.taken sink.old) (K.taken sink.new)) }
     ensures counted { CountsFailure write_failed (K.failure_count sink.old) (K.failure_count sink.new) result }
 {
-    let Ok(races) = keep_races(rt, alloc, search, u64::MAX) else {
-        return Err(WriteError::Memory);
-    };
+    let races = keep_all(rt, alloc, search)?;
     write_report(rt, alloc, sink, search.ordered, &races, plan)?;
     Ok(races.len() as u64)
 }

@@ -57,7 +57,7 @@ fn write_schedules<R: Threads + Wait + Sync, K: Sink, O: Order + Sync, G: Gate +
     match stream(rt, alloc, &job, plan.gate, plan.workers, &mut writer) {
         Ok(_) => Ok(()),
         Err(StreamError::Taker(_)) => Err(WriteError::Sink),
-        Err(StreamError::Memory) => Err(WriteError::Memory),
+        Err(StreamError::Memory(refused)) => Err(WriteError::Memory(refused)),
     }
 }
 

@@ -16,5 +16,5 @@ returns-clause-ready g c =
 pub place-requires-clause-value : goal.place-requires-clause-value
 place-requires-clause-value g c = c.in-Ok.ensures ∙ ap (λ (j : g.row.J.Denot). g.J.Job.value j c.args.k) (sym c.requires.ready.0.0.0.ring)
 
-pub returns-in_default-clause-stopped : goal.returns-in_default-clause-stopped
-returns-in_default-clause-stopped g c = search rules
+pub returns-in-Err-clause-stopped : goal.returns-in-Err-clause-stopped
+returns-in-Err-clause-stopped g c = search rules

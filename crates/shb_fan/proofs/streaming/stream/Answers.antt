@@ -21,12 +21,12 @@ work_and_take-answer-requires-clause-ring g c κs within = c.in-Ok-new.ensures.r
 
 pub work_and_take-answer-requires-clause-workers : goal.work_and_take-answer-requires-clause-workers
 work_and_take-answer-requires-clause-workers g c κs within =
-    let both = new_last g.J.Job.value g.J.Job.count c.in-Ok.tickets c.in-Ok-new.ring _ _ _ c.in-Some.ensures.items c.in-Ok-make_workers.ensures.workers.1 in
-    All-same (HasWorked g.J.Job.value g.J.Job.count c.in-Ok.tickets c.in-Ok-new.ring) c.as_mut_slice.result.now c.pop.new.self.items c.as_mut_slice.ensures.value both.0
+    let both = new_last g.J.Job.value g.J.Job.count c.in-Ok.made.0 c.in-Ok-new.made.0 _ _ _ c.in-Some.ensures.items c.in-Ok-make_workers.ensures.workers.1 in
+    All-same (HasWorked g.J.Job.value g.J.Job.count c.in-Ok.made.0 c.in-Ok-new.made.0) c.as_mut_slice.result.now c.pop.new.self.items c.as_mut_slice.ensures.value both.0
 
 pub work_and_take-answer-requires-clause-caller : goal.work_and_take-answer-requires-clause-caller
 work_and_take-answer-requires-clause-caller g c κs within =
-    let both = new_last g.J.Job.value g.J.Job.count c.in-Ok.tickets c.in-Ok-new.ring _ _ _ c.in-Some.ensures.items c.in-Ok-make_workers.ensures.workers.1 in
+    let both = new_last g.J.Job.value g.J.Job.count c.in-Ok.made.0 c.in-Ok-new.made.0 _ _ _ c.in-Some.ensures.items c.in-Ok-make_workers.ensures.workers.1 in
     (both.1.0, both.1.1, refl)
 
 pub work_and_take-answer-requires-clause-may_take : goal.work_and_take-answer-requires-clause-may_take
@@ -35,7 +35,7 @@ work_and_take-answer-requires-clause-may_take g c κs within = c.requires
 pub take_back-requires-clause-workers : goal.take_back-requires-clause-workers
 take_back-requires-clause-workers g c =
     let answer = c.work_and_take-answer in
-    All-same (HasWorked g.J.Job.value g.J.Job.count c.in-Ok.tickets c.in-Ok-new.ring) _ answer.new.workers (comes_back _ _ _ _ _ _ c.pop.new.self.ok.0 c.as_mut_slice.ensures.value answer.ensures.workers.0) answer.ensures.workers.1
+    All-same (HasWorked g.J.Job.value g.J.Job.count c.in-Ok.made.0 c.in-Ok-new.made.0) _ answer.new.workers (comes_back _ _ _ _ _ _ c.pop.new.self.ok.0 c.as_mut_slice.ensures.value answer.ensures.workers.0) answer.ensures.workers.1
 
 pub take_back-requires-clause-passes : goal.take_back-requires-clause-passes
 take_back-requires-clause-passes g c =

@@ -14,7 +14,7 @@ returns-in_err-entry-clause-bad c = λ forms.
     let loop = c.loop-number in
     let text : List ℕ = c.args.text.now in
     let others : List Form = block_forms (loop.number + 1 + 1) (c.args.count - (loop.number + 1)) ++ forms in
-    bad_weaker c.from_residual.result c.in_err-entry.field-0.0 _ _ c.from_residual.ensures.1
+    bad_weaker c.from_residual-in_err-entry.result c.in_err-entry.field-0.0 _ _ c.from_residual-in_err-entry.ensures.1
     (λ n b. loop.invariant.passes forms n (subst (λ (f : List Form). IsBadFrom f loop.at.lines (bytes_from text loop.at) n) (sym (blocks_left loop.number c.args.count forms c.loop-number-test.true)) b))
     (c.in_err-entry.ensures.bad others)
 
@@ -35,7 +35,7 @@ loop-number-preserved c =
       read = record {
         blocks = before.blocks ++ read.block ∷ [];
         taken = taken_more text c.args.at.now loop.at c.read_block.new.at loop.number before.blocks read.block before.taken read.in_grammar read.bytes read.lines;
-        are_judged = subst (λ (block : Block). AreJudged trace (before.blocks ++ block ∷ []) c.judge_block.new.judged) same (c.in-Ok-judge_block.ensures.judged before.blocks read.block.schedule positions before.are_judged);
+        are_judged = subst (λ (block : Block). AreJudged trace (before.blocks ++ block ∷ []) c.judge_block.new.judged) same (c.in_ok-judge_block.ensures.judged before.blocks read.block.schedule positions before.are_judged);
       };
       passes = λ forms n b.
           loop.invariant.passes forms n (subst (λ (f : List Form). IsBadFrom f loop.at.lines (bytes_from text loop.at) n) (sym (blocks_left loop.number c.args.count forms c.loop-number-test.true))

@@ -16,16 +16,16 @@ Keeps-none (Some bytes) (Some left) kept = sym kept
 pub returns-in_default-clause-taken : goal.returns-in_default-clause-taken
 returns-in_default-clause-taken g c = ([], omega arith, Keeps-none _ _ c.in_default.ensures.bytes)
 
-pub returns-in_default-extend_from_slice-clause-taken : goal.returns-in_default-extend_from_slice-clause-taken
-returns-in_default-extend_from_slice-clause-taken g c =
+pub returns-in-Err-clause-taken : goal.returns-in-Err-clause-taken
+returns-in-Err-clause-taken g c =
     (take c.in-Ok.count c.read.new.buf, omega (arith, length-take c.in-Ok.count c.read.new.buf, c.in-Ok.ensures.bound, c.read.auto.buf, length-take c.args.room c.args.buffer.now), c.in-Ok.ensures.bytes.0)
 
-pub returns-clause-taken : goal.returns-clause-taken
-returns-clause-taken g c =
+pub returns-in-Ok-extend_from_slice-clause-taken : goal.returns-in-Ok-extend_from_slice-clause-taken
+returns-in-Ok-extend_from_slice-clause-taken g c =
     (take c.in-Ok.count c.read.new.buf, omega (arith, length-take c.in-Ok.count c.read.new.buf, c.in-Ok.ensures.bound, c.read.auto.buf, length-take c.args.room c.args.buffer.now), c.in-Ok.ensures.bytes.0)
 
-pub returns-clause-bytes : goal.returns-clause-bytes
-returns-clause-bytes g c =
+pub returns-in-Ok-extend_from_slice-clause-bytes : goal.returns-in-Ok-extend_from_slice-clause-bytes
+returns-in-Ok-extend_from_slice-clause-bytes g c =
     let buf = c.read.new.buf in
     let rest = drop c.args.room c.args.buffer.now in
     let within : c.in-Ok.count ≤ length buf = c.in-Ok.ensures.bound in

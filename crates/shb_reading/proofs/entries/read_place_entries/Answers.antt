@@ -25,7 +25,7 @@ loop-number-preserved c =
       read = record {
         all = before.all ++ entry ∷ [];
         holds = places_more text c.args.at.now loop.at c.read_place.new.at loop.number before.all entry before.holds c.in_ok-entry.ensures.read;
-        kept_is = c.in-Ok.ensures before.all (let count = before.holds.count_is in omega (arith, count)) before.kept_is;
+        kept_is = c.in_ok-add_place.ensures before.all (let count = before.holds.count_is in omega (arith, count)) before.kept_is;
       };
       passes = λ forms n b.
           loop.invariant.passes forms n (subst (λ (f : List Form). IsBadFrom f loop.at.lines (bytes_from text loop.at) n) (sym (places_left loop.number c.args.count forms c.loop-number-test.true))

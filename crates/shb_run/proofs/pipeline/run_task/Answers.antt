@@ -58,5 +58,5 @@ returns g c =
     of_no_memory c.args.task.choice c.args.task.settings.schedules g.S.Source.remaining g.S.Source.given_count g.S.Source.failure_count c.args.source.now c.parse.new.source
     g.K.Sink.taken g.K.Sink.failure_count c.args.sink.now (rw c.standard.ensures at read.taken) (rw c.standard.ensures at read.given)
     parsed.trace parsed.stop reading read.counted
-    c.in_ok-trace.trace.trace.now c.in_ok-trace.ensures.accepted c.report_asked.new.sink
+    c.in_ok-trace.trace.trace.now c.in_ok-trace.ensures.accepted c.report_asked.new.sink c.in-Err-Memory.refused
     (rw c.in-Err-Memory.field-0-is at c.in-Err-Memory.ensures.memory) (rw c.in-Err-Memory.field-0-is at c.in-Err-Memory.ensures.counted)

@@ -33,8 +33,8 @@ returns-in-Err-Memory-clause-blocks g c =
     let same = ended.2.2.same_sink in
     let f = races_at c.args.search.now.job.now in
     let front = values_front f ended.0 (length (pieces_in c.args.search.now.job.now)) ended.1 in
-    left_after (λ s. WritesBlocks {T = Unit {0}} false c.args.trace.now (races_found c.args.search.now.job.now) (g.K.Sink.taken c.args.sink.now) (g.K.Sink.taken s) (Err errors.Memory)) _ c.stream.new.taker.lister.sink.now
-    (listed_front c.args.trace.now _ (map ends (flat_map pairs_in ended.2.0)) front.0 _ _ errors.Memory (rw (given_are pairs_in f ended.0 ended.2.0 (given_back ended.2.0 ∙ ended.2.1)) front.1) (whole_front _ _ _ ended.2.2.appended))
+    left_after (λ s. WritesBlocks {T = Unit {0}} false c.args.trace.now (races_found c.args.search.now.job.now) (g.K.Sink.taken c.args.sink.now) (g.K.Sink.taken s) (Err (errors.Memory c.in-Err-Memory.refused))) _ c.stream.new.taker.lister.sink.now
+    (listed_front c.args.trace.now _ (map ends (flat_map pairs_in ended.2.0)) front.0 _ _ (errors.Memory c.in-Err-Memory.refused) (rw (given_are pairs_in f ended.0 ended.2.0 (given_back ended.2.0 ∙ ended.2.1)) front.1) (whole_front _ _ _ ended.2.2.appended))
     (search rules)
 
 pub returns-in-Err-Taker-clause-blocks : goal.returns-in-Err-Taker-clause-blocks

@@ -3,8 +3,8 @@ use Rattle.shb_write.specs.Listed.{HasFailedListing, pairs_in}
 use Rattle.shb_write.proofs.Listing.{failed_as, failed_next, listed_next, next_in_range, next_room, part_stopped, room_has}
 use Rattle.shb_write.proofs.race_lister.list_piece.Goals as goal
 
-pub returns-in_default-clause-failed : goal.returns-in_default-clause-failed
-returns-in_default-clause-failed g c = part_stopped g.K.Sink.taken g.K.Sink.failure_count c.args.lister.now c.loop-k.lister c.args.piece.now c.loop-k.k c.loop-k.invariant.listed
+pub returns-in-Err-clause-failed : goal.returns-in-Err-clause-failed
+returns-in-Err-clause-failed g c = part_stopped g.K.Sink.taken g.K.Sink.failure_count c.args.lister.now c.loop-k.lister c.args.piece.now c.loop-k.k _ c.loop-k.invariant.listed
 
 pub list-requires-clause-room : goal.list-requires-clause-room
 list-requires-clause-room g c =

@@ -34,8 +34,8 @@ returns-clause-blocks g c =
     let trace = c.args.ordered.now.disciplined.now in
     let ended = rw c.in-Err-Memory.field-0-is at c.in-Err-Memory.ensures.ended in
     let same = ended.2.2.same_sink in
-    left_after (λ s. WritesBlocks {T = Unit {0}} true trace.trace.now (map ends c.args.races.now) (g.K.Sink.taken c.args.sink.now) (g.K.Sink.taken s) (Err errors.Memory)) _ c.stream.new.taker.sink.now
-    (some_came trace.trace.now trace.events.now c.args.races.now trace.of_trace c.with_checkpoints-job.result (c.with_checkpoints-job.ensures ∙ c.new.ensures) ended.0 ended.2.0 _ (g.K.Sink.taken c.stream.new.taker.sink.now) errors.Memory ended.1 (sym (map-id ended.2.0) ∙ ended.2.1) (subst IsDisciplined trace.of_trace trace.meets) ended.2.2.appended)
+    left_after (λ s. WritesBlocks {T = Unit {0}} true trace.trace.now (map ends c.args.races.now) (g.K.Sink.taken c.args.sink.now) (g.K.Sink.taken s) (Err (errors.Memory c.in-Err-Memory.refused))) _ c.stream.new.taker.sink.now
+    (some_came trace.trace.now trace.events.now c.args.races.now trace.of_trace c.with_checkpoints-job.result (c.with_checkpoints-job.ensures ∙ c.new.ensures) ended.0 ended.2.0 _ (g.K.Sink.taken c.stream.new.taker.sink.now) (errors.Memory c.in-Err-Memory.refused) ended.1 (sym (map-id ended.2.0) ∙ ended.2.1) (subst IsDisciplined trace.of_trace trace.meets) ended.2.2.appended)
     (search rules)
 
 pub returns-in-Err-Taker-clause-blocks : goal.returns-in-Err-Taker-clause-blocks

@@ -1,4 +1,4 @@
-use Rattle.std.proofs.Common.{ℕ, List, length, refl, sym, subst, ◌∙◌}
+use Rattle.std.proofs.Common.{ℕ, List, ap, length, refl, sym, subst, ◌∙◌}
 use Rattle.std.proofs.Math.ListN.{set}
 use Rattle.std.proofs.lemmas.Option.{slice_get_read}
 use Rattle.shb_places.specs.declared.sites.Site.{Site}
@@ -13,4 +13,4 @@ returns-clause-more c =
     let last : Site = record { variable = c.args.variable; location = c.args.location; previous = c.index-previous.result.now } in
     let e = site_added newest sites last (slice_get_read newest (length newest) c.args.variable c.index-previous.result.now refl c.requires c.index-previous.ensures) in
     let more : AreMore newest sites (set newest c.args.variable (length sites)) c.push.new.self.items = subst (λ (all : List Site). AreMore newest sites (set newest c.args.variable (length sites)) all) (sym c.in_ok-push.ensures.items) e in
-    subst (λ (k : ℕ). AreMore newest sites (set newest c.args.variable k) c.push.new.self.items) (sym (c.in_ok-s.ensures.0 ∙ (c.len.ensures ∙ c.args.self.now.sites.ok.0))) more
+    subst (λ (k : ℕ). AreMore newest sites (set newest c.args.variable k) c.push.new.self.items) (sym (c.in_ok-s.ensures.0 ∙ ap length c.as_slice.ensures.value)) more
