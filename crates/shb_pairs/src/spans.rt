@@ -122,11 +122,7 @@ fn compared_with<'a, O: Order>(search: &Search<'_, 'a, O>, second: u32) -> &'a [
 }
 
 /// The parts of a list that some spans name.
-fn parts_of<'p>(
-    alloc: Global,
-    list: &'p [u32],
-    spans: &[Span],
-) -> Result<Vec<Range<'p>>, NoMemory>
+fn parts_of<'p>(alloc: Global, list: &'p [u32], spans: &[Span]) -> Result<Vec<Range<'p>>, NoMemory>
     requires { All (IsSpanOf (length list.now)) spans.now }
     ensures { IfOk result (λ v. in_ranges v.items ≡ in_spans list.now spans.now) }
 {

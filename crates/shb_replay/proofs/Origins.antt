@@ -43,10 +43,10 @@ module _ (trace : List Event) (sizes : Sizes) (e : ℕ) (within : IsWithin trace
   pub release_found : (table : List (Option ℕ)) (l : ℕ) → op_at trace e ≡ Some (Acquire l) → IsLatestTable (ReleasesLock trace) e sizes.locks table → IsOrigin trace e (get_or table l None)
   release_found table l acquires has = record {
     releases = λ m others. (
-      let low : l < sizes.locks = op_within_at trace sizes e (Acquire l) within acquires in
-      let both : Some (Acquire l) ≡ Some (Acquire m) = sym acquires ∙ others in
-      let same : l ≡ m = cc in
-      subst (λ (k : ℕ). Latest (ReleasesLock trace k) e (get_or table l None)) same (has.each l low));
+        let low : l < sizes.locks = op_within_at trace sizes e (Acquire l) within acquires in
+        let both : Some (Acquire l) ≡ Some (Acquire m) = sym acquires ∙ others in
+        let same : l ≡ m = cc in
+        subst (λ (k : ℕ). Latest (ReleasesLock trace k) e (get_or table l None)) same (has.each l low));
     writes = λ x reads. absurd (let both : Some (Acquire l) ≡ Some (Read x) = sym acquires ∙ reads in let f : ⊥ = cc in f);
   }
 
@@ -54,10 +54,10 @@ module _ (trace : List Event) (sizes : Sizes) (e : ℕ) (within : IsWithin trace
   write_found table x reads has = record {
     releases = λ l acquires. absurd (let both : Some (Read x) ≡ Some (Acquire l) = sym reads ∙ acquires in let f : ⊥ = cc in f);
     writes = λ y others. (
-      let low : x < sizes.variables = op_within_at trace sizes e (Read x) within reads in
-      let both : Some (Read x) ≡ Some (Read y) = sym reads ∙ others in
-      let same : x ≡ y = cc in
-      subst (λ (k : ℕ). Latest (WritesVariable trace k) e (get_or table x None)) same (has.each x low));
+        let low : x < sizes.variables = op_within_at trace sizes e (Read x) within reads in
+        let both : Some (Read x) ≡ Some (Read y) = sym reads ∙ others in
+        let same : x ≡ y = cc in
+        subst (λ (k : ℕ). Latest (WritesVariable trace k) e (get_or table x None)) same (has.each x low));
   }
 
 -- what acquires and reads nothing needs nothing

@@ -105,12 +105,7 @@ fn origins_of(alloc: Global, linked: &Linked<'_>) -> Result<Vec<Option<u32>>, No
     let mut writes = empty_table(alloc, linked.sizes.variables)?;
     let mut origins = Vec::with_capacity(alloc, linked.events.len())?;
     for e in 0..linked.events.len() as u32 {
-        origins.push(origin_of(
-            linked,
-            releases.as_slice(),
-            writes.as_slice(),
-            e,
-        ))?;
+        origins.push(origin_of(linked, releases.as_slice(), writes.as_slice(), e))?;
         note_release(linked, &mut releases, e);
         note_write(linked, &mut writes, e);
     }
