@@ -41,11 +41,13 @@ def publications(view, section):
     racing = [site for site in section.sites if site.partners]
     writers, others = set().union(*(site.writers for site in racing)), {thread for site in racing for thread in site.threads}
     uses = [use for use in view.stacks.atomics if use.thread in others]
-    found = {}
+    loads, found = {}, {}
+    for use in uses:
+        if use.kind != b"store":
+            loads.setdefault(use.name, []).append(use)
     for store in uses:
-        for load in uses:
-            is_pair = store.name == load.name and store.thread != load.thread and store.thread in writers
-            if is_pair and store.publishes() and load.kind != b"store" and not (store.gives() and load.takes()):
+        for load in loads.get(store.name, []) if store.thread in writers and store.publishes() else []:
+            if store.thread != load.thread and not (store.gives() and load.takes()):
                 found.setdefault((store.name, store.location, load.location), (store, load))
     return list(found.values())
 
