@@ -86,6 +86,16 @@ class Edits(unittest.TestCase):
         self.assertEqual([functions for _, functions in self.checks], [{"first"}, {"first"}])
         self.assertEqual(self.alone, [])
 
+    def test_what_the_kit_says_of_one_edit_is_one_of_its_five_answers(self):
+        kinds = {"REFUSED": "refused", "AT_LIMIT": "limit", "BAD": "bad", "MISSED": "missed", "UNSURE": "unsure"}
+        for kind in kinds.values():
+            rt = types.SimpleNamespace(**kinds, must_fail=lambda *_: (kind, f"must-fail low/x.edit: {kind}"))
+            with self.subTest(kind), mock.patch.object(kit, "command", lambda: rt):
+                self.assertEqual(kit.try_alone(self.crate, "x.edit"), (kind in ("refused", "limit"), f"must-fail low/x.edit: {kind}"))
+        rt.must_fail = lambda *_: (True, "another kit's answer")
+        with mock.patch.object(kit, "command", lambda: rt), self.assertRaises(KeyError):
+            kit.try_alone(self.crate, "x.edit")
+
     def test_proved_edit_fails(self):
         edits = [self.edit("first.left", LEFT), self.edit("second.other", SECOND)]
         said = "fn low::first: proved\nfn low::Pair::second: not proved\n"

@@ -86,7 +86,10 @@ def is_unread(line, texts):
 
 def try_alone(crate, edit):
     """Tries one edit as the kit does, on the whole crate from nothing. Whether it is refused, and what to say."""
-    return command().must_fail(crate, str(edit), ["--jobs", "1"])
+    rt = command()
+    counts = {rt.REFUSED: True, rt.AT_LIMIT: True, rt.BAD: False, rt.MISSED: False, rt.UNSURE: False}
+    kind, said = rt.must_fail(crate, str(edit), ["--jobs", "1"])
+    return counts[kind], said
 
 
 def free_memory():
