@@ -37,6 +37,25 @@ document.body.textContent = "FOUND" + JSON.stringify(found) + "END";
 </script>
 </body>"""
 
+LONG = """
+<script>
+"use strict";
+const list = document.getElementById("groups"), next = list.nextElementSibling, field = document.querySelector(".filter input");
+const numbers = (what) => [...document.querySelectorAll(what)].filter((it) => it.getClientRects().length)
+  .map((it) => it.querySelector("a[href^='#g']").textContent.match(/\\d+/)[0]).join();
+const seen = () => [numbers("#groups > li"), numbers("section"), document.querySelector(".filter output").textContent,
+  next.getClientRects().length ? next.textContent : ""];
+const ask = (words) => { field.value = words; field.dispatchEvent(new Event("input")); return seen(); };
+const found = { first: seen(), line: ask(" G.C:57"), thread: ask("other.late"), none: ask("g.c:999"), all: ask("") };
+history.replaceState(null, "", "#g56");
+dispatchEvent(new HashChangeEvent("hashchange"));
+found.linked = seen();
+next.click();
+found.next = seen();
+document.body.textContent = "FOUND" + JSON.stringify(found) + "END";
+</script>
+</body>"""
+
 
 class Browser(program.Case):
     """Where no browser is installed each test says so and tries nothing."""
@@ -84,6 +103,41 @@ class Browser(program.Case):
             self.assertEqual(found["after"], "false,false,true,false,false,false")
             self.assertTrue(found["copied"][0])  # what is selected is copied, where the browser lets a script do that without a click
             self.assertIn(found["copied"][1], ("Copied", "Press Ctrl+C"))
+
+    def sixty_groups(self):
+        """A page with a group for each of 60 variables; the threads of the last two have other names."""
+        events = [f"{thread}{'.late' * (k > 58)}|w(v{k})|g.c:{k}\n"
+                  for k in range(1, 61) for thread in ("main", "other")]
+        return self.page(self.file("".join(events).encode()))
+
+    def test_fifty_groups_the_next_ones_and_those_of_a_filter(self):
+        browser = self.browser()
+        if browser:
+            page = self.sixty_groups()
+            text = re.sub(r"<meta http-equiv[^>]*>", "", page.read_text(encoding="utf-8"))
+            page.write_text(text.replace("</body>", LONG), encoding="utf-8")
+            found = json.loads(re.search(r"FOUND(.*?)END", self.shown(browser, page)).group(1))
+            fifty, sixty = (",".join(map(str, range(1, last + 1))) for last in (50, 60))
+            self.assertEqual(found["first"], [fifty, fifty, "60 of 60 groups, 50 are shown", "Next 10 groups"])
+            self.assertEqual(found["line"], ["57", "57", "1 of 60 groups", ""])
+            self.assertEqual(found["thread"], ["59,60", "59,60", "2 of 60 groups", ""])
+            self.assertEqual(found["none"], ["", "", "0 of 60 groups", ""])
+            self.assertEqual(found["all"], found["first"])
+            self.assertEqual(found["linked"][:2], [f"{fifty},56"] * 2)
+            self.assertEqual(found["next"], [sixty, sixty, "60 of 60 groups", ""])
+
+    def test_all_groups_are_printed(self):
+        """As many pages of paper as without the script."""
+        browser = self.browser()
+        if browser:
+            page, pages = self.sixty_groups(), []
+            text = page.read_text(encoding="utf-8")
+            for name, content in ("with.html", text), ("without.html", re.sub("<script>.*?</script>", "", text, flags=re.S)):
+                other, printed = self.file(content.encode(), name), self.folder / f"{name}.pdf"
+                self.shown(browser, other, f"--print-to-pdf={printed}")
+                pages.append(len(re.findall(rb"/Type */Page\b", printed.read_bytes())))
+            self.assertEqual(*pages)
+            self.assertGreater(pages[0], 10)
 
     def test_nothing_is_wider_than_a_narrow_window(self):
         """Of 400 pixels, with all folded parts open and with long names."""

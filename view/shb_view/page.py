@@ -93,7 +93,7 @@ def section_part(view, number, section):
     parts += [element("p", marked(words, NAME)) for words in [*publication_parts(view, section), *seen_parts(section)]]
     if len(section.group.variables) > 1:
         names = listed([[Code(name)] for name in section.group.variables], MOST_VARIABLES)
-        parts.append(element("p", "Variables: ", marked(names, NAME)))
+        parts.append(element("p", "Variables: ", marked(names, NAME), class_="variables"))
     them = "it" if len(section.group.variables) == 1 else "them"
     parts += [source_pair(view, section.window), element("h3", f"Every line that uses {them}"),
               site_table(view, section), callers_details(section), origin_details(view, section),
