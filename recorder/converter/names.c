@@ -1,4 +1,5 @@
-/* Names: of variables by `nm`, of lines of code by `addr2line`.  Without these tools addresses stand in their place. */
+/* Names: of variables by `nm`, of lines of code by `llvm-addr2line` or else `addr2line`, which names some inlined functions by the
+   function that they are in.  Without these tools addresses stand in their place. */
 #define _GNU_SOURCE
 #include <errno.h>
 #include <fcntl.h>
@@ -38,11 +39,10 @@ static char *copy(const char *text) {
     return p;
 }
 
-/* A program of binutils that writes to `output`, from the input that it gets. */
+/* A program that writes to `output`, from the input that it gets; nothing, and no process, where there is no such program. */
 typedef struct { FILE *output; pid_t process; } tool;
 
 static tool run_tool(const char *const *words, int input) {
-    static int said;
     int ends[2], null = open("/dev/null", O_RDWR | O_CLOEXEC);
     posix_spawn_file_actions_t files;
     tool t = {0, 0};
@@ -54,12 +54,14 @@ static tool run_tool(const char *const *words, int input) {
     posix_spawn_file_actions_destroy(&files);
     close(ends[1]);
     close(null);
-    if (failed) {
-        t.process = 0;
-        if (!said++) fprintf(stderr, "shb-std: %s (of binutils) cannot be run: names and places are addresses\n", *words);
-    }
+    if (failed) t.process = 0;
     t.output = fdopen(ends[0], "r");
     return t;
+}
+
+static void say_missing(tool t, const char *name) {
+    static int said;
+    if (!t.process && !said++) fprintf(stderr, "shb-std: %s (of binutils) cannot be run: names and places are addresses\n", name);
 }
 
 static void end_tool(tool t) {
@@ -103,6 +105,7 @@ static void read_symbols(module *m) {
     m->read = 1;
     const char *const words[] = {"nm", "-C", "-S", "--defined-only", "--", m->path, 0};
     tool nm = run_tool(words, -1);
+    say_missing(nm, *words);
     while (fgets(line, sizeof line, nm.output)) {
         int sized = strlen(line) > 18 && line[18] != ' ';    /* else the type stands where the size would */
         if (!sized || sscanf(line, "%lx %lx %c %n", &at, &size, &type, &name) < 3) continue;
@@ -178,7 +181,7 @@ void note_caller(u64 caller) { caller_number(caller); }
 
 static int by_number(const void *a, const void *b) { return *(u64 *)a < *(u64 *)b ? -1 : *(u64 *)a > *(u64 *)b; }
 
-/* In the same order in each run, for what addr2line says of some addresses depends on those before. */
+/* In the same order in each run, for what a tool says of some addresses depends on those before. */
 static int write_addresses(FILE *f, module *m) {
     u64 *found = zeroed(callers.count + 1, sizeof *found), count = 0;
     for (u64 i = 0; i < callers.capacity; i++) {
@@ -192,7 +195,7 @@ static int write_addresses(FILE *f, module *m) {
 }
 
 static int is_address(const char *line) {
-    return !strncmp(line, "0x", 2) && strspn(line + 2, "0123456789abcdef") == 16 && line[18] == '\n';
+    return !strncmp(line, "0x", 2) && line[2 + strspn(line + 2, "0123456789abcdef")] == '\n';
 }
 
 /* Reads on to the end of a place that begins with this line, as "path:12 (discriminator 3)", and cuts what is behind its number.
@@ -268,17 +271,23 @@ static void read_frames(FILE *f, module *m) {
     }
 }
 
-/* Has addr2line tell of the callers in a module. */
+/* Has a tool tell of the callers in a module. */
 static void ask_for_lines(module *m) {
-    const char *const words[] = {"addr2line", "-aifC", "-e", m->path, 0};
+    const char *words[] = {"llvm-addr2line", "-aifC", "-e", m->path, 0};
     FILE *addresses = tmpfile();
     if (!addresses) die("cannot write to " P_tmpdir ": %s", strerror(errno));
     if (write_addresses(addresses, m)) {
         if (fflush(addresses) || ferror(addresses)) die("cannot write to " P_tmpdir ": %s", strerror(errno));
         rewind(addresses);
-        tool addr2line = run_tool(words, fileno(addresses));
-        read_frames(addr2line.output, m);
-        end_tool(addr2line);
+        tool t = run_tool(words, fileno(addresses));
+        if (!t.process) {
+            end_tool(t);
+            *words = "addr2line";
+            t = run_tool(words, fileno(addresses));
+            say_missing(t, *words);
+        }
+        read_frames(t.output, m);
+        end_tool(t);
     }
     fclose(addresses);
 }

@@ -1,6 +1,8 @@
 """Call stacks: of a record made by hand, and of programs that enter and leave functions in many ways."""
 
+import os
 import re
+import shutil
 import struct
 import sys
 
@@ -135,6 +137,36 @@ class Programs(recorder.Case):
         self.assertEqual(said, [False, True])
         lines = answer.stdout.decode().splitlines()
         self.assertEqual(places(Stacks(path, 0, len(lines)), len(lines)), [line.split("|")[2] for line in lines])
+
+    def recorded(self, source, option):
+        """The record of a program."""
+        program, record = self.folder / "program", self.folder / "app.rec"
+        recorder.build(source, option, program)
+        recorder.must(recorder.call(program, env=recorder.settings(record)))
+        return record
+
+    def test_an_inlined_function_has_its_own_name(self):
+        """By llvm-addr2line: addr2line gives some the name of the function that they are in."""
+        if not shutil.which("llvm-addr2line"):
+            self.skipTest("llvm-addr2line isn't installed")
+        source, path = recorder.PROGRAMS / "inlined.cc", self.folder / "app.stacks"
+        numbers = {line.partition("// ")[2]: number for number, line in enumerate(source.read_text().splitlines(), 1)}
+        for option in ("-O1", "-O2"):
+            lines = recorder.must(recorder.convert(self.recorded(source, option), "--stacks", path)).stdout.decode().splitlines()
+            looked = next(event for event, line in enumerate(lines, 1) if line.endswith(f"|inlined.cc:{numbers['LOOK']}"))
+            frames = Stacks(path, 0, len(lines)).of_event(looked)[:2]
+            self.assertEqual([name(frame) for frame in frames], ["look", "operator"])
+            self.assertEqual([frame.location.decode() for frame in frames], [f"inlined.cc:{numbers[it]}" for it in ("LOOK", "LAMBDA")])
+
+    def test_without_llvm_the_lines_are_the_same(self):
+        record, tools = self.recorded(recorder.PROGRAMS / "inlined.cc", "-O1"), self.folder / "tools"
+        tools.mkdir()
+        for tool in ("nm", "addr2line"):
+            (tools / tool).symlink_to(shutil.which(tool))
+        with_all = recorder.must(recorder.convert(record))
+        without = recorder.must(recorder.call(recorder.BUILT / "shb-std", record, env={**os.environ, "PATH": str(tools)}))
+        self.assertIn(b"|inlined.cc:", without.stdout)
+        self.assertEqual(without.stdout, with_all.stdout)
 
     def test_code_of_headers_is_told_by_the_programs_own_lines(self):
         source, program, record = recorder.PROGRAMS / "headers.cc", self.folder / "program", self.folder / "app.rec"
