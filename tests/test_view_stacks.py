@@ -76,6 +76,19 @@ class Stacks(program.Case):
         self.assertIn("add<> a.c:5std::each each.h:8run a.c:20", lists)
         self.assertIn("make a.c:9main a.c:31", lists)
 
+    def test_where_a_lock_was_taken(self):
+        """The one that is held at the shown race: in the text, on the page, and in the text for an issue."""
+        trace = b"main|fork(T1)|a.c:1\nT1|acq(m)|a.c:4\nT1|w(x)|a.c:5\nT1|rel(m)|a.c:6\nmain|w(x)|a.c:7\n"
+        content, path = stacks([1, 9, 5, 7, 5]), self.folder / "page.html"
+        _, out, err = self.shown(content, "--all", trace=trace)
+        self.assertEqual(err, "")
+        self.assertIn("   lock m, held at a.c:5, was taken in make a.c:9, from main a.c:31\n", out)
+        self.assertIn("       holds m, acquired at a.c:4 (event 2)\n         #0 make a.c:9\n         #1 main a.c:31\n", out)
+        self.shown(content, "--html", path, trace=trace)
+        page = Page(path.read_text())
+        self.assertIn("lock m, held at a.c:5, was taken at", [text for _, text in page.all("p")])
+        self.assertIn("make a.c:9main a.c:31", [text for _, text in page.all("ol", "stack")])
+
     def test_a_window_has_a_shift(self):
         _, whole, _ = self.shown(stacks())
         _, window, err = self.shown(stacks([1, 1, *NODES]), "--shift", "2")

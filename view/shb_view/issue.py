@@ -22,10 +22,10 @@ def issue_lines(view, section):
     yield f"(one of {counted(races, 'race')} of these two lines in a recorded run)" if races > 1 else "(one race in a recorded run)"
     for access in window.accesses:
         yield from access_lines(view, window, access)
-    allocated = caller_lines(view.stacks.of_variable(one.name), MOST_FRAMES)
+    allocated = stack_lines(view.stacks.of_variable(one.name))
     if allocated:
         yield "  the block was allocated at"
-        yield from (f"      #{number} {flat(parts)}" for number, parts in enumerate(allocated))
+        yield from allocated
     yield from (f"  {flat(parts)}" for parts in [section.fact.sentence, *publication_parts(view, section)])
     yield f"  {order_text(view, window)}"
 
@@ -38,10 +38,11 @@ def access_lines(view, window, access):
     source = view.source.place(event.location)
     if source and source.line() is not None:
         yield f"      {code_line(source.line().strip(), NAME)}"
-    yield from (f"      #{number} {flat(parts)}" for number, parts in enumerate(caller_lines(view.stacks.of_event(access), MOST_FRAMES)))
+    yield from stack_lines(view.stacks.of_event(access))
     for lock, acquire in shown.locks:
         at = place(window.events[acquire].event.location)
         yield f"    holds {flat([*lock_parts(lock), ', acquired at ', at])} (event {acquire})"
+        yield from stack_lines(view.stacks.of_event(acquire))
     if shown.held > len(shown.locks):
         yield f"    and {counted(shown.held - len(shown.locks), 'more lock')}"
     if not shown.held:
@@ -49,8 +50,11 @@ def access_lines(view, window, access):
     if fork:
         start = window.events[fork].event
         yield f"    thread started by {flat([Code(start.thread), ' at ', place(start.location)])} (event {fork})"
-    created = caller_lines(view.stacks.of_thread(event.thread), MOST_FRAMES)
-    yield from (f"      #{number} {flat(parts)}" for number, parts in enumerate(created))
+    yield from stack_lines(view.stacks.of_thread(event.thread))
+
+
+def stack_lines(frames):
+    return [f"      #{number} {flat(parts)}" for number, parts in enumerate(caller_lines(frames, MOST_FRAMES))]
 
 
 def order_text(view, window):

@@ -17,7 +17,7 @@ from shb_view.words import (VERBS, MOST_SITES, MOST_THREADS, MOST_VARIABLES, NO_
 HERE = pathlib.Path(__file__).resolve().parent
 NAME = 80  # columns
 LINE = 240
-MOST_STACKS, MOST_FRAMES, MOST_ORIGINS = 8, 40, 8  # of a racing line; of each; threads and blocks of a group
+MOST_STACKS, MOST_FRAMES, MOST_ORIGINS = 8, 40, 8  # of a racing line; of each; threads, blocks and locks of a group
 MOST_BYTES = 3_500_000  # of the groups' parts; the last of them may go beyond
 ARROW = Markup('<svg class="defs" width="0" height="0" aria-hidden="true"><defs><marker id="to" viewBox="0 0 8 8" refX="7" '
                'refY="4" markerWidth="7" markerHeight="7" orient="auto"><path d="M0 0L8 4L0 8z"></path></marker></defs></svg>')
@@ -210,7 +210,7 @@ def origin_details(view, section):
     parts = [joined([element("p", marked(parts, NAME), " at"), frame_list(frames)]) for parts, frames in found[:MOST_ORIGINS]]
     if len(found) > MOST_ORIGINS:
         parts.append(element("p", f"and {len(found) - MOST_ORIGINS:,} more", class_="faint"))
-    words = "Where the threads were created and the blocks allocated"
+    words = "Where the threads were created, the blocks allocated and the locks taken"
     return element("details", element("summary", words), *parts) if parts else None
 
 

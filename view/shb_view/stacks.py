@@ -6,7 +6,7 @@ import re
 from shb_common.stacks import BadStacks, Stacks, bare
 from shb_view.faults import Refused
 from shb_view.names import shown
-from shb_view.words import Code, counted, place
+from shb_view.words import Code, counted, lock_parts, place
 
 BLOCK_PART = re.compile(rb"\+[0-9]+$")  # behind the name of a block
 WITH = {b"relaxed": "relaxed", b"acquire": "with acquire", b"release": "with release", b"both": "with acquire and release"}
@@ -22,14 +22,18 @@ def stacks_of(path, shift, events):
 
 
 def origins(view, section):
-    """Where the threads of a group's racing lines were created, and where the blocks of its variables were allocated: what it is,
-    as parts, with a stack. Neighbours in one block are told once."""
+    """Where the threads of a group's racing lines were created, where the blocks of its variables were allocated, and where the locks
+    that are held at its shown race were taken: what it is, as parts, with a stack. Neighbours in one block are told once."""
     threads = sorted({thread for site in section.sites if site.partners for thread in site.threads})
     found = [(["thread ", Code(thread), " was created"], view.stacks.of_thread(thread)) for thread in threads]
     blocks = {}
     for name in section.group.variables:
         blocks.setdefault(BLOCK_PART.sub(b"", name), view.stacks.of_variable(name))
     found += [(["block ", Code(name), " was allocated"], frames) for name, frames in blocks.items()]
+    window = section.window
+    for shown in [window.events[access] for access in window.accesses] if window else []:
+        found += [(["lock ", *lock_parts(lock), ", held at ", place(shown.event.location), ", was taken"], view.stacks.of_event(acquire))
+                  for lock, acquire in shown.locks]
     return [(parts, frames) for parts, frames in found if frames]
 
 
