@@ -168,10 +168,10 @@ class Large(program.Case):
             self.expect(program.run(["races", "--list", "--workers", workers], text), 0, report)
 
     def test_a_hot_variable_in_little_memory(self):
-        """Forty billion races of 8 bytes each don't fit; `places` makes no list of them."""
-        writes = 200_000
+        """2^42 races of 8 bytes each don't fit; `places` makes no list of them."""
+        writes = MOST_EVENTS // 2
         text, report = hot_variable(writes)
-        room = len(text) + 100 * 2**20
+        room = len(text) + 300 * 2**20
         self.assertGreater(8 * writes * writes, room)
         listed = b"".join(line for line in report.splitlines(keepends=True) if not line.startswith(b"schedule"))
         trace = self.file(text)
@@ -228,7 +228,7 @@ class Large(program.Case):
 
     def test_a_long_schedule_in_little_memory(self):
         """A position takes 4 bytes: those of all numbers don't fit. The last number is read all the same."""
-        numbers = 30_000_000
+        numbers = 60_000_000
         for last, said in ((b"1", b"bad race 1\n"), (b"3", b"bad race 1\n"), (b"01", b"bad line 7\n")):
             text, report = long_schedule(numbers, last)
             room = len(report) + 32 * 2**20

@@ -10,7 +10,7 @@ import test_refusals
 
 FRONT = 1_000_000
 ROUNDS = 3_000
-MANY_ROUNDS = 1_100_000
+MANY_ROUNDS = 2_097_152
 
 
 def two_writers(rounds):
@@ -83,10 +83,10 @@ class LongLists(test_refusals.Refusing):
             self.assertEqual((started.wait(program.SECONDS), said), (4, b"cannot write\n"))
 
     def test_more_races_than_can_be_gone_through(self):
-        """More than 10^12 races of 2.2 million events: counted at once, and as little memory is taken as for few."""
-        self.assertGreater(MANY_ROUNDS * MANY_ROUNDS, 10**12)
+        """2^42 races of the most events, more than 4 * 10^12: counted at once, and as little memory is taken as for few."""
+        self.assertEqual(MANY_ROUNDS * MANY_ROUNDS, 2**42)
         trace, wanted = self.file(two_writers(MANY_ROUNDS)), front_of(MANY_ROUNDS, FRONT)
-        started = program.start(["races", "--list", trace], **at_most(2**29))
+        started = program.start(["races", "--list", trace], **at_most(2**30))
         front = started.stdout.read(FRONT)
         started.stdout.close()
         said = started.stderr.read()

@@ -1,85 +1,265 @@
 """As many of each thing as a trace may have, or as fit into the memory of a small machine: names, locks, racing variables,
-pieces of work, races that are kept, lines and places. docs/GUARANTEES.md has a table of these sizes."""
+pieces of work, races that are kept, reads, lines, locations, places, clocks and blocks. docs/GUARANTEES.md has a table of
+these sizes. Each report is worked out from its trace by a formula, and what is long is compared by its digest."""
 
 import hashlib
 import itertools
 
 import program
+import shb
 import test_long_lists
 
 MOST_EVENTS = 4_194_304
+MOST_THREADS = 1_024
 EMPTY_LINES = 120_000_000
-LOCATIONS = 1_000
+OTHER_VARIABLES = 70_000
 
 
 def head(events, threads, locks, variables, races):
     return b"shb-report 2\nevents %d threads %d locks %d variables %d\nraces %d\n" % (events, threads, locks, variables, races)
 
 
-def without_races(locks, variables):
-    return head(MOST_EVENTS, 1, locks, variables, 0) + b"places 0\nend\n"
+def one_place(count):
+    return b"places 1\nplace 1: %d\nat \nand \n" % count
 
 
-def racing_variables(count):
-    """Each variable is written by two threads. All races have one place: no locations."""
-    return b"".join(b"T|w(%d)\nU|w(%d)\n" % (k, k) for k in range(count))
+def without_races(events, threads, locks, variables):
+    return head(events, threads, locks, variables, 0) + b"places 0\nend\n"
 
 
-def blocks_of_racing_variables(first, last):
-    block = b"race %d: %d %d\nfirst T|w(%d)\nsecond U|w(%d)\n"
-    return b"".join(block % (k + 1, 2 * k + 1, 2 * k + 2, k, k) for k in range(first, last))
-
-
-def digest_of_racing_variables(count):
-    """The digest of the report that lists all races, made piece by piece."""
-    front = head(2 * count, 2, 0, count, count) + b"places 1\nplace 1: %d\nat \nand \n" % count
-    blocks = (blocks_of_racing_variables(first, min(first + 2**16, count)) for first in range(0, count, 2**16))
-    return digest(itertools.chain([front], blocks, [b"end\n"]))
+def together(parts):
+    """The same bytes in fewer parts."""
+    parts = iter(parts)
+    return iter(lambda: b"".join(itertools.islice(parts, 2**12)), b"")
 
 
 def digest(parts):
     made = hashlib.sha256()
-    for part in parts:
+    for part in together(parts):
         made.update(part)
     return made.hexdigest()
 
 
-def one_write_each(count):
-    """So many threads write one variable, each at a place of its own. No event has to come before a race."""
-    trace = b"".join(b"T%d|w(x)|l%d\n" % (t, t) for t in range(1, count + 1))
-    pairs = [(first, second) for second in range(2, count + 1) for first in range(1, second)]
-    return trace, pairs
+def filled(form, *columns):
+    """The form, filled with the first of each column, with the second of each, and so on."""
+    return map(form.__mod__, zip(*columns))
 
 
-def places_of(pairs):
-    yield b"places %d\n" % len(pairs)
-    for q, (first, second) in enumerate(pairs, 1):
-        yield b"place %d: 1\nat l%d\nand l%d\n" % (q, first, second)
+def other_variables(count):
+    """Reads of so many variables, so that the next one has a number above them. No other thread comes to them."""
+    return b"".join(b"T|r(y%d)\n" % k for k in range(count))
 
 
-def blocks_of(pairs, last_line):
-    for k, (i, j) in enumerate(pairs, 1):
-        yield b"race %d: %d %d\nfirst T%d|w(x)|l%d\nsecond T%d|w(x)|l%d\n%s" % (k, i, j, i, i, j, j, last_line)
+def racing_variables(count):
+    """Each variable is written by two threads, at a location of its own."""
+    return b"".join(b"T|w(%d)|%d\nU|w(%d)|%d\n" % (k, k, k, k) for k in range(count))
+
+
+def report_of_racing_variables(count):
+    names = range(count)
+    yield head(2 * count, 2, 0, count, count) + b"places %d\n" % count
+    yield from filled(b"place %d: 1\nat %d\nand %d\n", itertools.count(1), names, names)
+    block = b"race %d: %d %d\nfirst T|w(%d)|%d\nsecond U|w(%d)|%d\n"
+    yield from filled(block, itertools.count(1), itertools.count(1, 2), itertools.count(2, 2), names, names, names, names)
+    yield b"end\n"
+
+
+class Writes:
+    """So many threads write one variable, one after the other, and perhaps a second time. Each write is at a location of its
+    own, and races with all those of other threads. Before a race a thread that comes to its second write has made the first."""
+
+    def __init__(self, threads, times):
+        self.threads = threads
+        self.events = threads * times
+        self.lines = [b"T%d|w(x)|l%d" % (e % threads, e) for e in range(self.events)]
+        self.pairs = [(i, j) for j in range(self.events) for i in range(j) if j - i != threads]
+
+    def trace(self):
+        return b"".join(line + b"\n" for line in self.lines)
+
+    def schedule(self, i, j):
+        before = [b" %d" % (e + 1 - self.threads) for e in (i, j) if e >= self.threads]
+        return b"schedule %d:%s\n" % (len(before), b"".join(before))
+
+    def report(self, with_schedules, marks=0):
+        """The report of the trace and of so many marks after it."""
+        yield head(self.events + marks, self.threads, 0, 1, len(self.pairs)) + b"places %d\n" % len(self.pairs)
+        for q, (i, j) in enumerate(self.pairs, 1):
+            yield b"place %d: 1\nat l%d\nand l%d\n" % (q, i, j)
+        for k, (i, j) in enumerate(self.pairs, 1):
+            yield b"race %d: %d %d\nfirst %s\nsecond %s\n" % (k, i + 1, j + 1, self.lines[i], self.lines[j])
+            if with_schedules:
+                yield self.schedule(i, j)
+        yield b"end\n"
 
 
 class LongSchedules:
-    """The first of ten threads reads as often as fits into a trace, and then each thread writes one variable. Before a race
-    of the first thread it has come to its write, and before one of two others nothing has to come."""
+    """Two of some threads read by turns, and then each thread writes one variable. Before a race of the two all reads have
+    come; before one of the first, every other of them, and so of the second; before one of two others none."""
 
-    threads = 10
-    reads = MOST_EVENTS - threads
+    def __init__(self, threads, reads):
+        self.threads, self.reads = threads, reads
+        self.pairs = [(i, j) for j in range(threads) for i in range(j)]
 
-    def __init__(self):
-        self.trace = b"T0|r(y)\n" * self.reads + b"".join(b"T%d|w(x)\n" % t for t in range(self.threads))
-        self.pairs = [(i, j) for j in range(self.threads) for i in range(j)]
+    def trace(self):
+        return b"T0|r(y)\nT1|r(z)\n" * (self.reads // 2) + b"".join(b"T%d|w(x)\n" % t for t in range(self.threads))
 
-    def parts(self):
-        yield head(MOST_EVENTS, self.threads, 0, 2, len(self.pairs)) + b"places 1\nplace 1: %d\nat \nand \n" % len(self.pairs)
-        long = b"schedule %d: %s\n" % (self.reads, b" ".join(b"%d" % k for k in range(1, self.reads + 1)))
+    def schedules(self):
+        """That of the two, one of the first, one of the second, and one of two others."""
+        for numbers in (range(1, self.reads + 1), range(1, self.reads + 1, 2), range(2, self.reads + 1, 2), ()):
+            yield b"schedule %d:" % len(numbers) + b"".join(b" %d" % k for k in numbers) + b"\n"
+
+    def report(self):
+        both, first, second, none = self.schedules()
+        yield head(self.reads + self.threads, self.threads, 0, 3, len(self.pairs)) + one_place(len(self.pairs))
         for k, (i, j) in enumerate(self.pairs, 1):
             yield b"race %d: %d %d\nfirst T%d|w(x)\nsecond T%d|w(x)\n" % (k, self.reads + i + 1, self.reads + j + 1, i, j)
-            yield b"schedule 0:\n" if i else long
+            yield both if j == 1 else (first, second)[i] if i < 2 else none
         yield b"end\n"
+
+
+class Locations:
+    """One thread writes a variable at so many locations, at the first of them once more, and then another thread writes it
+    three times at one location. The variable has a number above those of other variables."""
+
+    later = 3
+
+    def __init__(self, others, locations, writes):
+        self.others, self.locations, self.writes = others, locations, writes
+
+    def trace(self):
+        written = b"".join(b"T|w(x)|%d\n" % (k % self.locations) for k in range(self.writes))
+        return other_variables(self.others) + written + b"U|w(x)|u\n" * self.later
+
+    def report(self):
+        races, at = self.later * self.writes, range(self.locations)
+        yield head(self.others + self.writes + self.later, 2, 0, self.others + 1, races) + b"places %d\n" % self.locations
+        counts = (self.later * len(range(q, self.writes, self.locations)) for q in at)
+        yield from filled(b"place %d: %d\nat %d\nand u\n", itertools.count(1), counts, at)
+        block = b"race %d: %d %d\nfirst T|w(x)|%d\nsecond U|w(x)|u\n"
+        for u in range(self.later):
+            numbers, firsts = itertools.count(u * self.writes + 1), range(self.others + 1, self.others + self.writes + 1)
+            yield from filled(block, numbers, firsts, itertools.repeat(firsts[-1] + u + 1), itertools.cycle(at))
+        yield b"end\n"
+
+
+class SquareOfPlaces:
+    """One thread writes a variable at so many locations, and then another does: each pair of these is a place, and has one
+    race. The variable has a number above those of other variables."""
+
+    def __init__(self, others, locations):
+        self.others, self.locations = others, locations
+        self.pairs = [(i, j) for j in range(locations) for i in range(locations)]
+
+    def trace(self):
+        written = (b"%c|w(x)|%c%d\n" % (t, l, k) for t, l in ((b"T", b"a"), (b"U", b"b")) for k in range(self.locations))
+        return other_variables(self.others) + b"".join(written)
+
+    def report(self):
+        count = len(self.pairs)
+        yield head(self.others + 2 * self.locations, 2, 0, self.others + 1, count) + b"places %d\n" % count
+        for q, (i, j) in enumerate(self.pairs, 1):
+            yield b"place %d: 1\nat a%d\nand b%d\n" % (q, i, j)
+        first, second = self.others + 1, self.others + self.locations + 1
+        for k, (i, j) in enumerate(self.pairs, 1):
+            yield b"race %d: %d %d\nfirst T|w(x)|a%d\nsecond U|w(x)|b%d\n" % (k, first + i, second + j, i, j)
+        yield b"end\n"
+
+
+class ReadsByTurns:
+    """Two threads read one variable by turns, so often each, and then one of them writes it."""
+
+    def __init__(self, reads):
+        self.reads = reads
+
+    def trace(self, before_the_write=b""):
+        return b"T|r(x)\nU|r(x)\n" * self.reads + before_the_write + b"T|w(x)\n"
+
+    def report(self):
+        last = 2 * self.reads + 1
+        yield head(last, 2, 0, 1, self.reads) + one_place(self.reads)
+        block = b"race %d: %d %d\nfirst U|r(x)\nsecond T|w(x)\n"
+        yield from filled(block, range(1, self.reads + 1), itertools.count(2, 2), itertools.repeat(last))
+        yield b"end\n"
+
+
+def locks_with_clocks(threads, locks):
+    """Each lock is taken by a thread, and then by the next one, which learns of the first there: then all releases have
+    clocks that differ. At the end two threads write without a lock."""
+    held = b"T%d|acq(l%d)\nT%d|rel(l%d)\n"
+    turns = [((k + turn) % threads, k) for turn in (0, 1) for k in range(locks)]
+    return b"".join(held % (t, k, t, k) for t, k in turns) + b"T0|w(z)\nT1|w(z)\n"
+
+
+def report_of_locks(threads, locks):
+    events = 4 * locks + 2
+    block = b"race 1: %d %d\nfirst T0|w(z)\nsecond T1|w(z)\n" % (events - 1, events)
+    return head(events, threads, locks, 1, 1) + one_place(1) + block + b"end\n"
+
+
+class SameHash:
+    """Races whose places have one hash in `shb places`: of those under one hash it looks at eight. A place is the numbers of
+    the first events at its two locations, and the hash is the low half of a product of 64 bits joined with its high half by
+    xor. Each place has two races, on a variable of its own."""
+
+    product = 0xE703_7ED1_A0B4_28DB
+
+    def __init__(self, events):
+        self.events = events
+        self.pairs = sorted(self.pairs_of_hash_zero())
+
+    def pairs_of_hash_zero(self):
+        """Pairs of events with equal halves. The first event adds to the high half alone."""
+        inverse = pow(self.product, -1, 2**32)
+        for second in range(self.events // 2, self.events):
+            high, low = divmod(second * self.product % 2**64, 2**32)
+            first = (low - high) * inverse % 2**32
+            if first < self.events // 2:
+                yield first, second
+
+    def trace(self):
+        lines = [b"T|begin"] * self.events
+        for k, (first, second) in enumerate(self.pairs):
+            lines[first] = b"T|w(x%d)|a%d" % (k, k)
+            lines[second] = b"U|w(x%d)|b%d" % (k, k)
+        lines += [b"U|w(x%d)|b%d" % (k, k) for k in range(len(self.pairs))]
+        return b"".join(line + b"\n" for line in lines)
+
+    def report(self):
+        count = len(self.pairs)
+        yield head(self.events + count, 2, 0, count, count) + b"places %d\n" % count
+        for k in range(count):
+            yield b"place %d: 1\nat a%d\nand b%d\n" % (k + 1, k, k)
+        for k, (i, j) in enumerate(self.pairs):
+            yield b"race %d: %d %d\nfirst T|w(x%d)|a%d\nsecond U|w(x%d)|b%d\n" % (k + 1, i + 1, j + 1, k, k, k, k)
+        yield b"end\n"
+
+
+class SmallSizes(program.Case):
+    """What the reports of this module are, by the plain program of the definitions."""
+
+    def expect_report(self, trace, parts, with_schedules=False, leading=False):
+        self.assertEqual(shb.report(trace, with_schedules, leading=leading), b"".join(parts))
+
+    def test_reports(self):
+        self.expect_report(racing_variables(5), report_of_racing_variables(5))
+        self.expect_report(racing_variables(5), report_of_racing_variables(5), leading=True)
+        self.expect_report(ReadsByTurns(5).trace(), ReadsByTurns(5).report())
+        self.expect_report(ReadsByTurns(5).trace(b"T|join(U)\n"), [without_races(12, 2, 0, 1)])
+        self.expect_report(Locations(3, 4, 7).trace(), Locations(3, 4, 7).report())
+        self.expect_report(SquareOfPlaces(3, 4).trace(), SquareOfPlaces(3, 4).report(), leading=True)
+        self.expect_report(locks_with_clocks(4, 6), [report_of_locks(4, 6)])
+        self.expect_report(LongSchedules(4, 6).trace(), LongSchedules(4, 6).report(), with_schedules=True)
+        for threads, times in ((5, 1), (2, 2), (4, 2)):
+            self.expect_report(Writes(threads, times).trace(), Writes(threads, times).report(False))
+            self.expect_report(Writes(threads, times).trace(), Writes(threads, times).report(True), with_schedules=True)
+
+    def test_places_of_one_hash(self):
+        made = SameHash(1 << 20)
+        product = "0x%016X" % made.product
+        self.assertIn(product, (program.HERE.parent / "crates/shb_places/src/numbers.rt").read_text().replace("_", ""))
+        made.events, made.pairs = 12, [(1, 9), (3, 7), (4, 8)]
+        self.expect_report(made.trace(), made.report(), leading=True)
 
 
 class Sizes(program.Case):
@@ -91,80 +271,116 @@ class Sizes(program.Case):
         self.assertEqual((started.returncode, said), (0, b""))
         return made
 
+    def written(self, parts):
+        """A file with a report, and the digest of it."""
+        path, made = self.folder / "report", hashlib.sha256()
+        with open(path, "wb") as out:
+            for part in together(parts):
+                out.write(part)
+                made.update(part)
+        return path, made.hexdigest()
+
+    def expect_good(self, trace, report, races):
+        with open(report, "rb") as given:
+            self.expect(program.run_over(["check", trace], given), 0, b"ok %d\n" % races)
+
     def test_the_most_variables(self):
         text = b"".join(b"T|r(v%d)\n" % k for k in range(MOST_EVENTS))
-        self.expect(program.run(["races"], text), 0, without_races(0, MOST_EVENTS))
+        self.expect(program.run(["races"], text), 0, without_races(MOST_EVENTS, 1, 0, MOST_EVENTS))
 
     def test_the_most_locks(self):
-        text = b"".join(b"T|acq(l%d)\n" % k for k in range(MOST_EVENTS))
-        self.expect(program.run(["races"], text), 0, without_races(MOST_EVENTS, 0))
+        """Their names are longer than those that are told by their ends."""
+        text = b"".join(b"T|acq(a lock that has number %d)\n" % k for k in range(MOST_EVENTS))
+        self.expect(program.run(["races"], text), 0, without_races(MOST_EVENTS, 1, MOST_EVENTS, 0))
+
+    def test_a_lock_taken_again_and_again(self):
+        text = b"T|acq(l)\n" * (MOST_EVENTS // 2) + b"T|rel(l)\n" * (MOST_EVENTS // 2)
+        self.expect(program.run(["races"], text), 0, without_races(MOST_EVENTS, 1, 1, 0))
 
     def test_the_most_racing_variables(self):
-        """Each is a piece of work of its own, and there are as many races: 32,768 rounds of the ring's 64 places."""
+        """Each is a piece of work of its own, and there are as many races: 32,768 rounds of the ring's 64 places. Each race
+        has a place of its own, so `places` lists them all."""
         count = MOST_EVENTS // 2
         trace = self.file(racing_variables(count))
-        wanted = digest_of_racing_variables(count)
-        for workers in ("1", "4"):
-            self.assertEqual(self.digest_of(["races", "--list", "--workers", workers, trace]), wanted)
-        first = head(2 * count, 2, 0, count, 1) + b"places 1\nplace 1: 1\nat \nand \n"
-        self.expect(program.run(["places", "--list", trace]), 0, first + blocks_of_racing_variables(0, 1) + b"end\n")
+        wanted = digest(report_of_racing_variables(count))
+        for words in (["races", "--workers", "1"], ["races", "--workers", "4"], ["places"]):
+            self.assertEqual(self.digest_of([*words, "--list", trace]), wanted)
 
     def test_many_lines(self):
         text = b"\n" * EMPTY_LINES + b"T|r(x)\n"
-        report = head(1, 1, 0, 1, 0) + b"places 0\nend\n"
-        self.expect(program.run(["races"], text), 0, report)
+        self.expect(program.run(["races"], text), 0, without_races(1, 1, 0, 1))
         said = b"line %d: the lock is not held by this thread\n" % (EMPTY_LINES + 2)
         self.expect(program.run(["races"], text + b"T|rel(l)\n"), 2, b"", said)
 
-    def test_a_million_places(self):
-        """One thread writes a variable at so many locations, and then another does: each pair of these is a place."""
-        text = b"".join(b"T%d|w(x)|%c%d\n" % (t, b"ab"[t - 1], k) for t in (1, 2) for k in range(LOCATIONS))
-        pairs = [(i, j) for j in range(LOCATIONS) for i in range(LOCATIONS)]
-        block = b"race %d: %d %d\nfirst T1|w(x)|a%d\nsecond T2|w(x)|b%d\n"
-        report = head(2 * LOCATIONS, 2, 0, 1, len(pairs)) + b"places %d\n" % len(pairs)
-        report += b"".join(b"place %d: 1\nat a%d\nand b%d\n" % (q, i, j) for q, (i, j) in enumerate(pairs, 1))
-        report += b"".join(block % (k, i + 1, LOCATIONS + j + 1, i, j) for k, (i, j) in enumerate(pairs, 1))
-        wanted = hashlib.sha256(report + b"end\n").hexdigest()
-        self.assertEqual(self.digest_of(["places", "--list", self.file(text)]), wanted)
+    def test_lines_longer_than_what_is_written_at_once(self):
+        """Up to 1,024 bytes of a block are written at once, and a line may have 4,096."""
+        for length in (1_000, 1_010, 1_017, 1_018, 1_024, 1_025, 4_096):
+            text = b"T|w(x)|".ljust(length, b"a") + b"\n" + b"U|w(x)|".ljust(length, b"b") + b"\n"
+            self.expect(program.run(["races"], text), 0, shb.report(text, True))
+
+    def test_more_reads_than_are_kept(self):
+        """While it is found out which variables are open, at most 2^20 reads of all variables together are kept. After a join
+        of the other thread the write has no race."""
+        made = ReadsByTurns(600_000)
+        self.assertEqual(self.digest_of(["races", "--list", self.file(made.trace())]), digest(made.report()))
+        trace = made.trace(b"T|join(U)\n")
+        self.expect(program.run(["races"], trace), 0, without_races(trace.count(b"\n"), 2, 0, 1))
+
+    def test_two_million_places(self):
+        made = SquareOfPlaces(OTHER_VARIABLES, 1_450)
+        self.assertGreater(len(made.pairs), 2**21)
+        self.assertEqual(self.digest_of(["places", "--list", self.file(made.trace())]), digest(made.report()))
+
+    def test_a_million_locations(self):
+        """There are more races than events, so they are counted; each later write has 2,050,000 of them."""
+        made = Locations(OTHER_VARIABLES, 1_050_000, 2_050_000)
+        self.assertEqual(self.digest_of(["races", "--list", self.file(made.trace())]), digest(made.report()))
+
+    def test_more_places_of_one_hash_than_are_looked_at(self):
+        made = SameHash(1 << 20)
+        self.assertGreater(len(made.pairs), 16)
+        self.expect(program.run(["places", "--list"], made.trace()), 0, b"".join(made.report()))
+
+    def test_clocks_of_many_locks(self):
+        """More than 65,536 clocks of 1,024 threads are in use at the end."""
+        locks = 66_000
+        trace = locks_with_clocks(MOST_THREADS, locks)
+        self.expect(program.run(["races", "--list"], trace), 0, report_of_locks(MOST_THREADS, locks))
 
     def test_races_that_are_kept_with_schedules(self):
         """100 threads have 4,950 races, and with as many marks after these there are no more races than events."""
-        trace, pairs = one_write_each(100)
-        self.assertLessEqual(len(pairs), 100 + 5_000)
-        report = head(5_100, 100, 0, 1, len(pairs)) + b"".join(itertools.chain(places_of(pairs), blocks_of(pairs, b"schedule 0:\n"))) + b"end\n"
-        trace = self.file(trace + b"T1|begin(m)\n" * 5_000)
+        made, marks = Writes(100, 1), 5_000
+        self.assertEqual(len(made.pairs), 4_950)
+        trace, report = self.file(made.trace() + b"T1|begin(m)\n" * marks), b"".join(made.report(True, marks))
         for workers in ("1", "4"):
             self.expect(program.run(["races", "--workers", workers, trace]), 0, report)
-        self.expect(program.run(["check", trace], report), 0, b"ok %d\n" % len(pairs))
+        self.expect(program.run(["check", trace], report), 0, b"ok %d\n" % len(made.pairs))
 
     def test_as_many_threads_as_race_on_one_variable(self):
-        """1,024 threads have 523,776 races, each with a place of its own."""
-        trace, pairs = one_write_each(1_024)
-        self.assertEqual(len(pairs), 523_776)
-        front = [head(1_024, 1_024, 0, 1, len(pairs)), *places_of(pairs)]
-        trace = self.file(trace)
-        wanted = digest(itertools.chain(front, blocks_of(pairs, b""), [b"end\n"]))
-        self.assertEqual(self.digest_of(["races", "--list", trace]), wanted)
-        report = self.folder / "report"
-        with open(report, "wb") as out:
-            out.writelines(itertools.chain(front, blocks_of(pairs, b"schedule 0:\n"), [b"end\n"]))
-        with open(report, "rb") as given:
-            wanted = hashlib.sha256(given.read()).hexdigest()
+        """1,024 threads that write twice have 2,095,104 races, each with a place of its own."""
+        made = Writes(MOST_THREADS, 2)
+        self.assertEqual(len(made.pairs), 2_095_104)
+        trace = self.file(made.trace())
+        self.assertEqual(self.digest_of(["races", "--list", trace]), digest(made.report(False)))
+        report, wanted = self.written(made.report(True))
         self.assertEqual(self.digest_of(["races", trace]), wanted)
-        with open(report, "rb") as given:
-            self.assertEqual(self.digest_of(["check", trace], stdin=given), hashlib.sha256(b"ok %d\n" % len(pairs)).hexdigest())
+        self.expect_good(trace, report, len(made.pairs))
+
+    def test_a_race_listed_five_million_times(self):
+        """`check` doesn't mind that a race is listed more than once."""
+        count = 5_000_000
+        blocks = filled(b"race %d: 1 2\nfirst T|w(x)\nsecond U|w(x)\nschedule 0:\n", range(1, count + 1))
+        report, _ = self.written(itertools.chain([head(2, 2, 0, 1, count) + one_place(count)], blocks, [b"end\n"]))
+        self.expect_good(self.file(b"T|w(x)\nU|w(x)\n"), report, count)
 
     def test_schedules_of_the_most_events(self):
-        """Nine schedules have all events but ten, more than 37 million numbers together."""
-        made = LongSchedules()
-        trace, report = self.file(made.trace), self.folder / "report"
-        with open(report, "wb") as out:
-            out.writelines(made.parts())
-        wanted = digest(made.parts())
+        """One schedule has all events but ten, and sixteen have every other of these: more than 37 million numbers."""
+        made = LongSchedules(10, MOST_EVENTS - 10)
+        trace = self.file(made.trace())
+        report, wanted = self.written(made.report())
         for workers in ("1", "4"):
             self.assertEqual(self.digest_of(["races", "--workers", workers, trace]), wanted)
-        with open(report, "rb") as given:
-            self.assertEqual(self.digest_of(["check", trace], stdin=given), hashlib.sha256(b"ok %d\n" % len(made.pairs)).hexdigest())
+        self.expect_good(trace, report, len(made.pairs))
 
     def test_two_million_blocks_of_more_races_than_events(self):
         rounds = 1_500
