@@ -4,6 +4,9 @@ these sizes. Each report is worked out from its trace by a formula, and what is 
 
 import hashlib
 import itertools
+import signal
+import subprocess
+import unittest.mock
 
 import program
 import shb
@@ -283,6 +286,11 @@ class Sizes(program.Case):
     def expect_good(self, trace, report, races):
         with open(report, "rb") as given:
             self.expect(program.run_over(["check", trace], given), 0, b"ok %d\n" % races)
+
+    def test_that_a_program_that_crawls_is_ended(self):
+        with unittest.mock.patch.object(program, "LONG_SECONDS", 0.1):
+            with program.start(["races"], stdin=subprocess.PIPE) as waiting:
+                self.assertEqual(waiting.wait(program.SECONDS), -signal.SIGKILL)
 
     def test_the_most_variables(self):
         text = b"".join(b"T|r(v%d)\n" % k for k in range(MOST_EVENTS))
