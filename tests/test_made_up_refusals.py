@@ -28,10 +28,23 @@ class Refusals(unittest.TestCase):
 
     def test_names_of_the_kit(self):
         self.wrong("use std::alloc::{AllocError, Global};\n", "1: AllocError")
+        self.wrong("use std::collections::TryReserveError as Other;\n", "1: TryReserveError")
+        self.wrong("let made = Err(SpawnError { value: 0 })?;\n", "1: SpawnError")
         self.wrong("let kind = ErrorKind::OutOfMemory;\n", "1: OutOfMemory")
 
     def test_an_allocator_and_a_random_source(self):
         self.wrong("unsafe impl Allocator for Refusing {}\nimpl<T> RandomSource\n    for Failing<T> {}\n", "1: Allocator for", "2: RandomSource\n    for")
+
+    def test_a_request_that_no_machine_meets(self):
+        for request, found in (
+            ("with_capacity(alloc, usize::MAX)", "with_capacity(alloc, usize::MAX"),
+            ("reserve(1 << 60)", "reserve(1 <<"),
+            ("resize(1_000_000_000_000, 0)", "resize(1_000_000_000_000"),
+            ("vec![in alloc; 0u64; usize::MAX]", "vec![in alloc; 0u64; usize::MAX"),
+        ):
+            self.wrong(f"    let room = 0;\n    {request}?;\n", f"2: {found}")
+        self.wrong("    Vec::with_capacity(\n        alloc,\n        1 << 60,\n    )?;\n", "1: with_capacity(\n        alloc,\n        1 <<")
+        self.wrong("    Vec::with_capacity(alloc, 8 * count)?;\n    let none = u32::MAX;\n    vec![in alloc; NONE; 262_144]?;\n")
 
     def test_the_file_that_converts(self):
         self.wrong("impl From<AllocError> for NoMemory {\n    fn from(_error: AllocError) -> NoMemory {\n", name=refusals.CONVERTS)
