@@ -2,7 +2,7 @@
 use crate::asserting::{has_length, same, same_bytes, same_in_row};
 use shb_io::{Source, Text};
 use shb_lines::MOST_BYTES;
-use shb_reading::{Report, ReportError, read_report_within};
+use shb_reading::{Report, ReportError, read_report, read_report_within};
 use std::test::Fail;
 
 const ROW_2: &[u8] = b"shb-report 1\n\
@@ -20,6 +20,31 @@ const ROW_1: &[u8] = b"shb-report 1\n\
       race 1: 1 2\n\
       first T1|w(y)|1\n\
       second T2|r(y)|2\n\
+      schedule 0:\n\
+      end\n";
+
+/// Three races at two places.
+const TWO_PLACES: &[u8] = b"shb-report 2\n\
+      events 5 threads 5 locks 0 variables 2\n\
+      races 3\n\
+      places 2\n\
+      place 1: 2\n\
+      at a\n\
+      and b\n\
+      place 2: 1\n\
+      at b\n\
+      and a\n\
+      race 1: 1 2\n\
+      first T1|w(x)|a\n\
+      second T2|r(x)|b\n\
+      schedule 0:\n\
+      race 2: 1 3\n\
+      first T1|w(x)|a\n\
+      second T3|r(x)|b\n\
+      schedule 0:\n\
+      race 3: 4 5\n\
+      first T4|w(y)|b\n\
+      second T5|w(y)|a\n\
       schedule 0:\n\
       end\n";
 
@@ -314,4 +339,34 @@ fn says_that_the_source_failed(rt: HostRuntime) {
     let mut source = Text::new(b"shb-report 3\n", 5, Some(2));
     let answer = read_report_within(rt.alloc(), &mut source, MOST_BYTES);
     same(&rt, &answer.err(), &Some(ReportError::Source), "the error");
+}
+
+#[test]
+fn gives_the_places_that_it_read(rt: HostRuntime) -> Result<(), Fail> {
+    let mut source = Text::new(TWO_PLACES, 5, None);
+    let report = read_report(rt.alloc(), &mut source)?;
+    same(&rt, &report.version(), &2, "the version");
+    has_length(&rt, report.places() as usize, 2);
+    same(&rt, &report.place_count(0), &2, "the first count");
+    same_bytes(&rt, report.place_first(0), b"a", "its first location");
+    same_bytes(&rt, report.place_second(0), b"b", "its second location");
+    same(&rt, &report.place_count(1), &1, "the second count");
+    same_bytes(&rt, report.place_first(1), b"b", "its first location");
+    same_bytes(&rt, report.place_second(1), b"a", "its second location");
+    Ok(())
+}
+
+#[test]
+fn reads_a_report_or_names_its_bad_line(rt: HostRuntime) {
+    let mut source = Text::new(LONGER, 5, None);
+    let answer = read_report(rt.alloc(), &mut source);
+    same(
+        &rt,
+        &answer.err(),
+        &Some(ReportError::BadLine(5)),
+        "the bad line",
+    );
+    let mut broken = Text::new(ROW_1, 5, Some(2));
+    let answer = read_report(rt.alloc(), &mut broken);
+    same(&rt, &answer.err(), &Some(ReportError::Source), "the source");
 }
