@@ -21,6 +21,8 @@ mod gates;
 #[cfg(test)]
 mod io;
 #[cfg(test)]
+mod judging;
+#[cfg(test)]
 mod leading;
 #[cfg(test)]
 mod refusal;
