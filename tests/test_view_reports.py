@@ -11,9 +11,8 @@ import program
 import shb
 from viewing import EXAMPLES, MADE, made, run_here, sections
 
-from shb_view import report, view
-from shb_view.faults import BadReport
-from shb_view.report import Lines
+from shb_common.report import BadReport, Lines
+from shb_view import view
 
 
 class Taken(program.Case):
@@ -111,8 +110,8 @@ class Refused(program.Case):
             (b"end\n", b"end\n\n", "line 13 of the report stands after `end`"),
             (b"shb-report 2", b"shb-report 3", "line 1 of the report is `shb-report 3`; it should be `shb-report 2`"),
             (b"shb-report 2", b"\x1b[31m\xff", "line 1 of the report is `\\x1b[31m\\xff`; it should be `shb-report 2`"),
-            (b"shb-report 2", b"x" * 70, f"line 1 of the report is `{'x' * 29}…{'x' * 30}`; it should be `shb-report 2`"),
-            (b"shb-report 2", b"x" * 5000, f"line 1 of the report is too long: `{'x' * 29}…{'x' * 30}`; it should be `shb-report 2`"),
+            (b"shb-report 2", b"x" * 70, f"line 1 of the report is `{'x' * 58}..`; it should be `shb-report 2`"),
+            (b"shb-report 2", b"x" * 5000, f"line 1 of the report is too long: `{'x' * 58}..`; it should be `shb-report 2`"),
             (b"races 1", b"races " + b"9" * 21, f"line 3 of the report is `races {'9' * 21}`; it should be `races R`"),
         ):
             self.assertIn(old, report)
@@ -153,13 +152,13 @@ class Refused(program.Case):
 
     def test_a_report_that_is_too_long(self):
         size = len(shb.report(self.TRACE, True))
-        kept = report.MOST_BYTES
-        self.addCleanup(setattr, report, "MOST_BYTES", kept)
+        kept = view.MOST_BYTES
+        self.addCleanup(setattr, view, "MOST_BYTES", kept)
         self.assertEqual(kept, 1_073_741_824)
         words = [self.file(self.TRACE), self.file(shb.report(self.TRACE, True), "t.report")]
-        report.MOST_BYTES = size
+        view.MOST_BYTES = size
         self.assertEqual(run_here(words)[0], 0)
-        report.MOST_BYTES = size - 1
+        view.MOST_BYTES = size - 1
         self.assertEqual(self.refused(words), f"the report is longer than {size - 1} bytes")
 
     def test_a_report_from_a_pipe_that_is_too_long(self):

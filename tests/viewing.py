@@ -16,10 +16,10 @@ VIEW = program.HERE.parent / "view"
 EXAMPLES = program.HERE.parent / "examples"
 sys.path[:0] = [str(VIEW), str(VIEW.parent / "common")]
 
+from shb_common.report import Counts
 from shb_view import command, progress, view
 from shb_view.analyser import Verdict
 from shb_view.groups import Gathered
-from shb_view.report import Counts
 from shb_view.trace import Trace
 
 MADE = 150  # traces

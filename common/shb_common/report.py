@@ -16,7 +16,7 @@ PLACES = re.compile(rb"places %b\n" % NUMBER)
 PLACE = re.compile(rb"place %b: %b\n" % (NUMBER, NUMBER))
 AT, AND = (re.compile(word + rb" ([^\n]{0,4096})\n") for word in (rb"at", rb"and"))
 RACE = re.compile(rb"race %b: %b %b\n" % (NUMBER, NUMBER, NUMBER))
-FIRST, SECOND = (re.compile(word + rb" ([^\n|]+\|[rw]\([^\n|]+\)(?:\|[^\n]*)?)\n") for word in (rb"first", rb"second"))
+FIRST, SECOND = (re.compile(word + rb" (([^\n|]+)\|([rw])\(([^\n|]+)\)(?:\|([^\n]*))?)\n") for word in (rb"first", rb"second"))
 SCHEDULE = re.compile(rb"schedule %b:" % NUMBER)
 END = re.compile(rb"end\n")
 LONGEST = 60        # columns of a line that a refusal shows
@@ -34,6 +34,15 @@ class Counts(typing.NamedTuple):
     threads: int
     locks: int
     variables: int
+
+
+class Access(typing.NamedTuple):
+    """The fields of an access's line. `name` is that of the variable."""
+
+    thread: bytes
+    word: bytes
+    name: bytes
+    location: bytes
 
 
 class Race(typing.NamedTuple):
@@ -105,11 +114,6 @@ def said(line):
     return f"{'too long' if len(line) == MOST_LINE else 'cut off'}: `{shown(line, LONGEST)}`"
 
 
-def location_of(line):
-    """The location in an event's line, nothing where it has none."""
-    return (line.split(b"|", 2) + [b"", b""])[2]
-
-
 class Report:
     """A report in an open file. Its head is read at once: `counts` of the trace, the number of races, and `places`, how many
     races each pair of locations has, which is None in version 1."""
@@ -133,13 +137,13 @@ class Report:
         return found
 
     def races(self):
-        """The races, one after the other; the rest of the report is read with the last."""
+        """The races, one after the other, each with its two accesses; the rest of the report is read with the last."""
         places = {}
         for number in range(1, self.count + 1):
-            race = self.read_race(number)
-            place = location_of(race.first_line), location_of(race.second_line)
+            race, accesses = self.read_race(number)
+            place = accesses[0].location, accesses[1].location
             places[place] = places.get(place, 0) + 1
-            yield race
+            yield race, accesses
         self.has_schedules = self.has_schedules is not False
         self.lines.next(END, "end")
         if self.lines.line:
@@ -149,11 +153,26 @@ class Report:
 
     def read_race(self, number):
         first, second = self.lines.numbered(RACE, f"race {number}: I J", number)
-        [first_line] = self.lines.next(FIRST, "first ACCESS")
-        [second_line] = self.lines.next(SECOND, "second ACCESS")
+        first_line, one = self.read_access(FIRST, "first ACCESS")
+        second_line, other = self.read_access(SECOND, "second ACCESS")
         if not 0 < first < second <= self.counts.events:
             raise BadReport(f"race {number} of the report: {first} and {second} aren't two events of the trace, the earlier first")
+        if one.name != other.name or one.thread == other.thread or b"w" not in (one.word, other.word):
+            raise BadReport(f"race {number} of the report: the events {first} and {second} don't conflict")
         if number == 1:
             self.has_schedules = self.lines.line.startswith(b"schedule ")
         schedule = self.lines.pass_schedule() if self.has_schedules else None
-        return Race(number, first, second, first_line, second_line, schedule)
+        return Race(number, first, second, first_line, second_line, schedule), (one, other)
+
+    def read_access(self, pattern, form):
+        """The line of an access, and its fields."""
+        line, *fields, location = self.lines.next(pattern, form)
+        return line, Access(*fields, location or b"")
+
+
+def in_order(file, race, events):
+    """Some events in the order of the race's schedule, which `shb check` found good, and how many events that has."""
+    file.seek(race.schedule)
+    line = file.readline().replace(b"\n", b" ")
+    places = {event: line.find(b" %d " % event) for event in events}
+    return sorted(events, key=places.get), int(SCHEDULE.match(line)[1])

@@ -6,7 +6,7 @@ import sys
 import typing
 
 from shb_common import known, stacks
-from shb_common.report import BadReport, Report, location_of
+from shb_common.report import BadReport, Report
 from shb_common.shown import shown
 from shb_farm.traces import SUFFIXES
 
@@ -86,9 +86,9 @@ def accesses_in(report, pairs, path, shift):
         read = Report(file)
         calls = stacks.Stacks(path, shift, read.counts.events)
         found = {}
-        for race in read.races():
-            accesses = (race.first, race.first_line), (race.second, race.second_line)
-            place = known.pair_of(*(location_of(line) for _, line in accesses))
+        for race, accesses in read.races():
+            place = known.pair_of(*(access.location for access in accesses))
             if place in pairs and place not in found:
-                found[place] = [Access(line, calls.of_event(number)) for number, line in accesses]
+                found[place] = [Access(line, calls.of_event(number))
+                                for number, line in ((race.first, race.first_line), (race.second, race.second_line))]
     return found

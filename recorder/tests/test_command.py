@@ -354,6 +354,15 @@ class Command(recorder.Case):
         status, _, said = self.record(self.program(), "0", "race", SHB=shutil.which("false"))
         self.assertEqual((status, "ended with status 1" in said), (125, True), said)
 
+    def test_a_report_that_is_not_whole(self):
+        """The analyser ends with 0, and its report lacks the end, or all."""
+        fake = self.folder / "shb"
+        for end in ('"$@" | sed "\\$d"', '"$@" > out'):
+            fake.write_text(f"#!/bin/sh\n{recorder.SHB} {end}\n")
+            fake.chmod(0o755)
+            status, _, said = self.record(self.program(), "0", "race", SHB=str(fake))
+            self.assertEqual((status, "`shb places --list` wrote no whole report: line " in said), (125, True), said)
+
     def test_what_earlier_runs_recorded_is_shown(self):
         """The third run leaves no record, for it can't begin one."""
         program = self.program()

@@ -5,10 +5,10 @@ import subprocess
 import tempfile
 import typing
 
-from shb_view.faults import BadReport, Refused
+from shb_common.report import BadReport, Report
+from shb_view.faults import Refused
 from shb_view.names import short
 from shb_view.refused import refused_line
-from shb_view.report import Report
 
 MOST_BYTES = 4_096  # of the program's words that are looked at
 MOST_SAID = 200  # columns of the program's words that are shown
@@ -41,16 +41,16 @@ class Analyser:
             raise Refused(f"`{name}` can't be run ({fault.strerror}); SHB=PROGRAM names another `shb`") from None
 
     def head(self, take):
-        """What `races --list` begins with. The accesses of its races are given to `take`, if there is one and the races
+        """The report of `races --list`. The accesses of its races are given to `take`, if there is one and the races
         are few; else the rest isn't read."""
         words = ["races", "--list"]
         with self.started(words, stdin=subprocess.DEVNULL, stdout=subprocess.PIPE) as process:
             try:
                 report = Report(process.stdout)
-                if take and report.head.races <= MOST_LISTED:
-                    for race, accesses in report.races(lambda done: None):
+                if take and report.count <= MOST_LISTED:
+                    for race, accesses in report.races():
                         take(race, *accesses)
-                return report.head
+                return report
             except BadReport as fault:
                 self.end(words, process, (0,))
                 raise Refused(f"`shb races --list` wrote no report: {fault}") from None

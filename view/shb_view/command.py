@@ -5,6 +5,7 @@ import contextlib
 import os
 import sys
 
+from shb_common.report import BadReport
 from shb_common.version import with_version
 from shb_view import text
 from shb_view.faults import Refused
@@ -106,8 +107,10 @@ def main(words, program=None):
         return show(options, progress, is_open)
     except BrokenPipeError:
         return 2
-    except Refused as refused:
-        status, said = refused.status, str(refused)
+    except BadReport as fault:
+        status, said = 1, str(fault)
+    except Refused as fault:
+        status, said = 2, str(fault)
     except OSError as fault:
         status, said = 2, said_of(fault)
     except MemoryError:

@@ -5,7 +5,8 @@ import array
 import collections
 import typing
 
-from shb_view.faults import BadReport, Refused
+from shb_common.report import BadReport
+from shb_view.faults import Refused
 from shb_view.held import Held
 from shb_view.trace import CHANGED, without_end
 

@@ -8,22 +8,25 @@ import tempfile
 import typing
 
 from shb_common.known import BadLine, Known
+from shb_common.report import BadReport, Counts, Report, in_order
 from shb_common.stacks import NoStacks, Stacks
 from shb_view.analyser import MOST_LISTED, Analyser, Verdict
 from shb_view.counting import Counting, Kinds
 from shb_view.facts import Fact, Site, fact_of, sites_of
-from shb_view.faults import BadReport, Refused
+from shb_view.faults import Refused
 from shb_view.groups import Gathered, Group, joined_groups, object_of
 from shb_view.names import shown
 from shb_view.refused import warnings
-from shb_view.report import BLOCK, MOST_BYTES, Counts, Report, in_order
 from shb_view.source import Source
 from shb_view.stacks import stacks_of
 from shb_view.trace import CHANGED, Trace
 from shb_view.windows import Window, make_windows
+from shb_view.words import counted
 
 MOST_GROUPS = 200
+MOST_BYTES = 1_073_741_824  # of a given report
 MOST_REPORT = 100_000_000  # bytes of a report with schedules that the view asks for
+BLOCK = 65_536
 NUMBER = 7  # bytes of an event in a schedule, about
 NOT_ASKED = Verdict(None, "The report wasn't checked (--check does it).")
 OWN = Verdict(None, "")  # `check` finds each report of `shb` good
@@ -99,8 +102,8 @@ def make_view(options, progress):
         title = shown(os.fsencode(options.title or os.path.basename(options.trace)))
         pairs = sum(len(group.pairs) for group in groups)
         source = Source(options.source, os.fstat(file.fileno()).st_mtime, stacks.sources if options.recorded_source else {})
-        is_sample = not options.report and head.races > MOST_LISTED
-        return View(title, head.counts, head.races, listed if options.report else head.races, pairs, count, sections,
+        is_sample = not options.report and head.count > MOST_LISTED
+        return View(title, head.counts, head.count, listed if options.report else head.count, pairs, count, sections,
                     given.verdict, is_sample, source, [*(shown(os.fsencode(note)) for note in options.note), *warnings(options.trace)], stacks, asked.kinds,
                     places_of(options.only) if options.only else None)
 
@@ -137,21 +140,29 @@ def given_report(options, analyser, stack):
             file = copy_of(file, stack)
         except OSError as fault:
             raise OSError(fault.errno, fault.strerror, options.report) from None
+    if os.fstat(file.fileno()).st_size > MOST_BYTES:
+        raise BadReport(f"the report is longer than {MOST_BYTES} bytes")
     return Given(options.report, file, analyser.check(file) if options.check else NOT_ASKED, None)
 
 
 def copy_of(source, stack):
-    """A file with all that a source has. Of what doesn't begin like a report the front is enough."""
+    """A file with all that a source has. Of what doesn't begin like a report, or is too long for one, the front is enough."""
     file = stack.enter_context(tempfile.TemporaryFile())
     block = source.read(BLOCK)
     is_report = block.startswith(b"shb-report ")
     while block:
         file.write(block)
-        if file.tell() > MOST_BYTES:
-            raise BadReport(f"the report is longer than {MOST_BYTES} bytes")
-        block = source.read(BLOCK) if is_report else b""
+        block = source.read(BLOCK) if is_report and file.tell() <= MOST_BYTES else b""
     file.seek(0)
     return file
+
+
+def check_counts(report, counts):
+    """Refuses a report of a trace that doesn't have these counts."""
+    wrong = [f"{counted(has, name[:-1])}, not {count:,}" for has, name, count in zip(counts, counts._fields, report.counts)
+             if has != count]
+    if wrong:
+        raise BadReport(f"the report is of another trace: this one has {'; '.join(wrong)}")
 
 
 def read_report(given, counts, gathered, progress):
@@ -160,15 +171,16 @@ def read_report(given, counts, gathered, progress):
     size = os.fstat(given.file.fileno()).st_size
     try:
         report = Report(given.file)
-        report.check_counts(counts)
-        for race, accesses in report.races(lambda done: progress.step("reading the report", done, size)):
+        check_counts(report, counts)
+        for race, accesses in report.races():
             gathered.add(race, *accesses, given.places)
+            progress.step("reading the report", report.lines.bytes, size)
     except BadReport as fault:
         said = f"; `shb check` says `{given.verdict.words}`" if given.verdict.is_good is False else ""
         raise BadReport(f"{fault}{said}") from None
     except OSError as fault:
         raise OSError(fault.errno, fault.strerror, given.name) from None
-    return report.head.races, report.has_schedules
+    return report.count, report.has_schedules
 
 
 class Asked(typing.NamedTuple):

@@ -3,8 +3,8 @@
 import collections
 import typing
 
+from shb_common.report import Race
 from shb_view.held import Held
-from shb_view.report import Race
 from shb_view.trace import Event, event_of, without_end
 
 
