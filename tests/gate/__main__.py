@@ -10,8 +10,8 @@
 `rt ci` proves the crates and their tests in a copy of the repository that has no must-fail edits; it takes over what an
 earlier run on this machine has proved of the same files over the same libraries. As soon as a crate is proved its edits
 are tried over the libraries that are built by then (joint.py), those that the record (record.py) doesn't answer for and of
-the others a tenth; as soon as the program is linked the tests of tests/, recorder/, farm/ and install/ run on it, one
-folder after the other. Each part ends with a line 'N passed, N failed', and so does the whole.
+the others a tenth; as soon as the program is linked the tests of tests/, recorder/, farm/ and install/ run on it, two
+folders at once. Each part ends with a line 'N passed, N failed', and so does the whole.
 """
 
 import argparse
@@ -37,7 +37,8 @@ import steps
 ROOT = pathlib.Path(__file__).resolve().parent.parent.parent
 SUMS = ROOT / "tests" / "gate" / "refused.sums"
 MEMORY = 3_000_000_000  # a check of edits waits until so many bytes are free; most take less than 2.5 GB
-SUITES = ("tests", "recorder/tests", "farm/tests", "install/tests")
+SUITES = ("recorder/tests", "tests", "farm/tests", "install/tests")  # the longest first
+AT_ONCE = 2  # suites
 CLOSING = re.compile(r"(\d+) passed, (\d+) failed(?:, \d+ skipped)?")
 
 
@@ -124,17 +125,16 @@ class Edits:
         count.add(passed, len(told) - passed)
 
 
-def run_suites(program):
-    """Runs the tests of each folder on the built program. Of each its name, status and output."""
-    for folder in SUITES:
-        words = [sys.executable, "-u", str(ROOT / folder / "run.py"), str(program)]
-        ran = subprocess.run(words, cwd=ROOT, stdin=subprocess.DEVNULL, stdout=subprocess.PIPE, stderr=subprocess.STDOUT)
-        yield folder, ran.returncode, ran.stdout.decode(errors="replace")
+def run_suite(folder, program):
+    """Runs the tests of a folder on the built program. Its name, status and output."""
+    words = [sys.executable, "-u", str(ROOT / folder / "run.py"), str(program)]
+    ran = subprocess.run(words, cwd=ROOT, stdin=subprocess.DEVNULL, stdout=subprocess.PIPE, stderr=subprocess.STDOUT)
+    return folder, ran.returncode, ran.stdout.decode(errors="replace")
 
 
 def prove(room, command, edits, pool, count):
-    """Runs `rt ci` in the room, and begins what waits for its steps. Gives the results of the suites, once they are there."""
-    suites, last, began = None, "", time.monotonic()
+    """Runs `rt ci` in the room, and begins what waits for its steps. Gives the results of the suites, which are there later."""
+    suites, last, began = [], "", time.monotonic()
     how = {"stdout": subprocess.PIPE, "text": True, "errors": "replace", "env": {**os.environ, "PYTHONUNBUFFERED": "1"}}
     with subprocess.Popen(command, cwd=room, stdin=subprocess.DEVNULL, **how) as proofs:
         for line in proofs.stdout:
@@ -145,7 +145,7 @@ def prove(room, command, edits, pool, count):
                 print(f"{built}: built after {time.monotonic() - began:.0f} s", flush=True)
                 edits.begin(built)
             if built == "shb":
-                suites = pool.submit(lambda: [*run_suites(room / "crates/shb/out/shb")])
+                suites = [pool.submit(run_suite, folder, room / "crates/shb/out/shb") for folder in SUITES]
     count.add_command(proofs.returncode, last)
     return suites
 
@@ -159,13 +159,13 @@ def run_gate(room, options):
         command = [sys.executable, str(ROOT / "tests/gate/steps.py"), options.steps, *words]
         subprocess.Popen = steps.measured(options.steps, "edits")
     edits = Edits(room, options.all)
-    with concurrent.futures.ThreadPoolExecutor(1) as pool:
+    with concurrent.futures.ThreadPoolExecutor(AT_ONCE) as pool:
         suites = prove(room, command, edits, pool, count)
         edits.ended(count)
-        if suites is None:
+        if not suites:
             count.add(0, 1)
             print("the program wasn't built, so its tests didn't run")
-        for folder, status, said in suites.result() if suites else []:
+        for folder, status, said in (it.result() for it in suites):
             print(f"== {folder}\n{said}", end="" if said.endswith("\n") else "\n", flush=True)
             count.add_command(status, said)
     if options.record and not count.failed:
