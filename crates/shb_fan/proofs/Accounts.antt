@@ -9,7 +9,7 @@ use Rattle.shb_fan.specs.declared.shares.RingSeat.{RingSeat}
 use Rattle.shb_fan.specs.declared.crew.Worker.{Worker}
 use Rattle.shb_fan.specs.Passes.{PassState, times_in}
 use Rattle.shb_fan.specs.Seated.{placed_of, lifted_of}
-use Rattle.shb_fan.specs.Streamed.{Accounts, Balanced, HasAccounts, HasLifted, IsOwed, Owes}
+use Rattle.shb_fan.specs.Streamed.{Accounts, Balanced, HasAccounts, HasLifted, HasPlacedAllBut, IsOwed, Owes}
 use Rattle.shb_fan.proofs.Counts.{times-snoc, times-below, weight-false, weight-most, once-within}
 use Rattle.shb_fan.proofs.Words.{equal_one, unequal_none}
 
@@ -63,6 +63,19 @@ module _ {T M : Type 0} (old new : Worker T M) (accounts : HasAccounts old) wher
     placed_at running drawn halted placed =
         subst (λ (l : List ℕ). Accounts l (placed_of new.seat) new.pass.halted) (sym drawn)
         (accounts_placed old.pass.drawn (placed_of old.seat) (placed_of new.seat) k old.pass.halted new.pass.halted accounts owes placed (halted ∙ running))
+
+module _ {T M : Type 0} (old new : Worker T M) (k : ℕ) where
+  pub kept_at : HasPlacedAllBut old [] → placed_of new.seat ≡ placed_of old.seat → new.pass.drawn ≡ old.pass.drawn ++ k ∷ [] → HasPlacedAllBut new (k ∷ [])
+  kept_at all placed drawn j =
+      let was = all j in
+      let same = ap (times j) placed in
+      let up = ap (times j) drawn ∙ times-snoc j old.pass.drawn k in omega (arith, was, same, up)
+
+  pub made_at : HasPlacedAllBut old (k ∷ []) → new.pass.drawn ≡ old.pass.drawn → placed_of new.seat ≡ placed_of old.seat ++ k ∷ [] → HasPlacedAllBut new []
+  made_at all drawn placed j =
+      let was = all j in
+      let same = ap (times j) drawn in
+      let up = ap (times j) placed ∙ times-snoc j (placed_of old.seat) k in omega (arith, was, same, up)
 
 -- one piece more was lifted
 pub lifted_more : {T M : Type 0} (old new : Worker T M) (k : ℕ) → HasLifted old k → lifted_of new.seat ≡ lifted_of old.seat ++ k ∷ [] → HasLifted new (k + 1)

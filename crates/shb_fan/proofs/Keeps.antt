@@ -127,9 +127,13 @@ module _ (plan : Plan) where
   seen_halted : (t z : ℕ) (views : List PassView) → Holds plan t z views → (id : ℕ) (v : PassView) → get_elem? views id ≡ some v → z ≡ 0 → v.halted ≡ 0
   seen_halted t z views r id v at unset = dite (ℕ_discrete v.halted 0) (λ e. e) (λ e. let least = total-at halted_of views id v at in let h = r.halted (omega arith) in absurd (omega arith))
 
+  -- what a view that has seen a stop knows of the stop word
+  seen_before : (t z : ℕ) (views : List PassView) → Holds plan t z views → (id : ℕ) (v : PassView) → get_elem? views id ≡ some v → z ≡ 0 → v.seen ≡ 0
+  seen_before t z views r id v at unset = let least = total-at seen_of views id v at in let h = r.seen unset in omega arith
+
   pub sees : (slots id : ℕ) (me : M) → 0 < me.0.parts → me.0.spent ≡ 0 → Allows (KeepsDrawing plan) slots id me 1 (λ n. n) (saw (step slots 1 0 0 none) me)
   sees slots id me one unspent s r _ at _ = let v : PassView = me.0 in let t : ℕ = get_or s.words 0 0 in let z : ℕ = get_or s.words 1 0 in let h = r.1 in dite (ℕ_discrete z 0)
-      (λ unset. (v, keeps, tt, on_stop s r.0 z id me v (stays t z s.views h id v at), ((λ _. (seen_halted t z s.views h id v at unset, refl)), λ more. absurd (omega arith))))
+      (λ unset. (v, keeps, tt, on_stop s r.0 z id me v (stays t z s.views h id v at), ((λ _. (seen_halted t z s.views h id v at unset, seen_before t z s.views h id v at unset, refl)), λ more. absurd (omega arith))))
       (λ more. (
         used_up v,
         keeps,
@@ -137,10 +141,6 @@ module _ (plan : Plan) where
         on_stop s r.0 z id me (used_up v) (ends t z s.views h id v at t one unspent refl (omega arith) (omega arith) (λ e. absurd (more e))),
         ((λ e. absurd (more e)), λ _. refl),
       ))
-
-  -- what a view that has seen a stop knows of the stop word
-  seen_before : (t z : ℕ) (views : List PassView) → Holds plan t z views → (id : ℕ) (v : PassView) → get_elem? views id ≡ some v → z ≡ 0 → v.seen ≡ 0
-  seen_before t z views r id v at unset = let least = total-at seen_of views id v at in let h = r.seen unset in omega arith
 
   pub looks : (slots id : ℕ) (me : M) → 0 < me.0.parts → Allows (KeepsDrawing plan) slots id me 1 (λ n. n) (looked (step slots 1 0 0 none) me)
   looks slots id me one s r _ at _ = let v : PassView = me.0 in let t : ℕ = get_or s.words 0 0 in let z : ℕ = get_or s.words 1 0 in let h = r.1 in dite (ℕ_discrete z 0)

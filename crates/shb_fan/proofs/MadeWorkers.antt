@@ -5,9 +5,10 @@ use Rattle.std.proofs.lemmas.List.Elements.{All-push, All-pop, All-same, All-rep
 use Rattle.shb_fan.specs.declared.shares.Ring.{Ring}
 use Rattle.shb_fan.specs.declared.shares.RingSeat.{RingSeat}
 use Rattle.shb_fan.specs.declared.crew.Worker.{Worker}
+use Rattle.shb_fan.specs.Numbers.{times}
 use Rattle.shb_fan.specs.Passes.{TicketSource, PassState, fresh}
 use Rattle.shb_fan.specs.Seated.{IsNewSeat, IsSeatOf, claimed_of}
-use Rattle.shb_fan.specs.Streamed.{AreBack, HasAccounts, HasLifted, HasWorked, IsIdle, IsNew}
+use Rattle.shb_fan.specs.Streamed.{AreBack, HasAccounts, HasLifted, HasWorked, CanBegin, IsIdle, IsNew}
 use Rattle.shb_fan.proofs.Accounts.{accounts_none, balanced_none, balanced_more}
 
 pub last_pass : (z : TicketSource) (passes rest : List PassState) (pass : PassState) → passes ≡ rest ++ pass ∷ [] → All (λ p. p ≡ fresh z) passes → All (λ p. p ≡ fresh z) rest × (pass ≡ fresh z)
@@ -28,19 +29,23 @@ module _ {T M J : Type 0} (value : J → ℕ → M) (count : J → ℕ) (z : Tic
       → All (IsNew value count z ring) workers → All (IsNew value count z ring) longer
   one_made workers longer worker is pass seat all = All-same (IsNew value count z ring) longer (workers ++ worker ∷ []) is (All-push (IsNew value count z ring) workers worker all (pass, seat))
 
-  -- a new worker's accounts are in order
-  pub new_worked : (worker : Worker T M) → IsNew value count z ring worker → HasWorked value count z ring worker × (worker.pass.halted ≡ false)
-  new_worked worker h =
+  -- a new worker may begin
+  pub new_begins : (worker : Worker T M) → IsNew value count z ring worker → CanBegin value count z ring worker
+  new_begins worker h =
       let running : worker.pass.halted ≡ false = ap (λ (p : PassState). p.halted) h.0 in
       let idle : IsIdle value count z ring worker = (ap (λ (p : PassState). p.source) h.0, h.1.0, h.1.1) in
-      ((idle, accounts_none _ _ _ (ap (λ (p : PassState). p.drawn) h.0) h.1.2 running), running)
+      let drawn : worker.pass.drawn ≡ [] = ap (λ (p : PassState). p.drawn) h.0 in (
+        (idle, accounts_none _ _ _ drawn h.1.2 running),
+        (running, ap (λ (p : PassState). p.seen) h.0),
+        λ k. let a = ap (times k) drawn in let b = ap (times k) h.1.2 in omega (arith, a, b),
+      )
 
   -- the last of new workers and the others
   pub new_last : (workers rest : List (Worker T M)) (worker : Worker T M) → workers ≡ rest ++ worker ∷ [] → All (IsNew value count z ring) workers
-      → All (HasWorked value count z ring) rest × (HasWorked value count z ring worker × (worker.pass.halted ≡ false))
+      → All (CanBegin value count z ring) rest × CanBegin value count z ring worker
   new_last workers rest worker cut all =
       let both = All-pop (IsNew value count z ring) workers rest (Some worker) cut all in
-      ((λ k d inside. (new_worked _ (both.0 k d inside)).0), new_worked worker both.1)
+      ((λ k d inside. new_begins _ (both.0 k d inside)), new_begins worker both.1)
 
   abbrev IsHome : RingSeat T M → Type 0
   IsHome s = IsSeatOf value count ring s × (claimed_of s ≡ [])

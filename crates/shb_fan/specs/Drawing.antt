@@ -65,9 +65,9 @@ warned v = pass_view v.parts v.plan v.drawn v.spent v.halted 1
 abbrev pub drew : Step (Unit {0}) → M → ℕ → M → Type 0
 drew st m r m' = (r < m.0.plan.limit → All (λ x. x < r) m.0.drawn × (m' ≡ (gained m.0 r, m.1))) × (m.0.plan.limit ≤ r → m' ≡ (used_up m.0, m.1))
 
--- where the word isn't 0 the pass is spent, and it isn't 0 where the pass is halted
+-- where the word isn't 0 the pass is spent, and it isn't 0 where the pass is halted or has seen a stop before
 abbrev pub saw : Step (Unit {0}) → M → ℕ → M → Type 0
-saw st m r m' = (r ≡ 0 → (m.0.halted ≡ 0) × (m' ≡ m)) × (0 < r → m' ≡ (used_up m.0, m.1))
+saw st m r m' = (r ≡ 0 → (m.0.halted ≡ 0) × (m.0.seen ≡ 0) × (m' ≡ m)) × (0 < r → m' ≡ (used_up m.0, m.1))
 
 -- where the word isn't 0 the pass has seen a stop, and it isn't 0 where the pass is halted or has seen one before
 abbrev pub looked : Step (Unit {0}) → M → ℕ → M → Type 0

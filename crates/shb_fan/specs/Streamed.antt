@@ -1,5 +1,5 @@
 -- What a taker was given.
-use Rattle.std.specs.Prelude.{◌≡◌, ℕ, ◌<◌, ◌≤◌, ◌⊎◌, Bool, false, IsTrue, All, Any, sum_by, List, [], map, Result, Ok, Err, IfSome}
+use Rattle.std.specs.Prelude.{◌≡◌, ℕ, ◌+◌, ◌<◌, ◌≤◌, ◌⊎◌, Bool, false, IsTrue, All, Any, sum_by, List, [], ◌∷◌, map, Result, Ok, Err, MatchOption}
 use Rattle.shb_fan.specs.declared.shares.Ring.{Ring}
 use Rattle.shb_fan.specs.declared.shares.RingSeat.{RingSeat}
 use Rattle.shb_fan.specs.declared.crew.Worker.{Worker}
@@ -29,13 +29,21 @@ module _ {T M : Type 0} where
   abbrev pub Owes : Worker T M → ℕ → Type 0
   Owes worker k = IsOwed worker.pass.drawn (placed_of worker.seat) k
 
+  -- what the worker drew is placed but for these pieces: each number was drawn as often as it was placed and stands among these
+  abbrev pub HasPlacedAllBut : Worker T M → List ℕ → Type 0
+  HasPlacedAllBut worker kept = (k : ℕ) → times k worker.pass.drawn ≡ times k (placed_of worker.seat) + times k kept
+
+  -- the pass has not stopped the draw, and has seen no stop
+  abbrev pub IsRunning : Worker T M → Type 0
+  IsRunning worker = (worker.pass.halted ≡ false) × (worker.pass.seen ≡ false)
+
   -- the pass has stopped the draw, or has seen that it is stopped
   abbrev pub KnowsStop : Worker T M → Type 0
   KnowsStop worker = IsTrue worker.pass.halted ⊎ IsTrue worker.pass.seen
 
-  -- the pass was told that there is no more, or knows a stop
+  -- the pass was told that there is no more, and all that it drew is placed; or it knows a stop
   abbrev pub HasEnded : Worker T M → Type 0
-  HasEnded worker = IsTrue worker.pass.spent ⊎ KnowsStop worker
+  HasEnded worker = (IsTrue worker.pass.spent × HasPlacedAllBut worker []) ⊎ KnowsStop worker
 
   -- the seat has lifted each of the first pieces
   abbrev pub HasLifted : Worker T M → ℕ → Type 0
@@ -55,6 +63,10 @@ module _ {T M J : Type 0} (value : J → ℕ → M) (count : J → ℕ) where
   -- and whose accounts are in order
   abbrev pub HasWorked : TicketSource → Ring T M J → Worker T M → Type 0
   HasWorked tickets ring worker = IsIdle tickets ring worker × HasAccounts worker
+
+  -- and that knows no stop, and has placed all that it drew
+  abbrev pub CanBegin : TicketSource → Ring T M J → Worker T M → Type 0
+  CanBegin tickets ring worker = HasWorked tickets ring worker × IsRunning worker × HasPlacedAllBut worker []
 
   -- a worker that has drawn, placed and stopped nothing
   abbrev pub IsNew : TicketSource → Ring T M J → Worker T M → Type 0
@@ -81,13 +93,18 @@ module _ {T M J G : Type 0} (value : J → ℕ → M) (count : J → ℕ) where
   abbrev pub CanWork : Shared T M J G → Worker T M → Type 0
   CanWork shared worker = IsReady shared worker × HasAccounts worker
 
-  -- the worker may run and place piece k, which it drew
-  abbrev pub CanMake : Shared T M J G → Worker T M → ℕ → Type 0
-  CanMake shared worker k = CanWork shared worker × (worker.pass.halted ≡ false) × Owes worker k
+  -- the worker may draw, since it has placed all that it drew
+  abbrev pub CanDraw : Shared T M J G → Worker T M → Type 0
+  CanDraw shared worker = CanWork shared worker × HasPlacedAllBut worker []
 
-  -- the caller may work, and what it keeps is a piece that it drew and hasn't placed
+  -- the worker may run and place piece k, which it drew, and has placed all others that it drew
+  abbrev pub CanMake : Shared T M J G → Worker T M → ℕ → Type 0
+  CanMake shared worker k = CanWork shared worker × IsRunning worker × Owes worker k × HasPlacedAllBut worker (k ∷ [])
+
+  -- the caller may work, and of all that it drew just the piece that it keeps isn't placed
   abbrev pub CanTake : Shared T M J G → Caller T M → Type 0
-  CanTake shared caller = CanWork shared caller.own × (caller.own.pass.halted ≡ false) × IfSome caller.kept (Owes caller.own)
+  CanTake shared caller = CanWork shared caller.own × IsRunning caller.own
+      × MatchOption caller.kept (HasPlacedAllBut caller.own []) (λ k. Owes caller.own k × HasPlacedAllBut caller.own (k ∷ []))
 
 module _ {T M : Type 0} (meaning : T → M) (value : ℕ → M) where
   -- the results of the pieces below k, in order

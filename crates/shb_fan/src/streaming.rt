@@ -1,7 +1,7 @@
 //! Results in the order of their pieces, while others are computed.
-ghost use Rattle.std.specs.Prelude.{◌≡◌, ◌∷◌, ◌++◌, ◌+◌, ◌<◌, [], None, false, All, IfOk, IfErr, IfSome, IfNone, IsTrue, IsFalse, length};
+ghost use Rattle.std.specs.Prelude.{◌≡◌, ◌≢◌, ◌∷◌, ◌++◌, ◌+◌, ◌<◌, [], None, Some, true, false, All, IfOk, IfErr, IfSome, IfNone, IsTrue, IsFalse, MatchOption, length};
 ghost use Rattle.shb_fan.specs.Seated.{IsSeatOf, job_of, claimed_of, placed_of, lifted_of};
-ghost use Rattle.shb_fan.specs.Streamed.{IsIdle, IsReady, HasWorked, HasAccounts, HasLifted, HasEnded, KnowsStop, CanWork, CanMake, CanTake, MayTake, Ended};
+ghost use Rattle.shb_fan.specs.Streamed.{IsIdle, IsReady, IsRunning, HasWorked, HasAccounts, HasLifted, HasEnded, HasPlacedAllBut, KnowsStop, CanBegin, CanDraw, CanMake, CanTake, CanWork, MayTake, Ended};
 
 use crate::crew::{Desk, Worker};
 use crate::gate::Gate;
@@ -57,7 +57,7 @@ fn wait_to_claim<R: Wait, T: Drop, M, J: Job<Out = T, Meaning = M>, G: Gate>(
     ensures seat { IsSeatOf J.value J.count shared.now.desk.now.ring worker.new.seat }
     ensures placed { placed_of worker.new.seat ≡ placed_of worker.old.seat }
     ensures lifted { lifted_of worker.new.seat ≡ lifted_of worker.old.seat }
-    ensures won { IsTrue result → claimed_of worker.new.seat ≡ k ∷ [] }
+    ensures won { IsTrue result → (claimed_of worker.new.seat ≡ k ∷ []) × (worker.new.pass.seen ≡ worker.old.pass.seen) }
     ensures stopped { IsFalse result → (claimed_of worker.new.seat ≡ []) × IsTrue worker.new.pass.seen }
 {
     let mut turns = 0u32;
@@ -84,7 +84,7 @@ fn make<R: Wait, T: Drop, M, J: Job<Out = T, Meaning = M>, G: Gate>(
     requires ready { CanMake J.value J.count shared.now worker.old k }
     requires piece { k < J.count shared.now.gated.job.now }
     ensures ready { CanWork J.value J.count shared.now worker.new }
-    ensures running { IsTrue result → worker.new.pass.halted ≡ false }
+    ensures made { IsTrue result → IsRunning worker.new × HasPlacedAllBut worker.new [] }
     ensures stopped { IsFalse result → KnowsStop worker.new }
     ensures lifted { lifted_of worker.new.seat ≡ lifted_of worker.old.seat }
 {
@@ -110,7 +110,7 @@ fn work<R: Wait, T: Drop, M, J: Job<Out = T, Meaning = M>, G: Gate>(
     shared: &Shared<'_, T, M, J, G>,
     worker: &mut Worker<T, M>,
 )
-    requires { CanWork J.value J.count shared.now worker.old }
+    requires { CanDraw J.value J.count shared.now worker.old }
     ensures worked { CanWork J.value J.count shared.now worker.new }
     ensures ended { HasEnded worker.new }
 {
@@ -125,14 +125,18 @@ fn work<R: Wait, T: Drop, M, J: Job<Out = T, Meaning = M>, G: Gate>(
     unreachable!()
 }
 
-/// Draws a piece for the caller to keep, if there is one.
+/// Draws a piece for the caller, which keeps none, to keep, if there is one.
 fn draw_one<T: Drop, M, J: Job<Out = T, Meaning = M>, G>(
     shared: &Shared<'_, T, M, J, G>,
     caller: &mut Caller<T, M>,
 )
-    requires { CanTake J.value J.count shared.now caller.old }
+    requires ready { CanTake J.value J.count shared.now caller.old }
+    requires none { caller.old.kept ≡ None }
     ensures ready { CanTake J.value J.count shared.now caller.new }
     ensures seat { caller.new.own.seat ≡ caller.old.own.seat }
+    ensures drawn { MatchOption caller.new.kept
+        ((caller.new.own.pass.drawn ≡ caller.old.own.pass.drawn) × (caller.new.own.pass.spent ≡ true))
+        (λ k. caller.new.own.pass.drawn ≡ caller.old.own.pass.drawn ++ k ∷ []) }
 {
     match shared.desk.tickets.draw(&mut caller.own.pass) {
         Some(k) => {
@@ -156,6 +160,7 @@ fn make_kept<R: Wait, T: Drop, M, J: Job<Out = T, Meaning = M>, G: Gate>(
     requires piece { k < J.count shared.now.gated.job.now }
     ensures ready { CanWork J.value J.count shared.now caller.new.own }
     ensures running { IsTrue result → CanTake J.value J.count shared.now caller.new }
+    ensures made { IsTrue result → caller.new.kept ≢ Some k }
     ensures stopped { IsFalse result → KnowsStop caller.new.own }
     ensures lifted { lifted_of caller.new.own.seat ≡ lifted_of caller.old.own.seat }
 {
@@ -239,9 +244,9 @@ fn take_all<R: Wait, T: Drop, M, J: Job<Out = T, Meaning = M>, G: Gate, E, K: Ta
 
 impl<'a, T: Drop, M, J: Job<Out = T, Meaning = M>, G: Gate> WorkerSide<Worker<T, M>>
     for Shared<'a, T, M, J, G> {
-    ghost use Rattle.shb_fan.specs.Streamed.{CanWork, HasEnded};
+    ghost use Rattle.shb_fan.specs.Streamed.{CanDraw, CanWork, HasEnded};
 
-    ghost ready = { λ shared worker. CanWork J.value J.count shared worker };
+    ghost ready = { λ shared worker. CanDraw J.value J.count shared worker };
 
     ghost has_worked = { λ shared worker. CanWork J.value J.count shared worker × HasEnded worker };
 
@@ -300,9 +305,8 @@ fn work_and_take<
 ) -> Result<(), StreamError<E>>
     requires tickets { desk.now.tickets.limit ≡ J.count gated.job.now }
     requires ring { job_of desk.now.ring ≡ gated.job.now }
-    requires workers { All (HasWorked J.value J.count desk.now.tickets desk.now.ring) workers.old }
-    requires caller { HasWorked J.value J.count desk.now.tickets desk.now.ring caller.old.own
-        × (caller.old.own.pass.halted ≡ false) × (caller.old.kept ≡ None) }
+    requires workers { All (CanBegin J.value J.count desk.now.tickets desk.now.ring) workers.old }
+    requires caller { CanBegin J.value J.count desk.now.tickets desk.now.ring caller.old.own × (caller.old.kept ≡ None) }
     requires may_take { MayTake J.meaning (J.value gated.job.now) K.may_take (J.count gated.job.now) taker.old }
     ensures ended { Ended J.meaning (J.value gated.entry.job.now) K.takes K.refuses (J.count gated.entry.job.now) taker.old result taker.new }
     ensures workers { (length workers.new ≡ length workers.old)

@@ -97,10 +97,12 @@ impl Tickets {
         ensures halted { pass.new.halted ≡ pass.old.halted }
         ensures seen { pass.new.seen ≡ pass.old.seen }
         ensures some { IfSome result (λ k. (k < self.now.limit) × All (λ x. x < k) pass.old.drawn
-            × (pass.new.drawn ≡ pass.old.drawn ++ k ∷ []) × (pass.new.spent ≡ false) × (pass.new.halted ≡ false)) }
+            × (pass.new.drawn ≡ pass.old.drawn ++ k ∷ []) × (pass.new.spent ≡ false) × (pass.new.halted ≡ false)
+            × (pass.new.seen ≡ false)) }
         ensures none { IfNone result ((pass.new.drawn ≡ pass.old.drawn) × (pass.new.spent ≡ true)) }
         ensures spent_stays { IsTrue pass.old.spent → (result ≡ None) × (pass.new ≡ pass.old) }
         ensures halted_gets_none { IsTrue pass.old.halted → result ≡ None }
+        ensures seen_gets_none { IsTrue pass.old.seen → result ≡ None }
     {
         if pass.spent {
             return None;

@@ -1,6 +1,6 @@
 use Rattle.std.proofs.Common.{refl, ◌∙◌}
 use Rattle.std.proofs.lemmas.List.Elements.{All-same}
-use Rattle.shb_fan.specs.Streamed.{HasWorked}
+use Rattle.shb_fan.specs.Streamed.{CanBegin, HasWorked}
 use Rattle.shb_fan.proofs.MadeWorkers.{all_fresh, as_many, but_one, closed_whole, comes_back, new_last, one_each, pass_room, passes_whole, seat_room, seats_enough, seats_whole}
 use Rattle.shb_fan.proofs.streaming.stream.Goals as goal
 
@@ -22,12 +22,12 @@ work_and_take-answer-requires-clause-ring g c κs within = c.in-Ok-new.ensures.r
 pub work_and_take-answer-requires-clause-workers : goal.work_and_take-answer-requires-clause-workers
 work_and_take-answer-requires-clause-workers g c κs within =
     let both = new_last g.J.Job.value g.J.Job.count c.in-Ok.made.0 c.in-Ok-new.made.0 _ _ _ c.in-Some.ensures.items c.in-Ok-make_workers.ensures.workers.1 in
-    All-same (HasWorked g.J.Job.value g.J.Job.count c.in-Ok.made.0 c.in-Ok-new.made.0) c.as_mut_slice.result.now c.pop.new.self.items c.as_mut_slice.ensures.value both.0
+    All-same (CanBegin g.J.Job.value g.J.Job.count c.in-Ok.made.0 c.in-Ok-new.made.0) c.as_mut_slice.result.now c.pop.new.self.items c.as_mut_slice.ensures.value both.0
 
 pub work_and_take-answer-requires-clause-caller : goal.work_and_take-answer-requires-clause-caller
 work_and_take-answer-requires-clause-caller g c κs within =
     let both = new_last g.J.Job.value g.J.Job.count c.in-Ok.made.0 c.in-Ok-new.made.0 _ _ _ c.in-Some.ensures.items c.in-Ok-make_workers.ensures.workers.1 in
-    (both.1.0, both.1.1, refl)
+    (both.1, refl)
 
 pub work_and_take-answer-requires-clause-may_take : goal.work_and_take-answer-requires-clause-may_take
 work_and_take-answer-requires-clause-may_take g c κs within = c.requires

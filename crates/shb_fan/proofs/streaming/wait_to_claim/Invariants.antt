@@ -11,6 +11,7 @@ invariant-loop g l = record {
   source : l.worker.pass.source ≡ l.fn.worker.pass.source;
   drawn : l.worker.pass.drawn ≡ l.fn.worker.pass.drawn;
   halted : l.worker.pass.halted ≡ l.fn.worker.pass.halted;
+  seen : l.worker.pass.seen ≡ l.fn.worker.pass.seen;
   placed : placed_of l.worker.seat ≡ placed_of l.fn.worker.seat;
   lifted : lifted_of l.worker.seat ≡ lifted_of l.fn.worker.seat;
 }
