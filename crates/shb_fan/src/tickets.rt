@@ -109,7 +109,8 @@ impl Tickets {
         }
         let shared = &self.table.shared;
         let stop = shared.load::<See>(&mut pass.seat, STOP);
-        if stop != 0 {
+        let stopped = stop != 0;
+        if stopped {
             pass.spent = true;
             return None;
         }

@@ -16,7 +16,7 @@ load-stop-requires c = (
 
 pub fetch_add-number-requires : goal.fetch_add-number-requires
 fetch_add-number-requires c =
-    let same = (c.load-stop.ensures.2.0 c.if-stop-ne0.false).2 in let one = c.pass.invariant.one in (
+    let same = (c.load-stop.ensures.2.0 c.if-stopped.false).2 in let one = c.pass.invariant.one in (
       search rules,
       search rules,
       draws _ _ _ _ (let e = ap (λ (m : Me (Unit {0}) PassView). m.0.parts) same in omega arith)
