@@ -196,7 +196,9 @@ impl<'t> PlaceTable<'t> {
         ensures { self.new ≡ with_numbered (location_with trace.now events.now) second.now (λ r. slice_index_or counts.now r 0) self.old (length counts.now) }
     {
         for r in 0..counts.len() {
-            self.add_many(trace.location(events[r]), second, u64::from(counts[r]));
+            if counts[r] > 0 {
+                self.add_many(trace.location(events[r]), second, u64::from(counts[r]));
+            }
         }
     }
 
