@@ -80,6 +80,14 @@ class Found(program.Case):
         self.assertEqual(names.code_line(line, 240), f"int a;{'x' * 113}…{'x' * 114}int z;")
         self.assertEqual(seen, [2 * 16 * 240])
 
+    def test_tabs_in_the_middle_of_a_long_line_are_not_looked_at(self):
+        class Whole(bytes):
+            def expandtabs(self, tabsize=8):
+                raise AssertionError("the whole line was looked at")
+
+        line = Whole(b"\tint a;" + b"\t" * 4_000_000 + b"int z;")
+        self.assertEqual(names.code_line(line, 40), f"        int a;{' ' * 5}…{' ' * 14}int z;")
+
     def test_a_line_beyond_the_end(self):
         self.put("src/a.c")
         for location in (b"a.c:4", b"a.c:0"):
