@@ -83,6 +83,13 @@ exec REAL "$@"
         self.assertEqual(run_here(["--shb", self.fake(script), TRACE])[0], 0)
         self.assertEqual(log.read_text().splitlines(), [f"races --list {TRACE}", f"places {TRACE}"])
 
+    def test_a_trace_without_races_is_analysed_once(self):
+        log = self.folder / "calls"
+        fake = self.fake(f'echo "$1" >> {log}; exec REAL "$@"\n')
+        status, out, _ = run_here(["--shb", fake, self.file(b"A|w(x)|a.c:1\nA|w(x)|a.c:2\n")])
+        self.assertEqual((status, log.read_text()), (0, "races\n"))
+        self.assertIn("0 races", out)
+
     def test_text_and_page_of_one_run(self):
         """As each alone, and `shb` runs as often as for one."""
         log, page = self.folder / "log", self.folder / "page.html"
