@@ -104,6 +104,12 @@ class Stacks(program.Case):
         self.assertIn("   a.c:7: 1 free by main\n", out)
         self.assertIn("     free by main at a.c:7 (event 4)\n", out)
 
+    def test_a_read_of_what_was_freed(self):
+        """In the trace a free is a write, and orders what follows such a read; but it wrote nothing."""
+        trace = b"main|fork(T1)|a.c:1\nmain|w(a.c:9#2)|a.c:7\nT1|r(a.c:9#2)|a.c:5\n"
+        _, out, _ = self.shown(stacks(tables=TABLES + b"free 2 2\n"), trace=trace)
+        self.assertIn("   a.c:5 read what a.c:7 freed: other races may be behind this one.\n", out)
+
     def test_an_atomic_that_hands_on_without_order(self):
         """The trace need not have it. With release and acquire it orders, and is no reason; nor is one that one of the threads alone uses."""
         trace = b"main|fork(T1)|a.c:1\nmain|w(a.c:9#2)|a.c:5\nT1|r(a.c:9#2)|a.c:7\nmain|join(T1)|a.c:8\nmain|fork(T2)|a.c:9\n"
@@ -114,7 +120,7 @@ class Stacks(program.Case):
             tables = f"atomic slot\tmain\ta.c:6\tstore {store}\natomic slot\tT1\ta.c:4\tload {load}\natomic own\tT1\ta.c:3\tstore relaxed\n"
             _, out, err = self.shown(stacks(tables=TABLES + tables.encode()), trace=trace)
             self.assertEqual((err, "use the atomic" in out), ("", words is not None))
-            self.assertTrue(words is None or says.format(*words) in out, out)
+            self.assertTrue(words is None or says.format(*words) + "   In this trace only main writes" in out, out)
 
     def test_sources_that_were_recorded(self):
         """Only where that is asked for, for a file may name any path."""

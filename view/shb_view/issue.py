@@ -1,7 +1,7 @@
 """A race as a text that can be pasted into an issue."""
 
 from shb_view.names import code_line, short
-from shb_view.stacks import caller_lines, publication_parts
+from shb_view.stacks import caller_lines, sentences
 from shb_view.words import KINDS, NO_LOCK, Code, counted, lock_parts, place
 
 NAME = 120  # columns
@@ -26,7 +26,7 @@ def issue_lines(view, section):
     if allocated:
         yield "  the block was allocated at"
         yield from allocated
-    yield from (f"  {flat(parts)}" for parts in [section.fact.sentence, *publication_parts(view, section)])
+    yield from (f"  {flat(parts)}" for parts in sentences(view, section))
     yield f"  {order_text(view, window)}"
 
 

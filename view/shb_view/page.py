@@ -10,7 +10,7 @@ from shb_view.markup import Markup, code, element, joined, marked
 from shb_view.names import code_line, short
 from shb_view.picture import picture
 from shb_view.source import excerpt
-from shb_view.stacks import frame_parts, origins, publication_parts
+from shb_view.stacks import frame_parts, origins, sentences
 from shb_view.words import (VERBS, MOST_SITES, MOST_THREADS, MOST_VARIABLES, NO_LOCK, Code, accesses_text, counted, listed,
                             lock_parts, lock_words, notes_of, partner_parts, place, races_text, seen_parts, summary)
 
@@ -76,7 +76,7 @@ def group_list(view):
         link = element("a", f"{number}. ", marked(group_name(view, section.group), NAME), href=f"#g{number}")
         tag = element("span", marked(section.fact.tag, NAME), class_="tag")
         races = element("span", races_text(section.group), class_="faint")
-        rows.append(element("li", link, " ", tag, " ", races, element("p", marked(section.fact.sentence, NAME)),
+        rows.append(element("li", link, " ", tag, " ", races, element("p", marked(sentences(view, section)[0], NAME)),
                             class_=f"rank{section.fact.rank}"))
     more = view.groups - len(view.sections)
     rows += [element("li", f"and {counted(more, 'more group')}")] if more else []
@@ -86,11 +86,12 @@ def group_list(view):
 def section_part(view, number, section):
     """All that is said of a group."""
     anchor = f"g{number}e"
+    first, *others = sentences(view, section)
     parts = [element("h2", element("a", number, href=f"#g{number}"), " ", marked(group_name(view, section.group), NAME), ": ",
                      marked(section.fact.tag, NAME)),
-             element("p", marked(section.fact.sentence, NAME), " ", races_text(section.group), ". ",
+             element("p", marked(first, NAME), " ", races_text(section.group), ". ",
                      element("a", "All groups", href="#groups", class_="back"))]
-    parts += [element("p", marked(words, NAME)) for words in [*publication_parts(view, section), *seen_parts(section)]]
+    parts += [element("p", marked(words, NAME)) for words in [*others, *seen_parts(section)]]
     if len(section.group.variables) > 1:
         names = listed([[Code(name)] for name in section.group.variables], MOST_VARIABLES)
         parts.append(element("p", "Variables: ", marked(names, NAME), class_="variables"))

@@ -56,6 +56,11 @@ def publications(view, section):
     return list(found.values())
 
 
+def sentences(view, section):
+    """What is said of a group, as parts for each sentence: what tells most is the first."""
+    return [*publication_parts(view, section), section.fact.sentence]
+
+
 def publication_parts(view, section):
     """What is said of atomics by which a group's threads hand on something without order, as parts for each."""
     for store, load in publications(view, section)[:MOST_ATOMICS]:

@@ -6,7 +6,7 @@ from shb_common import known
 from shb_view.groups import group_name
 from shb_view.issue import issue_lines
 from shb_view.names import code_line, columns, padded, short
-from shb_view.stacks import caller_lines, origins, publication_parts
+from shb_view.stacks import caller_lines, origins, sentences
 from shb_view.words import (MOST_SITES, MOST_THREADS, MOST_VARIABLES, Code, accesses_text, counted, listed, lock_words, notes_of,
                             operation_text, partner_parts, place, races_text, seen_parts, summary)
 
@@ -73,8 +73,7 @@ def chosen_sections(view):
 def section_lines(view, number, section, colours):
     name = flat(group_name(view, section.group))
     yield colours.bold(f"{number}. {name}: {flat(section.fact.tag)}") + f" ({races_text(section.group)})"
-    yield f"   {flat(section.fact.sentence)}"
-    yield from (f"   {flat(parts)}" for parts in [*publication_parts(view, section), *seen_parts(section)])
+    yield from (f"   {flat(parts)}" for parts in [*sentences(view, section), *seen_parts(section)])
     if len(section.group.variables) > 1:
         yield f"   Variables: {flat(listed([[Code(name)] for name in section.group.variables], MOST_VARIABLES))}"
     for site in section.sites[:MOST_SITES]:

@@ -114,8 +114,10 @@ def notes_of(view):
 
 def seen_parts(section):
     """What is said where the second access of a race reads what the first wrote, as parts for each such pair of lines."""
+    frees = {site.location for site in section.sites if site.accesses[b"f"]}
     for writer, reader in section.seen[:MOST_SOME]:
-        yield [place(reader), " read what ", place(writer), " wrote: other races may be behind this one."]
+        verb = "freed" if writer in frees else "wrote"
+        yield [place(reader), " read what ", place(writer), f" {verb}: other races may be behind this one."]
 
 
 def races_text(group):
