@@ -89,7 +89,7 @@ def make_view(options, progress):
         gathered = Gathered()
         head = analyser.head(None if options.report else gathered.share)
         given = given_report(options, analyser, stack) if options.report else own_report(analyser, head, stack)
-        listed, has_schedules = read_report(given, head.counts, gathered, progress) if options.report or head.races else (0, True)
+        listed, has_schedules = read_report(given, head.counts, gathered, progress) if options.report or head.count else (0, True)
         groups = gathered.groups()
         if options.report and not has_schedules:
             given = given._replace(verdict=NO_SCHEDULES)
@@ -128,7 +128,7 @@ def own_report(analyser, head, stack):
     """A report of one race of each place, with schedules if it isn't too long. Without races none is made."""
     file = stack.enter_context(tempfile.TemporaryFile())
     with_schedules = len(head.places) * head.counts.events * NUMBER <= MOST_REPORT
-    if head.races:
+    if head.count:
         analyser.write_places(with_schedules, file)
     return Given("a file for the report of `shb`", file, OWN if with_schedules else TOO_LONG, head.places)
 
