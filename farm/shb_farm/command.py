@@ -46,11 +46,12 @@ Known places:
 
 Exit status:
   The first that applies:
-  4  wrong command line, no trace, or a folder, a file or an engine failed; the
-     reason is on standard error
+  2  wrong command line
+  4  no trace, or a folder, a file or an engine failed; the reason is on standard
+     error
   3  a trace has no outcome: it is missing
   1  there is a place that isn't known
-  2  a trace was refused, or memory, time or size didn't suffice
+  5  a trace was refused, or memory, time or size didn't suffice
   0  none of these
 
 Environment:
@@ -71,9 +72,13 @@ class Refused(Exception):
     """The farm can't run; with the reason."""
 
 
+class BadWords(Exception):
+    """The command line is wrong; with the reason."""
+
+
 class Parser(argparse.ArgumentParser):
     def error(self, message):
-        raise Refused(f"{message}\n{self.format_usage().rstrip()}")
+        raise BadWords(f"{message}\n{self.format_usage().rstrip()}")
 
 
 def arguments(words):
@@ -256,8 +261,11 @@ def main(words):
     sys.stderr.reconfigure(errors="backslashreplace")
     for name in (signal.SIGTERM, signal.SIGHUP):
         signal.signal(name, lambda number, frame: sys.exit(128 + number))
+    status = 4
     try:
         return run(arguments(words))
+    except BadWords as fault:
+        status, said = 2, str(fault)
     except (Refused, engines.NotInstalled) as refused:
         said = str(refused)
     except OSError as fault:
@@ -267,4 +275,4 @@ def main(words):
     except Exception:
         said = traceback.format_exc().rstrip()      # 1, with which Python would end, says that there is an unknown place
     print(f"shb-farm: {said}", file=sys.stderr)
-    return 4
+    return status

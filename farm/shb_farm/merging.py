@@ -73,4 +73,4 @@ def status_of(rows, endings):
         return 3
     if any(not row.is_known for row in rows):
         return 1
-    return 2 if kinds - {"report"} else 0
+    return 5 if kinds - {"report"} else 0

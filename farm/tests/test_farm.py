@@ -113,21 +113,22 @@ class Tables(farm.Case):
         self.assertEqual(self.farm("--known", known).status, 0)
         self.trace("bad.std", BAD)
         self.assertEqual(self.farm().status, 1)
-        self.assertEqual(self.farm("--known", known).status, 2)
+        self.assertEqual(self.farm("--known", known).status, 5)
         (self.traces / "gone.std").symlink_to("nowhere")
         self.assertEqual(self.farm("--known", known).status, 3)
         self.assertEqual(self.farm().status, 3)
 
     def test_what_cannot_run_has_a_status_of_its_own(self):
         self.trace("race.std", RACE)
-        for words, said in ((["--engine", "none"], "argument --engine: invalid choice: 'none'"),
-                            (["--memory", "0"], "argument --memory: it takes numbers from 1 on"),
-                            (["--memory", "x"], "argument --memory: invalid numbers value: 'x'"),
-                            (["--known", self.folder / "none"], f"{self.folder}/none: No such file or directory"),
-                            (["--known", self.known(b"# one\nno tab\n")],
-                             f"{self.folder}/known: line 2: a place is two locations or functions with a tab between them")):
+        for words, status, said in (
+                (["--engine", "none"], 2, "argument --engine: invalid choice: 'none'"),
+                (["--memory", "0"], 2, "argument --memory: it takes numbers from 1 on"),
+                (["--memory", "x"], 2, "argument --memory: invalid numbers value: 'x'"),
+                (["--known", self.folder / "none"], 4, f"{self.folder}/none: No such file or directory"),
+                (["--known", self.known(b"# one\nno tab\n")], 4,
+                 f"{self.folder}/known: line 2: a place is two locations or functions with a tab between them")):
             answer = self.farm(*words)
-            self.assertEqual((answer.status, answer.out), (4, ""))
+            self.assertEqual((answer.status, answer.out), (status, ""))
             self.assertTrue(answer.err.startswith(f"shb-farm: {said}"), answer.err)
         answer = self.farm(shb=self.folder / "none")
         self.assertEqual(answer, (4, "", f"shb-farm: {self.folder}/none: no such program\n"))

@@ -51,14 +51,14 @@ exit 4
     def test_a_pass_that_did_not_suffice_is_not_run_again(self):
         self.trace("race.std", RACE)
         shb = self.script("hungry", f'[ "$(ulimit -v)" -ge 614400 ] && exec {farm.SHB} "$@"\necho "out of memory" >&2\nexit 4\n')
-        self.assertEqual(self.farm("--memory", "100", shb=shb).status, 2)
+        self.assertEqual(self.farm("--memory", "100", shb=shb).status, 5)
         answer = self.farm("--memory", "100,600", "--known", self.known(b"*\t*\n"), shb=shb)
         self.assertEqual(answer.status, 0)
         self.assertNotIn("100 MiB", answer.err)
 
     def test_a_refusal_without_words_is_for_memory(self):
         self.trace("bad.std", BAD)
-        self.assertEqual(self.farm("--memory", "100", shb=self.script("mute", "exit 2\n")).status, 2)
+        self.assertEqual(self.farm("--memory", "100", shb=self.script("mute", "exit 2\n")).status, 5)
         self.assertEqual(self.ends()["bad.std"], ("memory", "100"))
 
     def test_a_machine_that_gives_less_makes_no_outcome(self):
@@ -80,10 +80,10 @@ class Time(farm.Case):
         shb = self.script("slow", "[ -e \"$0.quick\" ] || while :; do :; done\nexec " + str(farm.SHB) + ' "$@"\n')
         self.trace("race.std", RACE)
         answer = self.farm("--seconds", "1", shb=shb)
-        self.assertEqual((answer.status, self.ends()["race.std"]), (2, ("time", "1")))
+        self.assertEqual((answer.status, self.ends()["race.std"]), (5, ("time", "1")))
         self.assertIn("\nrefused  race.std  not done in 1 s of processor time\n", answer.out)
         (self.folder / "slow.quick").touch()
-        self.assertEqual(self.farm("--seconds", "1", shb=shb).status, 2)
+        self.assertEqual(self.farm("--seconds", "1", shb=shb).status, 5)
         self.assertEqual(self.farm("--seconds", "2", shb=shb).status, 1)
 
 
@@ -91,7 +91,7 @@ class Size(farm.Case):
     def test_a_list_that_is_too_long(self):
         self.trace("many.std", many_places(110))        # 5,995 places
         answer = self.farm("--size", "1")
-        self.assertEqual((answer.status, self.ends()["many.std"]), (2, ("size", "1")))
+        self.assertEqual((answer.status, self.ends()["many.std"]), (5, ("size", "1")))
         self.assertIn("\nrefused  many.std  its report is longer than 1 MiB\n", answer.out)
         self.assertEqual(self.farm("--size", "8").status, 1)
         self.assertEqual(self.ends()["many.std"][0], "report")

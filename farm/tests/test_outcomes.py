@@ -82,7 +82,7 @@ class Again(farm.Case):
 
     def test_a_trace_that_is_gone_does_not_count(self):
         self.race.unlink()
-        self.again(0, status=2)
+        self.again(0, status=5)
         self.assertEqual(list(self.ends()), ["bad.std", "clean.std"])
 
     def test_a_torn_outcome_is_made_again(self):
@@ -202,7 +202,7 @@ echo '17;loop'
         self.assertIn(" --partition=night --wrap ", (self.folder / "submitted").read_text())
         answer = self.slurm("exit 0\n", None, "--sbatch", "--comment='x")
         self.assertEqual((answer.status, answer.err.splitlines()[0]),
-                         (4, "shb-farm: argument --sbatch: No closing quotation in --comment='x"))
+                         (2, "shb-farm: argument --sbatch: No closing quotation in --comment='x"))
 
     def test_a_controller_that_does_not_answer_is_said_once(self):
         squeue = f"""[ -e {self.folder}/twice ] && exit 0

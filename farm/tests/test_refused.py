@@ -53,6 +53,6 @@ class Refused(farm.Case):
         self.trace("bad.std", RACE + b"T1|w(x)\nT1|READ(x)|1\n")
         self.trace("oops.std", farm.BAD)
         answer = self.farm()
-        self.assertEqual(answer.status, 2)
+        self.assertEqual(answer.status, 5)
         self.assertIn("\nrefused  bad.std   line 4: the operation is not known; it is `T1|READ(x)|1`: its word here is r\n", answer.out)
         self.assertIn(f"\nrefused  oops.std  {BAD_WORDS}\n", answer.out)

@@ -149,7 +149,7 @@ class Log(Base):
 
     def test_traces_without_a_report_are_notifications(self):
         self.trace("bad.std", BAD)
-        self.assertEqual(self.log()["invocations"], [{"executionSuccessful": True, "exitCode": 2, "toolExecutionNotifications": [
+        self.assertEqual(self.log()["invocations"], [{"executionSuccessful": True, "exitCode": 5, "toolExecutionNotifications": [
             {"level": "warning", "message": {"text": "bad.std: " + farm.BAD_WORDS}}]}])
         (self.traces / "gone.std").symlink_to("nowhere")
         invocation = self.log()["invocations"][0]

@@ -107,7 +107,8 @@ static const char help[] =
     "  -p             whole paths\n"
     "  -h, --help     this text\n"
     "\n"
-    "Exit status: 0; 2 nothing can be said; 3 the trace was written, and isn't the whole run.\n" VERSION_LINE;
+    "Exit status: 0; 2 wrong command line, or nothing can be said; 3 the trace was written, and isn't the\n"
+    "whole run.\n" VERSION_LINE;
 
 static const char *windows_folder, *stacks_path;
 

@@ -350,6 +350,16 @@ class Command(recorder.Case):
         status, _, said = self.record("env", f"LD_PRELOAD={refuse}", "REFUSE_SPACE=2", program)
         self.assertEqual((status, "nothing of the run was recorded" in said), (125, True), said)
 
+    def test_a_wrong_command_line(self):
+        """Of every command: 2, but 3 where the specification says so, and 125 where a program is run, whose own status may be 2."""
+        top = recorder.SOURCES.parent
+        commands = {recorder.SHB: 3, recorder.BUILT / "shb-record": 125, top / "view" / "shb-view": 2, top / "farm" / "shb-farm": 2,
+                    recorder.BUILT / "shb-std": 2, recorder.BUILT / "shb-windows": 2}
+        for command, wanted in commands.items():
+            answer = recorder.call(command, "--nonsense", cwd=self.folder)
+            self.assertEqual((answer.returncode, answer.stdout), (wanted, b""), command)
+            self.assertTrue(answer.stderr, command)
+
     def test_an_analyser_that_fails(self):
         status, _, said = self.record(self.program(), "0", "race", SHB=shutil.which("false"))
         self.assertEqual((status, "ended with status 1" in said), (125, True), said)

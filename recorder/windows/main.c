@@ -6,7 +6,7 @@
 #include <unistd.h>
 #include "../converter/converter.h"
 
-enum { SHB_EVENTS = 4194304, REFUSED = 2, BAD_WORDS = 3, FAILED = 4, LINE_ROOM = 1 << 20 };
+enum { SHB_EVENTS = 4194304, BAD_WORDS = 2, REFUSED = 2, FAILED = 4, LINE_ROOM = 1 << 20 };
 
 static const char help[] =
     "usage: shb-windows [-n EVENTS] -o DIR [TRACE]\n"
@@ -22,7 +22,7 @@ static const char help[] =
     "  -o DIR      the folder; it is made if it isn't there\n"
     "  -h, --help  this text\n"
     "\n"
-    "Exit status: 0; 2 the trace is refused, as shb would refuse it; 3 wrong command line;\n"
+    "Exit status: 0; 2 wrong command line, or the trace is refused, as shb would refuse it;\n"
     "4 a file can't be read or written.\n" VERSION_LINE;
 
 static const char *folder;
