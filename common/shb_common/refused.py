@@ -7,26 +7,45 @@ from shb_common.shown import shown
 NUMBER = re.compile(r"(?:.*: )?line ([1-9][0-9]{0,18}): ")
 LONGEST = 60        # columns of the line that are shown
 MOST_LINE = 4_200   # bytes of it that are looked at
-OPERATIONS = (b"r", b"w", b"acq", b"rel", b"fork", b"join", b"begin", b"end")
-OTHER_WORDS = {b"read": "r", b"write": "w", b"lock": "acq", b"acquire": "acq", b"unlock": "rel", b"release": "rel", b"start": "fork"}
-# What a file begins with that is no text of lines, and what to do.
-BEGINNINGS = ((b"\x1f\x8b", "this is gzip; unpack it"), (b"\xfd7zXZ\0", "this is xz; unpack it"), (b"\x28\xb5\x2f\xfd", "this is zstd; unpack it"),
-              (b"BZh", "this is bzip2; unpack it"), (b"\xff\xfe", "this is UTF-16; write the trace as UTF-8"),
-              (b"\xfe\xff", "this is UTF-16; write the trace as UTF-8"))
+WORDS = {b"r", b"w", b"acq", b"rel", b"fork", b"join", b"begin", b"end"}
+KIN = {b"read": "r", b"write": "w", b"lock": "acq", b"acquire": "acq", b"unlock": "rel", b"release": "rel", b"start": "fork"}
+SEPARATORS = {b"\t": "tabs", b",": "commas", b";": "semicolons"}
 MARK = b"\xef\xbb\xbf"
+BEGINNINGS = {      # of files that are something else
+    b"\x1f\x8b": "the file is packed by gzip: unpack it first",
+    b"\xfd7zXZ": "the file is packed by xz: unpack it first",
+    b"\x28\xb5\x2f\xfd": "the file is packed by zstd: unpack it first",
+    b"BZh": "the file is packed by bzip2: unpack it first",
+    b"PK\x03\x04": "the file is a zip archive: unpack it first",
+    b"\xff\xfe": "the file is UTF-16: save it as UTF-8",
+    b"\xfe\xff": "the file is UTF-16: save it as UTF-8",
+    MARK: "the file begins with a byte order mark: save it without one",
+    b"shb-report": "the file is a report of `shb`, not a trace",
+    b"shb-record": "the file is a record: `shb-std` makes a trace of it",
+}
+CARRIAGE_RETURNS = "a carriage return stands alone: lines end with a line feed, or with both"
 
 
 def explained(words, file):
     """The words of a refusal, `line N: REASON`, with the line of the trace, an open file, and a hint where there is one. Other
     words stay as they are."""
-    found = NUMBER.match(words)
+    found = line_and_hint(words, file)
     if not found:
         return words
-    number = int(found[1])
-    line = line_in(file, number)
-    hint = hint_of(line, number)
-    text = shown(line.rstrip(b"\r\n"), LONGEST)
-    return f"{words}; it is `{text}`" + (f": {hint}" if hint else "")
+    line, hint = found
+    return f"{words}; it is `{shown(line, LONGEST)}`" + (f": {hint}" if hint else "")
+
+
+def line_and_hint(words, file):
+    """The line of an open file that the words of a refusal name, without its end, and what may be wrong with it, nothing where
+    there is no guess; None where they name no line. Of a long line the front."""
+    found = NUMBER.match(words)
+    if not found:
+        return None
+    file.seek(0)
+    start = file.read(max(map(len, BEGINNINGS)))
+    line = line_in(file, int(found[1])).rstrip(b"\r\n")
+    return line, next((hint for beginning, hint in BEGINNINGS.items() if start.startswith(beginning)), None) or hint_of(line)
 
 
 def line_in(file, number):
@@ -39,26 +58,20 @@ def line_in(file, number):
     return file.readline(MOST_LINE)
 
 
-def hint_of(line, number):
-    """What may be wrong with a line that was refused, in words; nothing where there is no guess."""
-    if number == 1:
-        for beginning, hint in BEGINNINGS:
-            if line.startswith(beginning):
-                return hint
+def hint_of(line):
+    """What may be wrong with a line, the likeliest alone."""
+    fields = line.split(b"|")
+    word, _, rest = fields[1].partition(b"(") if len(fields) > 1 else (b"", b"", b"")
+    bare = word.strip()
     if b"\0" in line:
-        return "this is UTF-16, or no text; write the trace as UTF-8"
-    if b"\r" in line.rstrip(b"\r\n"):
-        return "lines end with CR alone; end them with LF"
-    if re.search(rb"\s\||\|\s", line.rstrip(b"\r\n")):
-        return "nothing is trimmed, so no blanks stand around a bar"
-    if b"|" not in line:
-        return "a line is THREAD|OPERATION|LOCATION, with bars between"
-    return hint_of_word(line.split(b"|")[1].partition(b"(")[0].strip())
-
-
-def hint_of_word(word):
-    """The same of the word of an operation."""
-    if word not in OPERATIONS and word.lower() in OPERATIONS:
-        return f"operations have small letters: {word.lower().decode()}"
-    meant = OTHER_WORDS.get(word.lower())
-    return f"its word here is {meant}" if meant else ""
+        return "the file is UTF-16, or no text: save it as UTF-8"
+    if b"\r" in line:
+        return CARRIAGE_RETURNS
+    if len(fields) == 1:
+        other = next((f", not {name}" for separator, name in SEPARATORS.items() if separator in line), "")
+        return f"a line is THREAD|OPERATION|LOCATION, with bars between{other}; there are no comments"
+    if bare in WORDS and (bare != word or rest.rstrip() != rest):
+        return "there are blanks around the bar: write THREAD|OPERATION|LOCATION without them"
+    if bare.lower() in WORDS and bare != bare.lower():
+        return f"operations are written in small letters, as `{bare.lower().decode()}`"
+    return f"this operation is written `{KIN[bare.lower()]}`" if bare.lower() in KIN else ""

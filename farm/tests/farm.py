@@ -19,7 +19,7 @@ RACE = b"T1|w(x)|a.c:1\nT2|w(x)|b.c:2\n"            # one place
 OTHER_ORDER = b"T2|w(x)|b.c:2\nT1|w(x)|a.c:1\n"     # the same place, the other access first
 CLEAN = b"T1|w(x)|a.c:1\nT1|w(x)|b.c:2\n"           # one thread
 BAD = b"oops\n"
-BAD_WORDS = "line 1: the line has no operation field; it is `oops`: a line is THREAD|OPERATION|LOCATION, with bars between"
+BAD_WORDS = "line 1: the line has no operation field; it is `oops`: a line is THREAD|OPERATION|LOCATION, with bars between; there are no comments"
 
 
 class Answer(typing.NamedTuple):

@@ -7,22 +7,24 @@ from farm import BAD_WORDS, RACE
 from shb_common import refused
 
 OPERATION = "the operation is not known"
+BLANKS = "there are blanks around the bar: write THREAD|OPERATION|LOCATION without them"
 # The first line of a trace with the reason that it is refused for, how it is shown, and the hint.
 LINES = (
-    (b"T1 | w(x)|a.c:1\n", OPERATION, "T1 | w(x)|a.c:1", "nothing is trimmed, so no blanks stand around a bar"),
-    (b"T1|w(x) |a.c:1\r\n", OPERATION, "T1|w(x) |a.c:1", "nothing is trimmed, so no blanks stand around a bar"),
-    (b"T1|W(x)\n", OPERATION, "T1|W(x)", "operations have small letters: w"),
-    (b"T1|Acq(l)|1\n", OPERATION, "T1|Acq(l)|1", "operations have small letters: acq"),
-    (b"T1|lock(l)|1\n", OPERATION, "T1|lock(l)|1", "its word here is acq"),
-    (b"T1|Unlock(l)|1\n", OPERATION, "T1|Unlock(l)|1", "its word here is rel"),
+    (b"T1 | w(x)|a.c:1\n", OPERATION, "T1 | w(x)|a.c:1", BLANKS),
+    (b"T1|w(x) |a.c:1\r\n", OPERATION, "T1|w(x) |a.c:1", BLANKS),
+    (b"T1|W(x)\n", OPERATION, "T1|W(x)", "operations are written in small letters, as `w`"),
+    (b"T1|Acq(l)|1\n", OPERATION, "T1|Acq(l)|1", "operations are written in small letters, as `acq`"),
+    (b"T1|lock(l)|1\n", OPERATION, "T1|lock(l)|1", "this operation is written `acq`"),
+    (b"T1|Unlock(l)|1\n", OPERATION, "T1|Unlock(l)|1", "this operation is written `rel`"),
     (b"T1|jump(l)|1\n", OPERATION, "T1|jump(l)|1", ""),
-    (b"\x1f\x8b\x08|\n", OPERATION, "\\x1f\\x8b\\x08|", "this is gzip; unpack it"),
-    (b"\xfd7zXZ\0\n", "the line has no operation field", "\\xfd7zXZ\\x00", "this is xz; unpack it"),
-    ("\ufeffT1|w(x)\n".encode("utf-16-le")[:-1], OPERATION, "\\xff\\xfeT\\x001\\x00|\\x00w\\x00(\\x00x\\x00)\\x00", "this is UTF-16; write the trace as UTF-8"),
-    ("T1|w(x)\n".encode("utf-16-be"), OPERATION, "\\x00T\\x001\\x00|\\x00w\\x00(\\x00x\\x00)\\x00", "this is UTF-16, or no text; write the trace as UTF-8"),
-    (b"T1|w(x)|1\rT2|w(x)|2\r", OPERATION, "T1|w(x)|1\\rT2|w(x)|2", "lines end with CR alone; end them with LF"),
-    (b"T1,w(x),1\n", "the line has no operation field", "T1,w(x),1", "a line is THREAD|OPERATION|LOCATION, with bars between"),
-    (b"# a comment\n", "the line has no operation field", "# a comment", "a line is THREAD|OPERATION|LOCATION, with bars between"),
+    (b"\x1f\x8b\x08|\n", OPERATION, "\\x1f\\x8b\\x08|", "the file is packed by gzip: unpack it first"),
+    (b"\xfd7zXZ\0\n", "the line has no operation field", "\\xfd7zXZ\\x00", "the file is packed by xz: unpack it first"),
+    ("\ufeffT1|w(x)\n".encode("utf-16-le")[:-1], OPERATION, "\\xff\\xfeT\\x001\\x00|\\x00w\\x00(\\x00x\\x00)\\x00", "the file is UTF-16: save it as UTF-8"),
+    ("T1|w(x)\n".encode("utf-16-be"), OPERATION, "\\x00T\\x001\\x00|\\x00w\\x00(\\x00x\\x00)\\x00", "the file is UTF-16, or no text: save it as UTF-8"),
+    (b"T1|w(x)|1\rT2|w(x)|2\r", OPERATION, "T1|w(x)|1\\rT2|w(x)|2", "a carriage return stands alone: lines end with a line feed, or with both"),
+    (b"T1,w(x),1\n", "the line has no operation field", "T1,w(x),1", "a line is THREAD|OPERATION|LOCATION, with bars between, not commas; there are no comments"),
+    (b"# a comment\n", "the line has no operation field", "# a comment", "a line is THREAD|OPERATION|LOCATION, with bars between; there are no comments"),
+    (b"T1|rel(l)| | x\n", "the thread does not hold the lock", "T1|rel(l)| | x", ""),
     (b"T1|rel(l)|" + b"x" * 5000 + b"\n", "the thread does not hold the lock", "T1|rel(l)|" + "x" * 48 + "..", ""),
 )
 
@@ -54,5 +56,5 @@ class Refused(farm.Case):
         self.trace("oops.std", farm.BAD)
         answer = self.farm()
         self.assertEqual(answer.status, 5)
-        self.assertIn("\nrefused  bad.std   line 4: the operation is not known; it is `T1|READ(x)|1`: its word here is r\n", answer.out)
+        self.assertIn("\nrefused  bad.std   line 4: the operation is not known; it is `T1|READ(x)|1`: this operation is written `r`\n", answer.out)
         self.assertIn(f"\nrefused  oops.std  {BAD_WORDS}\n", answer.out)
