@@ -3,6 +3,7 @@
 #include <stdlib.h>
 #include <string.h>
 #include <sys/mman.h>
+#include <ucontext.h>
 #include "runtime.h"
 
 /* ---- order ---- */
@@ -95,6 +96,16 @@ PUBLIC void __tsan_switch_to_fiber(void *next, unsigned flags) {
     take_functions_of(next);
     running = next;
 }
+
+/* Another context is in functions of its own. They aren't known but where the program told its fiber right before. The real
+   function is jumped to: a context may be taken up again when the call that saved it is over. */
+#define SWITCHES_CONTEXT(name, words, ...) \
+    PUBLIC __attribute__((optimize("optimize-sibling-calls"))) int name words { \
+        if (self && !running) self->depth = 0; \
+        return REAL(name)(__VA_ARGS__); \
+    }
+SWITCHES_CONTEXT(swapcontext, (ucontext_t *from, const ucontext_t *to), from, to)
+SWITCHES_CONTEXT(setcontext, (const ucontext_t *to), to)
 
 /* ---- nothing is recorded of these ---- */
 #define IGNORES(name, ...) PUBLIC void name(__VA_ARGS__) {}

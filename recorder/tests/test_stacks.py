@@ -51,6 +51,16 @@ def places(stacks, events):
     return [" ".join(frame.location.decode() for frame in stacks.of_event(event)) for event in range(1, events + 1)]
 
 
+def marked(source):
+    """By line: the stacks that its mark in a program names."""
+    wanted = {}
+    for number, line in enumerate(source.read_text().splitlines(), 1):
+        found = re.search(r" IN (.*?)(?: \*/)?$", line)
+        if found:
+            wanted[f"{source.name}:{number}"] = set(found[1].split(", "))
+    return wanted
+
+
 class MadeByHand(recorder.Case):
     def record(self):
         return self.folder / "app.rec"
@@ -106,11 +116,7 @@ class Programs(recorder.Case):
         return found
 
     def check(self, source):
-        wanted = {}
-        for number, line in enumerate(source.read_text().splitlines(), 1):
-            marked = re.search(r" IN (.*?)(?: \*/)?$", line)
-            if marked:
-                wanted[f"{source.name}:{number}"] = set(marked[1].split(", "))
+        wanted = marked(source)
         for option in ("-O0", "-O1", "-O2"):
             found = self.stacks_of(source, option)
             for place, stacks in wanted.items():
@@ -118,6 +124,15 @@ class Programs(recorder.Case):
                     met = {(stack, way) for stack in found.get(place, ()) for way in stacks if f"{stack} ".startswith(f"{way} ")}
                     others = found.get(place, set()) - {stack for stack, _ in met}
                     self.assertEqual(({way for _, way in met}, others), (stacks, set()))
+
+    def test_contexts(self):
+        """After a switch the functions further out are missing, and none of another context is there."""
+        source = recorder.PROGRAMS / "contexts.c"
+        for option in ("-O0", "-O1", "-O2"):
+            found = self.stacks_of(source, option)
+            for place, stacks in marked(source).items():
+                with self.subTest(option=option, place=place):
+                    self.assertEqual(found[place], stacks)
 
     def test_in_c(self):
         self.check(recorder.PROGRAMS / "calls.c")
