@@ -133,6 +133,13 @@ class Log(Base):
         self.assertEqual(run["results"], [])
         self.assertEqual(run["invocations"], [{"executionSuccessful": True, "exitCode": 0, "toolExecutionNotifications": []}])
 
+    def test_the_version_of_what_is_installed(self):
+        self.trace("clean.std", farm.CLEAN)
+        self.assertNotIn("version", self.log()["tool"]["driver"])
+        self.run_alone()
+        (self.folder / "alone" / "common" / "VERSION").write_text("2026.11.25-abc\n")
+        self.assertEqual(self.log()["tool"]["driver"]["version"], "2026.11.25-abc")
+
     def test_a_place(self):
         self.trace("race.std", RACE)
         result = self.log()["results"][0]

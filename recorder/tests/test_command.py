@@ -59,6 +59,26 @@ class Command(recorder.Case):
         self.assertRegex(text_of(self.folder / "status.shb" / "places.tsv"),  # main forks both, then each writes
                          r"^status.c:9\tstatus.c:9\tunknown\t\d+\t\d+\trun 1, process \d+\trun1\.\d+\.std\n$")
 
+    def test_a_pair_that_races_in_both_orders_is_shown_with_all_its_races(self):
+        status, _, said = self.record(self.program("both_orders.c"), SHB_SEED="1", SHB_SLICE="3")
+        self.assertEqual(status, 66)
+        folder = self.folder / "both_orders.shb"
+        (trace,), (report,), (page,) = (folder.glob(f"run1.*.{kind}") for kind in ("std", "report", "html"))
+        pairs = re.findall(r"(?m)^at (.*)\nand (.*)$", text_of(report))
+        self.assertTrue(any(pair[0] != pair[1] and pair[::-1] in pairs for pair in pairs), pairs)  # else it says nothing
+        races = re.search(r"(?m)^races (\d+)$", recorder.must(recorder.call(recorder.SHB, "races", "--list", trace)).stdout.decode())[1]
+        for shown in said, text_of(page):
+            self.assertIn(f"{races} races at 1 place, in 1 group", shown)
+        self.assertNotIn("has not all races", said)
+        self.assertNotIn("can't judge it", said)
+
+    def test_a_known_place_hides_no_place_of_another_file_of_that_name(self):
+        sources, program = recorder.two_of_one_name(self.folder), self.folder / "program"
+        recorder.must(recorder.call("gcc", "-w", "-g", "-O1", "-fsanitize=thread", "-pthread", *sources, "-o", program))
+        self.assertEqual(self.record("-o", "first", program, "a alone")[0], 66)
+        status, _, said = self.record("-o", "both", "--known", "first/unknown.places", program)
+        self.assertEqual((status, "1 unknown place with races, 1 known one passed over" in said, "b/util.c:3" in said), (66, True, True), said)
+
     def test_a_long_run_is_cut_into_windows(self):
         """The first and the last step of the program race; so its last window has a place that no other has."""
         program = self.program("long_race.c")
