@@ -60,15 +60,15 @@ class Command(recorder.Case):
                          r"^status.c:9\tstatus.c:9\tunknown\t\d+\t\d+\trun 1, process \d+\trun1\.\d+\.std\n$")
 
     def test_a_pair_that_races_in_both_orders_is_shown_with_all_its_races(self):
-        status, _, said = self.record(self.program("both_orders.c"), SHB_SEED="1", SHB_SLICE="3")
+        """x is written by one thread first, and then by the other; y by the other first."""
+        status, _, said = self.record(self.program("both_orders.c"))
         self.assertEqual(status, 66)
-        folder = self.folder / "both_orders.shb"
-        (trace,), (report,), (page,) = (folder.glob(f"run1.*.{kind}") for kind in ("std", "report", "html"))
-        pairs = re.findall(r"(?m)^at (.*)\nand (.*)$", text_of(report))
-        self.assertTrue(any(pair[0] != pair[1] and pair[::-1] in pairs for pair in pairs), pairs)  # else it says nothing
-        races = re.search(r"(?m)^races (\d+)$", recorder.must(recorder.call(recorder.SHB, "races", "--list", trace)).stdout.decode())[1]
+        report, page = (next((self.folder / "both_orders.shb").glob(f"run1.*.{kind}")) for kind in ("report", "html"))
+        [there, back] = re.findall(r"(?m)^at (.*)\nand (.*)$", text_of(report))
+        self.assertEqual(there, back[::-1])
         for shown in said, text_of(page):
-            self.assertIn(f"{races} races at 1 place, in 1 group", shown)
+            self.assertRegex(shown, r"2 races at 1 place, in \d group")
+        self.assertIn(f"races with {there[1]} (2 races)", said)
         self.assertNotIn("has not all races", said)
         self.assertNotIn("can't judge it", said)
 
