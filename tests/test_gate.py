@@ -86,15 +86,33 @@ class Edits(unittest.TestCase):
         self.assertEqual([functions for _, functions in self.checks], [{"first"}, {"first"}])
         self.assertEqual(self.alone, [])
 
-    def test_what_the_kit_says_of_one_edit_is_one_of_its_five_answers(self):
+    def test_what_the_kit_says_of_one_edit_is_one_of_its_answers(self):
         kinds = {"REFUSED": "refused", "AT_LIMIT": "limit", "BAD": "bad", "MISSED": "missed", "UNSURE": "unsure"}
         for kind in kinds.values():
             rt = types.SimpleNamespace(**kinds, must_fail=lambda *_: (kind, f"must-fail low/x.edit: {kind}"))
             with self.subTest(kind), mock.patch.object(kit, "command", lambda: rt):
                 self.assertEqual(kit.try_alone(self.crate, "x.edit"), (kind in ("refused", "limit"), f"must-fail low/x.edit: {kind}"))
-        rt.must_fail = lambda *_: (True, "another kit's answer")
+        for answer in (True, False):  # of a kit that says no more
+            rt = types.SimpleNamespace(must_fail=lambda *_, answer=answer: (answer, "said"))
+            with self.subTest(answer), mock.patch.object(kit, "command", lambda: rt):
+                self.assertEqual(kit.try_alone(self.crate, "x.edit"), (answer, "said"))
+        rt = types.SimpleNamespace(**kinds, must_fail=lambda *_: ("another kit's answer", "said"))
         with mock.patch.object(kit, "command", lambda: rt), self.assertRaises(KeyError):
             kit.try_alone(self.crate, "x.edit")
+
+    def test_a_kit_is_asked_to_prove_anew_where_it_knows_the_word(self):
+        script = self.folder / "rt"
+        with mock.patch.object(kit, "command", lambda: types.SimpleNamespace(__file__=str(script))):
+            for text, anew, words in (("--anew", True, ["ci", "--anew"]), ("--anew", False, ["ci"]), ("none", True, ["ci"])):
+                script.write_text(text)
+                with self.subTest(text, anew=anew):
+                    self.assertEqual(kit.proofs_from(anew), words)
+
+    def test_kits_of_one_logic_share_a_record(self):
+        for line in ("kit-1 logic 0123", "kit-2 logic 0123\n"):
+            (self.folder / "KIT-ID").write_text(line)
+            with self.subTest(line), mock.patch.object(kit, "command", lambda: types.SimpleNamespace(KIT=str(self.folder))):
+                self.assertEqual(kit.logic(), "0123")
 
     def test_proved_edit_fails(self):
         edits = [self.edit("first.left", LEFT), self.edit("second.other", SECOND)]
@@ -161,8 +179,8 @@ class Records(unittest.TestCase):
         file.parent.mkdir(parents=True, exist_ok=True)
         file.write_text(text)
 
-    def state(self, kit_line="kit 1"):
-        return record.Layers(self.root).state("high", kit_line)
+    def state(self, logic="0123"):
+        return record.Layers(self.root).state("high", logic)
 
     def test_bodies_proofs_and_comments_below_change_nothing(self):
         self.write("crates/low/src/lib.rt", CODE.replace("    n + 1\n}", "    1 + n\n}").replace("/// One more.", "/// Two."))
@@ -191,7 +209,7 @@ class Records(unittest.TestCase):
                 else:
                     file.write_text(old)
         self.assertEqual(self.state(), self.before)
-        self.assertNotEqual(self.state("kit 2"), self.before)
+        self.assertNotEqual(self.state("4567"), self.before)
 
     def test_a_crate_is_built_where_it_is_proved_and_where_an_earlier_run_proved_it(self):
         lines = {

@@ -78,7 +78,7 @@ class Edits:
         self.crates, self.tries_all = kit.crates_of(room), tries_all
         self.layers, self.commit = record.Layers(ROOT), git("rev-parse", "HEAD").strip()
         self.known = record.read(SUMS)
-        self.sums = {name: self.layers.state(name, kit.identity()) for name in self.layers.uses}
+        self.sums = {name: self.layers.state(name, kit.logic()) for name in self.layers.uses}
         self.running, self.at_work, self.guard = [], 0, threading.Lock()
         # Proofs come first: an edit's check gets what they leave of the processors.
         self.pool = concurrent.futures.ThreadPoolExecutor(kit.processors(), initializer=lambda: os.nice(10))
@@ -153,8 +153,8 @@ def prove(room, command, edits, pool, count):
 def run_gate(room, options):
     count, began = Count(), time.monotonic()
     copy_without_edits(room)
-    words = ["--anew"] if options.anew else []
-    command = ["rt", "ci", *words]
+    words = kit.proofs_from(options.anew)
+    command = ["rt", *words]
     if options.steps:
         command = [sys.executable, str(ROOT / "tests/gate/steps.py"), options.steps, *words]
         subprocess.Popen = steps.measured(options.steps, "edits")

@@ -74,7 +74,7 @@ class Steps:
 def try_edits(steps, layers, known):
     """Tries the edits of the crates that the record doesn't answer for, over the libraries that checks left."""
     sums = record.read(SUMS)
-    stale = [it for it in known if layers.edits(it) and layers.state(it, kit.identity()) != sums.get(it)]
+    stale = [it for it in known if layers.edits(it) and layers.state(it, kit.logic()) != sums.get(it)]
     print(f"the record doesn't answer for the edits of {len(stale)} crates: {' '.join(stale) or 'none'}")
     for name in stale:
         if steps.run(f"rt lib {name}", ["rt", "lib"], ROOT / "crates" / name):

@@ -26,9 +26,15 @@ def command():
     return rt
 
 
-def identity():
-    """The kit's own line, with the sum of its logic."""
-    return pathlib.Path(command().KIT, "KIT-ID").read_text().strip()
+def logic():
+    """The number of the kit's logic, the last word of its own line. Kits of other names that have it prove the same."""
+    return pathlib.Path(command().KIT, "KIT-ID").read_text().split()[-1]
+
+
+def proofs_from(anew):
+    """The words after `rt` that prove everything, all of it anew if that is wanted. Some kits keep no proof and know no word for this."""
+    keeps = "--anew" in pathlib.Path(command().__file__).read_text()
+    return ["ci", *["--anew"] * (anew and keeps)]
 
 
 def crates_of(room):
@@ -87,9 +93,10 @@ def is_unread(line, texts):
 def try_alone(crate, edit):
     """Tries one edit as the kit does, on the whole crate from nothing. Whether it is refused, and what to say."""
     rt = command()
-    counts = {rt.REFUSED: True, rt.AT_LIMIT: True, rt.BAD: False, rt.MISSED: False, rt.UNSURE: False}
-    kind, said = rt.must_fail(crate, str(edit), ["--jobs", "1"])
-    return counts[kind], said
+    answer, said = rt.must_fail(crate, str(edit), ["--jobs", "1"])
+    if isinstance(answer, bool):  # some kits say no more of an edit
+        return answer, said
+    return {rt.REFUSED: True, rt.AT_LIMIT: True, rt.BAD: False, rt.MISSED: False, rt.UNSURE: False}[answer], said
 
 
 def free_memory():

@@ -1,7 +1,7 @@
 """What the must-fail edits of each crate were refused on: tests/gate/refused.sums, a line a crate.
 
 Whether an edit is refused rests on the crate's own text, on the contracts, definitions and lemmas of the crates below, and
-on the kit. It doesn't rest on bodies below, since a proof reads none. So the sum of a crate is over these texts, without
+on the kit's logic. It doesn't rest on bodies below, since a proof reads none. So the sum of a crate is over these texts, without
 comments. Where it is as the record has it, a tenth of the crate's edits is tried, which the commit draws: a forged line is
 found out by one gate in ten for each edit. A crate that isn't in the record has all its edits tried.
 """
@@ -81,11 +81,11 @@ class Layers:
     def edits(self, name):
         return sorted((self.folder / name / "must-fail").glob("*.edit"))
 
-    def state(self, name, kit):
-        """A sum of all that the answers to a crate's edits rest on. The kit is its own line."""
+    def state(self, name, logic):
+        """A sum of all that the answers to a crate's edits rest on. The kit is told by the number of its logic."""
         own = texts(self.folder / name, "src", "specs", "proofs", "must-fail")
         below = [(it, seen_from_above(self.folder / it)) for it in self.below(name)]
-        return sum_of([kit, name, self.uses[name], own, below])
+        return sum_of([logic, name, self.uses[name], own, below])
 
 
 def read(path):

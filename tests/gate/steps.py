@@ -1,8 +1,8 @@
 #!/usr/bin/env python3
 """What each check of the gate costs, for docs/GATE.md.
 
-    steps.py LOG [--anew] runs `rt ci` in this folder; the gate's option --steps LOG does so
-    steps.py --sum LOG    prints the sums by crate and kind, and the ten dearest steps
+    steps.py LOG ci [--anew]  runs `rt ci` in this folder; the gate's option --steps LOG does so
+    steps.py --sum LOG        prints the sums by crate and kind, and the ten dearest steps
 
 A line of LOG is a check: CPU seconds, wall seconds, MB, what it was (proof, tests or edits), the crate. Written by the
 processes that the kit's command starts, which is read as a module (kit.py).
@@ -61,13 +61,13 @@ def main(words):
     if len(words) == 2 and words[0] == "--sum":
         print_sums(words[1])
         return 0
-    if len(words) not in (1, 2):
+    if words[1:2] != ["ci"]:
         print(__doc__, file=sys.stderr)
         return 2
     import kit
 
     subprocess.Popen = measured(os.path.abspath(words[0]))
-    return kit.command().main(["ci", *words[1:]])
+    return kit.command().main(words[1:])
 
 
 if __name__ == "__main__":
