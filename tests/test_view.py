@@ -15,9 +15,6 @@ from viewing import EXAMPLES, MADE, made, run, run_here, sections, settings, win
 
 from shb_view import command, counting, groups, names, progress
 
-BEHIND = ("A read that took the value of the write that it races with orders what follows it in its thread after that write: "
-          "races behind it are listed only once it is mended.")
-
 FORK_JOIN = """\
 fork-join.std: 1 race at 1 place, in 1 group (7 events, 2 threads, 0 locks, 2 variables)
 
@@ -50,13 +47,12 @@ FORK_JOIN_ALL = FORK_JOIN + """
 """
 
 # Three pairs of lines with a place in each order: two of them share the variable `total`.
-UNLOCKED_READ = f"""\
+UNLOCKED_READ = """\
 unlocked-read.std: 3 races at 2 places, in 2 groups (18 events, 3 threads, 1 lock, 3 variables)
-{BEHIND}
 
 1. items: main.c:11 is without lock (1 race, 1 place)
    In this trace lock is held at queue.c:22, and not at main.c:11.
-   main.c:11 read what queue.c:22 wrote: other races may be behind this one.
+   main.c:11 read what queue.c:22 wrote: races behind this one are listed only once it is mended.
    queue.c:22: 1 write by producer
      holds lock
      races with main.c:11 (1 race)
@@ -70,7 +66,7 @@ unlocked-read.std: 3 races at 2 places, in 2 groups (18 events, 3 threads, 1 loc
 
 2. closed: one thread writes (2 races, 1 place)
    In this trace only main writes, at main.c:12, and no lock is held at any access.
-   queue.c:29 read what main.c:12 wrote: other races may be behind this one.
+   queue.c:29 read what main.c:12 wrote: races behind this one are listed only once it is mended.
    main.c:12: 1 write by main
      no lock held
      races with queue.c:29 (2 races)
@@ -79,13 +75,12 @@ unlocked-read.std: 3 races at 2 places, in 2 groups (18 events, 3 threads, 1 loc
      races with main.c:12 (2 races)
 """
 
-ACCOUNT = f"""\
+ACCOUNT = """\
 account.std: 1 race at 1 place, in 1 group (12 events, 2 threads, 1 lock, 1 variable)
-{BEHIND}
 
 1. balance: account.c:8 is without door (1 race, 1 place)
    In this trace every write holds door, and account.c:8 reads without it.
-   account.c:8 read what account.c:10 wrote: other races may be behind this one.
+   account.c:8 read what account.c:10 wrote: races behind this one are listed only once it is mended.
    account.c:10: 2 reads and 2 writes by T1.pay and main
      holds door
      races with account.c:8 (1 race)
@@ -95,13 +90,12 @@ account.std: 1 race at 1 place, in 1 group (12 events, 2 threads, 1 lock, 1 vari
 """
 
 # A place in each order of its two locations is one place; the counts are those of `races`.
-PLACES = f"""\
+PLACES = """\
 places.std: 6 races at 2 places, in 1 group (4 events, 4 threads, 0 locks, 1 variable)
-{BEHIND}
 
 1. total: 3 threads write (6 races, 2 places)
    In this trace 3 threads write, and no lock is held at any access.
-   Report.java:30 read what Counter.java:12 wrote: other races may be behind this one.
+   Report.java:30 read what Counter.java:12 wrote: races behind this one are listed only once it is mended.
    Counter.java:12: 3 writes by T1, T2 and T4
      no lock held
      races with Counter.java:12 (3 races) and Report.java:30 (3 races)
@@ -210,6 +204,10 @@ class Facts(program.Case):
         self.assertEqual(self.said("A acq l 1", "A w x 2", "A rel l 3", "B r x 4", "C r x 5"),
                          ["In this trace every write holds l, and f.c:4 and f.c:5 read without it."])
 
+    def test_lines_are_in_the_order_of_their_numbers(self):
+        self.assertEqual(self.said("A w x 10", "A w x 9", "A w x 100", "B r x 4"),
+                         ["In this trace only A writes, at f.c:9, f.c:10 and f.c:100, and no lock is held at any access."])
+
     def test_a_line_that_sometimes_lacks_the_lock(self):
         self.assertEqual(self.said("A acq l 1", "A w x 2", "A rel l 3", "B r x 4", "B acq l 5", "B r x 4"),
                          ["In this trace every write holds l, and f.c:4 reads without it at some accesses."])
@@ -219,6 +217,20 @@ class Facts(program.Case):
                          ["In this trace l is held at f.c:2, and not at f.c:4."])
         self.assertEqual(self.said("A acq l 1", "A w x 2", "A rel l 3", "B w x 4", "B acq l 5", "B w x 4"),
                          ["In this trace l is held at f.c:2, and not always at f.c:4."])
+
+    def test_a_line_that_writes_and_sometimes_lacks_the_lock(self):
+        """As in a helper that one caller calls without the lock; of several such lines each is said."""
+        self.assertEqual(self.said("A acq l 1", "A w x 2", "A rel l 3", "B w x 2"), ["In this trace l is held at 1 of 2 accesses at f.c:2."])
+        self.assertEqual(self.said("A acq l 1", "A w x 2", "A w x 10", "A rel l 3", "B w x 2", "B w x 10"),
+                         ["In this trace l is held at 1 of 2 accesses at f.c:2 and 1 of 2 accesses at f.c:10."])
+
+    def test_lines_that_hold_different_locks(self):
+        """What tells most is that each holds a lock, not that one lacks the other's."""
+        lines = ["A acq l 1", "A w x 2", "A rel l 3", "B acq m 4", "B w x 10", "B rel m 6"]
+        self.assertEqual(self.said(*lines), ["In this trace f.c:2 holds l and f.c:10 holds m, and no lock is common to them."])
+        out = run_here([self.file(trace_of(*lines))])[1]
+        self.assertIn("\n1. x: f.c:2 and f.c:10 hold different locks (1 race, 1 place)\n", out)
+        self.assertNotIn("without", out)
 
     def test_a_write_under_a_read_lock(self):
         """The recorder names what reader T of rw holds `rw@reader.T`; the writer holds `rw`."""
@@ -254,8 +266,8 @@ class Facts(program.Case):
 
     def test_several_threads_write(self):
         self.assertEqual(self.said("A w x 1", "B w x 2"), ["In this trace 2 threads write, and no lock is held at any access."])
-        self.assertEqual(self.said("A w x 1", "B acq l 2", "B w x 1", "B rel l 4"),
-                         ["In this trace 2 threads write, and no lock is held at every access."])
+        self.assertEqual(self.said("A w x 1", "B acq l 2", "B w x 3", "B rel l 4", "C w x 3", "D w x 5", "D acq l 2", "D r x 6"),
+                         ["In this trace l is held at 1 of 2 accesses at f.c:3."])
 
     def test_one_thread_writes(self):
         self.assertEqual(self.said("A w x 1", "B acq l 2", "B r x 3"),
@@ -294,7 +306,7 @@ class Sites(program.Case):
     def lines(self, *events):
         """What is said, but for reads of what the other access wrote."""
         said = run_here([self.file(trace_of(*events))])[1].splitlines()
-        return [line for line in said if "this one" not in line and line != BEHIND]
+        return [line for line in said if "this one" not in line]
 
     def test_locks_held_not_held_and_sometimes(self):
         said = self.lines("A acq l 1", "A acq m 1", "A w x 2", "A rel m 3", "A rel l 3", "B r x 4", "B acq l 5", "B r x 4", "B acq n 6",
@@ -436,11 +448,10 @@ class Groups(program.Case):
         """A read that took the value of the write it races with; of two writes it took the later one's."""
         lines = ["A w x 1", "B r x 2", "A w y 3", "C w y 5", "B r y 4"]
         out = run_here([self.file(trace_of(*lines))])[1]
-        hides = "   f.c:{} read what f.c:{} wrote: other races may be behind this one.\n"
+        hides = "   f.c:{} read what f.c:{} wrote: races behind this one are listed only once it is mended.\n"
         self.assertIn(hides.format(2, 1), out)
         self.assertIn(hides.format(4, 5), out)
         self.assertEqual(out.count("behind this one"), 2)  # f.c:3 wrote before f.c:5 did
-        self.assertIn(f"\n{BEHIND}\n", out)
 
     def test_a_pair_has_no_order(self):
         text = trace_of("A w x 1", "B w x 2", "A w x 1")

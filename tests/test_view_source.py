@@ -132,15 +132,17 @@ class Found(program.Case):
         self.put("src/b.c")
         source = Source([self.folder / "src"], 2000, {})
         said = f"Source lines of {self.folder}/src: "
-        self.assertEqual(source.summary([b"a.c:1", b"a.c:2", b"b.c:1", b"c.c:1", b"?"]), said + "2 of 3 files found, 1 newer than the trace.")
+        self.assertEqual(list(source.missing([b"a.c:1", b"a.c:2", b"b.c:1", b"c.c:1", b"?"])),
+                         [said + "2 of 3 files found, 1 newer than the trace."])
+        self.assertEqual(list(source.missing([b"b.c:1", b"c.c:1"])), [said + "1 of 2 files found, none newer than the trace."])
         kept, source_lines.MOST_FILES = source_lines.MOST_FILES, 2
         self.addCleanup(setattr, source_lines, "MOST_FILES", kept)
         self.put("src/c.c")
         source = Source([self.folder / "src"], 2000, {})
         self.assertEqual(source.files, 2)
-        self.assertTrue(source.summary([b"b.c:1"]).endswith(" Only 2 files were looked at."))
+        self.assertTrue(list(source.missing([b"b.c:1"]))[0].endswith(" Only 2 files were looked at."))
         source_lines.MOST_FILES = kept
-        self.assertEqual(Source([self.folder / "src"], 2000, {}).summary([b"b.c:1"]), said + "1 of 1 file found, none newer than the trace.")
+        self.assertEqual(list(Source([self.folder / "src"], 2000, {}).missing([b"b.c:1"])), [])
 
 
 class Excerpts(program.Case):
@@ -185,11 +187,10 @@ class Shown(program.Case):
         return out
 
     def test_text_by_hand(self):
-        self.assertEqual(self.shown().splitlines()[2:], [
-            f"Source lines of {self.folder}: 1 of 1 file found, none newer than the trace.", "",
-            "1. total: a.c:3 is without door (1 race, 1 place)",
+        self.assertEqual(self.shown().splitlines()[1:], [
+            "", "1. total: a.c:3 is without door (1 race, 1 place)",
             "   In this trace every write holds door, and a.c:3 reads without it.",
-            "   a.c:3 read what a.c:8 wrote: other races may be behind this one.",
+            "   a.c:3 read what a.c:8 wrote: races behind this one are listed only once it is mended.",
             "   a.c:8: 1 write by A", "     | total++;", "     holds door", "     races with a.c:3 (1 race)",
             "   a.c:3: 1 read by B", "     | static int total;", "     no lock held", "     races with a.c:8 (1 race)"])
 

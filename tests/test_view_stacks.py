@@ -89,6 +89,19 @@ class Stacks(program.Case):
         self.assertIn("lock m, held at a.c:5, was taken at", [text for _, text in page.all("p")])
         self.assertIn("make a.c:9main a.c:31", [text for _, text in page.all("ol", "stack")])
 
+    def test_the_caller_is_said_above_a_folded_stack(self):
+        """The next function of the program's own code, beside the line of code; a stack of one function has none."""
+        page, code = self.folder / "page.html", self.file(b"\n" * 9, "code")
+        tables = TABLES + b"source a.c\t%b\n" % bytes(code)
+        for nodes, words in (([1, 2, 5, 5, 7], ["called from run a.c:20", "called from main a.c:31"]), ([1, 1, 5, 5, 7], ["call stack"])):
+            self.shown(stacks(nodes, tables), "--recorded-source", "--html", page)
+            self.assertEqual([text for _, text in Page(page.read_text()).all("summary")][:len(words)], words)
+
+    def test_a_lock_that_both_accesses_hold_for_reading_was_taken_once(self):
+        trace = b"main|fork(T1)|a.c:1\nT1|acq(m@reader.T1)|a.c:4\nT1|w(x)|a.c:5\nmain|acq(m@reader.main)|a.c:4\nmain|w(x)|a.c:5\n"
+        out = self.shown(stacks([1, 9, 5, 9, 5]), "--all", trace=trace)[1]
+        self.assertEqual(out.count("   lock m for reading, held at a.c:5, was taken in make a.c:9, from main a.c:31\n"), 1)
+
     def test_a_window_has_a_shift(self):
         _, whole, _ = self.shown(stacks())
         _, window, err = self.shown(stacks([1, 1, *NODES]), "--shift", "2")
@@ -108,7 +121,7 @@ class Stacks(program.Case):
         """In the trace a free is a write, and orders what follows such a read; but it wrote nothing."""
         trace = b"main|fork(T1)|a.c:1\nmain|w(a.c:9#2)|a.c:7\nT1|r(a.c:9#2)|a.c:5\n"
         _, out, _ = self.shown(stacks(tables=TABLES + b"free 2 2\n"), trace=trace)
-        self.assertIn("   a.c:5 read what a.c:7 freed: other races may be behind this one.\n", out)
+        self.assertIn("   a.c:5 read what a.c:7 freed: races behind this one are listed only once it is mended.\n", out)
 
     def test_an_atomic_that_hands_on_without_order(self):
         """The trace need not have it. With release and acquire it orders, and is no reason; nor is one that one of the threads alone uses."""
@@ -121,6 +134,31 @@ class Stacks(program.Case):
             _, out, err = self.shown(stacks(tables=TABLES + tables.encode()), trace=trace)
             self.assertEqual((err, "use the atomic" in out), ("", words is not None))
             self.assertTrue(words is None or says.format(*words) + "   In this trace only main writes" in out, out)
+
+    def test_what_hands_on_without_order_is_the_headline(self):
+        trace = b"main|fork(T1)|a.c:1\nmain|w(a.c:9#2)|a.c:5\nT1|r(a.c:9#2)|a.c:7\nmain|join(T1)|a.c:8\nmain|fork(T2)|a.c:9\n"
+        page = self.folder / "page.html"
+        for store, load, words in (("relaxed", "acquire", "a.c:6 writes slot relaxed"), ("release", "relaxed", "a.c:4 reads slot relaxed"),
+                                   ("both", "both", "one thread writes")):
+            tables = f"atomic slot\tmain\ta.c:6\tstore {store}\natomic slot\tT1\ta.c:4\tload {load}\n"
+            out = self.shown(stacks(tables=TABLES + tables.encode()), "--text", "--html", page, trace=trace)[1]
+            self.assertIn(f"1. a.c:9#2: {words} (1 race, 1 place)\n", out)
+            self.assertEqual(([text for _, text in Page(page.read_text()).all("h2")], [text for _, text in Page(page.read_text()).all("span", "tag")]),
+                             ([f"1 a.c:9#2: {words}"], [words]))
+
+    def test_the_callers_that_hold_no_lock(self):
+        """Of a line that holds one at other accesses: add, as `main` calls it here. Where all accesses hold none, nothing more is said."""
+        trace = (b"main|fork(T1)|a.c:30\nT1|acq(l)|a.c:20\nT1|w(a.c:9#2+8)|a.c:5\nT1|rel(l)|a.c:20\n"
+                 b"main|w(a.c:9#2+8)|a.c:5\n")
+        page = self.folder / "page.html"
+        out = self.shown(stacks([1, 2, 2, 2, 5]), "--text", "--html", page, trace=trace)[1]
+        self.assertIn("In this trace l is held at 1 of 2 accesses at a.c:5.", out)
+        self.assertIn("     in add<> (1 of 2 racing accesses)\n       from std::each each.h:8\n", out)
+        self.assertIn("     in add<> (1 of 2 racing accesses, no lock held)\n       from main a.c:31\n", out)
+        found = Page(page.read_text())
+        self.assertEqual([text for _, text in found.all("p", "faint") if "racing" in text],
+                         ["1 of 2 racing accesses", "1 of 2 racing accesses, no lock held"])
+        self.assertNotIn("accesses, no lock held", self.shown(stacks())[1])
 
     def test_sources_that_were_recorded(self):
         """Only where that is asked for, for a file may name any path."""

@@ -131,9 +131,9 @@ class Stacks:
         found = BLOCK.fullmatch(name)
         return self.blocks.get(int(found[1]), ()) if found else ()
 
-    def counted(self, events):
-        """The stacks of some events, each with how many have it, the most frequent first."""
-        return collections.Counter(map(self.of_event, sorted(events))).most_common()
+    def counted(self, events, marked):
+        """The stacks of some events, each with whether the event is a marked one, and how many are so, the most frequent first."""
+        return collections.Counter((self.of_event(event), event in marked) for event in sorted(events)).most_common()
 
 
 class NoStacks:
@@ -152,7 +152,7 @@ class NoStacks:
     def free_of(self, event):
         return None
 
-    def counted(self, events):
+    def counted(self, events, marked):
         return []
 
 

@@ -57,10 +57,12 @@ class Kinds:
 
 
 class Counting:
-    def __init__(self, groups, lines, wanted, kinds, reads):
-        """`groups` has a number for each racing variable, `lines` the line of each event that the report names; `wanted` are
-        the accesses to be noted, `kinds` says what an access is, `reads` has the writes before a read that it races with."""
-        self.groups, self.lines, self.wanted, self.access_kinds, self.reads = groups, lines, wanted, kinds, reads
+    def __init__(self, groups, gathered, wanted, kinds):
+        """`groups` has a number for each racing variable, `gathered` what the report says; `wanted` are the accesses to be noted,
+        `kinds` says what an access is."""
+        self.groups, self.lines, self.wanted, self.access_kinds, self.reads = groups, gathered.lines, wanted, kinds, gathered.reads
+        self.racing = set().union(*gathered.racing.values())
+        self.bare = set()  # those of the racing events whose thread holds no lock
         # By group, how many accesses there are of each kind: its location (None where lines aren't told apart any more),
         # thread, word of `words.KINDS` and the names of the locks held (None where they aren't counted).
         self.counts = collections.defaultdict(dict)
@@ -120,6 +122,8 @@ class Counting:
             self.seen.add(self.reads[number][self.writes[variable]])
         thread, _, *location = line.split(b"|", 2)
         held = self.held[thread]
+        if number in self.racing and not held.locks:
+            self.bare.add(number)
         if number in self.wanted:
             self.noted[number] = Noted(array.array("I", self.recent[thread]), *held.newest())
         counts, thread = self.counts[group], self.names.setdefault(thread, thread)

@@ -5,6 +5,7 @@ import collections
 import typing
 
 from shb_view.held import read_lock
+from shb_view.names import by_numbers
 from shb_view.words import Code, counted, listed, place
 
 MOST_NAMED = 3  # lines in a sentence
@@ -78,7 +79,7 @@ def sites_of(group, counts):
         for location, partner in {(one, other), (other, one)}:
             if location in sites:
                 sites[location].partners[partner] = pair.races
-    order = sorted(sites.values(), key=lambda site: (site.location is None, site.location))
+    order = sorted(sites.values(), key=lambda site: (site.location is None, by_numbers(site.location or b"")))
     return sorted(order, key=lambda site: (site.location not in racing, not site.writes(), -site.total()))
 
 
@@ -94,7 +95,7 @@ def fact_of(sites, whole):
         found = fact(sites, whole)
         if found:
             return found
-    for fact in (written_under_read_lock, held_at_all, held_at_writes, held_at_some):
+    for fact in (written_under_read_lock, held_at_all, held_at_writes, held_apart, held_at_some, held_sometimes):
         for lock in names:
             found = fact(sites, lock, whole)
             if found:
@@ -157,6 +158,16 @@ def held_at_writes(sites, lock, whole):
     return Fact(1, tag_of(without, lock), sentence, lock)
 
 
+def held_apart(sites, lock, whole):
+    """Racing lines that all hold locks at every access, but none that is common to them."""
+    held = {site.location: {name for name in (*site.locks, *site.reading) if not site.lacks(name)} for site in sites if site.partners}
+    if not all(held.values()) or set.intersection(*held.values()) or not any(lock in names for names in held.values()):
+        return None
+    holds = listed([[place(location), " holds ", Code(lock if lock in names else min(names))] for location, names in held.items()], MOST_NAMED)
+    lines = listed([[place(location)] for location in held], MOST_NAMED)
+    return Fact(2, [*lines, " hold different locks"], [f"In this {whole} ", *holds, ", and no lock is common to them."], None)
+
+
 def held_at_some(sites, lock, whole):
     """A lock that some racing line which writes holds, and another racing line doesn't."""
     racing = [site for site in sites if site.partners]
@@ -167,6 +178,15 @@ def held_at_some(sites, lock, whole):
     not_at = ", and not always at " if any(site.guarded(lock) for site in without) else ", and not at "
     sentence = [f"In this {whole} ", Code(lock), " is held at ", *lines_of(holding), not_at, *lines_of(without), "."]
     return Fact(2, tag_of(without, lock), sentence, lock)
+
+
+def held_sometimes(sites, lock, whole):
+    """A lock that racing lines which write hold at some of their accesses."""
+    some = [site for site in sites if site.partners and site.writes() and site.guarded(lock)]
+    if not some:
+        return None
+    counts = [[f"{site.guarded(lock):,} of {counted(site.total(), 'access', 'accesses')} at ", place(site.location)] for site in some]
+    return Fact(2, tag_of(some, lock), [f"In this {whole} ", Code(lock), " is held at ", *listed(counts, MOST_NAMED), "."], lock)
 
 
 def lines_of(sites):

@@ -3,6 +3,7 @@ they are the same: what doesn't print, what can't be seen and what isn't UTF-8 i
 
 import bisect
 import functools
+import re
 import unicodedata
 
 MOST_MARKS = 3  # combining marks that stay with one character
@@ -47,6 +48,11 @@ def isolated(found):
     text = "".join(found)
     is_right_to_left = any(unicodedata.bidirectional(character) in ("R", "AL", "AN") for character in text)
     return f"{ISOLATE}{text}{END}" if is_right_to_left else text
+
+
+def by_numbers(location):
+    """What locations are sorted by: by the numbers in them where they differ in these."""
+    return [part.rjust(20, b"0") if part.isdigit() else part for part in re.split(rb"([0-9]+)", location)]
 
 
 def columns(text):

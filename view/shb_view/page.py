@@ -10,9 +10,9 @@ from shb_view.markup import Markup, code, element, joined, marked
 from shb_view.names import code_line, short
 from shb_view.picture import picture
 from shb_view.source import excerpt
-from shb_view.stacks import frame_parts, origins, sentences
+from shb_view.stacks import frame_parts, headline, origins, sentences
 from shb_view.words import (VERBS, MOST_SITES, MOST_THREADS, MOST_VARIABLES, NO_LOCK, Code, accesses_text, counted, listed,
-                            lock_parts, lock_words, notes_of, partner_parts, place, races_text, seen_parts, summary)
+                            lock_parts, lock_words, notes_of, partner_parts, place, races_text, seen_parts, share, summary)
 
 HERE = pathlib.Path(__file__).resolve().parent
 NAME = 80  # columns
@@ -74,7 +74,7 @@ def group_list(view):
     rows = []
     for number, section in enumerate(view.sections, 1):
         link = element("a", f"{number}. ", marked(group_name(view, section.group), NAME), href=f"#g{number}")
-        tag = element("span", marked(section.fact.tag, NAME), class_="tag")
+        tag = element("span", marked(headline(view, section), NAME), class_="tag")
         races = element("span", races_text(section.group), class_="faint")
         rows.append(element("li", link, " ", tag, " ", races, element("p", marked(sentences(view, section)[0], NAME)),
                             class_=f"rank{section.fact.rank}"))
@@ -88,7 +88,7 @@ def section_part(view, number, section):
     anchor = f"g{number}e"
     first, *others = sentences(view, section)
     parts = [element("h2", element("a", number, href=f"#g{number}"), " ", marked(group_name(view, section.group), NAME), ": ",
-                     marked(section.fact.tag, NAME)),
+                     marked(headline(view, section), NAME)),
              element("p", marked(first, NAME), " ", races_text(section.group), ". ",
                      element("a", "All groups", href="#groups", class_="back"))]
     parts += [element("p", marked(words, NAME)) for words in [*others, *seen_parts(section)]]
@@ -181,9 +181,9 @@ def frame_list(frames):
 def stack_lists(callers):
     """The stacks of some racing accesses, each with how many have it."""
     total, parts = sum(count for _, count in callers), []
-    for frames, count in callers[:MOST_STACKS]:
+    for (frames, is_bare), count in callers[:MOST_STACKS]:
         if len(callers) > 1:
-            parts.append(element("p", f"{count:,} of {counted(total, 'racing access', 'racing accesses')}", class_="faint"))
+            parts.append(element("p", share(count, total, is_bare), class_="faint"))
         parts.append(frame_list(frames) if frames else element("p", "no stack is known", class_="faint"))
     if len(callers) > MOST_STACKS:
         parts.append(element("p", f"and {counted(len(callers) - MOST_STACKS, 'more stack')}", class_="faint"))
@@ -195,15 +195,17 @@ def callers_details(section):
     found = [(site.location, section.callers[site.location]) for site in section.sites[:MOST_SITES]
              if section.callers.get(site.location)]
     figures = [element("figure", element("figcaption", marked([place(location)], NAME)), *stack_lists(callers))
-               for location, callers in found if any(frames for frames, _ in callers)]
+               for location, callers in found if any(frames for (frames, _), _ in callers)]
     stacks = sum(len(callers) for _, callers in found)
     words = f"Called from: {counted(stacks, 'stack')} of the racing {'line' if len(figures) == 1 else 'lines'}"
     return element("details", element("summary", words), element("div", *figures, class_="pair stacks")) if figures else None
 
 
 def access_details(frames):
-    """The stack of a shown access."""
-    return element("details", element("summary", "called from"), frame_list(frames), class_="callers") if frames else ""
+    """The stack of a shown access, folded below the caller of its line's function in the program's own code."""
+    _, *callers = [frame for frame in frames if not frame.in_system] or [None]
+    words = ["called from ", *frame_parts(callers[0])] if callers else ["call stack"]
+    return element("details", element("summary", marked(words, NAME)), frame_list(frames), class_="callers") if frames else ""
 
 
 def origin_details(view, section):

@@ -88,15 +88,17 @@ class Source:
     def has_files(self):
         return bool(self.folders or self.recorded)
 
-    def summary(self, locations):
-        """How many files of these locations are found and how many are newer than the trace, in words."""
+    def missing(self, locations):
+        """How many files of these locations are found and how many are newer than the trace, in words; nothing where all are as they
+        should be."""
         places = {match[1]: self.place(location) for location in locations for match in [LOCATION.fullmatch(location)] if match}
         found = [place for place in places.values() if place and place.lines]
         newer = sum(place.is_newer for place in found)
         folders = ", ".join([*(shown(os.fsencode(folder)) for folder in self.folders), *["the recorded program"] * bool(self.recorded)])
         some = f" Only {MOST_FILES:,} files were looked at." if self.files >= MOST_FILES else ""
-        return (f"Source lines of {folders}: {len(found)} of {counted(len(places), 'file')} found, "
-                f"{newer or 'none'} newer than the trace.{some}")
+        if newer or some or len(found) < len(places):
+            yield (f"Source lines of {folders}: {len(found)} of {counted(len(places), 'file')} found, "
+                   f"{newer or 'none'} newer than the trace.{some}")
 
 
 def read_lines(file):

@@ -34,7 +34,7 @@ def origins(view, section):
     for shown in [window.events[access] for access in window.accesses] if window else []:
         found += [(["lock ", *lock_parts(lock), ", held at ", place(shown.event.location), ", was taken"], view.stacks.of_event(acquire))
                   for lock, acquire in shown.locks]
-    return [(parts, frames) for parts, frames in found if frames]
+    return [(list(parts), frames) for parts, frames in dict.fromkeys((tuple(parts), frames) for parts, frames in found if frames)]
 
 
 def publications(view, section):
@@ -54,6 +54,14 @@ def publications(view, section):
             if store.thread != load.thread and not (store.gives() and load.takes()):
                 found.setdefault((store.name, store.location, load.location), (store, load))
     return list(found.values())
+
+
+def headline(view, section):
+    """The group's fact in a few words, or the first atomic by which its threads hand on something without order."""
+    for store, load in publications(view, section)[:1]:
+        use, verb = (load, " reads ") if store.gives() else (store, " writes ")
+        return [place(use.location), verb, Code(use.name), " ", WITH[use.order]]
+    return section.fact.tag
 
 
 def sentences(view, section):

@@ -6,9 +6,9 @@ from shb_common import known
 from shb_view.groups import group_name
 from shb_view.issue import issue_lines
 from shb_view.names import code_line, columns, padded, short
-from shb_view.stacks import caller_lines, origins, sentences
+from shb_view.stacks import caller_lines, headline, origins, sentences
 from shb_view.words import (MOST_SITES, MOST_THREADS, MOST_VARIABLES, Code, accesses_text, counted, listed, lock_words, notes_of,
-                            operation_text, partner_parts, place, races_text, seen_parts, summary)
+                            operation_text, partner_parts, place, races_text, seen_parts, share, summary)
 
 NAME = 80  # columns of a name or a location
 LINE = 100  # columns of a line of code
@@ -72,7 +72,7 @@ def chosen_sections(view):
 
 def section_lines(view, number, section, colours):
     name = flat(group_name(view, section.group))
-    yield colours.bold(f"{number}. {name}: {flat(section.fact.tag)}") + f" ({races_text(section.group)})"
+    yield colours.bold(f"{number}. {name}: {flat(headline(view, section))}") + f" ({races_text(section.group)})"
     yield from (f"   {flat(parts)}" for parts in [*sentences(view, section), *seen_parts(section)])
     if len(section.group.variables) > 1:
         yield f"   Variables: {flat(listed([[Code(name)] for name in section.group.variables], MOST_VARIABLES))}"
@@ -104,11 +104,11 @@ def site_lines(view, section, site, colours):
 def stack_lines(callers):
     """The stacks of a line's racing accesses. Those that differ in what isn't shown are one."""
     shown = collections.Counter()
-    for frames, count in callers:
+    for (frames, is_bare), count in callers:
         first, *others = caller_lines(frames, MOST_FRAMES) or [["(no stack is known)"]]
-        shown[(flat(first[:1]), *map(flat, others))] += count
-    for (first, *others), count in shown.most_common(MOST_STACKS):
-        some = f" ({count:,} of {counted(sum(shown.values()), 'racing access', 'racing accesses')})" if len(shown) > 1 else ""
+        shown[(is_bare, flat(first[:1]), *map(flat, others))] += count
+    for (is_bare, first, *others), count in shown.most_common(MOST_STACKS):
+        some = f" ({share(count, sum(shown.values()), is_bare)})" if len(shown) > 1 else ""
         yield f"     in {first}{some}"
         yield from (f"       from {parts}" for parts in others)
     if len(shown) > MOST_STACKS:

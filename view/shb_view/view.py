@@ -15,7 +15,7 @@ from shb_view.counting import Counting, Kinds
 from shb_view.facts import Fact, Site, fact_of, sites_of
 from shb_view.faults import Refused
 from shb_view.groups import Gathered, Group, joined_groups, object_of
-from shb_view.names import shown
+from shb_view.names import by_numbers, shown
 from shb_view.refused import warnings
 from shb_view.source import Source
 from shb_view.stacks import stacks_of
@@ -41,7 +41,7 @@ class Section(typing.NamedTuple):
     sites: typing.List[Site]
     fact: Fact
     window: typing.Optional[Window]
-    callers: dict  # by racing line: the stacks of its racing accesses, each with how many have it
+    callers: dict  # by racing line: the stacks of its racing accesses, as `callers_of` gives them, each with how many have it
     seen: typing.List[typing.Tuple[bytes, bytes]]  # lines of races where the second reads what the first wrote
 
 
@@ -96,9 +96,8 @@ def make_view(options, progress):
         is_whole = bool(options.html or options.all)
         whole = "window" if options.window else "trace"
         stacks = stacks_of(options.stacks, options.shift, head.counts.events) if options.stacks else NoStacks()
-        asked = Asked(is_whole, whole, Kinds(gathered.atomics, stacks), gathered.lines, gathered.reads, head.counts.events)
+        asked = Asked(is_whole, whole, Kinds(gathered.atomics, stacks), gathered, head.counts.events)
         count, sections = make_sections(asked, Trace(file, progress), given, groups)
-        sections = [section._replace(callers=callers_of(section.group, gathered.racing, stacks)) for section in sections]
         title = shown(os.fsencode(options.title or os.path.basename(options.trace)))
         pairs = sum(len(group.pairs) for group in groups)
         source = Source(options.source, os.fstat(file.fileno()).st_mtime, stacks.sources if options.recorded_source else {})
@@ -186,14 +185,12 @@ def read_report(given, counts, gathered, progress):
 
 class Asked(typing.NamedTuple):
     """What is asked of a trace. `is_whole` says whether windows are shown too, `whole` what the facts are of: a trace or a window of
-    one; `lines` are those of the events that the report names, `reads` the writes that a read races with; `events` is how many events
-    the trace has."""
+    one; `gathered` is what the report says, and `events` how many events the trace has."""
 
     is_whole: bool
     whole: str
     kinds: Kinds
-    lines: dict
-    reads: dict
+    gathered: Gathered
     events: int
 
 
@@ -204,11 +201,11 @@ def make_sections(asked, trace, given, groups):
         return 0, []
     wanted = {access for group in groups for access in group.accesses()}
     variables = {variable: number for number, group in enumerate(groups) for variable in group.names}
-    counting = Counting(variables, asked.lines, wanted, asked.kinds, asked.reads)
+    counting = Counting(variables, asked.gathered, wanted, asked.kinds)
     try:
         counting.read(trace, asked.events)
         merged = merged_groups(groups, counting.counts)
-        sections = [make_section(*merged[number], asked.whole, counting.seen) for number in first_groups(merged)]
+        sections = [make_section(*merged[number], asked, counting) for number in first_groups(merged)]
         if asked.is_whole:
             windows = make_windows(trace, [section.group.closest() for section in sections], counting, given.order)
             sections = [section._replace(window=window) for section, window in zip(sections, windows)]
@@ -246,16 +243,18 @@ def first_groups(merged):
     return [number for _, _, number in sorted(order)[:MOST_GROUPS]]
 
 
-def make_section(group, counts, whole, seen):
-    """`seen` are the locations of races where the second access reads what the first wrote, of all groups."""
+def make_section(group, counts, asked, counting):
+    """A group as it is shown, but for its window."""
     sites, places = sites_of(group, counts), group.places()
-    return Section(group, sites, fact_of(sites, whole), None, {}, sorted(pair for pair in seen if tuple(sorted(pair)) in places))
+    seen = sorted((pair for pair in counting.seen if tuple(sorted(pair)) in places), key=lambda pair: list(map(by_numbers, pair)))
+    return Section(group, sites, fact_of(sites, asked.whole), None, callers_of(group, asked, counting.bare), seen)
 
 
-def callers_of(group, racing, stacks):
-    """The stacks of the racing accesses of each racing line."""
+def callers_of(group, asked, bare):
+    """The stacks of the racing accesses of each racing line, each with whether it is told that no lock is held: where that is so at
+    some of them. `bare` are the events at which none is."""
     events = {}
     for variable in group.names:
         for location in group.locations():
-            events.setdefault(location, set()).update(racing.get((variable, location), ()))
-    return {location: stacks.counted(found) for location, found in events.items()}
+            events.setdefault(location, set()).update(asked.gathered.racing.get((variable, location), ()))
+    return {location: asked.kinds.stacks.counted(found, bare if found & bare != found else set()) for location, found in events.items()}

@@ -2,7 +2,7 @@
 that race, whatever their order; a group is the places that share a variable."""
 
 from shb_view.held import read_lock
-from shb_view.names import short
+from shb_view.names import by_numbers, short
 
 KINDS = {b"r": "read", b"w": "write", b"a": "atomic write", b"f": "free"}
 VERBS = {b"r": "reads", b"w": "writes", b"a": "writes atomically", b"f": "frees"}
@@ -77,9 +77,14 @@ def accesses_text(site):
     return "".join(listed([[counted(site.accesses[word], KINDS[word])] for word in KINDS if site.accesses[word]], len(KINDS)))
 
 
+def share(count, total, is_bare):
+    """How many of a line's racing accesses have a stack, and that they hold no lock where others do."""
+    return f"{count:,} of {counted(total, 'racing access', 'racing accesses')}" + (f", {NO_LOCK}" if is_bare else "")
+
+
 def partner_parts(site):
     """The lines that a line races with, most races first."""
-    partners = sorted(site.partners.items(), key=lambda item: (-item[1], item[0]))
+    partners = sorted(site.partners.items(), key=lambda item: (-item[1], by_numbers(item[0])))
     return listed([[place(location), f" ({counted(races, 'race')})"] for location, races in partners], MOST_PARTNERS)
 
 
@@ -104,20 +109,19 @@ def notes_of(view):
     if view.is_sample:
         yield ("The trace has too many races to look at each. Of each place one is known, and what is said of a group holds for "
                "the variables of these.")
-    if any(section.seen for section in view.sections):
-        yield ("A read that took the value of the write that it races with orders what follows it in its thread after that write: "
-               "races behind it are listed only once it is mended.")
     if view.source.has_files() and view.sections:
         shown = [site.location for section in view.sections for site in section.sites[:MOST_SITES] if site.location]
-        yield view.source.summary(shown)
+        yield from view.source.missing(shown)
 
 
 def seen_parts(section):
-    """What is said where the second access of a race reads what the first wrote, as parts for each such pair of lines."""
+    """What is said where the second access of a race reads what the first wrote, as parts for each such line and what it did."""
     frees = {site.location for site in section.sites if site.accesses[b"f"]}
-    for writer, reader in section.seen[:MOST_SOME]:
-        verb = "freed" if writer in frees else "wrote"
-        yield [place(reader), " read what ", place(writer), f" {verb}: other races may be behind this one."]
+    readers = {}
+    for writer, reader in section.seen:
+        readers.setdefault((reader, "freed" if writer in frees else "wrote"), []).append([place(writer)])
+    for (reader, verb), writers in [*readers.items()][:MOST_SOME]:
+        yield [place(reader), " read what ", *listed(writers, MOST_SOME), f" {verb}: races behind this one are listed only once it is mended."]
 
 
 def races_text(group):
