@@ -29,8 +29,8 @@ TEST_CRATES = ("shb_run_tests", "shb_tests")
 # Which folders' changes are tested by which tests, all on the built program.
 SUITES = {
     "tests": ("tests/", "view/", "common/", "plain/", "examples/", "crates/"),
-    "recorder/tests": ("recorder/", "view/", "common/"),
-    "farm/tests": ("farm/", "common/"),
+    "recorder/tests": ("recorder/", "view/", "common/", "tests/side_by_side.py"),
+    "farm/tests": ("farm/", "common/", "tests/side_by_side.py"),
     "install/tests": ("install/", "Makefile"),
 }
 
