@@ -38,8 +38,8 @@ def origins(view, section):
 
 
 def publications(view, section):
-    """Atomics that a racing thread which writes stores to and another racing thread loads, without an order that the language gives:
-    each as the store and the load. Where a lock tells what is missing there are none."""
+    """The first few atomics that a racing thread which writes stores to and another racing thread loads, without an order that the
+    language gives: each as the store and the load. Where a lock tells what is missing there are none."""
     if section.fact.lock or section.fact.rank == 1:
         return []
     racing = [site for site in section.sites if site.partners]
@@ -53,7 +53,9 @@ def publications(view, section):
         for load in loads.get(store.name, []) if store.thread in writers and store.publishes() else []:
             if store.thread != load.thread and not (store.gives() and load.takes()):
                 found.setdefault((store.name, store.location, load.location), (store, load))
-    return list(found.values())
+                if len(found) == MOST_ATOMICS:
+                    return found.values()
+    return found.values()
 
 
 def headline(view, section):
@@ -71,7 +73,7 @@ def sentences(view, section):
 
 def publication_parts(view, section):
     """What is said of atomics by which a group's threads hand on something without order, as parts for each."""
-    for store, load in publications(view, section)[:MOST_ATOMICS]:
+    for store, load in publications(view, section):
         yield [Code(store.thread), " and ", Code(load.thread), " use the atomic ", Code(store.name), ": ", place(store.location), f" writes it {WITH[store.order]}, ", place(load.location),
                f" reads it {WITH[load.order]}. A write with release and a read with acquire would order what stands before the one and "
                "after the other."]
