@@ -50,7 +50,7 @@ fn has_many(located: &Located<'_, '_>, events: u32, races: u64, accesses: u32) -
 #[derive(Drop)]
 struct Many<'a> {
     tables: Tables<'a>,
-    room: Room<'a>,
+    room: Room,
 }
 
 /// What the races of the variable of a search are counted by: what is known, if it is of this variable.
@@ -75,7 +75,7 @@ fn many_of<'a, O: Order>(
     let tables = tables_of(alloc, numbers, search)?;
     Ok(Many {
         tables,
-        room: Room::new(alloc, search),
+        room: Room::new(alloc),
     })
 }
 

@@ -8,7 +8,7 @@ use crate::prefix_counts::PrefixCounts;
 use crate::span_counts::{Rows, counts_in_spans};
 use shb_clocks::{Order, Ordered};
 use shb_io::NoMemory;
-use shb_pairs::{Cursors, Search, Span, racing_spans};
+use shb_pairs::{Cursors, Span, racing_spans};
 use std::alloc::Global;
 
 /// The numbers of the events at some positions, of a list with the number of each event.
@@ -33,16 +33,16 @@ pub(crate) fn numbers_at(
 
 /// What the races of one later access after another are counted with: where the search for those of the
 /// last one ended, and room for its spans and counts.
-pub(crate) struct Room<'a> {
+pub(crate) struct Room {
     pub(crate) alloc: Global,
-    cursors: Cursors<'a>,
+    cursors: Cursors,
     spans: Vec<Span>,
     /// The counts that were made last.
     pub(crate) rows: Rows,
 }
 
 // By hand: a derived one stands in each function that drops the room, with a step for each part.
-impl<'a> Drop for Room<'a> {
+impl Drop for Room {
     fn drop(self) {
         let Room {
             alloc: _,
@@ -53,12 +53,12 @@ impl<'a> Drop for Room<'a> {
     }
 }
 
-impl<'a> Room<'a> {
-    /// The room for the later accesses of the variable of a search.
-    pub(crate) fn new<O: Order>(alloc: Global, search: &Search<'_, 'a, O>) -> Room<'a> {
+impl Room {
+    /// The room for the later accesses of one variable.
+    pub(crate) fn new(alloc: Global) -> Room {
         Room {
             alloc,
-            cursors: Cursors::new(alloc, search),
+            cursors: Cursors::new(alloc),
             spans: Vec::new(alloc),
             rows: Rows::new(alloc),
         }
@@ -74,7 +74,7 @@ impl<'a> Room<'a> {
 ///
 /// `NoMemory` where a growth was refused.
 pub(crate) fn racing_counts<O: Order>(
-    room: &mut Room<'_>,
+    room: &mut Room,
     ordered: &Ordered<'_, O>,
     positions: &[u32],
     table: &PrefixCounts,

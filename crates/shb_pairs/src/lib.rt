@@ -30,7 +30,6 @@ mod rivals;
 mod screen;
 mod search;
 mod spans;
-mod thread_ends;
 
 pub use accesses::{Accesses, Which, accesses_of, accesses_of_open};
 pub use job::{PairJob, RangeJob};

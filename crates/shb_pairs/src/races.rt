@@ -25,7 +25,7 @@ fn add_races<'a, O: Order>(
     alloc: Global,
     races: &mut RaceRanges<'a>,
     search: &Search<'_, 'a, O>,
-    cursors: &mut Cursors<'_>,
+    cursors: &mut Cursors,
     second: u32,
 ) -> Result<(), NoMemory>
     requires accessed { variable_at search.now.ordered.now.disciplined.now.events.now second ≡ Some search.now.variable }
@@ -148,7 +148,7 @@ fn add_races_at<'a, O: Order>(
     alloc: Global,
     races: &mut RaceRanges<'a>,
     search: &Search<'_, 'a, O>,
-    cursors: &mut Cursors<'_>,
+    cursors: &mut Cursors,
     free_write: Option<usize>,
     index: usize,
 ) -> Result<(), NoMemory>
@@ -189,7 +189,7 @@ pub(crate) fn races_in<'a, O: Order>(
 {
     let accesses = search.accesses.of(search.variable);
     let mut races = RaceRanges::new(alloc);
-    let mut cursors = Cursors::new(alloc, search);
+    let mut cursors = Cursors::new(alloc);
     let mut free_write = None;
     for index in from..to {
         let count = races.len();

@@ -8,9 +8,7 @@ ghost use Rattle.shb_pairs.specs.Buckets.{key_at};
 ghost use Rattle.shb_pairs.specs.Search.{AreRivals, IsOfOneThread, racing};
 ghost use Rattle.shb_pairs.specs.declared.buckets.Key.TheVariants.{Thread};
 
-use crate::search::Search;
 use crate::spans::Span;
-use crate::thread_ends::ThreadEnd;
 use shb_clocks::{Order, Ordered};
 use shb_io::NoMemory;
 use shb_lines::Events;
@@ -28,73 +26,43 @@ pub(crate) struct Cursor {
     start: usize,
 }
 
-/// The cursors of a search in one list of positions by thread, by threads in order. Where a thread has no
-/// cursor yet, an end that was found when the list was made is tried.
-pub(crate) struct ThreadCursors<'a> {
-    pub(crate) cursors: Vec<Cursor>,
-    ends: &'a [ThreadEnd],
-}
-
-// By hand: a derived one stands in each function that drops cursors, with a step for the vector.
-impl<'a> Drop for ThreadCursors<'a> {
-    fn drop(self) {
-        let ThreadCursors {
-            cursors: _,
-            ends: _,
-        } = self;
+/// Adds the cursor of the thread of this number in a list of positions by thread, from 0, if it is the first
+/// thread without one.
+pub(crate) fn reach(cursors: &mut Vec<Cursor>, number: usize) -> Result<(), NoMemory>
+    requires { number ≤ length cursors.old.items }
+    ensures { OnOk result (number < length cursors.new.items) }
+{
+    if number == cursors.len() {
+        // No access has this cursor, so all of it is searched for.
+        cursors.push(Cursor {
+            end: 0,
+            before: usize::MAX,
+            start: usize::MAX,
+        })?;
     }
+    Ok(())
 }
 
-impl<'a> ThreadCursors<'a> {
-    /// No cursors yet.
-    fn new(alloc: Global, ends: &'a [ThreadEnd]) -> ThreadCursors<'a> {
-        ThreadCursors {
-            cursors: Vec::new(alloc),
-            ends,
-        }
-    }
-
-    /// Adds the cursor of the thread of this number in the list, from 0, if it is the first without one.
-    pub(crate) fn reach(&mut self, number: usize) -> Result<(), NoMemory>
-        requires { number ≤ length self.old.cursors.items }
-        ensures { OnOk result (number < length self.new.cursors.items) }
-    {
-        if number == self.cursors.len() {
-            let end = match self.ends.get(number) {
-                Some(found) => found.end,
-                None => 0,
-            };
-            // No access has these cursors, so both are searched for.
-            self.cursors.push(Cursor {
-                end,
-                before: usize::MAX,
-                start: usize::MAX,
-            })?;
-        }
-        Ok(())
-    }
+/// The cursors of a search for the races of one variable, by threads in order: for its writes, and for all
+/// its accesses.
+pub struct Cursors {
+    pub(crate) writes: Vec<Cursor>,
+    pub(crate) both: Vec<Cursor>,
 }
 
-/// The cursors of a search for the races of one variable: for its writes, and for all its accesses.
-pub struct Cursors<'a> {
-    pub(crate) writes: ThreadCursors<'a>,
-    pub(crate) both: ThreadCursors<'a>,
-}
-
-// By hand: a derived one stands in each function that drops cursors, with a step for each part.
-impl<'a> Drop for Cursors<'a> {
+// By hand: a derived one stands in each function that drops cursors, with a step for each vector.
+impl Drop for Cursors {
     fn drop(self) {
         let Cursors { writes: _, both: _ } = self;
     }
 }
 
-impl<'a> Cursors<'a> {
+impl Cursors {
     /// The cursors of a search that has found nothing yet.
-    pub fn new<O: Order>(alloc: Global, search: &Search<'_, 'a, O>) -> Cursors<'a> {
-        let accesses = search.accesses;
+    pub fn new(alloc: Global) -> Cursors {
         Cursors {
-            writes: ThreadCursors::new(alloc, accesses.write_ends(search.variable)),
-            both: ThreadCursors::new(alloc, accesses.both_ends(search.variable)),
+            writes: Vec::new(alloc),
+            both: Vec::new(alloc),
         }
     }
 }

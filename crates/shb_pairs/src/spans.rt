@@ -10,7 +10,7 @@ ghost use Rattle.shb_pairs.specs.Spans.{AreComparedWith, IsSpanOf, in_spans};
 
 use crate::buckets::part;
 use crate::ranges::Range;
-use crate::rivals::{Cursors, ThreadCursors, tail_of, thread_end};
+use crate::rivals::{Cursor, Cursors, reach, tail_of, thread_end};
 use crate::search::Search;
 use shb_clocks::{Order, Ordered};
 use shb_io::NoMemory;
@@ -44,7 +44,7 @@ fn add_span(found: &mut Vec<Span>, span: Span) -> Result<(), NoMemory>
 fn spans_of<O: Order>(
     ordered: &Ordered<'_, O>,
     positions: &[u32],
-    cursors: &mut ThreadCursors<'_>,
+    cursors: &mut Vec<Cursor>,
     second: u32,
     found: &mut Vec<Span>,
 ) -> Result<(), NoMemory>
@@ -61,8 +61,8 @@ fn spans_of<O: Order>(
     let mut start = 0;
     let mut number = 0;
     while start < positions.len() {
-        cursors.reach(number)?;
-        let cursor = &mut cursors.cursors[number];
+        reach(cursors, number)?;
+        let cursor = &mut cursors[number];
         let end = thread_end(ordered.disciplined.events, positions, start, cursor.end);
         cursor.end = end;
         let tail = tail_of(ordered, part(positions, start, end), cursor, second);
@@ -91,7 +91,7 @@ fn spans_of<O: Order>(
 pub fn racing_spans<O: Order>(
     ordered: &Ordered<'_, O>,
     positions: &[u32],
-    cursors: &mut Cursors<'_>,
+    cursors: &mut Cursors,
     second: u32,
     found: &mut Vec<Span>,
 ) -> Result<(), NoMemory>
@@ -140,7 +140,7 @@ fn parts_of<'p>(alloc: Global, list: &'p [u32], spans: &[Span]) -> Result<Vec<Ra
 pub(crate) fn rivals_of<'a, O: Order>(
     alloc: Global,
     search: &Search<'_, 'a, O>,
-    cursors: &mut Cursors<'_>,
+    cursors: &mut Cursors,
     second: u32,
 ) -> Result<Vec<Range<'a>>, NoMemory>
     requires accessed { variable_at search.now.ordered.now.disciplined.now.events.now second ≡ Some search.now.variable }

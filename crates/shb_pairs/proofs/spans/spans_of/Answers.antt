@@ -20,6 +20,6 @@ loop-start-preserved g c =
       more.0,
       more.1,
       (let lt = c.in_ok-reach.ensures in
-          let size = length-set c.reach.new.self.cursors.items c.loop-start.number c.tail_of-tail.new.cursor in
+          let size = length-set c.reach.new.cursors.items c.loop-start.number c.tail_of-tail.new.cursor in
           omega (arith, size, lt)),
     )
