@@ -1,13 +1,13 @@
 -- Runs of accesses, and the races of a run one access at a time.
 use Rattle.std.proofs.Common.{◌≡◌, ℕ, zero, suc, ◌+◌, ◌-◌, ◌*◌, ◌<◌, ◌≤◌, ◌⊎◌, inl, inr, Bool, true, false, List, [], ◌∷◌, ◌++◌, Some, length, get_or, take, drop, refl, arith, subst, ap, sym, ◌∙◌, add-one}
-use Rattle.std.specs.Prelude.{All, filter, flat_map, map, min, cond, slice_range}
+use Rattle.std.specs.Prelude.{All, flat_map, map, min, cond, slice_range}
 use Rattle.std.specs.Int.{div_ceil}
 use Rattle.std.proofs.lemmas.Bool.{cases_Bool, cases_lt}
 use Rattle.std.proofs.lemmas.Grind.{flat_map-append}
 use Rattle.std.proofs.lemmas.List.{append-nil, append_assoc, length_push, get_or_append_left, get_or_push, take_at, take-append-le, take_more, map_push, length-drop, get_or-drop}
-use Rattle.std.proofs.lemmas.List.Elements.{All-append, All-push, All-nil, filter-append, filter_more, Contains-get_or}
+use Rattle.std.proofs.lemmas.List.Elements.{All-append, All-push, All-nil, Contains-get_or}
 use Rattle.shb_lines.specs.declared.event.Event.{Event}
-use Rattle.shb_lines.specs.events.Race.{variable_at, Race, ends}
+use Rattle.shb_lines.specs.events.Race.{variable_at, ends}
 use Rattle.shb_lines.specs.events.Reach.{numbers_where, is_race}
 use Rattle.shb_lines.proofs.events.Reach.{numbers_listed, reflect_race}
 use Rattle.shb_lines.specs.declared.event.Pair.{Pair}
@@ -87,46 +87,12 @@ numbers_front f (suc n) q lt = go (cases_Bool (f n)) (cases_lt q (length (number
         take_at (numbers_where f n) (cond (f n) (n ∷ []) []) q at ∙ ap (λ (m : ℕ). numbers_where f m) (sym here)
     go (inr e) (inr past) ih within = absurd (let size : length (numbers_where f n ++ cond (f n) (n ∷ []) []) ≡ length (numbers_where f n) = rw (e, append-nil) refl in omega (arith, size))
 
--- a sharper test keeps the same numbers of all as of those that pass a weaker one
-filter_numbers : (f g : ℕ → Bool) (n : ℕ) → ((k : ℕ) → f k ≡ true → g k ≡ true) → filter f (numbers_where g n) ≡ numbers_where f n
-unfolding numbers_where
-filter_numbers f g zero sharper = refl
-filter_numbers f g (suc n) sharper = filter-append f (numbers_where g n) (cond (g n) (n ∷ []) []) ∙ (ap (λ (xs : List ℕ). xs ++ filter f (cond (g n) (n ∷ []) [])) (filter_numbers f g n sharper) ∙ ap (λ (xs : List ℕ). numbers_where f n ++ xs) (last (cases_Bool (f n)) (cases_Bool (g n))))
-  where
-    last : (f n ≡ true) ⊎ (f n ≡ false) → (g n ≡ true) ⊎ (g n ≡ false) → filter f (cond (g n) (n ∷ []) []) ≡ cond (f n) (n ∷ []) []
-    last (inl a) (inl b) = rw (a, b) (rw a refl)
-    last (inl a) (inr b) = absurd (let c = sharper n a in let h : ⊥ = cc in h)
-    last (inr a) (inl b) = rw (a, b) (rw a refl)
-    last (inr a) (inr b) = rw (a, b) refl
-
 pub race_accesses : (trace : List Event) (x i j : ℕ) → variable_at trace j ≡ Some x → is_race trace i j ≡ true → accesses_at trace x i ≡ true
 race_accesses trace x i j of_j h =
     let race = (reflect_race trace i j).0 h in
     let second = race.conflict.second_accesses in
     let first = race.conflict.first_accesses in
     test_from_access trace x i (let same : race.conflict.variable ≡ x = cc in rw (← same) first)
-
--- the races of j with the accesses of its variable before it are all
-pub races_with_earlier : (trace : List Event) (x j : ℕ) → variable_at trace j ≡ Some x → map (λ i. (i, j)) (filter (λ i. is_race trace i j) (numbers_where (accesses_at trace x) j)) ≡ races_with trace j
-unfolding races_with
-races_with_earlier trace x j of_j = ap (λ (xs : List ℕ). map (λ i. (i, j)) xs) (filter_numbers (λ i. is_race trace i j) (accesses_at trace x) j (λ i h. race_accesses trace x i j of_j h))
-
--- the races of j with the first accesses of a list, one access more
-pub pairs_more_yes : (trace : List Event) (old : List (ℕ × ℕ)) (pairs : List Pair) (xs : List ℕ) (k j i : ℕ) → k < length xs → get_or xs k 0 ≡ i → Race trace i j → map ends pairs ≡ old ++ map (λ i. (i, j)) (filter (λ i. is_race trace i j) (take k xs)) → map ends (pairs ++ record { first = i; second = j } ∷ []) ≡ old ++ map (λ i. (i, j)) (filter (λ i. is_race trace i j) (take (k + 1) xs))
-pairs_more_yes trace old pairs xs k j i lt at race so =
-    let test : is_race trace (get_or xs k 0) j ≡ true = rw at ((reflect_race trace i j).1 race) in
-    let kept : filter (λ i. is_race trace i j) (take (k + 1) xs) ≡ filter (λ i. is_race trace i j) (take k xs) ++ i ∷ [] = filter_more (λ i. is_race trace i j) xs k 0 lt ∙ rw (test, at) refl in
-    map_push ends pairs (record { first = i; second = j })
-    ∙ (ap (λ (ps : List (ℕ × ℕ)). ps ++ (i, j) ∷ []) so
-    ∙ (append_assoc old (map (λ i. (i, j)) (filter (λ i. is_race trace i j) (take k xs))) ((i, j) ∷ [])
-    ∙ (ap (λ (ps : List (ℕ × ℕ)). old ++ ps) (sym (map_push (λ i. (i, j)) (filter (λ i. is_race trace i j) (take k xs)) i))
-    ∙ ap (λ (ns : List ℕ). old ++ map (λ i. (i, j)) ns) (sym kept))))
-
-pub pairs_more_no : (trace : List Event) (old : List (ℕ × ℕ)) (pairs : List Pair) (xs : List ℕ) (k j i : ℕ) → k < length xs → get_or xs k 0 ≡ i → (Race trace i j → ⊥) → map ends pairs ≡ old ++ map (λ i. (i, j)) (filter (λ i. is_race trace i j) (take k xs)) → map ends pairs ≡ old ++ map (λ i. (i, j)) (filter (λ i. is_race trace i j) (take (k + 1) xs))
-pairs_more_no trace old pairs xs k j i lt at none so =
-    let test : is_race trace (get_or xs k 0) j ≡ false = rw at (elim (cases_Bool (is_race trace i j)) [ inl h ↦ absurd (none ((reflect_race trace i j).0 h)) | inr h ↦ h ]) in
-    let kept : filter (λ i. is_race trace i j) (take (k + 1) xs) ≡ filter (λ i. is_race trace i j) (take k xs) = filter_more (λ i. is_race trace i j) xs k 0 lt ∙ rw (test, append-nil) refl in
-    so ∙ ap (λ (ns : List ℕ). old ++ map (λ i. (i, j)) ns) (sym kept)
 
 -- one pair more
 pub pairs_pushed : (old : List (ℕ × ℕ)) (pairs : List Pair) (xs : List ℕ) (k j : ℕ) → k < length xs → map ends pairs ≡ old ++ map (λ i. (i, j)) (take k xs) → map ends (pairs ++ record { first = get_or xs k 0; second = j } ∷ []) ≡ old ++ map (λ i. (i, j)) (take (k + 1) xs)

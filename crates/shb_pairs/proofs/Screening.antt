@@ -10,19 +10,30 @@ use Rattle.shb_lines.specs.declared.event.Op.{Op}
 use Rattle.shb_lines.specs.declared.event.Op.TheVariants.{Write}
 use Rattle.shb_lines.specs.events.Discipline.{IsDisciplined, is_of}
 use Rattle.shb_lines.specs.events.Events.{op_at, variable_of}
-use Rattle.shb_lines.specs.events.Order.{BelowPred}
+use Rattle.shb_lines.specs.events.Order.{BelowPred, IsPred, ShbBelow, by_fork, forked, happens_before, here, in_thread, same_thread, step}
 use Rattle.shb_lines.specs.events.Race.{Race, variable_at}
 use Rattle.shb_lines.proofs.events.Counts.{count_more_yes}
-use Rattle.shb_lines.proofs.events.Events.{event_of_thread, is_of_true}
+use Rattle.shb_lines.proofs.events.Events.{event_of_thread, fork_earlier, is_of_true}
 use Rattle.shb_lines.proofs.events.Prefix.{below_from_local}
-use Rattle.shb_lines.proofs.events.Schedulable.{thread_below_pred}
+use Rattle.shb_lines.proofs.events.Schedulable.{below_pred_closed, thread_below_pred}
 use Rattle.shb_links.specs.Sharing.{IsShared}
 use Rattle.shb_pairs.specs.declared.screen.Latest.{Latest}
 use Rattle.shb_pairs.specs.declared.screen.Mark.{Mark}
 use Rattle.shb_pairs.specs.declared.screen.KeptRead.{KeptRead}
 use Rattle.shb_pairs.specs.Open.{AreOpen}
 use Rattle.shb_pairs.specs.Screen.{AreScreened, Covers, IsMarkOf, IsOf, IsPast, IsScreened, newest, no_time, older}
-use Rattle.shb_pairs.proofs.FreeWrites.{chain_below}
+
+-- what is below the predecessor of w, where w is below the predecessor of j
+pred_below : (trace : List Event) → IsDisciplined trace → (p w j : ℕ) → IsPred trace p w → BelowPred trace w j → BelowPred trace p j
+pred_below trace disciplined p w j (in_thread t of_p of_w earlier last) below = below_pred_closed trace p w j (happens_before (record { earlier = earlier; rule = same_thread t of_p of_w })) below
+pred_below trace disciplined p w j (by_fork t forks of_w last) below = below_pred_closed trace p w j (happens_before (record { earlier = fork_earlier trace disciplined t p w forks of_w; rule = forked t forks of_w })) below
+
+path_below : (trace : List Event) (a b e : ℕ) → ShbBelow trace a b → BelowPred trace b e → BelowPred trace a e
+path_below trace a b e here below = below
+path_below trace a b e (step {b = c} edge rest) below = below_pred_closed trace a c e edge (path_below trace c b e rest below)
+
+chain_below : (trace : List Event) → IsDisciplined trace → (i w j : ℕ) → BelowPred trace i w → BelowPred trace w j → BelowPred trace i j
+chain_below trace disciplined i w j below after = path_below trace i below.0 j below.2 (pred_below trace disciplined below.0 w j below.1 after)
 
 -- the event of a mark that is past
 pub mark_below : (trace : List Event) (mark : Mark) (e j : ℕ) → IsMarkOf trace mark e → e < j → IsPast trace mark j → BelowPred trace e j

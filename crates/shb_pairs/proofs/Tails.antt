@@ -6,7 +6,7 @@ use Rattle.std.specs.List.Sorted.{IsPartitionedBy}
 use Rattle.std.proofs.lemmas.Bool.{cases_Bool, cases_lt, lt-ltb}
 use Rattle.std.proofs.lemmas.List.{append-nil, append_assoc, drop-take, get_or-drop, get_or-take, get_or_default, length-drop, length-take-le, take-append-drop}
 use Rattle.std.proofs.lemmas.List.Sorted.{IsPartitionedBy-ltb}
-use Rattle.std.proofs.lemmas.List.Elements.{All-drop, All-take, filter-append, filter_more}
+use Rattle.std.proofs.lemmas.List.Elements.{All-drop, All-take, filter-append}
 use Rattle.shb_lines.specs.declared.event.Event.{Event}
 use Rattle.shb_lines.specs.declared.event.Op.TheVariants.{Read, Write}
 use Rattle.shb_lines.specs.events.Events.{op_at, thread_at}
@@ -199,10 +199,6 @@ at_or_past k j h = elim (cases_lt k j) [ inl lt ↦ absurd (let passes = lt-ltb 
 -- what an order answers, of the trace that it orders
 pub count_seen : (trace ordered : List Event) (t u e n : ℕ) → ordered ≡ trace → t ≡ u → IsBelowPredCount ordered u e n → IsBelowPredCount trace t e n
 count_seen trace ordered t u e n same is h = subst (λ (tr : List Event). IsBelowPredCount tr t e n) same (subst (λ (v : ℕ). IsBelowPredCount ordered v e n) (sym is) h)
-
--- no race so far, and none with one more
-pub none_racing : (trace : List Event) (j k : ℕ) (ks : List ℕ) → k < length ks → (Race trace (get_or ks k 0) j → ⊥) → racing trace j (take k ks) ≡ [] → racing trace j (take (k + 1) ks) ≡ []
-none_racing trace j k ks lt fails so = filter_more (λ i. is_race trace i j) ks k 0 lt ∙ rw (not_racing trace (get_or ks k 0) j fails, append-nil) so
 
 -- local times don't fall along the positions of one thread
 pub later_above : (trace : List Event) (ks : List ℕ) (n a b t : ℕ) → IsOfOneThread trace ks → a ≤ b → b < length ks → thread_at trace (get_or ks b 0) ≡ Some t → ((u : ℕ) → thread_at trace (get_or ks a 0) ≡ Some u → n < local_time trace u (get_or ks a 0)) → n < local_time trace t (get_or ks b 0)

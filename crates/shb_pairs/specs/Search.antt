@@ -1,9 +1,9 @@
 -- What the search for the races of a later access goes by.
-use Rattle.std.specs.Prelude.{◌≡◌, ◌≢◌, ℕ, ◌<◌, ◌⊎◌, List, Some, All, AllPairs, filter, length, slice_index_or}
+use Rattle.std.specs.Prelude.{◌≡◌, ℕ, ◌<◌, ◌⊎◌, List, Some, All, AllPairs, filter, length, slice_index_or}
 use Rattle.shb_lines.specs.declared.event.Event.{Event}
 use Rattle.shb_lines.specs.declared.event.Op.TheVariants.{Write}
 use Rattle.shb_lines.specs.events.Events.{op_at}
-use Rattle.shb_lines.specs.events.Race.{Race, variable_at}
+use Rattle.shb_lines.specs.events.Race.{variable_at}
 use Rattle.shb_lines.specs.events.Reach.{is_race}
 use Rattle.shb_pairs.specs.declared.buckets.Key.TheVariants.{Thread}
 use Rattle.shb_pairs.specs.Buckets.{key_at}
@@ -24,10 +24,3 @@ pub record IsOfOneThread (trace : List Event) (list : List ℕ) : Type 0 where
   pub in_range : All (λ k. k < length trace) list
   pub same_thread : (k : ℕ) → k < length list → key_at trace Thread (slice_index_or list k 0) ≡ key_at trace Thread (slice_index_or list 0 0)
   pub rising : AllPairs (λ a b. a < b) list
-
--- the access at index s is the last write before index q among the accesses of x, and no event races with it
-pub record IsFreeWrite (trace : List Event) (x : ℕ) (accesses : List ℕ) (q s : ℕ) : Type 0 where
-  pub earlier : s < q
-  pub writes : op_at trace (slice_index_or accesses s 0) ≡ Some (Write x)
-  pub free : (i : ℕ) → ¬ Race trace i (slice_index_or accesses s 0)
-  pub last : (k : ℕ) → s < k → k < q → op_at trace (slice_index_or accesses k 0) ≢ Some (Write x)

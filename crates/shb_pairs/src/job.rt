@@ -29,9 +29,9 @@ use std::marker::Model;
 /// pieces joined are the race list, where a variable that isn't open has no race. Clauses see it as the
 /// accesses.
 ///
-/// A piece costs its accesses times the threads that access the variable, whatever the number of its races;
-/// where its accesses are ordered, about one look-up of the order for each. Running a piece takes
-/// memory for its ranges, at most one for each of its accesses and each thread, and changes nothing.
+/// A piece costs its accesses times the threads that access the variable, whatever the number of its races.
+/// Running a piece takes memory for its ranges, at most one for each of its accesses and each thread, and
+/// changes nothing.
 #[derive(Drop)]
 pub struct RangeJob<'a, O: Order> {
     ordered: Ordered<'a, O>,
@@ -143,12 +143,8 @@ impl<'a, O: Order> Job for RangeJob<'a, O> {
     }
 
     fn run(&self, alloc: Global, k: u64) -> Result<RaceRanges<'a>, NoMemory> {
-        let piece = piece_with(self.pieces, k);
-        let search = Search {
-            ordered: &self.ordered,
-            accesses: self.accesses,
-            variable: piece.variable,
-        };
+        let search = self.search(k);
+        let piece = self.piece(k);
         races_in(alloc, &search, piece.from as usize, piece.to as usize)
     }
 }

@@ -13,9 +13,8 @@
 //! The search for a later access j goes over the threads that write its variable (that access it,
 //! where j writes). In the accesses of a thread it finds where j stands, and back from there the first
 //! whose local time is above what the order answers: the races are the range between the two. It tries
-//! first what the last search of the variable found ([`Cursors`]), and else halves. A write without a race that is SHB-below the predecessor
-//! of j orders all accesses before it; then only those after it are tested, one by one, until one races.
-//! So accesses that are ordered cost about one look-up each, and races cost their ranges.
+//! first what the last search of the variable found ([`Cursors`]), and else halves. So an access costs
+//! about one look-up of the order for each of these threads, whatever the number of its races.
 #![tactic(auto)]
 
 mod accesses;

@@ -9,8 +9,7 @@ use Rattle.shb_lines.specs.events.Tests.{is_write}
 use Rattle.shb_lines.specs.text.TraceData.{TraceData}
 use Rattle.shb_links.proofs.Owners.{apart, variable_known}
 use Rattle.shb_report.specs.Places.{location_at}
-use Rattle.shb_pairs.proofs.Found.{write_at}
-use Rattle.shb_pairs.proofs.FreeWrites.{not_write_at}
+use Rattle.shb_pairs.proofs.Found.{not_write_at, write_at}
 use Rattle.shb_places.specs.Access.{IsAccessOf, IsLocatedAt}
 
 -- the variable of an event whose operation is known

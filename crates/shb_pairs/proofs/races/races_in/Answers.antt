@@ -1,12 +1,8 @@
-use Rattle.std.proofs.Common.{◌≡◌, ◌+◌, ◌-◌, ◌<◌, ◌≤◌, ◌++◌, ℕ, List, length, get_or, ap, subst, sym, ◌∙◌, arith}
+use Rattle.std.proofs.Common.{◌≡◌, ◌+◌, ◌-◌, ◌<◌, ◌≤◌, ◌++◌, ℕ, List, length, get_or, ap, sym, ◌∙◌, arith}
 use Rattle.std.specs.Prelude.{flat_map, take, drop}
-use Rattle.std.proofs.lemmas.Bool.{eqb-true}
-use Rattle.shb_lines.specs.events.Race.{Race}
 use Rattle.shb_pairs.specs.Accesses.{accesses_at, accesses_in}
 use Rattle.shb_pairs.specs.Races.{joined, races_with}
-use Rattle.shb_pairs.proofs.ByThread.{listed_of_trace}
-use Rattle.shb_pairs.proofs.PieceRaces.{races_first, races_more}
-use Rattle.shb_pairs.proofs.FreeWrites.{next_seen, none_added}
+use Rattle.shb_pairs.proofs.PieceRaces.{access_front, races_first, races_more}
 use Rattle.std.proofs.lemmas.List.{length-take}
 use Rattle.std.proofs.lemmas.List.Elements.{All-drop, All-take}
 use Rattle.shb_lines.specs.declared.event.Event.{Event}
@@ -20,27 +16,17 @@ loop-index-init g c = record {
   low = omega arith;
   high = (let le = c.requires.forward in omega (arith, le));
   found = races_first c.args.search.now.ordered.now.disciplined.now.events.now (accesses_in c.args.search.now.ordered.now.disciplined.now.events.now c.args.search.now.variable) _ c.args.from (ap (λ (ls : List (List (ℕ × ℕ))). joined ls) c.new-races.ensures);
-  free_write = tt;
 }
-
-pub next_free_write-free_write-requires-clause-free : goal.next_free_write-free_write-requires-clause-free
-next_free_write-free_write-requires-clause-free g c same i race =
-    let is = c.of-accesses.ensures.exact ∙ listed_of_trace c.args.search.now.accesses.now c.args.search.now.ordered.now.disciplined.now.events.now c.args.search.now.variable c.args.search.now.of_trace c.args.search.now.listed in
-    let there = subst (λ (ks : List ℕ). Race c.args.search.now.ordered.now.disciplined.now.events.now i (get_or ks c.loop-index.index 0)) is race in
-    let equal = eqb-true _ _ same in
-    let first = c.len-count.ensures in
-    let second = c.len.ensures in
-    none_added c.args.search.now.ordered.now.disciplined.now.events.now (get_or (accesses_in c.args.search.now.ordered.now.disciplined.now.events.now c.args.search.now.variable) c.loop-index.index 0) _ _ c.in_ok-add_races_at.ensures (omega (arith, equal, first, second)) i there
 
 pub loop-index-preserved : goal.loop-index-preserved
 loop-index-preserved g c = record {
   low = (let le = c.loop-index.invariant.low in omega (arith, le));
   high = omega arith;
   found = (let le = c.requires.within in
-      c.in_ok-add_races_at.ensures
+      c.in_ok-add_races.ensures
+      ∙ (ap (λ (ks : List ℕ). joined c.loop-index.races ++ races_with c.args.search.now.ordered.now.disciplined.now.events.now (get_or ks c.loop-index.index 0)) c.in_order-accesses.ensures
       ∙ (ap (λ (ps : List (ℕ × ℕ)). ps ++ races_with c.args.search.now.ordered.now.disciplined.now.events.now (get_or (accesses_in c.args.search.now.ordered.now.disciplined.now.events.now c.args.search.now.variable) c.loop-index.index 0)) c.loop-index.invariant.found
-      ∙ sym (races_more c.args.search.now.ordered.now.disciplined.now.events.now (accesses_in c.args.search.now.ordered.now.disciplined.now.events.now c.args.search.now.variable) c.args.from c.loop-index.index c.loop-index.invariant.low (omega (arith, le)))));
-  free_write = next_seen c.args.search.now.ordered.now.disciplined.now.events.now c.args.search.now.variable c.of-accesses.result.now c.loop-index.index c.loop-index.free_write c.next_free_write-free_write.result (c.of-accesses.ensures.exact ∙ listed_of_trace c.args.search.now.accesses.now c.args.search.now.ordered.now.disciplined.now.events.now c.args.search.now.variable c.args.search.now.of_trace c.args.search.now.listed) c.next_free_write-free_write.ensures.free_write c.loop-index.invariant.free_write;
+      ∙ sym (races_more c.args.search.now.ordered.now.disciplined.now.events.now (accesses_in c.args.search.now.ordered.now.disciplined.now.events.now c.args.search.now.variable) c.args.from c.loop-index.index c.loop-index.invariant.low (omega (arith, le))))));
 }
 
 -- there is room for the races of one access more
@@ -52,8 +38,11 @@ races_room trace x from to index races few lt within is =
     let same = ap length is in
     omega (arith, few, lt, within, all, size, below, same)
 
-pub add_races_at-requires-clause-room : goal.add_races_at-requires-clause-room
-add_races_at-requires-clause-room g c = races_room c.args.search.now.ordered.now.disciplined.now.events.now c.args.search.now.variable c.args.from c.args.to c.loop-index.index (joined c.loop-index.races) c.args.search.now.ordered.now.disciplined.now.few c.loop-index-test.true c.requires.within c.loop-index.invariant.found
+pub add_races-requires-clause-room : goal.add_races-requires-clause-room
+add_races-requires-clause-room g c = races_room c.args.search.now.ordered.now.disciplined.now.events.now c.args.search.now.variable c.args.from c.args.to c.loop-index.index (joined c.loop-index.races) c.args.search.now.ordered.now.disciplined.now.few c.loop-index-test.true c.requires.within c.loop-index.invariant.found
+
+pub add_races-requires-clause-accessed : goal.add_races-requires-clause-accessed
+add_races-requires-clause-accessed g c = rw c.in_order-accesses.ensures (access_front c.args.search.now.ordered.now.disciplined.now.events.now c.args.search.now.variable c.loop-index.index (let lt = c.loop-index-test.true in let le = c.requires.within in omega (arith, lt, le))).0
 
 pub returns : goal.returns
 returns g c =

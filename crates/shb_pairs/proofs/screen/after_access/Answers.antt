@@ -1,6 +1,6 @@
 use Rattle.std.proofs.Common.{◌+◌, sym, ◌∙◌}
 use Rattle.shb_pairs.proofs.Screening.{screened_open, screened_same}
-use Rattle.shb_pairs.proofs.FreeWrites.{not_write_at}
+use Rattle.shb_pairs.proofs.Found.{not_write_at}
 use Rattle.shb_pairs.proofs.screen.after_access.Goals as goal
 
 pub returns-then-not-is_past-clause-screened : goal.returns-then-not-is_past-clause-screened
