@@ -21,15 +21,14 @@ OWN = "tests/documents.py"  # its texts name what isn't there
 
 # Words of the outside world that no file of the repository has, by where they come from.
 OUTSIDE = {
-    "words and messages of rt": "dac8208d650f15bf holes incremental lemma nearest proposition rattle start_lib tidy",
-    "a file of rt's template": "BUILD bazel",
+    "words and messages of rt": "holes incremental nearest proposition rattle tidy",
     "modules and words of the kit's library": "IsOk Mem le_bytes Display",
-    "commands and packages of Linux": "callgrind chroot debootstrap minbase nice pbzip2 poppler python3 utils valgrind zstd",
-    "messages and options of Slurm, and a package of Python": "Duplicate jobid night python om",
+    "commands and packages of Linux": "callgrind poppler valgrind",
+    "a message of Slurm": "Duplicate jobid",
     "options of gcc": "func instrument lubsan param",
     "names of ThreadSanitizer's that the recorder leaves out": "__interceptor_* __sanitizer_syscall_pre_* _post_*",
     "others of these, and one that it makes by macros": "__tsan_default_suppressions __tsan_read4_pc",
-    "an instruction, and a descriptor": "popcnt fd5",
+    "a descriptor": "fd5",
 }
 
 # Files and folders that commands make, and files of the reader's own.
@@ -37,10 +36,9 @@ MADE = {
     "make build": "bin",
     "make recorder, make install": "bin lib share",
     "make dist": "PROVED.md",
-    "make test-all": "refused.sums",
     "rt": "out",
     "shb-record, shb-farm": "made-by-shb-record.txt places.txt runN.PROCESS.std",
-    "the reader's own": "app.std app.report file.c util.c",
+    "the reader's own": "app.std app.report util.c",
 }
 
 # The most lines of a document, and the most words of a sentence in it.
