@@ -54,8 +54,8 @@ def publications(view, section):
             if store.thread != load.thread and not (store.gives() and load.takes()):
                 found.setdefault((store.name, store.location, load.location), (store, load))
                 if len(found) == MOST_ATOMICS:
-                    return found.values()
-    return found.values()
+                    return list(found.values())
+    return list(found.values())
 
 
 def headline(view, section):
