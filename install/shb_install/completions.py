@@ -14,11 +14,6 @@ def takes_file(option):
     return bool(FILES.fullmatch(option.value))
 
 
-def is_plain(option):
-    """Whether the option has a value that nothing can be said of, as a number."""
-    return bool(option.value) and not choices(option) and not takes_file(option)
-
-
 def subcommands(help_, helps):
     return {name: helps[f"{help_.command} {name}"] for name in help_.commands if f"{help_.command} {name}" in helps}
 

@@ -11,12 +11,11 @@ from installing import TOP, call, contents
 
 RACE = "T1|w(x)|a.c:1\nT2|w(x)|b.c:2\n"
 COMMANDS = ("shb", "shb-farm", "shb-record", "shb-std", "shb-view", "shb-windows")
-WITH_HELP = ("shb", "shb-farm", "shb-record", "shb-std", "shb-view", "shb-windows")
 WANTED = ([f"bin/{name}" for name in COMMANDS]
-          + [f"share/man/man1/{name}.1" for name in (*WITH_HELP, "shb-races", "shb-places", "shb-check")]
-          + [f"share/bash-completion/completions/{name}" for name in WITH_HELP]
-          + [f"share/zsh/site-functions/_{name}" for name in WITH_HELP]
-          + [f"share/fish/vendor_completions.d/{name}.fish" for name in WITH_HELP]
+          + [f"share/man/man1/{name}.1" for name in (*COMMANDS, "shb-races", "shb-places", "shb-check")]
+          + [f"share/bash-completion/completions/{name}" for name in COMMANDS]
+          + [f"share/zsh/site-functions/_{name}" for name in COMMANDS]
+          + [f"share/fish/vendor_completions.d/{name}.fish" for name in COMMANDS]
           + ["lib/shb/libtsan.so", "lib/shb/libtsan.so.0", "lib/shb/libtsan.so.2", "lib/shb/libtsan_preinit.o", "lib/shb/shb_farm/job.py",
              "lib/shb/shb_view/page.css", "lib/shb/VERSION", "share/doc/shb/README.md", "share/doc/shb/docs/GUARANTEES.md",
              "share/doc/shb/examples/fork-join.std"])

@@ -3,8 +3,6 @@
 import contextlib
 import errno
 import os
-import pathlib
-import sys
 from unittest import mock
 
 import installing
