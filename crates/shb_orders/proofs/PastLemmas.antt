@@ -1,4 +1,4 @@
--- One step of the sweep: clocks of events, lock clocks, and the clock of an event.
+-- One step of the sweep: the clocks of locks and of an event.
 use Rattle.std.proofs.Common.{◌≡◌, ◌≢◌, ℕ, ◌+◌, ◌<◌, ◌≤◌, ◌⊎◌, inl, inr, List, [], ◌++◌, Option, Some, None, length, get_or, arith, subst, ap, sym, ◌∙◌, refl, get_or-set_same, get_or-set_other, ◌∷◌}
 use Rattle.std.specs.Prelude.{◌↔◌, max, replicate}
 use Rattle.std.proofs.Math.ListN.{set, length-set, get_or-append, length-replicate, get_or-replicate}
@@ -21,30 +21,6 @@ use Rattle.shb_orders.specs.Past.{AreFronts, HasClocks, HasLockClocks}
 use Rattle.shb_orders.proofs.FrontLemmas.{front_none, front_same, front_join, number_from_front}
 use Rattle.shb_clocks.proofs.Fronts.{front_own, thread_in_range, zero_entry}
 use Rattle.shb_clocks.proofs.Sources.{path_append, strictly_below_below, below_cases, learns_read, read_learns}
-
--- one more clock
-pub clocks_more : (trace : List Event) (n threads : ℕ) (clocks : List (List ℕ)) (clock : List ℕ) → length clock ≡ threads → IsFront trace (λ k. ShbBelow trace k n) clock → HasClocks trace n threads clocks → HasClocks trace (n + 1) threads (clocks ++ clock ∷ [])
-clocks_more trace n threads clocks clock wide front old = record {
-  as_many = length_push clocks clock ∙ ap (λ (m : ℕ). m + 1) old.as_many;
-  long = λ e lt. long e lt (cases_lt e n);
-  each = λ e lt. go e lt (cases_lt e n);
-}
-  where
-    there : (e : ℕ) → e < n → get_or (clocks ++ clock ∷ []) e [] ≡ get_or clocks e []
-    there e low = get_or-append clocks (clock ∷ []) [] e (let many = old.as_many in omega (arith, many, low))
-
-    at_end : (e : ℕ) → n ≡ e → get_or (clocks ++ clock ∷ []) e [] ≡ clock
-    at_end e same = get_or_push clocks clock [] e (old.as_many ∙ same)
-
-    long : (e : ℕ) → e < n + 1 → (e < n) ⊎ (n ≤ e) → length (get_or (clocks ++ clock ∷ []) e []) ≡ threads
-    long e lt (inl low) = ap length (there e low) ∙ old.long e low
-    long e lt (inr le) = ap length (at_end e (omega (arith, lt, le))) ∙ wide
-
-    go : (e : ℕ) → e < n + 1 → (e < n) ⊎ (n ≤ e) → IsFront trace (λ k. ShbBelow trace k e) (get_or (clocks ++ clock ∷ []) e [])
-    go e lt (inl low) = subst (IsFront trace (λ k. ShbBelow trace k e)) (sym (there e low)) (old.each e low)
-    go e lt (inr le) =
-        let same : n ≡ e = omega (arith, lt, le) in
-        subst (IsFront trace (λ k. ShbBelow trace k e)) (sym (at_end e same)) (subst (λ (x : ℕ). IsFront trace (λ k. ShbBelow trace k x) clock) same front)
 
 -- releases before n + 1
 release_same : (trace : List Event) (l n k : ℕ) → op_at trace n ≢ Some (Release l) → BelowRelease trace l n k ↔ BelowRelease trace l (n + 1) k
@@ -75,7 +51,7 @@ locks_skip trace n threads locks clocks other old = record {
   each = λ l lt. front_same trace (BelowRelease trace l n) (BelowRelease trace l (n + 1)) (get_or clocks l []) (λ k. release_same trace l n k (other l)) (old.each l lt);
 }
 
-pub locks_release : (trace : List Event) (n threads locks l : ℕ) (clocks : List (List ℕ)) (clock joined : List ℕ) → op_at trace n ≡ Some (Release l) → l < locks → length joined ≡ threads → ((t : ℕ) → get_or joined t 0 ≡ max (get_or (get_or clocks l []) t 0) (get_or clock t 0)) → IsFront trace (λ k. ShbBelow trace k n) clock → HasLockClocks trace n threads locks clocks → HasLockClocks trace (n + 1) threads locks (set clocks l joined)
+locks_release : (trace : List Event) (n threads locks l : ℕ) (clocks : List (List ℕ)) (clock joined : List ℕ) → op_at trace n ≡ Some (Release l) → l < locks → length joined ≡ threads → ((t : ℕ) → get_or joined t 0 ≡ max (get_or (get_or clocks l []) t 0) (get_or clock t 0)) → IsFront trace (λ k. ShbBelow trace k n) clock → HasLockClocks trace n threads locks clocks → HasLockClocks trace (n + 1) threads locks (set clocks l joined)
 locks_release trace n threads locks l clocks clock joined releases lt long each front old = record {
   as_many = length-set clocks l joined ∙ old.as_many;
   long = λ m within. wide m within (cases_eq m l);
@@ -133,17 +109,6 @@ module _ (trace : List Event) (disciplined : IsDisciplined trace) (e : ℕ) wher
   pub read_learns_nothing : (x k : ℕ) → op_at trace e ≡ Some (Read x) → ((w : ℕ) → LastWrite trace w e → ⊥) → Learns trace e k → ⊥
   read_learns_nothing x k reads none learns = let from = learns_read trace disciplined e x k reads learns in none from.write from.last
 
-  -- the clock of the event
-  pub front_event : (u : ℕ) (clock : List ℕ) → thread_at trace e ≡ Some u → u < length clock → IsFront trace (StrictlyBelow trace e) clock → IsFront trace (λ k. ShbBelow trace k e) (set clock u (local_time trace u e))
-  front_event u clock of_e within front = front_own trace (StrictlyBelow trace e) e u clock of_e within same (λ t ne. front.within t) (λ t k of_k ne. front.exact t k of_k)
-    where
-      other : (t k : ℕ) → thread_at trace k ≡ Some t → t ≢ u → (k ≡ e) ⊎ StrictlyBelow trace e k → StrictlyBelow trace e k
-      other t k of_k ne (inr below) = below
-      other t k of_k ne (inl is) = absurd (ne (let of_e_too : thread_at trace e ≡ Some t = rw is at of_k in let s : Some t ≡ Some u = sym of_e_too ∙ of_e in cc))
-
-      same : (t k : ℕ) → thread_at trace k ≡ Some t → t ≢ u → StrictlyBelow trace e k ↔ ShbBelow trace k e
-      same t k of_k ne = (strictly_below_below trace disciplined k e, (λ path. other t k of_k ne (below_cases trace disciplined k e path)))
-
 -- the order's answer
 pub count_from_clock : (trace seen : List Event) (e t p n : ℕ) (clock : List ℕ) → trace ≡ seen → IsDisciplined trace → IsPred trace p e → IsFront trace (λ k. ShbBelow trace k p) clock → n ≡ get_or clock t 0 → IsBelowPredCount seen t e n
 count_from_clock trace seen e t p n clock same disciplined pred front is =
@@ -173,13 +138,7 @@ pub exactly_none : (P : ℕ → Type 0) (o : Option ℕ) → Exactly P o → ((b
 exactly_none P None h other = h
 exactly_none P (Some b) h other = absurd (other b refl)
 
--- the own entry
-pub tick_front : (trace links : List Event) (sizes : Sizes) (e x u : ℕ) (clock put : List ℕ) → IsDisciplined trace → links ≡ trace → IsWithin trace sizes → thread_at trace e ≡ Some u → ((t : ℕ) → thread_at links e ≡ Some t → x ≡ local_time links t e) → length clock ≡ sizes.threads → IsFront trace (StrictlyBelow trace e) clock → put ≡ set clock u x → IsFront trace (λ k. ShbBelow trace k e) put
-tick_front trace links sizes e x u clock put disciplined same within of_e time long front is =
-    let own : x ≡ local_time trace u e = subst (λ (tr : List Event). (t : ℕ) → thread_at tr e ≡ Some t → x ≡ local_time tr t e) same time u of_e in
-    let low = thread_within trace sizes e u within of_e in
-    subst (IsFront trace (λ k. ShbBelow trace k e)) (sym (is ∙ ap (λ (n : ℕ). set clock u n) own)) (front_event trace disciplined e u clock of_e (omega (arith, low, long)) front)
-
+-- the predecessor of an event is an event
 pub clock_pred_range : (trace seen : List Event) (p e : ℕ) → IsDisciplined trace → trace ≡ seen → e < length seen → IsPred trace p e → p < length trace
 clock_pred_range trace seen p e disciplined same lt pred = let size = ap length same in let earlier = pred_earlier trace disciplined p e pred in omega (arith, size, lt, earlier)
 

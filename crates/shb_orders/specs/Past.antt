@@ -1,10 +1,8 @@
--- What a sweep over the first n events keeps.
+-- Clocks of events, and of the locks that a sweep over the first n events keeps.
 use Rattle.std.specs.Prelude.{◌≡◌, ℕ, ◌<◌, List, [], length, slice_index_or}
 use Rattle.shb_lines.specs.declared.event.Event.{Event}
 use Rattle.shb_lines.specs.events.Order.{ShbBelow}
-use Rattle.shb_lines.specs.declared.event.Sizes.{Sizes}
 use Rattle.shb_clocks.specs.Fronts.{IsFront, BelowRelease}
-use Rattle.shb_orders.specs.declared.past.Past.{Past}
 
 -- for each of the first n numbers a clock of the events that have its property
 pub record AreFronts (trace : List Event) (P : ℕ → ℕ → Type 0) (n threads : ℕ) (clocks : List (List ℕ)) : Type 0 where
@@ -19,8 +17,3 @@ HasClocks trace n threads clocks = AreFronts trace (λ e k. ShbBelow trace k e) 
 -- one clock for each lock, of all that is below its releases before n
 abbrev pub HasLockClocks : List Event → ℕ → ℕ → ℕ → List (List ℕ) → Type 0
 HasLockClocks trace n threads locks clocks = AreFronts trace (λ l k. BelowRelease trace l n k) locks threads clocks
-
--- what is kept after the first n events
-pub record IsPast (trace : List Event) (n : ℕ) (sizes : Sizes) (past : Past) : Type 0 where
-  pub event_clocks : HasClocks trace n sizes.threads past.clocks.items
-  pub lock_clocks : HasLockClocks trace n sizes.threads sizes.locks past.locks.items

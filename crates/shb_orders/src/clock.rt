@@ -45,14 +45,6 @@ impl Clock {
         clear(self.entries.as_mut_slice());
     }
 
-    /// Takes over the entries of another clock.
-    pub fn copy(&mut self, other: &[u32])
-        requires { length other.now ≡ length self.old }
-        ensures { self.new ≡ other.now }
-    {
-        self.entries.copy_from_slice(other);
-    }
-
     /// Raises each entry to that of another clock, where that is greater.
     pub fn join(&mut self, other: &[u32])
         requires { length other.now ≡ length self.old }

@@ -5,7 +5,7 @@ ghost use Rattle.shb_lines.specs.declared.event.Event.{Event};
 ghost use Rattle.shb_orders.specs.Past.{HasClocks};
 
 use crate::clock::{Clock, entry};
-use crate::past::Past;
+use crate::learned_past::sweep;
 use shb_clocks::Order;
 use shb_discipline::Disciplined;
 use shb_io::NoMemory;
@@ -45,13 +45,13 @@ pub fn full<'a>(
     ensures { IfOk result (λ order. order ≡ trace.now.events.now) }
 {
     let linked = Linked::new(trace, links);
-    let mut clock = Clock::new(alloc, linked.sizes.threads as usize)?;
-    let mut past = Past::new(alloc, &linked)?;
+    let kept = sweep(alloc, &linked)?;
+    let mut clocks = Vec::new(alloc);
     for e in 0..linked.events.len() as u32 {
-        past.set_clock(&linked, e, &mut clock);
-        past.add(alloc, &linked, e, &clock)?;
+        let mut clock = Clock::new(alloc, linked.sizes.threads as usize)?;
+        clock.copy_event(&kept.clock_of(&linked, e));
+        clocks.push(clock)?;
     }
-    let Past { clocks, .. } = past;
     Ok(FullClocks { linked, clocks })
 }
 

@@ -10,7 +10,6 @@ ghost use Rattle.shb_orders.specs.Past.{HasLockClocks};
 
 use crate::clock::{Clock, entry};
 use crate::kept_clocks::KeptClocks;
-use crate::past::lock_clocks;
 use shb_io::NoMemory;
 use shb_lines::Op;
 use shb_links::Linked;
@@ -37,6 +36,17 @@ fn may_learn(linked: &Linked<'_>, e: u32) -> bool
         Op::Read(_) => linked.links.last_write(e).is_some(),
         _ => false,
     }
+}
+
+/// A clock of zeros for each lock.
+fn lock_clocks(alloc: Global, linked: &Linked<'_>) -> Result<Vec<Clock>, NoMemory>
+    ensures { IfOk result (λ locks. HasLockClocks linked.now.events.now 0 linked.now.sizes.threads linked.now.sizes.locks locks.items) }
+{
+    let mut locks = Vec::new(alloc);
+    for lock in 0..linked.sizes.locks {
+        locks.push(Clock::new(alloc, linked.sizes.threads as usize)?)?;
+    }
+    Ok(locks)
 }
 
 impl LearnedPast {

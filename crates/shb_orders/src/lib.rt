@@ -3,8 +3,9 @@
 //!
 //! [`PlainOrder`] has marks by a backward sweep over the edges, for small traces. [`FullClocks`] has a
 //! vector clock for each event. [`ClockVersions`] has a clock only where a thread may learn of others (its
-//! first event, an acquire, a join, a read that has a last write), found by binary search. The passes that
-//! make these two keep a clock for each lock, where `shb_clocks` has a stamp.
+//! first event, an acquire, a join, a read that has a last write), found by binary search. The pass that
+//! finds these keeps a clock for each lock, where `shb_clocks` has a stamp; `full` takes each event's clock from
+//! them.
 #![tactic(auto)]
 
 mod clock;
@@ -14,7 +15,6 @@ mod full_clocks;
 mod kept_clocks;
 mod learned_past;
 mod marks;
-mod past;
 mod plain_order;
 mod thread_clocks;
 
