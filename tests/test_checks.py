@@ -67,6 +67,9 @@ LINES = [
     (b"events 4", b"events 04", b"bad line 2"),
     (b"events 4", b"events -4", b"bad line 2"),
     (b"variables 2", b"variables 2 ", b"bad line 2"),
+    (b"variables 2", b"variables ", b"bad line 2"),
+    (b"events 4", b"events %d" % GREATEST, b"bad counts"),
+    (b"events 4", b"events %d" % (GREATEST + 1), b"bad line 2"),
     (b"races 1", b"races %d" % (GREATEST + 1), b"bad line 3"),
     (b"races 1", b"races %d" % GREATEST, b"bad line 8"),
     (b"races 1", b"races 2", b"bad line 8"),
@@ -80,7 +83,9 @@ LINES = [
     (b"first T1|w(y)", b"first " + b"a" * 4097, b"bad line 5"),
     (b"first T1|w(y)", b"first " + b"a" * 4096, b"bad race 1"),
     (b"second T2|r(y)", b"second", b"bad line 6"),
+    (ONE_BLOCK, b"", b"bad line 4"),
     (b"schedule 1: 1\n", b"", b"bad line 7"),
+    (b"schedule 1: 1", b"schedule 1: 1 ", b"bad line 7"),
     (b"schedule 1: 1", b"schedule %d: 1" % GREATEST, b"bad line 7"),
     (b"schedule 1: 1", b"schedule 01: 1", b"bad line 7"),
     (b"schedule 1: 1", b"schedule 1: 01", b"bad line 7"),
@@ -108,6 +113,7 @@ PLACES = [
     (b"place 1: 1", b"place 2: 1", b"bad line 5"),
     (b"at \n", b"at a\n", b"bad places"),
     (b"and \n", b"and b\n", b"bad places"),
+    (b"and \n", b"and\n", b"bad line 7"),
     (b"at \n", b"at\n", b"bad line 6"),
     (b"at \n", b"at " + b"a" * 4096 + b"\n", b"bad places"),
     (b"at \n", b"at " + b"a" * 4097 + b"\n", b"bad line 6"),
@@ -135,6 +141,10 @@ FORK_LATE = b"T1|fork(T3)\nT2|join(T3)\nT1|w(x)\nT2|w(x)\n"
 NESTED = b"T1|acq(l)\nT1|acq(l)\nT1|w(x)\nT1|rel(l)\nT1|rel(l)\nT2|acq(l)\nT2|rel(l)\nT3|w(x)\n"
 LOCKED = b"T1|acq(l)\nT1|w(x)\nT1|rel(l)\nT2|acq(l)\nT2|r(x)\nT2|rel(l)\nT3|w(x)\n"
 
+# Two threads each of which reads what the other wrote, and a third race, which needs nothing of them.
+APART = b"T1|w(a)\nT2|w(b)\nT1|r(b)\nT2|r(a)\nT3|w(x)\nT4|w(x)\n"
+LAST_BLOCK = b"race 3: 5 6\nfirst T3|w(x)\nsecond T4|w(x)\nschedule "
+
 # Traces, their races with schedules, a schedule to be put in its place, and the verdict then.
 SCHEDULES = [
     # the read needs its last write before it
@@ -147,6 +157,14 @@ SCHEDULES = [
     (NESTED, b"schedule 2: 1 2", b"schedule 3: 1 2 6", b"bad race 1"),
     # the locked section stands in the order of the trace
     (LOCKED, b"schedule 4: 1 2 3 4", b"schedule 4: 4 1 2 3", b"bad race 2"),
+    # the inner release alone doesn't hand the lock on
+    (NESTED, b"schedule 2: 1 2", b"schedule 5: 1 2 3 4 6", b"bad race 1"),
+    # any order of the threads in which each read has its last write, and nothing is left out before an event
+    (APART, LAST_BLOCK + b"0:", LAST_BLOCK + b"4: 2 1 4 3", b"ok 3"),
+    (APART, LAST_BLOCK + b"0:", LAST_BLOCK + b"4: 1 2 3 4", b"ok 3"),
+    (APART, LAST_BLOCK + b"0:", LAST_BLOCK + b"2: 2 4", b"bad race 3"),
+    (APART, LAST_BLOCK + b"0:", LAST_BLOCK + b"2: 1 3", b"bad race 3"),
+    (APART, LAST_BLOCK + b"0:", LAST_BLOCK + b"1: 4", b"bad race 3"),
 ]
 
 # (a, b) and (b, a) are different places, in the order of their first races.

@@ -9,6 +9,7 @@ FAULTS = [
     (b"T1|w(x)\n\n\r\n|r(x)\n", "line 4: the thread name is empty"),
     (b"T1|r(x)\n\n\r\noops\n", "line 4: the line has no operation field"),
     (b"|r(x)\n", "line 1: the thread name is empty"),
+    (b"||r(x)", "line 1: the thread name is empty"),
     (b"T1|read(x)\n", "line 1: the operation is not known"),
     (b"T1 | r(x)\n", "line 1: the operation is not known"),
     (b"T1|\n", "line 1: the operation is not known"),
@@ -22,7 +23,10 @@ FAULTS = [
     (b"T1|begins\n", "line 1: the operation is not known"),
     (b"T1|r(" + b"a" * 4091 + b")\n", "line 1: the line is longer than 4096 bytes"),
     (b"".join(b"T%d|r(a)\n" % k for k in range(1025)), "line 1025: there are more than 1024 threads"),
+    (b"".join(b"T%d|r(a)\n" % k for k in range(1024)) + b"T1024|fork(T1024)\n", "line 1025: there are more than 1024 threads"),
     (b"T1|join(T2)\nT2|r(x)\n", "line 2: the thread was joined before"),
+    (b"T1|acq(l)\nT1|join(T2)\nT2|acq(l)\n", "line 3: the thread was joined before"),
+    (b"T1|join(T2)\nT2|oops(x)\n", "line 2: the operation is not known"),
     (b"T1|acq(l)\nT2|acq(l)\n", "line 2: the lock is held by another thread"),
     (b"T1|acq(l)\nT1|acq(l)\nT1|rel(l)\nT2|acq(l)\n", "line 4: the lock is held by another thread"),
     (b"T1|acq(l)\nT1|rel(l)\nT1|rel(l)\n", "line 3: the lock is not held by this thread"),
@@ -31,6 +35,7 @@ FAULTS = [
     (b"T1|w(x)\nT1|acq(l)\nT1|rel(l)\nT2|rel(l)\nT2|w(x)\n", "line 4: the lock is not held by this thread"),
     (b"T1|fork(T2)\nT1|join(T2)\nT3|fork(T2)\n", "line 3: the thread was forked before"),
     (b"T1|fork(T1)\n", "line 1: a thread cannot fork itself"),
+    (b"T1|r(x)\n\r\n\nT1|fork(T1)\n", "line 4: a thread cannot fork itself"),
     (b"T2|r(x)\nT1|fork(T2)\n", "line 2: the forked thread has started already"),
     (b"T1|fork(T2)\nT1|fork(T2)\n", "line 2: the thread was forked before"),
     (b"T1|join(T2)\nT1|fork(T2)\n", "line 2: the forked thread was joined before"),
@@ -54,10 +59,14 @@ class Traces(program.Case):
         for text, counts in (
             (b"", b"events 0 threads 0 locks 0 variables 0"),
             (b"\n\r\n\n", b"events 0 threads 0 locks 0 variables 0"),
+            (b"\r\n\r", b"events 0 threads 0 locks 0 variables 0"),
             (b"T1|r(" + b"a" * 4090 + b")\n", b"events 1 threads 1 locks 0 variables 1"),
             (b"".join(b"T%d|r(a)\n" % k for k in range(1024)), b"events 1024 threads 1024 locks 0 variables 1"),
             (b"T1|r(f(a))\n\x00\xff|r(f(a))", b"events 2 threads 2 locks 0 variables 1"),
+            (b"T1|w(x)|\xff||\r\r\n", b"events 1 threads 1 locks 0 variables 1"),
             (b"T1|acq(l)\nT1|acq(l)\n", b"events 2 threads 1 locks 1 variables 0"),
+            (b"T1|begin\nT1|acq(l)\nT1|end\n", b"events 3 threads 1 locks 1 variables 0"),
+            (b"T1|join(T2)\nT1|join(T2)\n", b"events 2 threads 2 locks 0 variables 0"),
         ):
             with self.subTest(counts):
                 answer = program.run(["races"], text)

@@ -2,21 +2,12 @@
 //! the last one is found.
 
 use crate::asserting::same;
-use crate::fixtures::{Question, asked};
+use crate::fixtures::{Question, asked, lines_of_one_thread};
 use shb_discipline::Disciplined;
 use shb_links::{Linked, Links};
 use shb_witness::{checkpoints_of, front_of};
 use std::alloc::Global;
 use std::test::Fail;
-
-/// The text of 200 events of one thread.
-fn one_thread(rt: &HostRuntime) -> Result<Vec<u8>, Fail> {
-    let mut text = Vec::new(rt.alloc());
-    for _event in 0..200 {
-        text.extend_from_slice(b"a|w(x)\n")?;
-    }
-    Ok(text)
-}
 
 /// The fronts that a cut is made from, at seven cuts.
 struct Fronts;
@@ -41,7 +32,7 @@ impl Question for Fronts {
 
 #[test]
 fn last_checkpoint_within_the_cut(rt: HostRuntime) -> Result<(), Fail> {
-    let text = one_thread(&rt)?;
+    let text = lines_of_one_thread(rt.alloc(), 200)?;
     let fronts = asked(&rt, text.as_slice(), &Fronts)?;
     // Before each checkpoint stand 64 events more than before the one before it.
     let wanted = [0, 64, 64, 128, 128, 192, 192];

@@ -16,13 +16,9 @@
 #[cfg(test)]
 mod asserting;
 #[cfg(test)]
-mod brute_replay;
-#[cfg(test)]
 mod checkpoints;
 #[cfg(test)]
 mod clocks;
-#[cfg(test)]
-mod discipline;
 #[cfg(test)]
 mod fixtures;
 #[cfg(test)]
@@ -31,8 +27,6 @@ mod lines;
 mod links;
 #[cfg(test)]
 mod pairs;
-#[cfg(test)]
-mod places;
 #[cfg(test)]
 mod replay;
 #[cfg(test)]

@@ -6,8 +6,7 @@ ghost use Rattle.shb_lines.specs.text.Limits.{AreStandard};
 use crate::asserting::{has_length, holds, same, same_bytes, same_in_row};
 use shb_io::{Endless, Source, Text};
 use shb_lines::Fault::{
-    BadOperand, EmptyThread, LineTooLong, MissingField, TextTooLong, TooManyEvents, TooManyThreads,
-    UnknownOperation,
+    LineTooLong, MissingField, TextTooLong, TooManyEvents, TooManyThreads, UnknownOperation,
 };
 use shb_lines::*;
 use std::test::Fail;
@@ -22,8 +21,6 @@ type Stop = Option<(u32, Fault)>;
 
 /// The standard limits but for one of them.
 const TWO_THREADS: Numbers = (MOST_BYTES, 4096, 4_194_304, 2);
-
-const ONE_THREAD: Numbers = (MOST_BYTES, 4096, 4_194_304, 1);
 
 const ONE_EVENT: Numbers = (MOST_BYTES, 4096, 1, 1024);
 
@@ -77,11 +74,9 @@ fn stop_of(
 /// Steps in which a text is handed out.
 const STEPS: [usize; 2] = [1, 1 << 20];
 
-/// Limits, a text, its first fault, and how many events and threads stand before it.
-const FIRST_FAULTS: [(Numbers, &[u8], Stop, u32, u32); 36] = [
-    (STANDARD, b"", None, 0, 0),
-    (STANDARD, b"\n\n\n", None, 0, 0),
-    (STANDARD, b"T1|w(y)|a|b\r\n\r\nT2|r(y)", None, 2, 2),
+/// Limits, a text, its first fault, and how many events and threads stand before it. Those of the
+/// program's own limits are in `tests/test_traces.py`.
+const FIRST_FAULTS: [(Numbers, &[u8], Stop, u32, u32); 15] = [
     (
         STANDARD,
         b"T1|w(x)\nT2|w(y)\nT2|rel(l)\nT1|w(x)\noops\n",
@@ -89,30 +84,6 @@ const FIRST_FAULTS: [(Numbers, &[u8], Stop, u32, u32); 36] = [
         4,
         2,
     ),
-    (
-        STANDARD,
-        b"T1|w(x)\nT2|w(y)\noops\nT1|w(x)\nT2|rel(l)\n",
-        Some((3, MissingField)),
-        2,
-        2,
-    ),
-    // Operations and operands.
-    (STANDARD, b"T1|r()\n", Some((1, BadOperand)), 0, 0),
-    (STANDARD, b"T1|r(x\n", Some((1, BadOperand)), 0, 0),
-    (STANDARD, b"T1|r\n", Some((1, BadOperand)), 0, 0),
-    (STANDARD, b"T1|\n", Some((1, UnknownOperation)), 0, 0),
-    (STANDARD, b"T1|read(x)\n", Some((1, UnknownOperation)), 0, 0),
-    (STANDARD, b"T1 | r(x)\n", Some((1, UnknownOperation)), 0, 0),
-    (STANDARD, b"|r(x)\n", Some((1, EmptyThread)), 0, 0),
-    (STANDARD, b"||r(x)", Some((1, EmptyThread)), 0, 0),
-    (STANDARD, b"T1|r(f(a))\n", None, 1, 1),
-    // Marks.
-    (STANDARD, b"T1|begin\nT2|begin(m)\nT2|end()\n", None, 3, 2),
-    (STANDARD, b"T1|begin(\n", Some((1, BadOperand)), 0, 0),
-    (STANDARD, b"T1|begin(m\n", Some((1, BadOperand)), 0, 0),
-    (STANDARD, b"T1|begins\n", Some((1, UnknownOperation)), 0, 0),
-    (STANDARD, b"T1|begin)\n", Some((1, UnknownOperation)), 0, 0),
-    // Limits.
     (
         TWO_THREADS,
         b"T1|fork(T2)\nT3|r(x)\n",
@@ -127,7 +98,6 @@ const FIRST_FAULTS: [(Numbers, &[u8], Stop, u32, u32); 36] = [
         1,
         1,
     ),
-    (ONE_THREAD, b"T1|fork(T1)\n", None, 1, 1),
     (
         ONE_EVENT,
         b"T1|r(x)\n\nT1|r(x)\n",
@@ -162,11 +132,8 @@ const FIRST_FAULTS: [(Numbers, &[u8], Stop, u32, u32); 36] = [
         0,
     ),
     (EMPTY_LINES, b"\r\n", Some((1, LineTooLong)), 0, 0),
-    // Bytes.
     (STANDARD, b"\r\r\n", Some((1, MissingField)), 0, 0),
-    (STANDARD, b"\r\n\r", None, 0, 0),
     (STANDARD, b"\x00\xff|r(x)\n", None, 1, 1),
-    (STANDARD, b"T1|w(x)|\xff||\r\r\n", None, 1, 1),
 ];
 
 #[test]
@@ -176,35 +143,6 @@ fn first_faults(rt: HostRuntime) -> Result<(), Fail> {
             let found = stop_of(&rt, text, *numbers, step)?;
             same_in_row(&rt, &found, &(*stop, *events, *threads), row);
         }
-    }
-    Ok(())
-}
-
-#[test]
-fn limits_of_threads(rt: HostRuntime) -> Result<(), Fail> {
-    let mut text = Vec::new(rt.alloc());
-    for k in 1..=1024 {
-        text.extend_from_slice(format!(in rt.alloc(); "T{k}|r(a)\n")?.as_bytes())?;
-    }
-    for step in STEPS {
-        let found = stop_of(&rt, &text, STANDARD, step)?;
-        same(&rt, &found, &(None, 1024, 1024), "1,024 threads");
-    }
-    text.extend_from_slice(b"T1025|r(a)\n")?;
-    let found = stop_of(&rt, &text, STANDARD, 1)?;
-    let wanted = (Some((1025, TooManyThreads)), 1024, 1024);
-    same(&rt, &found, &wanted, "one thread more");
-    Ok(())
-}
-
-#[test]
-fn limits_of_lines(rt: HostRuntime) -> Result<(), Fail> {
-    for (letters, wanted) in [(4090, None), (4091, Some((1, LineTooLong)))] {
-        let mut text = Vec::from_slice(rt.alloc(), b"T1|r(")?;
-        text.resize(letters + 5, b'a')?;
-        text.push(b')')?;
-        let (found, _, _) = stop_of(&rt, &text, STANDARD, 1)?;
-        same(&rt, &found, &wanted, "a long line");
     }
     Ok(())
 }
@@ -246,23 +184,6 @@ fn events_and_names(rt: HostRuntime) -> Result<(), Fail> {
     Ok(())
 }
 
-/// A source is read to its first empty read and no further, and its failure is answered.
-#[test]
-fn reads_that_fail(rt: HostRuntime) -> Result<(), Fail> {
-    for fail_at in 1..=15 {
-        let mut source = Text::new(b"T1|w(x)\noops\n", 1, Some(fail_at));
-        let found = parse(&rt, rt.alloc(), &mut source, &Limits::standard());
-        let stop = found.map(|parsed| parsed.stop.map(|stop| stop.line));
-        let wanted = if fail_at < 15 {
-            Err(ReadError::Source)
-        } else {
-            Ok(Some(2))
-        };
-        same(&rt, &stop, &wanted, "a read that fails");
-    }
-    Ok(())
-}
-
 #[test]
 fn sources_without_end(rt: HostRuntime) -> Result<(), Fail> {
     for (byte, line) in [(b'a', 1), (b'\n', 1001)] {
@@ -273,12 +194,4 @@ fn sources_without_end(rt: HostRuntime) -> Result<(), Fail> {
         same(&rt, &source.given(), &1001, "bytes given");
     }
     Ok(())
-}
-
-#[test]
-fn words_of_faults(rt: HostRuntime) {
-    same(&rt, &TextTooLong.number(), &1, "the first number");
-    same(&rt, &Fault::JoinSelf.number(), &17, "the last number");
-    let words = MissingField.message();
-    same(&rt, &words, &"the line has no operation field", "words");
 }

@@ -1,5 +1,0 @@
-use Rattle.std.proofs.Common.{◌≡◌}
-use Rattle.shb_tests.proofs.clocks.sweep_differs.Given as goal
-
-abbrev pub invariant-loop-e : goal.invariant-loop-e
-invariant-loop-e l = (l.sweep.trace ≡ l.trace.events.now) × (l.sweep.next ≡ l.e)
