@@ -1,8 +1,9 @@
 -- What is kept of the accesses, an access at a time.
 use Rattle.std.proofs.Common.{◌≡◌, ◌≢◌, ℕ, ◌+◌, ◌*◌, ◌<◌, ◌≤◌, ◌⊎◌, inl, inr, Bool, true, false, List, [], ◌∷◌, ◌++◌, Option, Some, None, length, get_or, slice_get, arith, refl, subst, ap, sym, ◌∙◌}
-use Rattle.std.specs.Prelude.{option_and_then}
+use Rattle.std.specs.Prelude.{min, option_and_then}
 use Rattle.std.proofs.Math.ListN.{set, length-set}
-use Rattle.std.proofs.lemmas.Bool.{cases_eq, cases_Bool}
+use Rattle.std.proofs.Math.Nat.{min-eq_left, min-eq_right, min-le_left, min-le_right}
+use Rattle.std.proofs.lemmas.Bool.{cases_eq, cases_Bool, cases_lt}
 use Rattle.std.proofs.lemmas.List.{length-append}
 use Rattle.std.proofs.lemmas.Option.{slice_get_within, slice_get-get_or}
 use Rattle.shb_lines.specs.declared.event.Event.{Event}
@@ -496,17 +497,28 @@ least_start trace sites notes s n head writes access kept is = record {
   races = λ some. absurd (some refl);
 }
 
-pub least_next : (trace : TraceData) (sites : List Site) (notes : Tables) (s : ℕ) (writes : Bool) (access : Access) (earliest p r next : ℕ) (class : Class) → slice_get notes.classes p ≡ Some class → IsEarliestIn trace sites notes s p access r → next ≤ earliest → next ≤ r → (next ≡ earliest) ⊎ (next ≡ r) → AreLeast trace sites notes s writes access earliest p
+-- the lesser of two numbers
+lesser : (a b m : ℕ) → m ≡ min a b → (m ≤ a) × (m ≤ b) × ((m ≡ a) ⊎ (m ≡ b))
+lesser a b m is = (
+  subst (λ (k : ℕ). k ≤ a) (sym is) (min-le_left a b),
+  subst (λ (k : ℕ). k ≤ b) (sym is) (min-le_right a b),
+  elim (cases_lt a b) [
+    | inl lt ↦ inl (is ∙ min-eq_left (omega (arith, lt)))
+    | inr ge ↦ inr (is ∙ min-eq_right (omega (arith, ge)))
+  ],
+)
+
+pub least_next : (trace : TraceData) (sites : List Site) (notes : Tables) (s : ℕ) (writes : Bool) (access : Access) (earliest p r next : ℕ) (class : Class) → slice_get notes.classes p ≡ Some class → IsEarliestIn trace sites notes s p access r → next ≡ min earliest r → AreLeast trace sites notes s writes access earliest p
     → ((e : ℕ) (noted : IsNotedAt notes s e) → noted.class.writes ≡ writes → Race trace.events e access.event → (next ≤ e) ⊎ ((class.next < p) × Reaches class_next notes.classes noted.number class.next)) × (next ≢ none → RacesAt trace sites s next access)
-least_next trace sites notes s writes access earliest p r next class there here_is low_e low_r one before = (
+least_next trace sites notes s writes access earliest p r next class there here_is is_min before = (
   (λ e noted kind race. elim (before.least e noted kind race) [
-    | inl le ↦ inl (omega (arith, le, low_e))
+    | inl le ↦ inl (let low = lesser earliest r next is_min in let low_e = low.0 in omega (arith, le, low_e))
     | inr rest ↦ elim (reaches_next class_next notes.classes noted.number p class there rest) [
-      | inl same ↦ inl (let le = here_is.least e noted (sym same) race in omega (arith, le, low_r))
+      | inl same ↦ inl (let le = here_is.least e noted (sym same) race in let low = lesser earliest r next is_min in let low_r = low.1 in omega (arith, le, low_r))
       | inr more ↦ inr more
     ]
   ]),
-  (λ some. elim one [
+  (λ some. elim (lesser earliest r next is_min).2 [
     | inl is ↦ subst (λ (k : ℕ). RacesAt trace sites s k access) (sym is) (before.races (λ same. some (is ∙ same)))
     | inr is ↦ subst (λ (k : ℕ). RacesAt trace sites s k access) (sym is) (here_is.races (λ same. some (is ∙ same)))
   ]),
@@ -592,13 +604,13 @@ earliest_write trace sites notes s access write kept own reads found = record {
 }
 
 -- the earliest access is the earliest write or the earliest read
-pub earliest_both : (trace : TraceData) (sites : List Site) (notes : Tables) (s : ℕ) (access : Access) (write read earliest : ℕ) → IsEarliestOf trace sites notes s true access write → IsEarliestOf trace sites notes s false access read → earliest ≤ write → earliest ≤ read → (earliest ≡ write) ⊎ (earliest ≡ read) → IsEarliestAt trace sites notes s access earliest
-earliest_both trace sites notes s access write read earliest of_writes of_reads low_write low_read one = record {
+pub earliest_both : (trace : TraceData) (sites : List Site) (notes : Tables) (s : ℕ) (access : Access) (write read earliest : ℕ) → IsEarliestOf trace sites notes s true access write → IsEarliestOf trace sites notes s false access read → earliest ≡ min write read → IsEarliestAt trace sites notes s access earliest
+earliest_both trace sites notes s access write read earliest of_writes of_reads is_min = record {
   least = λ e noted race. elim (cases_Bool noted.class.writes) [
-    | inl w ↦ (let le = of_writes.least e noted w race in omega (arith, le, low_write))
-    | inr r ↦ (let le = of_reads.least e noted r race in omega (arith, le, low_read))
+    | inl w ↦ (let le = of_writes.least e noted w race in let low = lesser write read earliest is_min in let low_write = low.0 in omega (arith, le, low_write))
+    | inr r ↦ (let le = of_reads.least e noted r race in let low = lesser write read earliest is_min in let low_read = low.1 in omega (arith, le, low_read))
   ];
-  races = λ some. elim one [
+  races = λ some. elim (lesser write read earliest is_min).2 [
     | inl is ↦ subst (λ (k : ℕ). RacesAt trace sites s k access) (sym is) (of_writes.races (λ same. some (is ∙ same)))
     | inr is ↦ subst (λ (k : ℕ). RacesAt trace sites s k access) (sym is) (of_reads.races (λ same. some (is ∙ same)))
   ];

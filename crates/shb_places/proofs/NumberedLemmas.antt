@@ -1,5 +1,5 @@
 -- Events whose lines are kept, one more at a time.
-use Rattle.std.proofs.Common.{◌≡◌, ℕ, zero, suc, ◌<◌, ◌≤◌, ◌⊎◌, inl, inr, List, [], ◌∷◌, Option, Some, None, length, slice_get, arith, ap, subst, sym, ◌∙◌}
+use Rattle.std.proofs.Common.{◌≡◌, ℕ, zero, suc, ◌<◌, ◌≤◌, ◌⊎◌, inl, inr, List, [], ◌∷◌, Option, Some, length, slice_get, arith, ap, subst, sym, ◌∙◌}
 use Rattle.std.specs.Prelude.{get_or, replicate, unwrap_or}
 use Rattle.std.proofs.Math.ListN.{set, length-replicate, get_or-replicate}
 use Rattle.std.proofs.lemmas.Bool.{cases_eq}

@@ -1,8 +1,7 @@
 -- The search, an access at a time.
-use Rattle.std.proofs.Common.{◌≡◌, ◌≢◌, ℕ, ◌+◌, ◌<◌, ◌≤◌, ◌⊎◌, inl, inr, Bool, true, false, List, [], Option, Some, None, length, get_or, slice_get, arith, refl, subst, ap, sym, ◌∙◌}
+use Rattle.std.proofs.Common.{◌≡◌, ◌≢◌, ℕ, ◌+◌, ◌<◌, ◌≤◌, inl, inr, Bool, true, false, List, [], Option, Some, None, length, get_or, slice_get, arith, refl, subst, ap, sym, ◌∙◌}
 use Rattle.std.proofs.lemmas.Bool.{cases_eq}
 use Rattle.std.proofs.lemmas.List.Elements.{Contains-get_or}
-use Rattle.std.proofs.lemmas.Option.{slice_get_within}
 use Rattle.shb_clocks.specs.Open.{is_open}
 use Rattle.shb_lines.specs.declared.event.Pair.{Pair}
 use Rattle.shb_lines.specs.events.Discipline.{local_time}
@@ -20,14 +19,13 @@ use Rattle.shb_places.specs.declared.sites.Site.{Site}
 use Rattle.shb_places.specs.declared.sites.Sites.{Sites}
 use Rattle.shb_places.specs.Access.{IsAccess}
 use Rattle.shb_places.specs.Covering.{Covers, IsCovered}
-use Rattle.shb_places.specs.Known.{IsKnown}
 use Rattle.shb_places.specs.Found.{AreFound, Improves, IsFound, IsOffered}
-use Rattle.shb_places.specs.Lists.{Reaches, none, site_previous}
+use Rattle.shb_places.specs.Lists.{none}
 use Rattle.shb_places.specs.Notes.{AreKept, IsAddable, IsAdded, IsEarliestAt, IsNotedAt, Tables, tables_of}
 use Rattle.shb_places.specs.Searched.{IsAsked, IsAskedAll, IsSearched}
-use Rattle.shb_places.specs.Sites.{AreMore, AreSites, IsSite}
+use Rattle.shb_places.specs.Sites.{AreMore, IsSite}
 use Rattle.shb_places.proofs.FoundLemmas.{covered_by, covered_self, covered_then, found_variable, key_then, key_to, same_places}
-use Rattle.shb_places.proofs.Lists.{reaches_end, reaches_next, same_entry}
+use Rattle.shb_places.proofs.Lists.{same_entry}
 use Rattle.shb_places.proofs.NoteLemmas.{chain_in}
 
 -- an access that is kept at a site is one of its variable and location
@@ -52,14 +50,6 @@ asked_other trace sites notes access s site places races own kept at_site found 
   found = found;
   improves = found_same trace (access.event + 1) places races found;
   covers = λ i noted race. absurd (other (race_variable trace i site.variable access own (noted_in trace sites notes s i access.event site kept at_site noted).0 race));
-}
-
--- the place is known
-pub asked_known : (trace : TraceData) (sites : List Site) (notes : Tables) (access : Access) (s : ℕ) (site : Site) (places : List Place) (races : List Pair) → IsAccess trace access → AreKept trace sites notes access.event → slice_get sites s ≡ Some site → AreFound trace (access.event + 1) places races → IsKnown trace races access.variable site.location access.location access.event → IsAsked trace notes access s races places races
-asked_known trace sites notes access s site places races own kept at_site found known = record {
-  found = found;
-  improves = found_same trace (access.event + 1) places races found;
-  covers = λ i noted race. known.covers i access.event (omega arith) own.variable (noted_in trace sites notes s i access.event site kept at_site noted).1 own.location;
 }
 
 -- no access there races
@@ -98,43 +88,6 @@ asked_offered trace sites notes access s earliest site old places new own kept a
       let v = found_variable trace (access.event + 1) places new cover.pair offered.found cover.there in
       covered_by trace new cover.pair i access.event v.0.variable access.variable cover.there (cover.same_place ∙ same_places trace earliest access.event i access.event here_is refl) v.1.variable_is own.variable
       (key_then v.0.variable cover.pair.second cover.pair.first access.variable access.event earliest access.variable access.event i (key_to v.0.variable cover.pair.second cover.pair.first access.variable access.event earliest (cover.not_after v.0.variable access.variable v.1.variable_is own.variable)) (inr (refl, inr (refl, low)))));
-}
-
--- a list of sites from one on is asked
-pub record AreAsked (trace : TraceData) (sites : List Site) (notes : Tables) (access : Access) (old : List Pair) (places : List Place) (new : List Pair) (p : ℕ) : Type 0 where
-  pub found : AreFound trace (access.event + 1) places new
-  pub improves : Improves trace old new
-  pub covers : (s i : ℕ) (site : Site) → slice_get sites s ≡ Some site → site.variable ≡ access.variable → IsNotedAt notes s i → Race trace.events i access.event → IsCovered trace new i access.event ⊎ Reaches site_previous sites s p
-
-pub asked_start : (trace : TraceData) (newest : List ℕ) (sites : List Site) (notes : Tables) (access : Access) (places : List Place) (races : List Pair) (p : ℕ) → AreSites newest sites → AreFound trace (access.event + 1) places races → ((head : ℕ) → slice_get newest access.variable ≡ Some head → p ≡ head) → AreAsked trace sites notes access races places races p
-asked_start trace newest sites notes access places races p listed found is = record {
-  found = found;
-  improves = found_same trace (access.event + 1) places races found;
-  covers = λ s i site there same noted race. inr (let h = listed s site there in subst (λ (k : ℕ). Reaches site_previous sites s k) (sym (is h.0 (subst (λ (x : ℕ). slice_get newest x ≡ Some h.0) same h.1))) h.2);
-}
-
-pub asked_next : (trace : TraceData) (sites : List Site) (notes : Tables) (access : Access) (old : List Pair) (start places more : List Place) (races new : List Pair) (p : ℕ) (at : Site) → slice_get sites p ≡ Some at → AreAsked trace sites notes access old places races p → IsAsked trace notes access p races more new
-    → AreFound trace (access.event + 1) more new × Improves trace old new × ((s i : ℕ) (site : Site) → slice_get sites s ≡ Some site → site.variable ≡ access.variable → IsNotedAt notes s i → Race trace.events i access.event → IsCovered trace new i access.event ⊎ ((at.previous < p) × Reaches site_previous sites s at.previous))
-asked_next trace sites notes access old start places more races new p at there before asked = (
-  asked.found,
-  (λ race is. covered_then trace (access.event + 1) places races new race.first race.second before.found asked.improves (before.improves race is)),
-  (λ s i site at_site same noted race. elim (before.covers s i site at_site same noted race) [
-    | inl cover ↦ inl (covered_then trace (access.event + 1) places races new i access.event before.found asked.improves cover)
-    | inr rest ↦ elim (reaches_next site_previous sites s p at there rest) [
-      | inl here_is ↦ inl (asked.covers i (subst (λ (k : ℕ). IsNotedAt notes k i) (sym here_is) noted) race)
-      | inr next ↦ inr next
-    ]
-  ]),
-)
-
-pub asked_end : (trace : TraceData) (sites : List Site) (notes : Tables) (access : Access) (old : List Pair) (places : List Place) (races : List Pair) (p : ℕ) → length sites ≤ p → AreAsked trace sites notes access old places races p → IsAskedAll trace sites notes access old places races
-asked_end trace sites notes access old places races p past h = record {
-  found = h.found;
-  improves = h.improves;
-  covers = λ s i site at_site same noted race. elim (h.covers s i site at_site same noted race) [
-    | inl cover ↦ cover
-    | inr rest ↦ absurd (let is = reaches_end site_previous sites s p past rest in let low = slice_get_within sites s site at_site in omega (arith, is, low, past))
-  ];
 }
 
 -- what is kept stays when sites come

@@ -15,7 +15,6 @@ use Rattle.shb_places.specs.declared.notes.Notes.{Notes}
 use Rattle.shb_places.specs.declared.sites.Site.{Site}
 use Rattle.shb_places.specs.declared.sites.Sites.{Sites}
 use Rattle.shb_places.specs.declared.wanted.Wanted.{Wanted}
-use Rattle.shb_places.specs.declared.wanted.WantedLists.{WantedLists}
 use Rattle.shb_places.specs.Access.{IsAccess}
 use Rattle.shb_places.specs.Found.{AreFound}
 use Rattle.shb_places.specs.Notes.{IsAdded, Tables, tables_of}
@@ -27,17 +26,17 @@ use Rattle.shb_places.proofs.SearchLemmas.{found_later, found_same, kept_grown, 
 use Rattle.shb_places.proofs.WantedLemmas.{told_held, wanted_grown, wanted_then}
 
 -- what a list holds for the accesses of its site
-pub held_of : (trace : TraceData) (sites : List Site) (races : List Pair) (n x m s : ℕ) (list : Wanted) → IsSite sites x m s → list.asker ≡ s → IsWanted trace sites races n list → AreHeld trace sites races list.sites.items x m n list.looked
-held_of trace sites races n x m s list is of_s h =
-    let same = same_entry sites s h.asker is.site (subst (λ (k : ℕ). slice_get sites k ≡ Some h.asker) of_s h.at_asker) is.there in
+pub held_of : (trace : TraceData) (sites : List Site) (races : List Pair) (n x m s : ℕ) (list : Wanted) → IsSite sites x m s → IsWanted trace sites races n s list → AreHeld trace sites races list.sites.items x m n list.looked
+held_of trace sites races n x m s list is h =
+    let same = same_entry sites s h.asker is.site h.at_asker is.there in
     subst (λ (l : ℕ). AreHeld trace sites races list.sites.items x l n list.looked) (ap (λ (k : Site). k.location) same ∙ is.location_is)
     (subst (λ (y : ℕ). AreHeld trace sites races list.sites.items y h.asker.location n list.looked) (ap (λ (k : Site). k.variable) same ∙ is.variable_is) h.held)
 
--- the lists after the list k was asked
-pub lists_asked : (trace : TraceData) (sites : List Site) (notes : Tables) (lists : List Wanted) (k s : ℕ) (list after : Wanted) (middle : List ℕ) (start places : List Place) (old new : List Pair) (access : Access) → AreFound trace (access.event + 1) start old → slice_get lists k ≡ Some list → after.asker ≡ s → IsSite sites access.variable access.location s → AreWanted trace sites old access.event lists → AreHeld trace sites old middle access.variable access.location access.event (length sites) → AreToldFrom trace sites notes access 0 middle after.sites.items old places new → after.looked ≤ length sites → AreWanted trace sites new (access.event + 1) (set lists k after)
-lists_asked trace sites notes lists k s list after middle start places old new access found at of_s is before held told few j other at_other = elim (cases_eq j k) [
-  | inl same ↦ subst (λ (w : Wanted). IsWanted trace sites new (access.event + 1) w) (same_entry (set lists k after) k after other (get_set lists k after (slice_get_within lists k list at)) (subst (λ (n : ℕ). slice_get (set lists k after) n ≡ Some other) same at_other)) asked
-  | inr ne ↦ wanted_then trace sites (access.event + 1) access.event (access.event + 1) start old new other found told.improves (omega arith) (before j other (sym (get_set_other lists k j after ne) ∙ at_other))
+-- the lists after the list of the site s was asked
+pub lists_asked : (trace : TraceData) (sites : List Site) (notes : Tables) (lists : List Wanted) (s : ℕ) (list after : Wanted) (middle : List ℕ) (start places : List Place) (old new : List Pair) (access : Access) → AreFound trace (access.event + 1) start old → slice_get lists s ≡ Some list → IsSite sites access.variable access.location s → AreWanted trace sites old access.event lists → AreHeld trace sites old middle access.variable access.location access.event (length sites) → AreToldFrom trace sites notes access 0 middle after.sites.items old places new → after.looked ≤ length sites → AreWanted trace sites new (access.event + 1) (set lists s after)
+lists_asked trace sites notes lists s list after middle start places old new access found at is before held told few j other at_other = elim (cases_eq j s) [
+  | inl same ↦ subst (λ (n : ℕ). IsWanted trace sites new (access.event + 1) n other) (sym same) (subst (λ (w : Wanted). IsWanted trace sites new (access.event + 1) s w) (same_entry (set lists s after) s after other (get_set lists s after (slice_get_within lists s list at)) (subst (λ (n : ℕ). slice_get (set lists s after) n ≡ Some other) same at_other)) asked)
+  | inr ne ↦ wanted_then trace sites (access.event + 1) access.event (access.event + 1) j start old new other found told.improves (omega arith) (before j other (sym (get_set_other lists s j after ne) ∙ at_other))
 ]
   where
     held_now : AreHeld trace sites new after.sites.items access.variable access.location (access.event + 1) (length sites)
@@ -46,25 +45,25 @@ lists_asked trace sites notes lists k s list after middle start places old new a
     held_site : AreHeld trace sites new after.sites.items is.site.variable is.site.location (access.event + 1) (length sites)
     held_site = subst (λ (l : ℕ). AreHeld trace sites new after.sites.items is.site.variable l (access.event + 1) (length sites)) (sym is.location_is) (subst (λ (x : ℕ). AreHeld trace sites new after.sites.items x access.location (access.event + 1) (length sites)) (sym is.variable_is) held_now)
 
-    asked : IsWanted trace sites new (access.event + 1) after
+    asked : IsWanted trace sites new (access.event + 1) s after
     asked = record {
       asker = is.site;
-      at_asker = subst (λ (n : ℕ). slice_get sites n ≡ Some is.site) (sym of_s) is.there;
+      at_asker = is.there;
       looked = few;
       held = λ t site low at_t same. held_site t site (omega (arith, low, few)) at_t same;
     }
 
 -- an access can be asked when its site is there
-pub can_ask : (trace : TraceData) (flags : List Bool) (sites more : Sites) (notes : Notes) (lists : WantedLists) (table : Found) (access : Access) → AreSearched trace flags sites notes lists table access.event → AreMore sites.newest.items sites.sites.items more.newest.items more.sites.items → IsAskable trace more notes lists table access
+pub can_ask : (trace : TraceData) (flags : List Bool) (sites more : Sites) (notes : Notes) (lists : List Wanted) (table : Found) (access : Access) → AreSearched trace flags sites notes lists table access.event → AreMore sites.newest.items sites.sites.items more.newest.items more.sites.items → IsAskable trace more notes lists table access
 can_ask trace flags sites more notes lists table access h grown = record {
   listed = grown.listed h.searched.listed;
   kept = kept_grown trace flags sites more notes table access.event h.searched grown;
   found = found_later trace access.event table.places.items table.races.items h.searched.found;
-  wanted = λ k list at. wanted_grown trace sites.sites.items more.sites.items table.races.items access.event list grown.stay (h.wanted k list at);
+  wanted = λ k list at. wanted_grown trace sites.sites.items more.sites.items table.races.items access.event k list grown.stay (h.wanted k list at);
 }
 
 -- an access of an open variable
-pub taken_all : (trace : TraceData) (flags : List Bool) (sites more last : Sites) (notes same after : Notes) (lists later : WantedLists) (table next : Found) (s : ℕ) (access : Access) → IsAccess trace access → is_open flags access.variable ≡ true → AreSearched trace flags sites notes lists table access.event → AreMore sites.newest.items sites.sites.items more.newest.items more.sites.items → IsSite more.sites.items access.variable access.location s → last ≡ more → same ≡ notes → IsAskedBy trace more notes later table next access → IsAdded trace more.sites.items (tables_of same) (tables_of after) s access.event → AreSearched trace flags last after later next (access.event + 1)
+pub taken_all : (trace : TraceData) (flags : List Bool) (sites more last : Sites) (notes same after : Notes) (lists later : List Wanted) (table next : Found) (s : ℕ) (access : Access) → IsAccess trace access → is_open flags access.variable ≡ true → AreSearched trace flags sites notes lists table access.event → AreMore sites.newest.items sites.sites.items more.newest.items more.sites.items → IsSite more.sites.items access.variable access.location s → last ≡ more → same ≡ notes → IsAskedBy trace more notes later table next access → IsAdded trace more.sites.items (tables_of same) (tables_of after) s access.event → AreSearched trace flags last after later next (access.event + 1)
 taken_all trace flags sites more last notes same after lists later table next s access own is_so h grown is last_is same_is asked added =
     subst (λ (t : Sites). AreSearched trace flags t after later next (access.event + 1)) (sym last_is) (record {
       searched = taken trace flags sites more notes after table next s access own is_so h.searched grown is asked.asked (subst (λ (n : Notes). IsAdded trace more.sites.items (tables_of n) (tables_of after) s access.event) same_is added);
@@ -72,8 +71,8 @@ taken_all trace flags sites more last notes same after lists later table next s 
     })
 
 -- an event without an access of an open variable
-pub passed_other : (trace : TraceData) (flags : List Bool) (sites : Sites) (notes : Notes) (lists : WantedLists) (table : Found) (n : ℕ) → AreOpen trace.events flags → ((x : ℕ) → variable_at trace.events n ≡ Some x → is_open flags x ≡ false) → AreSearched trace flags sites notes lists table n → AreSearched trace flags sites notes lists table (n + 1)
+pub passed_other : (trace : TraceData) (flags : List Bool) (sites : Sites) (notes : Notes) (lists : List Wanted) (table : Found) (n : ℕ) → AreOpen trace.events flags → ((x : ℕ) → variable_at trace.events n ≡ Some x → is_open flags x ≡ false) → AreSearched trace flags sites notes lists table n → AreSearched trace flags sites notes lists table (n + 1)
 passed_other trace flags sites notes lists table n settled shut h = record {
   searched = searched_other trace flags sites notes table n settled shut h.searched;
-  wanted = λ k list at. wanted_then trace sites.sites.items n n (n + 1) table.places.items table.races.items table.races.items list h.searched.found (found_same trace n table.places.items table.races.items h.searched.found) (omega arith) (h.wanted k list at);
+  wanted = λ k list at. wanted_then trace sites.sites.items n n (n + 1) k table.places.items table.races.items table.races.items list h.searched.found (found_same trace n table.places.items table.races.items h.searched.found) (omega arith) (h.wanted k list at);
 }

@@ -1,5 +1,5 @@
 -- The lists of the sites that still have to be asked.
-use Rattle.std.proofs.Common.{◌≡◌, ◌≢◌, ℕ, zero, suc, ◌+◌, ◌<◌, ◌≤◌, ◌⊎◌, inl, inr, Bool, true, false, List, [], ◌∷◌, ◌++◌, Some, length, get_or, slice_get, arith, refl, subst, sym, ◌∙◌}
+use Rattle.std.proofs.Common.{◌≡◌, ◌≢◌, ℕ, zero, suc, ◌+◌, ◌<◌, ◌≤◌, ◌⊎◌, inl, inr, Bool, true, false, List, [], ◌∷◌, ◌++◌, None, Some, length, get_or, slice_get, arith, refl, ap, subst, sym, ◌∙◌}
 use Rattle.std.specs.Prelude.{Contains}
 use Rattle.std.proofs.lemmas.Bool.{cases_eq}
 use Rattle.std.proofs.lemmas.Option.{slice_get_within, slice_get-get_or}
@@ -12,17 +12,17 @@ use Rattle.shb_places.specs.declared.sites.Site.{Site}
 use Rattle.shb_places.specs.declared.wanted.Wanted.{Wanted}
 use Rattle.shb_places.specs.Access.{IsAccess}
 use Rattle.shb_places.specs.Covering.{IsCovered}
-use Rattle.shb_places.specs.Found.{AreFound, Improves}
+use Rattle.shb_places.specs.Found.{AreFound, Improves, IsOffered}
 use Rattle.shb_places.specs.Known.{IsKnown}
-use Rattle.shb_places.specs.Lists.{Reaches, site_previous}
-use Rattle.shb_places.specs.Notes.{AreKept, IsNotedAt, Tables}
-use Rattle.shb_places.specs.Searched.{AreToldFrom, IsAskedAll, IsTold, IsToldOf}
+use Rattle.shb_places.specs.Lists.{Reaches, none, site_previous}
+use Rattle.shb_places.specs.Notes.{AreKept, IsEarliestAt, IsNotedAt, Tables}
+use Rattle.shb_places.specs.Searched.{AreToldFrom, IsAskedAll, IsTold}
 use Rattle.shb_places.specs.Sites.{AreSites}
-use Rattle.shb_places.specs.Wanted.{AreHeld, AreWanted, IsListOf, IsWanted}
+use Rattle.shb_places.specs.Wanted.{AreHeld, AreWanted, IsWanted}
 use Rattle.shb_places.proofs.FoundLemmas.{covered_by, covered_then, found_variable, key_then, key_to, known_then, same_places}
-use Rattle.shb_places.proofs.Lists.{contains_get, get_cases, get_last, reaches_down, reaches_end, reaches_next, same_entry}
+use Rattle.shb_places.proofs.Lists.{contains_get, get_cases, reaches_down, reaches_end, reaches_next, same_entry}
 use Rattle.shb_places.proofs.NoteLemmas.{not_both}
-use Rattle.shb_places.proofs.SearchLemmas.{asked_other, found_same, noted_in}
+use Rattle.shb_places.proofs.SearchLemmas.{asked_none, asked_offered, asked_other, found_same, noted_in}
 
 -- sites that are in the list, or known, or still to be looked at from the site p back
 pub record AreLookedFrom (trace : TraceData) (sites : List Site) (races : List Pair) (list : List ℕ) (x m n looked p : ℕ) : Type 0 where
@@ -69,24 +69,32 @@ looked_before trace sites races list x m n looked p before h s site low at same 
   | inr rest ↦ h.held s site (let down = reaches_down site_previous sites s p rest in omega (arith, down, before)) at same
 ]
 
--- a new list, which looked at nothing
-pub listed_new : (lists all : List Wanted) (last : Wanted) (k : ℕ) → all ≡ lists ++ last ∷ [] → k ≡ length lists → IsListOf all last.asker k
-listed_new lists all last k grown is = subst (λ (ls : List Wanted). IsListOf ls last.asker k) (sym grown) (record { list = last; there = get_last lists last k is; asker_is = refl })
+-- no lists
+pub wanted_none : (trace : TraceData) (sites : List Site) (races : List Pair) (n : ℕ) (lists : List Wanted) → lists ≡ [] → AreWanted trace sites races n lists
+wanted_none trace sites races n lists none_yet k list at = absurd (apart (subst (λ (ls : List Wanted). slice_get ls k ≡ Some list) none_yet at))
+  where
+    apart : {T : Type 0} {x : T} → None ≡ Some x → ⊥
+    apart e = cc
 
-pub wanted_new : (trace : TraceData) (sites : List Site) (races : List Pair) (n : ℕ) (lists all : List Wanted) (last : Wanted) (asker : Site) → all ≡ lists ++ last ∷ [] → slice_get sites last.asker ≡ Some asker → last.looked ≡ 0 → AreWanted trace sites races n lists → AreWanted trace sites races n all
-wanted_new trace sites races n lists all last asker grown at_asker nothing h k list at = elim (get_cases lists last k list (subst (λ (ls : List Wanted). slice_get ls k ≡ Some list) grown at)) [
+-- a new list, which looked at nothing
+pub wanted_new : (trace : TraceData) (sites : List Site) (races : List Pair) (n : ℕ) (lists all : List Wanted) (last : Wanted) → all ≡ lists ++ last ∷ [] → length lists < length sites → last.looked ≡ 0 → AreWanted trace sites races n lists → AreWanted trace sites races n all
+wanted_new trace sites races n lists all last grown low nothing h k list at = elim (get_cases lists last k list (subst (λ (ls : List Wanted). slice_get ls k ≡ Some list) grown at)) [
   | inl old ↦ h k list old
-  | inr new ↦ subst (λ (w : Wanted). IsWanted trace sites races n w) new.1 (record {
-    asker = asker;
-    at_asker = at_asker;
-    looked = omega (arith, nothing);
-    held = λ s site low. absurd (omega (arith, low, nothing));
-  })
+  | inr new ↦ (
+      let d : Site = record { variable = 0; location = 0; previous = 0 } in
+      let asker = get_or sites (length lists) d in
+      let at_asker = slice_get-get_or sites (length lists) d low in
+      subst (λ (w : Wanted). IsWanted trace sites races n k w) new.1 (record {
+        asker = asker;
+        at_asker = subst (λ (m : ℕ). slice_get sites m ≡ Some asker) (sym new.0) at_asker;
+        looked = omega (arith, nothing);
+        held = λ s site below. absurd (omega (arith, below, nothing));
+      }))
 ]
 
 -- a list stays, for later events and for races that improve
-pub wanted_then : (trace : TraceData) (sites : List Site) (m n next : ℕ) (places : List Place) (old new : List Pair) (list : Wanted) → AreFound trace m places old → Improves trace old new → n ≤ next → IsWanted trace sites old n list → IsWanted trace sites new next list
-wanted_then trace sites m n next places old new list found improves later h = record {
+pub wanted_then : (trace : TraceData) (sites : List Site) (m n next k : ℕ) (places : List Place) (old new : List Pair) (list : Wanted) → AreFound trace m places old → Improves trace old new → n ≤ next → IsWanted trace sites old n k list → IsWanted trace sites new next k list
+wanted_then trace sites m n next k places old new list found improves later h = record {
   asker = h.asker;
   at_asker = h.at_asker;
   looked = h.looked;
@@ -104,10 +112,10 @@ within_more old new (suc n) stay le =
     omega (arith, low)
 
 -- a list stays when sites come
-pub wanted_grown : (trace : TraceData) (old new : List Site) (races : List Pair) (n : ℕ) (list : Wanted) → ((s : ℕ) (site : Site) → slice_get old s ≡ Some site → slice_get new s ≡ Some site) → IsWanted trace old races n list → IsWanted trace new races n list
-wanted_grown trace old new races n list stay h = record {
+pub wanted_grown : (trace : TraceData) (old new : List Site) (races : List Pair) (n k : ℕ) (list : Wanted) → ((s : ℕ) (site : Site) → slice_get old s ≡ Some site → slice_get new s ≡ Some site) → IsWanted trace old races n k list → IsWanted trace new races n k list
+wanted_grown trace old new races n k list stay h = record {
   asker = h.asker;
-  at_asker = stay list.asker h.asker h.at_asker;
+  at_asker = stay k h.asker h.at_asker;
   looked = within_more old new list.looked stay h.looked;
   held = λ s site low at same. (
       let d : Site = record { variable = 0; location = 0; previous = 0 } in
@@ -128,29 +136,41 @@ offered_known trace access earliest l places new own found cover located = recor
 }
 
 -- no site, or one of another variable
-pub told_no_site : (trace : TraceData) (sites : List Site) (notes : Tables) (access : Access) (s : ℕ) (places : List Place) (races : List Pair) → length sites ≤ s → AreFound trace (access.event + 1) places races → IsToldOf trace sites notes access s false races places races
-told_no_site trace sites notes access s places races past found = record {
-  found = found;
-  improves = found_same trace (access.event + 1) places races found;
-  told = λ site at. absurd (let low = slice_get_within sites s site at in omega (arith, low, past));
-}
-
-pub told_other : (trace : TraceData) (sites : List Site) (notes : Tables) (access : Access) (s : ℕ) (site : Site) (places : List Place) (races : List Pair) → IsAccess trace access → AreKept trace sites notes access.event → slice_get sites s ≡ Some site → AreFound trace (access.event + 1) places races → site.variable ≢ access.variable → IsToldOf trace sites notes access s false races places races
-told_other trace sites notes access s site places races own kept at found other = record {
-  found = found;
-  improves = found_same trace (access.event + 1) places races found;
-  told = λ same at_same. record {
-    asked = asked_other trace sites notes access s site places races own kept at found other;
-    known_is = λ yes. absurd (not_both false refl yes);
+pub told_no_site : (trace : TraceData) (sites : List Site) (notes : Tables) (access : Access) (s : ℕ) (places : List Place) (races : List Pair) → AreKept trace sites notes access.event → length sites ≤ s → AreFound trace (access.event + 1) places races → IsTold trace sites notes access s false races places races
+told_no_site trace sites notes access s places races kept past found = record {
+  asked = record {
+    found = found;
+    improves = found_same trace (access.event + 1) places races found;
+    covers = λ i noted race. absurd (
+        let is = noted.site_is in
+        let own = kept.classes noted.number noted.class noted.there in
+        let low = slice_get_within sites noted.class.site own.site own.at_site in
+        omega (arith, is, low, past));
   };
+  known_is = λ yes. absurd (not_both false refl yes);
 }
 
-pub told_site : (trace : TraceData) (sites : List Site) (notes : Tables) (access : Access) (s : ℕ) (site : Site) (known : Bool) (old : List Pair) (places : List Place) (new : List Pair) → slice_get sites s ≡ Some site → IsTold trace notes access s site known old places new → IsToldOf trace sites notes access s known old places new
-told_site trace sites notes access s site known old places new at told = record {
-  found = told.asked.found;
-  improves = told.asked.improves;
-  told = λ other at_other. subst (λ (k : Site). IsTold trace notes access s k known old places new) (same_entry sites s site other at at_other) told;
+pub told_other : (trace : TraceData) (sites : List Site) (notes : Tables) (access : Access) (s : ℕ) (site : Site) (places : List Place) (races : List Pair) → IsAccess trace access → AreKept trace sites notes access.event → slice_get sites s ≡ Some site → AreFound trace (access.event + 1) places races → site.variable ≢ access.variable → IsTold trace sites notes access s false races places races
+told_other trace sites notes access s site places races own kept at found other = record {
+  asked = asked_other trace sites notes access s site places races own kept at found other;
+  known_is = λ yes. absurd (not_both false refl yes);
 }
+
+-- no access there races
+pub told_none : (trace : TraceData) (sites : List Site) (notes : Tables) (access : Access) (s : ℕ) (places : List Place) (races : List Pair) → access.event < none → AreFound trace (access.event + 1) places races → IsEarliestAt trace sites notes s access none → IsTold trace sites notes access s false races places races
+told_none trace sites notes access s places races few found nothing = record {
+  asked = asked_none trace sites notes access s places races few found nothing;
+  known_is = λ yes. absurd (not_both false refl yes);
+}
+
+-- the earliest was offered
+pub told_offered : (trace : TraceData) (sites : List Site) (notes : Tables) (access : Access) (s earliest : ℕ) (site : Site) (old : List Pair) (places : List Place) (new : List Pair) → IsAccess trace access → AreKept trace sites notes access.event → slice_get sites s ≡ Some site → IsEarliestAt trace sites notes s access earliest → earliest ≢ none → IsOffered trace (access.event + 1) places old new (record { first = earliest; second = access.event }) → IsTold trace sites notes access s true old places new
+told_offered trace sites notes access s earliest site old places new own kept at least some offered =
+    let h = least.races some in
+    record {
+      asked = asked_offered trace sites notes access s earliest site old places new own kept at least some offered;
+      known_is = λ yes other at_other. offered_known trace access earliest other.location places new own offered.found offered.covered (h.location_is ∙ ap (λ (k : Site). location_at trace k.location) (same_entry sites s h.site other h.at_site at_other));
+    }
 
 -- a list of which nothing is asked yet
 pub told_start : (trace : TraceData) (sites : List Site) (notes : Tables) (access : Access) (k : ℕ) (list : List ℕ) (places : List Place) (races : List Pair) → length list ≤ k → AreFound trace (access.event + 1) places races → AreToldFrom trace sites notes access k list list races places races
@@ -165,32 +185,30 @@ told_start trace sites notes access k list places races past found = record {
 pub told_next : (trace : TraceData) (sites : List Site) (notes : Tables) (access : Access) (k s : ℕ) (known : Bool) (before list after : List ℕ) (old : List Pair) (places more : List Place) (races new : List Pair) → slice_get list k ≡ Some s
     → ((r t : ℕ) → slice_get list k ≡ Some r → Contains list t → Contains after t ⊎ ((r ≡ t) × (known ≡ true)))
     → ((j t : ℕ) → k ≤ j → slice_get after j ≡ Some t → (i : ℕ) × (k ≤ i) × (slice_get list i ≡ Some t))
-    → IsToldOf trace sites notes access s known races more new → AreToldFrom trace sites notes access (k + 1) before list old places races → AreToldFrom trace sites notes access k before after old more new
+    → IsTold trace sites notes access s known races more new → AreToldFrom trace sites notes access (k + 1) before list old places races → AreToldFrom trace sites notes access k before after old more new
 told_next trace sites notes access k s known before list after old places more races new at stay later told h = record {
-  found = told.found;
-  improves = λ race is. covered_then trace (access.event + 1) places races new race.first race.second h.found told.improves (h.improves race is);
+  found = told.asked.found;
+  improves = λ race is. covered_then trace (access.event + 1) places races new race.first race.second h.found told.asked.improves (h.improves race is);
   told = λ j t i site le at_t at_site noted race. (
       let from = later j t le at_t in
       elim (cases_eq from.0 k) [
         | inl same ↦ (
             let is : s ≡ t = same_entry list k s t at (subst (λ (m : ℕ). slice_get list m ≡ Some t) same from.2) in
-            let here_is = told.told site (subst (λ (m : ℕ). slice_get sites m ≡ Some site) (sym is) at_site) in
-            here_is.asked.covers i (subst (λ (m : ℕ). IsNotedAt notes m i) (sym is) noted) race)
-        | inr ne ↦ (let le_from = from.1 in covered_then trace (access.event + 1) places races new i access.event h.found told.improves (h.told from.0 t i site (omega (arith, ne, le_from)) from.2 at_site noted race))
+            told.asked.covers i (subst (λ (m : ℕ). IsNotedAt notes m i) (sym is) noted) race)
+        | inr ne ↦ (let le_from = from.1 in covered_then trace (access.event + 1) places races new i access.event h.found told.asked.improves (h.told from.0 t i site (omega (arith, ne, le_from)) from.2 at_site noted race))
       ]);
   stays = λ t site in_before at_site. elim (h.stays t site in_before at_site) [
     | inl in_list ↦ elim (stay s t at in_list) [
       | inl in_after ↦ inl in_after
       | inr gone ↦ inr (
-          let here_is = told.told site (subst (λ (m : ℕ). slice_get sites m ≡ Some site) (sym gone.0) at_site) in
           record {
-            covers = λ i noted race. here_is.asked.covers i (subst (λ (m : ℕ). IsNotedAt notes m i) (sym gone.0) noted) race;
-            known = here_is.known_is gone.1;
+            covers = λ i noted race. told.asked.covers i (subst (λ (m : ℕ). IsNotedAt notes m i) (sym gone.0) noted) race;
+            known = told.known_is gone.1 site (subst (λ (m : ℕ). slice_get sites m ≡ Some site) (sym gone.0) at_site);
           })
     ]
     | inr settled ↦ inr (record {
-      covers = λ i noted race. covered_then trace (access.event + 1) places races new i access.event h.found told.improves (settled.covers i noted race);
-      known = known_then trace (access.event + 1) places races new access.variable site.location access.location (access.event + 1) (access.event + 1) h.found told.improves (omega arith) settled.known;
+      covers = λ i noted race. covered_then trace (access.event + 1) places races new i access.event h.found told.asked.improves (settled.covers i noted race);
+      known = known_then trace (access.event + 1) places races new access.variable site.location access.location (access.event + 1) (access.event + 1) h.found told.asked.improves (omega arith) settled.known;
     })
   ];
 }

@@ -10,7 +10,7 @@ use Rattle.shb_places.specs.declared.notes.Access.{Access}
 use Rattle.shb_places.specs.declared.notes.Notes.{Notes}
 use Rattle.shb_places.specs.declared.sites.Site.{Site}
 use Rattle.shb_places.specs.declared.sites.Sites.{Sites}
-use Rattle.shb_places.specs.declared.wanted.WantedLists.{WantedLists}
+use Rattle.shb_places.specs.declared.wanted.Wanted.{Wanted}
 use Rattle.shb_places.specs.Covering.{IsCovered}
 use Rattle.shb_places.specs.Found.{AreFound, Improves}
 use Rattle.shb_places.specs.Known.{IsKnown}
@@ -30,16 +30,10 @@ pub record IsAskedAll (trace : TraceData) (sites : List Site) (notes : Tables) (
   pub improves : Improves trace old new
   pub covers : (s i : ℕ) (site : Site) → slice_get sites s ≡ Some site → site.variable ≡ access.variable → IsNotedAt notes s i → Race trace.events i access.event → IsCovered trace new i access.event
 
--- the same, and where the answer is yes, the place is known from the next event on
-pub record IsTold (trace : TraceData) (notes : Tables) (access : Access) (s : ℕ) (site : Site) (known : Bool) (old : List Pair) (places : List Place) (new : List Pair) : Type 0 where
+-- the same of the site with a number, and where the answer is yes, the place is known from the next event on
+pub record IsTold (trace : TraceData) (sites : List Site) (notes : Tables) (access : Access) (s : ℕ) (known : Bool) (old : List Pair) (places : List Place) (new : List Pair) : Type 0 where
   pub asked : IsAsked trace notes access s old places new
-  pub known_is : known ≡ true → IsKnown trace new access.variable site.location access.location (access.event + 1)
-
--- the same of the site with a number, where it is one of the variable of the access
-pub record IsToldOf (trace : TraceData) (sites : List Site) (notes : Tables) (access : Access) (s : ℕ) (known : Bool) (old : List Pair) (places : List Place) (new : List Pair) : Type 0 where
-  pub found : AreFound trace (access.event + 1) places new
-  pub improves : Improves trace old new
-  pub told : (site : Site) → slice_get sites s ≡ Some site → IsTold trace notes access s site known old places new
+  pub known_is : known ≡ true → (site : Site) → slice_get sites s ≡ Some site → IsKnown trace new access.variable site.location access.location (access.event + 1)
 
 -- each race of an access with one at the site s is covered, and the place is known from the next event on
 pub record IsSettled (trace : TraceData) (notes : Tables) (access : Access) (s : ℕ) (site : Site) (races : List Pair) : Type 0 where
@@ -54,16 +48,16 @@ pub record AreToldFrom (trace : TraceData) (sites : List Site) (notes : Tables) 
   pub stays : (s : ℕ) (site : Site) → Contains before s → slice_get sites s ≡ Some site → Contains after s ⊎ IsSettled trace notes access s site new
 
 -- what an access can be asked with
-pub record IsAskable (trace : TraceData) (sites : Sites) (notes : Notes) (lists : WantedLists) (table : Found) (access : Access) : Type 0 where
+pub record IsAskable (trace : TraceData) (sites : Sites) (notes : Notes) (lists : List Wanted) (table : Found) (access : Access) : Type 0 where
   pub listed : AreSites sites.newest.items sites.sites.items
   pub kept : AreKept trace sites.sites.items (tables_of notes) access.event
   pub found : AreFound trace (access.event + 1) table.places.items table.races.items
-  pub wanted : AreWanted trace sites.sites.items table.races.items access.event lists.lists.items
+  pub wanted : AreWanted trace sites.sites.items table.races.items access.event lists
 
 -- each race of an access with one before is covered, and the lists are those of the next event
-pub record IsAskedBy (trace : TraceData) (sites : Sites) (notes : Notes) (lists : WantedLists) (old new : Found) (access : Access) : Type 0 where
+pub record IsAskedBy (trace : TraceData) (sites : Sites) (notes : Notes) (lists : List Wanted) (old new : Found) (access : Access) : Type 0 where
   pub asked : IsAskedAll trace sites.sites.items (tables_of notes) access old.races.items new.places.items new.races.items
-  pub wanted : AreWanted trace sites.sites.items new.races.items (access.event + 1) lists.lists.items
+  pub wanted : AreWanted trace sites.sites.items new.races.items (access.event + 1) lists
 
 -- an access of x is kept at a site
 pub record IsNoted (sites : List Site) (notes : Tables) (x e : ℕ) : Type 0 where
@@ -83,6 +77,6 @@ pub record IsSearched (trace : TraceData) (flags : List Bool) (sites : Sites) (n
   pub covered : (i j : ℕ) → j < n → Race trace.events i j → IsCovered trace table.races.items i j
 
 -- the same, with the lists of the sites that still have to be asked
-pub record AreSearched (trace : TraceData) (flags : List Bool) (sites : Sites) (notes : Notes) (lists : WantedLists) (table : Found) (n : ℕ) : Type 0 where
+pub record AreSearched (trace : TraceData) (flags : List Bool) (sites : Sites) (notes : Notes) (lists : List Wanted) (table : Found) (n : ℕ) : Type 0 where
   pub searched : IsSearched trace flags sites notes table n
-  pub wanted : AreWanted trace sites.sites.items table.races.items n lists.lists.items
+  pub wanted : AreWanted trace sites.sites.items table.races.items n lists

@@ -10,19 +10,13 @@ use Rattle.shb_places.specs.Known.{IsKnown}
 abbrev pub AreHeld : TraceData → List Site → List Pair → List ℕ → ℕ → ℕ → ℕ → ℕ → Type 0
 AreHeld trace sites races list x m n end = (s : ℕ) (site : Site) → s < end → slice_get sites s ≡ Some site → site.variable ≡ x → Contains list s ⊎ IsKnown trace races x site.location m n
 
--- a list is that of a site, and has the sites that it looked at, but for those whose place is known
-pub record IsWanted (trace : TraceData) (sites : List Site) (races : List Pair) (n : ℕ) (list : Wanted) : Type 0 where
+-- the list of the site k has the sites that it looked at, but for those whose place is known
+pub record IsWanted (trace : TraceData) (sites : List Site) (races : List Pair) (n k : ℕ) (list : Wanted) : Type 0 where
   pub asker : Site
-  pub at_asker : slice_get sites list.asker ≡ Some asker
+  pub at_asker : slice_get sites k ≡ Some asker
   pub looked : list.looked ≤ length sites
   pub held : AreHeld trace sites races list.sites.items asker.variable asker.location n list.looked
 
 -- the same of each list
 abbrev pub AreWanted : TraceData → List Site → List Pair → ℕ → List Wanted → Type 0
-AreWanted trace sites races n lists = (k : ℕ) (list : Wanted) → slice_get lists k ≡ Some list → IsWanted trace sites races n list
-
--- the list k is that of the site s
-pub record IsListOf (lists : List Wanted) (s k : ℕ) : Type 0 where
-  pub list : Wanted
-  pub there : slice_get lists k ≡ Some list
-  pub asker_is : list.asker ≡ s
+AreWanted trace sites races n lists = (k : ℕ) (list : Wanted) → slice_get lists k ≡ Some list → IsWanted trace sites races n k list

@@ -7,9 +7,9 @@ ghost use Rattle.shb_places.specs.Access.{IsAccess};
 ghost use Rattle.shb_places.specs.Found.{AreFound, IsFound, IsOffered, IsPlace, NotAfter};
 ghost use Rattle.shb_places.specs.Known.{IsKnown};
 
-use crate::hints::{Hints, MOST_TRIED};
 use crate::notes::Access;
-use crate::numbers::{mixed, next_number};
+use crate::numbers::next_number;
+use crate::pair_numbers::{Keys, PairNumbers};
 use shb_io::NoMemory;
 use shb_lines::Pair;
 use std::alloc::Global;
@@ -27,7 +27,7 @@ pub struct Place {
 pub struct Found {
     pub places: Vec<Place>,
     pub races: Vec<Pair>,
-    pub hints: Hints,
+    pub numbers: PairNumbers,
 }
 
 /// Whether a race of one variable stands before another race in the order of races.
@@ -73,14 +73,14 @@ fn is_early(variable: u32, second: u32, access: Access) -> bool
 
 impl Found {
     /// No place.
-    pub fn new(alloc: Global) -> Found
+    pub fn new(alloc: Global, keys: Keys) -> Found
         ensures places { result.places.items ≡ [] }
         ensures races { result.races.items ≡ [] }
     {
         Found {
             places: Vec::new(alloc),
             races: Vec::new(alloc),
-            hints: Hints::new(alloc),
+            numbers: PairNumbers::new(alloc, keys),
         }
     }
 
@@ -96,13 +96,11 @@ impl Found {
     fn number_of(&self, first: u32, second: u32) -> Option<u32>
         ensures { IfSome result (IsPlace self.now.places.items first second) }
     {
-        for k in 0..MOST_TRIED {
-            let Some(q) = self.hints.candidate(mixed(first, second), k) else {
-                return None;
-            };
-            if is_place(self.places.as_slice(), q, first, second) {
-                return Some(q);
-            }
+        let Some(q) = self.numbers.get(first, second) else {
+            return None;
+        };
+        if is_place(self.places.as_slice(), q, first, second) {
+            return Some(q);
         }
         None
     }
@@ -147,7 +145,7 @@ impl Found {
         let q = next_number(self.places.as_slice())?;
         self.places.push(place)?;
         self.races.push(race)?;
-        self.hints.insert(mixed(place.first, place.second), q)?;
+        self.numbers.insert(place.first, place.second, q)?;
         Ok(())
     }
 

@@ -14,11 +14,11 @@ ghost use Rattle.shb_pairs.specs.Open.{AreOpen};
 ghost use Rattle.shb_report.specs.Report.{LeadingRaces};
 
 mod found;
-mod hints;
 mod leading;
 mod locations;
 mod notes;
 mod numbers;
+mod pair_numbers;
 mod search;
 mod sites;
 mod wanted;

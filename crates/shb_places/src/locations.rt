@@ -10,13 +10,12 @@ ghost use Rattle.shb_places.specs.Lists.{none};
 ghost use Rattle.shb_places.specs.Numbered.{AreNumbered, HasLine};
 ghost use Rattle.shb_report.specs.Places.{location_at};
 
-use crate::hints::{Hints, MOST_TRIED};
-use crate::numbers::{NONE, mixed};
+use crate::numbers::NONE;
+use crate::pair_numbers::{Keys, PairNumbers};
 use shb_discipline::Disciplined;
-use shb_io::{NoMemory, random_keys};
+use shb_io::NoMemory;
 use shb_lines::{Op, location_in};
 use std::alloc::Global;
-use std::random::RandomSource;
 
 /// So many events are kept for their lines.
 const LINES: usize = 4096;
@@ -33,7 +32,7 @@ pub struct Numbered {
 #[derive(Drop)]
 pub struct Locations {
     pub numbered: Vec<Numbered>,
-    hints: Hints,
+    events: PairNumbers,
     keys: Keys,
 }
 
@@ -56,7 +55,7 @@ fn key_of(thread: u32, op: Op, line: &[u8]) -> u32 {
         .wrapping_mul(2)
         .wrapping_add(u32::from(op.is_write()));
     let end = thread.wrapping_mul(65536).wrapping_add(high * 256 + low);
-    mixed(access, end)
+    access.wrapping_mul(0x9E37_79B1) ^ end
 }
 
 /// Where the event of a line with this key is kept.
@@ -71,44 +70,13 @@ fn has_location(trace: &Disciplined<'_>, e: u32, text: &[u8]) -> bool
     e < trace.trace.len() && trace.trace.location(e) == text
 }
 
-/// Two random keys. Without them no locations are known whose hashes meet more often than by chance, so that nobody
-/// can choose those of a trace to cost time with their square.
-#[derive(Clone, Copy)]
-struct Keys {
-    first: u64,
-    second: u64,
-}
-
-/// Both halves of the 128 bits of a product, joined by xor.
-fn folded_product(a: u64, b: u64) -> u64 {
-    let product = u128::from(a).wrapping_mul(u128::from(b));
-    (product & 0xFFFF_FFFF_FFFF_FFFF) as u64 ^ (product >> 64) as u64
-}
-
-impl Keys {
-    /// Keys from the random source. A source that fails is answered like want of memory.
-    fn new<R: RandomSource>(rt: &R) -> Result<Keys, NoMemory> {
-        let (first, second) = random_keys(rt)?;
-        Ok(Keys { first, second })
-    }
-
-    /// The hash of a location.
-    fn hash_of(&self, text: &[u8]) -> u32 {
-        let mut state = folded_product(self.first ^ text.len() as u64, self.second);
-        for byte in text {
-            state = folded_product(state ^ u64::from(*byte), self.second);
-        }
-        (state & 0xFFFF_FFFF) as u32
-    }
-}
-
 impl Locations {
     /// No event.
     ///
     /// # Errors
     ///
-    /// `NoMemory` where a growth was refused, or where there were no random numbers for the keys.
-    pub fn new<R: RandomSource>(rt: &R, alloc: Global) -> Result<Locations, NoMemory>
+    /// `NoMemory` where a growth was refused.
+    pub fn new(alloc: Global, keys: Keys) -> Result<Locations, NoMemory>
         ensures { (trace : TraceData) → length trace.events ≤ none → IfOk result (λ locations. AreNumbered trace locations.numbered.items) }
     {
         let free = Numbered {
@@ -117,10 +85,9 @@ impl Locations {
             key: 0,
         };
         let numbered = vec![in alloc; free; LINES]?;
-        let keys = Keys::new(rt)?;
         Ok(Locations {
             numbered,
-            hints: Hints::new(alloc),
+            events: PairNumbers::new(alloc, keys),
             keys,
         })
     }
@@ -159,17 +126,15 @@ impl Locations {
         }
     }
 
-    /// The event with this location that was noted under a hash.
-    fn noted(&self, trace: &Disciplined<'_>, text: &[u8], hash: u32) -> Option<u32>
+    /// The event with this location that was noted under the hash of it.
+    fn noted(&self, trace: &Disciplined<'_>, text: &[u8], hash: (u32, u32)) -> Option<u32>
         ensures { IfSome result (λ e. IsLocatedAt trace.now.trace.now e text.now) }
     {
-        for k in 0..MOST_TRIED {
-            let Some(e) = self.hints.candidate(hash, k) else {
-                return None;
-            };
-            if has_location(trace, e, text) {
-                return Some(e);
-            }
+        let Some(e) = self.events.get(hash.0, hash.1) else {
+            return None;
+        };
+        if has_location(trace, e, text) {
+            return Some(e);
         }
         None
     }
@@ -182,11 +147,11 @@ impl Locations {
         ensures located { IfOk result (λ l. IsLocatedAt trace.now.trace.now l (location_at trace.now.trace.now e)) }
     {
         let text = location_in(line);
-        let hash = self.keys.hash_of(text);
+        let hash = self.keys.pair_of(text);
         if let Some(l) = self.noted(trace, text, hash) {
             return Ok(l);
         }
-        self.hints.insert(hash, e)?;
+        self.events.insert(hash.0, hash.1, e)?;
         Ok(e)
     }
 

@@ -12,15 +12,12 @@ ghost use Rattle.shb_places.specs.Notes.{AreKept, AreLinked, InChain, IsAddable,
 ghost use Rattle.shb_places.specs.declared.sites.Site.{Site};
 ghost use Rattle.shb_places.specs.declared.notes.Newest.{Newest};
 
-use crate::hints::{Hints, MOST_TRIED};
-use crate::numbers::{NONE, mixed, next_number};
+use crate::numbers::{NONE, next_number};
+use crate::pair_numbers::{Keys, PairNumbers};
 use crate::sites::Site;
 use shb_clocks::{Order, Ordered};
 use shb_io::NoMemory;
 use std::alloc::Global;
-
-/// So many of the newest classes of a site are looked at before the hints.
-const NEAR: u32 = 8;
 
 /// The accesses of a site by one thread, of one kind; and the number of the class of the same site and kind before it.
 #[derive(Clone, Copy)]
@@ -53,7 +50,7 @@ pub struct Notes {
     pub classes: Vec<Class>,
     pub newest: Vec<Newest>,
     pub links: Vec<Link>,
-    pub hints: Hints,
+    pub numbers: PairNumbers,
 }
 
 /// An access of an open variable: the event, its thread, its variable, the number of its location, and
@@ -79,9 +76,12 @@ fn is_class(classes: &[Class], c: u32, s: u32, access: Access) -> bool
     }
 }
 
-/// The hash of the class of an access at a site.
-fn hash_of(s: u32, access: Access) -> u32 {
-    mixed(s, mixed(access.thread, u32::from(access.writes)))
+/// The thread and the kind of an access, as one number.
+fn kind_of(access: Access) -> u32 {
+    access
+        .thread
+        .wrapping_mul(2)
+        .wrapping_add(u32::from(access.writes))
 }
 
 /// Adds a link before which the link `previous` stands.
@@ -130,15 +130,6 @@ fn earliest_from<O: Order>(ordered: &Ordered<'_, O>, links: &[Link], newest: u32
     }
 }
 
-/// The lesser of two numbers.
-fn lesser(first: u32, second: u32) -> u32
-    ensures first { result ≤ first }
-    ensures second { result ≤ second }
-    ensures one { (result ≡ first) ⊎ (result ≡ second) }
-{
-    if first <= second { first } else { second }
-}
-
 /// Whether accesses of a class can race with an access: of another thread, and one of the two writes.
 fn can_race(class: Class, access: Access) -> bool
     ensures { IsTrue result ↔ ((class.thread ≢ access.thread) × ((class.writes ≡ true) ⊎ (access.writes ≡ true))) }
@@ -156,7 +147,7 @@ fn list_of(s: u32, writes: bool) -> usize
 
 impl Notes {
     /// No accesses.
-    pub fn new(alloc: Global) -> Notes
+    pub fn new(alloc: Global, keys: Keys) -> Notes
         ensures { tables_of result ≡ record { heads = []; classes = []; newest = []; links = [] } }
     {
         Notes {
@@ -164,7 +155,7 @@ impl Notes {
             classes: Vec::new(alloc),
             newest: Vec::new(alloc),
             links: Vec::new(alloc),
-            hints: Hints::new(alloc),
+            numbers: PairNumbers::new(alloc, keys),
         }
     }
 
@@ -172,67 +163,20 @@ impl Notes {
     fn head_of(&self, s: u32, writes: bool) -> u32
         ensures { (head : ℕ) → slice_get self.now.heads.items (list_at s writes) ≡ Some head → result ≡ head }
     {
-        match self.heads.get(list_of(s, writes)) {
-            Some(head) => *head,
-            None => NONE,
-        }
-    }
-
-    /// The number of the class of the same site before a class, or `NONE`.
-    fn next_of(&self, c: u32) -> u32 {
-        match self.classes.get(c as usize) {
-            Some(class) => class.next,
-            None => NONE,
-        }
-    }
-
-    /// The class of an access at a site among the newest ones of the site.
-    fn near(&self, s: u32, access: Access) -> Option<u32>
-        ensures { IfSome result (IsClassOf self.now.classes.items s access) }
-    {
-        let mut at = self.head_of(s, access.writes);
-        for _ in 0..NEAR {
-            if is_class(self.classes.as_slice(), at, s, access) {
-                return Some(at);
-            }
-            at = self.next_of(at);
-        }
-        None
-    }
-
-    /// Whether a site has more classes of a kind than are looked at before the hints.
-    fn has_many(&self, s: u32, writes: bool) -> bool {
-        let mut at = self.head_of(s, writes);
-        for _ in 0..NEAR {
-            at = self.next_of(at);
-        }
-        at != NONE
-    }
-
-    /// The class of an access at a site that was noted under a hash.
-    fn noted(&self, s: u32, access: Access) -> Option<u32>
-        ensures { IfSome result (IsClassOf self.now.classes.items s access) }
-    {
-        let hash = hash_of(s, access);
-        for k in 0..MOST_TRIED {
-            let Some(c) = self.hints.candidate(hash, k) else {
-                return None;
-            };
-            if is_class(self.classes.as_slice(), c, s, access) {
-                return Some(c);
-            }
-        }
-        None
+        self.heads.get(list_of(s, writes)).copied().unwrap_or(NONE)
     }
 
     /// The class of an access at a site, if it is known.
     fn class_of(&self, s: u32, access: Access) -> Option<u32>
         ensures { IfSome result (IsClassOf self.now.classes.items s access) }
     {
-        match self.near(s, access) {
-            Some(c) => Some(c),
-            None => self.noted(s, access),
+        let Some(c) = self.numbers.get(s, kind_of(access)) else {
+            return None;
+        };
+        if is_class(self.classes.as_slice(), c, s, access) {
+            return Some(c);
         }
+        None
     }
 
     /// Adds an access to a class.
@@ -277,11 +221,8 @@ impl Notes {
         if let Some(c) = self.class_of(s, access) {
             return self.extend(c, access.event, local);
         }
-        let many = self.has_many(s, access.writes);
         let c = self.begin(s, access, local)?;
-        if many {
-            self.hints.insert(hash_of(s, access), c)?;
-        }
+        self.numbers.insert(s, kind_of(access), c)?;
         Ok(())
     }
 
@@ -346,7 +287,7 @@ impl Notes {
             let Some(class) = self.classes.get(at as usize) else {
                 return earliest;
             };
-            earliest = lesser(earliest, self.earliest_in(ordered, s, at, access));
+            earliest = earliest.min(self.earliest_in(ordered, s, at, access));
             if class.next >= at {
                 return earliest;
             }
@@ -367,6 +308,6 @@ impl Notes {
         if !access.writes {
             return write;
         }
-        lesser(write, self.earliest_of(ordered, s, false, access))
+        write.min(self.earliest_of(ordered, s, false, access))
     }
 }

@@ -23,10 +23,3 @@ pub fn next_number<T>(table: &[T]) -> Result<u32, NoMemory>
         Err(NoMemory::of_full(table))
     }
 }
-
-/// One number of two, for a table of hints.
-pub fn mixed(first: u32, second: u32) -> u32 {
-    let both = (u64::from(first) << 32 | u64::from(second)).wrapping_mul(0xE703_7ED1_A0B4_28DB);
-    let folded = both ^ both >> 32;
-    (folded & 0xFFFF_FFFF) as u32
-}

@@ -1,7 +1,7 @@
 //! The search for a race of each place.
 //!
-//! An access asks the sites of its variable. A site that is new asks all of them. From then on the site has a list of
-//! those whose place with it isn't known ([`crate::wanted`]), and asks these.
+//! The site of an access has a list of those sites of its variable whose place with it isn't known
+//! ([`crate::wanted`]), and asks these.
 
 ghost use Rattle.std.specs.Prelude.{◌≡◌, ◌+◌, ◌<◌, ℕ, Bool, false, true, IfOk, List, OnOk, Some, length, slice_get};
 ghost use Rattle.shb_clocks.specs.Open.{is_open as open_flag};
@@ -13,17 +13,18 @@ ghost use Rattle.shb_places.specs.Covering.{Covers};
 ghost use Rattle.shb_places.specs.Found.{AreFound};
 ghost use Rattle.shb_places.specs.Notes.{AreKept, tables_of};
 ghost use Rattle.shb_places.specs.Numbered.{AreNumbered};
-ghost use Rattle.shb_places.specs.Searched.{AreSearched, AreToldFrom, IsAskable, IsAsked, IsAskedAll, IsAskedBy, IsTold, IsToldOf};
-ghost use Rattle.shb_places.specs.Sites.{AreSites, IsSite};
+ghost use Rattle.shb_places.specs.Searched.{AreSearched, AreToldFrom, IsAskable, IsAskedBy, IsTold};
+ghost use Rattle.shb_places.specs.Sites.{IsSite};
 ghost use Rattle.shb_places.specs.declared.notes.Link.{Link};
 
 use crate::found::{Found, Place};
 use crate::locations::Locations;
 use crate::notes::{Access, Notes};
 use crate::numbers::NONE;
-use crate::sites::{Site, Sites};
-use crate::wanted::{WantedLists, look, remove_if};
-use shb_clocks::{Order, Ordered, Sweep};
+use crate::pair_numbers::Keys;
+use crate::sites::Sites;
+use crate::wanted::{Wanted, look, make_room, remove_if};
+use shb_clocks::{Order, Ordered, Sweep, is_open};
 use shb_discipline::Disciplined;
 use shb_io::NoMemory;
 use shb_lines::Pair;
@@ -36,18 +37,8 @@ use std::random::RandomSource;
 struct Search {
     sites: Sites,
     notes: Notes,
-    wanted: WantedLists,
+    wanted: Vec<Wanted>,
     found: Found,
-}
-
-/// Whether a variable is open.
-pub fn is_open(flags: &[bool], x: u32) -> bool
-    ensures { result ≡ open_flag flags.now x }
-{
-    match flags.get(x as usize) {
-        Some(open) => *open,
-        None => true,
-    }
 }
 
 /// Whether one of the first variables is open.
@@ -62,27 +53,31 @@ fn any_open(flags: &[bool], variables: u32) -> bool
     false
 }
 
-/// Asks whether an access at a site of its variable races with an access, and takes the earliest that does.
-/// The answer is whether there was one: then the place is known for all accesses to come.
-fn ask_unknown<O: Order>(
+/// Asks a site of the variable of an access whether an access there races with it, and takes the earliest that
+/// does. The answer is whether there was one: then the place is known for all accesses to come.
+fn ask_site<O: Order>(
     ordered: &Ordered<'_, O>,
+    sites: &Sites,
     notes: &Notes,
     found: &mut Found,
     s: u32,
-    site: Site,
     access: Access,
 ) -> Result<bool, NoMemory>
     requires access { IsAccess ordered.now.disciplined.now.trace.now access }
     requires asked { O.asks ordered.now.order.now access.event ≡ true }
     requires in_range { (k : ℕ) (link : Link) → slice_get notes.now.links.items k ≡ Some link → link.event < length ordered.now.disciplined.now.trace.now.events }
     requires as_many { length found.old.races.items ≡ length found.old.places.items }
-    requires variable { site.variable ≡ access.variable }
     ensures as_many { OnOk result (length found.new.races.items ≡ length found.new.places.items) }
-    ensures told { (sites : List Site) → AreKept ordered.now.disciplined.now.trace.now sites (tables_of notes.now) access.event
-        → slice_get sites s ≡ Some site
+    ensures told { AreKept ordered.now.disciplined.now.trace.now sites.now.sites.items (tables_of notes.now) access.event
         → AreFound ordered.now.disciplined.now.trace.now (access.event + 1) found.old.places.items found.old.races.items
-        → IfOk result (λ known. IsTold ordered.now.disciplined.now.trace.now (tables_of notes.now) access s site known found.old.races.items found.new.places.items found.new.races.items) }
+        → IfOk result (λ known. IsTold ordered.now.disciplined.now.trace.now sites.now.sites.items (tables_of notes.now) access s known found.old.races.items found.new.places.items found.new.races.items) }
 {
+    let Some(site) = sites.sites.get(s as usize) else {
+        return Ok(false);
+    };
+    if site.variable != access.variable {
+        return Ok(false);
+    }
     let earliest = notes.earliest_at(ordered, s, access);
     if earliest == NONE {
         return Ok(false);
@@ -98,92 +93,6 @@ fn ask_unknown<O: Order>(
     };
     found.offer(place, race)?;
     Ok(true)
-}
-
-/// Asks a site, where no race of its place with an access is known.
-fn ask_site<O: Order>(
-    ordered: &Ordered<'_, O>,
-    notes: &Notes,
-    found: &mut Found,
-    s: u32,
-    site: Site,
-    access: Access,
-) -> Result<(), NoMemory>
-    requires access { IsAccess ordered.now.disciplined.now.trace.now access }
-    requires asked { O.asks ordered.now.order.now access.event ≡ true }
-    requires in_range { (k : ℕ) (link : Link) → slice_get notes.now.links.items k ≡ Some link → link.event < length ordered.now.disciplined.now.trace.now.events }
-    requires as_many { length found.old.races.items ≡ length found.old.places.items }
-    ensures as_many { OnOk result (length found.new.races.items ≡ length found.new.places.items) }
-    ensures asked { (sites : List Site) → AreKept ordered.now.disciplined.now.trace.now sites (tables_of notes.now) access.event
-        → slice_get sites s ≡ Some site
-        → AreFound ordered.now.disciplined.now.trace.now (access.event + 1) found.old.places.items found.old.races.items
-        → OnOk result (IsAsked ordered.now.disciplined.now.trace.now (tables_of notes.now) access s found.old.races.items found.new.places.items found.new.races.items) }
-{
-    if site.variable != access.variable {
-        return Ok(());
-    }
-    if found.knows(site.location, access) {
-        return Ok(());
-    }
-    ask_unknown(ordered, notes, found, s, site, access)?;
-    Ok(())
-}
-
-/// Asks about each site of the variable of an access.
-fn ask<O: Order>(
-    ordered: &Ordered<'_, O>,
-    sites: &Sites,
-    notes: &Notes,
-    found: &mut Found,
-    access: Access,
-) -> Result<(), NoMemory>
-    requires access { IsAccess ordered.now.disciplined.now.trace.now access }
-    requires asked { O.asks ordered.now.order.now access.event ≡ true }
-    requires in_range { (k : ℕ) (link : Link) → slice_get notes.now.links.items k ≡ Some link → link.event < length ordered.now.disciplined.now.trace.now.events }
-    requires as_many { length found.old.races.items ≡ length found.old.places.items }
-    ensures { AreSites sites.now.newest.items sites.now.sites.items
-        → AreKept ordered.now.disciplined.now.trace.now sites.now.sites.items (tables_of notes.now) access.event
-        → AreFound ordered.now.disciplined.now.trace.now (access.event + 1) found.old.places.items found.old.races.items
-        → OnOk result (IsAskedAll ordered.now.disciplined.now.trace.now sites.now.sites.items (tables_of notes.now) access found.old.races.items found.new.places.items found.new.races.items) }
-{
-    let mut at = sites.newest_of(access.variable);
-    loop {
-        let Some(site) = sites.sites.get(at as usize) else {
-            return Ok(());
-        };
-        ask_site(ordered, notes, found, at, *site, access)?;
-        if site.previous >= at {
-            return Ok(());
-        }
-        at = site.previous;
-    }
-}
-
-/// Asks a site of a list. The answer is whether its place is known from now on.
-fn ask_wanted<O: Order>(
-    ordered: &Ordered<'_, O>,
-    sites: &Sites,
-    notes: &Notes,
-    found: &mut Found,
-    s: u32,
-    access: Access,
-) -> Result<bool, NoMemory>
-    requires access { IsAccess ordered.now.disciplined.now.trace.now access }
-    requires asked { O.asks ordered.now.order.now access.event ≡ true }
-    requires in_range { (k : ℕ) (link : Link) → slice_get notes.now.links.items k ≡ Some link → link.event < length ordered.now.disciplined.now.trace.now.events }
-    requires as_many { length found.old.races.items ≡ length found.old.places.items }
-    ensures as_many { OnOk result (length found.new.races.items ≡ length found.new.places.items) }
-    ensures told { AreKept ordered.now.disciplined.now.trace.now sites.now.sites.items (tables_of notes.now) access.event
-        → AreFound ordered.now.disciplined.now.trace.now (access.event + 1) found.old.places.items found.old.races.items
-        → IfOk result (λ known. IsToldOf ordered.now.disciplined.now.trace.now sites.now.sites.items (tables_of notes.now) access s known found.old.races.items found.new.places.items found.new.races.items) }
-{
-    let Some(site) = sites.sites.get(s as usize) else {
-        return Ok(false);
-    };
-    if site.variable != access.variable {
-        return Ok(false);
-    }
-    ask_unknown(ordered, notes, found, s, *site, access)
 }
 
 /// Asks each site of a list, and takes those out of it whose place is known from now on.
@@ -206,7 +115,7 @@ fn ask_list<O: Order>(
     let mut left = list.len();
     while left > 0 {
         left -= 1;
-        let known = ask_wanted(ordered, sites, notes, found, list[left], access)?;
+        let known = ask_site(ordered, sites, notes, found, list[left], access)?;
         remove_if(list, left, known);
     }
     Ok(())
@@ -214,21 +123,24 @@ fn ask_list<O: Order>(
 
 impl Search {
     /// Before the first event.
-    fn new(alloc: Global, variables: u32) -> Result<Search, NoMemory>
+    fn new(alloc: Global, keys: Keys, variables: u32) -> Result<Search, NoMemory>
         ensures { (trace : TraceData) (flags : List Bool) → ((e x : ℕ) → variable_at trace.events e ≡ Some x → x < variables)
-            → IfOk result (λ search. AreSearched trace flags search.sites search.notes search.wanted search.found 0) }
+            → IfOk result (λ search. AreSearched trace flags search.sites search.notes search.wanted.items search.found 0) }
     {
-        let sites = Sites::new(alloc, variables)?;
+        let sites = Sites::new(alloc, keys, variables)?;
+        let notes = Notes::new(alloc, keys);
+        let wanted = Vec::new(alloc);
+        let found = Found::new(alloc, keys);
         Ok(Search {
             sites,
-            notes: Notes::new(alloc),
-            wanted: WantedLists::new(alloc),
-            found: Found::new(alloc),
+            notes,
+            wanted,
+            found,
         })
     }
 
-    /// Asks the sites of the list of a site.
-    fn ask_by_list<O: Order>(
+    /// Asks the sites of the variable of an access, which is at the site `s`.
+    fn ask<O: Order>(
         &mut self,
         alloc: Global,
         ordered: &Ordered<'_, O>,
@@ -242,11 +154,11 @@ impl Search {
         ensures sites { self.new.sites ≡ self.old.sites }
         ensures notes { self.new.notes ≡ self.old.notes }
         ensures asked { IsSite self.old.sites.sites.items access.variable access.location s
-            → IsAskable ordered.now.disciplined.now.trace.now self.old.sites self.old.notes self.old.wanted self.old.found access
-            → OnOk result (IsAskedBy ordered.now.disciplined.now.trace.now self.old.sites self.old.notes self.new.wanted self.old.found self.new.found access) }
+            → IsAskable ordered.now.disciplined.now.trace.now self.old.sites self.old.notes self.old.wanted.items self.old.found access
+            → OnOk result (IsAskedBy ordered.now.disciplined.now.trace.now self.old.sites self.old.notes self.new.wanted.items self.old.found self.new.found access) }
     {
-        let k = self.wanted.number_of(alloc, s)?;
-        let list = &mut self.wanted.lists[k as usize];
+        make_room(alloc, &mut self.wanted, s)?;
+        let list = &mut self.wanted[s as usize];
         look(list, &self.sites, &self.found, access)?;
         ask_list(
             ordered,
@@ -258,31 +170,6 @@ impl Search {
         )
     }
 
-    /// Asks the sites of the variable of an access, which is at the site `s`.
-    fn ask<O: Order>(
-        &mut self,
-        alloc: Global,
-        ordered: &Ordered<'_, O>,
-        s: u32,
-        is_new: bool,
-        access: Access,
-    ) -> Result<(), NoMemory>
-        requires access { IsAccess ordered.now.disciplined.now.trace.now access }
-        requires asked { O.asks ordered.now.order.now access.event ≡ true }
-        requires in_range { (k : ℕ) (link : Link) → slice_get self.old.notes.links.items k ≡ Some link → link.event < length ordered.now.disciplined.now.trace.now.events }
-        requires as_many { length self.old.found.races.items ≡ length self.old.found.places.items }
-        ensures sites { self.new.sites ≡ self.old.sites }
-        ensures notes { self.new.notes ≡ self.old.notes }
-        ensures asked { IsSite self.old.sites.sites.items access.variable access.location s
-            → IsAskable ordered.now.disciplined.now.trace.now self.old.sites self.old.notes self.old.wanted self.old.found access
-            → OnOk result (IsAskedBy ordered.now.disciplined.now.trace.now self.old.sites self.old.notes self.new.wanted self.old.found self.new.found access) }
-    {
-        if !is_new {
-            return self.ask_by_list(alloc, ordered, s, access);
-        }
-        ask(ordered, &self.sites, &self.notes, &mut self.found, access)
-    }
-
     /// Takes an access of an open variable: looks for races with it, and adds it to those before.
     fn take<O: Order>(
         &mut self,
@@ -292,14 +179,12 @@ impl Search {
     ) -> Result<(), NoMemory>
         requires access { IsAccess ordered.now.disciplined.now.trace.now access }
         requires asked { O.asks ordered.now.order.now access.event ≡ true }
-        requires searched { (flags : List Bool) × AreSearched ordered.now.disciplined.now.trace.now flags self.old.sites self.old.notes self.old.wanted self.old.found access.event }
-        ensures { (flags : List Bool) → open_flag flags access.variable ≡ true → AreSearched ordered.now.disciplined.now.trace.now flags self.old.sites self.old.notes self.old.wanted self.old.found access.event
-            → OnOk result (AreSearched ordered.now.disciplined.now.trace.now flags self.new.sites self.new.notes self.new.wanted self.new.found (access.event + 1)) }
+        requires searched { (flags : List Bool) × AreSearched ordered.now.disciplined.now.trace.now flags self.old.sites self.old.notes self.old.wanted.items self.old.found access.event }
+        ensures { (flags : List Bool) → open_flag flags access.variable ≡ true → AreSearched ordered.now.disciplined.now.trace.now flags self.old.sites self.old.notes self.old.wanted.items self.old.found access.event
+            → OnOk result (AreSearched ordered.now.disciplined.now.trace.now flags self.new.sites self.new.notes self.new.wanted.items self.new.found (access.event + 1)) }
     {
-        let count = self.sites.count();
         let s = self.sites.number_of(access.variable, access.location)?;
-        let is_new = self.sites.count() > count;
-        self.ask(alloc, ordered, s, is_new, access)?;
+        self.ask(alloc, ordered, s, access)?;
         let local = ordered.links.local(access.event);
         self.notes.add(s, access, local)
     }
@@ -316,9 +201,9 @@ impl Search {
         requires in_range { e < length ordered.now.disciplined.now.trace.now.events }
         requires asked { O.asks ordered.now.order.now e ≡ true }
         requires settled { AreOpen ordered.now.disciplined.now.trace.now.events flags.now }
-        requires searched { AreSearched ordered.now.disciplined.now.trace.now flags.now self.old.sites self.old.notes self.old.wanted self.old.found e }
+        requires searched { AreSearched ordered.now.disciplined.now.trace.now flags.now self.old.sites self.old.notes self.old.wanted.items self.old.found e }
         requires numbered { AreNumbered ordered.now.disciplined.now.trace.now locations.old.numbered.items }
-        ensures searched { OnOk result (AreSearched ordered.now.disciplined.now.trace.now flags.now self.new.sites self.new.notes self.new.wanted self.new.found (e + 1)) }
+        ensures searched { OnOk result (AreSearched ordered.now.disciplined.now.trace.now flags.now self.new.sites self.new.notes self.new.wanted.items self.new.found (e + 1)) }
         ensures numbered { OnOk result (AreNumbered ordered.now.disciplined.now.trace.now locations.new.numbered.items) }
     {
         let op = ordered.disciplined.events.op(e);
@@ -362,8 +247,9 @@ pub fn covering_races<'a, R: RandomSource>(
     if !any_open(flags, trace.sizes.variables) {
         return Ok(Vec::new(alloc));
     }
-    let mut locations = Locations::new(rt, alloc)?;
-    let mut search = Search::new(alloc, trace.sizes.variables)?;
+    let keys = Keys::new(rt)?;
+    let mut locations = Locations::new(alloc, keys)?;
+    let mut search = Search::new(alloc, keys, trace.sizes.variables)?;
     let mut sweep = Sweep::new(alloc, Linked::new(&*trace, &*links))?;
     for e in 0..trace.events.len() as u32 {
         let ordered = Ordered::new(&sweep, &*trace, &*links);

@@ -3,13 +3,10 @@
 ghost use Rattle.std.specs.Prelude.{◌≡◌, ◌<◌, ◌≤◌, ℕ, IfOk, IfSome, IsTrue, OnOk, List, [], Some, length, slice_get};
 ghost use Rattle.shb_places.specs.Sites.{AreMore, AreSites, IsSite};
 
-use crate::hints::{Hints, MOST_TRIED};
-use crate::numbers::{NONE, mixed, next_number};
+use crate::numbers::{NONE, next_number};
+use crate::pair_numbers::{Keys, PairNumbers};
 use shb_io::NoMemory;
 use std::alloc::Global;
-
-/// So many of the newest sites of a variable are looked at before the hints.
-const NEAR: u32 = 8;
 
 /// A variable, a location of accesses of it, and the number of the site of the variable before it.
 #[derive(Clone, Copy)]
@@ -24,14 +21,7 @@ pub struct Site {
 pub struct Sites {
     pub newest: Vec<u32>,
     pub sites: Vec<Site>,
-    pub hints: Hints,
-}
-
-/// What was found among the newest sites of a variable: the site, or whether there are more of them.
-#[derive(Clone, Copy)]
-struct Near {
-    site: Option<u32>,
-    more: bool,
+    pub numbers: PairNumbers,
 }
 
 /// Whether the site of this number is that of a variable and a location.
@@ -46,7 +36,7 @@ fn is_site(sites: &[Site], s: u32, variable: u32, location: u32) -> bool
 
 impl Sites {
     /// No sites of so many variables.
-    pub fn new(alloc: Global, variables: u32) -> Result<Sites, NoMemory>
+    pub fn new(alloc: Global, keys: Keys, variables: u32) -> Result<Sites, NoMemory>
         ensures none { IfOk result (λ sites. sites.sites.items ≡ []) }
         ensures as_many { IfOk result (λ sites. length sites.newest.items ≡ variables) }
     {
@@ -54,38 +44,15 @@ impl Sites {
         Ok(Sites {
             newest,
             sites: Vec::new(alloc),
-            hints: Hints::new(alloc),
+            numbers: PairNumbers::new(alloc, keys),
         })
-    }
-
-    /// Looks for the site of a variable and a location among the newest ones of the variable.
-    fn near(&self, variable: u32, location: u32) -> Near
-        ensures { IfSome result.site (IsSite self.now.sites.items variable location) }
-    {
-        let mut at = self.newest_of(variable);
-        for _ in 0..NEAR {
-            if is_site(self.sites.as_slice(), at, variable, location) {
-                return Near {
-                    site: Some(at),
-                    more: false,
-                };
-            }
-            at = self.previous_of(at);
-        }
-        Near {
-            site: None,
-            more: at != NONE,
-        }
     }
 
     /// The number of the newest site of a variable, or `NONE`.
     pub fn newest_of(&self, variable: u32) -> u32
         ensures { (head : ℕ) → slice_get self.now.newest.items variable ≡ Some head → result ≡ head }
     {
-        match self.newest.get(variable as usize) {
-            Some(newest) => *newest,
-            None => NONE,
-        }
+        self.newest.get(variable as usize).copied().unwrap_or(NONE)
     }
 
     /// How many sites there are, or as many as a number has room for.
@@ -95,25 +62,15 @@ impl Sites {
         self.sites.len().min(u32::MAX as usize) as u32
     }
 
-    /// The number of the site of the same variable before a site, or `NONE`.
-    fn previous_of(&self, s: u32) -> u32 {
-        match self.sites.get(s as usize) {
-            Some(site) => site.previous,
-            None => NONE,
-        }
-    }
-
-    /// The site of a variable and a location that was noted under a hash.
-    fn noted(&self, variable: u32, location: u32) -> Option<u32>
+    /// The site of a variable and a location, if it is known.
+    fn known(&self, variable: u32, location: u32) -> Option<u32>
         ensures { IfSome result (IsSite self.now.sites.items variable location) }
     {
-        for k in 0..MOST_TRIED {
-            let Some(s) = self.hints.candidate(mixed(variable, location), k) else {
-                return None;
-            };
-            if is_site(self.sites.as_slice(), s, variable, location) {
-                return Some(s);
-            }
+        let Some(s) = self.numbers.get(variable, location) else {
+            return None;
+        };
+        if is_site(self.sites.as_slice(), s, variable, location) {
+            return Some(s);
         }
         None
     }
@@ -146,18 +103,11 @@ impl Sites {
         ensures site { IfOk result (IsSite self.new.sites.items variable location) }
         ensures more { OnOk result (AreMore self.old.newest.items self.old.sites.items self.new.newest.items self.new.sites.items) }
     {
-        let near = self.near(variable, location);
-        if let Some(s) = near.site {
-            return Ok(s);
-        }
-        if !near.more {
-            return self.add(variable, location);
-        }
-        if let Some(s) = self.noted(variable, location) {
+        if let Some(s) = self.known(variable, location) {
             return Ok(s);
         }
         let s = self.add(variable, location)?;
-        self.hints.insert(mixed(variable, location), s)?;
+        self.numbers.insert(variable, location, s)?;
         Ok(s)
     }
 }

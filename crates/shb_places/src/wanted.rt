@@ -7,39 +7,36 @@ ghost use Rattle.shb_places.specs.Access.{IsAccess};
 ghost use Rattle.shb_places.specs.Found.{AreFound};
 ghost use Rattle.shb_places.specs.Known.{IsKnown};
 ghost use Rattle.shb_places.specs.Sites.{AreSites};
-ghost use Rattle.shb_places.specs.Wanted.{AreHeld, AreWanted, IsListOf};
+ghost use Rattle.shb_places.specs.Wanted.{AreHeld, AreWanted};
 ghost use Rattle.shb_places.specs.declared.sites.Site.{Site};
 
 use crate::found::Found;
 use crate::notes::Access;
-use crate::numbers::{NONE, next_number};
 use crate::sites::Sites;
 use shb_io::NoMemory;
 use std::alloc::Global;
 
-/// Of a site that asks: the sites that it still has to ask, among those with numbers below `looked`.
+/// Of a site that asks: the sites that it still has to ask, among those with numbers below `looked`. The lists stand
+/// by the number of the site that asks.
 #[derive(Drop)]
 pub struct Wanted {
-    pub asker: u32,
     pub looked: u32,
     pub sites: Vec<u32>,
 }
 
-/// The lists of the sites that have one. The table of their numbers by site only proposes them.
-#[derive(Drop)]
-pub struct WantedLists {
-    pub lists: Vec<Wanted>,
-    numbers: Vec<u32>,
-}
-
-/// Whether the list of this number is that of a site.
-fn is_list(lists: &[Wanted], k: u32, s: u32) -> bool
-    ensures { IsTrue result → IsListOf lists.now s k }
+/// Sees that a site has its list, which is empty where it is new.
+pub fn make_room(alloc: Global, lists: &mut Vec<Wanted>, s: u32) -> Result<(), NoMemory>
+    ensures room { OnOk result (s < length lists.new.items) }
+    ensures wanted { (trace : TraceData) (sites : List Site) (races : List Pair) (n : ℕ) → s < length sites
+        → AreWanted trace sites races n lists.old.items → OnOk result (AreWanted trace sites races n lists.new.items) }
 {
-    match lists.get(k as usize) {
-        Some(list) => list.asker == s,
-        None => false,
+    for _ in lists.len()..s as usize + 1 {
+        lists.push(Wanted {
+            looked: 0,
+            sites: Vec::new(alloc),
+        })?;
     }
+    Ok(())
 }
 
 /// Adds a site to a list, unless a race of its place is known that stands before all races of an access.
@@ -107,7 +104,6 @@ pub fn remove_if(list: &mut Vec<u32>, k: usize, known: bool)
 /// Sees that a list has each site of the variable of an access whose place isn't known.
 pub fn look(list: &mut Wanted, sites: &Sites, found: &Found, access: Access) -> Result<(), NoMemory>
     requires as_many { length found.now.races.items ≡ length found.now.places.items }
-    ensures asker { list.new.asker ≡ list.old.asker }
     ensures looked { OnOk result (list.new.looked ≤ length sites.now.sites.items) }
     ensures held { (trace : TraceData) (n : ℕ) → AreSites sites.now.newest.items sites.now.sites.items → AreFound trace n found.now.places.items found.now.races.items → IsAccess trace access
         → AreHeld trace sites.now.sites.items found.now.races.items list.old.sites.items access.variable access.location access.event list.old.looked
@@ -116,62 +112,4 @@ pub fn look(list: &mut Wanted, sites: &Sites, found: &Found, access: Access) -> 
     look_from(&mut list.sites, list.looked, sites, found, access)?;
     list.looked = sites.count();
     Ok(())
-}
-
-/// Notes the number of a site's list.
-fn note_list(numbers: &mut Vec<u32>, s: u32, k: u32) -> Result<(), NoMemory> {
-    for _ in numbers.len()..s as usize + 1 {
-        numbers.push(NONE)?;
-    }
-    if let Some(number) = numbers.get_mut(s as usize) {
-        *number = k;
-    }
-    Ok(())
-}
-
-impl WantedLists {
-    /// No list.
-    pub fn new(alloc: Global) -> WantedLists
-        ensures { result.lists.items ≡ [] }
-    {
-        WantedLists {
-            lists: Vec::new(alloc),
-            numbers: Vec::new(alloc),
-        }
-    }
-
-    /// The list of a site, if it has one.
-    fn noted(&self, s: u32) -> Option<u32>
-        ensures { IfSome result (IsListOf self.now.lists.items s) }
-    {
-        let k = self.numbers.get(s as usize).copied().unwrap_or(NONE);
-        if is_list(self.lists.as_slice(), k, s) {
-            return Some(k);
-        }
-        None
-    }
-
-    /// The number of a site's list, which is empty where it is new.
-    ///
-    /// # Errors
-    ///
-    /// `NoMemory` where a growth was refused.
-    pub fn number_of(&mut self, alloc: Global, s: u32) -> Result<u32, NoMemory>
-        ensures list { IfOk result (IsListOf self.new.lists.items s) }
-        ensures wanted { (trace : TraceData) (sites : List Site) (races : List Pair) (n : ℕ) (asker : Site) → slice_get sites s ≡ Some asker
-            → AreWanted trace sites races n self.old.lists.items
-            → OnOk result (AreWanted trace sites races n self.new.lists.items) }
-    {
-        if let Some(k) = self.noted(s) {
-            return Ok(k);
-        }
-        let k = next_number(self.lists.as_slice())?;
-        self.lists.push(Wanted {
-            asker: s,
-            looked: 0,
-            sites: Vec::new(alloc),
-        })?;
-        note_list(&mut self.numbers, s, k)?;
-        Ok(k)
-    }
 }

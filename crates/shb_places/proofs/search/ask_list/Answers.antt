@@ -19,7 +19,7 @@ loop-left-preserved g c = record {
       let is : c.loop-left.left ≡ k + 1 = omega (arith, some) in
       let at = slice_get_read list (length list) k c.index.result.now refl (omega (arith, long, some)) c.index.ensures in
       let before = c.loop-left.invariant.told kept found in
-      told_next trace sites (tables_of c.args.notes.now) c.args.access k c.index.result.now c.in_ok-known.known c.args.list.now.items list c.remove_if.new.list.items c.args.found.now.races.items c.loop-left.found.places.items c.ask_wanted.new.found.places.items c.loop-left.found.races.items c.ask_wanted.new.found.races.items at c.remove_if.ensures.stay c.remove_if.ensures.after
+      told_next trace sites (tables_of c.args.notes.now) c.args.access k c.index.result.now c.in_ok-known.known c.args.list.now.items list c.remove_if.new.list.items c.args.found.now.races.items c.loop-left.found.places.items c.ask_site.new.found.places.items c.loop-left.found.races.items c.ask_site.new.found.races.items at c.remove_if.ensures.stay c.remove_if.ensures.after
       (c.in_ok-known.ensures.told kept before.found)
       (subst (λ (n : ℕ). AreToldFrom trace sites (tables_of c.args.notes.now) c.args.access n c.args.list.now.items list c.args.found.now.races.items c.loop-left.found.places.items c.loop-left.found.races.items) is before));
 }

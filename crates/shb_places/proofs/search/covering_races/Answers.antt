@@ -17,7 +17,7 @@ pub loop-e-init : goal.loop-e-init
 loop-e-init g c =
     let trace = c.args.trace.now in
     record {
-      of_trace = ap (λ (s : SweepData). s.trace) c.in_ok-sweep.ensures ∙ c.new-4.ensures.events;
+      of_trace = ap (λ (s : SweepData). s.trace) c.in_ok-sweep.ensures ∙ c.new-5.ensures.events;
       next = ap (λ (s : SweepData). s.next) c.in_ok-sweep.ensures;
       searched = c.in_ok-search.ensures trace.trace.now c.args.flags.now (λ e x of_e. (variable_sized trace.events.now trace.sizes e x trace.within (subst (λ (l : List Event). variable_at l e ≡ Some x) (sym trace.of_trace) of_e)).1);
       numbered = (
@@ -33,7 +33,7 @@ loop-e-preserved g c =
     record {
       of_trace = ap (λ (s : SweepData). s.trace) c.in_ok-pass.ensures ∙ c.loop-e.invariant.of_trace;
       next = ap (λ (s : SweepData). s.next) c.in_ok-pass.ensures ∙ ap (λ (n : ℕ). n + 1) c.loop-e.invariant.next;
-      searched = subst (λ (t : TraceData). AreSearched t c.args.flags.now next.sites next.notes next.wanted next.found (c.loop-e.e + 1)) same c.in_ok-step.ensures.searched;
+      searched = subst (λ (t : TraceData). AreSearched t c.args.flags.now next.sites next.notes next.wanted.items next.found (c.loop-e.e + 1)) same c.in_ok-step.ensures.searched;
       numbered = subst (λ (t : TraceData). AreNumbered t c.step.new.locations.numbered.items) same c.in_ok-step.ensures.numbered;
     }
 

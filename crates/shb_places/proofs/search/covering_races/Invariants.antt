@@ -7,6 +7,6 @@ abbrev pub invariant-loop-e : goal.invariant-loop-e
 invariant-loop-e g l = record {
   of_trace : l.sweep.trace ≡ l.trace.events.now;
   next : l.sweep.next ≡ l.e;
-  searched : AreSearched l.trace.trace.now l.flags l.search.sites l.search.notes l.search.wanted l.search.found l.e;
+  searched : AreSearched l.trace.trace.now l.flags l.search.sites l.search.notes l.search.wanted.items l.search.found l.e;
   numbered : AreNumbered l.trace.trace.now l.locations.numbered.items;
 }

@@ -7,4 +7,4 @@ pub returns-then-not-access : goal.returns-then-not-access
 returns-then-not-access g c sites kept = earliest_write c.args.ordered.now.disciplined.now.trace.now sites (tables_of c.args.self.now) c.args.s c.args.access c.earliest_of-write.result kept c.requires.access (not-true _ c.if-not-access.true) (c.earliest_of-write.ensures sites kept)
 
 pub returns : goal.returns
-returns g c sites kept = earliest_both c.args.ordered.now.disciplined.now.trace.now sites (tables_of c.args.self.now) c.args.s c.args.access c.earliest_of-write.result c.earliest_of.result c.lesser.result (c.earliest_of-write.ensures sites kept) (c.earliest_of.ensures sites kept) c.lesser.ensures.first c.lesser.ensures.second c.lesser.ensures.one
+returns g c sites kept = earliest_both c.args.ordered.now.disciplined.now.trace.now sites (tables_of c.args.self.now) c.args.s c.args.access c.earliest_of-write.result c.earliest_of.result c.min.result (c.earliest_of-write.ensures sites kept) (c.earliest_of.ensures sites kept) c.min.ensures

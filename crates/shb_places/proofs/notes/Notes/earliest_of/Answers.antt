@@ -12,7 +12,7 @@ returns-in_default g c sites kept = least_end c.args.ordered.now.disciplined.now
 pub returns-then-class-at : goal.returns-then-class-at
 returns-then-class-at g c sites kept =
     let at = read_same c.args.self.now.classes.items c.deref.result.now c.loop-class.at c.in-Some.class.now c.deref.ensures.value c.in-Some.ensures.lookup.3.0 c.in-Some.ensures.lookup.1 in
-    let h = least_next c.args.ordered.now.disciplined.now.trace.now sites _ c.args.s c.args.writes c.args.access c.loop-class.earliest c.loop-class.at c.earliest_in.result c.lesser-earliest.result c.in-Some.class.now at (c.earliest_in.ensures sites kept) c.lesser-earliest.ensures.first c.lesser-earliest.ensures.second c.lesser-earliest.ensures.one (c.loop-class.invariant sites kept) in
+    let h = least_next c.args.ordered.now.disciplined.now.trace.now sites _ c.args.s c.args.writes c.args.access c.loop-class.earliest c.loop-class.at c.earliest_in.result c.min-earliest.result c.in-Some.class.now at (c.earliest_in.ensures sites kept) c.min-earliest.ensures (c.loop-class.invariant sites kept) in
     record {
       least = λ e noted kind race. elim (h.0 e noted kind race) [
         | inl le ↦ le
@@ -24,7 +24,7 @@ returns-then-class-at g c sites kept =
 pub loop-class-preserved : goal.loop-class-preserved
 loop-class-preserved g c sites kept =
     let at = read_same c.args.self.now.classes.items c.deref.result.now c.loop-class.at c.in-Some.class.now c.deref.ensures.value c.in-Some.ensures.lookup.3.0 c.in-Some.ensures.lookup.1 in
-    let h = least_next c.args.ordered.now.disciplined.now.trace.now sites _ c.args.s c.args.writes c.args.access c.loop-class.earliest c.loop-class.at c.earliest_in.result c.lesser-earliest.result c.in-Some.class.now at (c.earliest_in.ensures sites kept) c.lesser-earliest.ensures.first c.lesser-earliest.ensures.second c.lesser-earliest.ensures.one (c.loop-class.invariant sites kept) in
+    let h = least_next c.args.ordered.now.disciplined.now.trace.now sites _ c.args.s c.args.writes c.args.access c.loop-class.earliest c.loop-class.at c.earliest_in.result c.min-earliest.result c.in-Some.class.now at (c.earliest_in.ensures sites kept) c.min-earliest.ensures (c.loop-class.invariant sites kept) in
     record {
       least = λ e noted kind race. elim (h.0 e noted kind race) [ inl le ↦ inl le | inr more ↦ inr more.1 ];
       races = h.1;

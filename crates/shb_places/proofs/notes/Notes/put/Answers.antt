@@ -7,8 +7,5 @@ use Rattle.shb_places.proofs.notes.Notes.put.Goals as goal
 pub returns-in-Some : goal.returns-in-Some
 returns-in-Some c trace sites add = on_ok_weaker c.extend.result (λ e. extended_added trace sites (tables_of c.args.self.now) c.args.s c.args.local c.args.access add c.in-Some.c c.in-Some.ensures e.0 e.1.at_newest e.1.few _ e.1.heads e.1.classes e.1.newests e.1.links) c.extend.ensures
 
-pub returns-in_ok-insert : goal.returns-in_ok-insert
-returns-in_ok-insert c trace sites add = let e = c.in_ok-c.ensures in begun_added trace sites (tables_of c.args.self.now) c.args.s c.args.local c.args.access add e.0 (record { site = c.args.s; thread = c.args.access.thread; writes = c.args.access.writes; next = e.0 }) e.1.at_head refl refl refl refl e.1.few _ e.1.heads e.1.classes e.1.newests e.1.links
-
-pub returns-else-many : goal.returns-else-many
-returns-else-many c trace sites add = let e = c.in_ok-c.ensures in begun_added trace sites (tables_of c.args.self.now) c.args.s c.args.local c.args.access add e.0 (record { site = c.args.s; thread = c.args.access.thread; writes = c.args.access.writes; next = e.0 }) e.1.at_head refl refl refl refl e.1.few _ e.1.heads e.1.classes e.1.newests e.1.links
+pub returns : goal.returns
+returns c trace sites add = let e = c.in_ok-c.ensures in begun_added trace sites (tables_of c.args.self.now) c.args.s c.args.local c.args.access add e.0 (record { site = c.args.s; thread = c.args.access.thread; writes = c.args.access.writes; next = e.0 }) e.1.at_head refl refl refl refl e.1.few _ e.1.heads e.1.classes e.1.newests e.1.links

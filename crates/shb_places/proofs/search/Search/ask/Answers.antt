@@ -1,12 +1,25 @@
-use Rattle.std.proofs.Common.{◌+◌, arith}
+use Rattle.std.proofs.Common.{◌+◌, length, refl}
+use Rattle.std.proofs.lemmas.Option.{slice_get_read, slice_get_within}
 use Rattle.std.proofs.lemmas.Result.{on_ok_weaker}
-use Rattle.shb_places.proofs.WantedLemmas.{wanted_then}
+use Rattle.shb_places.specs.declared.wanted.Wanted.{Wanted}
+use Rattle.shb_places.specs.Notes.{tables_of}
+use Rattle.shb_places.proofs.TakeLemmas.{held_of, lists_asked}
+use Rattle.shb_places.proofs.WantedLemmas.{told_all}
 use Rattle.shb_places.proofs.search.Search.ask.Goals as goal
 
 pub returns-clause-asked : goal.returns-clause-asked
 returns-clause-asked g c is able =
+    let trace = c.args.ordered.now.disciplined.now.trace.now in
     let own = c.args.self.now in
-    on_ok_weaker c.ask.result (λ asked. record {
-      asked = asked;
-      wanted = λ k list at. wanted_then c.args.ordered.now.disciplined.now.trace.now own.sites.sites.items (c.args.access.event + 1) c.args.access.event (c.args.access.event + 1) own.found.places.items own.found.races.items c.ask.new.found.races.items list able.found asked.improves (omega arith) (able.wanted k list at);
-    }) (c.ask.ensures able.listed able.kept able.found)
+    let access = c.args.access in
+    let sites = own.sites.sites.items in
+    let lists = c.make_room.new.lists.items in
+    let before = c.in_ok-make_room.ensures.wanted trace sites own.found.races.items access.event (slice_get_within sites c.args.s is.site is.there) able.wanted in
+    let list : Wanted = c.index_mut-list.result.now in
+    let at = slice_get_read lists (length lists) c.args.s list refl c.in_ok-make_room.ensures.room c.index_mut-list.ensures.value in
+    let held = c.in_ok-look.ensures.held trace (access.event + 1) able.listed able.found c.requires.access (held_of trace sites own.found.races.items access.event access.variable access.location c.args.s list is (before c.args.s list at)) in
+    let after : Wanted = record { looked = c.look.new.list.looked; sites = c.ask_list.new.list } in
+    on_ok_weaker c.ask_list.result (λ told. record {
+      asked = told_all trace sites (tables_of own.notes) access c.look.new.list.sites.items after.sites.items own.found.races.items own.found.places.items c.ask_list.new.found.places.items c.ask_list.new.found.races.items c.requires.access able.kept able.found held told;
+      wanted = lists_asked trace sites (tables_of own.notes) lists c.args.s list after c.look.new.list.sites.items own.found.places.items c.ask_list.new.found.places.items own.found.races.items c.ask_list.new.found.races.items access able.found at is before held told c.in_ok-look.ensures.looked;
+    }) (c.ask_list.ensures able.kept able.found)

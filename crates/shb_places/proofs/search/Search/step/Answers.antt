@@ -7,7 +7,7 @@ pub returns-in_default-clause-searched : goal.returns-in_default-clause-searched
 returns-in_default-clause-searched g c =
     let trace = c.args.ordered.now.disciplined.now in
     let own = c.args.self.now in
-    passed_other trace.trace.now c.args.flags.now own.sites own.notes own.wanted own.found c.args.e c.requires.settled
+    passed_other trace.trace.now c.args.flags.now own.sites own.notes own.wanted.items own.found c.args.e c.requires.settled
     (shut_none trace.trace.now trace.events.now _ c.args.e c.args.flags.now trace.of_trace c.op-op.ensures (sym c.variable.ensures ∙ c.in_default.is))
     c.requires.searched
 
@@ -15,7 +15,7 @@ pub returns-then-not-is_open-clause-searched : goal.returns-then-not-is_open-cla
 returns-then-not-is_open-clause-searched g c =
     let trace = c.args.ordered.now.disciplined.now in
     let own = c.args.self.now in
-    passed_other trace.trace.now c.args.flags.now own.sites own.notes own.wanted own.found c.args.e c.requires.settled
+    passed_other trace.trace.now c.args.flags.now own.sites own.notes own.wanted.items own.found c.args.e c.requires.settled
     (shut_known trace.trace.now trace.events.now _ c.args.e c.in-Some.variable c.args.flags.now trace.of_trace c.op-op.ensures c.in-Some.ensures (sym c.is_open.ensures ∙ c.if-not-is_open.true))
     c.requires.searched
 

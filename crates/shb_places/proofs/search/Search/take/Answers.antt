@@ -27,9 +27,9 @@ returns g c flags is_so h =
     let trace = c.args.ordered.now.disciplined.now.trace.now in
     let own = c.args.self.now in
     let more = c.number_of.new.self in
-    let able = can_ask trace flags own.sites more own.notes own.wanted own.found c.args.access h c.in_ok-s.ensures.more in
+    let able = can_ask trace flags own.sites more own.notes own.wanted.items own.found c.args.access h c.in_ok-s.ensures.more in
     let asked = c.in_ok-ask.ensures.asked c.in_ok-s.ensures.site able in
     let kept = subst (λ (n : Notes). AreKept trace more.sites.items (tables_of n) c.args.access.event) (sym c.in_ok-ask.ensures.notes) able.kept in
     let time = local_of trace.events _ _ _ c.args.access.event c.args.ordered.now.linked c.args.ordered.now.disciplined.now.of_trace c.local-local.ensures.time c.args.access.thread c.requires.access.thread in
-    on_ok_weaker c.add.result (λ added. taken_all trace flags own.sites more c.ask.new.self.sites own.notes c.ask.new.self.notes c.add.new.self own.wanted c.ask.new.self.wanted own.found c.ask.new.self.found c.in_ok-s.s c.args.access c.requires.access is_so h c.in_ok-s.ensures.more c.in_ok-s.ensures.site c.in_ok-ask.ensures.sites c.in_ok-ask.ensures.notes asked added)
+    on_ok_weaker c.add.result (λ added. taken_all trace flags own.sites more c.ask.new.self.sites own.notes c.ask.new.self.notes c.add.new.self own.wanted.items c.ask.new.self.wanted.items own.found c.ask.new.self.found c.in_ok-s.s c.args.access c.requires.access is_so h c.in_ok-s.ensures.more c.in_ok-s.ensures.site c.in_ok-ask.ensures.sites c.in_ok-ask.ensures.notes asked added)
     (c.add.ensures trace more.sites.items (can_add trace more.sites.items (tables_of c.ask.new.self.notes) c.in_ok-s.s c.local-local.result c.args.access kept c.in_ok-s.ensures.site c.requires.access time))
