@@ -1,6 +1,7 @@
 pub mod EachLemmas
 pub mod LineLemmas
 pub mod Blocks
+pub mod Numbered
 pub mod PlaceLemmas
 pub mod ManyPlaces
 pub mod LeadingLemmas

@@ -11,10 +11,12 @@
 mod counts;
 pub mod laws;
 mod leading;
+mod locations;
 mod places;
 mod writing;
 
 pub use counts::Counts;
 pub use leading::leading_of;
+pub use locations::{Location, Locations};
 pub use places::{PlaceCount, PlaceTable, Places, places_of};
 pub use writing::{NumberTexts, block, head, numbered_line, place_lines, scheduled_block, tail};
