@@ -1,11 +1,11 @@
 mod CoveredLeading
 mod Entries
+pub mod FirstLemmas
 pub mod FoundLemmas
 mod KeyOrder
 mod LeadMembers
 pub mod Lists
 pub mod NoteLemmas
-pub mod NumberedLemmas
 mod RacesByNumber
 pub mod SearchLemmas
 pub mod SiteLemmas

@@ -5,7 +5,7 @@ pub mod Known
 pub mod ListOrder
 pub mod Lists
 pub mod Notes
-pub mod Numbered
+pub mod Firsts
 pub mod Searched
 pub mod Sites
 pub mod Wanted

@@ -56,15 +56,6 @@ impl Keys {
         let pair = u64::from(first) << 32 | u64::from(second);
         folded_product(self.first ^ pair, self.second)
     }
-
-    /// The hash of a text, as a pair.
-    pub fn pair_of(self, text: &[u8]) -> (u32, u32) {
-        let mut state = folded_product(self.first ^ text.len() as u64, self.second);
-        for byte in text {
-            state = folded_product(state ^ u64::from(*byte), self.second);
-        }
-        ((state >> 32) as u32, (state & 0xFFFF_FFFF) as u32)
-    }
 }
 
 /// The slot that stands so many after the one of a hash, where the number of slots is a power of two.

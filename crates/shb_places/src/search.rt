@@ -10,15 +10,15 @@ ghost use Rattle.shb_lines.specs.text.TraceData.{TraceData};
 ghost use Rattle.shb_pairs.specs.Open.{AreOpen};
 ghost use Rattle.shb_places.specs.Access.{IsAccess};
 ghost use Rattle.shb_places.specs.Covering.{Covers};
+ghost use Rattle.shb_places.specs.Firsts.{AreFirsts};
 ghost use Rattle.shb_places.specs.Found.{AreFound};
 ghost use Rattle.shb_places.specs.Notes.{AreKept, tables_of};
-ghost use Rattle.shb_places.specs.Numbered.{AreNumbered};
 ghost use Rattle.shb_places.specs.Searched.{AreSearched, AreToldFrom, IsAskable, IsAskedBy, IsTold};
 ghost use Rattle.shb_places.specs.Sites.{IsSite};
 ghost use Rattle.shb_places.specs.declared.notes.Link.{Link};
 
 use crate::found::{Found, Place};
-use crate::locations::Locations;
+use crate::locations::FirstAccesses;
 use crate::notes::{Access, Notes};
 use crate::numbers::NONE;
 use crate::pair_numbers::Keys;
@@ -194,7 +194,7 @@ impl Search {
         &mut self,
         alloc: Global,
         ordered: &Ordered<'_, O>,
-        locations: &mut Locations,
+        locations: &mut FirstAccesses<'_>,
         flags: &[bool],
         e: u32,
     ) -> Result<(), NoMemory>
@@ -202,9 +202,11 @@ impl Search {
         requires asked { O.asks ordered.now.order.now e ≡ true }
         requires settled { AreOpen ordered.now.disciplined.now.trace.now.events flags.now }
         requires searched { AreSearched ordered.now.disciplined.now.trace.now flags.now self.old.sites self.old.notes self.old.wanted.items self.old.found e }
-        requires numbered { AreNumbered ordered.now.disciplined.now.trace.now locations.old.numbered.items }
+        requires of_trace { locations.old.trace.now ≡ ordered.now.disciplined.now }
+        requires firsts { AreFirsts locations.old.trace.now.trace.now locations.old.known locations.old.firsts.items }
         ensures searched { OnOk result (AreSearched ordered.now.disciplined.now.trace.now flags.now self.new.sites self.new.notes self.new.wanted.items self.new.found (e + 1)) }
-        ensures numbered { OnOk result (AreNumbered ordered.now.disciplined.now.trace.now locations.new.numbered.items) }
+        ensures of_trace { locations.new.trace ≡ locations.old.trace }
+        ensures firsts { OnOk result (AreFirsts locations.old.trace.now.trace.now locations.new.known locations.new.firsts.items) }
     {
         let op = ordered.disciplined.events.op(e);
         let Some(variable) = op.variable() else {
@@ -214,7 +216,7 @@ impl Search {
             return Ok(());
         }
         let thread = ordered.disciplined.events.thread(e);
-        let location = locations.number_of(ordered.disciplined, e, thread)?;
+        let location = locations.number_of(e)?;
         let access = Access {
             event: e,
             thread,
@@ -248,7 +250,7 @@ pub fn covering_races<'a, R: RandomSource>(
         return Ok(Vec::new(alloc));
     }
     let keys = Keys::new(rt)?;
-    let mut locations = Locations::new(alloc, keys)?;
+    let mut locations = FirstAccesses::new(rt, alloc, &*trace)?;
     let mut search = Search::new(alloc, keys, trace.sizes.variables)?;
     let mut sweep = Sweep::new(alloc, Linked::new(&*trace, &*links))?;
     for e in 0..trace.events.len() as u32 {

@@ -1,4 +1,6 @@
 use Rattle.std.proofs.Common.{◌≡◌, ◌+◌, ℕ, List, Some, length, arith, ap, subst, sym, ◌∙◌}
+use Rattle.std.specs.Borrow.{Bor}
+use Rattle.shb_discipline.specs.declared.disciplined.Disciplined.{Disciplined}
 use Rattle.shb_lines.specs.declared.event.Event.{Event}
 use Rattle.shb_lines.specs.declared.event.Pair.{Pair}
 use Rattle.std.proofs.lemmas.List.Elements.{All-nil}
@@ -8,7 +10,7 @@ use Rattle.shb_clocks.specs.SweepData.{SweepData}
 use Rattle.shb_links.proofs.Owners.{variable_sized}
 use Rattle.shb_pairs.specs.Open.{AreOpen}
 use Rattle.shb_places.specs.Covering.{Covers}
-use Rattle.shb_places.specs.Numbered.{AreNumbered}
+use Rattle.shb_places.specs.Firsts.{AreFirsts}
 use Rattle.shb_places.specs.Searched.{AreSearched}
 use Rattle.shb_places.proofs.SearchLemmas.{searched_all}
 use Rattle.shb_places.proofs.search.covering_races.Goals as goal
@@ -20,10 +22,8 @@ loop-e-init g c =
       of_trace = ap (λ (s : SweepData). s.trace) c.in_ok-sweep.ensures ∙ c.new-5.ensures.events;
       next = ap (λ (s : SweepData). s.next) c.in_ok-sweep.ensures;
       searched = c.in_ok-search.ensures trace.trace.now c.args.flags.now (λ e x of_e. (variable_sized trace.events.now trace.sizes e x trace.within (subst (λ (l : List Event). variable_at l e ≡ Some x) (sym trace.of_trace) of_e)).1);
-      numbered = (
-          let few = trace.few in
-          let long = ap length trace.of_trace in
-          c.in_ok-locations.ensures trace.trace.now (omega (arith, few, long)));
+      located = c.in_ok-locations.ensures.of_trace;
+      firsts = c.in_ok-locations.ensures.firsts;
     }
 
 pub loop-e-preserved : goal.loop-e-preserved
@@ -34,7 +34,8 @@ loop-e-preserved g c =
       of_trace = ap (λ (s : SweepData). s.trace) c.in_ok-pass.ensures ∙ c.loop-e.invariant.of_trace;
       next = ap (λ (s : SweepData). s.next) c.in_ok-pass.ensures ∙ ap (λ (n : ℕ). n + 1) c.loop-e.invariant.next;
       searched = subst (λ (t : TraceData). AreSearched t c.args.flags.now next.sites next.notes next.wanted.items next.found (c.loop-e.e + 1)) same c.in_ok-step.ensures.searched;
-      numbered = subst (λ (t : TraceData). AreNumbered t c.step.new.locations.numbered.items) same c.in_ok-step.ensures.numbered;
+      located = ap (λ (r : Bor Disciplined). r.now) c.in_ok-step.ensures.of_trace ∙ c.loop-e.invariant.located;
+      firsts = subst (λ (t : TraceData). AreFirsts t c.step.new.locations.known c.step.new.locations.firsts.items) (ap (λ (d : Disciplined). d.trace.now) c.loop-e.invariant.located) c.in_ok-step.ensures.firsts;
     }
 
 pub returns-then-not-any_open : goal.returns-then-not-any_open
@@ -53,8 +54,11 @@ returns-then-not-any_open g c =
 pub step-requires-clause-settled : goal.step-requires-clause-settled
 step-requires-clause-settled g c = rw c.new-ordered.ensures.disciplined (subst (λ (l : List Event). AreOpen l c.args.flags.now) c.args.trace.now.of_trace c.requires.settled)
 
-pub step-requires-clause-numbered : goal.step-requires-clause-numbered
-step-requires-clause-numbered g c = rw c.new-ordered.ensures.disciplined c.loop-e.invariant.numbered
+pub step-requires-clause-of_trace : goal.step-requires-clause-of_trace
+step-requires-clause-of_trace g c = c.loop-e.invariant.located ∙ sym c.new-ordered.ensures.disciplined
+
+pub step-requires-clause-firsts : goal.step-requires-clause-firsts
+step-requires-clause-firsts g c = subst (λ (t : TraceData). AreFirsts t c.loop-e.locations.known c.loop-e.locations.firsts.items) (sym (ap (λ (d : Disciplined). d.trace.now) c.loop-e.invariant.located)) c.loop-e.invariant.firsts
 
 pub returns : goal.returns
 returns g c =

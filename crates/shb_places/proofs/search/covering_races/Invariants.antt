@@ -1,5 +1,5 @@
 use Rattle.std.proofs.Common.{◌≡◌}
-use Rattle.shb_places.specs.Numbered.{AreNumbered}
+use Rattle.shb_places.specs.Firsts.{AreFirsts}
 use Rattle.shb_places.specs.Searched.{AreSearched}
 use Rattle.shb_places.proofs.search.covering_races.Given as goal
 
@@ -8,5 +8,6 @@ invariant-loop-e g l = record {
   of_trace : l.sweep.trace ≡ l.trace.events.now;
   next : l.sweep.next ≡ l.e;
   searched : AreSearched l.trace.trace.now l.flags l.search.sites l.search.notes l.search.wanted.items l.search.found l.e;
-  numbered : AreNumbered l.trace.trace.now l.locations.numbered.items;
+  located : l.locations.trace.now ≡ l.trace;
+  firsts : AreFirsts l.trace.trace.now l.locations.known l.locations.firsts.items;
 }
