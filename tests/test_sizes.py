@@ -200,44 +200,6 @@ def report_of_locks(threads, locks):
     return head(events, threads, locks, 1, 1) + one_place(1) + block + b"end\n"
 
 
-class SameHash:
-    """Races whose places have one hash in `shb places`: of those under one hash it looks at eight. A place is the numbers of
-    the first events at its two locations, and the hash is the low half of a product of 64 bits joined with its high half by
-    xor. Each place has two races, on a variable of its own."""
-
-    product = 0xE703_7ED1_A0B4_28DB
-
-    def __init__(self, events):
-        self.events = events
-        self.pairs = sorted(self.pairs_of_hash_zero())
-
-    def pairs_of_hash_zero(self):
-        """Pairs of events with equal halves. The first event adds to the high half alone."""
-        inverse = pow(self.product, -1, 2**32)
-        for second in range(self.events // 2, self.events):
-            high, low = divmod(second * self.product % 2**64, 2**32)
-            first = (low - high) * inverse % 2**32
-            if first < self.events // 2:
-                yield first, second
-
-    def trace(self):
-        lines = [b"T|begin"] * self.events
-        for k, (first, second) in enumerate(self.pairs):
-            lines[first] = b"T|w(x%d)|a%d" % (k, k)
-            lines[second] = b"U|w(x%d)|b%d" % (k, k)
-        lines += [b"U|w(x%d)|b%d" % (k, k) for k in range(len(self.pairs))]
-        return b"".join(line + b"\n" for line in lines)
-
-    def report(self):
-        count = len(self.pairs)
-        yield head(self.events + count, 2, 0, count, count) + b"places %d\n" % count
-        for k in range(count):
-            yield b"place %d: 1\nat a%d\nand b%d\n" % (k + 1, k, k)
-        for k, (i, j) in enumerate(self.pairs):
-            yield b"race %d: %d %d\nfirst T|w(x%d)|a%d\nsecond U|w(x%d)|b%d\n" % (k + 1, i + 1, j + 1, k, k, k, k)
-        yield b"end\n"
-
-
 class SmallSizes(program.Case):
     """What the reports of this module are, by the plain program of the definitions."""
 
@@ -256,13 +218,6 @@ class SmallSizes(program.Case):
         for threads, times in ((5, 1), (2, 2), (4, 2)):
             self.expect_report(Writes(threads, times).trace(), Writes(threads, times).report(False))
             self.expect_report(Writes(threads, times).trace(), Writes(threads, times).report(True), with_schedules=True)
-
-    def test_places_of_one_hash(self):
-        made = SameHash(1 << 20)
-        product = "0x%016X" % made.product
-        self.assertIn(product, (program.HERE.parent / "crates/shb_places/src/numbers.rt").read_text().replace("_", ""))
-        made.events, made.pairs = 12, [(1, 9), (3, 7), (4, 8)]
-        self.expect_report(made.trace(), made.report(), leading=True)
 
 
 class Sizes(program.Case):
@@ -343,11 +298,6 @@ class Sizes(program.Case):
         """There are more races than events, so they are counted; each later write has 2,050,000 of them."""
         made = Locations(OTHER_VARIABLES, 1_050_000, 2_050_000)
         self.assertEqual(self.digest_of(["races", "--list", self.file(made.trace())]), digest(made.report()))
-
-    def test_more_places_of_one_hash_than_are_looked_at(self):
-        made = SameHash(1 << 20)
-        self.assertGreater(len(made.pairs), 16)
-        self.expect(program.run(["places", "--list"], made.trace()), 0, b"".join(made.report()))
 
     def test_clocks_of_many_locks(self):
         """More than 65,536 clocks of 1,024 threads are in use at the end."""
