@@ -5,55 +5,16 @@ ghost use Rattle.shb_fan.specs.Seated.{IsNewSeat, job_of};
 
 use crate::asserting::{holds, is_false, is_true, same};
 use crate::counters::{all_one, zeros};
-use crate::refusal::ask_too_much;
+use crate::held::{expect_come, expect_entered, make_held};
+use crate::numbers::{Numbers, is_count, make_numbers, so_many};
 use shb_fan::*;
 use shb_io::NoMemory;
 use std::alloc::Global;
 use std::process::Abort;
 use std::sync::Wait;
-use std::sync::atomic::{AtomicBool, AtomicU64, Ordering};
+use std::sync::atomic::{AtomicU64, Ordering};
 use std::test::Fail;
-use std::thread::{Threads, for_each_mut, yield_now};
-
-/// The value of piece k is k. Memory is refused at one piece, where there is one.
-#[derive(Drop)]
-struct Count {
-    pieces: u64,
-    refused: Option<u64>,
-    ghost few: { pieces ≤ 2 ^ 60 },
-}
-
-impl Job for Count {
-    type Out = u64;
-
-    type Meaning = u64;
-
-    ghost meaning = { λ out. out };
-
-    ghost value = { λ job k. k };
-
-    ghost count = { λ job. job.pieces };
-
-    fn pieces(&self) -> u64 {
-        self.pieces
-    }
-
-    fn run(&self, alloc: Global, k: u64) -> Result<u64, NoMemory> {
-        if self.refused == Some(k) {
-            ask_too_much(alloc)?;
-        }
-        Ok(k)
-    }
-}
-
-fn count_to(pieces: u32, refused: Option<u64>) -> Count
-    ensures { result.pieces ≡ pieces }
-{
-    Count {
-        pieces: u64::from(pieces),
-        refused,
-    }
-}
+use std::thread::{Threads, for_each_mut};
 
 /// Tickets with two passes.
 fn two(alloc: Global, limit: u32) -> Result<(Tickets, Pass, Pass), NoMemory>
@@ -160,7 +121,7 @@ fn stops_after_each_draw(rt: HostRuntime) -> Result<(), Fail> {
 
 #[test]
 fn passes_one_slot_on(rt: HostRuntime) -> Result<(), Fail> {
-    let job = count_to(65, None);
+    let job = make_numbers(65, &[], None);
     let (ring, mut seats) = Ring::new(rt.alloc(), &job)?;
     let Some(mut seat) = seats.pop() else {
         unreachable!()
@@ -215,23 +176,13 @@ fn four_threads_draw(rt: HostRuntime) -> Result<(), Fail> {
     Ok(())
 }
 
-/// Keeps what it is given, but for one piece that it refuses, where there is one.
+/// Takes each number as that of its piece, in order, and counts them.
 #[derive(Drop)]
-struct Keeper {
-    pieces: Vec<u64>,
-    values: Vec<u64>,
-    refused: Option<u64>,
+struct Counter {
+    taken: u64,
 }
 
-fn make_keeper(alloc: Global, refused: Option<u64>) -> Keeper {
-    Keeper {
-        pieces: Vec::new(alloc),
-        values: Vec::new(alloc),
-        refused,
-    }
-}
-
-impl Taker<u64> for Keeper {
+impl Taker<u64> for Counter {
     type Error = u64;
 
     ghost takes = { λ _ _ _. Unit {0} };
@@ -243,42 +194,12 @@ impl Taker<u64> for Keeper {
     ghost nothing = { λ _. tt };
 
     fn take(&mut self, k: u64, out: u64) -> Result<(), u64> {
-        if self.pieces.push(k).is_err() {
-            return Err(u64::MAX);
-        }
-        if self.refused == Some(k) {
+        if k != self.taken || out != k {
             return Err(k);
         }
-        match self.values.push(out) {
-            Ok(()) => Ok(()),
-            Err(_) => Err(u64::MAX),
-        }
+        self.taken = self.taken.saturating_add(1);
+        Ok(())
     }
-}
-
-/// Whether a list is 0, 1, 2 and so on, of this length.
-fn is_count(values: &[u64], len: u64) -> bool {
-    for (k, value) in values.iter().enumerate() {
-        if *value != k as u64 {
-            return false;
-        }
-    }
-    values.len() as u64 == len
-}
-
-/// Asserts the answer of a stream: the error, or how many pieces were drawn, with no stop.
-fn expect_answer(
-    rt: &impl Abort,
-    answer: Result<DrawEnd, StreamError<u64>>,
-    wanted: Result<u64, StreamError<u64>>,
-) {
-    let drawn = answer.map(|end| (end.drawn(), end.stopped()));
-    let wanted = wanted.map(|pieces| (pieces, false));
-    same(rt, &drawn, &wanted, "the answer of a stream");
-}
-
-fn so_many<R: Abort>(rt: &R, workers: u32) -> Workers {
-    Workers::new(workers).expect(rt, "1 to 64 workers")
 }
 
 #[test]
@@ -288,63 +209,51 @@ fn numbers_of_workers(rt: HostRuntime) {
     same(&rt, &so_many(&rt, 64).get(), &64, "64 workers");
 }
 
-/// Streams so many pieces to a keeper that refuses one, and asserts the answer and what the keeper
-/// was given and kept.
-fn expect_stream<R: Threads + Wait + Sync + AllocGlobal + Abort>(
+/// Streams a job of so many pieces, and asserts that all are drawn and taken in order.
+fn expect_stream<R: Threads + Wait + Sync + AllocGlobal + Abort, G: Gate + Sync>(
     rt: &R,
     pieces: u32,
+    gate: &G,
     workers: u32,
-    refused: Option<u64>,
-    given: u64,
 ) {
-    let job = count_to(pieces, None);
-    let mut taker = make_keeper(rt.alloc(), refused);
-    let workers = so_many(rt, workers);
-    let answer = stream(rt, rt.alloc(), &job, &FreeGate, workers, &mut taker);
-    let wanted = refused.map_or(Ok(u64::from(pieces)), |k| Err(StreamError::Taker(k)));
-    expect_answer(rt, answer, wanted);
-    let kept = if refused.is_some() {
-        given.saturating_sub(1)
-    } else {
-        given
-    };
-    holds(rt, is_count(taker.pieces.as_slice(), given), "pieces given");
-    holds(rt, is_count(taker.values.as_slice(), kept), "values kept");
+    let job = make_numbers(pieces, &[], None);
+    let mut taker = Counter { taken: 0 };
+    let answer = stream(rt, rt.alloc(), &job, gate, so_many(rt, workers), &mut taker);
+    let drawn = answer.map(|end| (end.drawn(), end.stopped()));
+    let wanted = Ok((u64::from(pieces), false));
+    same(rt, &drawn, &wanted, "the answer of a stream");
+    same(rt, &taker.taken, &u64::from(pieces), "values in order");
+}
+
+/// Gathers a job of so many pieces, and asserts its values.
+fn expect_gather<R: Threads + Wait + Sync + AllocGlobal + Abort, G: Gate + Sync>(
+    rt: &R,
+    pieces: u32,
+    gate: &G,
+    workers: u32,
+) -> Result<(), NoMemory> {
+    let job = make_numbers(pieces, &[], None);
+    let values = gather(rt, rt.alloc(), &job, gate, so_many(rt, workers))?;
+    let is_whole = is_count(values.as_slice(), u64::from(pieces));
+    holds(rt, is_whole, "values gathered");
+    Ok(())
 }
 
 #[test]
-fn streams_in_order(rt: HostRuntime) {
+fn streams_and_gathers_in_order(rt: HostRuntime) -> Result<(), Fail> {
     for pieces in [0, 1, 64, 65, 1000] {
         for workers in [1, 2, 64] {
-            expect_stream(&rt, pieces, workers, None, u64::from(pieces));
-        }
-    }
-}
-
-#[test]
-fn gathers_in_order(rt: HostRuntime) -> Result<(), Fail> {
-    for pieces in [0, 1, 64, 65, 1000] {
-        for workers in [1, 2, 64] {
-            let job = count_to(pieces, None);
-            let values = gather(&rt, rt.alloc(), &job, &FreeGate, so_many(&rt, workers))?;
-            let is_whole = is_count(values.as_slice(), u64::from(pieces));
-            holds(&rt, is_whole, "values gathered");
+            expect_stream(&rt, pieces, &FreeGate, workers);
+            expect_gather(&rt, pieces, &FreeGate, workers)?;
         }
     }
     Ok(())
 }
 
-#[test]
-fn taker_refuses_each(rt: HostRuntime) {
-    for k in 0..70 {
-        expect_stream(&rt, 70, 3, Some(k), k + 1);
-    }
-}
-
 /// Whether a gather fails.
 fn fails_to_gather<R: Threads + Wait + Sync + AllocGlobal + Abort>(
     rt: &R,
-    job: &Count,
+    job: &Numbers<'_>,
     workers: u32,
 ) -> bool {
     gather(rt, rt.alloc(), job, &FreeGate, so_many(rt, workers)).is_err()
@@ -353,21 +262,15 @@ fn fails_to_gather<R: Threads + Wait + Sync + AllocGlobal + Abort>(
 #[test]
 fn job_refuses_each(rt: HostRuntime) {
     for k in 0..70 {
-        let job = count_to(70, Some(k));
-        let mut taker = make_keeper(rt.alloc(), None);
+        let job = make_numbers(70, &[], Some(k));
+        let mut taker = Counter { taken: 0 };
         let workers = so_many(&rt, 3);
         let answer = stream(&rt, rt.alloc(), &job, &FreeGate, workers, &mut taker);
         let refused = matches!(answer, Err(StreamError::Memory(_)));
         holds(&rt, refused, "memory was refused");
-        let taken = taker.values.len() as u64;
-        holds(&rt, taken <= k, "no value after the refused piece");
-        holds(
-            &rt,
-            is_count(taker.values.as_slice(), taken),
-            "values in order",
-        );
+        holds(&rt, taker.taken <= k, "no value after the refused piece");
         holds(&rt, fails_to_gather(&rt, &job, 3), "a gather of 70 pieces");
-        let batches = count_to(300, Some(k));
+        let batches = make_numbers(300, &[], Some(k));
         holds(
             &rt,
             fails_to_gather(&rt, &batches, 1),
@@ -422,7 +325,7 @@ impl<'a> Job for Counting<'a> {
     }
 }
 
-/// Takes values up to one that it refuses.
+/// Takes values up to one that it refuses, and counts the calls, which are in order.
 #[derive(Drop)]
 struct Limit {
     refused: u64,
@@ -442,6 +345,9 @@ impl<'a> Taker<Counted<'a>> for Limit {
 
     fn take(&mut self, k: u64, out: Counted<'a>) -> Result<(), u64> {
         drop(out);
+        if k != self.calls {
+            return Err(u64::MAX);
+        }
         self.calls = self.calls.saturating_add(1);
         if k == self.refused {
             return Err(k);
@@ -489,103 +395,24 @@ fn values_end_once(rt: HostRuntime) -> Result<(), Fail> {
     Ok(())
 }
 
-/// Holds pieces 0 to 6 until the nine from 7 to 15 have entered.
-#[derive(Drop)]
-struct SevenHeld {
-    late: AtomicU64,
-    missed: AtomicBool,
-}
-
-impl Gate for SevenHeld {
-    fn enter<R: Wait>(&self, _rt: &R, k: u64) {
-        if k >= 7 {
-            self.late.fetch_add(1, Ordering::SeqCst);
-            return;
-        }
-        for _ in 0..1_000_000_000u32 {
-            if self.late.load(Ordering::SeqCst) >= 9 {
-                return;
-            }
-            yield_now();
-        }
-        self.missed.store(true, Ordering::SeqCst);
-    }
-}
-
-fn seven_held() -> SevenHeld {
-    SevenHeld {
-        late: AtomicU64::new(0),
-        missed: AtomicBool::new(false),
-    }
-}
-
+/// Of 16 pieces the first seven are held until the nine others have entered.
 #[test]
-fn seven_are_held(rt: HostRuntime) -> Result<(), Fail> {
-    let job = count_to(16, None);
-    let gate = seven_held();
-    let values = gather(&rt, rt.alloc(), &job, &gate, so_many(&rt, 8))?;
-    holds(&rt, is_count(values.as_slice(), 16), "values gathered");
-    holds(
-        &rt,
-        !gate.missed.load(Ordering::SeqCst),
-        "nine others entered",
-    );
-    let gate = seven_held();
-    let mut taker = make_keeper(rt.alloc(), None);
-    let answer = stream(&rt, rt.alloc(), &job, &gate, so_many(&rt, 8), &mut taker);
-    expect_answer(&rt, answer, Ok(16));
-    holds(&rt, is_count(taker.values.as_slice(), 16), "values taken");
-    holds(
-        &rt,
-        !gate.missed.load(Ordering::SeqCst),
-        "nine others entered",
-    );
+fn seven_held(rt: HostRuntime) -> Result<(), Fail> {
+    let gate = make_held(7, 7, 9);
+    expect_gather(&rt, 16, &gate, 8)?;
+    expect_come(&rt, &gate, "nine others entered");
+    let gate = make_held(7, 7, 9);
+    expect_stream(&rt, 16, &gate, 8);
+    expect_come(&rt, &gate, "nine others entered");
     Ok(())
 }
 
-/// Holds piece 0 until piece 16 has entered, the first of the second batch.
-#[derive(Drop)]
-struct BatchHeld {
-    second: AtomicBool,
-    entered: AtomicU64,
-    missed: AtomicBool,
-}
-
-impl Gate for BatchHeld {
-    fn enter<R: Wait>(&self, _rt: &R, k: u64) {
-        self.entered.fetch_add(1, Ordering::SeqCst);
-        if k == 16 {
-            self.second.store(true, Ordering::SeqCst);
-        }
-        if k != 0 {
-            return;
-        }
-        for _ in 0..1_000_000_000u32 {
-            if self.second.load(Ordering::SeqCst) {
-                return;
-            }
-            yield_now();
-        }
-        self.missed.store(true, Ordering::SeqCst);
-    }
-}
-
+/// Piece 0 is held until one of the second batch has entered.
 #[test]
 fn batches_are_shared_out(rt: HostRuntime) -> Result<(), Fail> {
-    let job = count_to(512, None);
-    let gate = BatchHeld {
-        second: AtomicBool::new(false),
-        entered: AtomicU64::new(0),
-        missed: AtomicBool::new(false),
-    };
-    let values = gather(&rt, rt.alloc(), &job, &gate, so_many(&rt, 2))?;
-    holds(&rt, is_count(values.as_slice(), 512), "values gathered");
-    same(
-        &rt,
-        &gate.entered.load(Ordering::SeqCst),
-        &512,
-        "pieces entered",
-    );
-    holds(&rt, !gate.missed.load(Ordering::SeqCst), "piece 16 entered");
+    let gate = make_held(1, 16, 1);
+    expect_gather(&rt, 512, &gate, 2)?;
+    expect_entered(&rt, &gate, 512);
+    expect_come(&rt, &gate, "another batch entered");
     Ok(())
 }

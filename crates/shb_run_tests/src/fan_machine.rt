@@ -72,77 +72,10 @@ fn lifts_in_order(rt: HostRuntime) -> Result<(), Fail> {
 }
 
 #[test]
-fn claims_what_it_drew(rt: HostRuntime) -> Result<(), Fail> {
-    let refused = refused(&rt, 1, 2, &[Step::Draw(0), Step::Claim(0, 1)])?;
-    same(&rt, &refused, &Some(1), "the refused step");
-    Ok(())
-}
-
-#[test]
-fn spent_actors_draw_no_more(rt: HostRuntime) -> Result<(), Fail> {
-    let refused = refused(&rt, 1, 0, &[Step::Draw(0), Step::Draw(0)])?;
-    same(&rt, &refused, &Some(1), "the refused step");
-    Ok(())
-}
-
-#[test]
-fn no_such_actor_or_piece(rt: HostRuntime) -> Result<(), Fail> {
-    let none: [Step; 6] = [
-        Step::Draw(1),
-        Step::Claim(0, 1),
-        Step::Place(1, 0),
-        Step::Lift(1),
-        Step::Free(u64::MAX),
-        Step::Stop(u32::MAX),
-    ];
-    for step in none {
-        same(
-            &rt,
-            &refused(&rt, 1, 1, &[step])?,
-            &Some(0),
-            "the refused step",
-        );
-    }
-    let stopped = refused(&rt, 1, 1, &[Step::Stop(0), Step::Draw(0)])?;
-    same(&rt, &stopped, &None, "the refused step");
-    Ok(())
-}
-
-/// Asserts which step is refused of 65 draws and these.
-fn expect_refused<R: Abort + AllocGlobal>(
-    rt: &R,
-    rest: &[Step],
-    wanted: Option<usize>,
-) -> Result<(), Fail> {
-    let mut steps = Vec::new(rt.alloc());
-    for _ in 0..65 {
-        steps.push(Step::Draw(0))?;
-    }
-    for step in rest {
-        steps.push(*step)?;
-    }
-    let found = refused(rt, 1, 65, steps.as_slice())?;
-    same(rt, &found, &wanted, "the refused step");
-    Ok(())
-}
-
-#[test]
-fn a_slot_is_used_again(rt: HostRuntime) -> Result<(), Fail> {
-    expect_refused(&rt, &[Step::Claim(0, 64)], Some(65))?;
-    let full = [
-        Step::Claim(0, 0),
-        Step::Place(0, 0),
-        Step::Lift(0),
-        Step::Claim(0, 64),
-    ];
-    expect_refused(&rt, &full, Some(68))?;
-    let free = [
-        Step::Claim(0, 0),
-        Step::Place(0, 0),
-        Step::Lift(0),
-        Step::Free(0),
-        Step::Claim(0, 64),
-    ];
-    expect_refused(&rt, &free, None)?;
+fn refuses_what_is_not_drawn(rt: HostRuntime) -> Result<(), Fail> {
+    let another = [Step::Draw(0), Step::Claim(0, 1)];
+    same(&rt, &refused(&rt, 1, 2, &another)?, &Some(1), "a claim");
+    let spent = [Step::Draw(0), Step::Draw(0)];
+    same(&rt, &refused(&rt, 1, 0, &spent)?, &Some(1), "a draw");
     Ok(())
 }

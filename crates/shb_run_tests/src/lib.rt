@@ -11,19 +11,19 @@ mod check;
 #[cfg(test)]
 mod counters;
 #[cfg(test)]
-mod endings;
-#[cfg(test)]
 mod fan;
 #[cfg(test)]
 mod fan_machine;
 #[cfg(test)]
 mod gates;
 #[cfg(test)]
+mod held;
+#[cfg(test)]
 mod io;
 #[cfg(test)]
 mod judging;
 #[cfg(test)]
-mod leading;
+mod numbers;
 #[cfg(test)]
 mod refusal;
 #[cfg(test)]

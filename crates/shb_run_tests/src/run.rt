@@ -22,15 +22,15 @@ pub fn settings<R: Abort>(rt: &R, workers: u32, schedules: bool) -> Settings {
 /// A source and a sink in memory: how many bytes they move at once, the call that fails, and how
 /// many bytes the sink takes.
 #[derive(Clone, Copy)]
-pub struct Devices {
-    pub step: usize,
-    pub read_fails: Option<u64>,
-    pub write_fails: Option<u64>,
-    pub room: usize,
+struct Devices {
+    step: usize,
+    read_fails: Option<u64>,
+    write_fails: Option<u64>,
+    room: usize,
 }
 
 /// Devices that move so many bytes at once, and never fail.
-pub fn ample(step: usize) -> Devices {
+fn ample(step: usize) -> Devices {
     Devices {
         step,
         read_fails: None,
@@ -67,14 +67,14 @@ fn ran<R: Threads + Wait + Sync + RandomSource + AllocGlobal>(
 
 /// What a run must say, with this status, and write.
 #[derive(Clone, Copy)]
-pub struct Wanted<'a> {
-    pub said: &'a str,
-    pub status: u8,
-    pub written: &'a [u8],
+struct Wanted<'a> {
+    said: &'a str,
+    status: u8,
+    written: &'a [u8],
 }
 
 /// A run that goes well and writes this.
-pub fn done(written: &[u8]) -> Wanted<'_> {
+fn done(written: &[u8]) -> Wanted<'_> {
     Wanted {
         said: "",
         status: 0,
@@ -83,7 +83,7 @@ pub fn done(written: &[u8]) -> Wanted<'_> {
 }
 
 /// A run that says this, with status 4, having written so much.
-pub fn failed<'a>(said: &'a str, written: &'a [u8]) -> Wanted<'a> {
+fn failed<'a>(said: &'a str, written: &'a [u8]) -> Wanted<'a> {
     Wanted {
         said,
         status: 4,
@@ -92,7 +92,7 @@ pub fn failed<'a>(said: &'a str, written: &'a [u8]) -> Wanted<'a> {
 }
 
 /// Runs, and asserts what is said and written.
-pub fn expect_run<R: Threads + Wait + Sync + RandomSource + AllocGlobal + Abort>(
+fn expect_run<R: Threads + Wait + Sync + RandomSource + AllocGlobal + Abort>(
     rt: &R,
     trace: &str,
     devices: Devices,
@@ -107,9 +107,9 @@ pub fn expect_run<R: Threads + Wait + Sync + RandomSource + AllocGlobal + Abort>
 }
 
 /// A read races with its own last write.
-pub const TRACE: &str = "T1|w(y)|1\nT2|r(y)|2\n";
+const TRACE: &str = "T1|w(y)|1\nT2|r(y)|2\n";
 
-pub const REPORT: &[u8] = b"shb-report 2\n\
+const REPORT: &[u8] = b"shb-report 2\n\
       events 2 threads 2 locks 0 variables 1\n\
       races 1\n\
       places 1\n\
@@ -153,54 +153,27 @@ fn writes_reports(rt: HostRuntime) -> Result<(), Fail> {
     Ok(())
 }
 
-#[test]
-fn refuses_traces(rt: HostRuntime) -> Result<(), Fail> {
-    for (trace, said) in [
-        (
-            "T1|w(x)\nT2|w(y)\nT2|rel(l)\nT1|w(x)\noops\n",
-            "line 3: the lock is not held by this thread",
-        ),
-        (
-            "T1|r(x)\n\n\r\noops\n",
-            "line 4: the line has no operation field",
-        ),
-    ] {
-        let wanted = Wanted {
-            said,
-            status: 2,
-            written: b"",
-        };
-        for step in [1, 4096] {
-            expect_run(&rt, trace, ample(step), settings(&rt, 4, true), wanted)?;
-        }
-    }
-    Ok(())
+/// Runs with a sink that is written byte by byte and fails after so many.
+fn expect_cut<R: Threads + Wait + Sync + RandomSource + AllocGlobal + Abort>(
+    rt: &R,
+    trace: &str,
+    report: &[u8],
+    settings: Settings,
+    written: usize,
+) -> Result<(), NoMemory> {
+    let written = written.min(report.len());
+    let devices = Devices {
+        write_fails: Some(written as u64 + 1),
+        ..ample(1)
+    };
+    let wanted = failed("cannot write", report.split_at(written).0);
+    expect_run(rt, trace, devices, settings, wanted)
 }
 
-/// The text is read byte by byte, and then to its end.
-#[test]
-fn says_that_the_source_failed(rt: HostRuntime) -> Result<(), Fail> {
-    for fail_at in 1..=TRACE.len() as u64 + 1 {
-        let devices = Devices {
-            read_fails: Some(fail_at),
-            ..ample(1)
-        };
-        let wanted = failed("cannot read", b"");
-        expect_run(&rt, TRACE, devices, settings(&rt, 4, true), wanted)?;
-    }
-    Ok(())
-}
-
-/// The report is written byte by byte.
 #[test]
 fn says_that_the_sink_failed(rt: HostRuntime) -> Result<(), Fail> {
     for written in 0..REPORT.len() {
-        let devices = Devices {
-            write_fails: Some(written as u64 + 1),
-            ..ample(1)
-        };
-        let wanted = failed("cannot write", REPORT.split_at(written).0);
-        expect_run(&rt, TRACE, devices, settings(&rt, 4, true), wanted)?;
+        expect_cut(&rt, TRACE, REPORT, settings(&rt, 4, true), written)?;
     }
     Ok(())
 }
@@ -222,30 +195,25 @@ fn fills_the_sink(rt: HostRuntime) -> Result<(), Fail> {
     Ok(())
 }
 
-fn expect_shown<R: Abort + AllocGlobal>(
-    rt: &R,
-    error: &RunError,
-    wanted: &str,
-) -> Result<(), NoMemory> {
-    let shown = format!(in rt.alloc(); "{error}")?;
-    same(rt, &shown.as_str(), &wanted, "an error");
-    Ok(())
-}
-
+/// Errors show themselves in the words of `fault_line`.
 #[test]
 fn errors_show_themselves(rt: HostRuntime) -> Result<(), Fail> {
-    let refused = RunError::Trace {
-        line: 7,
-        fault: Fault::NotHeld,
-    };
-    let words = "line 7: the lock is not held by this thread";
-    expect_shown(&rt, &refused, words)?;
-    expect_shown(&rt, &RunError::Source, "cannot read")?;
-    expect_shown(&rt, &RunError::Sink, "cannot write")?;
     let Err(refused) = ask_too_much(rt.alloc()) else {
         return Err("memory was given".into());
     };
-    expect_shown(&rt, &RunError::Memory(refused), "out of memory")?;
+    let line = 7;
+    let fault = Fault::NotHeld;
+    let errors = [
+        RunError::Trace { line, fault },
+        RunError::Source,
+        RunError::Sink,
+        RunError::Memory(refused),
+    ];
+    for error in &errors {
+        let shown = format!(in rt.alloc(); "{error}")?;
+        let said = fault_line(rt.alloc(), error)?;
+        same_bytes(&rt, shown.as_bytes(), said.as_bytes(), "an error's words");
+    }
     Ok(())
 }
 
@@ -270,6 +238,60 @@ fn reads_before_it_judges(rt: HostRuntime) -> Result<(), Fail> {
             }
         };
         expect_run(&rt, TWO_FAULTS, devices, settings(&rt, 4, true), wanted)?;
+    }
+    Ok(())
+}
+
+/// Three races of one variable.
+const THREE_RACES: &str = "T1|w(x)\nT2|w(x)\nT3|r(x)\n";
+
+const THREE_RACES_REPORT: &[u8] = b"shb-report 2\n\
+     events 3 threads 3 locks 0 variables 1\n\
+     races 3\n\
+     places 1\n\
+     place 1: 3\n\
+     at \n\
+     and \n\
+     race 1: 1 2\n\
+     first T1|w(x)\n\
+     second T2|w(x)\n\
+     schedule 0:\n\
+     race 2: 1 3\n\
+     first T1|w(x)\n\
+     second T3|r(x)\n\
+     schedule 0:\n\
+     race 3: 2 3\n\
+     first T2|w(x)\n\
+     second T3|r(x)\n\
+     schedule 0:\n\
+     end\n";
+
+#[test]
+fn workers_change_nothing(rt: HostRuntime) -> Result<(), Fail> {
+    for workers in [1, 2, 64] {
+        let settings = settings(&rt, workers, true);
+        expect_run(
+            &rt,
+            THREE_RACES,
+            ample(1),
+            settings,
+            done(THREE_RACES_REPORT),
+        )?;
+        let reads = Devices {
+            read_fails: Some(3),
+            ..ample(1)
+        };
+        expect_run(
+            &rt,
+            THREE_RACES,
+            reads,
+            settings,
+            failed("cannot read", b""),
+        )?;
+        // The sink fails in the head, and in each block, while workers make schedules.
+        for written in [19, 88, 130, 180, 230, 251] {
+            expect_cut(&rt, THREE_RACES, THREE_RACES_REPORT, settings, written)?;
+        }
     }
     Ok(())
 }
