@@ -27,11 +27,11 @@ def run(words, given=b"", **how):
     return Answer(ran.returncode, ran.stdout, ran.stderr)
 
 
-def start(words, **how):
-    """Starts the program, whose output is read in parts. One that still runs long after it should have ended is killed,
-    which ends its output and gives it a status that no test wants."""
+def start(words, seconds=LONG_SECONDS, **how):
+    """Starts the program, whose output is read in parts. One that still runs after so long is killed, which ends its output
+    and gives it a status that no test wants."""
     started = subprocess.Popen([PATH, *words], stdout=subprocess.PIPE, stderr=subprocess.PIPE, **how)
-    limit = threading.Timer(LONG_SECONDS, started.kill)
+    limit = threading.Timer(seconds, started.kill)
     limit.daemon = True
     limit.start()
     return started

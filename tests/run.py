@@ -4,8 +4,8 @@
     run.py [--traces N] [--seed N] [PROGRAM [WORD..]]
 
 PROGRAM is crates/shb/out/shb where it is left out, as `rt ci` and `rt run` leave it. WORDs name single
-tests, as test_words or test_words.Words.test_help; by_hand names the texts of 1 GiB, which run only when
-they are named. The traces are the made ones that are compared with the plain program of the definitions
+tests, as test_words or test_words.Words.test_help; by_hand names a list of some 300 GB, which is read only
+when it is named. The traces are the made ones that are compared with the plain program of the definitions
 (300 of seed 1).
 """
 

@@ -1,6 +1,8 @@
 """Lists of more races than events, which the program searches for more than once: more of them than fit into memory as
-pairs, pipes that break in the middle, and each request for memory and each device that fails on the way."""
+pairs, more bytes than 32 bits count, pipes that break in the middle, and each request for memory and each device that fails
+on the way."""
 
+import collections
 import os
 import resource
 import signal
@@ -9,6 +11,8 @@ import program
 import test_refusals
 
 FRONT = 1_000_000
+LAST = 10_000
+PART = 2**20
 ROUNDS = 3_000
 MANY_ROUNDS = 2_097_152
 
@@ -110,3 +114,20 @@ class LongLists(test_refusals.Refusing):
         self.assertIn(b"\nraces 15\n", program.run(["races", "--list"], test_refusals.racing(6)).out)
         for workers in ("1", "2"):
             self.refuse_in_turn(["races", "--list", "--workers", workers], test_refusals.racing(6))
+
+
+class WholeList(program.Case):
+    """A list is read to its end, and its last blocks are compared. A block has more than 50 bytes: more than 2^32 together."""
+
+    rounds = 9_300
+    seconds = program.LONG_SECONDS
+
+    def test_end(self):
+        races = self.rounds * self.rounds
+        blocks = (block(self.rounds, number) for number in range(races - LAST + 1, races + 1))
+        wanted = b"".join(blocks) + b"end\n"
+        with program.start(["races", "--list", self.file(two_writers(self.rounds))], self.seconds) as started:
+            parts = collections.deque(iter(lambda: started.stdout.read(PART), b""), len(wanted) // PART + 2)
+            said = started.stderr.read()
+        self.assertEqual((started.returncode, said), (0, b""))
+        self.assertTrue(b"".join(parts).endswith(wanted), "the ends differ")
