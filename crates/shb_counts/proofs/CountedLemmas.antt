@@ -1,9 +1,11 @@
 -- Races that are counted, one by one or by the number of their earlier location.
-use Rattle.std.proofs.Common.{◌≡◌, ℕ, zero, suc, ◌+◌, ◌<◌, ◌≤◌, List, [], ◌∷◌, ◌++◌, length, get_or, map, nat_eq, All, refl, sym, ap, subst, ◌∙◌, arith}
-use Rattle.std.specs.Prelude.{◌==◌, cond, count_by, sum}
-use Rattle.std.specs.List.{AllByRecursion}
-use Rattle.std.proofs.lemmas.Bool.{eq-eqb}
-use Rattle.std.proofs.lemmas.List.{get_or_default, length-append, length-map, map-append, take_all}
+use Rattle.std.proofs.Common.{◌≡◌, ◌≢◌, ℕ, zero, suc, ◌+◌, ◌<◌, ◌≤◌, ◌&&◌, Bool, true, false, List, [], ◌∷◌, ◌++◌, length, get_or, map, nat_eq, is_some, All, IfSome, refl, sym, ap, subst, ◌∙◌, inl, inr, arith}
+use Rattle.std.specs.Prelude.{◌==◌, cond, sum}
+use Rattle.std.specs.List.{AllByRecursion, IsDistinct}
+use Rattle.std.specs.Str.{bytes_eq}
+use Rattle.std.proofs.lemmas.Bool.{cases_lt, eq-eqb}
+use Rattle.std.proofs.lemmas.Bool.Decides.{eqb_tells}
+use Rattle.std.proofs.lemmas.List.{length-append, length-map, map-append, take_all}
 use Rattle.std.proofs.lemmas.List.Elements.{All-map}
 use Rattle.std.proofs.lemmas.List.Sums.{fold-append, sum_by-cons}
 use Rattle.shb_lines.specs.declared.event.Event.{Event}
@@ -16,61 +18,114 @@ use Rattle.shb_pairs.specs.Races.{races_with}
 use Rattle.shb_pairs.proofs.ByThread.{numbers_all}
 use Rattle.shb_pairs.proofs.Counting.{numbers_few}
 use Rattle.shb_pairs.proofs.Sorting.{sum_whole}
-use Rattle.shb_report.specs.Places.{HasEach, IsNumbered, IsPairOf, PlaceOf, location_at, location_with, places_after, places_of_pairs, with_numbered, with_pair}
+use Rattle.shb_report.specs.Keyed.{AreKeyed, Key, Keyed, counted_of, same_key, with_keyed, with_new}
+use Rattle.shb_report.specs.Places.{IsPairOf, PlaceOf, counts_in, location_at, places_after, places_of_pairs, with_pair}
 use Rattle.shb_report.specs.Report.{pair_of}
 use Rattle.shb_report.proofs.EachLemmas.{each-weaker}
-use Rattle.shb_report.proofs.ManyPlaces.{by_number}
-use Rattle.shb_report.proofs.PlaceLemmas.{places_after_few}
-use Rattle.shb_counts.specs.Counted.{HasCounted}
+use Rattle.shb_report.specs.declared.places.PlaceCount.{PlaceCount}
+use Rattle.shb_report.proofs.KeyedLemmas.{keyed_counts, keyed_pair}
+use Rattle.shb_counts.specs.Counted.{Differ, HasCounted, HasCountedKnown, by_number, grown, key_in, keyed_after, only, times, with_places}
 use Rattle.shb_counts.specs.Counts.{AreRacingCounts, number_in}
 use Rattle.shb_counts.specs.Numbering.{AreNumbered}
 use Rattle.shb_counts.specs.declared.counter.RaceCounter.{RaceCounter}
+use Rattle.shb_counts.proofs.Batches.{after_differ, after_few, at_key, counted_at_once, grown_same, grown_zero, key_of, not_yet, only_none, only_self, other_first, same_number}
 use Rattle.shb_counts.proofs.RacingLemmas.{times_cons}
 
 -- no place has more races than there are
-pub counted_few : (trace : TraceData) (races : List (ℕ × ℕ)) (counter : RaceCounter) (more : ℕ) → HasCounted trace races counter → counter.races + more < 18446744073709551616
-    → AllByRecursion (λ place. place.counted.count + more < 18446744073709551616) counter.places
-counted_few trace races counter more has room =
+pub counted_few : (numbers : List ℕ) (races : List (ℕ × ℕ)) (counter : RaceCounter) (more : ℕ) → HasCounted numbers races counter → counter.races + more < 18446744073709551616
+    → AllByRecursion (λ (place : Keyed). place.1.count + more < 18446744073709551616) counter.places
+counted_few numbers races counter more has room =
     let long = length-map races pair_of in
-    subst (AllByRecursion (λ (place : PlaceOf). place.counted.count + more < 18446744073709551616)) (sym has.places)
-    (each-weaker (λ (p : PlaceOf). p.counted.count ≤ length (map pair_of races) + 0) (λ (p : PlaceOf). p.counted.count + more < 18446744073709551616) (places_of_pairs trace (map pair_of races))
-    (λ p l. omega (arith, long, has.count, room)) (places_after_few trace 0 [] (map pair_of races) tt))
+    subst (AllByRecursion (λ (place : Keyed). place.1.count + more < 18446744073709551616)) (sym has.places)
+    (each-weaker (λ (p : Keyed). p.1.count ≤ length (map pair_of races) + 0) (λ (p : Keyed). p.1.count + more < 18446744073709551616) (keyed_after numbers [] (map pair_of races))
+    (λ p l. omega (arith, long, has.count, room)) (after_few numbers (map pair_of races) 0 [] tt))
+
+pub counted_differ : (numbers : List ℕ) (races : List (ℕ × ℕ)) (counter : RaceCounter) → HasCounted numbers races counter → Differ counter.places
+counted_differ numbers races counter has = subst Differ (sym has.places) (after_differ numbers (map pair_of races) [] tt)
+
+at_most_sum : (counts : List ℕ) (r : ℕ) → get_or counts r 0 ≤ sum counts
+at_most_sum [] r = omega arith
+at_most_sum (x ∷ counts) zero = let all = sum_by-cons (λ (n : ℕ). n) x counts in omega (arith, all)
+at_most_sum (x ∷ counts) (suc r) = let all = sum_by-cons (λ (n : ℕ). n) x counts in let rest = at_most_sum counts r in omega (arith, all, rest)
+
+pub counted_room : (numbers : List ℕ) (races : List (ℕ × ℕ)) (counter : RaceCounter) (counts : List ℕ) (r : ℕ) (key : Key) → HasCounted numbers races counter → counter.races + sum counts < 18446744073709551616
+    → IfSome (counted_of counter.places key) (λ c. c.count + get_or counts r 0 < 18446744073709551616)
+counted_room numbers races counter counts r key has room =
+    let one = at_most_sum counts r in
+    at_key (λ c. c.count + get_or counts r 0 < 18446744073709551616) key counter.places
+    (each-weaker (λ (p : Keyed). p.1.count + sum counts < 18446744073709551616) (λ (p : Keyed). p.1.count + get_or counts r 0 < 18446744073709551616) counter.places (λ p l. omega (arith, one)) (counted_few numbers races counter (sum counts) has room))
+
+-- events of a trace have numbers
+pub pairs_inside : (trace : TraceData) (numbers found : List ℕ) (locations : List (List ℕ)) (pairs : List Pair) → found ≡ numbers → AreNumbered trace (length trace.events) numbers locations → All (IsPairOf trace) pairs
+    → All (λ (pair : Pair). (pair.first < length found) × (pair.second < length found)) pairs
+pairs_inside trace numbers found locations pairs same are within k d lt =
+    let here = within k d lt in
+    let long = are.as_many in
+    let size = ap length same in
+    let first = here.first in
+    let second = here.second in
+    (omega (arith, long, size, first), omega (arith, long, size, second))
 
 -- further races come after those that are counted
-pub counted_more : (trace : TraceData) (races more : List (ℕ × ℕ)) (old new : RaceCounter) → HasCounted trace races old → new.races ≡ old.races + length more → new.places ≡ places_after trace old.places (map pair_of more)
-    → HasCounted trace (races ++ more) new
-counted_more trace races more old new has many places =
-    let step = λ (before : List PlaceOf) (pair : Pair). with_pair before (location_at trace pair.first) (location_at trace pair.second) pair in
+pub counted_more : (numbers : List ℕ) (races more : List (ℕ × ℕ)) (old new : RaceCounter) → HasCounted numbers races old → new.races ≡ old.races + length more → new.places ≡ keyed_after numbers old.places (map pair_of more)
+    → HasCounted numbers (races ++ more) new
+counted_more numbers races more old new has many places =
+    let step = λ (before : List Keyed) (pair : Pair). with_keyed before (key_in numbers pair) pair in
     record {
       count = omega (arith, has.count, many, length-append races more);
-      places = places ∙ ap (λ (before : List PlaceOf). places_after trace before (map pair_of more)) has.places
+      places = places ∙ ap (λ (before : List Keyed). keyed_after numbers before (map pair_of more)) has.places
           ∙ sym (fold-append step [] (map pair_of races) (map pair_of more))
-          ∙ ap (places_of_pairs trace) (sym (map-append pair_of races more));
+          ∙ ap (keyed_after numbers []) (sym (map-append pair_of races more));
     }
-
-pub counted_same : (trace : TraceData) (races : List (ℕ × ℕ)) (old new : RaceCounter) → HasCounted trace races old → new.races ≡ old.races → new.places ≡ old.places → HasCounted trace races new
-counted_same trace races old new has many places = record { count = many ∙ has.count; places = places ∙ has.places }
 
 pub pairs_back : (pairs : List Pair) → map pair_of (map ends pairs) ≡ pairs
 pairs_back [] = refl
 pairs_back (pair ∷ pairs) = ap (λ (l : List Pair). pair ∷ l) (pairs_back pairs)
 
-pub counted_pairs : (trace : TraceData) (races : List (ℕ × ℕ)) (pairs : List Pair) (old new : RaceCounter) → HasCounted trace races old → new.races ≡ old.races + length pairs → new.places ≡ places_after trace old.places pairs
-    → HasCounted trace (races ++ map ends pairs) new
-counted_pairs trace races pairs old new has many places =
-    counted_more trace races (map ends pairs) old new has (omega (arith, many, length-map pairs ends)) (places ∙ ap (places_after trace old.places) (sym (pairs_back pairs)))
+pub counted_pairs : (numbers : List ℕ) (races : List (ℕ × ℕ)) (pairs : List Pair) (old new : RaceCounter) → HasCounted numbers races old → new.races ≡ old.races + length pairs → new.places ≡ keyed_after numbers old.places pairs
+    → HasCounted numbers (races ++ map ends pairs) new
+counted_pairs numbers races pairs old new has many places =
+    counted_more numbers races (map ends pairs) old new has (omega (arith, many, length-map pairs ends)) (places ∙ ap (keyed_after numbers old.places) (sym (pairs_back pairs)))
+
+-- the new places come after those that were known
+pub counted_new : (numbers : List ℕ) (races : List (ℕ × ℕ)) (pairs : List Pair) (old new : RaceCounter) → HasCountedKnown numbers races (map ends pairs) old → new.races ≡ old.races
+    → ((before : List Keyed) → old.places ≡ grown (times numbers pairs) before → new.places ≡ grown (times numbers pairs) (with_places numbers before pairs)) → HasCounted numbers (races ++ map ends pairs) new
+counted_new numbers races pairs old new has many places =
+    let start = keyed_after numbers [] (map pair_of races) in
+    let back = pairs_back pairs in
+    let known : old.places ≡ grown (times numbers pairs) start = has.places ∙ ap (λ (l : List Pair). grown (times numbers l) start) back in
+    let step = λ (before : List Keyed) (pair : Pair). with_keyed before (key_in numbers pair) pair in
+    record {
+      count = omega (arith, has.count, many, length-append races (map ends pairs));
+      places = places start known
+          ∙ grown_same (times numbers pairs) (λ k. 0 + times numbers pairs k) (with_places numbers start pairs) (λ k. omega arith)
+          ∙ sym (counted_at_once numbers pairs start start (λ k. 0) (sym (grown_zero start)) (after_differ numbers (map pair_of races) [] tt) (λ k none. refl))
+          ∙ ap (keyed_after numbers start) (sym back)
+          ∙ sym (fold-append step [] (map pair_of races) (map pair_of (map ends pairs)))
+          ∙ ap (keyed_after numbers []) (sym (map-append pair_of races (map ends pairs)));
+    }
+
+-- places by number are the places of the locations
+pub after_keyed : (trace : TraceData) (numbers : List ℕ) (locations : List (List ℕ)) → IsDistinct bytes_eq locations → AreNumbered trace (length trace.events) numbers locations
+    → (pairs : List Pair) (keyed : List Keyed) (places : List PlaceOf) → All (IsPairOf trace) pairs → AreKeyed locations keyed places → AreKeyed locations (keyed_after numbers keyed pairs) (places_after trace places pairs)
+after_keyed trace numbers locations differ are [] keyed places within same = same
+after_keyed trace numbers locations differ are (pair ∷ pairs) keyed places within same =
+    let here = within 0 pair (omega arith) in
+    after_keyed trace numbers locations differ are pairs (with_keyed keyed (key_in numbers pair) pair) (with_pair places (location_at trace pair.first) (location_at trace pair.second) pair) (λ k d lt. within (suc k) d (omega arith))
+    (keyed_pair locations differ (key_in numbers pair) (location_at trace pair.first) (location_at trace pair.second) (are.located pair.first here.first) (are.located pair.second here.second) pair keyed places same)
+
+-- what is counted of the places by number is what is counted of the places
+pub counted_places : (trace : TraceData) (numbers : List ℕ) (locations : List (List ℕ)) (races : List (ℕ × ℕ)) (counter : RaceCounter) (found : List PlaceCount) → IsDistinct bytes_eq locations → AreNumbered trace (length trace.events) numbers locations
+    → All (λ race. (race.0 < length trace.events) × (race.1 < length trace.events)) races → HasCounted numbers races counter → found ≡ map (λ (place : Keyed). place.1) counter.places → found ≡ counts_in (places_of_pairs trace (map pair_of races))
+counted_places trace numbers locations races counter found differ are within has is =
+    is ∙ ap (map (λ (place : Keyed). place.1)) has.places
+    ∙ keyed_counts locations (keyed_after numbers [] (map pair_of races)) (places_of_pairs trace (map pair_of races))
+    (after_keyed trace numbers locations differ are (map pair_of races) [] [] (All-map (IsPairOf trace) pair_of races (λ k d lt. let both = within k d lt in record { first = both.0; second = both.1 })) tt)
 
 -- the races of a later access, by the earlier one
 with_map : (trace : List Event) (j : ℕ) → races_with trace j ≡ map (λ i. (i, j)) (numbers_where (λ i. is_race trace i j) j)
 unfolding races_with
 with_map trace j = refl
-
--- the events of the numbers
-pub events_within : (trace : TraceData) (numbers events : List ℕ) → AreNumbered trace (length trace.events) numbers events → All (λ e. e < length trace.events) events
-events_within trace numbers events are k d lt =
-    let there = are.in_range k lt in
-    let same = get_or_default events k d 0 lt in
-    omega (arith, there, same)
 
 -- the races of a later access, as pairs of events of a trace
 pub pairs_within : (trace : TraceData) (seen : List Event) (j : ℕ) (pairs : List Pair) → j < length trace.events → map ends pairs ≡ races_with seen j → All (IsPairOf trace) pairs
@@ -97,17 +152,87 @@ some_with key (x ∷ xs) (suc k) d lt =
     let rest = some_with key xs k d (omega arith) in
     omega (arith, one, rest)
 
--- the pairs with a later access, by the number of the earlier one
-times_pairs : (key : ℕ → ℕ) (r j : ℕ) (ks : List ℕ) → length (with_key key ks r) ≡ count_by (λ (p : Pair). nat_eq (key p.first) r) (map pair_of (map (λ i. (i, j)) ks))
-times_pairs key r j [] = refl
-times_pairs key r j (i ∷ ks) =
-    let one = times_cons key r i ks in
-    let other = sum_by-cons (λ (p : Pair). cond {A = ℕ} (nat_eq (key p.first) r) 1 0) (record { first = i; second = j }) (map pair_of (map (λ i. (i, j)) ks)) in
-    let rest = times_pairs key r j ks in
-    omega (arith, one, other, rest)
+abbrev pub pairs_with : ℕ → List ℕ → List Pair
+pairs_with j firsts = map pair_of (map (λ i. (i, j)) firsts)
 
-module _ (trace : TraceData) (seen : List Event) (numbers events counts : List ℕ) (j : ℕ) (are : AreNumbered trace (length trace.events) numbers events) (within : j < length trace.events)
-    (racing : AreRacingCounts seen numbers j (length events) counts) where
+and_true : (b : Bool) → (b && true) ≡ b
+and_true true = refl
+and_true false = refl
+
+and_false : (b : Bool) → (b && false) ≡ false
+and_false true = refl
+and_false false = refl
+
+module _ (numbers : List ℕ) (j : ℕ) where
+  -- how many pairs with one later access have a place
+  times_key : (r : ℕ) (firsts : List ℕ) → times numbers (pairs_with j firsts) (key_of r (number_in numbers j)) ≡ length (with_key (number_in numbers) firsts r)
+  times_key r [] = refl
+  times_key r (i ∷ firsts) =
+      let same : cond {A = ℕ} (nat_eq (number_in numbers i) r && nat_eq (number_in numbers j) (number_in numbers j)) 1 0 ≡ cond {A = ℕ} (nat_eq (number_in numbers i) r) 1 0
+      = ap (λ (b : Bool). cond {A = ℕ} (nat_eq (number_in numbers i) r && b) 1 0) (same_number (number_in numbers j)) ∙ ap (λ (b : Bool). cond {A = ℕ} b 1 0) (and_true (nat_eq (number_in numbers i) r)) in
+      let one = times_cons (number_in numbers) r i firsts in
+      let rest = times_key r firsts in
+      omega (arith, same, one, rest)
+
+  times_other : (key : Key) → nat_eq (number_in numbers j) key.1 ≡ false → (firsts : List ℕ) → times numbers (pairs_with j firsts) key ≡ 0
+  times_other key other [] = refl
+  times_other key other (i ∷ firsts) =
+      let none : cond {A = ℕ} (nat_eq (number_in numbers i) key.0 && nat_eq (number_in numbers j) key.1) 1 0 ≡ 0
+      = ap (λ (b : Bool). cond {A = ℕ} (nat_eq (number_in numbers i) key.0 && b) 1 0) other ∙ ap (λ (b : Bool). cond {A = ℕ} b 1 0) (and_false (nat_eq (number_in numbers i) key.0)) in
+      let rest = times_other key other firsts in
+      omega (arith, none, rest)
+
+  times_past : (n : ℕ) (key : Key) → n ≤ key.0 → (firsts : List ℕ) → All (λ i. number_in numbers i < n) firsts → times numbers (pairs_with j firsts) key ≡ 0
+  times_past n key past [] below = refl
+  times_past n key past (i ∷ firsts) below =
+      let here = below 0 i (omega arith) in
+      let none : cond {A = ℕ} (same_key (key_of (number_in numbers i) (number_in numbers j)) key) 1 0 ≡ 0 = ap (λ (b : Bool). cond {A = ℕ} b 1 0) (other_first (number_in numbers i) (number_in numbers j) key (λ e. omega (arith, here, past, e))) in
+      let rest = times_past n key past firsts (λ k d lt. below (suc k) d (omega arith)) in
+      omega (arith, none, rest)
+
+  module _ (counts firsts : List ℕ) where
+    by_times : (n : ℕ) (key : Key) → ((r : ℕ) → r < n → get_or counts r 0 ≡ length (with_key (number_in numbers) firsts r)) → key.0 < n → by_number (number_in numbers j) counts n key ≡ times numbers (pairs_with j firsts) key
+    by_times zero key are lt = absurd (omega (arith, lt))
+    by_times (suc n) key are lt = elim (cases_lt key.0 n) [
+      | inl less ↦ (
+          let before = by_times n key (λ r l. are r (omega arith)) less in
+          let here = only_none (key_of n (number_in numbers j)) (get_or counts n 0) key (other_first n (number_in numbers j) key (λ e. omega (arith, less, e))) in
+          omega (arith, before, here))
+      | inr past ↦ (
+          let same : n ≡ key.0 = omega (arith, lt, past) in
+          elim (eqb_tells (number_in numbers j) key.1) [
+            | inl e ↦ (
+                let is : key_of n (number_in numbers j) ≡ key = ap (λ (a : ℕ). key_of a (number_in numbers j)) same ∙ ap (key_of key.0) e.1 in
+                let before = not_yet (number_in numbers j) counts n (key_of n (number_in numbers j)) (omega arith) in
+                let here = only_self (key_of n (number_in numbers j)) (get_or counts n 0) in
+                let many = are n (omega arith) in
+                let all = times_key n firsts in
+                subst (λ (k : Key). by_number (number_in numbers j) counts (suc n) k ≡ times numbers (pairs_with j firsts) k) is (omega (arith, before, here, many, all)))
+            | inr e ↦ (
+                let before = not_yet (number_in numbers j) counts n key past in
+                let here = only_none (key_of n (number_in numbers j)) (get_or counts n 0) key (ap (λ (b : Bool). nat_eq n key.0 && b) e.0 ∙ and_false (nat_eq n key.0)) in
+                let all = times_other key e.0 firsts in
+                omega (arith, before, here, all))
+          ])
+    ]
+
+    pub all_times : (n : ℕ) → ((r : ℕ) → r < n → get_or counts r 0 ≡ length (with_key (number_in numbers) firsts r)) → All (λ i. number_in numbers i < n) firsts
+        → (key : Key) → by_number (number_in numbers j) counts n key ≡ times numbers (pairs_with j firsts) key
+    all_times n are below key = elim (cases_lt key.0 n) [
+      | inl less ↦ by_times n key are less
+      | inr past ↦ not_yet (number_in numbers j) counts n key past ∙ sym (times_past n key past firsts below)
+    ]
+
+  -- where all places are known none is put last
+  all_there : (places : List Keyed) (firsts : List ℕ) → All (λ i. is_some (counted_of places (key_of (number_in numbers i) (number_in numbers j))) ≡ true) firsts → with_places numbers places (pairs_with j firsts) ≡ places
+  all_there places [] there = refl
+  all_there places (i ∷ firsts) there =
+      ap (λ (l : List Keyed). with_places numbers l (pairs_with j firsts))
+      (ap (λ (b : Bool). cond b places (places ++ (key_of (number_in numbers i) (number_in numbers j), record { pair = record { first = i; second = j }; count = 0 }) ∷ [])) (there 0 i (omega arith)))
+      ∙ all_there places firsts (λ k d lt. there (suc k) d (omega arith))
+
+module _ (trace : TraceData) (seen : List Event) (numbers : List ℕ) (locations : List (List ℕ)) (counts : List ℕ) (j : ℕ) (are : AreNumbered trace (length trace.events) numbers locations) (within : j < length trace.events)
+    (racing : AreRacingCounts seen numbers j (length locations) counts) where
   abbrev firsts : List ℕ
   firsts = numbers_where (λ i. is_race seen i j) j
 
@@ -117,7 +242,7 @@ module _ (trace : TraceData) (seen : List Event) (numbers events counts : List �
   pub sum_racing : sum counts ≡ length (races_with seen j)
   sum_racing =
       let ks = numbers_where (λ i. is_race seen i j) j in
-      let whole = sum_whole (number_in numbers) (length events) ks counts
+      let whole = sum_whole (number_in numbers) (length locations) ks counts
       (record { as_many = racing.as_many; each = λ n lt. racing.each n lt ∙ ap (λ (l : List ℕ). length (with_key (number_in numbers) l n)) (sym (take_all (length ks) ks (omega arith))) })
       (λ q d lt. let below = earlier q d lt in are.numbered (get_or ks q d) (omega (arith, below, within))) in
       whole ∙ sym (length-map ks (λ i. (i, j))) ∙ ap length (sym (with_map seen j))
@@ -129,34 +254,54 @@ module _ (trace : TraceData) (seen : List Event) (numbers events counts : List �
       let few = numbers_few (λ i. is_race seen i j) j in
       omega (arith, all, same, few, small)
 
-  numbered_pairs : (places : List PlaceOf) → HasEach places (location_with trace events) (location_at trace j) counts (length counts)
-      → All (IsNumbered trace places (location_with trace events) (location_at trace j) (λ (p : Pair). number_in numbers p.first) (length counts)) (map pair_of (map (λ i. (i, j)) (numbers_where (λ i. is_race seen i j) j)))
-  numbered_pairs places has =
-      let ks = numbers_where (λ i. is_race seen i j) j in
-      let P = λ (p : Pair). IsNumbered trace places (location_with trace events) (location_at trace j) (λ (q : Pair). number_in numbers q.first) (length counts) p in
-      All-map P pair_of (map (λ i. (i, j)) ks) (All-map (λ (r : ℕ × ℕ). P (pair_of r)) (λ i. (i, j)) ks (λ k d lt.
-      let i = get_or ks k d in
+  number_within : All (λ i. number_in numbers i < length counts) (numbers_where (λ i. is_race seen i j) j)
+  number_within k d lt =
       let below = earlier k d lt in
-      let there : i < length trace.events = omega (arith, below, within) in
-      let number = are.numbered i there in
+      let number = are.numbered (get_or (numbers_where (λ i. is_race seen i j) j) k d) (omega (arith, below, within)) in
       let many = racing.as_many in
-      let inside : number_in numbers i < length counts = omega (arith, number, many) in
-      let count = racing.each (number_in numbers i) number in
-      let some = some_with (number_in numbers) ks k d lt in
-      record {
-        within = inside;
-        is_first = sym (are.located i there);
-        is_second = refl;
-        known = has (number_in numbers i) inside (omega (arith, count, some));
-      }))
+      omega (arith, number, many)
 
-  pub numbered_counted : (races : List (ℕ × ℕ)) (old new : RaceCounter) → HasCounted trace races old → HasEach old.places (location_with trace events) (location_at trace j) counts (length counts)
-      → new.races ≡ old.races + sum counts → new.places ≡ with_numbered (location_with trace events) (location_at trace j) (λ r. get_or counts r 0) old.places (length counts)
-      → HasCounted trace (races ++ races_with seen j) new
-  numbered_counted races old new has each many places =
-      let ks = numbers_where (λ i. is_race seen i j) j in
-      let long = racing.as_many in
-      let after = by_number trace old.places (map pair_of (map (λ i. (i, j)) ks)) (location_with trace events) (location_at trace j) (λ (p : Pair). number_in numbers p.first) (length counts) (λ r. get_or counts r 0)
-      (numbered_pairs old.places each) (λ r lt. racing.each r (omega (arith, lt, long)) ∙ times_pairs (number_in numbers) r j ks) in
-      counted_more trace races (races_with seen j) old new has (many ∙ ap (λ (n : ℕ). old.races + n) sum_racing)
-      (places ∙ after ∙ ap (λ (l : List (ℕ × ℕ)). places_after trace old.places (map pair_of l)) (sym (with_map seen j)))
+  -- the counts are as many pairs of each place
+  pub racing_times : (key : Key) → by_number (number_in numbers j) counts (length counts) key ≡ times numbers (map pair_of (races_with seen j)) key
+  racing_times key =
+      let many = racing.as_many in
+      all_times numbers j counts (numbers_where (λ i. is_race seen i j) j) (length counts) (λ r lt. racing.each r (omega (arith, lt, many))) number_within key
+      ∙ ap (λ (l : List (ℕ × ℕ)). times numbers (map pair_of l) key) (sym (with_map seen j))
+
+  pub numbered_left : (races : List (ℕ × ℕ)) (old new : RaceCounter) → HasCounted numbers races old → new.races ≡ old.races + sum counts → new.places ≡ grown (by_number (number_in numbers j) counts (length counts)) old.places
+      → HasCountedKnown numbers races (races_with seen j) new
+  numbered_left races old new has many places = record {
+    count = (let all = sum_racing in omega (arith, has.count, many, all));
+    places = places ∙ grown_same (by_number (number_in numbers j) counts (length counts)) (times numbers (map pair_of (races_with seen j))) old.places racing_times ∙ ap (grown (times numbers (map pair_of (races_with seen j)))) has.places;
+  }
+
+  pub numbered_known : (races : List (ℕ × ℕ)) (old new : RaceCounter) → HasCounted numbers races old → new.races ≡ old.races + sum counts → new.places ≡ grown (by_number (number_in numbers j) counts (length counts)) old.places
+      → ((r : ℕ) → r < length counts → 0 < get_or counts r 0 → is_some (counted_of old.places (key_of r (number_in numbers j))) ≡ true) → HasCounted numbers (races ++ races_with seen j) new
+  numbered_known races old new has many places known =
+      let firsts = numbers_where (λ i. is_race seen i j) j in
+      let there : with_places numbers old.places (map pair_of (races_with seen j)) ≡ old.places
+      = ap (λ (l : List (ℕ × ℕ)). with_places numbers old.places (map pair_of l)) (with_map seen j)
+      ∙ all_there numbers j old.places firsts (λ k d lt.
+      let i = get_or firsts k d in
+      let inside = number_within k d lt in
+      let many = racing.as_many in
+      let count = racing.each (number_in numbers i) (omega (arith, inside, many)) in
+      let some = some_with (number_in numbers) firsts k d lt in
+      known (number_in numbers i) inside (omega (arith, count, some))) in
+      counted_more numbers races (races_with seen j) old new has (many ∙ ap (λ (n : ℕ). old.races + n) sum_racing)
+      (places ∙ grown_same (by_number (number_in numbers j) counts (length counts)) (λ k. 0 + times numbers (map pair_of (races_with seen j)) k) old.places (λ k. let same : times numbers (map pair_of (races_with seen j)) k ≡ 0 + times numbers (map pair_of (races_with seen j)) k = omega arith in racing_times k ∙ same)
+      ∙ ap (grown (λ k. 0 + times numbers (map pair_of (races_with seen j)) k)) (sym there)
+      ∙ sym (counted_at_once numbers (map pair_of (races_with seen j)) old.places old.places (λ k. 0) (sym (grown_zero old.places)) (counted_differ numbers races old has) (λ k none. refl)))
+
+  -- of each race the count of its number is that of its place
+  pub new_counts : (pairs : List Pair) → map ends pairs ≡ races_with seen j
+      → All (λ (pair : Pair). (number_in numbers pair.first < length counts) × (get_or counts (number_in numbers pair.first) 0 ≡ times numbers pairs (key_in numbers pair))) pairs
+  new_counts pairs is =
+      let firsts = numbers_where (λ i. is_race seen i j) j in
+      let same : pairs_with j firsts ≡ pairs = ap (map pair_of) (sym (is ∙ with_map seen j)) ∙ pairs_back pairs in
+      subst (λ (l : List Pair). All (λ (pair : Pair). (number_in numbers pair.first < length counts) × (get_or counts (number_in numbers pair.first) 0 ≡ times numbers l (key_in numbers pair))) l) same
+      (All-map (λ (pair : Pair). (number_in numbers pair.first < length counts) × (get_or counts (number_in numbers pair.first) 0 ≡ times numbers (pairs_with j firsts) (key_in numbers pair))) pair_of (map (λ i. (i, j)) firsts)
+      (All-map (λ (r : ℕ × ℕ). (number_in numbers r.0 < length counts) × (get_or counts (number_in numbers r.0) 0 ≡ times numbers (pairs_with j firsts) (key_of (number_in numbers r.0) (number_in numbers r.1)))) (λ i. (i, j)) firsts (λ k d lt.
+      let inside = number_within k d lt in
+      let many = racing.as_many in
+      (inside, racing.each (number_in numbers (get_or firsts k d)) (omega (arith, inside, many)) ∙ sym (times_key numbers j (number_in numbers (get_or firsts k d)) firsts)))))

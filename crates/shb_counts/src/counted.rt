@@ -42,7 +42,7 @@ pub struct RaceCount {
 fn has_many(located: &Located<'_, '_>, events: u32, races: u64, accesses: u32) -> bool
     ensures { IsTrue result → events ≤ length located.now.trace.now.events }
 {
-    let each = located.numbers.events.len().max(FEWEST_MANY) as u64;
+    let each = located.numbers.locations.len().max(FEWEST_MANY) as u64;
     events <= located.trace.len() && races / each > u64::from(accesses)
 }
 
@@ -56,16 +56,16 @@ struct Many<'a> {
 /// What the races of the variable of a search are counted by: what is known, if it is of this variable.
 fn many_of<'a, O: Order>(
     alloc: Global,
-    numbers: &LocationNumbers,
+    numbers: &LocationNumbers<'_>,
     search: &Search<'_, 'a, O>,
     known: Option<Many<'a>>,
 ) -> Result<Many<'a>, NoMemory>
     requires within { length search.now.ordered.now.disciplined.now.events.now ≤ length numbers.now.numbers.items }
-    requires numbered { (e : ℕ) → e < length numbers.now.numbers.items → slice_index_or numbers.now.numbers.items e 0 < length numbers.now.events.items }
+    requires numbered { (e : ℕ) → e < length numbers.now.numbers.items → slice_index_or numbers.now.numbers.items e 0 < length numbers.now.locations }
     requires known { IfSome known (λ many. AreTables search.now.ordered.now.disciplined.now.events.now numbers.now.numbers.items
-        (length numbers.now.events.items) many.tables.variable many.tables) }
+        (length numbers.now.locations) many.tables.variable many.tables) }
     ensures { IfOk result (λ many. AreTables search.now.ordered.now.disciplined.now.events.now numbers.now.numbers.items
-        (length numbers.now.events.items) search.now.variable many.tables) }
+        (length numbers.now.locations) search.now.variable many.tables) }
 {
     if let Some(many) = known {
         if many.tables.variable == search.variable {
@@ -80,27 +80,27 @@ fn many_of<'a, O: Order>(
 }
 
 /// Counts the races of a piece one by one.
-fn count_few<'t>(
+fn count_few(
     alloc: Global,
-    counter: &mut RaceCounter<'t>,
-    trace: &'t Trace,
+    counter: &mut RaceCounter,
+    located: &Located<'_, '_>,
     races: &RaceRanges<'_>,
 ) -> Result<(), NoMemory>
-    requires races { All (λ race. (race.0 < length trace.now.events) × (race.1 < length trace.now.events)) (joined races.now) }
+    requires races { All (λ race. (race.0 < length located.now.trace.now.events) × (race.1 < length located.now.trace.now.events)) (joined races.now) }
     requires room { counter.old.races + length (joined races.now) < 2 ^ 64 }
-    requires counted { (before : List (ℕ × ℕ)) × HasCounted trace.now before counter.old }
-    ensures { OnOk result ((before : List (ℕ × ℕ)) → HasCounted trace.now before counter.old
-        → HasCounted trace.now (before ++ joined races.now) counter.new) }
+    requires counted { (before : List (ℕ × ℕ)) × HasCounted located.now.numbers.now.numbers.items before counter.old }
+    ensures { OnOk result ((before : List (ℕ × ℕ)) → HasCounted located.now.numbers.now.numbers.items before counter.old
+        → HasCounted located.now.numbers.now.numbers.items (before ++ joined races.now) counter.new) }
 {
     let pairs = races.expanded(alloc)?;
-    counter.count(trace, pairs.as_slice())
+    counter.count(located, pairs.as_slice())
 }
 
 /// Counts the races of a piece by the numbers of their locations. Gives what they were counted by.
-fn count_many<'a, 't, O: Order>(
+fn count_many<'a, O: Order>(
     alloc: Global,
-    counter: &mut RaceCounter<'t>,
-    located: &Located<'t, '_>,
+    counter: &mut RaceCounter,
+    located: &Located<'_, '_>,
     job: &RangeJob<'a, O>,
     known: Option<Many<'a>>,
     k: u64,
@@ -108,13 +108,13 @@ fn count_many<'a, 't, O: Order>(
     requires inside { k < length (pieces_in job.now) }
     requires within { length job.now.trace ≤ length located.now.trace.now.events }
     requires known { IfSome known (λ many. AreTables job.now.trace located.now.numbers.now.numbers.items
-        (length located.now.numbers.now.events.items) many.tables.variable many.tables) }
+        (length located.now.numbers.now.locations) many.tables.variable many.tables) }
     requires room { counter.old.races + length (races_at job.now k) < 2 ^ 64 }
-    requires counted { (before : List (ℕ × ℕ)) × HasCounted located.now.trace.now before counter.old }
+    requires counted { (before : List (ℕ × ℕ)) × HasCounted located.now.numbers.now.numbers.items before counter.old }
     ensures tables { IfOk result (λ many. AreTables job.now.trace located.now.numbers.now.numbers.items
-        (length located.now.numbers.now.events.items) many.tables.variable many.tables) }
-    ensures counted { OnOk result ((before : List (ℕ × ℕ)) → HasCounted located.now.trace.now before counter.old
-        → HasCounted located.now.trace.now (before ++ races_at job.now k) counter.new) }
+        (length located.now.numbers.now.locations) many.tables.variable many.tables) }
+    ensures counted { OnOk result ((before : List (ℕ × ℕ)) → HasCounted located.now.numbers.now.numbers.items before counter.old
+        → HasCounted located.now.numbers.now.numbers.items (before ++ races_at job.now k) counter.new) }
 {
     let search = job.search(k);
     let piece = job.piece(k);
@@ -129,10 +129,10 @@ fn count_many<'a, 't, O: Order>(
 }
 
 /// Counts the races of a piece. Gives what those of the last piece with many were counted by.
-fn count_piece<'a, 't, O: Order>(
+fn count_piece<'a, O: Order>(
     alloc: Global,
-    counter: &mut RaceCounter<'t>,
-    located: &Located<'t, '_>,
+    counter: &mut RaceCounter,
+    located: &Located<'_, '_>,
     job: &RangeJob<'a, O>,
     known: Option<Many<'a>>,
     k: u64,
@@ -140,13 +140,13 @@ fn count_piece<'a, 't, O: Order>(
     requires inside { k < length (pieces_in job.now) }
     requires races { All (λ race. (race.0 < length located.now.trace.now.events) × (race.1 < length located.now.trace.now.events)) (races_at job.now k) }
     requires known { IfSome known (λ many. AreTables job.now.trace located.now.numbers.now.numbers.items
-        (length located.now.numbers.now.events.items) many.tables.variable many.tables) }
+        (length located.now.numbers.now.locations) many.tables.variable many.tables) }
     requires room { counter.old.races + length (races_at job.now k) < 2 ^ 64 }
-    requires counted { (before : List (ℕ × ℕ)) × HasCounted located.now.trace.now before counter.old }
+    requires counted { (before : List (ℕ × ℕ)) × HasCounted located.now.numbers.now.numbers.items before counter.old }
     ensures tables { IfOk result (λ known. IfSome known (λ many. AreTables job.now.trace located.now.numbers.now.numbers.items
-        (length located.now.numbers.now.events.items) many.tables.variable many.tables)) }
-    ensures counted { OnOk result ((before : List (ℕ × ℕ)) → HasCounted located.now.trace.now before counter.old
-        → HasCounted located.now.trace.now (before ++ races_at job.now k) counter.new) }
+        (length located.now.numbers.now.locations) many.tables.variable many.tables)) }
+    ensures counted { OnOk result ((before : List (ℕ × ℕ)) → HasCounted located.now.numbers.now.numbers.items before counter.old
+        → HasCounted located.now.numbers.now.numbers.items (before ++ races_at job.now k) counter.new) }
 {
     let piece = job.piece(k);
     let races = job.run(alloc, k)?;
@@ -154,22 +154,22 @@ fn count_piece<'a, 't, O: Order>(
         let many = count_many(alloc, counter, located, job, known, k)?;
         return Ok(Some(many));
     }
-    count_few(alloc, counter, located.trace, &races)?;
+    count_few(alloc, counter, located, &races)?;
     Ok(known)
 }
 
 /// Counts the races of all pieces.
-fn count_pieces<'t, O: Order>(
+fn count_pieces<O: Order>(
     alloc: Global,
-    counter: &mut RaceCounter<'t>,
-    located: &Located<'t, '_>,
+    counter: &mut RaceCounter,
+    located: &Located<'_, '_>,
     job: &RangeJob<'_, O>,
 ) -> Result<(), NoMemory>
     requires races { All (λ race. (race.0 < length located.now.trace.now.events) × (race.1 < length located.now.trace.now.events))
         (joined (values_of (races_at job.now) (length (pieces_in job.now)))) }
     requires few { length (joined (values_of (races_at job.now) (length (pieces_in job.now)))) < 2 ^ 64 }
-    requires counted { HasCounted located.now.trace.now [] counter.old }
-    ensures { OnOk result (HasCounted located.now.trace.now (joined (values_of (races_at job.now) (length (pieces_in job.now)))) counter.new) }
+    requires counted { HasCounted located.now.numbers.now.numbers.items [] counter.old }
+    ensures { OnOk result (HasCounted located.now.numbers.now.numbers.items (joined (values_of (races_at job.now) (length (pieces_in job.now)))) counter.new) }
 {
     let mut known = None;
     let count = job.pieces();
@@ -212,6 +212,7 @@ pub fn counted_races<R: RandomSource, O: Order>(
         races: 0,
     };
     job.has_few_races();
+    numbers.locations.are_different();
     count_pieces(alloc, &mut counter, &located, job)?;
     let places = counter.places.to_places(alloc)?;
     Ok(RaceCount {

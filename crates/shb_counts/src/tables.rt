@@ -51,16 +51,16 @@ impl<'a> Drop for Tables<'a> {
 /// Accesses with the table of their numbers.
 fn compared_of<'a>(
     alloc: Global,
-    numbers: &LocationNumbers,
+    numbers: &LocationNumbers<'_>,
     positions: &'a [u32],
 ) -> Result<Compared<'a>, NoMemory>
     requires few { length positions.now < 2 ^ 32 }
     requires within { All (λ k. k < length numbers.now.numbers.items) positions.now }
-    requires numbered { All (λ k. number_in numbers.now.numbers.items k < length numbers.now.events.items) positions.now }
+    requires numbered { All (λ k. number_in numbers.now.numbers.items k < length numbers.now.locations) positions.now }
     ensures positions { IfOk result (λ c. c.positions.now ≡ positions.now) }
-    ensures table { IfOk result (λ c. c.table ≡ (length numbers.now.events.items, map (number_in numbers.now.numbers.items) positions.now)) }
+    ensures table { IfOk result (λ c. c.table ≡ (length numbers.now.locations, map (number_in numbers.now.numbers.items) positions.now)) }
 {
-    let classes = numbers.events.len();
+    let classes = numbers.locations.len();
     let of_positions = numbers_at(alloc, numbers.numbers.as_slice(), positions)?;
     let table = PrefixCounts::of(alloc, of_positions, classes)?;
     Ok(Compared { positions, table })
@@ -69,13 +69,13 @@ fn compared_of<'a>(
 /// The tables of the variable of a search.
 pub(crate) fn tables_of<'a, O: Order>(
     alloc: Global,
-    numbers: &LocationNumbers,
+    numbers: &LocationNumbers<'_>,
     search: &Search<'_, 'a, O>,
 ) -> Result<Tables<'a>, NoMemory>
     requires within { length search.now.ordered.now.disciplined.now.events.now ≤ length numbers.now.numbers.items }
-    requires numbered { (e : ℕ) → e < length numbers.now.numbers.items → number_in numbers.now.numbers.items e < length numbers.now.events.items }
+    requires numbered { (e : ℕ) → e < length numbers.now.numbers.items → number_in numbers.now.numbers.items e < length numbers.now.locations }
     ensures { IfOk result (λ t. AreTables search.now.ordered.now.disciplined.now.events.now numbers.now.numbers.items
-        (length numbers.now.events.items) search.now.variable t) }
+        (length numbers.now.locations) search.now.variable t) }
 {
     let both = compared_of(alloc, numbers, search.both_by_thread())?;
     let writes = compared_of(alloc, numbers, search.writes_by_thread())?;

@@ -2,8 +2,8 @@ pub mod EachLemmas
 pub mod LineLemmas
 pub mod Blocks
 pub mod Numbered
+pub mod KeyedLemmas
 pub mod PlaceLemmas
-pub mod ManyPlaces
 pub mod LeadingLemmas
 pub mod LeadingReports
 pub mod WrittenText

@@ -1,48 +1,17 @@
 -- What a table of places does with a pair.
 use Rattle.std.specs.Prelude.{All}
-use Rattle.std.proofs.Common.{◌≡◌, ℕ, zero, suc, ◌+◌, ◌<◌, ◌≤◌, ◌&&◌, Bool, true, false, cond, List, [], ◌∷◌, length, map, get_or, take, Option, None, Some, IfSome, refl, sym, ap, ◌∙◌, arith}
+use Rattle.std.proofs.Common.{◌≡◌, ℕ, zero, suc, ◌+◌, ◌<◌, ◌≤◌, ◌&&◌, Bool, true, false, cond, List, [], ◌∷◌, length, get_or, take, Option, None, Some, IfSome, sym, ap, ◌∙◌, arith}
 use Rattle.std.specs.Borrow.{Bor}
 use Rattle.std.specs.List.{AllByRecursion}
-use Rattle.std.specs.Map.{lookup}
 use Rattle.std.specs.Option.{option_copied, option_map, unwrap_or}
 use Rattle.std.proofs.lemmas.List.{take_more}
 use Rattle.std.proofs.lemmas.List.Sums.{fold-append}
 use Rattle.shb_lines.specs.text.TraceData.{TraceData, location_of}
 use Rattle.shb_report.proofs.EachLemmas.{each-weaker}
 use Rattle.std.specs.Str.{bytes_eq}
-use Rattle.indexmap.specs.IndexMap.{insert_entry}
 use Rattle.shb_lines.specs.declared.event.Pair.{Pair}
 use Rattle.shb_report.specs.declared.places.PlaceCount.{PlaceCount}
-use Rattle.shb_report.specs.Places.{IsPairOf, IsPlaceOf, PlaceOf, counts_in, location_at, place_of_entry, places_after, places_in, places_of_pairs, with_one_more, with_pair}
-
-abbrev pub Key : Type 0
-Key = Bor (List ℕ) × Bor (List ℕ)
-
-abbrev pub same_key : Key → Key → Bool
-same_key x y = bytes_eq x.0.now y.0.now && bytes_eq x.1.now y.1.now
-
-module _ (key : Key) (pair : Pair) where
-  pub insert_places : (entries : List (Key × PlaceCount))
-      → places_in (insert_entry same_key entries key (with_one_more (lookup (same_key key) entries) pair)) ≡ with_pair (places_in entries) key.0.now key.1.now pair
-  insert_places [] = refl
-  insert_places (e ∷ entries) = by (same_key key e.0) (insert_places entries)
-    where
-      by : (b : Bool) → places_in (insert_entry same_key entries key (with_one_more (lookup (same_key key) entries) pair)) ≡ with_pair (places_in entries) key.0.now key.1.now pair
-          → places_in (cond b ((e.0, with_one_more (cond b (Some e.1) (lookup (same_key key) entries)) pair) ∷ entries)
-          (e ∷ insert_entry same_key entries key (with_one_more (cond b (Some e.1) (lookup (same_key key) entries)) pair)))
-          ≡ cond b (record { first = e.0.0.now; second = e.0.1.now; counted = with_one_more (Some e.1) pair } ∷ places_in entries)
-          (place_of_entry e ∷ with_pair (places_in entries) key.0.now key.1.now pair)
-      by true rest = refl
-      by false rest = ap (λ places. place_of_entry e ∷ places) rest
-
-  pub lookup_few : (limit : ℕ) (entries : List (Key × PlaceCount)) → AllByRecursion (λ place. place.counted.count < limit) (places_in entries)
-      → IfSome (lookup (same_key key) entries) (λ counted. counted.count < limit)
-  lookup_few limit [] h = tt
-  lookup_few limit (e ∷ entries) h = by (same_key key e.0) (lookup_few limit entries h.1)
-    where
-      by : (b : Bool) → IfSome (lookup (same_key key) entries) (λ counted. counted.count < limit) → IfSome (cond b (Some e.1) (lookup (same_key key) entries)) (λ counted. counted.count < limit)
-      by true rest = h.0
-      by false rest = rest
+use Rattle.shb_report.specs.Places.{IsPairOf, IsPlaceOf, PlaceOf, counts_in, location_at, places_after, places_of_pairs, with_one_more, with_pair}
 
 pub copied_few : (limit : ℕ) (found : Option (Bor PlaceCount)) → IfSome (option_copied found) (λ counted. counted.count < limit) → IfSome found (λ counted. counted.now.count < limit)
 copied_few limit None h = tt
@@ -73,11 +42,6 @@ one_pair_more trace before pairs k d first second within e f =
     ∙ ap (λ l. with_pair (places_after trace before (take k pairs)) (location_at trace pair.first) l pair) f
     ∙ sym (fold-append (λ places pair. with_pair places (location_at trace pair.first) (location_at trace pair.second) pair) before (take k pairs) (pair ∷ []))
     ∙ ap (places_after trace before) (sym (take_more pairs k d within))
-
--- the values of a table are its counts
-pub counts_are : (entries : List (Key × PlaceCount)) → map (λ e. e.1) entries ≡ counts_in (places_in entries)
-counts_are [] = refl
-counts_are (e ∷ entries) = ap (λ l. e.1 ∷ l) (counts_are entries)
 
 -- each place's pair is one of the pairs
 pub with_pair_in_range : (trace : TraceData) (places : List PlaceOf) (first second : List ℕ) (pair : Pair) → IsPairOf trace pair → AllByRecursion (λ place. IsPlaceOf trace place.counted) places

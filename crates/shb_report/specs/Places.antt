@@ -1,8 +1,5 @@
 -- The places of a list of pairs: each different pair of locations once, in the order of the first pair that has it, with the number of pairs that have it.
-use Rattle.std.specs.Prelude.{◌≡◌, ℕ, zero, suc, ◌+◌, ◌<◌, Bool, ◌&&◌, List, [], ◌∷◌, length, map, fold, slice_get, slice_index_or, Option, None, Some, unwrap_or, if◌then◌else◌}
-use Rattle.std.specs.Bool.{IsTrue}
-use Rattle.std.specs.Borrow.{Bor}
-use Rattle.std.specs.List.{list_any}
+use Rattle.std.specs.Prelude.{ℕ, ◌+◌, ◌<◌, ◌&&◌, List, [], ◌∷◌, length, map, fold, slice_get, Option, None, Some, unwrap_or, if◌then◌else◌}
 use Rattle.std.specs.Str.{bytes_eq}
 use Rattle.shb_lines.specs.declared.event.Pair.{Pair}
 use Rattle.shb_lines.specs.text.TraceData.{TraceData, location_of}
@@ -32,42 +29,6 @@ with_pair (place ∷ places) first second pair =
     then record { first = place.first; second = place.second; counted = with_one_more (Some place.counted) pair } ∷ places
     else place ∷ with_pair places first second pair
 
--- whether the place has these two locations
-abbrev pub has_locations : List ℕ → List ℕ → PlaceOf → Bool
-has_locations first second place = bytes_eq first place.first && bytes_eq second place.second
-
--- a place of the list has these two locations
-abbrev pub HasPlace : List PlaceOf → List ℕ → List ℕ → Type 0
-HasPlace places first second = IsTrue (list_any (has_locations first second) places)
-
--- the places with so many pairs of these locations more, where a place has these; a place that isn't there does not come
-abbrev pub with_many : List PlaceOf → List ℕ → List ℕ → ℕ → List PlaceOf
-with_many [] first second more = []
-with_many (place ∷ places) first second more =
-    if has_locations first second place
-    then record { first = place.first; second = place.second; counted = record { pair = place.counted.pair; count = place.counted.count + more } } ∷ places
-    else place ∷ with_many places first second more
-
--- these places, and then for each number below `numbers` so many pairs more of the first location that it stands for
-abbrev pub with_numbered : (ℕ → List ℕ) → List ℕ → (ℕ → ℕ) → List PlaceOf → ℕ → List PlaceOf
-with_numbered first second more places zero = places
-with_numbered first second more places (suc numbers) = with_many (with_numbered first second more places numbers) (first numbers) second (more numbers)
-
--- the location of the event with this number
-abbrev pub location_with : TraceData → List ℕ → ℕ → List ℕ
-location_with trace events r = location_at trace (slice_index_or events r 0)
-
--- each place of these numbers is in the list where there are pairs of it
-abbrev pub HasEach : List PlaceOf → (ℕ → List ℕ) → List ℕ → List ℕ → ℕ → Type 0
-HasEach places first second counts numbers = (r : ℕ) → r < numbers → 0 < slice_index_or counts r 0 → HasPlace places (first r) second
-
--- the pair has a place in the list; its first location is the one that its number stands for, and its second is this
-pub record IsNumbered (trace : TraceData) (places : List PlaceOf) (first : ℕ → List ℕ) (second : List ℕ) (number : Pair → ℕ) (numbers : ℕ) (pair : Pair) : Type 0 where
-  pub within : number pair < numbers
-  pub is_first : location_at trace pair.first ≡ first (number pair)
-  pub is_second : location_at trace pair.second ≡ second
-  pub known : HasPlace places (first (number pair)) second
-
 -- these places, and then each pair in its turn
 abbrev pub places_after : TraceData → List PlaceOf → List Pair → List PlaceOf
 places_after trace before pairs = fold (λ places pair. with_pair places (location_at trace pair.first) (location_at trace pair.second) pair) before pairs
@@ -78,13 +39,6 @@ places_of_pairs trace pairs = places_after trace [] pairs
 -- the first pair of each place, and how many pairs have it
 abbrev pub counts_in : List PlaceOf → List PlaceCount
 counts_in places = map (λ place. place.counted) places
-
--- the places in a table
-abbrev pub place_of_entry : (Bor (List ℕ) × Bor (List ℕ)) × PlaceCount → PlaceOf
-place_of_entry entry = record { first = entry.0.0.now; second = entry.0.1.now; counted = entry.1 }
-
-abbrev pub places_in : List ((Bor (List ℕ) × Bor (List ℕ)) × PlaceCount) → List PlaceOf
-places_in entries = map place_of_entry entries
 
 -- both events of the pair are events of the trace
 pub record IsPairOf (trace : TraceData) (pair : Pair) : Type 0 where

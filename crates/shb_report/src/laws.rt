@@ -1,12 +1,11 @@
 //! The laws of reports, over the definitions alone. Each function does nothing: its contract is the
 //! law.
-ghost use Rattle.std.specs.Prelude.{◌≡◌, ◌<◌, ℕ, All, Bool, Contains, List, count_by, map, nat_eq, true};
+ghost use Rattle.std.specs.Prelude.{◌≡◌, ℕ, All, Bool, Contains, List, map, true};
 ghost use Rattle.shb_lines.specs.declared.event.Pair.{Pair};
 ghost use Rattle.shb_lines.specs.events.Discipline.{IsDisciplined};
 ghost use Rattle.shb_lines.specs.events.Race.{IsRaceList};
 ghost use Rattle.shb_lines.specs.text.TraceData.{TraceData};
 ghost use Rattle.shb_report.specs.Leading.{AreLeading, HasOnce, place_at};
-ghost use Rattle.shb_report.specs.Places.{IsNumbered, PlaceOf, places_after, with_numbered};
 ghost use Rattle.shb_report.specs.Report.{HasSchedule, IsReport, ShownRace};
 ghost use Rattle.shb_report.specs.Value.{report_text};
 ghost use Rattle.shb_report.specs.Written.{written_report};
@@ -46,15 +45,4 @@ pub fn each_place_has_one_leading_race()
         → (lead : Pair) → Contains leading lead → Contains races lead }
     ensures once { (trace : TraceData) (races leading : List Pair) → AreLeading trace races leading
         → (race : Pair) → Contains races race → HasOnce trace leading (place_at trace race.first race.second) }
-{}
-
-/// Pairs of one second location, each of a place that is known, can be counted together: as many more of
-/// each first location as pairs have it. Here each pair has a number, which stands for its first location;
-/// two numbers may stand for the same one.
-pub fn pairs_are_counted_by_number()
-    ensures { (trace : TraceData) (places : List PlaceOf) (pairs : List Pair) (first : ℕ → List ℕ) (second : List ℕ)
-        (number : Pair → ℕ) (numbers : ℕ) (more : ℕ → ℕ)
-        → All (IsNumbered trace places first second number numbers) pairs
-        → ((r : ℕ) → r < numbers → more r ≡ count_by (λ pair. nat_eq (number pair) r) pairs)
-        → with_numbered first second more places numbers ≡ places_after trace places pairs }
 {}

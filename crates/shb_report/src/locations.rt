@@ -1,5 +1,5 @@
 //! Numbers of locations, in order of first appearance.
-ghost use Rattle.std.specs.Prelude.{◌≡◌, ◌+◌, ◌≤◌, ℕ, List, [], ◌∷◌, Some, length, slice_get, IfOk, OnOk};
+ghost use Rattle.std.specs.Prelude.{◌≡◌, [], ◌∷◌, Some, length, slice_get, IfOk, OnOk};
 ghost use Rattle.std.specs.Cmp.{on_equiv, on_per, partial_equiv_from_equiv};
 ghost use Rattle.std.specs.Cmp.Lexicographic.{nat_list_eq_equiv};
 ghost use Rattle.std.specs.Hash.{same_Alike};
@@ -98,6 +98,13 @@ impl<'t> Locations<'t> {
     {
         let (number, _) = self.known.insert_full(Location { bytes: location })?;
         Ok(number)
+    }
+
+    /// How many locations have numbers.
+    pub fn len(&self) -> usize
+        ensures { result ≡ length self.now }
+    {
+        self.known.len()
     }
 
     /// Different numbers have different locations.

@@ -1,13 +1,13 @@
 //! The places of races: pairs of locations.
-ghost use Rattle.std.specs.Prelude.{◌≡◌, ◌↔◌, ◌+◌, ◌-◌, ◌<◌, ◌≤◌, ◌^◌, [], ℕ, List, All, None, Some, false, length, map, option_map, slice_get, slice_index_or, sum, IfOk, IfSome, OnOk};
-ghost use Rattle.std.specs.Bool.{IsTrue};
-ghost use Rattle.std.specs.Option.{option_copied};
-ghost use Rattle.std.specs.List.{AllByRecursion};
+ghost use Rattle.std.specs.Prelude.{◌≡◌, ◌+◌, ◌-◌, ◌<◌, ◌^◌, [], All, None, Some, length, map, option_map, slice_get, IfOk, IfSome, OnOk};
+ghost use Rattle.std.specs.Option.{is_some, option_copied};
 ghost use Rattle.shb_lines.specs.events.Race.{ends};
 ghost use Rattle.shb_lines.specs.text.TraceData.{TraceData};
 ghost use Rattle.shb_report.specs.Report.{LeadingRaces};
-ghost use Rattle.shb_report.specs.Places.{HasEach, HasPlace, IsPairOf, IsPlaceOf, counts_in, location_at, location_with, places_after, places_in, places_of_pairs, with_many, with_numbered, with_one_more, with_pair};
+ghost use Rattle.shb_report.specs.Keyed.{AreKeyed, counted_of, with_keyed, with_more, with_new};
+ghost use Rattle.shb_report.specs.Places.{IsPairOf, IsPlaceOf, counts_in, places_of_pairs, with_one_more};
 
+use crate::locations::Locations;
 use indexmap::IndexMap;
 use shb_io::{NoMemory, random_state};
 use shb_lines::{Pair, Trace};
@@ -25,8 +25,8 @@ pub struct PlaceCount {
     pub count: u64,
 }
 
-/// The places so far, by their two locations.
-type Table<'t> = IndexMap<(&'t [u8], &'t [u8]), PlaceCount, RandomState>;
+/// The places so far, by the numbers of their two locations.
+type Table = IndexMap<(usize, usize), PlaceCount, RandomState>;
 
 /// What is counted of a place with one pair more.
 fn counted_with(known: Option<&PlaceCount>, pair: Pair) -> PlaceCount
@@ -42,37 +42,7 @@ fn counted_with(known: Option<&PlaceCount>, pair: Pair) -> PlaceCount
     }
 }
 
-/// Counts a pair with these locations.
-fn add_pair<'t>(
-    table: &mut Table<'t>,
-    first: &'t [u8],
-    second: &'t [u8],
-    pair: Pair,
-) -> Result<(), NoMemory>
-    requires { AllByRecursion (λ place. place.counted.count < 2 ^ 64 - 1) (places_in table.old.entries) }
-    ensures { OnOk result (places_in table.new.entries ≡ with_pair (places_in table.old.entries) first.now second.now pair) }
-{
-    let key = (first, second);
-    let counted = counted_with(table.get(&key), pair);
-    table.insert(key, counted)?;
-    Ok(())
-}
-
-/// Counts some pairs.
-fn add_pairs<'t>(table: &mut Table<'t>, trace: &'t Trace, pairs: &[Pair]) -> Result<(), NoMemory>
-    requires pairs { All (IsPairOf trace.now) pairs.now }
-    requires few { AllByRecursion (λ place. place.counted.count + length pairs.now < 2 ^ 64) (places_in table.old.entries) }
-    ensures { OnOk result (places_in table.new.entries ≡ places_after trace.now (places_in table.old.entries) pairs.now) }
-{
-    for pair in pairs {
-        let first = trace.location(pair.first);
-        let second = trace.location(pair.second);
-        add_pair(table, first, second, *pair)?;
-    }
-    Ok(())
-}
-
-/// The places in a table.
+/// What is counted of the places in a table.
 fn place_counts(alloc: Global, table: &Table) -> Result<Vec<PlaceCount>, NoMemory>
     ensures { IfOk result (λ counts. counts.items ≡ map (λ e. e.1) table.now.entries) }
 {
@@ -110,31 +80,31 @@ impl Model for Places {
     ghost view = { λ p. p.counts.items };
 }
 
-/// The places of pairs that come one list after the other. Contracts see it as the places so far, in the
-/// order of the first pair that has each.
-pub struct PlaceTable<'t> {
-    table: Table<'t>,
+/// Places by the numbers of their two locations, in the order in which they came. Contracts see each with its
+/// two numbers.
+pub struct PlaceTable {
+    table: Table,
 }
 
 // By hand: a derived one stands in each function that drops it, with a step for each part of the table.
-impl<'t> Drop for PlaceTable<'t> {
+impl Drop for PlaceTable {
     fn drop(self) {
         let PlaceTable { table: _ } = self;
     }
 }
 
-impl<'t> Model for PlaceTable<'t> {
+impl Model for PlaceTable {
     ghost use Rattle.std.specs.Prelude.{List};
-    ghost use Rattle.shb_report.specs.Places.{PlaceOf, places_in};
+    ghost use Rattle.shb_report.specs.Keyed.{Keyed};
 
-    ghost Value = { List PlaceOf };
+    ghost Value = { List Keyed };
 
-    ghost view = { λ t. places_in t.table.entries };
+    ghost view = { λ t. t.table.entries };
 }
 
-impl<'t> PlaceTable<'t> {
+impl PlaceTable {
     /// A table without places. `NoMemory` where there were no random numbers for it.
-    pub fn new<R: RandomSource>(rt: &R, alloc: Global) -> Result<PlaceTable<'t>, NoMemory>
+    pub fn new<R: RandomSource>(rt: &R, alloc: Global) -> Result<PlaceTable, NoMemory>
         ensures { IfOk result (λ table. table ≡ []) }
     {
         Ok(PlaceTable {
@@ -142,103 +112,69 @@ impl<'t> PlaceTable<'t> {
         })
     }
 
-    /// Counts some pairs of a trace, whose events must be events of it. No count may grow beyond 64 bits.
-    /// After `NoMemory` the table has counted some of them.
-    pub fn add(&mut self, trace: &'t Trace, pairs: &[Pair]) -> Result<(), NoMemory>
-        requires pairs { All (IsPairOf trace.now) pairs.now }
-        requires few { AllByRecursion (λ place. place.counted.count + length pairs.now < 2 ^ 64) self.old }
-        ensures { OnOk result (self.new ≡ places_after trace.now self.old pairs.now) }
+    /// Counts a pair whose locations have these numbers. `NoMemory` where a growth was refused.
+    pub fn add(&mut self, key: (usize, usize), pair: Pair) -> Result<(), NoMemory>
+        requires { IfSome (counted_of self.old key) (λ counted. counted.count < 2 ^ 64 - 1) }
+        ensures { OnOk result (self.new ≡ with_keyed self.old key pair) }
     {
-        add_pairs(&mut self.table, trace, pairs)
+        let counted = counted_with(self.table.get(&key), pair);
+        self.table.insert(key, counted)?;
+        Ok(())
     }
 
-    /// Whether a place is in the table: a pair of these two locations was counted.
-    pub fn has(&self, first: &[u8], second: &[u8]) -> bool
-        ensures { IsTrue result ↔ HasPlace self.now first.now second.now }
+    /// Counts so many pairs more of the place with these numbers, if it is in the table, and says whether it is.
+    pub fn add_many(&mut self, key: (usize, usize), more: u64) -> bool
+        requires { IfSome (counted_of self.old key) (λ counted. counted.count + more < 2 ^ 64) }
+        ensures known { result ≡ is_some (counted_of self.old key) }
+        ensures added { self.new ≡ with_more self.old key more }
     {
-        self.table.contains_key(&(first, second))
-    }
-
-    /// Counts so many pairs more of a place. Where it isn't in the table nothing changes. No count may
-    /// grow beyond 64 bits.
-    pub fn add_many(&mut self, first: &[u8], second: &[u8], more: u64)
-        requires { AllByRecursion (λ place. place.counted.count + more < 2 ^ 64) self.old }
-        ensures { self.new ≡ with_many self.old first.now second.now more }
-    {
-        let Some(at) = self.table.get_index_of(&(first, second)) else {
-            return;
+        let Some(at) = self.table.get_index_of(&key) else {
+            return false;
         };
         if let Some(counted) = self.table.get_index_mut(at) {
             counted.count += more;
         }
-    }
-
-    /// Whether each place of which there are pairs is in the table: the location of the event with each number,
-    /// and `second`.
-    fn has_each(&self, trace: &Trace, events: &[u32], second: &[u8], counts: &[u32]) -> bool
-        requires events { All (λ e. e < length trace.now.events) events.now }
-        requires numbers { length counts.now ≡ length events.now }
-        ensures { IsTrue result → HasEach self.now (location_with trace.now events.now) second.now counts.now (length counts.now) }
-    {
-        for r in 0..counts.len() {
-            if counts[r] > 0 && !self.has(trace.location(events[r]), second) {
-                return false;
-            }
-        }
         true
     }
 
-    /// Counts so many pairs more of the location of the event with each number, and `second`.
-    fn add_each(&mut self, trace: &Trace, events: &[u32], second: &[u8], counts: &[u32])
-        requires events { All (λ e. e < length trace.now.events) events.now }
-        requires numbers { length counts.now ≡ length events.now }
-        requires few { AllByRecursion (λ place. place.counted.count + sum counts.now < 2 ^ 64) self.old }
-        ensures { self.new ≡ with_numbered (location_with trace.now events.now) second.now (λ r. slice_index_or counts.now r 0) self.old (length counts.now) }
+    /// Puts a place last, unless one with these numbers is there. `NoMemory` where a growth was refused.
+    pub fn add_new(&mut self, key: (usize, usize), counted: PlaceCount) -> Result<(), NoMemory>
+        ensures { OnOk result (self.new ≡ with_new self.old key counted) }
     {
-        for r in 0..counts.len() {
-            if counts[r] > 0 {
-                self.add_many(trace.location(events[r]), second, u64::from(counts[r]));
-            }
+        if !self.table.contains_key(&key) {
+            self.table.insert(key, counted)?;
         }
+        Ok(())
     }
 
-    /// Counts pairs by the number of their first location: `events` has an event of each number, and `counts`
-    /// how many pairs have it. The second location of each pair is that of `second`. Where one of these places
-    /// isn't in the table, the answer is false and nothing changes.
-    ///
-    /// The events must be events of the trace, and no count may grow beyond 64 bits.
-    pub fn add_numbered(
-        &mut self,
-        trace: &Trace,
-        events: &[u32],
-        second: u32,
-        counts: &[u32],
-    ) -> bool
-        requires events { All (λ e. e < length trace.now.events) events.now }
-        requires second { second < length trace.now.events }
-        requires numbers { length counts.now ≡ length events.now }
-        requires few { AllByRecursion (λ place. place.counted.count + sum counts.now < 2 ^ 64) self.old }
-        ensures known { IsTrue result → HasEach self.old (location_with trace.now events.now) (location_at trace.now second) counts.now (length counts.now) }
-        ensures added { IsTrue result → self.new ≡ with_numbered (location_with trace.now events.now) (location_at trace.now second)
-            (λ r. slice_index_or counts.now r 0) self.old (length counts.now) }
-        ensures left { result ≡ false → self.new ≡ self.old }
-    {
-        let location = trace.location(second);
-        if !self.has_each(trace, events, location, counts) {
-            return false;
-        }
-        self.add_each(trace, events, location, counts);
-        true
-    }
-
-    /// The places so far. `NoMemory` where memory was refused.
+    /// What is counted of the places so far. `NoMemory` where memory was refused.
     pub fn to_places(&self, alloc: Global) -> Result<Places, NoMemory>
-        ensures { IfOk result (λ places. places ≡ counts_in self.now) }
+        ensures { IfOk result (λ places. places ≡ map (λ place. place.1) self.now) }
     {
         Ok(Places {
             counts: place_counts(alloc, &self.table)?,
         })
     }
+}
+
+/// Counts some pairs of a trace in an empty table, by the numbers of their locations.
+fn add_pairs<'t>(
+    table: &mut PlaceTable,
+    locations: &mut Locations<'t>,
+    trace: &'t Trace,
+    pairs: &[Pair],
+) -> Result<(), NoMemory>
+    requires pairs { All (IsPairOf trace.now) pairs.now }
+    requires empty { table.old ≡ [] }
+    ensures { OnOk result (AreKeyed locations.new table.new (places_of_pairs trace.now pairs.now)) }
+{
+    locations.are_different();
+    for pair in pairs {
+        let first = locations.number_of(trace.location(pair.first))?;
+        let second = locations.number_of(trace.location(pair.second))?;
+        table.add((first, second), *pair)?;
+    }
+    Ok(())
 }
 
 /// The places of a list of pairs: of each pair the location of its first event and that of its second.
@@ -247,7 +183,7 @@ impl<'t> PlaceTable<'t> {
 ///
 /// # Errors
 ///
-/// `NoMemory` where a growth was refused, or where there were no random numbers for the table.
+/// `NoMemory` where a growth was refused, or where there were no random numbers for a table.
 pub fn places_of<R: RandomSource>(
     rt: &R,
     alloc: Global,
@@ -258,8 +194,9 @@ pub fn places_of<R: RandomSource>(
     ensures places { IfOk result (λ places. places ≡ counts_in (places_of_pairs trace.now pairs.now)) }
     ensures in_range { IfOk result (λ places. All (IsPlaceOf trace.now) places) }
 {
+    let mut locations = Locations::new(rt, alloc)?;
     let mut table = PlaceTable::new(rt, alloc)?;
-    table.add(trace, pairs)?;
+    add_pairs(&mut table, &mut locations, trace, pairs)?;
     let places = table.to_places(alloc)?;
     Ok(places)
 }

@@ -7,9 +7,9 @@ use Rattle.shb_counts.proofs.counted.count_few.Goals as goal
 
 pub count-requires-clause-pairs : goal.count-requires-clause-pairs
 count-requires-clause-pairs c =
-    subst (All (IsPairOf c.args.trace.now)) (sym c.as_slice.ensures.value)
-    (pairs_of_trace c.args.trace.now c.in_ok-pairs.pairs.items
-    (subst (All (λ race. (race.0 < length c.args.trace.now.events) × (race.1 < length c.args.trace.now.events))) (sym c.in_ok-pairs.ensures) c.requires.races))
+    subst (All (IsPairOf c.args.located.now.trace.now)) (sym c.as_slice.ensures.value)
+    (pairs_of_trace c.args.located.now.trace.now c.in_ok-pairs.pairs.items
+    (subst (All (λ race. (race.0 < length c.args.located.now.trace.now.events) × (race.1 < length c.args.located.now.trace.now.events))) (sym c.in_ok-pairs.ensures) c.requires.races))
 
 pub count-requires-clause-room : goal.count-requires-clause-room
 count-requires-clause-room c =

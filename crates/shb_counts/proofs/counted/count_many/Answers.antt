@@ -15,7 +15,7 @@ run_seen seen events x y from to races same is h =
 
 pub returns-clause-counted : goal.returns-clause-counted
 returns-clause-counted g c = λ before has.
-    subst (λ (l : List (ℕ × ℕ)). HasCounted c.args.located.now.trace.now (before ++ l) c.count_accesses.new.counter)
+    subst (λ (l : List (ℕ × ℕ)). HasCounted c.args.located.now.numbers.now.numbers.items (before ++ l) c.count_accesses.new.counter)
     (run_seen _ c.args.job.now.trace _ c.piece-piece.result.variable c.piece-piece.result.from c.piece-piece.result.to _ c.search-search.ensures.of_trace (c.search-search.ensures.variable ∙ sym (ap (λ (p : Piece). p.variable) c.piece-piece.ensures.value)) c.piece-piece.ensures.races)
     (c.in_ok-count_accesses.ensures before has)
 

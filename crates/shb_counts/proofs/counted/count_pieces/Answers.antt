@@ -21,11 +21,11 @@ pub loop-k-preserved : goal.loop-k-preserved
 loop-k-preserved g c = record {
   within = omega (arith, c.loop-k-test.true, c.pieces-count.ensures.exact);
   known = c.in_ok-known.ensures.tables;
-  counted = subst (λ (l : List (ℕ × ℕ)). HasCounted c.args.located.now.trace.now l c.count_piece.new.counter) (sym (joined_next (races_at c.args.job.now) c.loop-k.k))
+  counted = subst (λ (l : List (ℕ × ℕ)). HasCounted c.args.located.now.numbers.now.numbers.items l c.count_piece.new.counter) (sym (joined_next (races_at c.args.job.now) c.loop-k.k))
       (c.in_ok-known.ensures.counted (joined (values_of (races_at c.args.job.now) c.loop-k.k)) c.loop-k.invariant.counted);
 }
 
 pub returns : goal.returns
 returns g c =
     let e : c.loop-k.k ≡ length (pieces_in c.args.job.now) = omega (arith, c.loop-k-test.false, c.pieces-count.ensures.exact, c.loop-k.invariant.within) in
-    subst (λ (n : ℕ). HasCounted c.args.located.now.trace.now (joined (values_of (races_at c.args.job.now) n)) c.loop-k.counter) e c.loop-k.invariant.counted
+    subst (λ (n : ℕ). HasCounted c.args.located.now.numbers.now.numbers.items (joined (values_of (races_at c.args.job.now) n)) c.loop-k.counter) e c.loop-k.invariant.counted

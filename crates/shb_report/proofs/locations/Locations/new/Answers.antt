@@ -1,4 +1,4 @@
-use Rattle.std.proofs.Common.{◌≡◌, List, [], refl, sym, subst}
+use Rattle.std.proofs.Common.{List, [], sym, subst}
 use Rattle.std.specs.List.{IsDistinct}
 use Rattle.std.specs.Str.{bytes_eq}
 use Rattle.shb_report.specs.declared.locations.Location.{Location}

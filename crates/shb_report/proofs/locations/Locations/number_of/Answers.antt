@@ -1,5 +1,5 @@
 -- A set puts a new location last and keeps a known one.
-use Rattle.std.proofs.Common.{◌≡◌, List, Some, ℕ, ap, option_map, subst, sym, ◌∙◌}
+use Rattle.std.proofs.Common.{List, Some, ℕ, ap, option_map, subst, sym, ◌∙◌}
 use Rattle.std.specs.List.{IsDistinct}
 use Rattle.std.specs.Str.{bytes_eq}
 use Rattle.std.proofs.lemmas.Option.{slice_get-map}
