@@ -1,6 +1,5 @@
 -- Pairs that are counted by the numbers of their locations, and why that is what counts each of them.
-use Rattle.std.proofs.Common.{◌≡◌, ◌≢◌, ◌⊎◌, ℕ, zero, suc, ◌+◌, ◌<◌, ◌≤◌, ◌&&◌, ◌++◌, Bool, true, false, cond, nat_eq, List, [], ◌∷◌, length, map, Option, None, Some, IfSome, is_some, get_or, take, refl, sym, ap, subst, ◌∙◌, inl, inr, arith, true≢false, All}
-use Rattle.std.specs.Prelude.{sum}
+use Rattle.std.proofs.Common.{◌≡◌, ◌≢◌, ℕ, zero, suc, ◌+◌, ◌<◌, ◌≤◌, ◌&&◌, ◌++◌, Bool, true, false, cond, nat_eq, List, [], ◌∷◌, length, Option, None, Some, IfSome, is_some, get_or, take, refl, sym, ap, subst, ◌∙◌, inl, inr, arith, true≢false}
 use Rattle.std.specs.List.{AllByRecursion}
 use Rattle.std.proofs.lemmas.Bool.{cases_Bool, cases_lt}
 use Rattle.std.proofs.lemmas.Bool.Decides.{eqb_tells}
@@ -8,16 +7,12 @@ use Rattle.std.proofs.lemmas.List.{map-append, take_more}
 use Rattle.std.proofs.lemmas.List.Sums.{fold-append}
 use Rattle.indexmap.specs.IndexMap.{insert_entry}
 use Rattle.shb_lines.specs.declared.event.Pair.{Pair}
-use Rattle.shb_pairs.specs.Buckets.{with_key}
 use Rattle.shb_report.specs.Keyed.{Key, Keyed, counted_of, counting, same_key, with_keyed, with_more, with_new}
 use Rattle.shb_report.specs.Places.{with_one_more}
-use Rattle.shb_report.specs.Report.{pair_of}
 use Rattle.shb_report.specs.declared.places.PlaceCount.{PlaceCount}
 use Rattle.shb_report.proofs.EachLemmas.{each-weaker}
 use Rattle.shb_report.proofs.KeyedLemmas.{put_last}
 use Rattle.shb_counts.specs.Counted.{Differ, by_number, grown, key_in, keyed_after, only, times, with_places}
-use Rattle.shb_counts.specs.Counts.{number_in}
-use Rattle.shb_counts.proofs.RacingLemmas.{times_cons}
 
 abbrev pub key_of : ℕ → ℕ → Key
 key_of first second = (first, second)

@@ -1,5 +1,5 @@
 -- Races that are counted, one by one or by the number of their earlier location.
-use Rattle.std.proofs.Common.{◌≡◌, ◌≢◌, ℕ, zero, suc, ◌+◌, ◌<◌, ◌≤◌, ◌&&◌, Bool, true, false, List, [], ◌∷◌, ◌++◌, length, get_or, map, nat_eq, is_some, All, IfSome, refl, sym, ap, subst, ◌∙◌, inl, inr, arith}
+use Rattle.std.proofs.Common.{◌≡◌, ℕ, zero, suc, ◌+◌, ◌<◌, ◌≤◌, ◌&&◌, Bool, true, false, List, [], ◌∷◌, ◌++◌, length, get_or, map, nat_eq, is_some, All, IfSome, refl, sym, ap, subst, ◌∙◌, inl, inr, arith}
 use Rattle.std.specs.Prelude.{◌==◌, cond, sum}
 use Rattle.std.specs.List.{AllByRecursion, IsDistinct}
 use Rattle.std.specs.Str.{bytes_eq}
@@ -18,13 +18,13 @@ use Rattle.shb_pairs.specs.Races.{races_with}
 use Rattle.shb_pairs.proofs.ByThread.{numbers_all}
 use Rattle.shb_pairs.proofs.Counting.{numbers_few}
 use Rattle.shb_pairs.proofs.Sorting.{sum_whole}
-use Rattle.shb_report.specs.Keyed.{AreKeyed, Key, Keyed, counted_of, same_key, with_keyed, with_new}
+use Rattle.shb_report.specs.Keyed.{AreKeyed, Key, Keyed, counted_of, same_key, with_keyed}
 use Rattle.shb_report.specs.Places.{IsPairOf, PlaceOf, counts_in, location_at, places_after, places_of_pairs, with_pair}
 use Rattle.shb_report.specs.Report.{pair_of}
 use Rattle.shb_report.proofs.EachLemmas.{each-weaker}
 use Rattle.shb_report.specs.declared.places.PlaceCount.{PlaceCount}
 use Rattle.shb_report.proofs.KeyedLemmas.{keyed_counts, keyed_pair}
-use Rattle.shb_counts.specs.Counted.{Differ, HasCounted, HasCountedKnown, by_number, grown, key_in, keyed_after, only, times, with_places}
+use Rattle.shb_counts.specs.Counted.{Differ, HasCounted, HasCountedKnown, by_number, grown, key_in, keyed_after, times, with_places}
 use Rattle.shb_counts.specs.Counts.{AreRacingCounts, number_in}
 use Rattle.shb_counts.specs.Numbering.{AreNumbered}
 use Rattle.shb_counts.specs.declared.counter.RaceCounter.{RaceCounter}

@@ -4,8 +4,8 @@
 //! one with many, `Tables` are made of its variable, once for all its pieces: the accesses by thread, and of their
 //! locations' numbers (`location_numbers`) how often each stands before every so many of them (`PrefixCounts`).
 //! The accesses that race with a later one are spans of that list, one for each thread, so how many of them have
-//! each location is a difference of rows (`racing_counts`). Where the place of each is known, the table of places
-//! takes these counts; else the races of that access are counted one by one, and their places are known from then on.
+//! each location is a difference of rows (`racing_counts`). The table of places takes these counts where a place is
+//! known. If one is new, the races of that access are gone over in order, and each new place is put last.
 #![tactic(auto)]
 
 mod accesses;

@@ -4,7 +4,6 @@ use Rattle.std.specs.Prelude.{slice_index_or}
 use Rattle.std.specs.Bool.{IsTrue}
 use Rattle.shb_report.specs.Keyed.{counted_of}
 use Rattle.shb_counts.specs.Counted.{by_number, grown}
-use Rattle.shb_counts.proofs.Batches.{key_of}
 use Rattle.shb_counts.proofs.counter.add_known.Given as goal
 
 abbrev pub invariant-loop-r : goal.invariant-loop-r

@@ -1,6 +1,4 @@
-use Rattle.std.proofs.Common.{◌≡◌, ◌<◌, All, List, ℕ, arith, length, subst, sym}
-use Rattle.shb_lines.specs.declared.event.Pair.{Pair}
-use Rattle.shb_report.specs.Keyed.{Keyed}
+use Rattle.std.proofs.Common.{◌≡◌, List, ℕ, arith, length, subst}
 use Rattle.shb_counts.specs.Counted.{keyed_after}
 use Rattle.shb_counts.proofs.CountedLemmas.{counted_few, counted_pairs, pairs_inside}
 use Rattle.shb_counts.proofs.counter.RaceCounter.count.Goals as goal

@@ -1,9 +1,9 @@
-use Rattle.std.proofs.Common.{◌≡◌, ◌+◌, ◌<◌, ◌∙◌, ℕ, List, ap, arith, get_or, is_some, length, subst, true}
+use Rattle.std.proofs.Common.{◌≡◌, ◌+◌, ◌<◌, ◌∙◌, ℕ, List, ap, get_or, is_some, length, subst, true}
 use Rattle.shb_report.specs.Keyed.{counted_of}
 use Rattle.shb_counts.specs.Counted.{by_number, grown}
 use Rattle.shb_counts.specs.Counts.{number_in}
 use Rattle.shb_counts.proofs.Batches.{key_of}
-use Rattle.shb_counts.proofs.CountedLemmas.{counted_differ, counted_room, numbered_known, numbered_left, sum_racing_few}
+use Rattle.shb_counts.proofs.CountedLemmas.{counted_differ, counted_room, numbered_known, numbered_left}
 use Rattle.shb_counts.proofs.counter.RaceCounter.count_numbered.Goals as goal
 
 pub add_known-requires-clause-differ : goal.add_known-requires-clause-differ
