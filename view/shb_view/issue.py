@@ -26,7 +26,7 @@ def issue_lines(view, section):
     if allocated:
         yield "  the block was allocated at"
         yield from allocated
-    yield from (f"  {flat(parts)}" for parts in sentences(view, section))
+    yield from (f"  {flat(parts)}" for parts in sentences(section))
     yield f"  {order_text(view, window)}"
 
 

@@ -74,9 +74,9 @@ def group_list(view):
     rows = []
     for number, section in enumerate(view.sections, 1):
         link = element("a", f"{number}. ", marked(group_name(view, section.group), NAME), href=f"#g{number}")
-        tag = element("span", marked(headline(view, section), NAME), class_="tag")
+        tag = element("span", marked(headline(section), NAME), class_="tag")
         races = element("span", races_text(section.group), class_="faint")
-        rows.append(element("li", link, " ", tag, " ", races, element("p", marked(sentences(view, section)[0], NAME)),
+        rows.append(element("li", link, " ", tag, " ", races, element("p", marked(sentences(section)[0], NAME)),
                             class_=f"rank{section.fact.rank}"))
     more = view.groups - len(view.sections)
     rows += [element("li", f"and {counted(more, 'more group')}")] if more else []
@@ -86,9 +86,9 @@ def group_list(view):
 def section_part(view, number, section):
     """All that is said of a group."""
     anchor = f"g{number}e"
-    first, *others = sentences(view, section)
+    first, *others = sentences(section)
     parts = [element("h2", element("a", number, href=f"#g{number}"), " ", marked(group_name(view, section.group), NAME), ": ",
-                     marked(headline(view, section), NAME)),
+                     marked(headline(section), NAME)),
              element("p", marked(first, NAME), " ", races_text(section.group), ". ",
                      element("a", "All groups", href="#groups", class_="back"))]
     parts += [element("p", marked(words, NAME)) for words in [*others, *seen_parts(section)]]

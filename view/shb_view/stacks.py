@@ -37,14 +37,14 @@ def origins(view, section):
     return [(list(parts), frames) for parts, frames in dict.fromkeys((tuple(parts), frames) for parts, frames in found if frames)]
 
 
-def publications(view, section):
+def publications(stacks, sites, fact):
     """The first few atomics that a racing thread which writes stores to and another racing thread loads, without an order that the
     language gives: each as the store and the load. Where a lock tells what is missing there are none."""
-    if section.fact.lock or section.fact.rank == 1:
+    if fact.lock or fact.rank == 1:
         return []
-    racing = [site for site in section.sites if site.partners]
+    racing = [site for site in sites if site.partners]
     writers, others = set().union(*(site.writers for site in racing)), {thread for site in racing for thread in site.threads}
-    uses = [use for use in view.stacks.atomics if use.thread in others]
+    uses = [use for use in stacks.atomics if use.thread in others]
     loads, found = {}, {}
     for use in uses:
         if use.kind != b"store":
@@ -58,25 +58,24 @@ def publications(view, section):
     return list(found.values())
 
 
-def headline(view, section):
+def headline(section):
     """The group's fact in a few words, or the first atomic by which its threads hand on something without order."""
-    for store, load in publications(view, section)[:1]:
+    for store, load in section.publications[:1]:
         use, verb = (load, " reads ") if store.gives() else (store, " writes ")
         return [place(use.location), verb, Code(use.name), " ", WITH[use.order]]
     return section.fact.tag
 
 
-def sentences(view, section):
+def sentences(section):
     """What is said of a group, as parts for each sentence: what tells most is the first."""
-    return [*publication_parts(view, section), section.fact.sentence]
+    return [*(publication_parts(store, load) for store, load in section.publications), section.fact.sentence]
 
 
-def publication_parts(view, section):
-    """What is said of atomics by which a group's threads hand on something without order, as parts for each."""
-    for store, load in publications(view, section):
-        yield [Code(store.thread), " and ", Code(load.thread), " use the atomic ", Code(store.name), ": ", place(store.location), f" writes it {WITH[store.order]}, ", place(load.location),
-               f" reads it {WITH[load.order]}. A write with release and a read with acquire would order what stands before the one and "
-               "after the other."]
+def publication_parts(store, load):
+    """What is said of an atomic by which threads hand on something without order, as parts."""
+    return [Code(store.thread), " and ", Code(load.thread), " use the atomic ", Code(store.name), ": ", place(store.location),
+            f" writes it {WITH[store.order]}, ", place(load.location), f" reads it {WITH[load.order]}. A write with release and a read "
+            "with acquire would order what stands before the one and after the other."]
 
 
 def caller_lines(frames, most):

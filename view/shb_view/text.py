@@ -72,8 +72,8 @@ def chosen_sections(view):
 
 def section_lines(view, number, section, colours):
     name = flat(group_name(view, section.group))
-    yield colours.bold(f"{number}. {name}: {flat(headline(view, section))}") + f" ({races_text(section.group)})"
-    yield from (f"   {flat(parts)}" for parts in [*sentences(view, section), *seen_parts(section)])
+    yield colours.bold(f"{number}. {name}: {flat(headline(section))}") + f" ({races_text(section.group)})"
+    yield from (f"   {flat(parts)}" for parts in [*sentences(section), *seen_parts(section)])
     if len(section.group.variables) > 1:
         yield f"   Variables: {flat(listed([[Code(name)] for name in section.group.variables], MOST_VARIABLES))}"
     for site in section.sites[:MOST_SITES]:

@@ -9,7 +9,7 @@ import typing
 
 from shb_common.known import BadLine, Known
 from shb_common.report import BadReport, Counts, Report, in_order
-from shb_common.stacks import NoStacks, Stacks
+from shb_common.stacks import AtomicUse, NoStacks, Stacks
 from shb_view.analyser import MOST_LISTED, Analyser, Verdict
 from shb_view.counting import Counting, Kinds
 from shb_view.facts import Fact, Site, fact_of, sites_of
@@ -18,7 +18,7 @@ from shb_view.groups import Gathered, Group, joined_groups, object_of
 from shb_view.names import by_numbers, shown
 from shb_view.refused import warnings
 from shb_view.source import Source
-from shb_view.stacks import stacks_of
+from shb_view.stacks import publications, stacks_of
 from shb_view.trace import CHANGED, Trace
 from shb_view.windows import Window, make_windows
 from shb_view.words import counted
@@ -43,6 +43,7 @@ class Section(typing.NamedTuple):
     window: typing.Optional[Window]
     callers: dict  # by racing line: the stacks of its racing accesses, as `callers_of` gives them, each with how many have it
     seen: typing.List[typing.Tuple[bytes, bytes]]  # lines of races where the second reads what the first wrote
+    publications: typing.List[typing.Tuple[AtomicUse, AtomicUse]]
 
 
 class View(typing.NamedTuple):
@@ -246,8 +247,10 @@ def first_groups(merged):
 def make_section(group, counts, asked, counting):
     """A group as it is shown, but for its window."""
     sites, places = sites_of(group, counts), group.places()
+    fact = fact_of(sites, asked.whole)
     seen = sorted((pair for pair in counting.seen if tuple(sorted(pair)) in places), key=lambda pair: list(map(by_numbers, pair)))
-    return Section(group, sites, fact_of(sites, asked.whole), None, callers_of(group, asked, counting.bare), seen)
+    return Section(group, sites, fact, None, callers_of(group, asked, counting.bare), seen,
+                   publications(asked.kinds.stacks, sites, fact))
 
 
 def callers_of(group, asked, bare):
