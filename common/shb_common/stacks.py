@@ -3,6 +3,7 @@
 import array
 import bisect
 import collections
+import functools
 import re
 import sys
 import typing
@@ -42,9 +43,6 @@ class AtomicUse(typing.NamedTuple):
     kind: bytes
     order: bytes
 
-    def publishes(self):
-        return self.kind != b"load"
-
     def gives(self):
         """Whether what stands before it is ordered before what takes the value."""
         return self.order in (b"release", b"both")
@@ -58,7 +56,7 @@ class Stacks:
 
     def __init__(self, path, shift, events):
         self.frames, self.calls, self.threads, self.blocks = [None], {}, {}, {}
-        self.atomics = []
+        self.stores, self.loads = [], {}  # uses of atomics; the loads by name; an update is both
         self.sources = {}  # by the name in a location: the file's path
         self.free_starts, self.free_ends, self.shift = array.array("Q"), array.array("Q"), shift
         with open(path, "rb") as file:
@@ -92,7 +90,7 @@ class Stacks:
             use, order = how.split(b" ")
             if order not in ORDERS:
                 raise ValueError
-            self.atomics.append(AtomicUse(name, thread, location, use, order))
+            self.add_use(AtomicUse(name, thread, location, use, order))
         elif kind == b"source":
             name, file = rest.split(b"\t")
             self.sources[name] = file
@@ -100,6 +98,12 @@ class Stacks:
             first, last = map(int, rest.split())
             self.free_starts.append(first)
             self.free_ends.append(last)
+
+    def add_use(self, use):
+        if use.kind != b"load":
+            self.stores.append(use)
+        if use.kind != b"store":
+            self.loads.setdefault(use.name, []).append(use)
 
     def stack(self, number):
         """The frames of a stack, the innermost first."""
@@ -139,7 +143,7 @@ class Stacks:
 class NoStacks:
     """Of a trace without such a file nothing is known."""
 
-    sources, atomics = {}, ()
+    sources, stores, loads = {}, (), {}
 
     def of_event(self, event):
         return ()
@@ -200,6 +204,7 @@ def numbers_of(file, first, count):
     return found
 
 
+@functools.lru_cache(maxsize=1024)
 def bare(function):
     """A function's name without its parameters, and without arguments of templates."""
     name = QUALIFIERS.sub(b"", function)

@@ -8,7 +8,7 @@ import typing
 from shb_common.report import BadReport
 from shb_view.faults import Refused
 from shb_view.held import Held
-from shb_view.trace import CHANGED, without_end
+from shb_view.trace import CHANGED, OPENS, fields_of, without_end
 
 BEFORE = 6  # events of a thread right before its access
 MOST_KINDS = 200_000  # accesses that are told apart: by group, line, thread, word and locks held
@@ -86,17 +86,17 @@ class Counting:
             raise BadReport("the report is of another trace: it names events that aren't accesses to its variables")
 
     def take_all(self, trace):
-        groups, recent = self.groups, self.recent
+        groups, recent = {word + name + b")": group for name, group in self.groups.items() for word in (b"r(", b"w(")}, self.recent
         for first, lines in trace.batches("counting accesses"):
             for number, line in enumerate(lines, first):
-                fields = line.split(b"|", 2)
-                thread, operation = fields[0], fields[1]
-                if len(fields) == 2:
-                    operation = without_end(operation)
-                if operation[1:2] != b"(":
+                try:
+                    thread, operation, _ = line.split(b"|", 2)
+                except ValueError:
+                    thread, operation, _ = fields_of(line)
+                if operation[1] != OPENS:
                     self.other(number, thread, operation)
-                elif operation[2:-1] in groups:
-                    self.access(number, without_end(line), operation, groups[operation[2:-1]])
+                elif operation in groups:
+                    self.access(number, without_end(line), operation, groups[operation])
                 recent[thread].append(number)
 
     def other(self, number, thread, operation):

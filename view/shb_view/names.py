@@ -46,6 +46,8 @@ def fitted(found, most):
 def isolated(found):
     """The characters as one text, kept apart from the text around it where it is read from right to left."""
     text = "".join(found)
+    if text.isascii():
+        return text
     is_right_to_left = any(unicodedata.bidirectional(character) in ("R", "AL", "AN") for character in text)
     return f"{ISOLATE}{text}{END}" if is_right_to_left else text
 
@@ -57,7 +59,8 @@ def by_numbers(location):
 
 def columns(text):
     """How many columns a text takes in a terminal."""
-    return sum(map(character_columns, "".join(text)))
+    text = "".join(text)
+    return len(text) if text.isascii() else sum(map(character_columns, text))
 
 
 def padded(text, width):
@@ -68,8 +71,10 @@ def padded(text, width):
 def characters(name):
     """The characters that a reader sees, each as a text that isn't cut. Combining marks go with the character before them,
     but where another character looks like both together: so only one of the two ways to write it is shown without escapes."""
-    found = []
-    for character in name.decode("utf-8", "surrogateescape"):
+    text, found = name.decode("utf-8", "surrogateescape"), []
+    if text.isascii() and text.isprintable() and "\\" not in text:
+        return list(text)
+    for character in text:
         is_mark = unicodedata.category(character).startswith("M")
         if not is_seen(character):
             found.append(escape(character))

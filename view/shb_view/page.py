@@ -116,8 +116,8 @@ def figure(view, window, number, access):
     if not found:
         return ""
     lock = ["holding ", *lock_parts(row.locks[-1][0])] if row.locks else [NO_LOCK]
-    caption = [element("b", number, class_="mark"), " ", code(row.event.location, NAME), f" {VERBS[view.kinds.of(access, row.event.word, row.event.name)]}, ",
-               marked(lock, NAME)]
+    verb = VERBS[view.kinds.of(access, row.event.word, row.event.name)]
+    caption = [element("b", number, class_="mark"), " ", code(row.event.location, NAME), f" {verb}, ", marked(lock, NAME)]
     lines = ""
     if found.line() is not None:
         acquire = view.source.place(window.events[row.locks[-1][1]].event.location) if row.locks else None

@@ -42,16 +42,11 @@ def publications(stacks, sites, fact):
     language gives: each as the store and the load. Where a lock tells what is missing there are none."""
     if fact.lock or fact.rank == 1:
         return []
-    racing = [site for site in sites if site.partners]
+    racing, found = [site for site in sites if site.partners], {}
     writers, others = set().union(*(site.writers for site in racing)), {thread for site in racing for thread in site.threads}
-    uses = [use for use in stacks.atomics if use.thread in others]
-    loads, found = {}, {}
-    for use in uses:
-        if use.kind != b"store":
-            loads.setdefault(use.name, []).append(use)
-    for store in uses:
-        for load in loads.get(store.name, []) if store.thread in writers and store.publishes() else []:
-            if store.thread != load.thread and not (store.gives() and load.takes()):
+    for store in stacks.stores:
+        for load in stacks.loads.get(store.name, ()) if store.thread in writers else ():
+            if load.thread in others and store.thread != load.thread and not (store.gives() and load.takes()):
                 found.setdefault((store.name, store.location, load.location), (store, load))
                 if len(found) == MOST_ATOMICS:
                     return list(found.values())

@@ -7,6 +7,7 @@ import typing
 from shb_view.faults import Refused
 
 BATCH = 65_536  # bytes of lines that are read at once
+OPENS = ord("(")  # the second byte of `r(X)` and `w(X)` alone
 CHANGED = "the trace isn't the one that `shb` read: it was changed in between"
 
 
@@ -23,6 +24,12 @@ def without_end(line):
     """A line without the LF or CR LF that ends it."""
     line = line[:-1] if line.endswith(b"\n") else line
     return line[:-1] if line.endswith(b"\r") else line
+
+
+def fields_of(line):
+    """The thread, the operation and the location of a line with its end."""
+    thread, _, rest = without_end(line).partition(b"|")
+    return (thread, *rest.partition(b"|")[::2])
 
 
 def event_of(line):
@@ -59,8 +66,9 @@ class Trace:
             self.marks.append((events, rows, place))
             if not lines:
                 break
-            rows, place = rows + len(lines), place + sum(map(len, lines))
-            lines = [line for line in lines if len(line) > 2 or without_end(line)]
+            rows, place = rows + len(lines), self.file.tell()
+            if min(map(len, lines)) <= 2:
+                lines = [line for line in lines if without_end(line)]
             yield events + 1, lines
             events += len(lines)
             self.progress.step(doing, place, self.size)

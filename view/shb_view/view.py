@@ -103,9 +103,9 @@ def make_view(options, progress):
         pairs = sum(len(group.pairs) for group in groups)
         source = Source(options.source, os.fstat(file.fileno()).st_mtime, stacks.sources if options.recorded_source else {})
         is_sample = not options.report and head.count > MOST_LISTED
-        return View(title, head.counts, head.count, listed if options.report else head.count, pairs, count, sections,
-                    given.verdict, is_sample, source, [*(shown(os.fsencode(note)) for note in options.note), *warnings(options.trace)], stacks, asked.kinds,
-                    places_of(options.only) if options.only else None)
+        notes = [*(shown(os.fsencode(note)) for note in options.note), *warnings(options.trace)]
+        return View(title, head.counts, head.count, listed if options.report else head.count, pairs, count, sections, given.verdict,
+                    is_sample, source, notes, stacks, asked.kinds, places_of(options.only) if options.only else None)
 
 
 def places_of(path):
@@ -205,28 +205,40 @@ def make_sections(asked, trace, given, groups):
     counting = Counting(variables, asked.gathered, wanted, asked.kinds)
     try:
         counting.read(trace, asked.events)
-        merged = merged_groups(groups, counting.counts)
-        sections = [make_section(*merged[number], asked, counting) for number in first_groups(merged)]
+        found = merged_groups(groups, counting.counts)
+        sections = [make_section(it.group, it.counts, asked, counting) for it in first_groups(found)]
         if asked.is_whole:
             windows = make_windows(trace, [section.group.closest() for section in sections], counting, given.order)
             sections = [section._replace(window=window) for section, window in zip(sections, windows)]
     except (IndexError, KeyError):
         raise Refused(CHANGED) from None
-    return len(merged), sections
+    return len(found), sections
+
+
+class Ranked(typing.NamedTuple):
+    """A group with its counts and the rank of its fact."""
+
+    rank: int
+    group: Group
+    counts: dict
 
 
 def merged_groups(groups, counts):
-    """The groups with their counts, those of one object as one where the same threads race in it and the same is missing."""
+    """The groups, those of one object as one where the same threads race in it and the same is missing."""
     found = {}
     for number, group in enumerate(groups):
-        sites = sites_of(group, counts[number])
-        racing = frozenset((thread, thread in site.writers) for site in sites if site.partners for thread in site.threads)
-        thing = object_of(group)
+        sites, thing = sites_of(group, counts[number]), object_of(group)
         fact = fact_of(sites, "")
+        racing = frozenset((thread, thread in site.writers) for site in sites if site.partners for thread in site.threads)
         key = (thing, fact.rank, fact.lock, racing) if thing else number
-        found.setdefault(key, []).append(number)
-    return [(joined_groups([groups[number] for number in numbers]), joined_counts([counts[number] for number in numbers]))
-            for numbers in found.values()]
+        found.setdefault(key, []).append(Ranked(fact.rank, group, counts[number]))
+    return [parts[0] if len(parts) == 1 else merged(parts) for parts in found.values()]
+
+
+def merged(parts):
+    """Several groups as one."""
+    group, counts = joined_groups([part.group for part in parts]), joined_counts([part.counts for part in parts])
+    return Ranked(fact_of(sites_of(group, counts), "").rank, group, counts)
 
 
 def joined_counts(counts):
@@ -238,10 +250,9 @@ def joined_counts(counts):
     return found
 
 
-def first_groups(merged):
-    """The numbers of the groups that are shown. Of the others nothing is kept."""
-    order = [(fact_of(sites_of(group, counts), "").rank, -group.races(), number) for number, (group, counts) in enumerate(merged)]
-    return [number for _, _, number in sorted(order)[:MOST_GROUPS]]
+def first_groups(groups):
+    """The groups that are shown. Of the others nothing is kept."""
+    return sorted(groups, key=lambda it: (it.rank, -it.group.races()))[:MOST_GROUPS]
 
 
 def make_section(group, counts, asked, counting):

@@ -5,7 +5,7 @@ import typing
 
 from shb_common.report import Race
 from shb_view.held import Held
-from shb_view.trace import Event, event_of, without_end
+from shb_view.trace import OPENS, Event, event_of, fields_of
 
 
 class Shown(typing.NamedTuple):
@@ -64,13 +64,13 @@ class Moments:
         wanted, tracked, last, end = self.wanted, self.tracked, self.last, max(self.wanted, default=0)
         for first, lines in trace.batches("reading what comes before"):
             for number, line in enumerate(lines, first):
-                fields = line.split(b"|", 2)
-                thread, operation = fields[0], fields[1]
-                if len(fields) == 2:
-                    operation = without_end(operation)
+                try:
+                    thread, operation, _ = line.split(b"|", 2)
+                except ValueError:
+                    thread, operation, _ = fields_of(line)
                 if number in wanted or operation in tracked:
                     self.note(number, thread, operation)
-                if operation[1:2] != b"(":
+                if operation[1] != OPENS:
                     self.take(number, thread, operation)
                 last[thread] = number
             if first + len(lines) > end:
