@@ -3,10 +3,10 @@
 import os
 import pathlib
 import subprocess
-import tempfile
 import threading
 import typing
-import unittest
+
+import side_by_side
 
 HERE = pathlib.Path(__file__).resolve().parent
 PATH = HERE.parent / "crates" / "shb" / "out" / "shb"
@@ -48,15 +48,8 @@ def with_settings(**settings):
     return {**os.environ, **{name: str(value) for name, value in settings.items()}}
 
 
-class Case(unittest.TestCase):
-    """A test with a folder of its own for files."""
-
-    maxDiff = None
-
-    def setUp(self):
-        room = tempfile.TemporaryDirectory()
-        self.addCleanup(room.cleanup)
-        self.folder = pathlib.Path(room.name)
+class Case(side_by_side.Case):
+    """A test of the program, with files of its own."""
 
     def file(self, text, name="t.std"):
         path = self.folder / name

@@ -1,7 +1,20 @@
-"""Runs tests two at a time, and ends with the line 'N passed, N failed': for the tests of the recorder and of the farm."""
+"""What all tests share: a test with a folder of its own, and a run of tests that ends with the line 'N passed, N failed'."""
 
 import concurrent.futures
+import pathlib
+import tempfile
 import unittest
+
+
+class Case(unittest.TestCase):
+    """A test with a folder of its own."""
+
+    maxDiff = None
+
+    def setUp(self):
+        room = tempfile.TemporaryDirectory()
+        self.addCleanup(room.cleanup)
+        self.folder = pathlib.Path(room.name)
 
 
 def each(tests):
@@ -25,11 +38,11 @@ def run(test):
     return passed
 
 
-def run_all(folder, names):
-    """Runs the tests of these names, or all of the folder, and gives the status."""
+def run_all(folder, names, at_once=2):
+    """Runs the tests of these names, or all of the folder, so many at a time, and gives the status."""
     loader = unittest.TestLoader()
     found = loader.loadTestsFromNames(names) if names else loader.discover(str(folder))
-    with concurrent.futures.ThreadPoolExecutor(2) as pool:
+    with concurrent.futures.ThreadPoolExecutor(at_once) as pool:
         passed = [done for done in pool.map(run, each(found)) if done is not None]
     print(f"{sum(passed)} passed, {len(passed) - sum(passed)} failed")
     return 0 if passed and all(passed) else 1

@@ -4,8 +4,8 @@ import pathlib
 import re
 import shutil
 import subprocess
-import tempfile
-import unittest
+
+import side_by_side
 
 TOP = pathlib.Path(__file__).resolve().parent.parent
 TOOLS = ("cat", "cp", "dirname", "find", "grep", "make", "mkdir", "mktemp", "rm", "sh", "tar")
@@ -19,13 +19,12 @@ esac
 """
 
 
-class Build(unittest.TestCase):
+class Build(side_by_side.Case):
     """A copy of what builds, without the crates; the kit on the PATH is a script, where there is one."""
 
     def setUp(self):
-        room = tempfile.TemporaryDirectory()
-        self.addCleanup(room.cleanup)
-        self.top, self.tools = pathlib.Path(room.name) / "top", pathlib.Path(room.name) / "tools"
+        super().setUp()
+        self.top, self.tools = self.folder / "top", self.folder / "tools"
         (self.top / "crates").mkdir(parents=True)
         for name in ("Makefile", "build.sh", "crates.txt", "HANDLES"):
             shutil.copy(TOP / name, self.top)

@@ -2,7 +2,6 @@
 
 import pathlib
 import sys
-import tempfile
 import types
 import unittest
 from unittest import mock
@@ -13,6 +12,7 @@ import changed
 import joint
 import kit
 import record
+import side_by_side
 
 CODE = """//! Two functions.
 
@@ -38,13 +38,11 @@ SECOND = "file: src/lib.rt\nold:         self.second\nnew:         self.first\n"
 LEFT = "file: src/lib.rt\nold:     n + 1\nnew:     1 + n\n"
 
 
-class Edits(unittest.TestCase):
+class Edits(side_by_side.Case):
     """Each test has a crate `low` with the functions `first` and `Pair::second`, and says what the checker answers."""
 
     def setUp(self):
-        room = tempfile.TemporaryDirectory()
-        self.addCleanup(room.cleanup)
-        self.folder = pathlib.Path(room.name)
+        super().setUp()
         (self.folder / "src").mkdir()
         (self.folder / "src/lib.rt").write_text(CODE)
         self.crate = types.SimpleNamespace(name="low", folder=str(self.folder))
@@ -158,13 +156,12 @@ class Edits(unittest.TestCase):
                 self.assertEqual(self.alone, [f"{name}.edit"])
 
 
-class Records(unittest.TestCase):
+class Records(side_by_side.Case):
     """A repository of two crates, the upper of which has an edit."""
 
     def setUp(self):
-        room = tempfile.TemporaryDirectory()
-        self.addCleanup(room.cleanup)
-        self.root = pathlib.Path(room.name)
+        super().setUp()
+        self.root = self.folder
         (self.root / "crates.txt").write_text("low:\nhigh: low indexmap   # a crate of the kit\n")
         self.write("crates/low/src/lib.rt", CODE)
         self.write("crates/low/specs/Lib.antt", "-- none\n")

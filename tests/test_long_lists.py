@@ -64,6 +64,16 @@ def written_at_most(size):
 
 
 class LongLists(test_refusals.Refusing):
+    def expect_front(self, words, room, wanted):
+        """What is written with so many bytes of memory before the reader goes away."""
+        started = program.start(["races", "--list", *words], **at_most(room))
+        front = started.stdout.read(FRONT)
+        started.stdout.close()
+        said = started.stderr.read()
+        started.stderr.close()
+        self.assertTrue(front == wanted, "the fronts differ")
+        self.assertEqual((started.wait(program.SECONDS), said), (4, b"cannot write\n"))
+
     def test_whole_reports(self):
         for rounds in (2, 3, 50, 200):
             trace, report = self.file(two_writers(rounds)), report_of(rounds)
@@ -78,25 +88,13 @@ class LongLists(test_refusals.Refusing):
         self.assertGreater(8 * ROUNDS * ROUNDS, room)
         trace, wanted = self.file(two_writers(ROUNDS)), front_of(ROUNDS, FRONT)
         for workers in ("1", "4"):
-            started = program.start(["races", "--list", "--workers", workers, trace], **at_most(room))
-            front = started.stdout.read(FRONT)
-            started.stdout.close()
-            said = started.stderr.read()
-            started.stderr.close()
-            self.assertTrue(front == wanted, "the fronts differ")
-            self.assertEqual((started.wait(program.SECONDS), said), (4, b"cannot write\n"))
+            self.expect_front(["--workers", workers, trace], room, wanted)
 
     def test_more_races_than_can_be_gone_through(self):
         """2^42 races of the most events, more than 4 * 10^12: counted at once, and as little memory is taken as for few."""
         self.assertEqual(MANY_ROUNDS * MANY_ROUNDS, 2**42)
         trace, wanted = self.file(two_writers(MANY_ROUNDS)), front_of(MANY_ROUNDS, FRONT)
-        started = program.start(["races", "--list", trace], **at_most(2**30))
-        front = started.stdout.read(FRONT)
-        started.stdout.close()
-        said = started.stderr.read()
-        started.stderr.close()
-        self.assertTrue(front == wanted, "the fronts differ")
-        self.assertEqual((started.wait(program.SECONDS), said), (4, b"cannot write\n"))
+        self.expect_front([trace], 2**30, wanted)
 
     def test_a_disk_that_fills_up(self):
         """All that fits is written, and it is the front of the report."""

@@ -3,17 +3,16 @@
 import pathlib
 import shutil
 import subprocess
-import tempfile
-import unittest
+
+import side_by_side
 
 TOP = pathlib.Path(__file__).resolve().parent.parent
 
 
-class NewCrate(unittest.TestCase):
+class NewCrate(side_by_side.Case):
     def setUp(self):
-        room = tempfile.TemporaryDirectory()
-        self.addCleanup(room.cleanup)
-        self.top = pathlib.Path(room.name)
+        super().setUp()
+        self.top = self.folder
         for name in ("new-crate", "HANDLES", ".gitignore"):
             shutil.copy(TOP / name, self.top)
         (self.top / "crates.txt").write_text("shb_io:\n")

@@ -5,9 +5,9 @@ import pathlib
 import shutil
 import subprocess
 import sys
-import tempfile
 import typing
-import unittest
+
+import side_by_side
 
 HERE = pathlib.Path(__file__).resolve().parent
 TOP = HERE.parents[1]
@@ -34,16 +34,13 @@ def put_program(source, target, text=None):
     subprocess.run(["install", "-m", "755", source, target], input=text, check=True)
 
 
-class Case(unittest.TestCase):
+class Case(side_by_side.Case):
     """A test with a folder of its own, in which are the folders of traces and of outcomes."""
 
-    maxDiff = None
     command = COMMAND
 
     def setUp(self):
-        room = tempfile.TemporaryDirectory()
-        self.addCleanup(room.cleanup)
-        self.folder = pathlib.Path(room.name)
+        super().setUp()
         self.traces, self.out = self.folder / "traces", self.folder / "out"
         self.traces.mkdir()
 

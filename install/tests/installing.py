@@ -7,7 +7,8 @@ import pathlib
 import shutil
 import subprocess
 import tempfile
-import unittest
+
+import side_by_side
 
 HERE = pathlib.Path(__file__).resolve().parent
 TOP = HERE.parents[1]
@@ -46,16 +47,7 @@ def contents(folder):
             for path in folder.rglob("*") if path.is_symlink() or path.is_file()}
 
 
-class Case(unittest.TestCase):
-    """A test with a folder of its own."""
-
-    maxDiff = None
-
-    def setUp(self):
-        room = tempfile.TemporaryDirectory()
-        self.addCleanup(room.cleanup)
-        self.folder = pathlib.Path(room.name)
-
+class Case(side_by_side.Case):
     def need(self, command, path=None):
         if not shutil.which(command, path=path):
             self.skipTest(f"{command} isn't installed" + (f" in {path}" if path else ""))

@@ -5,8 +5,8 @@ import pathlib
 import re
 import shutil
 import subprocess
-import tempfile
-import unittest
+
+from side_by_side import Case
 
 HERE = pathlib.Path(__file__).resolve().parent
 SOURCES = HERE.parent
@@ -85,14 +85,3 @@ def places(trace):
     """The pairs of places that the analyser lists for a trace, without order."""
     listed = must(call(SHB, "races", "--list", input=trace)).stdout.decode()
     return {tuple(sorted(pair)) for pair in re.findall(r"^at (.*)\nand (.*)$", listed, re.M)}
-
-
-class Case(unittest.TestCase):
-    """A test with a folder of its own."""
-
-    maxDiff = None
-
-    def setUp(self):
-        room = tempfile.TemporaryDirectory()
-        self.addCleanup(room.cleanup)
-        self.folder = pathlib.Path(room.name)
