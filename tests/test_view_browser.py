@@ -56,6 +56,14 @@ document.body.textContent = "FOUND" + JSON.stringify(found) + "END";
 </script>
 </body>"""
 
+BLANKS = """
+<script>
+"use strict";
+const seen = (where) => [...new Set([...document.querySelectorAll(where)].map((name) => name.innerText))];
+document.body.textContent = "FOUND" + JSON.stringify([seen("#groups a code"), seen("table.sites tbody td:nth-child(3) code")]) + "END";
+</script>
+</body>"""
+
 
 class Browser(program.Case):
     """Where no browser is installed each test says so and tries nothing."""
@@ -125,6 +133,17 @@ class Browser(program.Case):
             self.assertEqual(found["all"], found["first"])
             self.assertEqual(found["linked"][:2], [f"{fifty},56"] * 2)
             self.assertEqual(found["next"], [sixty, sixty, "60 of 60 groups", ""])
+
+    def test_blanks_in_names_are_kept(self):
+        """Else names that differ look the same."""
+        browser = self.browser()
+        if browser:
+            events = [f"{thread}|w({name})|{place}.c:1\n" for place, name in enumerate(("a b", "a  b", "a b ")) for thread in (" T1", "T1")]
+            page = self.page(self.file("".join(events).encode()))
+            text = re.sub(r"<meta http-equiv[^>]*>", "", page.read_text(encoding="utf-8"))
+            page.write_text(text.replace("</body>", BLANKS), encoding="utf-8")
+            found = json.loads(re.search(r"FOUND(.*?)END", self.shown(browser, page)).group(1))
+            self.assertEqual(found, [["a b", "a  b", "a b "], [" T1", "T1"]])
 
     def test_all_groups_are_printed(self):
         """As many pages of paper as without the script."""

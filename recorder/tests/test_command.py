@@ -59,6 +59,26 @@ class Command(recorder.Case):
         self.assertRegex(text_of(self.folder / "status.shb" / "places.tsv"),  # main forks both, then each writes
                          r"^status.c:9\tstatus.c:9\tunknown\t\d+\t\d+\trun 1, process \d+\trun1\.\d+\.std\n$")
 
+    def test_code_where_the_sources_were_moved(self):
+        """The debug information has the old paths."""
+        sources, program = self.folder / "src", self.folder / "program"
+        recorder.must(recorder.call("gcc", "-w", "-g", "-O1", "-fsanitize=thread", "-pthread", *recorder.two_of_one_name(sources), "-o", program))
+        sources.rename(self.folder / "moved")
+        for words, has_code in (((), False), (("--source", self.folder / "moved"), True)):
+            status, _, said = self.record(*words, program)
+            page, = (self.folder / "program.shb").glob("*.html")
+            self.assertEqual((status, "     | void *a(void *x) { one = 2; return 0; }\n" in said,
+                              "<code>void *a(void *x) { one = 2; return 0; }</code>" in text_of(page)), (66, has_code, has_code), said)
+
+    def test_one_word_for_one_thing(self):
+        """Two lines that race are a place, places that share a variable a group; where nothing is locked that is said of the access."""
+        _, _, said = self.record(self.program(), "0", "race")
+        page, = (self.folder / "status.shb").glob("*.html")
+        for shown in said, text_of(page):
+            self.assertIn("1 race at 1 place, in 1 group", shown)
+            self.assertIn("no lock held", shown)
+            self.assertNotRegex(shown, "(?i)pairs? of (lines|locations)|location pair|lock in the trace|without a lock")
+
     def test_a_pair_that_races_in_both_orders_is_shown_with_all_its_races(self):
         """x is written by one thread first, and then by the other; y by the other first."""
         status, _, said = self.record(self.program("both_orders.c"))
