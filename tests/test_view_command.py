@@ -320,17 +320,17 @@ class Files(Fake):
 
 class Statuses(Fake):
     def test_words(self):
-        self.assertEqual(run([]).status, 2)
+        self.assertEqual(run([]).status, 3)
         self.assertEqual(run(["--help"]).status, 0)
         answer = run(["a", "b", "c\x1b[31m"])
-        self.assertEqual((answer.status, answer.out), (2, b""))
+        self.assertEqual((answer.status, answer.out), (3, b""))
         self.assertTrue(answer.err.endswith(b"shb-view: unrecognized arguments: c\\x1b[31m\n"))
         self.assertNotIn(b"\x1b", answer.err)
 
-    def test_a_nul_in_a_path(self):
+    def test_a_nul_in_a_word(self):
         with self.assertRaises(SystemExit) as ended:
             run_here(["a\0b"])
-        self.assertEqual(ended.exception.code, 2)
+        self.assertEqual(ended.exception.code, 3)
 
     def test_a_full_disk(self):
         with open("/dev/full", "wb") as full:

@@ -20,8 +20,8 @@ from shb_farm.sources import Sources
 
 ABOUT = """\
 Analyses all traces in a folder and below, and joins what was found: a row for
-each pair of locations with a race, with the number of traces that have it. A
-trace is NAME.std, NAME.std.gz or NAME.std.xz; links are followed. Each trace
+each place, a pair of locations with a race, with the number of traces that have
+it. A trace is NAME.std, NAME.std.gz or NAME.std.xz; links are followed. Each trace
 ends as a file in OUT/outcomes, put in place whole and last. To resume, or when
 traces or the program have changed, run the same command again: it makes what
 isn't there yet."""
@@ -46,10 +46,10 @@ Known places:
 
 Exit status:
   The first that applies:
-  2  wrong command line
+  3  wrong command line
   4  no trace, or a folder, a file or an engine failed; the reason is on standard
      error
-  3  a trace has no outcome: it is missing
+  2  a trace has no outcome: it is missing
   1  there is a place that isn't known
   5  a trace was refused, or memory, time or size didn't suffice
   0  none of these
@@ -265,7 +265,7 @@ def main(words):
     try:
         return run(arguments(words))
     except BadWords as fault:
-        status, said = 2, str(fault)
+        status, said = 3, str(fault)
     except (Refused, engines.NotInstalled) as refused:
         said = str(refused)
     except OSError as fault:

@@ -70,7 +70,7 @@ def status_of(rows, endings):
     """The exit status: the first of these that applies."""
     kinds = {ending.kind for ending in endings.values()}
     if "missing" in kinds or any(row.report == "missing" for row in rows):
-        return 3
+        return 2
     if any(not row.is_known for row in rows):
         return 1
     return 5 if kinds - {"report"} else 0

@@ -157,7 +157,7 @@ def log(found, sources, accesses):
     run = {
         "tool": {"driver": {"name": "shb", **({"version": installed} if installed else {}), "rules": [RULE]}},
         "originalUriBaseIds": {name: {"description": {"text": text}} for name, text in BASES.items()},
-        "invocations": [{"executionSuccessful": status != 3, "exitCode": status, "toolExecutionNotifications": said}],
+        "invocations": [{"executionSuccessful": status != 2, "exitCode": status, "toolExecutionNotifications": said}],
         "results": [{**result_of(row, len(endings), sources, seen), **code_flows(accesses.get(row.pair, ()), sources)} for row in rows],
     }
     return (json.dumps({"$schema": SCHEMA, "version": "2.1.0", "runs": [run]}, indent=1) + "\n").encode()

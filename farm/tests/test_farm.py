@@ -62,7 +62,7 @@ class Tables(farm.Case):
         self.trace("no-trace.txt", BAD)
         (self.traces / "gone.std").symlink_to("nowhere")
         answer = self.farm("--known", self.known(b"k.c:1\tk.c:2\n"))
-        self.assertEqual((answer.status, answer.out), (3, FULL_TEXT))
+        self.assertEqual((answer.status, answer.out), (2, FULL_TEXT))
         for name, wanted in (("places.txt", FULL_TEXT), ("places.tsv", FULL_PLACES), ("traces.tsv", FULL_TRACES),
                              ("unknown.places", "a.c:1\tb.c:2\n")):
             self.assertEqual((self.out / name).read_text(), wanted)
@@ -76,7 +76,7 @@ class Tables(farm.Case):
                                               "NAME.std.gz or NAME.std.xz)\n"))
         (self.traces / "nightly").symlink_to("not mounted")
         answer = self.farm()
-        self.assertEqual((answer.status, self.ends()), (3, {"nightly": ("missing", "No such file or directory")}))
+        self.assertEqual((answer.status, self.ends()), (2, {"nightly": ("missing", "No such file or directory")}))
 
     def test_a_program_that_writes_no_whole_report(self):
         self.trace("race.std", RACE)
@@ -90,12 +90,12 @@ class Tables(farm.Case):
             shb = self.script(f"shb{number}", f"{farm.SHB} \"$@\" | {words}\n")
             answer = self.farm("--memory", "256", shb=shb)
             end = ("missing", f"`shb` wrote no whole report: {wanted}") if wanted else ("report", "events 2 threads 2 locks 0 variables 1")
-            self.assertEqual((answer.status, self.ends()["race.std"]), (3 if wanted else 1, end))
+            self.assertEqual((answer.status, self.ends()["race.std"]), (2 if wanted else 1, end))
 
     def test_a_full_report_that_is_not_whole(self):
         self.trace("race.std", RACE)
         shb = self.script("cut", f"case \"$*\" in *--list*) exec {farm.SHB} \"$@\" ;; esac\n{farm.SHB} \"$@\" | head -n -1\n")
-        self.assertEqual(self.farm("--memory", "256", shb=shb).status, 3)
+        self.assertEqual(self.farm("--memory", "256", shb=shb).status, 2)
         self.assertEqual(self.table("places.tsv"), [["1", "unknown", "a.c:1", "b.c:2", "race.std", "missing"]])
         self.assertEqual(list((self.out / "reports").glob("*.report")), [])
 
@@ -115,15 +115,15 @@ class Tables(farm.Case):
         self.assertEqual(self.farm().status, 1)
         self.assertEqual(self.farm("--known", known).status, 5)
         (self.traces / "gone.std").symlink_to("nowhere")
-        self.assertEqual(self.farm("--known", known).status, 3)
-        self.assertEqual(self.farm().status, 3)
+        self.assertEqual(self.farm("--known", known).status, 2)
+        self.assertEqual(self.farm().status, 2)
 
     def test_what_cannot_run_has_a_status_of_its_own(self):
         self.trace("race.std", RACE)
         for words, status, said in (
-                (["--engine", "none"], 2, "argument --engine: invalid choice: 'none'"),
-                (["--memory", "0"], 2, "argument --memory: it takes numbers from 1 on"),
-                (["--memory", "x"], 2, "argument --memory: invalid numbers value: 'x'"),
+                (["--engine", "none"], 3, "argument --engine: invalid choice: 'none'"),
+                (["--memory", "0"], 3, "argument --memory: it takes numbers from 1 on"),
+                (["--memory", "x"], 3, "argument --memory: invalid numbers value: 'x'"),
                 (["--known", self.folder / "none"], 4, f"{self.folder}/none: No such file or directory"),
                 (["--known", self.known(b"# one\nno tab\n")], 4,
                  f"{self.folder}/known: line 2: a place is two locations or functions with a tab between them")):
@@ -201,7 +201,7 @@ class Names(farm.Case):
         (self.traces / "folder.std").mkdir()
         self.trace("folder.std/inner.std", CLEAN)
         os.mkfifo(self.traces / "pipe.std")
-        self.assertEqual(self.farm().status, 3)
+        self.assertEqual(self.farm().status, 2)
         self.assertEqual({name: end[1] for name, end in self.ends().items() if end[0] == "missing"}, {"pipe.std": "not a regular file"})
         self.assertIn("folder.std/inner.std", self.ends())
 
@@ -257,7 +257,7 @@ class Names(farm.Case):
     def test_a_name_that_is_too_long_for_an_outcome_is_missing(self):
         self.trace("n" * 251 + ".std", RACE)
         answer = self.farm()
-        self.assertEqual(answer.status, 3)
+        self.assertEqual(answer.status, 2)
         self.assertIn("File name too long", answer.err)
 
     def test_outcomes_in_the_folder_of_the_traces(self):

@@ -65,7 +65,7 @@ exit 4
         self.trace("race.std", RACE)
         limit = lambda: resource.setrlimit(resource.RLIMIT_AS, (900 * MIB, 900 * MIB))
         ran = subprocess.run(self.words("--memory", "1000"), env=self.environment(), capture_output=True, preexec_fn=limit)
-        self.assertEqual(ran.returncode, 3)
+        self.assertEqual(ran.returncode, 2)
         self.assertIn(b"shb-farm: race.std: the machine's limit of memory is lower than that of the pass\n", ran.stderr)
         self.assertFalse((self.out / "outcomes").exists())
 
@@ -127,7 +127,7 @@ class Ends(farm.Case):
     def test_what_failed_is_missing_with_its_words_and_tried_again(self):
         self.trace("race.std", RACE)
         shb = self.script("failing", f'[ -e "$0.well" ] && exec {farm.SHB} "$@"\necho some words >&2\nexit 7\n')
-        self.assertEqual(self.farm(shb=shb).status, 3)
+        self.assertEqual(self.farm(shb=shb).status, 2)
         self.assertEqual(self.ends()["race.std"], ("missing", "status 7 some words"))
         (self.folder / "failing.well").touch()
         self.assertEqual(self.farm(shb=shb).status, 1)
@@ -140,6 +140,6 @@ class Ends(farm.Case):
     def test_a_trace_that_changes_while_it_is_read_is_missing(self):
         trace = self.trace("race.std", RACE)
         shb = self.script("changing", f"echo 'T1|w(y)' >> {trace}\nexec {farm.SHB} \"$@\"\n")
-        self.assertEqual(self.farm("--memory", "256", shb=shb).status, 3)
+        self.assertEqual(self.farm("--memory", "256", shb=shb).status, 2)
         self.assertEqual(self.ends()["race.std"], ("missing", "it has changed since"))
         self.assertEqual(self.farm().status, 1)

@@ -129,13 +129,13 @@ class Engines(farm.Case):
 
     def test_lost_jobs_are_missing(self):
         answer = self.engine("exit 0\n")
-        self.assertEqual(answer.status, 3)
+        self.assertEqual(answer.status, 2)
         self.assertEqual(set(self.ends().values()), {("missing", "its job didn't end")})
         self.assertIn("traces 7 reports 0 refused 0 missing 7\n", answer.out)
 
     def test_one_lost_job_is_missing_and_taken_up(self):
         answer = self.engine(f"grep -v '^0$' | {self.xargs} \"$@\"\n")
-        self.assertEqual(answer.status, 3)
+        self.assertEqual(answer.status, 2)
         self.assertEqual([end[0] for end in self.ends().values()].count("missing"), 1)
         self.assertEqual(self.farm().status, 1)
         self.assertIn("traces 7 reports 6 refused 1 missing 0\n", self.farm().out)
@@ -157,7 +157,7 @@ class Engines(farm.Case):
         place = self.out / "outcomes" / "bad.std.outcome"
         place.mkdir(parents=True)
         answer = self.farm()
-        self.assertEqual(answer.status, 3)
+        self.assertEqual(answer.status, 2)
         self.assertEqual(self.ends()["bad.std"], ("missing", "its job didn't end"))
         self.assertRegex(answer.err, r"(?m)^shb-farm: bad\.std: .*: Is a directory$")
         place.rmdir()
@@ -202,7 +202,7 @@ echo '17;loop'
         self.assertIn(" --partition=night --wrap ", (self.folder / "submitted").read_text())
         answer = self.slurm("exit 0\n", None, "--sbatch", "--comment='x")
         self.assertEqual((answer.status, answer.err.splitlines()[0]),
-                         (2, "shb-farm: argument --sbatch: No closing quotation in --comment='x"))
+                         (3, "shb-farm: argument --sbatch: No closing quotation in --comment='x"))
 
     def test_a_controller_that_does_not_answer_is_said_once(self):
         squeue = f"""[ -e {self.folder}/twice ] && exit 0
@@ -236,7 +236,7 @@ exit 1
     def test_a_held_task_is_given_up_and_missing(self):
         held = "[ \"$1 $2 $3\" = '--noheader --jobs=17 --format=%T %r' ] && echo 'PENDING launch failed requeued held'\n"
         answer = self.slurm(held)
-        self.assertEqual(answer.status, 3)
+        self.assertEqual(answer.status, 2)
         self.assertEqual([end[0] for end in self.ends().values()], ["report", "report", "missing"])
         self.assertEqual(set((self.folder / "cancelled").read_text().split()), {"17"})
         self.assertEqual(self.slurm("exit 0\n", LOST=1).status, 1)
@@ -246,7 +246,7 @@ exit 1
 
     def test_a_refusal_is_said_and_the_traces_are_missing(self):
         answer = self.slurm("exit 0\n", "echo 'no such partition' >&2; exit 1\n")
-        self.assertEqual(answer.status, 3)
+        self.assertEqual(answer.status, 2)
         self.assertIn("shb-farm: sbatch ended with status 1: no such partition\n", answer.err)
 
 

@@ -22,6 +22,7 @@ typedef struct { map_entry *entries; u64 count, capacity; } map;
 extern const char *program_name;       /* as messages begin */
 extern int failed_status;
 void die(const char *format, ...) __attribute__((noreturn, format(printf, 1, 2)));
+void bad_words(void) __attribute__((noreturn));              /* the command line is wrong */
 void *zeroed(size_t count, size_t size);
 void *grown(void *array, u64 count, u64 *capacity, size_t size);
 #define GROW(array, count, capacity) ((array) = grown((array), (count), &(capacity), sizeof *(array)))  /* by one */

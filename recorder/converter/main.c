@@ -12,7 +12,7 @@
 #include <unistd.h>
 #include "converter.h"
 
-enum { SHB_THREADS = 1024, SHB_EVENTS = 4194304, NOT_WHOLE = 3 };   /* the status where the trace is a part of the run */
+enum { SHB_THREADS = 1024, SHB_EVENTS = 4194304, NOT_WHOLE = 1 };   /* the status where the trace is a part of the run */
 #define MAX_RANGE_STEPS (1ull << 28)   /* in a pass: seconds */
 
 static int is_of_stack(enum operation operation) { return operation >= OP_FRAME && operation <= OP_DEPTH; }
@@ -107,12 +107,10 @@ static const char help[] =
     "  -p             whole paths\n"
     "  -h, --help     this text\n"
     "\n"
-    "Exit status: 0; 2 wrong command line, or nothing can be said; 3 the trace was written, and isn't the\n"
-    "whole run.\n" VERSION_LINE;
+    "Exit status: 0; 1 the trace was written, and isn't the whole run; 2 nothing can be said; 3 wrong\n"
+    "command line.\n" VERSION_LINE;
 
 static const char *windows_folder, *stacks_path;
-
-static void bad_words(void) { die("bad command line; shb-std --help says more"); }
 
 static void read_words(int count, char **words) {
     static const struct option options[] = {{"windows", required_argument, 0, 'w'}, {"stacks", required_argument, 0, 's'},

@@ -18,6 +18,11 @@ void die(const char *format, ...) {
     exit(failed_status);
 }
 
+void bad_words(void) {
+    failed_status = 3;
+    die("bad command line; %s --help says more", program_name);
+}
+
 /* A long array is in large pages where the system has them: fewer faults, and fewer pages to look up. The whole mapping is,
    with the allocator's words before the array; else it could not be moved when it grows. */
 static void *in_large_pages(void *array, size_t bytes) {

@@ -76,7 +76,7 @@ def convert(path, *options):
 
 def part(answer):
     """The answer of the converter where the trace is a part of the run."""
-    if answer.returncode != 3:
+    if answer.returncode != 1:
         raise AssertionError(f"{answer.args}: status {answer.returncode}\n{answer.stderr.decode(errors='replace')}")
     return answer
 

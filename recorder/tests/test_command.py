@@ -391,11 +391,12 @@ class Command(recorder.Case):
         self.assertEqual((status, "nothing of the run was recorded" in said), (125, True), said)
 
     def test_a_wrong_command_line(self):
-        """Of every command: 2, but 3 where the specification says so, and 125 where a program is run, whose own status may be 2."""
+        """Of every command: 3, but 125 where a program is run, whose own status may be 3."""
         top = recorder.SOURCES.parent
-        commands = {recorder.SHB: 3, recorder.BUILT / "shb-record": 125, top / "view" / "shb-view": 2, top / "farm" / "shb-farm": 2,
-                    recorder.BUILT / "shb-std": 2, recorder.BUILT / "shb-windows": 2}
-        for command, wanted in commands.items():
+        commands = [recorder.SHB, recorder.BUILT / "shb-record", top / "view" / "shb-view", top / "farm" / "shb-farm",
+                    recorder.BUILT / "shb-std", recorder.BUILT / "shb-windows"]
+        for command in commands:
+            wanted = 125 if command.name == "shb-record" else 3
             answer = recorder.call(command, "--nonsense", cwd=self.folder)
             self.assertEqual((answer.returncode, answer.stdout), (wanted, b""), command)
             self.assertTrue(answer.stderr, command)

@@ -225,7 +225,7 @@ class Damaged(recorder.Case):
     def convert(self, converter, record):
         answer = recorder.call(converter, "--stacks", self.folder / "app.stacks", record,
                                env={**os.environ, "ASAN_OPTIONS": "detect_leaks=0"})
-        self.assertIn(answer.returncode, (0, 2, 3), answer.stderr[-2000:])
+        self.assertIn(answer.returncode, (0, 1, 2), answer.stderr[-2000:])
         if answer.returncode != 2:
             recorder.places(answer.stdout)  # it is a trace that shb takes
         self.assertIn(b"shb-std: ", answer.stderr)

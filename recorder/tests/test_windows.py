@@ -173,8 +173,8 @@ class Windows(recorder.Case):
         self.assertIn(b"a window has no room for the locks that are held at event 4", answer.stderr)
 
     def test_words(self):
-        for words, status, said in ((("-x",), 2, b"bad command line"), (("-n", "0", "-o", self.folder), 2, b"bad command line"),
-                                    ((), 2, b"bad command line"), (("-o", self.folder, "none"), 4, b"cannot open none"),
+        for words, status, said in ((("-x",), 3, b"bad command line"), (("-n", "0", "-o", self.folder), 3, b"bad command line"),
+                                    ((), 3, b"bad command line"), (("-o", self.folder, "none"), 4, b"cannot open none"),
                                     (("-o", "/dev/null", "/dev/null"), 4, b"cannot write to /dev/null")):
             answer = recorder.call(recorder.BUILT / "shb-windows", *words)
             self.assertEqual((answer.returncode, said in answer.stderr), (status, True), answer.stderr)

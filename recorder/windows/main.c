@@ -6,7 +6,7 @@
 #include <unistd.h>
 #include "../converter/converter.h"
 
-enum { SHB_EVENTS = 4194304, BAD_WORDS = 2, REFUSED = 2, FAILED = 4, LINE_ROOM = 1 << 20 };
+enum { SHB_EVENTS = 4194304, REFUSED = 2, FAILED = 4, LINE_ROOM = 1 << 20 };
 
 static const char help[] =
     "usage: shb-windows [-n EVENTS] -o DIR [TRACE]\n"
@@ -22,16 +22,11 @@ static const char help[] =
     "  -o DIR      the folder; it is made if it isn't there\n"
     "  -h, --help  this text\n"
     "\n"
-    "Exit status: 0; 2 wrong command line, or the trace is refused, as shb would refuse it;\n"
+    "Exit status: 0; 2 the trace is refused, as shb would refuse it; 3 wrong command line;\n"
     "4 a file can't be read or written.\n" VERSION_LINE;
 
 static const char *folder;
 static u64 most_events = SHB_EVENTS;
-
-static void bad_words(void) {
-    fputs("shb-windows: bad command line; shb-windows --help says more\n", stderr);
-    exit(BAD_WORDS);
-}
 
 /* Gives the trace's path, or null for standard input. */
 static const char *read_words(int count, char **words) {

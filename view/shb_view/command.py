@@ -19,15 +19,15 @@ ABOUT = """\
 Explains the races of a trace: runs `shb` for them, and says for each group of lines
 that share a variable which lines use it, in which threads and under which locks."""
 STATUS = """\
-Exit status: 0 shown; 1 the report is bad; 2 nothing could be shown: wrong command line, the
-trace is refused, `shb` failed, or a file can't be read or written. SHB=PROGRAM names
+Exit status: 0 shown; 1 the report is bad; 2 nothing could be shown: the trace is refused,
+`shb` failed, or a file can't be read or written; 3 wrong command line. SHB=PROGRAM names
 another `shb`."""
 
 
 class Parser(argparse.ArgumentParser):
     def error(self, message):
         self.print_usage(sys.stderr)
-        self.exit(2, f"{self.prog}: {shown(os.fsencode(message))}\n")
+        self.exit(3, f"{self.prog}: {shown(os.fsencode(message))}\n")
 
 
 def arguments(words, program):
