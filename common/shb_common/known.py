@@ -12,7 +12,8 @@ import itertools
 import re
 import types
 
-MARK = b"\xef\xbb\xbf"      # some editors put it before the first line
+from shb_common.refused import MARK
+
 STAR = re.compile(rb"\\\*|\*")
 
 
