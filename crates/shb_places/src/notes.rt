@@ -76,12 +76,9 @@ fn is_class(classes: &[Class], c: u32, s: u32, access: Access) -> bool
     }
 }
 
-/// The thread and the kind of an access, as one number.
-fn kind_of(access: Access) -> u32 {
-    access
-        .thread
-        .wrapping_mul(2)
-        .wrapping_add(u32::from(access.writes))
+/// A thread and a kind, as one number.
+fn kind_of(thread: u32, writes: bool) -> u32 {
+    thread.wrapping_mul(2).wrapping_add(u32::from(writes))
 }
 
 /// Adds a link before which the link `previous` stands.
@@ -170,13 +167,30 @@ impl Notes {
     fn class_of(&self, s: u32, access: Access) -> Option<u32>
         ensures { IfSome result (IsClassOf self.now.classes.items s access) }
     {
-        let Some(c) = self.numbers.get(s, kind_of(access)) else {
+        let newest = self.head_of(s, access.writes);
+        if is_class(self.classes.as_slice(), newest, s, access) {
+            return Some(newest);
+        }
+        let Some(c) = self.numbers.get(s, kind_of(access.thread, access.writes)) else {
             return None;
         };
         if is_class(self.classes.as_slice(), c, s, access) {
             return Some(c);
         }
         None
+    }
+
+    /// Notes the newest class of a site and kind before another one comes: the newest one is found without the
+    /// table, so a site with one class takes no slot.
+    fn note_newest(&mut self, s: u32, writes: bool) -> Result<(), NoMemory>
+        ensures { OnOk result (tables_of self.new ≡ tables_of self.old) }
+    {
+        let newest = self.head_of(s, writes);
+        let Some(class) = self.classes.get(newest as usize) else {
+            return Ok(());
+        };
+        self.numbers
+            .insert(class.site, kind_of(class.thread, class.writes), newest)
     }
 
     /// Adds an access to a class.
@@ -221,8 +235,8 @@ impl Notes {
         if let Some(c) = self.class_of(s, access) {
             return self.extend(c, access.event, local);
         }
-        let c = self.begin(s, access, local)?;
-        self.numbers.insert(s, kind_of(access), c)?;
+        self.note_newest(s, access.writes)?;
+        self.begin(s, access, local)?;
         Ok(())
     }
 

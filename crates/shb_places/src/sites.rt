@@ -66,6 +66,10 @@ impl Sites {
     fn known(&self, variable: u32, location: u32) -> Option<u32>
         ensures { IfSome result (IsSite self.now.sites.items variable location) }
     {
+        let newest = self.newest_of(variable);
+        if is_site(self.sites.as_slice(), newest, variable, location) {
+            return Some(newest);
+        }
         let Some(s) = self.numbers.get(variable, location) else {
             return None;
         };
@@ -73,6 +77,19 @@ impl Sites {
             return Some(s);
         }
         None
+    }
+
+    /// Notes the newest site of a variable before another one comes: the newest one is found without the table, so
+    /// a variable with one site takes no slot.
+    fn note_newest(&mut self, variable: u32) -> Result<(), NoMemory>
+        ensures newest { OnOk result (self.new.newest ≡ self.old.newest) }
+        ensures sites { OnOk result (self.new.sites ≡ self.old.sites) }
+    {
+        let newest = self.newest_of(variable);
+        let Some(site) = self.sites.get(newest as usize) else {
+            return Ok(());
+        };
+        self.numbers.insert(site.variable, site.location, newest)
     }
 
     /// A new site.
@@ -106,8 +123,7 @@ impl Sites {
         if let Some(s) = self.known(variable, location) {
             return Ok(s);
         }
-        let s = self.add(variable, location)?;
-        self.numbers.insert(variable, location, s)?;
-        Ok(s)
+        self.note_newest(variable)?;
+        self.add(variable, location)
     }
 }
