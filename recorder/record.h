@@ -8,7 +8,7 @@
    Then records of 16 bytes in the order in which things happened, until one of zeros or the file's end. */
 #include <stdint.h>
 
-#define RECORD_MAGIC "shb-record 4\n"
+#define RECORD_MAGIC "shb-record 5\n"
 #define LINE_END_IN_PATH 1
 #define HEADER_BYTES 65536
 #define ENDED_BYTES 256
@@ -25,12 +25,22 @@
 #define MAX_SIZE (1ull << 36)          /* of a range; none is as long */
 #define THREAD_NUMBERS 65534           /* a joined thread's is used again when there is no new one: each fork begins another thread */
 #define MOST_FRAMES 16384              /* of a thread; those further in aren't recorded */
+#define NAME_PIECE 12                  /* so many bytes of a thread's name stand in a record OP_NAME, as in piece_of_name */
 #define ATOMIC_SIZE_BITS 5             /* of an atomic access: the memory order stands above the size, as __ATOMIC_.. */
 
 struct record {
     uint64_t where;                    /* 48 bits: the address (of a fork or join: the other thread); 16: the thread */
     uint64_t what;                     /* 48 bits: the return address of the call; 6: the operation; 10: the size */
 };
+
+/* A piece of a name, and an end; what is behind the name is zeros. */
+static inline void piece_of_name(struct record r, char piece[NAME_PIECE + 1]) {
+    for (int k = 0; k < NAME_PIECE / 2; k++) {
+        piece[k] = r.where >> 8 * k;
+        piece[k + NAME_PIECE / 2] = r.what >> 8 * k;
+    }
+    piece[NAME_PIECE] = 0;
+}
 
 /* Of the entry with this number, from 0. */
 static inline uint64_t entry_sum(uint64_t number, struct record r) {
@@ -52,5 +62,7 @@ enum operation {
     OP_WAY,                            /* of the record behind it, a frame too: its caller is code without hooks, which the
                                           innermost function called from here */
     OP_DEPTH,                          /* the size is how many of these it is in now; so is one more than that of an OP_FRAME */
+    OP_NAME,                           /* a piece of the name that the program gives the thread: the size is 0 in its first one,
+                                          and NAME_PIECE in another right behind it, where there is more */
     OPERATIONS
 };

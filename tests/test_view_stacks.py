@@ -59,6 +59,14 @@ class Stacks(program.Case):
         self.assertIn("   thread T1 was created in main a.c:30\n", out)
         self.assertIn("   block a.c:9#2 was allocated in make a.c:9, from main a.c:31\n", out)
 
+    def test_where_a_fiber_was_made(self):
+        tables, path = TABLES.replace(b"sorter", b"__tsan_create_fiber"), self.folder / "page.html"
+        _, out, err = self.shown(stacks(tables=tables), "--html", path)
+        self.assertEqual(err, "")
+        self.assertIn("get a.c:7libc.so.6+0x10__tsan_create_fiber (which made the fiber)main a.c:31",
+                      [text for _, text in Page(path.read_text()).all("ol", "stack")])
+        self.assertIn("       from __tsan_create_fiber (which made the fiber)\n       from main a.c:31\n", self.shown(stacks(tables=tables))[1])
+
     def test_stacks_that_differ_in_what_is_not_shown_are_one(self):
         """One of the two ways to a line goes through a system header, which the text leaves out."""
         tables = TABLES + b"system-frame std::less(f)\tless.h:9\nstack 10 3 2 10\nstack 11 4 10 2\nstack 12 4 2\n"

@@ -40,6 +40,7 @@ enum { RECORDS_AT_ONCE = 1 << 20 };    /* a multiple of a page's; so many are in
 void forget_records(u64 from, u64 end);
 enum operation operation_of(u64 i);
 u64 address_of(u64 i), caller_of(u64 i), size_of(u64 i);
+void name_piece(u64 i, char *piece);   /* of a record OP_NAME: NAME_PIECE bytes and an end */
 u64 depth_inside(u64 i);               /* DEPTH_BEFORE where it is told by records before */
 extern u32 thread_count;               /* of those met in this pass */
 void begin_thread_pass(void);
@@ -150,7 +151,8 @@ void add_to_list(u32 *list, u32 thread);
 extern u64 event_limit, events;
 extern int into_windows;               /* the events go to windows, and no limit cuts them */
 extern const char *cut_reason;         /* null while the trace goes on */
-void name_thread(u32 t, u64 function);
+void name_thread(u32 t, u64 function); /* by the function that it runs, where it has no other name */
+void give_name(u32 t, const char *piece, int is_first);      /* a piece of one that the program gave; the main thread keeps its own */
 const char *thread_name(u32 t);        /* with an end */
 u64 thread_epoch(u32 t);               /* it grows with each event of the thread that could order another */
 part name_of_thread(u32 t);

@@ -10,13 +10,37 @@ u64 event_limit = SHB_EVENTS, events;
 int into_windows;
 const char *cut_reason;
 static u64 bytes;
-static struct { char name[THREAD_BYTES]; u32 length, in_windows; u64 epoch; } threads[THREADS];   /* in_windows: its number in windows.c */
+static struct {
+    char name[THREAD_BYTES];
+    u32 length, in_windows;            /* in_windows: its number in windows.c */
+    u64 epoch;
+    int is_given;                      /* the program gave it the name */
+} threads[THREADS];
+
+static void set_name(u32 t, const char *name) {
+    snprintf(threads[t].name, sizeof threads[t].name, "T%u%s%s", t, *name ? "." : "", name);
+    threads[t].length = strlen(threads[t].name);
+}
 
 void name_thread(u32 t, u64 function) {
     char of_function[60];
-    int named = *function_name(function, of_function, sizeof of_function);
-    snprintf(threads[t].name, sizeof threads[t].name, "T%u%s%s", t, named ? "." : "", of_function);
-    threads[t].length = strlen(threads[t].name);
+    if (!threads[t].is_given) set_name(t, function_name(function, of_function, sizeof of_function));
+}
+
+/* Not as it was given are what would end a field or a line, and the signs behind which names of locks and variables name a thread
+   or a block. */
+static void clean_name(char *name) {
+    for (; *name; name++)
+        if ((unsigned char)*name < ' ' || strchr("|!@#", *name)) *name = '_';
+}
+
+void give_name(u32 t, const char *piece, int is_first) {
+    char name[THREAD_BYTES];
+    if (!t || !*piece || (!is_first && !threads[t].is_given)) return;
+    snprintf(name, sizeof name, "%s%s", is_first ? "" : strchr(threads[t].name, '.') + 1, piece);
+    clean_name(name);
+    set_name(t, name);
+    threads[t].is_given = 1;
 }
 
 part name_of_thread(u32 t) {

@@ -21,12 +21,19 @@ static void meet_record(u64 i) {
     enum operation operation = operation_of(i);
     find_users(i);
     if (is_of_stack(operation)) note_call(i);
-    if (operation == OP_READ || operation == OP_WRITE || is_of_stack(operation)) return;
+    if (operation == OP_READ || operation == OP_WRITE || operation == OP_NAME || is_of_stack(operation)) return;
     if (operation == OP_FENCE) has_fences = 1;
     note_caller(caller_of(i));
 }
 
+static void meet_name(u64 i) {
+    char piece[NAME_PIECE + 1];
+    name_piece(i, piece);
+    give_name(thread_of(i), piece, size_of(i) == 0);
+}
+
 static void find_sharing(u64 i) {
+    if (operation_of(i) == OP_NAME) meet_name(i);
     if (operation_of(i) == OP_START && thread_of(i)) name_thread(thread_of(i), caller_of(i));
     share_pieces(i);
     if (operation_of(i) == OP_FENCE) share_fence(i);

@@ -55,6 +55,8 @@ u64 size_of(u64 i) {
     return inside & IS_RANGE ? inside - IS_RANGE : 1ull << (inside & ((1 << LOGARITHM_BITS) - 1));
 }
 
+void name_piece(u64 i, char *piece) { piece_of_name(records[i], piece); }
+
 u64 depth_inside(u64 i) {
     u64 inside = records[i].what >> 54;
     return is_access(i) && !(inside & IS_RANGE) ? inside >> LOGARITHM_BITS : DEPTH_BEFORE;
@@ -68,6 +70,7 @@ static int is_good(u64 i) {
     if (is_access(i) && size_of(i) > 16 && !(records[i].what >> 54 & IS_RANGE)) return 0;
     if (size_follows(i) && (operation_of(i + 1) != OP_SIZE || size_of(i) >= MAX_SIZE)) return 0;
     if (operation == OP_FRAME || operation == OP_DEPTH) return size_of(i) <= MOST_FRAMES;
+    if (operation == OP_NAME) return size_of(i) == 0 || size_of(i) == NAME_PIECE;
     return (operation != OP_FORK && operation != OP_JOIN) || address_of(i) < THREAD_NUMBERS;
 }
 

@@ -2,7 +2,8 @@
 
    A stack is a node of a tree: the innermost call with its stack further out.  The file begins with STACKS_BEGIN and the
    number of events, then has a node's number of 4 bytes for each event (0: not known), then lines:
-       frame FUNCTION TAB LOCATION                   numbered from 1; the function or the location may be empty
+       frame FUNCTION TAB LOCATION                   numbered from 1; the function or the location may be empty. The function
+                                                     __tsan_create_fiber made the fiber that those further in are of
        system-frame FUNCTION TAB LOCATION            the same, numbered on, of code in /usr or /lib
        stack NODE OUTER FRAME FRAME..                the frames of a node's innermost call, the innermost first (of inlined
                                                      code there are several), and the node of the stack further out, or 0
@@ -240,7 +241,7 @@ static void write_stack(u32 k) {
     for (inlined_frame *f = frames_of(n->caller); f && count < MOST_FRAMES_OF_A_CALL - 1; f = f->outer)
         if (is_shown(n, outer, f)) numbers[count++] = frame_number(f);
     inlined_frame *last = !outer && n->outer ? entered(n->outer) : 0, between;
-    if (last && *last->function && !last->is_hidden) {
+    if (last && *last->function) {     /* of the recorder's own only __tsan_create_fiber was entered */
         between = (inlined_frame){.function = last->function, .location = "", .in_system_file = last->in_system_file};
         numbers[count++] = frame_number(&between);
     }

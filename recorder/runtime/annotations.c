@@ -22,6 +22,10 @@ static void note_object(void *p, size_t size, uint64_t caller) {
     leave(t);
 }
 
+PUBLIC void AnnotateThreadName(const char *file, int line, const char *name) {
+    if (name) note_name(pthread_self(), name);
+}
+
 /* ---- locks that the program makes itself, each as a reader-writer lock ---- */
 enum { READ_LOCK = 1 << 3, TRY_FAILED = 1 << 5 };            /* of the flags */
 
@@ -66,20 +70,33 @@ void __libc_free(void *);
 typedef struct { frame *frames; uint32_t depth; } fiber;     /* the functions that it is in while no thread runs it */
 static __thread fiber *running, first_fiber;
 PUBLIC void *__tsan_get_current_fiber(void) { return running ? running : &first_fiber; }
+
+/* Further out than its own functions are those in which this thread makes it, so many at most, and the call that makes it. None of
+   them is left while it runs. */
+enum { MOST_OUTER = 16 };
+static void note_where_made(fiber *new, uint64_t caller, uint64_t function) {
+    thread *t = self;
+    if (!t || !records_calls) return;
+    uint32_t end = t->depth < MOST_FRAMES ? t->depth : MOST_FRAMES, from = end > MOST_OUTER ? end - MOST_OUTER : 0;
+    while (from < end) new->frames[new->depth++] = t->frames[from++];
+    new->frames[new->depth++] = (frame){.caller = caller, .function = function};
+    for (uint32_t d = 0; d < new->depth; d++) new->frames[d].stack = ~0ull;
+}
 PUBLIC void *__tsan_create_fiber(unsigned flags) {
     size_t size = MOST_FRAMES * sizeof(frame);
     fiber *new = __libc_malloc(sizeof *new);
     frame *frames = mmap(0, size, PROT_READ | PROT_WRITE, MAP_PRIVATE | MAP_ANONYMOUS | MAP_NORESERVE, -1, 0);
     if (!new || frames == MAP_FAILED) abort();
     *new = (fiber){frames, 0};
+    note_where_made(new, CALLER, (uint64_t)__tsan_create_fiber + 1);
     return new;
 }
 PUBLIC void __tsan_destroy_fiber(void *old) {
     munmap(((fiber *)old)->frames, MOST_FRAMES * sizeof(frame));
     __libc_free(old);
 }
-/* The thread is in the functions of the fiber that it runs. */
 PUBLIC void __tsan_set_fiber_name(void *which, const char *name) {}
+/* The thread is in the functions of the fiber that it runs. */
 static void take_functions_of(fiber *next) {
     thread *t = self;
     if (!t) return;
@@ -156,7 +173,6 @@ IGNORES_AT(AnnotatePCQGet, const volatile void *queue)
 IGNORES_AT(AnnotatePCQPut, const volatile void *queue)
 IGNORES_AT(AnnotatePublishMemoryRange, const volatile void *p, unsigned long size)
 IGNORES_AT(AnnotateUnpublishMemoryRange, const volatile void *p, unsigned long size)
-IGNORES_AT(AnnotateThreadName, const char *name)
 IGNORES_AT(AnnotateTraceMemory, const volatile void *p)
 PUBLIC void *__tsan_external_register_tag(const char *name) { return 0; }
 

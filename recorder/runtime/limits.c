@@ -1,4 +1,5 @@
-/* Limits that a program sets on itself: they may end the recording and not the program, and nothing here counts in them. */
+/* Limits that a program sets on itself: they may end the recording and not the program, and nothing here counts in them. And
+   what else a program asks of the system by prctl. */
 #define _GNU_SOURCE
 #include <errno.h>
 #include <stdarg.h>
@@ -28,7 +29,9 @@ PUBLIC int prctl(int option, ...) {
     unsigned long a = va_arg(more, long), b = va_arg(more, long), c = va_arg(more, long), d = va_arg(more, long);
     va_end(more);
     if (option == PR_SET_SECCOMP) will_limit_calls();
-    return REAL(prctl)(option, a, b, c, d);
+    int result = REAL(prctl)(option, a, b, c, d);
+    if (option == PR_SET_NAME && !result) note_name(pthread_self(), (const char *)a);
+    return result;
 }
 
 /* seccomp has no function of its own. */

@@ -133,6 +133,24 @@ void put(thread *t, enum operation operation, const volatile void *address, uint
     if (inside == SIZE_FOLLOWS) records[written++] = (struct record){size, (uint64_t)OP_SIZE << 48};
 }
 
+/* The system keeps no more of a thread's name than MOST_NAME bytes. */
+enum { MOST_NAME = 15 };
+static void add_piece_of_name(const thread *named, const char *piece, uint64_t before) {
+    uint64_t one = 0, other = 0;
+    memcpy(&one, piece, NAME_PIECE / 2);
+    memcpy(&other, piece + NAME_PIECE / 2, NAME_PIECE / 2);
+    add(named, OP_NAME, one, before, other);
+}
+
+void put_name(thread *t, const thread *named, const char *name) {
+    char pieces[2 * NAME_PIECE] = "";
+    size_t length = strnlen(name, MOST_NAME);
+    memcpy(pieces, name, length);
+    if (!make_room(t, 2)) return;
+    add_piece_of_name(named, pieces, 0);
+    if (length > NAME_PIECE) add_piece_of_name(named, pieces + NAME_PIECE, NAME_PIECE);
+}
+
 /* A hook of its own for one record. */
 void note(enum operation operation, const volatile void *object, uint64_t caller) {
     int saved = errno;

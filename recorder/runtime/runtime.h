@@ -117,6 +117,7 @@ enum { ROOM = 5, ROOM_OF_COPY = 10 };  /* records of one access, its depth and i
 int make_room(thread *t, int count);
 void put(thread *t, enum operation operation, const volatile void *address, uint64_t size, uint64_t caller);
 void note(enum operation operation, const volatile void *object, uint64_t caller);
+void put_name(thread *t, const thread *named, const char *name);
 
 /* modules.c */
 struct module { uint64_t low, high; };
@@ -141,3 +142,4 @@ void let_others_run(void);             /* gives the turn up before a call that m
 
 /* threads.c */
 extern volatile int others;            /* threads that were created and not joined */
+void note_name(pthread_t handle, const char *name);          /* the program gives a thread this name */

@@ -241,6 +241,21 @@ JOIN(pthread_timedjoin_np, (pthread_t h, void **value, deadline d), (h, value, d
 JOIN(pthread_clockjoin_np, (pthread_t h, void **value, clockid_t c, deadline d), (h, value, c, d))
 JOIN(thrd_join, (thrd_t h, int *value), (h, value))
 
+/* ---- names of threads ---- */
+void note_name(pthread_t handle, const char *name) {
+    int saved = errno;
+    thread *t = enter(MAY_YIELD), *named = t ? thread_of(handle) : 0;
+    if (named) put_name(t, named, name);
+    if (t) leave(t);
+    errno = saved;
+}
+
+PUBLIC int pthread_setname_np(pthread_t handle, const char *name) {
+    int error = REAL(pthread_setname_np)(handle, name);
+    if (!error) note_name(handle, name);
+    return error;
+}
+
 /* ---- functions that the C library calls in threads of its own ---- */
 static void tell_of_calls_in_other_threads(const struct sigevent *event) {
     static _Atomic int told;

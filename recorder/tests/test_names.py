@@ -82,6 +82,22 @@ class Names(recorder.Case):
         self.assertEqual(len(set(blocks)), 2, "an address that is used again is a new variable")
 
 
+class Threads(recorder.Case):
+    """A thread has the name that the program gave it last, or else that of the function which it runs."""
+
+    def test_names_of_threads(self):
+        source, record = recorder.PROGRAMS / "thread_names.c", self.folder / "app.rec"
+        wanted = {(name, f"thread_names.c:{number}") for number, line in enumerate(source.read_text().splitlines(), 1)
+                  for name in re.findall(r"/\* NAMED (.*?) \*/", line)}
+        for option in ("-O0", "-O1", "-O2"):
+            recorder.build(source, option, self.folder / "app")
+            recorder.must(recorder.call(self.folder / "app", env=recorder.settings(record)))
+            trace = recorder.must(recorder.convert(record)).stdout.decode()
+            with self.subTest(option):
+                self.assertEqual(set(re.findall(r"(?m)^T\d+\.(.*?)\|w\(shared\)\|(.*)$", trace)), wanted)
+                self.assertEqual(set(re.findall(r"(?m)^main\|(?:fork|join)\(T\d+\.(.*)\)\|", trace)), {name for name, _ in wanted})
+
+
 class Files(recorder.Case):
     """How source files are named: two that have one name, in folders of any name."""
 

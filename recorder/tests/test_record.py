@@ -8,7 +8,7 @@ import struct
 
 import recorder
 
-HEADER = b"shb-record 4\n".ljust(65536 - 256, b"\0") + b"whole".ljust(256, b"\0")
+HEADER = b"shb-record 5\n".ljust(65536 - 256, b"\0") + b"whole".ljust(256, b"\0")
 DEFINED = re.search(r"enum operation \{(.*?)\n\};", (recorder.SOURCES / "record.h").read_text(), re.S)[1]
 OPERATIONS = re.findall(r"OP_\w+", re.sub(r"/\*.*?\*/", "", DEFINED))
 SIZE_FOLLOWS = 1023
@@ -23,6 +23,13 @@ def entry(thread, operation, address, caller, size=0):
         return struct.pack("<QQ", address | thread << 48, caller | number << 48 | inside << 54) + follows
     follows = struct.pack("<QQ", size, OPERATIONS.index("OP_SIZE") << 48) if size >= SIZE_FOLLOWS else b""
     return struct.pack("<QQ", address | thread << 48, caller | number << 48 | min(size, SIZE_FOLLOWS) << 54) + follows
+
+
+def names(thread, name):
+    """The entries that give a thread a name: 12 bytes in each."""
+    pieces = [name[at:at + 12].ljust(12, b"\0") for at in range(0, len(name), 12)] or [bytes(12)]
+    return b"".join(entry(thread, "NAME", *(int.from_bytes(half, "little") for half in (piece[:6], piece[6:])), 12 * (k > 0))
+                    for k, piece in enumerate(pieces))
 
 
 RELAXED, ACQUIRE, RELEASE, BOTH = (order << 5 for order in (0, 2, 3, 4))  # beside the size of an atomic access
@@ -184,7 +191,8 @@ def random_bytes(draw, count):
 
 
 FRAMES = b"".join([entry(0, "FRAME", 0x500, 0x100, 0), entry(0, "FRAME", 0x501, 0x101, 1), entry(1, "WAY", 0, 0x502),
-                   entry(1, "FRAME", 0x503, 0x102, 0), entry(0, "DEPTH", 0, 0, 1), entry(0, "DEPTH", 0, 0, 2000)])
+                   entry(1, "FRAME", 0x503, 0x102, 0), entry(0, "DEPTH", 0, 0, 1), entry(0, "DEPTH", 0, 0, 2000),
+                   names(1, b"fifteen bytes.."), names(0, b"main"), entry(1, "NAME", 0x61, 0x62, 12)])
 
 
 def damaged_records():
@@ -198,7 +206,7 @@ def damaged_records():
         yield bytes(record)
     yield from (HEADER + random_bytes(draw, 16 * entries) for entries in range(20))
     yield random_bytes(draw, 70000)
-    yield b"shb-record 4\nffff 1 2 \n1 2\nx y z\n0 fff 0 --help\n0 ffffffffffff 0 /\n".ljust(65536, b"1") + ENTRIES
+    yield b"shb-record 5\nffff 1 2 \n1 2\nx y z\n0 fff 0 --help\n0 ffffffffffff 0 /\n".ljust(65536, b"1") + ENTRIES
 
 
 def damaged_programs(good):
@@ -244,7 +252,7 @@ class Damaged(recorder.Case):
     def test_a_program_with_damaged_debug_information(self):
         converter, record, program = self.converter(), self.folder / "app.rec", self.folder / "app"
         recorder.must(recorder.call("gcc", "-g", *recorder.two_of_one_name(self.folder / "sources"), "-o", program, "-pthread"))
-        module = b"shb-record 4\n0 ffffff 0 " + os.fsencode(program) + b"\n"
+        module = b"shb-record 5\n0 ffffff 0 " + os.fsencode(program) + b"\n"
         record.write_bytes(module.ljust(65536 - 256, b"\0") + b"whole".ljust(256, b"\0") + ENTRIES)
         for number, damaged in enumerate(damaged_programs(program.read_bytes())):
             program.write_bytes(damaged)
@@ -257,7 +265,7 @@ class Damaged(recorder.Case):
             self.skipTest("clang isn't installed")
         converter, record, program = self.converter("clang"), self.folder / "app.rec", self.folder / "app"
         recorder.must(recorder.call("gcc", "-g", *recorder.two_of_one_name(self.folder / "sources"), "-o", program, "-pthread"))
-        record.write_bytes((b"shb-record 4\n0 ffffff 0 " + os.fsencode(program) + b"\n").ljust(65536 - 256, b"\0")
+        record.write_bytes((b"shb-record 5\n0 ffffff 0 " + os.fsencode(program) + b"\n").ljust(65536 - 256, b"\0")
                            + b"whole".ljust(256, b"\0") + ENTRIES)
         program.write_bytes(program.read_bytes().replace(b".debug_line_str", b".debug_line_xxx"))
         self.assertEqual(self.convert(converter, record), 0)
@@ -288,10 +296,35 @@ class Damaged(recorder.Case):
                          [event for thread in ("T1", "T65534", "T65535")
                           for event in (("main", "fork", thread), (thread, "w", ""), ("main", "join", thread))])
 
+    def test_a_name_is_that_of_the_thread_which_has_the_number(self):
+        """A thread's last name is its name from its fork on; the next thread with its number has none, or its own."""
+        fork, join = entry(0, "FORK", 1, 0x101), entry(0, "JOIN", 1, 0x103)
+        write, record = entry(1, "WRITE", BLOCK, 0x201, 8), self.folder / "app.rec"
+        record.write_bytes(HEADER + names(0, b"not main") + entry(0, "ALLOC", BLOCK, 0x100, 16) + fork + names(1, b"first")
+                           + write + names(1, b"fifteen bytes..") + join + fork + write + join
+                           + fork + names(1, b"") + write + names(1, b"third") + join)
+        recorder.must(recorder.convert(record, "-a", "--windows", self.folder / "windows"))
+        lines = (self.folder / "windows" / "window-0001.std").read_text().splitlines()
+        self.assertEqual([line.split("|")[:2] for line in lines],
+                         [[*event] for thread in ("T1.fifteen bytes..", "T65534", "T65535.third")
+                          for event in (("main", f"fork({thread})"), (thread, "w(0x100#1)"), ("main", f"join({thread})"))])
+
+    def test_a_name_that_no_trace_can_have(self):
+        """A piece of it that is none is no name; what ends a field or a line, or names another thing in a name, is another sign."""
+        fork, write, record = entry(0, "FORK", 1, 0x101), entry(1, "WRITE", BLOCK, 0x201, 8), self.folder / "app.rec"
+        for name, shown in ((b"a|b\tc\nd\re\x7f\xff", b".a_b_c_d_e\x7f\xff"), (b"a!b@c#d(e)", b".a_b_c_d(e)"), (b"\x1b[31m", b"._[31m")):
+            record.write_bytes(HEADER + fork + names(1, name) + write)
+            self.assertTrue(recorder.must(recorder.convert(record, "-a")).stdout.startswith(b"main|fork(T1" + shown + b")|"), name)
+        record.write_bytes(HEADER + fork + entry(1, "NAME", 0x61, 0x62, 12) * 2 + write)
+        self.assertTrue(recorder.must(recorder.convert(record, "-a")).stdout.startswith(b"main|fork(T1)|"))
+        record.write_bytes(HEADER + fork + names(1, b"a") + entry(1, "NAME", 0x62626262, 0x62, 12) * 1000 + write)
+        name = re.match(rb"main\|fork\(T1\.(ab+)\)\|", recorder.must(recorder.convert(record, "-a")).stdout)
+        self.assertLess(len(name[1]), 80)
+
     def test_a_record_of_another_version(self):
         path = self.folder / "app.rec"
-        for version in (b"3", b"10"):
-            path.write_bytes(HEADER.replace(b"4", version, 1).ljust(65536, b"\0")[:65536])
+        for version in (b"4", b"10"):
+            path.write_bytes(HEADER.replace(b"5", version, 1).ljust(65536, b"\0")[:65536])
             answer = recorder.convert(path)
             self.assertEqual((answer.returncode, answer.stdout), (2, b""))
             self.assertIn(b"is a record of version " + version + b", by another version of the recorder", answer.stderr)

@@ -125,14 +125,20 @@ class Programs(recorder.Case):
                     others = found.get(place, set()) - {stack for stack, _ in met}
                     self.assertEqual(({way for _, way in met}, others), (stacks, set()))
 
-    def test_contexts(self):
-        """After a switch the functions further out are missing, and none of another context is there."""
-        source = recorder.PROGRAMS / "contexts.c"
+    def check_exactly(self, source):
         for option in ("-O0", "-O1", "-O2"):
             found = self.stacks_of(source, option)
             for place, stacks in marked(source).items():
                 with self.subTest(option=option, place=place):
                     self.assertEqual(found[place], stacks)
+
+    def test_contexts(self):
+        """After a switch the functions further out are missing, and none of another context is there."""
+        self.check_exactly(recorder.PROGRAMS / "contexts.c")
+
+    def test_fibers(self):
+        """Where one was made stands further out than its functions."""
+        self.check_exactly(recorder.PROGRAMS / "fibers.c")
 
     def test_in_c(self):
         self.check(recorder.PROGRAMS / "calls.c")

@@ -11,6 +11,7 @@ from shb_view.words import Code, counted, lock_parts, place
 BLOCK_PART = re.compile(rb"\+[0-9]+$")  # behind the name of a block
 WITH = {b"relaxed": "relaxed", b"acquire": "with acquire", b"release": "with release", b"both": "with acquire and release"}
 MOST_ATOMICS = 3  # that are named of a group
+MAKES_FIBER = b"__tsan_create_fiber"
 
 
 def stacks_of(path, shift, events):
@@ -93,5 +94,6 @@ def caller_lines(frames, most):
 
 
 def frame_parts(frame):
-    where = [" ", Code(frame.location)] if frame.location else [" (no line is known: it called code without hooks)"]
+    unknown = " (which made the fiber)" if frame.function == MAKES_FIBER else " (no line is known: it called code without hooks)"
+    where = [" ", Code(frame.location)] if frame.location else [unknown]
     return [Code(bare(frame.function)), *where] if frame.function else where[-1:]
