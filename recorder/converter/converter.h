@@ -84,6 +84,12 @@ int in_one_function(u64 caller, u64 other);
 const char *function_name(u64 address, char *buffer, size_t size);       /* "" where it is not known */
 void symbol_name(u64 address, char *buffer, size_t size);
 
+/* members.c: what lies inside of variables. */
+struct members;
+struct members *read_members(const char *path);              /* of a module */
+/* Adds what lies at an offset of the variable that is at an address of the module's file, in so many bytes: ".head", "[3]", "+4". */
+void add_member(struct members *m, u64 address, u64 offset, u64 length, char *buffer, size_t size);
+
 /* memory.c: blocks and pieces. */
 typedef struct { u64 at, size, caller; int stack, many_users, named; u32 thread, user; } block;
 typedef struct {

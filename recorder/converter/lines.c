@@ -5,54 +5,16 @@
 #include <fcntl.h>
 #include <stdio.h>
 #include <stdlib.h>
-#include <string.h>
 #include <sys/mman.h>
 #include <sys/stat.h>
 #include <unistd.h>
-#include "converter.h"
+#include "dwarf.h"
 
-typedef struct { const uint8_t *at, *end; int is_bad; } bytes;
 typedef struct { bytes lines, strings; } tables;
 enum { FORM_DATA2 = 5, FORM_DATA4, FORM_DATA8, FORM_STRING, FORM_BLOCK, FORM_DATA1 = 11, FORM_UDATA = 15, FORM_DATA16 = 30,
        FORM_LINE_STRING = 31 };
 enum { CONTENT_PATH = 1, CONTENT_FOLDER };
 enum { MOST_FORMS = 16, WHOLE_PATH = 4096 };
-
-static void skip(bytes *b, u64 count) {
-    if (count > (u64)(b->end - b->at)) b->is_bad = 1;
-    else if (count) b->at += count;    /* of a section that isn't there nothing is added to a null pointer */
-}
-
-static u64 fixed(bytes *b, unsigned count) {
-    u64 value = 0;
-    const uint8_t *from = b->at;
-    skip(b, count);
-    if (!b->is_bad) memcpy(&value, from, count);
-    return value;
-}
-
-static u64 variable(bytes *b) {
-    u64 value = 0;
-    for (unsigned bits = 0; bits < 64; bits += 7) {
-        u64 byte = fixed(b, 1);
-        value |= (byte & 127) << bits;
-        if (byte < 128) return value;
-    }
-    b->is_bad = 1;
-    return 0;
-}
-
-static const char *string(bytes *b) {
-    const char *from = (const char *)b->at;
-    u64 length = b->at < b->end ? strnlen(from, b->end - b->at) : 0;
-    skip(b, length + 1);
-    return b->is_bad ? "" : from;
-}
-
-static const char *string_at(bytes b, u64 offset) {
-    skip(&b, offset);
-    return b.is_bad ? "" : string(&b);
-}
 
 /* ---- a table of folders or of files: the forms of its columns, then its rows ---- */
 typedef struct { u64 count, content[MOST_FORMS], form[MOST_FORMS]; } columns;
@@ -147,35 +109,41 @@ static Elf64_Shdr section(bytes table, u64 number) {
     return header;
 }
 
-static tables find_tables(bytes file) {
+bytes section_of(bytes file, const char *name) {
     Elf64_Ehdr elf;
-    tables found = {0};
     bytes part = part_of(file, 0, sizeof elf);
-    if (!part.at) return found;
+    if (!part.at) return part;
     memcpy(&elf, part.at, sizeof elf);
-    if (memcmp(elf.e_ident, ELFMAG, SELFMAG) || elf.e_ident[EI_CLASS] != ELFCLASS64 || elf.e_ident[EI_DATA] != ELFDATA2LSB) return found;
+    if (memcmp(elf.e_ident, ELFMAG, SELFMAG) || elf.e_ident[EI_CLASS] != ELFCLASS64 || elf.e_ident[EI_DATA] != ELFDATA2LSB) return (bytes){0};
     bytes table = part_of(file, elf.e_shoff, (u64)elf.e_shnum * sizeof(Elf64_Shdr));
     Elf64_Shdr named = section(table, elf.e_shstrndx);
     bytes names = part_of(file, named.sh_offset, named.sh_size);
     for (u64 k = 0; k < elf.e_shnum; k++) {
         Elf64_Shdr s = section(table, k);
         if (s.sh_type == SHT_NOBITS || s.sh_flags & SHF_COMPRESSED) continue;
-        const char *name = string_at(names, s.sh_name);
-        if (!strcmp(name, ".debug_line")) found.lines = part_of(file, s.sh_offset, s.sh_size);
-        if (!strcmp(name, ".debug_line_str")) found.strings = part_of(file, s.sh_offset, s.sh_size);
+        if (!strcmp(string_at(names, s.sh_name), name)) return part_of(file, s.sh_offset, s.sh_size);
     }
+    return (bytes){0};
+}
+
+bytes map_module(const char *path) {
+    struct stat status;
+    bytes found = {0};
+    int f = open(path, O_RDONLY | O_NONBLOCK | O_CLOEXEC);
+    if (f >= 0 && !fstat(f, &status) && S_ISREG(status.st_mode) && status.st_size) {
+        uint8_t *file = mmap(0, status.st_size, PROT_READ, MAP_PRIVATE, f, 0);
+        if (file != MAP_FAILED) found = (bytes){file, file + status.st_size, 0};
+    }
+    if (f >= 0) close(f);
     return found;
 }
 
+void unmap_module(bytes file) {
+    if (file.at) munmap((void *)file.at, file.end - file.at);
+}
+
 void note_sources_of(const char *module) {
-    struct stat status;
-    int f = open(module, O_RDONLY | O_NONBLOCK | O_CLOEXEC);
-    if (f >= 0 && !fstat(f, &status) && S_ISREG(status.st_mode) && status.st_size) {
-        uint8_t *file = mmap(0, status.st_size, PROT_READ, MAP_PRIVATE, f, 0);
-        if (file != MAP_FAILED) {
-            read_units(find_tables((bytes){file, file + status.st_size, 0}));
-            munmap(file, status.st_size);
-        }
-    }
-    if (f >= 0) close(f);
+    bytes file = map_module(module);
+    read_units((tables){section_of(file, ".debug_line"), section_of(file, ".debug_line_str")});
+    unmap_module(file);
 }

@@ -13,7 +13,7 @@
 
 enum { MAX_MODULES = 512, LINE_BYTES = 8192 };
 typedef struct { u64 at, size; char *name; int twice; } symbol;
-typedef struct { u64 low, high, base; char *path; symbol *symbols; u64 count; int read; } module;
+typedef struct { u64 low, high, base; char *path; symbol *symbols; u64 count; int read; struct members *members; } module;
 
 static module modules[MAX_MODULES];
 static int module_count;
@@ -149,8 +149,9 @@ const char *function_name(u64 address, char *buffer, size_t size) {
     return buffer;
 }
 
-/* "x", "x+8"; of a name that isn't the only one "x~ADDRESS"; outside the program "lib.so:x". */
+/* "x", "x.head", "x[3]", "x+8"; of a name that isn't the only one "x~ADDRESS"; outside the program "lib.so:x". */
 void symbol_name(u64 address, char *buffer, size_t size) {
+    enum { MOST_LENGTH = 4096 };       /* of a piece that is longer it isn't looked at where it ends */
     module *m = module_at(address);
     symbol *s = m ? symbol_at(m, address) : 0;
     if (!s) {
@@ -161,7 +162,9 @@ void symbol_name(u64 address, char *buffer, size_t size) {
     int cut_off = strlen(s->name) > 1000;
     int n = snprintf(buffer, size, "%.200s%s%.1000s", library, colon, s->name);
     if (s->twice || cut_off) n += snprintf(buffer + n, size - n, "~%lx", s->at - m->base);
-    if (address != s->at) snprintf(buffer + n, size - n, "+%lu", address - s->at);
+    u64 end = s->at + s->size, length = next_cut(address, end < address + MOST_LENGTH ? end : address + MOST_LENGTH) - address;
+    if (!m->members) m->members = read_members(m->path);
+    add_member(m->members, s->at - m->base, address - s->at, length, buffer + n, size - n);
 }
 
 /* ---- lines of code ---- */

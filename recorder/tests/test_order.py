@@ -96,7 +96,7 @@ class Order(recorder.Case):
         """No other thread comes between the two hooks of a copy."""
         for seed, slice in ((1, 200), (2, 7), (3, 1)):
             text, printed = self.record("copies.c", "-O0", seed, slice)
-            trace = [(int(name) - 1, kind) for name, kind in re.findall(r"^T(\d+)\.work\|(w|r)\(shared\+504\)", text, re.M)]
+            trace = [(int(name) - 1, kind) for name, kind in re.findall(r"^T(\d+)\.work\|(w|r)\(shared\[1\]\[3\]\)", text, re.M)]
             pairs = list(reads(trace, printed, copies))
             self.assertEqual(len(pairs), 4 * 2000)
             self.assertEqual([pair for pair in pairs if pair[0] != pair[1]], [])

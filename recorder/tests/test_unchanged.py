@@ -126,7 +126,7 @@ class NoRights(Unchanged):
                 answer = recorder.must(recorder.convert(self.folder / "app.rec"))
                 self.assertEqual(self.racing_lines("no_proc.c", answer), self.marked("no_proc.c"))
                 filled, expected = 0, []
-                for thread in re.findall(r"^(\w+)\S*\|[wr]\(block\+67108863\)", answer.stdout.decode(), re.M):
+                for thread in re.findall(r"^(\w+)\S*\|[wr]\(block\[67108863\]\)", answer.stdout.decode(), re.M):
                     filled += thread != "main"
                     expected += [filled] * (thread == "main")
                 self.assertEqual([int(value) for value in ran.stdout.split()], expected)

@@ -5,7 +5,9 @@ import typing
 
 from shb_view.words import Code
 
-NAME = re.compile(rb"(?P<base>.*?)(?P<block>#[0-9]+)?(?P<offset>[+-](?:0x[0-9a-f]+|[0-9]+))?", re.S)  # as the recorder writes them
+# Names as the recorder writes them: of a variable on a stack; of any other one.
+ON_STACK = re.compile(rb"(?P<base>stack\..*)(?P<block>)(?P<inside>-0x[0-9a-f]+)", re.S)
+NAME = re.compile(rb"(?P<base>.*?)(?P<block>#[0-9]+)?(?P<inside>(?:\.[A-Za-z_]\w*|\[[0-9]+\])*(?:\+[0-9]+)?)", re.S)
 
 
 class Pair:
@@ -118,10 +120,14 @@ class Gathered:
         return [Group(*map(tuple, parts)) for parts in found.values()]
 
 
+def name_parts(variable):
+    return ON_STACK.fullmatch(variable) or NAME.fullmatch(variable)
+
+
 def object_of(group):
     """The block of memory, or the named object, that all variables of a group are in; None where there is no one such thing, and of
     stacks, which have many."""
-    parts = [NAME.fullmatch(variable) for variable in group.variables]
+    parts = [name_parts(variable) for variable in group.variables]
     things = {part["base"] + (part["block"] or b"") for part in parts}
     is_known = len(things) == 1 and not parts[0]["base"].startswith(b"stack.")
     return things.pop() if is_known else None
@@ -143,11 +149,11 @@ def common_name(variables):
     """What stands for some variables: a name, or the part that they share, and words on how many there are."""
     if len(variables) == 1:
         return variables[0], ""
-    parts = [NAME.fullmatch(variable) for variable in variables]
-    bases, blocks, offsets = ({part[name] or b"" for part in parts} for name in ("base", "block", "offset"))
+    parts = [name_parts(variable) for variable in variables]
+    bases, blocks, insides = ({part[name] or b"" for part in parts} for name in ("base", "block", "inside"))
     if len(bases) > 1:
         return variables[0], f"and {len(variables) - 1} more"
-    if len(offsets) == 1:
-        return bases.pop() + offsets.pop(), f"({len(variables)} blocks)"
+    if len(insides) == 1:
+        return bases.pop() + insides.pop(), f"({len(variables)} blocks)"
     shared = bases.pop() + (blocks.pop() if len(blocks) == 1 else b"")
     return shared, f"({len(variables)} variables)"

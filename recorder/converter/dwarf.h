@@ -1,0 +1,46 @@
+/* Debug information: bytes that are read in turn, each step held inside their end, and the sections of a file. */
+#include <string.h>
+#include "converter.h"
+
+typedef struct { const uint8_t *at, *end; int is_bad; } bytes;
+
+static inline void skip(bytes *b, u64 count) {
+    if (count > (u64)(b->end - b->at)) b->is_bad = 1;
+    else if (count) b->at += count;    /* of a section that isn't there nothing is added to a null pointer */
+}
+
+static inline u64 fixed(bytes *b, unsigned count) {
+    u64 value = 0;
+    const uint8_t *from = b->at;
+    skip(b, count);
+    if (!b->is_bad) memcpy(&value, from, count);
+    return value;
+}
+
+static inline u64 variable(bytes *b) {
+    u64 value = 0;
+    for (unsigned bits = 0; bits < 64; bits += 7) {
+        u64 byte = fixed(b, 1);
+        value |= (byte & 127) << bits;
+        if (byte < 128) return value;
+    }
+    b->is_bad = 1;
+    return 0;
+}
+
+static inline const char *string(bytes *b) {
+    const char *from = (const char *)b->at;
+    u64 length = b->at < b->end ? strnlen(from, b->end - b->at) : 0;
+    skip(b, length + 1);
+    return b->is_bad ? "" : from;
+}
+
+static inline const char *string_at(bytes b, u64 offset) {
+    skip(&b, offset);
+    return b.is_bad ? "" : string(&b);
+}
+
+/* lines.c */
+bytes map_module(const char *path);    /* none where it can't be read */
+void unmap_module(bytes file);
+bytes section_of(bytes file, const char *name);              /* none where there is none, or where it is compressed */

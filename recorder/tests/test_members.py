@@ -1,0 +1,92 @@
+"""Names of what lies inside of variables, by the debug information: of programs, and of programs with it damaged."""
+
+import os
+import random
+import re
+
+import recorder
+from test_record import entry
+
+
+def marked(source):
+    """By line: what its mark in a program names."""
+    found = {}
+    for number, line in enumerate(source.read_text().splitlines(), 1):
+        mark = re.search(r" AT (.*?)(?: \*/)?$", line)
+        if mark:
+            found[f"{source.name}:{number}"] = set(mark[1].split(", "))
+    return found
+
+
+def sections(program):
+    """Where each section of a program stands in its file."""
+    listed = recorder.must(recorder.call("readelf", "-SW", program)).stdout.decode()
+    return {name: (int(offset, 16), int(size, 16))
+            for name, offset, size in re.findall(r"\] (\.\S+) +\S+ +[0-9a-f]+ ([0-9a-f]+) ([0-9a-f]+) ", listed)}
+
+
+class Members(recorder.Case):
+    def check(self, name):
+        source, record = recorder.PROGRAMS / name, self.folder / "app.rec"
+        wanted = marked(source)
+        for option in ("-O0", "-O1", "-O2"):
+            recorder.build(source, option, self.folder / "app")
+            recorder.must(recorder.call(self.folder / "app", env=recorder.settings(record)))
+            trace = recorder.must(recorder.convert(record, "-a")).stdout.decode()
+            found = {}
+            for variable, place in re.findall(r"(?m)^main\|(?:r|w|acq)\(([^!@\n]*)\)\|(.*)$", trace):
+                if not variable.startswith("stack."):
+                    found.setdefault(place, set()).add(variable)
+            for place, names in wanted.items():
+                with self.subTest(option=option, place=place):
+                    self.assertEqual(found.get(place), names)
+
+    def test_in_c(self):
+        self.check("members.c")
+
+    def test_in_cxx(self):
+        self.check("members.cc")
+
+
+class Damaged(recorder.Case):
+    def record(self, program):
+        """One in which two threads write pieces of many sizes of each variable of the program."""
+        listed = recorder.must(recorder.call("nm", "-S", program)).stdout.decode()
+        variables = [(int(at, 16), int(size, 16)) for at, size in re.findall(r"(?m)^(\w{16}) (\w{16}) [bBdD] ", listed)]
+        self.assertGreater(len(variables), 4)
+        entries = [entry(0, "FORK", 1, 0x101), entry(1, "START", 0x30000000, 0x500, 4096)]
+        for at, size in variables:
+            for step in (4, 8, 40):
+                entries += [entry(thread, "WRITE", at + k, 0x200 + thread, min(step, size - k))
+                            for k in range(0, min(size, 200), step) for thread in (0, 1)]
+        header = b"shb-record 5\n0 ffffff 0 " + os.fsencode(program) + b"\n"
+        return header.ljust(65536 - 256, b"\0") + b"whole".ljust(256, b"\0") + b"".join(entries)
+
+    def damaged(self, good, places):
+        draw = random.Random(4)
+        for name in (".debug_info", ".debug_abbrev", ".debug_str") * 20:
+            program, (at, size) = bytearray(good), places[name]
+            for _ in range(draw.randrange(1, 8)):
+                program[at + draw.randrange(size)] = draw.choice((0, 1, 127, 128, 255, draw.randrange(256)))
+            yield bytes(program)
+        for name in (".debug_info", ".debug_abbrev", ".debug_str"):
+            yield good.replace(name.encode() + b"\0", name[:-1].encode() + b"x\0")
+
+    def test_damaged_debug_information(self):
+        """The trace is one that shb takes, and no access is made that isn't allowed."""
+        converter, program, record = self.folder / "shb-std", self.folder / "app", self.folder / "app.rec"
+        sanitizers = "-fsanitize=address,undefined", "-fno-sanitize-recover=all"
+        recorder.must(recorder.call("gcc", "-g", "-O1", *sanitizers, *sorted(recorder.SOURCES.glob("converter/*.c")), "-o", converter))
+        recorder.must(recorder.call("g++", "-w", "-g", "-no-pie", "-pthread", recorder.PROGRAMS / "members.cc", "-o", program))
+        good, names = program.read_bytes(), set()
+        record.write_bytes(self.record(program))
+        places = sections(program)
+        for number, content in enumerate([good, *self.damaged(good, places)]):
+            program.write_bytes(content)
+            answer = recorder.call(converter, record, env={**os.environ, "ASAN_OPTIONS": "detect_leaks=0"})
+            with self.subTest(number):
+                self.assertEqual(answer.returncode, 0, answer.stderr[-2000:])
+                recorder.places(answer.stdout)
+            names.update(re.findall(rb"\|w\((.*)\)\|", answer.stdout))
+        self.assertIn(b"bank::both[1].id", names)
+        self.assertTrue(any(re.fullmatch(rb"bank::both\+\d+", name) for name in names))
