@@ -439,6 +439,7 @@ class Groups(program.Case):
         """Blocks 1 and 2, and two objects with a name. Another lock, or other threads, are another thing that is missing."""
         self.assertEqual(self.names("A w a.c:9#1 1", "A w a.c:9#1+4 2", "B r a.c:9#1 3", "B r a.c:9#1+4 4"), ["a.c:9#1 (2 variables)"])
         self.assertEqual(self.names("A w a.c:9#1 1", "A w a.c:9#2 2", "B r a.c:9#1 3", "B r a.c:9#2 4"), ["a.c:9#1", "a.c:9#2"])
+        self.assertEqual(self.names("A w s.x 1", "A w s.y[1] 2", "B r s.x 3", "B r s.y[1] 4"), ["s (2 variables)"])
         self.assertEqual(self.names("A w s 1", "A w s+4 2", "B r s 3", "C r s+4 4"), ["s", "s+4"])
         self.assertEqual(self.names("A acq l 9", "A w s 1", "A rel l 9", "A w s+4 2", "B r s 3", "B r s+4 4"), ["s", "s+4"])
         self.assertEqual(self.names("A w stack.A-8 1", "A w stack.A-16 2", "B r stack.A-8 3", "B r stack.A-16 4"),
@@ -474,6 +475,9 @@ class Groups(program.Case):
             ([b"stats", b"stats+8"], (b"stats", "(2 variables)")),
             ([b"stats", b"settings+8"], (b"stats", "and 1 more")),
             ([b"stack.T1-0x20", b"stack.T1-0x28"], (b"stack.T1", "(2 variables)")),
+            ([b"stack.T1.run-0x20", b"stack.T1.run-0x28"], (b"stack.T1.run", "(2 variables)")),
+            ([b"lib.so.1:q.head", b"lib.so.1:q.at[1][20].x+2", b"lib.so.1:q"], (b"lib.so.1:q", "(3 variables)")),
+            ([b"count.0", b"count.1"], (b"count.0", "and 1 more")),
         ):
             self.assertEqual(groups.common_name(variables), name)
 

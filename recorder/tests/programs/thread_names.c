@@ -1,10 +1,12 @@
 /* Threads that are named in many ways. Behind each word NAMED, what the thread that writes there is called in the trace. */
 #define _GNU_SOURCE
 #include <pthread.h>
+#include <semaphore.h>
 #include <sys/prctl.h>
 #define APART __attribute__((noinline))
 void AnnotateThreadName(const char *file, int line, const char *name);
 int shared;
+static sem_t is_named;
 static APART void *by_itself(void *x) {
     pthread_setname_np(pthread_self(), "decoder 1");
     shared++;                          /* NAMED decoder 1 */
@@ -16,6 +18,7 @@ static APART void *by_prctl(void *x) {
     return x;
 }
 static APART void *by_main(void *x) {
+    sem_wait(&is_named);               /* a thread that has ended can't be named */
     shared++;                          /* NAMED given by main */
     return x;
 }
@@ -53,6 +56,7 @@ int main(void) {
     prctl(PR_SET_NAME, "not main");
     for (int i = 0; i < COUNT; i++) pthread_create(&t[i], 0, run[i], 0);
     pthread_setname_np(t[2], "given by main");
+    sem_post(&is_named);
     shared++;
     for (int i = 0; i < COUNT; i++) pthread_join(t[i], 0);
 }
