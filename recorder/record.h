@@ -58,7 +58,8 @@ enum operation {
     OP_FENCE,                          /* its size is the memory order */
     OP_FRAME,                          /* the thread is in a function (its address), called from there; the size is how many
                                           more it is in further out. What was recorded further out or in stays, until such a
-                                          record of the same size replaces it */
+                                          record of the same size replaces it. Further out than the functions of a fiber are
+                                          __tsan_create_fiber, which made it, and those that it was called in */
     OP_WAY,                            /* of the record behind it, a frame too: its caller is code without hooks, which the
                                           innermost function called from here */
     OP_DEPTH,                          /* the size is how many of these it is in now; so is one more than that of an OP_FRAME */

@@ -82,6 +82,7 @@ inlined_frame *frames_of(u64 caller);  /* null where it wasn't noted */
 inlined_frame *outermost(inlined_frame *f);
 int in_one_function(u64 caller, u64 other);
 const char *function_name(u64 address, char *buffer, size_t size);       /* "" where it is not known */
+int is_own_function(u64 address);      /* not of the system's libraries, nor of the C++ library's headers */
 void symbol_name(u64 address, char *buffer, size_t size);
 
 /* members.c: what lies inside of variables. */
@@ -157,7 +158,8 @@ void add_to_list(u32 *list, u32 thread);
 extern u64 event_limit, events;
 extern int into_windows;               /* the events go to windows, and no limit cuts them */
 extern const char *cut_reason;         /* null while the trace goes on */
-void name_thread(u32 t, u64 function); /* by the function that it runs, where it has no other name */
+void name_thread(u32 t, u64 function); /* by the function that it runs, where it has no name yet */
+void name_by_own(u32 t, u64 function); /* the same, by one that it enters, if that is the program's own */
 void give_name(u32 t, const char *piece, int is_first);      /* a piece of one that the program gave; the main thread keeps its own */
 const char *thread_name(u32 t);        /* with an end */
 u64 thread_epoch(u32 t);               /* it grows with each event of the thread that could order another */

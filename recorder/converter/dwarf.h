@@ -40,6 +40,12 @@ static inline const char *string_at(bytes b, u64 offset) {
     return b.is_bad ? "" : string(&b);
 }
 
+/* How a value is written. */
+enum form { FORM_ADDRESS = 1, FORM_BLOCK2 = 3, FORM_BLOCK4, FORM_DATA2, FORM_DATA4, FORM_DATA8, FORM_STRING, FORM_BLOCK, FORM_BLOCK1,
+            FORM_DATA1, FORM_FLAG, FORM_SDATA, FORM_STRP, FORM_UDATA, FORM_REF_ADDRESS, FORM_REF1, FORM_REF2, FORM_REF4, FORM_REF8,
+            FORM_REF_UDATA, FORM_OFFSET = 23, FORM_EXPRESSION, FORM_PRESENT, FORM_DATA16 = 30, FORM_LINE_STRING, FORM_SIGNATURE,
+            FORM_CONSTANT };
+
 /* lines.c */
 bytes map_module(const char *path);    /* none where it can't be read */
 void unmap_module(bytes file);

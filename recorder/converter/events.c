@@ -10,37 +10,36 @@ u64 event_limit = SHB_EVENTS, events;
 int into_windows;
 const char *cut_reason;
 static u64 bytes;
-static struct {
-    char name[THREAD_BYTES];
-    u32 length, in_windows;            /* in_windows: its number in windows.c */
-    u64 epoch;
-    int is_given;                      /* the program gave it the name */
-} threads[THREADS];
+static struct { char name[THREAD_BYTES]; u32 length, in_windows; u64 epoch; } threads[THREADS];   /* in_windows: its number in windows.c */
 
+static uint8_t is_named[THREADS];      /* has it a name besides its number? */
+
+/* "_" stands for what would end a field or a line, and for the signs behind which names of locks and variables name a thread or a
+   block. */
 static void set_name(u32 t, const char *name) {
     snprintf(threads[t].name, sizeof threads[t].name, "T%u%s%s", t, *name ? "." : "", name);
+    for (char *p = threads[t].name; *p; p++)
+        if ((unsigned char)*p < ' ' || strchr("|!@#", *p)) *p = '_';
     threads[t].length = strlen(threads[t].name);
 }
 
 void name_thread(u32 t, u64 function) {
     char of_function[60];
-    if (!threads[t].is_given) set_name(t, function_name(function, of_function, sizeof of_function));
+    if (!t || is_named[t]) return;
+    set_name(t, function_name(function, of_function, sizeof of_function));
+    is_named[t] = *of_function != 0;
 }
 
-/* Not as it was given are what would end a field or a line, and the signs behind which names of locks and variables name a thread
-   or a block. */
-static void clean_name(char *name) {
-    for (; *name; name++)
-        if ((unsigned char)*name < ' ' || strchr("|!@#", *name)) *name = '_';
+void name_by_own(u32 t, u64 function) {
+    if (!is_named[t] && is_own_function(function)) name_thread(t, function);
 }
 
 void give_name(u32 t, const char *piece, int is_first) {
-    char name[THREAD_BYTES];
-    if (!t || !*piece || (!is_first && !threads[t].is_given)) return;
-    snprintf(name, sizeof name, "%s%s", is_first ? "" : strchr(threads[t].name, '.') + 1, piece);
-    clean_name(name);
+    char name[THREAD_BYTES], *begun = is_first ? "." : strchr(threads[t].name, '.');
+    if (!t || !*piece || !begun) return;
+    snprintf(name, sizeof name, "%s%s", begun + 1, piece);
     set_name(t, name);
-    threads[t].is_given = 1;
+    is_named[t] = 1;
 }
 
 part name_of_thread(u32 t) {
@@ -117,7 +116,7 @@ static char *add_descriptor_name(char *to, u64 address) {
 
 /* Short ones are mostly found in a table of recent ones. */
 static part symbol_of(u64 address) {
-    enum { RECENT = 8192, SHORT = 48 };
+    enum { RECENT = 8192, SHORT = 84 };
     static struct { u64 address; u32 length; char name[SHORT]; } recent[RECENT];
     static char name[NAME_BYTES];
     u32 at = mix(address, 0) & (RECENT - 1);

@@ -11,8 +11,6 @@
 #include "dwarf.h"
 
 typedef struct { bytes lines, strings; } tables;
-enum { FORM_DATA2 = 5, FORM_DATA4, FORM_DATA8, FORM_STRING, FORM_BLOCK, FORM_DATA1 = 11, FORM_UDATA = 15, FORM_DATA16 = 30,
-       FORM_LINE_STRING = 31 };
 enum { CONTENT_PATH = 1, CONTENT_FOLDER };
 enum { MOST_FORMS = 16, WHOLE_PATH = 4096 };
 

@@ -34,7 +34,8 @@ static void meet_name(u64 i) {
 
 static void find_sharing(u64 i) {
     if (operation_of(i) == OP_NAME) meet_name(i);
-    if (operation_of(i) == OP_START && thread_of(i)) name_thread(thread_of(i), caller_of(i));
+    if (operation_of(i) == OP_START) name_thread(thread_of(i), caller_of(i));
+    if (operation_of(i) == OP_FRAME) name_by_own(thread_of(i), address_of(i));
     share_pieces(i);
     if (operation_of(i) == OP_FENCE) share_fence(i);
     if (is_for_object(i)) share_object(i);

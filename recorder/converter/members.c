@@ -1,21 +1,22 @@
 /* Members of a program's variables, by its debug information: "queue+8" is "queue.head" (DWARF 4 and 5 as gcc writes them; what
    isn't told stays a number of bytes).  A module may be any file, so each step is held inside its section. */
 #include <stdio.h>
+#include <stdlib.h>
 #include "dwarf.h"
 
 enum tag { TAG_ARRAY = 1, TAG_CLASS, TAG_MEMBER = 13, TAG_STRUCTURE = 19, TAG_TYPEDEF = 22, TAG_BASE_CLASS = 28, TAG_BOUND = 33,
            TAG_CONST = 38, TAG_VARIABLE = 52, TAG_VOLATILE = 53, TAG_NAMESPACE = 57, TAG_ATOMIC = 71 };
 enum attribute { AT_SIBLING = 1, AT_LOCATION, AT_NAME, AT_BYTE_SIZE = 11, AT_BIT_SIZE = 13, AT_UPPER_BOUND = 47, AT_COUNT = 55,
                  AT_PLACE = 56, AT_SPECIFICATION = 71, AT_TYPE = 73 };
-enum form { FORM_ADDRESS = 1, FORM_BLOCK2 = 3, FORM_BLOCK4, FORM_DATA2, FORM_DATA4, FORM_DATA8, FORM_STRING, FORM_BLOCK, FORM_BLOCK1,
-            FORM_DATA1, FORM_FLAG, FORM_SDATA, FORM_STRP, FORM_UDATA, FORM_REF_ADDRESS, FORM_REF1, FORM_REF2, FORM_REF4, FORM_REF8,
-            FORM_REF_UDATA, FORM_OFFSET = 23, FORM_EXPRESSION, FORM_PRESENT, FORM_DATA16 = 30, FORM_LINE_STRP, FORM_SIGNATURE,
-            FORM_CONSTANT };
-enum { OP_ADDRESS = 3, POINTER = 8 };
+enum { OP_ADDRESS = 3 };
 enum { MOST_CODES = 1 << 16, MOST_DIMENSIONS = 8, MOST_STEPS = 64 };
 
 typedef struct { u64 tag, has_children; bytes attributes; } abbreviation;
-typedef struct { u64 begin, end, first, abbreviations; } unit;                   /* where it stands in its section */
+typedef struct {
+    u64 begin, end, first, abbreviations;                    /* where it and its abbreviations stand in their sections */
+    abbreviation *codes;               /* these, by their codes; null until they are read */
+    u64 code_count, code_capacity;
+} unit;
 /* An entry of the debug information. Offsets are in the section, and 0 where there is no such thing. */
 typedef struct {
     u64 tag, next, sibling, type, specification, size, count, place, address;    /* count: of an array's elements; 0: not known */
@@ -33,18 +34,8 @@ struct members {
 };
 
 /* ---- entries ---- */
-/* Those of the unit that was asked for last, by their codes. */
-static abbreviation codes[MOST_CODES];
-static u64 code_bound;                 /* they are below it */
-
-static void read_abbreviations(const struct members *m, const unit *u) {
-    static const struct members *last_of;
-    static u64 last_read;
-    if (last_of == m && last_read == u->abbreviations + 1) return;
-    last_of = m;
-    last_read = u->abbreviations + 1;
-    memset(codes, 0, code_bound * sizeof *codes);
-    code_bound = 0;
+static void read_abbreviations(const struct members *m, unit *u) {
+    if (u->codes) return;
     bytes b = m->abbreviations;
     skip(&b, u->abbreviations);
     for (u64 code = 0; !b.is_bad && (code = variable(&b));) {
@@ -53,9 +44,11 @@ static void read_abbreviations(const struct members *m, const unit *u) {
         a.attributes = b;
         for (u64 name, form; name = variable(&b), form = variable(&b), !b.is_bad && (name || form);)
             if (form == FORM_CONSTANT) variable(&b);
-        if (code >= MOST_CODES || b.is_bad) continue;
-        codes[code] = a;
-        if (code_bound <= code) code_bound = code + 1;
+        while (u->code_count <= code && code < MOST_CODES) {
+            GROW(u->codes, u->code_count, u->code_capacity);
+            u->codes[u->code_count++] = (abbreviation){0};
+        }
+        if (code < MOST_CODES && !b.is_bad) u->codes[code] = a;
     }
 }
 
@@ -89,7 +82,7 @@ static value read_value(const struct members *m, const unit *u, bytes *b, u64 fo
     case FORM_REF8: return (value){u->begin + fixed(b, 8), .is_number = 1};
     case FORM_REF_UDATA: return (value){u->begin + variable(b), .is_number = 1};
     case FORM_STRP: return text_at(m->strings, fixed(b, 4));
-    case FORM_LINE_STRP: return text_at(m->line_strings, fixed(b, 4));
+    case FORM_LINE_STRING: return text_at(m->line_strings, fixed(b, 4));
     case FORM_STRING: {
         value text = {.block = *b, .is_text = 1};
         string(b);
@@ -128,10 +121,10 @@ static entry read_entry(const struct members *m, const unit *u, u64 offset) {
     skip(&b, offset);
     b.end = m->info.at + u->end;
     u64 code = variable(&b);
-    if (b.is_bad || !code || code >= MOST_CODES || !codes[code].tag) return e;
-    bytes attributes = codes[code].attributes;
-    e.tag = codes[code].tag;
-    e.has_children = codes[code].has_children;
+    if (b.is_bad || code >= u->code_count || !u->codes[code].tag) return e;
+    bytes attributes = u->codes[code].attributes;
+    e.tag = u->codes[code].tag;
+    e.has_children = u->codes[code].has_children;
     for (u64 name, form; name = variable(&attributes), form = variable(&attributes), name || form;) {
         take_value(&e, name, read_value(m, u, &b, form, &attributes));
         if (b.is_bad || attributes.is_bad) return (entry){.next = u->end};
@@ -184,8 +177,12 @@ struct members *read_members(const char *path) {
     m->line_strings = section_of(file, ".debug_line_str");
     for (bytes b = m->info; b.at < b.end && read_unit(m, &b);) {}
     for (u64 k = 0; k < m->unit_count; k++) {
-        read_abbreviations(m, &m->units[k]);
-        find_variables(m, &m->units[k]);
+        unit *u = &m->units[k];
+        read_abbreviations(m, u);
+        find_variables(m, u);
+        free(u->codes);                /* only few are asked for again */
+        u->codes = 0;
+        u->code_count = u->code_capacity = 0;
     }
     return m;
 }
@@ -221,7 +218,7 @@ static u64 size_of_type(const struct members *m, const unit *u, u64 type) {
 /* Names of the C and C++ library's own members say little. */
 static int is_reserved(const char *name) { return *name == '_' && (name[1] == '_' || (name[1] >= 'A' && name[1] <= 'Z')); }
 
-/* The member, or the base class, that has all of these bytes; a tag of 0 where there is none with a name. */
+/* The member, or the base class, that has all of these bytes; a tag of 0 where there is none. */
 static entry member_with(const struct members *m, const unit *u, const entry *of, u64 offset, u64 length) {
     entry e = {.next = of->next};
     while (of->has_children && (e = read_entry(m, u, e.next)).tag) {
@@ -284,7 +281,7 @@ void add_member(struct members *m, u64 address, u64 offset, u64 length, char *bu
     text to = {buffer, size, offset};
     u32 number = map_find(&m->by_address, address, 0);
     if (number) {
-        const unit *u = &m->units[m->variables[number - 1].unit];
+        unit *u = &m->units[m->variables[number - 1].unit];
         read_abbreviations(m, u);
         add_members(m, u, m->variables[number - 1].type, offset, length, &to);
     }

@@ -141,12 +141,34 @@ static int is_recorder(const module *m) {
     return slash && !strncmp(slash, "/libtsan.so", 11);
 }
 
+/* A function's name without its parameters and without the brace of a lambda, which is "main::lambda". */
+static char *short_name(const symbol *s) {
+    static const char nameless[] = "(anonymous namespace)::";
+    char *name = copy(s->name), *at;
+    while ((at = strstr(name, nameless))) memmove(at, at + strlen(nameless), strlen(at + strlen(nameless)) + 1);
+    name[strcspn(name, "(")] = 0;
+    if ((at = strchr(name, '{'))) memmove(at, at + 1, strlen(at));
+    return name;
+}
+
 const char *function_name(u64 address, char *buffer, size_t size) {
     module *m = module_at(address);
     symbol *s = m ? symbol_at(m, address) : 0;
-    snprintf(buffer, size, "%s", s ? s->name : "");
-    buffer[strcspn(buffer, "(")] = 0;
+    char *name = s ? short_name(s) : copy("");
+    snprintf(buffer, size, "%s", name);
+    free(name);
     return buffer;
+}
+
+/* By its module and its name: what addr2line says of the beginning of a function hangs on what is inlined there. */
+int is_own_function(u64 address) {
+    module *m = module_at(address);
+    symbol *s = m && !in_system(m->path) && !is_recorder(m) ? symbol_at(m, address) : 0;
+    char *name = s ? short_name(s) : copy("std::");
+    name[strcspn(name, "<")] = 0;
+    int is_own = !strstr(name, "std::") && !strstr(name, "__gnu_cxx::");
+    free(name);
+    return is_own;
 }
 
 /* "x", "x.head", "x[3]", "x+8"; of a name that isn't the only one "x~ADDRESS"; outside the program "lib.so:x". */

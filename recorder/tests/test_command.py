@@ -92,6 +92,13 @@ class Command(recorder.Case):
         self.assertNotIn("has not all races", said)
         self.assertNotIn("can't judge it", said)
 
+    def test_a_thread_whose_name_is_hostile(self):
+        _, _, said = self.record(self.program("thread_names.c"))
+        page = text_of(next((self.folder / "thread_names.shb").glob("run1.*.html")))
+        self.assertIn("T8.___<b>__1>_2&\"", said)
+        self.assertIn("T8.___&lt;b&gt;__1&gt;_2&amp;&quot;", page)
+        self.assertNotIn("<b>", page)
+
     def test_a_known_place_hides_no_place_of_another_file_of_that_name(self):
         sources, program = recorder.two_of_one_name(self.folder), self.folder / "program"
         recorder.must(recorder.call("gcc", "-w", "-g", "-O1", "-fsanitize=thread", "-pthread", *sources, "-o", program))

@@ -98,6 +98,21 @@ class Threads(recorder.Case):
                 self.assertEqual(set(re.findall(r"(?m)^main\|(?:fork|join)\(T\d+\.(.*)\)\|", trace)), {name for name, _ in wanted})
 
 
+    def test_a_thread_of_the_cxx_library(self):
+        """It has the name of the first function of the program's own that it enters."""
+        source = self.folder / "own.cc"
+        source.write_text("#include <thread>\nint shared;\nvoid __attribute__((noinline)) deeper() { shared++; }\n"
+                          "void __attribute__((noinline)) work(int n) { shared += n; deeper(); }\n"
+                          "namespace { void __attribute__((noinline)) apart() { deeper(); } }\n"
+                          "int main() {\n    std::thread t(work, 1), u([] { shared++; }), v(apart);\n    t.join();\n    u.join();\n"
+                          "    v.join();\n}\n")
+        for option, names in (("-O0", ["T1.work", "T2.main::lambda", "T3.apart"]), ("-O1", ["T1.work", "T2", "T3.apart"])):
+            recorder.build(source, option, self.folder / "app")
+            recorder.must(recorder.call(self.folder / "app", env=recorder.settings(self.folder / "app.rec")))
+            trace = recorder.must(recorder.convert(self.folder / "app.rec")).stdout.decode()
+            self.assertEqual(re.findall(r"(?m)^main\|fork\((.*?)\)", trace), names)
+
+
 class Files(recorder.Case):
     """How source files are named: two that have one name, in folders of any name."""
 
