@@ -91,7 +91,7 @@ static void add_hold(u32 t, u32 l, const char *place, u64 length) {
         holds[number = ++hold_count] = (hold){0};
     }
     hold *h = &holds[number];
-    while (h->place.capacity < length) h->place.text = grown(h->place.text, h->place.capacity, &h->place.capacity, 1);
+    while (h->place.capacity <= length) h->place.text = grown(h->place.text, h->place.capacity, &h->place.capacity, 1);
     memcpy(h->place.text, place, length);
     *h = (hold){l, t, newest, 0, locks[l].top, {h->place.text, length, h->place.capacity}};
     if (newest) holds[newest].after = number;

@@ -121,6 +121,14 @@ class Windows(recorder.Case):
             self.assertEqual([path.read_text() for path, _, _, _ in self.table()], WINDOWS)
             self.assertEqual(self.files(), [f"window-000{number}.std" for number in range(1, 5)] + ["windows.tsv"])
 
+    def test_locks_without_a_location(self):
+        """Built so that it ends at the first step that C doesn't define."""
+        words, sources = ["-g", "-O1", "-fsanitize=undefined", "-fno-sanitize-recover=all"], ["windows/main.c", "converter/windows.c", "converter/tables.c"]
+        recorder.must(recorder.call("gcc", *words, *(recorder.SOURCES / source for source in sources), "-o", self.folder / "cut"))
+        trace = b"A|acq(l)\nA|w(x)|a\nA|w(x)|b\nA|w(x)|c\n"
+        recorder.must(recorder.call(self.folder / "cut", "-n", "4", "-o", self.folder / "w", input=trace))
+        self.assertEqual(self.table()[1][0].read_bytes(), b"A|acq(l)|\nA|w(x)|b\nA|w(x)|c\n")
+
     def test_one_window(self):
         recorder.must(self.cut(TRACE.encode(), "-n", "6"))
         recorder.must(self.cut(TRACE.encode(), "-n", "12"))
