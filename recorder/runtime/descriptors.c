@@ -115,6 +115,11 @@ static void note_descriptor(enum operation operation, void *what, uint64_t calle
     errno = saved;
 }
 
+void note_transfer(enum operation operation, int f, uint64_t caller) {
+    void *data = data_of(f);
+    if (is_small(f) && (pair_of[f] || key_of[f])) note_descriptor(operation, data, caller);
+}
+
 /* ---- what is read and written goes through memory of the program's ---- */
 enum { MOST_BYTES = 0x7ffff000 };      /* that the kernel takes at once */
 

@@ -85,17 +85,19 @@ static void note_output(uint64_t seen, const char *format, va_list given) {
 }
 
 #define ALL(...) __VA_ARGS__
-#define OUTPUTS(vname, arguments, ...) \
+#define OUTPUTS(vname, arguments, sends, ...) \
         if (seen) note_output(seen, format, more); \
+        if (seen) { sends; } \
         int r = KNOWN(vname, __typeof__(&vname))(ALL arguments, more); \
         if (seen && r >= 0) { __VA_ARGS__; }
 /* A function with its arguments one by one, and the one that takes a list of them; r is how many bytes it prints. */
-#define PRINTS(name, vname, parameters, arguments, ...) \
+#define PRINTS(name, vname, parameters, arguments, ...) PRINTS_TO(name, vname, parameters, arguments, , __VA_ARGS__)
+#define PRINTS_TO(name, vname, parameters, arguments, sends, ...) \
     KNOW(vname); \
     int vname(ALL parameters, va_list more); \
     PUBLIC int vname(ALL parameters, va_list more) { \
         uint64_t seen = begin_call(CALLER); \
-        OUTPUTS(vname, arguments, __VA_ARGS__) \
+        OUTPUTS(vname, arguments, sends, __VA_ARGS__) \
         return r; \
     } \
     int name(ALL parameters, ...); \
@@ -103,7 +105,7 @@ static void note_output(uint64_t seen, const char *format, va_list given) {
         uint64_t seen = begin_call(CALLER); \
         va_list more; \
         va_start(more, format); \
-        OUTPUTS(vname, arguments, __VA_ARGS__) \
+        OUTPUTS(vname, arguments, sends, __VA_ARGS__) \
         va_end(more); \
         return r; \
     }
@@ -111,15 +113,15 @@ static void note_output(uint64_t seen, const char *format, va_list given) {
 #define WRITES_TEXT_WITHIN(s, n) WRITES(s, least((size_t)r + 1, n))
 #define WRITES_NEW_TEXT(s) WRITES(s, sizeof *s), WRITES_TEXT(*s)
 PRINTS(printf, vprintf, (const char *format), (format), )
-PRINTS(fprintf, vfprintf, (FILE *f, const char *format), (f, format), )
-PRINTS(dprintf, vdprintf, (int f, const char *format), (f, format), )
+PRINTS_TO(fprintf, vfprintf, (FILE *f, const char *format), (f, format), note_stream(OP_POST, f, seen), )
+PRINTS_TO(dprintf, vdprintf, (int f, const char *format), (f, format), note_transfer(OP_POST, f, seen), )
 PRINTS(sprintf, vsprintf, (char *s, const char *format), (s, format), WRITES_TEXT(s))
 PRINTS(snprintf, vsnprintf, (char *s, size_t n, const char *format), (s, n, format), WRITES_TEXT_WITHIN(s, n))
 PRINTS(asprintf, vasprintf, (char **s, const char *format), (s, format), WRITES_NEW_TEXT(s))
 /* What -D_FORTIFY_SOURCE makes of them. */
 PRINTS(__printf_chk, __vprintf_chk, (int k, const char *format), (k, format), )
-PRINTS(__fprintf_chk, __vfprintf_chk, (FILE *f, int k, const char *format), (f, k, format), )
-PRINTS(__dprintf_chk, __vdprintf_chk, (int f, int k, const char *format), (f, k, format), )
+PRINTS_TO(__fprintf_chk, __vfprintf_chk, (FILE *f, int k, const char *format), (f, k, format), note_stream(OP_POST, f, seen), )
+PRINTS_TO(__dprintf_chk, __vdprintf_chk, (int f, int k, const char *format), (f, k, format), note_transfer(OP_POST, f, seen), )
 PRINTS(__sprintf_chk, __vsprintf_chk, (char *s, int k, size_t room, const char *format), (s, k, room, format), WRITES_TEXT(s))
 PRINTS(__snprintf_chk, __vsnprintf_chk, (char *s, size_t n, int k, size_t room, const char *format), (s, n, k, room, format),
        WRITES_TEXT_WITHIN(s, n))
@@ -151,20 +153,21 @@ static void note_input(uint64_t seen, const char *format, va_list more, int stor
     }
 }
 
-#define INPUTS(vname, arguments, ...) \
+#define INPUTS(vname, arguments, gets, ...) \
         va_list given; \
         va_copy(given, more); \
         if (seen) { __VA_ARGS__; } \
         int r = KNOWN(vname, __typeof__(&as_##vname))(ALL arguments, more); \
+        if (seen) { gets; } \
         if (seen && r >= 0) note_input(seen, format, given, r); \
         va_end(given);
 /* By their symbols, for a header may give the functions of the C standard other names. */
-#define SCANS(name, vname, parameters, arguments, ...) \
+#define SCANS(name, vname, parameters, arguments, gets, ...) \
     KNOW(vname); \
     int as_##vname(ALL parameters, va_list more) __asm__(#vname); \
     PUBLIC int as_##vname(ALL parameters, va_list more) { \
         uint64_t seen = begin_call(CALLER); \
-        INPUTS(vname, arguments, __VA_ARGS__) \
+        INPUTS(vname, arguments, gets, __VA_ARGS__) \
         return r; \
     } \
     int as_##name(ALL parameters, ...) __asm__(#name); \
@@ -172,14 +175,14 @@ static void note_input(uint64_t seen, const char *format, va_list more, int stor
         uint64_t seen = begin_call(CALLER); \
         va_list more; \
         va_start(more, format); \
-        INPUTS(vname, arguments, __VA_ARGS__) \
+        INPUTS(vname, arguments, gets, __VA_ARGS__) \
         va_end(more); \
         return r; \
     }
-#define SCANS_BY_NAMES(name, vname, parameters, arguments, ...) \
-    SCANS(name, vname, parameters, arguments, __VA_ARGS__) \
-    SCANS(__isoc99_##name, __isoc99_##vname, parameters, arguments, __VA_ARGS__) \
-    SCANS(__isoc23_##name, __isoc23_##vname, parameters, arguments, __VA_ARGS__)
-SCANS_BY_NAMES(scanf, vscanf, (const char *format), (format), )
-SCANS_BY_NAMES(fscanf, vfscanf, (FILE *f, const char *format), (f, format), )
-SCANS_BY_NAMES(sscanf, vsscanf, (const char *s, const char *format), (s, format), READS(s, text(s)))
+#define SCANS_BY_NAMES(name, vname, parameters, arguments, gets, ...) \
+    SCANS(name, vname, parameters, arguments, gets, __VA_ARGS__) \
+    SCANS(__isoc99_##name, __isoc99_##vname, parameters, arguments, gets, __VA_ARGS__) \
+    SCANS(__isoc23_##name, __isoc23_##vname, parameters, arguments, gets, __VA_ARGS__)
+SCANS_BY_NAMES(scanf, vscanf, (const char *format), (format), , )
+SCANS_BY_NAMES(fscanf, vfscanf, (FILE *f, const char *format), (f, format), note_stream(OP_WAIT, f, seen), )
+SCANS_BY_NAMES(sscanf, vsscanf, (const char *s, const char *format), (s, format), , READS(s, text(s)))

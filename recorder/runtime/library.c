@@ -197,18 +197,27 @@ PUBLIC void qsort_r(void *p, size_t count, size_t size, int (*order)(const void 
 
 /* ---- files: what goes out is read before, for the call may wait ---- */
 BEFORE(int, puts, (const char *s), (s), READS(s, text(s)))
-BEFORE(int, fputs, (const char *s, FILE *f), (s, f), READS(s, text(s)))
-BEFORE(size_t, fwrite, (const void *p, size_t size, size_t n, FILE *f), (p, size, n, f), READS(p, array(size, n)))
-AFTER(size_t, fread, (void *p, size_t size, size_t n, FILE *f), (p, size, n, f), WRITES(p, array(size, r)))
-AFTER(char *, fgets, (char *s, int n, FILE *f), (s, n, f), if (r) WRITES(s, text(s)))
-static void got_line(uint64_t seen, char **line, size_t *room, ssize_t length) {
+BEFORE(int, fputs, (const char *s, FILE *f), (s, f), READS(s, text(s)); note_stream(OP_POST, f, seen))
+BEFORE(size_t, fwrite, (const void *p, size_t size, size_t n, FILE *f), (p, size, n, f),
+       READS(p, array(size, n)); note_stream(OP_POST, f, seen))
+BEFORE(int, fputc, (int c, FILE *f), (c, f), note_stream(OP_POST, f, seen))
+BEFORE(int, putc, (int c, FILE *f), (c, f), note_stream(OP_POST, f, seen))
+BEFORE(int, fflush, (FILE *f), (f), note_stream(OP_POST, f, seen))
+BEFORE(int, fclose, (FILE *f), (f), note_stream(OP_POST, f, seen))
+AFTER(size_t, fread, (void *p, size_t size, size_t n, FILE *f), (p, size, n, f), note_stream(OP_WAIT, f, seen); WRITES(p, array(size, r)))
+AFTER(char *, fgets, (char *s, int n, FILE *f), (s, n, f), note_stream(OP_WAIT, f, seen); if (r) WRITES(s, text(s)))
+AFTER(int, fgetc, (FILE *f), (f), note_stream(OP_WAIT, f, seen))
+AFTER(int, getc, (FILE *f), (f), note_stream(OP_WAIT, f, seen))
+static void got_line(uint64_t seen, FILE *f, char **line, size_t *room, ssize_t length) {
+    note_stream(OP_WAIT, f, seen);
+    if (length < 0) return;
     WRITES(line, sizeof *line);
     WRITES(room, sizeof *room);
     WRITES(*line, length + 1);
 }
-AFTER(ssize_t, getline, (char **line, size_t *n, FILE *f), (line, n, f), if (r >= 0) got_line(seen, line, n, r))
-AFTER(ssize_t, getdelim, (char **line, size_t *n, int c, FILE *f), (line, n, c, f), if (r >= 0) got_line(seen, line, n, r))
-AFTER(ssize_t, __getdelim, (char **line, size_t *n, int c, FILE *f), (line, n, c, f), if (r >= 0) got_line(seen, line, n, r))
+AFTER(ssize_t, getline, (char **line, size_t *n, FILE *f), (line, n, f), got_line(seen, f, line, n, r))
+AFTER(ssize_t, getdelim, (char **line, size_t *n, int c, FILE *f), (line, n, c, f), got_line(seen, f, line, n, r))
+AFTER(ssize_t, __getdelim, (char **line, size_t *n, int c, FILE *f), (line, n, c, f), got_line(seen, f, line, n, r))
 AFTER(ssize_t, getrandom, (void *p, size_t n, unsigned flags), (p, n, flags), if (r > 0) WRITES(p, r))
 
 /* ---- time: some results are in the library's own memory, the same for all threads ---- */

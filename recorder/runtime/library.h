@@ -1,7 +1,9 @@
 /* How the accesses of a function of the C library are recorded: as those of its caller, where that was compiled with
    -fsanitize=thread.  They are measured outside of a hook, so memory that isn't there is a fault of the program's own. */
+#include <errno.h>
 #include <stdarg.h>
 #include <stddef.h>
+#include <stdio.h>
 #include <string.h>
 #include "runtime.h"
 
@@ -12,6 +14,15 @@ uint64_t begin_call(uint64_t caller);
 void note_range(uint64_t seen, enum operation operation, const volatile void *p, uint64_t bytes);
 #define READS(p, bytes) note_range(seen, OP_READ, p, bytes)
 #define WRITES(p, bytes) note_range(seen, OP_WRITE, p, bytes)
+
+/* What is sent to a descriptor comes before what is got from its other end, if this may be in the process; of a stream also what
+   stays in its buffer. */
+void note_transfer(enum operation operation, int descriptor, uint64_t caller);
+static inline void note_stream(enum operation operation, FILE *f, uint64_t caller) {
+    int saved = errno, descriptor = f ? fileno(f) : -1;
+    errno = saved;
+    note_transfer(operation, descriptor, caller);
+}
 
 /* How far a text goes, with its end; of at most n bytes, where the end may not be met. */
 static inline size_t least(size_t n, size_t m) { return n < m ? n : m; }

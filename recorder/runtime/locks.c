@@ -244,3 +244,27 @@ PUBLIC int __cxa_guard_acquire(char *byte) {
     }
 LEAVES_GUARD(__cxa_guard_release, real_release)
 LEAVES_GUARD(__cxa_guard_abort, real_abort)
+
+/* of C++: a promise's value that is there when its thread ends. The C++ library stores that in code without hooks; so it is recorded
+   right before. Its own words are std::__at_thread_exit_elt, a weak_ptr to the state, and in this the status. */
+typedef struct { void *next; void (*function)(void *); char *state, *count; } value_at_end;
+enum { STATUS = 16, USERS = 8 };
+static void (*sets_status)(void *);
+static void comes_to_its_end(void *value_) {
+    value_at_end *value = value_;
+    thread *t = others && *(int *)(value->count + USERS) > 0 ? enter(MAY_YIELD) : 0;
+    if (t) {
+        put(t, OP_ATOMIC_STORE, value->state + STATUS, sizeof(int) | __ATOMIC_RELEASE << ATOMIC_SIZE_BITS, CALLER);
+        leave(t);
+    }
+    sets_status(value);
+}
+#define SETS_AT_END _ZNSt13__future_base13_State_baseV211_Make_ready6_M_setEv
+void SETS_AT_END(value_at_end *);
+PUBLIC void SETS_AT_END(value_at_end *value) {
+    static void (*real)(value_at_end *);
+    if (!real) real = (void (*)(value_at_end *))next_symbol("_ZNSt13__future_base13_State_baseV211_Make_ready6_M_setEv");
+    real(value);
+    sets_status = value->function;
+    value->function = comes_to_its_end;
+}

@@ -1,16 +1,17 @@
 /* What is written to a descriptor comes before what is read at its other end: through a duplicate, a FIFO that is opened by
-   its name, and a connection within the process. */
+   its name, a connection within the process, and streams. */
 #define _GNU_SOURCE
 #include <fcntl.h>
 #include <netinet/in.h>
 #include <pthread.h>
+#include <stdio.h>
 #include <stdlib.h>
 #include <sys/socket.h>
 #include <sys/stat.h>
 #include <unistd.h>
 
-enum { WAYS = 5 };
-static int data[WAYS], reply, racy, ends[2], copies[3];
+enum { WAYS = 7 };
+static int data[WAYS], reply, racy, ends[2], copies[3], streams[2];
 static char folder[] = "/tmp/descriptorsXXXXXX";
 static struct sockaddr_in at = {.sin_family = AF_INET};
 
@@ -35,6 +36,13 @@ static void *work(void *unused) {
     if (connect(f, (struct sockaddr *)&at, sizeof at)) exit(1);
     send_byte(f);
     get_byte(f);
+    FILE *out = fdopen(streams[1], "w");
+    data[5] = 1;
+    fputs("x\n", out);
+    fflush(out);
+    data[6] = 1;
+    fprintf(out, "%d\n", 7);
+    fclose(out);
     return reply == 1 ? 0 : &data;
 }
 
@@ -46,7 +54,7 @@ int main(void) {
     at.sin_addr.s_addr = htonl(INADDR_LOOPBACK);
     if (bind(listener, (struct sockaddr *)&at, size) || listen(listener, 5)) return 1;
     getsockname(listener, (struct sockaddr *)&at, &size);
-    if (!mkdtemp(folder) || chdir(folder) || mkfifo("fifo", 0600) || pipe(ends)) return 1;
+    if (!mkdtemp(folder) || chdir(folder) || mkfifo("fifo", 0600) || pipe(ends) || pipe(streams)) return 1;
     copies[0] = dup(ends[1]);
     copies[1] = fcntl(ends[1], F_DUPFD, 50);
     copies[2] = dup2(copies[1], 70);
@@ -64,6 +72,13 @@ int main(void) {
     sum += data[4];
     reply = 1;
     send_byte(f);
+    char line[9];
+    int number;
+    FILE *in = fdopen(streams[0], "r");
+    if (!fgets(line, sizeof line, in)) return 1;
+    sum += data[5];
+    if (fscanf(in, "%d", &number) != 1 || number != 7) return 1;
+    sum += data[6];
     pthread_join(t, &failed);
     unlink("fifo");
     if (chdir("/") || rmdir(folder)) return 1;
