@@ -103,10 +103,11 @@ typedef struct {
 typedef struct {
     u32 user : 28, many_users : 1, written : 1, written_atomically : 1;          /* the first thread that used it, plus one */
     u32 reader : 28, many_readers : 1;                       /* and that read it plainly */
+    u32 open : 1, mixed_open : 1;      /* by order.c */
 } piece_use;
 extern u64 range_steps;                /* in this pass: pages and pieces after the first of each range */
 void begin_memory_pass(void);
-block *meet_block(u64 i);              /* it, or null; each pass calls it for each record: the newest block holds its addresses */
+block *meet_block(u64 i);              /* it, or null; each pass calls it for each OP_ALLOC and OP_START: the newest block holds its addresses */
 block *block_at(u64 address);          /* or null */
 u32 block_number(const block *b);      /* from 1; of null 0 */
 block *block_of(u32 number);
@@ -130,10 +131,12 @@ void stack_of_thread(u32 t, u32 number);
 void stack_of_block(const block *b, u32 number);
 void note_free(u64 first, u64 last);   /* the events of one call that frees a block */
 void note_atomic(u64 i, u64 object);   /* a use of an atomic that several threads use */
+void forget_calls(void);               /* between the passes that meet them */
 void end_stacks(void);
 
 /* accesses.c, objects.c: what the passes do with a record. */
 extern int whole_trace;                /* also what cannot conflict */
+extern int only_open;                  /* of pieces only those with conflicting accesses that are left open */
 extern u32 *known;                     /* of each record: 0 where the passes that follow pass over it (accesses.c) */
 void find_users(u64 i);
 void find_cuts(u64 i);
@@ -145,9 +148,26 @@ void forget_states(void);              /* of objects, between the passes */
 int holds_unwritten(u32 t);            /* does it hold a lock whose acquire isn't in the trace? */
 void write_holds(u32 t);               /* writes these */
 u64 held_locks(u32 t);                 /* equal where it holds the same locks by which it orders no other thread */
+u64 all_held_locks(u32 t);             /* equal where it holds the same locks */
 void access_events(u64 i);
+void leave_out_closed(u64 i);          /* pieces that aren't open */
 void object_events(u64 i);
 void fence_events(u64 i);
+
+/* order.c: what locks, threads and the like order. */
+/* The passes in which events are met: the last one writes them. */
+extern enum phase { ORDERING, FINDING_REPEATED, WRITING } phase;
+void order_fork(u32 t, u32 child), order_join(u32 t, u32 child);
+void order_acquire(u32 t, u64 object, u64 which);            /* a lock, by two words */
+void order_release(u32 t, u64 object, u64 which, int is_last);       /* is_last: nobody takes it any more */
+void pass_release(u32 t);              /* in the pass after it, at each release that isn't the last one, and at each fork */
+void order_access(u32 piece, u32 t, int writes);
+void order_mixed_access(u32 piece, u32 t, int writes);       /* an atomic write, or a plain read of what is also written so */
+int order_is_known(void);              /* if not, the next three can't be asked */
+int is_open(u32 piece);                /* are conflicting accesses of it left open? */
+int is_mixed_open(u32 piece);          /* atomic writes and plain reads? */
+int may_be_in_open_pair(u32 piece, u32 t, int writes);                   /* of an open piece, the access that comes next */
+int may_be_in_mixed_pair(u32 piece, u32 t, int writes);
 
 /* A list of threads is the number of its first entry, or 0. */
 typedef struct { u32 thread, next; } list_entry;
@@ -163,6 +183,7 @@ void name_by_own(u32 t, u64 function); /* the same, by one that it enters, if th
 void give_name(u32 t, const char *piece, int is_first);      /* a piece of one that the program gave; the main thread keeps its own */
 const char *thread_name(u32 t);        /* with an end */
 u64 thread_epoch(u32 t);               /* it grows with each event of the thread that could order another */
+int has_events(u32 t);
 part name_of_thread(u32 t);
 part variable_name(u64 address, const block *b);             /* it stands until the next call */
 void event(u32 t, const char *operation, part name, const char *tail, u64 caller);

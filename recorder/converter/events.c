@@ -10,7 +10,8 @@ u64 event_limit = SHB_EVENTS, events;
 int into_windows;
 const char *cut_reason;
 static u64 bytes;
-static struct { char name[THREAD_BYTES]; u32 length, in_windows; u64 epoch; } threads[THREADS];   /* in_windows: its number in windows.c */
+/* in_windows: its number in windows.c, from its first event on */
+static struct { char name[THREAD_BYTES]; u32 length, in_windows; u64 epoch; } threads[THREADS];
 
 static uint8_t is_named[THREADS];      /* has it a name besides its number? */
 
@@ -53,6 +54,7 @@ part name_of_thread(u32 t) {
 const char *thread_name(u32 t) { return name_of_thread(t).at; }
 
 u64 thread_epoch(u32 t) { return threads[t].epoch; }
+int has_events(u32 t) { return threads[t].in_windows > 0; }
 
 /* ---- texts: each adds to what is written before `to`, and gives where the next may stand ---- */
 /* Most are short: a few words, copied where they stand, cost less than a call. */
@@ -163,6 +165,7 @@ static char *add_line(char *to, u32 t, const char *operation, part name, const c
 
 static enum window_kind kind_of(const char *operation) {
     if (!operation[1]) return WINDOW_ACCESS;
+    if (*operation == 'b') return WINDOW_MARK;
     return *operation == 'a' ? WINDOW_ACQUIRE : *operation == 'r' ? WINDOW_RELEASE : *operation == 'f' ? WINDOW_FORK : WINDOW_JOIN;
 }
 

@@ -1,8 +1,9 @@
 /* shb-std: turns a record of the recorder into an STD trace.
 
-   Four passes over the record.  The first meets the blocks of memory and finds those that one thread alone uses; the
+   Passes over the record.  The first meets the blocks of memory and finds those that one thread alone uses; the
    second cuts what is left into pieces; the third finds which pieces and objects are shared, and who reads what; the
-   fourth writes the events, into one trace or into windows.  README.md has the table of what becomes what. */
+   last writes the events, into one trace or into windows.  With -r two come before it: one finds what is left open, the
+   other what repeats.  README.md has the table of what becomes what. */
 #define _GNU_SOURCE
 #include <errno.h>
 #include <getopt.h>
@@ -41,6 +42,35 @@ static void find_sharing(u64 i) {
     if (is_for_object(i)) share_object(i);
 }
 
+static void meet_events(u64 i) {
+    enum operation operation = operation_of(i);
+    if (is_of_stack(operation) || operation == OP_FORK || operation == OP_JOIN) return;
+    if (operation == OP_FENCE) fence_events(i);
+    else if (is_for_object(i)) object_events(i);
+    else access_events(i);
+}
+
+static void find_order(u64 i) {
+    if (operation_of(i) == OP_FORK) order_fork(thread_of(i), other_thread_of(i));
+    if (operation_of(i) == OP_JOIN) order_join(thread_of(i), other_thread_of(i));
+    meet_events(i);
+}
+
+static void find_repeated(u64 i) {
+    leave_out_closed(i);
+    if (!known[i]) return;
+    meet_call(i);
+    meet_events(i);
+}
+
+static u32 forked_by[THREADS];         /* plus one */
+
+/* Who joins a thread comes after who forked it only by an event in between. */
+static void write_join(u32 t, u32 child, u64 caller) {
+    if (!has_events(child) && forked_by[child] && forked_by[child] != t + 1) event(child, "begin", name_of_thread(child), "", caller);
+    event(t, "join", name_of_thread(child), "", caller);
+}
+
 static void write_events(u64 i) {
     enum operation operation = operation_of(i);
     meet_call(i);
@@ -48,9 +78,11 @@ static void write_events(u64 i) {
     if (operation == OP_FORK && other_thread_of(i) >= SHB_THREADS && !into_windows) cut_reason = "before a thread too many: shb takes 1,024";
     else if (operation == OP_FORK) {
         event(thread_of(i), "fork", name_of_thread(other_thread_of(i)), "", caller_of(i));
+        pass_release(thread_of(i));
+        forked_by[other_thread_of(i)] = thread_of(i) + 1;
         stack_of_thread(other_thread_of(i), stack_at(thread_of(i), caller_of(i)));
     }
-    else if (operation == OP_JOIN) event(thread_of(i), "join", name_of_thread(other_thread_of(i)), "", caller_of(i));
+    else if (operation == OP_JOIN) write_join(thread_of(i), other_thread_of(i), caller_of(i));
     else if (operation == OP_FENCE) fence_events(i);
     else if (is_for_object(i)) object_events(i);
     else {
@@ -80,20 +112,34 @@ static inline __attribute__((always_inline)) void pass(void (*step)(u64), int is
             record_count = i;
             break;
         }
-        if (operation_of(i) == OP_SIZE) continue;
-        if (operation_of(i) == OP_FORK && !meet_fork(i)) {
+        enum operation operation = operation_of(i);
+        if (operation == OP_SIZE) continue;
+        if (operation == OP_FORK && !meet_fork(i)) {
             shortened = "before a thread too many: shb-std takes 1,048,576";
             record_count = i;
             break;
         }
-        if (operation_of(i) == OP_JOIN) meet_join(i);
-        block *b = meet_block(i);
+        if (operation == OP_JOIN) meet_join(i);
+        block *b = operation == OP_ALLOC || operation == OP_START ? meet_block(i) : 0;
         step(i);
-        if (b && step == write_events && operation_of(i) == OP_ALLOC) name_block(b, i);
+        if (b && step == write_events && operation == OP_ALLOC) name_block(b, i);
         if (range_steps <= MAX_RANGE_STEPS) continue;
         shortened = "where its accesses of long ranges take too much work";
         record_count = i;
     }
+}
+
+/* Of the pieces that two threads use only those with a pair that is left open. */
+static void find_open(void) {
+    phase = ORDERING;
+    pass(find_order, 0);
+    forget_states();
+    only_open = order_is_known();
+    phase = FINDING_REPEATED;
+    if (only_open) pass(find_repeated, 0);
+    phase = WRITING;
+    forget_states();
+    forget_calls();
 }
 
 static const char help[] =
@@ -110,6 +156,7 @@ static const char help[] =
     "                 blocks allocated\n"
     "  -n EVENTS      at most so many events, of the trace or of each window (4194304)\n"
     "  -a             also what can't conflict\n"
+    "  -r             only what a race needs: leave out what locks, threads and the like order, and what repeats\n"
     "  --strip DIR    files below this folder are named by their paths from it; else a file is named by the\n"
     "                 end of its path that no other file of the program has\n"
     "  -p             whole paths\n"
@@ -125,7 +172,7 @@ static void read_words(int count, char **words) {
                                             {"strip", required_argument, 0, 'd'}, {"one-by-one", no_argument, &one_by_one, 1},
                                             {"help", no_argument, 0, 'h'}, {0, 0, 0, 0}};
     opterr = 0;
-    for (int c; (c = getopt_long(count, words, "ahn:p", options, 0)) >= 0;)
+    for (int c; (c = getopt_long(count, words, "ahn:pr", options, 0)) >= 0;)
         if (c == 'h') {
             fputs(help, stdout);
             exit(0);
@@ -133,6 +180,7 @@ static void read_words(int count, char **words) {
         else if (c == 's') stacks_path = optarg;
         else if (c == 'd') strip_folder(optarg);
         else if (c == 'a') whole_trace = 1;
+        else if (c == 'r') only_open = 1;
         else if (c == 'p') whole_paths = 1;
         else if (c && (c != 'n' || !(event_limit = strtoull(optarg, 0, 10)))) bad_words();
     if (optind + 1 != count) bad_words();
@@ -167,6 +215,8 @@ int main(int count, char **words) {
     find_places();
     pass(find_sharing, 0);
     forget_states();
+    if (only_open && !whole_trace) find_open();
+    else only_open = 0;
     pass(write_events, 0);
     end_trace();
     if (!cut_reason) cut_reason = shortened;

@@ -111,14 +111,12 @@ void begin_memory_pass(void) {
 }
 
 block *meet_block(u64 i) {
-    enum operation operation = operation_of(i);
-    if (operation != OP_ALLOC && operation != OP_START) return 0;
     u64 size = size_of(i), from = address_of(i) & ~(GRAIN - 1ull);
     u64 end = (address_of(i) + size + GRAIN - 1) & ~(GRAIN - 1ull);
     if (!size || size >= MAX_BLOCK) return 0;
     if (++met > block_count) {         /* in the first pass */
         GROW(blocks, block_count, block_capacity);
-        blocks[block_count++] = (block){address_of(i), size, caller_of(i), operation == OP_START, 0, 0, thread_of(i), 0};
+        blocks[block_count++] = (block){address_of(i), size, caller_of(i), operation_of(i) == OP_START, 0, 0, thread_of(i), 0};
         cut(from);
         cut(end);
     }

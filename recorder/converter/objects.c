@@ -16,7 +16,7 @@ typedef struct {
     gift *gifts;                       /* what its present value gives */
     u64 gift_count, gift_capacity;
     u32 posts, *waiters;               /* of a semaphore; of a reader-writer lock: the readers since the last writer */
-    u64 waiter_count, waiter_capacity;
+    u64 waiter_count, waiter_capacity, first_waiters;        /* of a semaphore: all that ever wait */
     u32 count, users, arrivals;        /* of a barrier */
     uint8_t many_users, recounted;     /* recounted: begun again with another count */
     uint8_t foreign;                   /* released by another thread than took it */
@@ -201,7 +201,10 @@ void share_object(u64 i) {
         o->holder = 0;
         new_version(o, t);
         break;
-    case OP_WAIT: add_waiter(o, t); break;
+    case OP_WAIT:
+        add_waiter(o, t);
+        o->first_waiters = o->waiter_count;
+        break;
     case OP_BARRIER_INIT:
         if (o->count && o->count != size_of(i)) o->recounted = 1;
         o->count = size_of(i);
@@ -214,24 +217,34 @@ void share_object(u64 i) {
     }
 }
 
+static void forget_holds(void);
+
 void forget_states(void) {
     for (u64 i = 0; i < object_count; i++) {
-        objects[i].depth = objects[i].holder = objects[i].version = objects[i].head = 0;
-        objects[i].gift_count = 0;
+        object *o = &objects[i];
+        o->depth = o->holder = o->version = o->head = o->posts = o->arrivals = o->writer = 0;
+        o->gift_count = 0;
+        o->waiter_count = o->first_waiters;
     }
     for (u32 t = 0; t < thread_bound(); t++) fences[t].count = fences[t].fenced = 0;
     if (seen_count) memset(seen, 0, seen_count * sizeof *seen);
     if (seen_count) memset(noted, 0, seen_count * sizeof *noted);
+    forget_holds();
 }
 
 /* ---- 4: locks that are held and order nothing: of one thread alone, and reader-writer locks, whose order is told by
    locks of their own.  Such a lock is acquired in the trace right before its thread's next event, if there is one until
    the release: so each lock that is held at an access in the trace is there. ---- */
 typedef struct { u64 caller; u32 object, stack; uint8_t reads, written; } hold;
-static struct { hold *list; u64 count, capacity, unwritten, sum; } held[THREADS];
+static struct { hold *list; u64 count, capacity, unwritten, sum, others; } held[THREADS];    /* others: a sum of those that order */
+
+static void forget_holds(void) {
+    for (u32 t = 0; t < thread_bound(); t++) held[t].count = held[t].unwritten = held[t].sum = held[t].others = 0;
+}
 
 int holds_unwritten(u32 t) { return held[t].unwritten > 0; }
 u64 held_locks(u32 t) { return held[t].sum; }
+u64 all_held_locks(u32 t) { return held[t].sum + held[t].others; }
 
 static void write_hold(u32 t, const hold *h, const char *operation, u64 caller, u32 stack) {
     char reader[THREAD_BYTES + 20] = "";
@@ -250,6 +263,7 @@ void write_holds(u32 t) {
 }
 
 static void take_hold(object *o, u32 t, int reads, u64 caller) {
+    if (phase == ORDERING) return;
     GROW(held[t].list, held[t].count, held[t].capacity);
     held[t].list[held[t].count++] = (hold){own_place(t, caller), o - objects, stack_at(t, caller), reads, 0};
     held[t].unwritten++;
@@ -288,42 +302,54 @@ static void holds_after(u64 i, object *o, int is_private) {
 }
 
 /* ---- 4: events ---- */
-static void lock_event(object *o, u32 t, const char *operation, const char *tail, u64 caller) {
+/* Which of an object's locks: its own (no sign); "X@3", of its third version; "X@3>T2" (passed to T2), "X@3<T2" (passed by T2);
+   with "@@" of a second object at an address. */
+typedef struct { char sign; u32 version, thread; } which;
+static const which own = {0};
+static which of_version(u32 version) { return (which){'@', version, 0}; }
+static which to_thread(u32 version, u32 t) { return (which){'>', version, t}; }
+static which by_thread(u32 version, u32 t) { return (which){'<', version, t}; }
+
+static void lock_event(object *o, u32 t, const char *operation, which w, u64 caller) {
+    char tail[120] = "";
+    int length = w.sign ? snprintf(tail, sizeof tail, "%s%u", o->mark, w.version) : 0;
+    if (w.sign && w.sign != '@') snprintf(tail + length, sizeof tail - length, "%c%s", w.sign, thread_name(w.thread));
     event(t, operation, variable_name(o->at, block_at(o->at)), tail, caller);
 }
 
-static void pass_lock(object *o, u32 t, const char *tail, u64 caller) {
-    lock_event(o, t, "acq", tail, caller);
-    lock_event(o, t, "rel", tail, caller);
+static void take_lock(object *o, u32 t, which w, u64 caller) {
+    if (phase == ORDERING) order_acquire(t, (u64)(o - objects) << 8 | w.sign, (u64)w.thread << 32 | w.version);
+    if (phase == WRITING) lock_event(o, t, "acq", w, caller);
+    held[t].others += mix(o - objects, w.sign);
 }
 
-/* Locks of the object's own: "X@3"; "X@3>T2" (passed to T2), "X@3<T2" (passed by T2); "X@@3" of a second one at an address. */
-static const char *tail(const object *o, u32 version) {
-    static char text[20];
-    snprintf(text, sizeof text, "%s%u", o->mark, version);
-    return text;
+static void leave_lock(object *o, u32 t, which w, u64 caller) {
+    int is_last = w.sign == '>' && w.thread == t;
+    if (phase == ORDERING) order_release(t, (u64)(o - objects) << 8 | w.sign, (u64)w.thread << 32 | w.version, is_last);
+    if (phase == WRITING) lock_event(o, t, "rel", w, caller);
+    if (phase == WRITING && !is_last) pass_release(t);
+    held[t].others -= mix(o - objects, w.sign);
 }
 
-static const char *thread_tail(const object *o, u32 version, char sign, u32 t) {
-    static char text[120];
-    snprintf(text, sizeof text, "%s%u%c%s", o->mark, version, sign, thread_name(t));
-    return text;
+static void pass_lock(object *o, u32 t, which w, u64 caller) {
+    take_lock(o, t, w, caller);
+    leave_lock(o, t, w, caller);
 }
 
 static void publish_version(object *o, u32 t, u32 version, u64 caller) {
     u32 number = map_find(&version_map, o - objects, version);
     for (u32 k = number ? version_readers[number - 1] : 0; k; k = list_entries[k - 1].next)
-        pass_lock(o, t, thread_tail(o, version, '>', list_entries[k - 1].thread), caller);
+        pass_lock(o, t, to_thread(version, list_entries[k - 1].thread), caller);
 }
 
 static void publish(object *o, u32 t, u64 caller) { publish_version(o, t, o->version, caller); }
 
 static void receive(object *o, u32 t, u64 caller) {
-    if (sees_version(o, t)) pass_lock(o, t, thread_tail(o, o->version, '>', t), caller);
+    if (sees_version(o, t)) pass_lock(o, t, to_thread(o->version, t), caller);
 }
 
 static void take_version(object *o, u32 version, u32 t, u64 caller) {
-    pass_lock(o, t, thread_tail(o, version, '>', t), caller);
+    pass_lock(o, t, to_thread(version, t), caller);
 }
 
 void fence_events(u64 i) { pass_fence(i, take_version); }
@@ -334,43 +360,43 @@ static void atomic_events(u64 i, object *o) {
     u64 caller = caller_of(i);
     int stores = operation_of(i) == OP_ATOMIC_STORE, loads = operation_of(i) == OP_ATOMIC_LOAD;
     int by_lock = is_by_lock(i) || (stores && gives(i));
-    if (o->many_users) note_atomic(i, o - objects);
+    if (o->many_users && phase == WRITING) note_atomic(i, o - objects);
     if (!stores) read_value(i, o, by_lock, take_version);
     if (!loads) write_value(i, o);
-    if (by_lock) lock_event(o, t, "acq", tail(o, o->head), caller);
+    if (by_lock) take_lock(o, t, of_version(o->head), caller);
     access_events(i);
-    if (by_lock) lock_event(o, t, "rel", tail(o, o->head), caller);
+    if (by_lock) leave_lock(o, t, of_version(o->head), caller);
     if (!loads && gives(i)) publish(o, t, caller);
 }
 
 static void write_lock_events(object *o, u32 t, u64 caller) {
-    pass_lock(o, t, tail(o, o->version), caller);
-    for (u64 k = 0; k < o->waiter_count; k++) pass_lock(o, t, thread_tail(o, o->version, '<', o->waiters[k]), caller);
+    pass_lock(o, t, of_version(o->version), caller);
+    for (u64 k = 0; k < o->waiter_count; k++) pass_lock(o, t, by_thread(o->version, o->waiters[k]), caller);
     o->waiter_count = 0;
     o->holder = t + 1;
 }
 
 static void rw_unlock_events(object *o, u32 t, u64 caller) {
     if (o->holder != t + 1) {          /* a reader */
-        pass_lock(o, t, thread_tail(o, o->version, '<', t), caller);
+        pass_lock(o, t, by_thread(o->version, t), caller);
         add_waiter(o, t);
         return;
     }
     o->holder = 0;
     new_version(o, t);
-    pass_lock(o, t, tail(o, o->version), caller);
+    pass_lock(o, t, of_version(o->version), caller);
     publish(o, t, caller);
 }
 
 static void post_events(object *o, u32 t, u64 caller) {
     o->posts++;
     for (u64 k = 0; k < o->waiter_count; k++)
-        if (o->waiters[k] != t) pass_lock(o, t, thread_tail(o, o->posts, '>', o->waiters[k]), caller);
+        if (o->waiters[k] != t) pass_lock(o, t, to_thread(o->posts, o->waiters[k]), caller);
 }
 
 static void wait_events(object *o, u32 t, u64 caller) {
     u32 *last = seen_by(o, t);
-    for (u32 k = *last + 1; k <= o->posts && !cut_reason; k++) pass_lock(o, t, thread_tail(o, k, '>', t), caller);
+    for (u32 k = *last + 1; k <= o->posts && !cut_reason; k++) pass_lock(o, t, to_thread(k, t), caller);
     *last = o->posts;
 }
 
@@ -379,7 +405,7 @@ static void arrive_events(object *o, u32 t, u64 caller) {    /* rounds are told 
     u32 round = has_rounds ? o->arrivals / o->count : 0;
     o->arrivals++;
     *seen_by(o, t) = round;
-    pass_lock(o, t, tail(o, round), caller);
+    pass_lock(o, t, of_version(round), caller);
 }
 
 static void order_events(u64 i, object *o) {
@@ -387,8 +413,9 @@ static void order_events(u64 i, object *o) {
     u64 caller = caller_of(i);
     switch (operation_of(i)) {
     case OP_LOCK: case OP_UNLOCK:
-        if (o->foreign) pass_lock(o, t, "", caller);
-        else lock_event(o, t, operation_of(i) == OP_LOCK ? "acq" : "rel", "", caller);
+        if (o->foreign) pass_lock(o, t, own, caller);
+        else if (operation_of(i) == OP_LOCK) take_lock(o, t, own, caller);
+        else leave_lock(o, t, own, caller);
         break;
     case OP_READ_LOCK: receive(o, t, caller); break;
     case OP_WRITE_LOCK: write_lock_events(o, t, caller); break;
@@ -396,7 +423,7 @@ static void order_events(u64 i, object *o) {
     case OP_POST: post_events(o, t, caller); break;
     case OP_WAIT: wait_events(o, t, caller); break;
     case OP_ARRIVE: arrive_events(o, t, caller); break;
-    case OP_DEPART: pass_lock(o, t, tail(o, *seen_by(o, t)), caller); break;
+    case OP_DEPART: pass_lock(o, t, of_version(*seen_by(o, t)), caller); break;
     case OP_ATOMIC_LOAD: case OP_ATOMIC_STORE: case OP_ATOMIC_UPDATE: atomic_events(i, o); break;
     default: break;
     }

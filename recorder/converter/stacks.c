@@ -155,6 +155,14 @@ u32 stack_at(u32 t, u64 caller) {
     return s->last;
 }
 
+void forget_calls(void) {
+    for (u32 t = 0; t < thread_bound(); t++) {
+        calls_of_thread *s = &stacks[t];
+        s->count = s->known = s->owned = s->told_depth = s->depth = s->last = 0;
+    }
+    has_way = 0;
+}
+
 /* ---- what is of use to a reader ---- */
 static void use(u32 number) {
     for (; number && !nodes[number].used; number = nodes[number].outer) nodes[number].used = 1;

@@ -37,7 +37,8 @@ class Program(recorder.Case):
             trace = right(recorder.convert(path)).stdout
             places = recorder.places(trace)
             if seed < 2 and self.source.name not in CUT:
-                self.assertEqual(places, recorder.places(recorder.must(recorder.convert(path, "-a")).stdout))
+                for option in ("-a", "-r"):
+                    self.assertEqual(places, recorder.places(recorder.must(recorder.convert(path, option)).stdout))
             found |= {line for pair in places for line in pair}
             most_events = max(most_events, trace.count(b"\n"))
         self.assertEqual(found, self.marked())

@@ -186,6 +186,105 @@ class Held(recorder.Case):
         self.assertEqual(recorder.places(trace), {("0x103", "0x202")})  # a trace that is taken
 
 
+GUARDED, DATA, FLAG, LATE, MIXED, TAKEN = (0x10000100 + 16 * k for k in range(6))
+OPEN = [  # with -r: what locks, threads and the like order is left out, what a read alone orders isn't
+    (entry(0, "WRITE", CELL, 0x101, 4), []),
+    (entry(0, "FORK", 1, 0x102), ["main|fork(T1)|0x102"]),
+    (entry(1, "WRITE", CELL, 0x201, 4), []),  # after the fork
+    (entry(1, "READ", CELL, 0x202, 4), []),
+    (entry(1, "LOCK", LOCK, 0x203), ["T1|acq(0x10000010)|0x203"]),
+    (entry(1, "WRITE", GUARDED, 0x204, 4), []),
+    (entry(1, "WRITE", DATA, 0x205, 4), ["T1|w(0x10000110)|0x205"]),
+    (entry(1, "UNLOCK", LOCK, 0x206), ["T1|rel(0x10000010)|0x206"]),
+    (entry(1, "WRITE", FLAG, 0x207, 4), ["T1|w(0x10000120)|0x207"]),
+    (entry(1, "ATOMIC_STORE", MIXED, 0x208, 4 | RELAXED), ["T1|w(0x10000140!T1)|0x208"]),
+    (entry(1, "ATOMIC_STORE", TAKEN, 0x209, 4 | RELEASE),
+     ["T1|acq(0x10000150@1)|0x209", "T1|rel(0x10000150@1)|0x209", "T1|acq(0x10000150@1>main)|0x209", "T1|rel(0x10000150@1>main)|0x209"]),
+    (entry(1, "WRITE", LATE, 0x20a, 4), []),
+    (entry(0, "READ", FLAG, 0x103, 4), ["main|r(0x10000120)|0x103"]),
+    (entry(0, "READ", DATA, 0x104, 4), ["main|r(0x10000110)|0x104"]),
+    (entry(0, "READ", MIXED, 0x105, 4), ["main|r(0x10000140!T1)|0x105"]),
+    (entry(0, "LOCK", LOCK, 0x106), ["main|acq(0x10000010)|0x106"]),
+    (entry(0, "READ", GUARDED, 0x107, 4), []),
+    (entry(0, "UNLOCK", LOCK, 0x108), ["main|rel(0x10000010)|0x108"]),
+    (entry(0, "ATOMIC_LOAD", TAKEN, 0x109, 4 | ACQUIRE), ["main|acq(0x10000150@1>main)|0x109", "main|rel(0x10000150@1>main)|0x109"]),
+    (entry(0, "READ", TAKEN, 0x10a, 4), []),  # the load before took what the store gave
+    (entry(0, "JOIN", 1, 0x10b), ["main|join(T1)|0x10b"]),
+    (entry(0, "READ", LATE, 0x10c, 4), []),
+    (entry(0, "FORK", 2, 0x10d), ["main|fork(T2)|0x10d"]),
+    (entry(2, "WRITE", LATE, 0x20b, 4), ["T2|w(0x10000130)|0x20b"]),
+    (entry(0, "READ", LATE, 0x10e, 4), ["main|r(0x10000130)|0x10e"]),  # not ordered: so all of LATE is there
+]
+for number, line in ((11, "T1|w(0x10000130)|0x20a"), (21, "main|r(0x10000130)|0x10c")):
+    OPEN[number] = OPEN[number][0], [line]
+
+
+X = "w(0x10000060)"
+REPEATED = [  # with -r, of a variable that races: what is ordered once, and of what repeats the first and the last
+    (entry(0, "WRITE", CELL, 0x101, 4), [f"main|{X}|0x101"]),
+    (entry(0, "WRITE", CELL, 0x101, 4), []),
+    (entry(0, "WRITE", CELL, 0x101, 4), []),
+    (entry(0, "FORK", 1, 0x102), ["main|fork(T1)|0x102"]),
+    (entry(1, "WRITE", CELL, 0x201, 4), [f"T1|{X}|0x201"]),
+    (entry(1, "WRITE", CELL, 0x201, 4), []),
+    (entry(1, "WRITE", CELL, 0x201, 4), []),
+    (entry(1, "WRITE", CELL, 0x202, 4), [f"T1|{X}|0x202"]),
+    (entry(1, "WRITE", CELL, 0x201, 4), [f"T1|{X}|0x201"]),
+    (entry(0, "WRITE", CELL, 0x103, 4), [f"main|{X}|0x103"]),
+    (entry(0, "WRITE", CELL, 0x103, 4), [f"main|{X}|0x103"]),
+    (entry(1, "WRITE", CELL, 0x201, 4), [f"T1|{X}|0x201"]),
+    (entry(0, "WRITE", CELL, 0x103, 4), [f"main|{X}|0x103"]),
+    (entry(0, "LOCK", LOCK, 0x104), []),
+    (entry(0, "WRITE", CELL, 0x103, 4), ["main|acq(0x10000010)|0x104", f"main|{X}|0x103"]),
+    (entry(0, "UNLOCK", LOCK, 0x105), ["main|rel(0x10000010)|0x105"]),
+    (entry(0, "JOIN", 1, 0x106), ["main|join(T1)|0x106"]),
+    (entry(0, "WRITE", CELL, 0x107, 4), [f"main|{X}|0x107"]),  # main gave nothing since 0x103, so it counts as open too
+    (entry(0, "WRITE", CELL, 0x107, 4), []),
+    (entry(0, "WRITE", CELL, 0x107, 4), [f"main|{X}|0x107"]),
+]
+
+
+class Open(recorder.Case):
+    def setUp(self):
+        super().setUp()
+        self.record = self.folder / "app.rec"
+
+    def test_what_is_ordered_is_left_out(self):
+        self.record.write_bytes(HEADER + b"".join(entries for entries, _ in OPEN))
+        trace = recorder.must(recorder.convert(self.record, "-r")).stdout
+        self.assertEqual(trace.decode().splitlines(), [line for _, lines in OPEN for line in lines])
+        races = {("0x103", "0x207"), ("0x105", "0x208"), ("0x10e", "0x20b")}  # of DATA none: the read of FLAG orders it
+        self.assertEqual(recorder.places(trace), races)
+        self.assertEqual(recorder.places(recorder.must(recorder.convert(self.record)).stdout), races)
+
+    def test_what_repeats_is_left_out(self):
+        self.record.write_bytes(HEADER + b"".join(entries for entries, _ in REPEATED))
+        trace = recorder.must(recorder.convert(self.record, "-r")).stdout
+        self.assertEqual(trace.decode().splitlines(), [line for _, lines in REPEATED for line in lines])
+        self.assertEqual(recorder.places(trace), {("0x103", "0x201"), ("0x103", "0x202")})
+        self.assertEqual(recorder.places(recorder.must(recorder.convert(self.record)).stdout), recorder.places(trace))
+
+    def test_a_thread_without_events_that_another_one_joins(self):
+        """It comes after what its creator did, and before what the joining thread does."""
+        entries = [entry(0, "FORK", 1, 0x101), entry(0, "WRITE", CELL, 0x102, 4), entry(0, "FORK", 2, 0x103), entry(1, "JOIN", 2, 0x201),
+                   entry(1, "WRITE", CELL, 0x202, 4)]
+        self.record.write_bytes(HEADER + b"".join(entries))
+        for words in ((), ("-r",), ("-a",), ("--windows", self.folder / "windows")):
+            trace = recorder.must(recorder.convert(self.record, *words)).stdout or (self.folder / "windows" / "window-0001.std").read_bytes()
+            self.assertIn(b"T2|begin(T2)|0x201\nT1|join(T2)|0x201\n", trace)
+            self.assertEqual(recorder.places(trace), set())
+
+    def test_more_threads_than_are_ordered(self):
+        """At one time; then nothing is left out."""
+        for threads, kept in ((1000, 0), (1100, 1100)):
+            under = [entry(t, operation, address, 0x200, size) for t in range(1, threads + 1)
+                     for operation, address, size in (("LOCK", LOCK, 0), ("WRITE", GUARDED, 4), ("UNLOCK", LOCK, 0))]
+            forks = [entry(0, "FORK", t, 0x100) for t in range(1, threads + 1)]
+            self.record.write_bytes(HEADER + b"".join(forks + under))
+            answer = recorder.must(recorder.convert(self.record, "-r", "--windows", self.folder / "windows"))
+            self.assertIn(b" %d events" % (3 * threads + kept), answer.stderr)
+
+
 def random_bytes(draw, count):
     return bytes(draw.randrange(256) for _ in range(count))
 
