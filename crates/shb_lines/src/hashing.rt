@@ -1,18 +1,23 @@
-//! How names are hashed: by words, under two secret keys.
+//! How texts, names and locations, are hashed in tables: by words, under two secret keys.
 //!
 //! The hash is a chain of products of two words, each joined with a key or with the state so far, and
 //! each folded to 64 bits. It is no cryptographic hash. What it keeps off is someone who chooses the
-//! names of a trace: without the keys no names are known that meet in a table more often than by chance.
-//! Who knew the keys could make all names meet, and a trace would take time with the square of its
-//! names. So each table of each run has keys of its own, which are shown nowhere. Nothing proves that
-//! they are random, since a contract takes whatever a random source gives. Names that meet cost time
+//! texts of a trace: without the keys no texts are known that meet in a table more often than by chance.
+//! Who knew the keys could make all texts meet, and a trace would take time with the square of their
+//! number. So each table of each run has keys of its own, which are shown nowhere. Nothing proves that
+//! they are random, since a contract takes whatever a random source gives. Texts that meet cost time
 //! alone: the table compares them whole.
-ghost use Rattle.std.specs.Prelude.{◌≡◌, ◌+◌, ◌<◌, ◌≤◌, length};
+ghost use Rattle.std.specs.Prelude.{◌≡◌, ◌+◌, ◌<◌, ◌≤◌, [], ◌∷◌, length};
+ghost use Rattle.std.specs.Cmp.{on_equiv, on_per, partial_equiv_from_equiv};
+ghost use Rattle.std.specs.Cmp.Lexicographic.{nat_list_eq_equiv};
+ghost use Rattle.std.specs.Hash.{same_Alike};
+ghost use Rattle.std.specs.Str.{bytes_eq};
+ghost use Rattle.std.proofs.lemmas.Slice.Eq.{bytes_eq-Decides};
 ghost use Rattle.shb_lines.specs.text.Hashing as spec;
 
 use crate::recent::{MOST_TOLD, eight, ends_of};
 use shb_io::{NoMemory, random_keys};
-use std::hash::{BuildHasher, Hasher};
+use std::hash::{BuildHasher, Hash, Hasher};
 use std::random::RandomSource;
 
 /// Both halves of the 128 bits of a product, joined by xor.
@@ -77,14 +82,14 @@ fn hash(state: u64, key: u64, bytes: &[u8]) -> u64
 }
 
 /// Hashes bytes by words under two keys; their length goes in first, by a product of its own. (Joined by
-/// xor alone, names of different lengths could be made to meet under all keys.)
+/// xor alone, texts of different lengths could be made to meet under all keys.)
 #[derive(Clone, Copy)]
-pub struct NameHasher {
+pub struct KeyedHasher {
     state: u64,
     key: u64,
 }
 
-impl Hasher for NameHasher {
+impl Hasher for KeyedHasher {
     ghost write = { spec.written };
 
     ghost finish = { λ h. h.state };
@@ -98,30 +103,61 @@ impl Hasher for NameHasher {
     }
 }
 
-/// The two keys of a table of names, which make its hashers.
+/// The two secret keys of a table, which make its hashers.
 #[derive(Clone, Copy)]
-pub struct NameKeys {
+pub struct HashKeys {
     first: u64,
     second: u64,
 }
 
-impl NameKeys {
+impl HashKeys {
     /// Keys from the random source. A source that fails is answered like want of memory.
-    pub fn new<R: RandomSource>(rt: &R) -> Result<NameKeys, NoMemory> {
+    pub fn new<R: RandomSource>(rt: &R) -> Result<HashKeys, NoMemory> {
         let (first, second) = random_keys(rt)?;
-        Ok(NameKeys { first, second })
+        Ok(HashKeys { first, second })
     }
 }
 
-impl BuildHasher for NameKeys {
-    type Hasher = NameHasher;
+impl BuildHasher for HashKeys {
+    type Hasher = KeyedHasher;
 
     ghost build_hasher = { spec.keyed };
 
-    fn build_hasher(&self) -> NameHasher {
-        NameHasher {
+    fn build_hasher(&self) -> KeyedHasher {
+        KeyedHasher {
             state: self.first,
             key: self.second,
         }
+    }
+}
+
+/// A text as a key of a table. It is written to a hasher whole, in one call: a slice would be written byte
+/// by byte.
+#[derive(Clone, Copy)]
+pub struct TextKey<'t> {
+    pub bytes: &'t [u8],
+}
+
+impl PartialEq for TextKey<'_> {
+    ghost eq = { λ x y. bytes_eq x.bytes.now y.bytes.now };
+
+    ghost laws = { on_per (λ x. x.bytes.now) (partial_equiv_from_equiv nat_list_eq_equiv) };
+
+    fn eq(&self, other: &Self) -> bool {
+        self.bytes == other.bytes
+    }
+}
+
+impl Eq for TextKey<'_> {
+    ghost laws = { on_equiv (λ x. x.bytes.now) nat_list_eq_equiv };
+}
+
+impl Hash for TextKey<'_> {
+    ghost hash_input = { λ key. key.bytes.now ∷ [] };
+
+    ghost respects_eq = { λ x y. (same_Alike (λ bytes. bytes ∷ []) bytes_eq-Decides).fed x.bytes.now y.bytes.now };
+
+    fn hash<H: Hasher>(&self, state: &mut H) {
+        state.write(self.bytes);
     }
 }

@@ -6,23 +6,23 @@ use Rattle.std.specs.Str.{bytes_eq}
 use Rattle.std.proofs.lemmas.List.{map-append}
 use Rattle.std.proofs.lemmas.Map.Keys.{IsDistinct-push}
 use Rattle.indexmap.specs.IndexSet.{insert_key}
-use Rattle.shb_report.specs.declared.locations.Location.{Location}
+use Rattle.shb_lines.specs.declared.hashing.TextKey.{TextKey}
 use Rattle.shb_report.specs.Locations.{locations_in}
 
-abbrev pub same_location : Location → Location → Bool
+abbrev pub same_location : TextKey → TextKey → Bool
 same_location x y = bytes_eq x.bytes.now y.bytes.now
 
-any_location : (known : List Location) (l : Location) → list_any (same_location l) known ≡ list_any (bytes_eq l.bytes.now) (locations_in known)
+any_location : (known : List TextKey) (l : TextKey) → list_any (same_location l) known ≡ list_any (bytes_eq l.bytes.now) (locations_in known)
 any_location [] l = refl
 any_location (k ∷ known) l = ap (λ (b : Bool). same_location l k || b) (any_location known l)
 
 -- a location is put into a table as its text is put among the texts
-pub inserted : (known : List Location) (l : Location) → locations_in (insert_key same_location known l) ≡ insert_key bytes_eq (locations_in known) l.bytes.now
+pub inserted : (known : List TextKey) (l : TextKey) → locations_in (insert_key same_location known l) ≡ insert_key bytes_eq (locations_in known) l.bytes.now
 inserted known l = by (list_any (same_location l) known) ∙ ap (λ (b : Bool). cond b (locations_in known) (locations_in known ++ l.bytes.now ∷ [])) (any_location known l)
   where
     by : (b : Bool) → locations_in (cond b known (known ++ l ∷ [])) ≡ cond b (locations_in known) (locations_in known ++ l.bytes.now ∷ [])
     by true = refl
-    by false = map-append (λ (k : Location). k.bytes.now) known (l ∷ [])
+    by false = map-append (λ (k : TextKey). k.bytes.now) known (l ∷ [])
 
 -- different texts stay different
 pub still_different : (texts : List (List ℕ)) (text : List ℕ) → IsDistinct bytes_eq texts → IsDistinct bytes_eq (insert_key bytes_eq texts text)

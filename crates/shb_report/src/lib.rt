@@ -17,6 +17,6 @@ mod writing;
 
 pub use counts::Counts;
 pub use leading::leading_of;
-pub use locations::{Location, Locations};
+pub use locations::Locations;
 pub use places::{PlaceCount, PlaceTable, Places, places_of};
 pub use writing::{NumberTexts, block, head, numbered_line, place_lines, scheduled_block, tail};

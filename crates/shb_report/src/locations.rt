@@ -1,56 +1,21 @@
 //! Numbers of locations, in order of first appearance.
-ghost use Rattle.std.specs.Prelude.{◌≡◌, [], ◌∷◌, Some, length, slice_get, IfOk, OnOk};
-ghost use Rattle.std.specs.Cmp.{on_equiv, on_per, partial_equiv_from_equiv};
-ghost use Rattle.std.specs.Cmp.Lexicographic.{nat_list_eq_equiv};
-ghost use Rattle.std.specs.Hash.{same_Alike};
+ghost use Rattle.std.specs.Prelude.{◌≡◌, [], Some, length, slice_get, IfOk, OnOk};
 ghost use Rattle.std.specs.List.{IsDistinct};
 ghost use Rattle.std.specs.Str.{bytes_eq};
-ghost use Rattle.std.proofs.lemmas.Slice.Eq.{bytes_eq-Decides};
 ghost use Rattle.indexmap.specs.IndexSet.{insert_key};
 
 use indexmap::IndexSet;
-use shb_io::{NoMemory, random_state};
+use shb_io::NoMemory;
+use shb_lines::{HashKeys, TextKey};
 use std::alloc::Global;
-use std::hash::{Hash, Hasher, RandomState};
 use std::marker::Model;
 use std::random::RandomSource;
 
-/// A location as a key of a table. It is written to a hasher whole, in one call: a slice would be written
-/// byte by byte.
-#[derive(Clone, Copy)]
-pub struct Location<'t> {
-    pub bytes: &'t [u8],
-}
-
-impl PartialEq for Location<'_> {
-    ghost eq = { λ x y. bytes_eq x.bytes.now y.bytes.now };
-
-    ghost laws = { on_per (λ x. x.bytes.now) (partial_equiv_from_equiv nat_list_eq_equiv) };
-
-    fn eq(&self, other: &Self) -> bool {
-        self.bytes == other.bytes
-    }
-}
-
-impl Eq for Location<'_> {
-    ghost laws = { on_equiv (λ x. x.bytes.now) nat_list_eq_equiv };
-}
-
-impl Hash for Location<'_> {
-    ghost hash_input = { λ location. location.bytes.now ∷ [] };
-
-    ghost respects_eq = { λ x y. (same_Alike (λ bytes. bytes ∷ []) bytes_eq-Decides).fed x.bytes.now y.bytes.now };
-
-    fn hash<H: Hasher>(&self, state: &mut H) {
-        state.write(self.bytes);
-    }
-}
-
 /// Different locations, each with its index as its number: two texts that were numbered have equal numbers
-/// exactly if they are equal. They are hashed under two random keys, so that nobody can choose locations that
-/// meet. Contracts see the locations by number.
+/// exactly if they are equal. They are hashed as names are, under two random keys, so that nobody can choose
+/// locations that meet. Contracts see the locations by number.
 pub struct Locations<'t> {
-    known: IndexSet<Location<'t>, RandomState>,
+    known: IndexSet<TextKey<'t>, HashKeys>,
 }
 
 // By hand: a derived one stands in each function that drops them, with a step for each part of the set.
@@ -83,7 +48,7 @@ impl<'t> Locations<'t> {
         ensures { IfOk result (λ locations. locations ≡ []) }
     {
         Ok(Locations {
-            known: IndexSet::with_hasher(alloc, random_state(rt)?),
+            known: IndexSet::with_hasher(alloc, HashKeys::new(rt)?),
         })
     }
 
@@ -96,7 +61,7 @@ impl<'t> Locations<'t> {
         ensures known { OnOk result (self.new ≡ insert_key bytes_eq self.old location.now) }
         ensures number { IfOk result (λ number. slice_get self.new number ≡ Some location.now) }
     {
-        let (number, _) = self.known.insert_full(Location { bytes: location })?;
+        let (number, _) = self.known.insert_full(TextKey { bytes: location })?;
         Ok(number)
     }
 

@@ -9,10 +9,9 @@ ghost use Rattle.shb_report.specs.Places.{IsPairOf, IsPlaceOf, counts_in, places
 
 use crate::locations::Locations;
 use indexmap::IndexMap;
-use shb_io::{NoMemory, random_state};
-use shb_lines::{Pair, Trace};
+use shb_io::NoMemory;
+use shb_lines::{HashKeys, Pair, Trace};
 use std::alloc::Global;
-use std::hash::RandomState;
 use std::marker::Model;
 use std::random::RandomSource;
 
@@ -26,7 +25,7 @@ pub struct PlaceCount {
 }
 
 /// The places so far, by the numbers of their two locations.
-type Table = IndexMap<(usize, usize), PlaceCount, RandomState>;
+type Table = IndexMap<(usize, usize), PlaceCount, HashKeys>;
 
 /// What is counted of a place with one pair more.
 fn counted_with(known: Option<&PlaceCount>, pair: Pair) -> PlaceCount
@@ -108,7 +107,7 @@ impl PlaceTable {
         ensures { IfOk result (λ table. table ≡ []) }
     {
         Ok(PlaceTable {
-            table: IndexMap::with_hasher(alloc, random_state(rt)?),
+            table: IndexMap::with_hasher(alloc, HashKeys::new(rt)?),
         })
     }
 

@@ -7,7 +7,7 @@ use Rattle.std.proofs.lemmas.Slice.Eq.{bytes_eq-Decides}
 use Rattle.std.proofs.Math.Numerals.{one-add}
 use Rattle.std.specs.Map.{keys_of, lookup}
 use Rattle.indexmap.specs.IndexMap.{insert_entry}
-use Rattle.shb_lines.specs.declared.names.Name.{Name}
+use Rattle.shb_lines.specs.declared.hashing.TextKey.{TextKey}
 use Rattle.shb_lines.specs.declared.names.Span.{Span}
 use Rattle.shb_lines.specs.text.Reader.{with_names}
 use Rattle.shb_lines.specs.text.Names.{with_name}
@@ -17,10 +17,10 @@ use Rattle.shb_lines.specs.text.Spans.{names_in, NamesWithSpans, StandsAt, Stand
 bytes_eq-same : (xs ys : List ℕ) → bytes_eq xs ys ≡ true → xs ≡ ys
 bytes_eq-same xs ys = (bytes_eq-Decides xs ys).0
 
-abbrev pub same_name : Name → Name → Bool
+abbrev pub same_name : TextKey → TextKey → Bool
 same_name x y = bytes_eq x.bytes.now y.bytes.now
 
-module _ (name : Name) (span : Span) where
+module _ (name : TextKey) (span : Span) where
   pub names_in-insert_entry : (entries : NamesWithSpans) → names_in (insert_entry same_name entries name span) ≡ with_name (names_in entries) name.bytes.now
   names_in-insert_entry [] = refl
   names_in-insert_entry (e ∷ entries) = by (bytes_eq name.bytes.now e.0.bytes.now) (names_in-insert_entry entries)
@@ -49,7 +49,7 @@ with_name-at (known ∷ names) name = by (bytes_eq name known) refl (with_name-a
     by false same rest = rw (one-add (position_or_len (bytes_eq name) names)) rest
 
 -- the keys' spans are the names' spans
-pub position-names_in : (name : Name) (entries : NamesWithSpans) → position_or_len (same_name name) (keys_of entries) ≡ position_or_len (bytes_eq name.bytes.now) (names_in entries)
+pub position-names_in : (name : TextKey) (entries : NamesWithSpans) → position_or_len (same_name name) (keys_of entries) ≡ position_or_len (bytes_eq name.bytes.now) (names_in entries)
 position-names_in name [] = refl
 position-names_in name (e ∷ entries) = ap (λ n. cond (not (bytes_eq name.bytes.now e.0.bytes.now)) (1 + n) 0) (position-names_in name entries)
 

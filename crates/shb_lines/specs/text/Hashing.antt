@@ -1,8 +1,8 @@
--- What a hasher of names computes, by words under two keys.
+-- What a hasher of texts computes, by words under two keys.
 use Rattle.std.specs.Prelude.{ℕ, zero, suc, ◌+◌, ◌-◌, ◌*◌, ◌/◌, ◌^◌, List, length, take, slice_range, get_or, if◌then◌else◌, nat_le, nat_lt, bit_and, bit_xor}
 use Rattle.std.specs.Int.{w16, w32, w64, from_le_bytes}
-use Rattle.shb_lines.specs.declared.hashing.NameHasher.{NameHasher}
-use Rattle.shb_lines.specs.declared.hashing.NameKeys.{NameKeys}
+use Rattle.shb_lines.specs.declared.hashing.KeyedHasher.{KeyedHasher}
+use Rattle.shb_lines.specs.declared.hashing.HashKeys.{HashKeys}
 
 -- the two halves of the 128 bits of a product, joined by xor
 unfoldable pub folded_product : ℕ → ℕ → ℕ
@@ -12,20 +12,20 @@ folded_product a b = bit_xor (bit_and (a * b) (2 ^ 64 - 1)) (a * b / 2 ^ 64)
 unfoldable pub word_at : List ℕ → ℕ → ℕ
 word_at bytes at = from_le_bytes w64 (slice_range bytes at (at + 8))
 
--- the first bytes of a name of at most 16 as a word, and its last bytes
+-- the first bytes of a text of at most 16 as a word, and its last bytes
 unfoldable pub first_word : List ℕ → ℕ
-first_word name =
-    let n = length name in
-    if nat_lt n 2 then get_or name 0 0
-    else (if nat_lt n 4 then from_le_bytes w16 (take 2 name)
-    else (if nat_lt n 8 then from_le_bytes w32 (take 4 name) else from_le_bytes w64 (take 8 name)))
+first_word bytes =
+    let n = length bytes in
+    if nat_lt n 2 then get_or bytes 0 0
+    else (if nat_lt n 4 then from_le_bytes w16 (take 2 bytes)
+    else (if nat_lt n 8 then from_le_bytes w32 (take 4 bytes) else from_le_bytes w64 (take 8 bytes)))
 
 unfoldable pub last_word : List ℕ → ℕ
-last_word name =
-    let n = length name in
-    if nat_lt n 2 then get_or name 0 0
-    else (if nat_lt n 4 then from_le_bytes w16 (slice_range name (n - 2) n)
-    else (if nat_lt n 8 then from_le_bytes w32 (slice_range name (n - 4) n) else from_le_bytes w64 (slice_range name (n - 8) n)))
+last_word bytes =
+    let n = length bytes in
+    if nat_lt n 2 then get_or bytes 0 0
+    else (if nat_lt n 4 then from_le_bytes w16 (slice_range bytes (n - 2) n)
+    else (if nat_lt n 8 then from_le_bytes w32 (slice_range bytes (n - 4) n) else from_le_bytes w64 (slice_range bytes (n - 8) n)))
 
 -- the state after the two words at an offset
 abbrev pub with_words : List ℕ → ℕ → ℕ → ℕ → ℕ
@@ -53,9 +53,9 @@ hash state key bytes =
     if nat_le n 16 then short_hash seeded key bytes else long_hash seeded key bytes
 
 -- the hasher after bytes were written
-abbrev pub written : NameHasher → List ℕ → NameHasher
+abbrev pub written : KeyedHasher → List ℕ → KeyedHasher
 written h bytes = record h { state = hash h.state h.key bytes }
 
 -- the hasher that the keys make
-abbrev pub keyed : NameKeys → NameHasher
+abbrev pub keyed : HashKeys → KeyedHasher
 keyed keys = record { state = keys.first; key = keys.second }

@@ -2,7 +2,7 @@
 use Rattle.std.specs.Prelude.{◌≡◌, ◌==◌, ◌+◌, ◌≤◌, ℕ, List, length, take, drop, map}
 use Rattle.std.specs.List.{AllByRecursion, before_first}
 use Rattle.std.specs.Str.Lines.{strip_carriage_return}
-use Rattle.shb_lines.specs.declared.names.Name.{Name}
+use Rattle.shb_lines.specs.declared.hashing.TextKey.{TextKey}
 use Rattle.shb_lines.specs.declared.names.Span.{Span}
 
 -- the bytes of the text in a span
@@ -10,7 +10,7 @@ abbrev pub bytes_at : List ℕ → Span → List ℕ
 bytes_at text span = take span.len (drop span.start text)
 
 abbrev pub NamesWithSpans : Type 0
-NamesWithSpans = List (Name × Span)
+NamesWithSpans = List (TextKey × Span)
 
 abbrev pub names_in : NamesWithSpans → List (List ℕ)
 names_in entries = map (λ e. e.0.bytes.now) entries

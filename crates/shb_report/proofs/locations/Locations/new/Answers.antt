@@ -1,7 +1,7 @@
 use Rattle.std.proofs.Common.{List, [], sym, subst}
 use Rattle.std.specs.List.{IsDistinct}
 use Rattle.std.specs.Str.{bytes_eq}
-use Rattle.shb_report.specs.declared.locations.Location.{Location}
+use Rattle.shb_lines.specs.declared.hashing.TextKey.{TextKey}
 use Rattle.shb_report.specs.Locations.{locations_in}
 use Rattle.shb_report.proofs.locations.Locations.new.Goals as goal
 
@@ -10,4 +10,4 @@ unfolding IsDistinct
 none_alike = tt
 
 pub invariant_of-result : goal.invariant_of-result
-invariant_of-result g c = subst (λ (known : List Location). IsDistinct bytes_eq (locations_in known)) (sym c.with_hasher.ensures.empty) none_alike
+invariant_of-result g c = subst (λ (known : List TextKey). IsDistinct bytes_eq (locations_in known)) (sym c.with_hasher.ensures.empty) none_alike
