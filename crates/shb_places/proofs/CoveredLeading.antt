@@ -1,28 +1,54 @@
--- The leading races of races that stand for all, in the order of the race list, are those of the race list.
-use Rattle.std.proofs.Common.{◌≡◌, ℕ, ◌<◌, inl, inr, List, [], ◌∷◌, Some, Result, Ok, Err, IfOk, map, get_or, All, refl, sym, ap, subst, ◌∙◌}
+-- The races that are found, in the order of the race list, are the leading races.
+use Rattle.std.proofs.Common.{◌≡◌, ◌&&◌, ℕ, inl, inr, Bool, true, false, nat_eq, List, [], ◌∷◌, Option, Some, map, get_or, All, refl, sym, ap, subst, ◌∙◌, arith}
 use Rattle.std.specs.Prelude.{AllPairs, Contains, slice_get}
-use Rattle.std.proofs.lemmas.Bool.{cases_order}
+use Rattle.std.specs.List.{IsDistinct}
+use Rattle.std.specs.Option.{option_map}
+use Rattle.std.proofs.lemmas.Bool.{cases_Bool, cases_order}
+use Rattle.std.proofs.lemmas.Bool.Decides.{Decides-and, Decides-eqb}
+use Rattle.std.proofs.lemmas.List.Elements.{All-contains_itself, Contains-get_or}
 use Rattle.std.proofs.lemmas.List.Sorted.{All-permutation, Contains-permutation}
-use Rattle.std.proofs.lemmas.Option.{get_or_from_slice_get, slice_get_within}
-use Rattle.shb_lines.specs.declared.event.Event.{Event}
+use Rattle.std.proofs.lemmas.Map.Keys.{IsDistinct-IsPermutation, IsDistinct-from_apart, apart_from_distinct}
+use Rattle.std.proofs.lemmas.Option.{get_or_from_slice_get, slice_get-get_or, slice_get-map, slice_get_within}
 use Rattle.shb_lines.specs.declared.event.Pair.{Pair}
 use Rattle.shb_lines.specs.events.Race.{Race, ends, variable_at}
 use Rattle.shb_lines.specs.events.Sizes.{IsNumberedByAccess}
 use Rattle.shb_lines.specs.text.TraceData.{TraceData}
 use Rattle.shb_lines.proofs.events.Increasing.{same_in_order}
 use Rattle.shb_report.specs.Leading.{AreLeading, Leads, place_at}
-use Rattle.shb_report.specs.Places.{IsPairOf, places_of_pairs}
+use Rattle.shb_report.specs.Places.{places_of_pairs}
 use Rattle.shb_report.specs.Report.{LeadingRaces, pair_of}
-use Rattle.shb_report.proofs.LeadingLemmas.{firsts, firsts_lead, leading_listed, led_once}
+use Rattle.shb_report.proofs.LeadingLemmas.{firsts, firsts_lead, led_once}
+use Rattle.shb_pairs.proofs.FlatMaps.{map_contains, map_parts}
 use Rattle.shb_pairs.proofs.Listing.{all_is_race_list, all_races}
-use Rattle.shb_places.specs.Covering.{Covers}
-use Rattle.shb_places.specs.ListOrder.{IsInListOrder, IsNotAfter}
-use Rattle.shb_places.proofs.Entries.{earlier_in_range, later_in_range}
-use Rattle.shb_places.proofs.KeyOrder.{KeyUpTo, key_strict, key_trans, no_circle}
-use Rattle.shb_places.proofs.LeadMembers.{at_contained, contained_at, lead_of, leading_ordered, leads_in}
+use Rattle.shb_places.specs.declared.found.ListedRace.{ListedRace}
+use Rattle.shb_places.specs.Covering.{Covers, FoundRace, NotAfter, race_in, race_of, races_in}
+use Rattle.shb_places.specs.ListOrder.{HasVariable, IsInListOrder}
+use Rattle.shb_places.proofs.KeyOrder.{key_from, key_strict, key_trans, up_to_before}
+use Rattle.shb_places.proofs.LeadMembers.{at_contained, contained_at, lead_of, leading_ordered}
+use Rattle.shb_places.proofs.Lists.{contains_get, same_entry}
 use Rattle.shb_places.proofs.RacesByNumber.{IsBefore, listed_pairs, listed_race, pair_listed, pairs_ordered}
 
-module _ (trace : TraceData) (found sorted leading : List Pair) (covers : Covers trace found) (order : IsInListOrder trace.events found sorted) (are : AreLeading trace sorted leading) where
+same_race : Pair → Pair → Bool
+same_race p q = nat_eq p.first q.first && nat_eq p.second q.second
+
+one_race : (p q : Pair) → same_race p q ≡ true → p ≡ q
+unfolding same_race
+one_race p q is = let h = (Decides-and _ _ (Decides-eqb p.first q.first) (Decides-eqb p.second q.second)).0 is in λ i. record { first = h.0 i; second = h.1 i }
+
+race_same : (p q : Pair) → p ≡ q → same_race p q ≡ true
+unfolding same_race
+race_same p q is = (Decides-and _ _ (Decides-eqb p.first q.first) (Decides-eqb p.second q.second)).1 (ap (λ (r : Pair). r.first) is, ap (λ (r : Pair). r.second) is)
+
+race_flips : (p q : Pair) → same_race p q ≡ same_race q p
+race_flips p q = by (same_race p q) (same_race q p) refl refl
+  where
+    by : (a b : Bool) → same_race p q ≡ a → same_race q p ≡ b → a ≡ b
+    by true true h g = refl
+    by false false h g = refl
+    by true false h g = absurd (let f : true ≡ false = sym (race_same q p (sym (one_race p q h))) ∙ g in let none : ⊥ = cc in none)
+    by false true h g = absurd (let f : true ≡ false = sym (race_same p q (sym (one_race q p g))) ∙ h in let none : ⊥ = cc in none)
+
+module _ (trace : TraceData) (found : List FoundRace) (sorted : List Pair) (covers : Covers trace found) (order : IsInListOrder trace.events (races_in found) sorted) where
   -- the race list, and its leading races
   abbrev all : List Pair
   all = listed_pairs trace.events
@@ -33,154 +59,145 @@ module _ (trace : TraceData) (found sorted leading : List Pair) (covers : Covers
   first_are : AreLeading trace all first_ones
   first_are = firsts_lead trace all
 
-  sorted_race : (p : Pair) → Contains sorted p → Race trace.events p.first p.second
-  sorted_race p c =
-      let every = All-permutation (λ (q : Pair). Race trace.events q.first q.second) found sorted order.permutation covers.races in
-      subst (λ (q : Pair). Race trace.events q.first q.second) c.2 (every c.0 p c.1)
+  -- a sorted race is one that is found
+  found_one : (p : Pair) → Contains sorted p → (e : FoundRace) × Contains found e × (race_in e.1 ≡ p)
+  found_one p c =
+      let every = All-permutation (λ (q : Pair). Contains (races_in found) q) (races_in found) sorted order.permutation (All-contains_itself (races_in found)) in
+      map_parts (λ (e : FoundRace). race_in e.1) found p (subst (λ (q : Pair). Contains (races_in found) q) c.2 (every c.0 p c.1))
 
-  -- what leads in the sorted races leads in the race list: a race before it in the list, at its place, is covered by a race that isn't after that one, and the sorted races have none before this one
-  leads_in_all : (n : ℕ) (p : Pair) → slice_get sorted n ≡ Some p → Leads trace sorted n → (m : ℕ) × (slice_get all m ≡ Some p) × Leads trace all m
-  leads_in_all n p there leads =
-      let race : Race trace.events p.first p.second = sorted_race p (contained_at sorted n p there) in
-      let at = at_contained all p (pair_listed trace.events p race) in
-      (at.0, at.1, record { race = p; there = at.1; alone = λ k q low at_q same. alone_at race at.0 at.1 k q low at_q same })
-    where
-      no_earlier : (f : Pair) (a : ℕ) → slice_get sorted a ≡ Some f → place_at trace f.first f.second ≡ place_at trace p.first p.second → a < n → ⊥
-      no_earlier f a at_f same low =
-          let at = leads.there in
-          let is : leads.race ≡ p = cc in
-          leads.alone a f low at_f (subst (λ (r : Pair). place_at trace f.first f.second ≡ place_at trace r.first r.second) (sym is) same)
+  sorted_one : (e : FoundRace) → Contains found e → Contains sorted (race_in e.1)
+  sorted_one e there = Contains-permutation (races_in found) sorted (race_in e.1) order.permutation (map_contains (λ (k : FoundRace). race_in k.1) found e there)
 
-      alone_at : Race trace.events p.first p.second → (m : ℕ) → slice_get all m ≡ Some p → (k : ℕ) (q : Pair) → k < m → slice_get all k ≡ Some q → place_at trace q.first q.second ≡ place_at trace p.first p.second → ⊥
-      alone_at race m at_m k q low at_q same =
-          let q_race : Race trace.events q.first q.second = listed_race trace.events q (contained_at all k q at_q) in
-          let cover = covers.each q.first q.second q_race in
-          let f : Pair = cover.pair in
-          let in_sorted : Contains sorted f = Contains-permutation found sorted f order.permutation cover.there in
-          let at_f = at_contained sorted f in_sorted in
-          let f_race : Race trace.events f.first f.second = sorted_race f in_sorted in
-          let x : ℕ = race.conflict.variable in
-          let y : ℕ = q_race.conflict.variable in
-          let z : ℕ = f_race.conflict.variable in
-          let of_p : variable_at trace.events p.second ≡ Some x = race.conflict.second_accesses in
-          let of_q : variable_at trace.events q.second ≡ Some y = q_race.conflict.second_accesses in
-          let of_f : variable_at trace.events f.second ≡ Some z = f_race.conflict.second_accesses in
-          let q_is = get_or_from_slice_get all k q p at_q in
-          let p_is = get_or_from_slice_get all m p p at_m in
-          let before : IsBefore trace.events q p =
-          subst (λ (r : Pair). IsBefore trace.events q r) p_is
-          (subst (λ (r : Pair). IsBefore trace.events r (get_or all m p)) q_is (pairs_ordered trace.events k m p low (slice_get_within all m p at_m))) in
-          let covering : KeyUpTo (z, f.second, f.first) (y, q.second, q.first) = cover.not_after z y of_f of_q in
-          let place : place_at trace f.first f.second ≡ place_at trace p.first p.second = cover.same_place ∙ same in
-          let circle : KeyUpTo (x, p.second, p.first) (z, f.second, f.first) → ⊥ =
-          λ up. no_circle (x, p.second, p.first) (z, f.second, f.first) (y, q.second, q.first) up covering (before y x of_q of_p) in
-          elim (cases_order at_f.0 n) [
-            | inl here ↦ (
-                let at_n : slice_get sorted n ≡ Some f = subst (λ (i : ℕ). slice_get sorted i ≡ Some f) here at_f.1 in
-                let f_is : p ≡ f = (let e : Some p ≡ Some f = sym there ∙ at_n in cc) in
-                let same_variable : x ≡ z = (let e : variable_at trace.events f.second ≡ Some x = subst (λ (r : Pair). variable_at trace.events r.second ≡ Some x) f_is of_p in cc) in
-                circle (inr (λ i. (same_variable i, (f_is i).second, (f_is i).first)))
-                )
-            | inr apart ↦ elim apart [
-              | inl low_f ↦ no_earlier f at_f.0 at_f.1 place low_f
-              | inr later ↦ (
-                  let p_at = get_or_from_slice_get sorted n p p there in
-                  let f_at = get_or_from_slice_get sorted at_f.0 f p at_f.1 in
-                  let up : IsNotAfter trace.events p f =
-                  subst (λ (r : Pair). IsNotAfter trace.events p r) f_at
-                  (subst (λ (r : Pair). IsNotAfter trace.events r (get_or sorted at_f.0 p)) p_at (order.in_order n at_f.0 p later (slice_get_within sorted at_f.0 f at_f.1))) in
-                  circle (up x z of_p of_f)
-                  )
-            ]
-          ]
-
-  -- so a leading race of the sorted ones is one of the race list
-  leading_is_first : (p : Pair) → Contains leading p → Contains first_ones p
-  leading_is_first p c =
-      let lead = lead_of trace sorted leading are p c in
-      let there = leads_in_all lead.0 p lead.1 lead.2 in
-      leads_in trace all first_ones first_are there.0 p there.1 there.2
-
-  -- two races of a list that lead at one place are one
-  one_lead : (k m : ℕ) (p q : Pair) → slice_get all k ≡ Some p → slice_get all m ≡ Some q → Leads trace all k → Leads trace all m → place_at trace p.first p.second ≡ place_at trace q.first q.second → p ≡ q
-  one_lead k m p q at_p at_q lead_p lead_q same =
-      let there_p = lead_p.there in
-      let there_q = lead_q.there in
-      let p_is : lead_p.race ≡ p = cc in
-      let q_is : lead_q.race ≡ q = cc in
-      elim (cases_order k m) [
-        | inl here ↦ (let at : slice_get all m ≡ Some p = subst (λ (i : ℕ). slice_get all i ≡ Some p) here at_p in let e : Some p ≡ Some q = sym at ∙ at_q in cc)
-        | inr apart ↦ elim apart [
-          | inl low ↦ absurd (lead_q.alone k p low at_p (subst (λ (r : Pair). place_at trace p.first p.second ≡ place_at trace r.first r.second) (sym q_is) same))
-          | inr low ↦ absurd (lead_p.alone m q low at_q (subst (λ (r : Pair). place_at trace q.first q.second ≡ place_at trace r.first r.second) (sym p_is) (sym same)))
+  -- a race that is found, at the place of a race that leads in the race list, and that doesn't stand after it, is that race
+  is_lead : (e : FoundRace) → Contains found e → (n : ℕ) (q : Pair) (y : ℕ) → slice_get all n ≡ Some q → Leads trace all n → variable_at trace.events q.second ≡ Some y → place_at trace e.1.first e.1.second ≡ place_at trace q.first q.second → NotAfter e.1 (race_of y q.second q.first) → race_in e.1 ≡ q
+  is_lead e there n q y at_q lead of_q same low =
+      let race = covers.races e there in
+      let p : Pair = race_in e.1 in
+      let at = at_contained all p (pair_listed trace.events p race.0) in
+      let lead_at = lead.there in
+      let lead_is : lead.race ≡ q = cc in
+      elim (cases_order at.0 n) [
+        | inl here ↦ (let at_n : slice_get all n ≡ Some p = subst (λ (i : ℕ). slice_get all i ≡ Some p) here at.1 in let f : Some p ≡ Some q = sym at_n ∙ at_q in cc)
+        | inr other ↦ elim other [
+          | inl earlier ↦ absurd (lead.alone at.0 p earlier at.1 (subst (λ (r : Pair). place_at trace p.first p.second ≡ place_at trace r.first r.second) (sym lead_is) same))
+          | inr later ↦ absurd (
+              let q_is = get_or_from_slice_get all n q p at_q in
+              let p_is = get_or_from_slice_get all at.0 p p at.1 in
+              let before : IsBefore trace.events q p =
+              subst (λ (r : Pair). IsBefore trace.events q r) p_is
+              (subst (λ (r : Pair). IsBefore trace.events r (get_or all at.0 p)) q_is (pairs_ordered trace.events n at.0 p later (slice_get_within all at.0 p at.1))) in
+              key_strict (e.1.variable, e.1.second, e.1.first)
+              (up_to_before (e.1.variable, e.1.second, e.1.first) (y, q.second, q.first) (e.1.variable, e.1.second, e.1.first) (key_from e.1 (race_of y q.second q.first) low) (before y e.1.variable of_q race.1)))
         ]
       ]
 
-  -- and each leading race of the race list is one of the sorted ones: its place is covered
-  first_is_leading : (q : Pair) → Contains first_ones q → Contains leading q
-  first_is_leading q c =
-      let lead_q = lead_of trace all first_ones first_are q c in
-      let race : Race trace.events q.first q.second = listed_race trace.events q (contained_at all lead_q.0 q lead_q.1) in
-      let cover = covers.each q.first q.second race in
-      let in_sorted : Contains sorted cover.pair = Contains-permutation found sorted cover.pair order.permutation cover.there in
-      let once = led_once trace sorted leading are cover.pair in_sorted in
-      let l : Pair = once.race in
-      let member : Contains leading l = contained_at leading once.number l once.there in
-      let lead_l = lead_of trace sorted leading are l member in
-      let there = leads_in_all lead_l.0 l lead_l.1 lead_l.2 in
-      let same : l ≡ q = one_lead there.0 lead_q.0 l q there.1 lead_q.1 there.2 lead_q.2 (once.place_is ∙ cover.same_place) in
-      subst (λ (r : Pair). Contains leading r) same member
+  -- the race that covers a leading race is that race
+  covered_lead : (q : Pair) → Contains first_ones q → (e : FoundRace) × Contains found e × (race_in e.1 ≡ q)
+  covered_lead q c =
+      let lead = lead_of trace all first_ones first_are q c in
+      let race : Race trace.events q.first q.second = listed_race trace.events q (contained_at all lead.0 q lead.1) in
+      let y : ℕ = race.conflict.variable in
+      let of_q : variable_at trace.events q.second ≡ Some y = race.conflict.second_accesses in
+      let cover = covers.each q.first q.second y race of_q in
+      let e : FoundRace = (cover.place, cover.known) in
+      (e, cover.there, is_lead e cover.there lead.0 q y lead.1 lead.2 of_q cover.same_place cover.not_after)
 
-  leading_before : AllPairs (IsBefore trace.events) leading
-  leading_before = λ i j d low within x y of_p of_q.
-      let both = leading_ordered trace sorted leading are (IsNotAfter trace.events) order.in_order i j d low within in
-      elim (both.0 x y of_p of_q) [
-        | inl less ↦ less
-        | inr same ↦ absurd (both.1 (λ k. place_at trace ((same k).2) ((same k).1)))
-      ]
+  first_is_sorted : (q : Pair) → Contains first_ones q → Contains sorted q
+  first_is_sorted q c = let found_q = covered_lead q c in subst (λ (r : Pair). Contains sorted r) found_q.2 (sorted_one found_q.0 found_q.1)
+
+  -- two that are found at one place are one
+  one_found : (e f : FoundRace) → Contains found e → Contains found f → place_at trace e.1.first e.1.second ≡ place_at trace f.1.first f.1.second → e ≡ f
+  one_found e f in_e in_f same =
+      let number = covers.apart in_e.0 in_f.0 e f (contains_get found e in_e) (contains_get found f in_f) same in
+      same_entry found in_f.0 e f (subst (λ (n : ℕ). slice_get found n ≡ Some e) number (contains_get found e in_e)) (contains_get found f in_f)
+
+  sorted_is_first : (p : Pair) → Contains sorted p → Contains first_ones p
+  sorted_is_first p c =
+      let own = found_one p c in
+      let race = (covers.races own.0 own.1).0 in
+      let once = led_once trace all first_ones first_are (race_in own.0.1) (pair_listed trace.events (race_in own.0.1) race) in
+      let l : Pair = once.race in
+      let member : Contains first_ones l = contained_at first_ones once.number l once.there in
+      let other = covered_lead l member in
+      let place : place_at trace other.0.1.first other.0.1.second ≡ place_at trace own.0.1.first own.0.1.second = ap (λ (r : Pair). place_at trace r.first r.second) other.2 ∙ once.place_is in
+      let same : other.0 ≡ own.0 = one_found other.0 own.0 other.1 own.1 place in
+      let is : l ≡ p = sym other.2 ∙ (ap (λ (e : FoundRace). race_in e.1) same ∙ own.2) in
+      subst (λ (r : Pair). Contains first_ones r) is member
+
+  -- no race is found twice
+  found_at : (k : ℕ) (p : Pair) → slice_get (races_in found) k ≡ Some p → (e : FoundRace) × (slice_get found k ≡ Some e) × (race_in e.1 ≡ p)
+  found_at k p at = by (slice_get found k) refl (sym (slice_get-map (λ (e : FoundRace). race_in e.1) found k) ∙ at)
+    where
+      by : (o : Option FoundRace) → slice_get found k ≡ o → option_map (λ (e : FoundRace). race_in e.1) o ≡ Some p → (e : FoundRace) × (slice_get found k ≡ Some e) × (race_in e.1 ≡ p)
+      by (Some e) is mapped = (e, is, (let f : Some (race_in e.1) ≡ Some p = mapped in cc))
+      by _ is mapped = absurd (let f : ⊥ = cc in f)
+
+  races_distinct : IsDistinct same_race (races_in found)
+  races_distinct = IsDistinct-from_apart same_race (races_in found) (λ i j d low within. elim (cases_Bool (same_race (get_or (races_in found) i d) (get_or (races_in found) j d))) [
+    | inl alike ↦ absurd (
+        let p : Pair = get_or (races_in found) i d in
+        let q : Pair = get_or (races_in found) j d in
+        let e = found_at i p (slice_get-get_or (races_in found) i d (omega (arith, low, within))) in
+        let f = found_at j q (slice_get-get_or (races_in found) j d within) in
+        let same : race_in e.0.1 ≡ race_in f.0.1 = e.2 ∙ (one_race p q alike ∙ sym f.2) in
+        let number = covers.apart i j e.0 f.0 e.1 f.1 (ap (λ (r : Pair). place_at trace r.first r.second) same) in
+        omega (arith, low, number))
+    | inr differ ↦ differ
+  ])
+
+  sorted_before : AllPairs (IsBefore trace.events) sorted
+  sorted_before = λ i j d low within x y of_p of_q. elim (order.in_order i j d low within x y of_p of_q) [
+    | inl less ↦ less
+    | inr same ↦ absurd (
+        let p : Pair = get_or sorted i d in
+        let q : Pair = get_or sorted j d in
+        let one : p ≡ q = (λ k. record { first = (same k).2; second = (same k).1 }) in
+        let no = apart_from_distinct same_race sorted i j d (IsDistinct-IsPermutation same_race race_flips (races_in found) sorted order.permutation races_distinct) low within in
+        let f : true ≡ false = sym (race_same p q one) ∙ no in
+        let none : ⊥ = cc in
+        none)
+  ]
 
   first_before : AllPairs (IsBefore trace.events) first_ones
   first_before = λ i j d low within. (leading_ordered trace all first_ones first_are (IsBefore trace.events) (pairs_ordered trace.events) i j d low within).0
 
-  strict : (a b : Pair) → Contains leading a → Contains leading b → IsBefore trace.events a b → IsBefore trace.events b a → ⊥
+  strict : (a b : Pair) → Contains sorted a → Contains sorted b → IsBefore trace.events a b → IsBefore trace.events b a → ⊥
   strict a b in_a in_b before after =
-      let race_a = sorted_race a (leading_listed trace sorted leading are a in_a) in
-      let race_b = sorted_race b (leading_listed trace sorted leading are b in_b) in
-      let x : ℕ = race_a.conflict.variable in
-      let y : ℕ = race_b.conflict.variable in
-      let of_a : variable_at trace.events a.second ≡ Some x = race_a.conflict.second_accesses in
-      let of_b : variable_at trace.events b.second ≡ Some y = race_b.conflict.second_accesses in
+      let own = found_one a in_a in
+      let other = found_one b in_b in
+      let x : ℕ = own.0.1.variable in
+      let y : ℕ = other.0.1.variable in
+      let of_a : variable_at trace.events a.second ≡ Some x = subst (λ (r : Pair). variable_at trace.events r.second ≡ Some x) own.2 (covers.races own.0 own.1).1 in
+      let of_b : variable_at trace.events b.second ≡ Some y = subst (λ (r : Pair). variable_at trace.events r.second ≡ Some y) other.2 (covers.races other.0 other.1).1 in
       key_strict (x, a.second, a.first)
       (key_trans (x, a.second, a.first) (y, b.second, b.first) (x, a.second, a.first) (before x y of_a of_b) (after y x of_b of_a))
 
-  leading_same : leading ≡ first_ones
-  leading_same = same_in_order (IsBefore trace.events) leading first_ones strict leading_before first_before (λ p. (leading_is_first p, first_is_leading p))
+  sorted_same : sorted ≡ first_ones
+  sorted_same = same_in_order (IsBefore trace.events) sorted first_ones strict sorted_before first_before (λ p. (sorted_is_first p, first_is_sorted p))
 
   pairs_back : (races : List Pair) → map pair_of (map ends races) ≡ races
   pairs_back [] = refl
   pairs_back (race ∷ races) = ap (λ (l : List Pair). race ∷ l) (pairs_back races)
 
-  pub covered_lead : IsNumberedByAccess trace.events → LeadingRaces trace (map ends leading)
-  covered_lead numbered = record {
+  sorted_lead : IsNumberedByAccess trace.events → LeadingRaces trace (map ends sorted)
+  sorted_lead numbered = record {
     races = all_races trace.events;
     races_are = all_is_race_list trace.events numbered;
-    leading_are = subst (AreLeading trace all) (sym (pairs_back leading ∙ leading_same)) first_are;
+    leading_are = subst (AreLeading trace all) (sym (pairs_back sorted ∙ sorted_same)) first_are;
   }
 
--- the sorted races, by what the functions say of them: they are read back under other names
-module _ (trace : TraceData) (events : List Event) (found given sorted back : List Pair) (same : events ≡ trace.events) (covers : Covers trace found) (given_is : given ≡ found)
-    (ordered : IsInListOrder events given sorted) (back_is : back ≡ sorted) where
-  order : IsInListOrder trace.events found back
-  order =
-      subst (λ (l : List Pair). IsInListOrder trace.events found l) (sym back_is)
-      (subst (λ (l : List Pair). IsInListOrder trace.events l sorted) given_is
-      (subst (λ (e : List Event). IsInListOrder e given sorted) same ordered))
+-- the races that are found, of their variables
+found_variables : (trace : TraceData) (found : List FoundRace) → Covers trace found → All (HasVariable trace.events) (map (λ e. e.1) found)
+found_variables trace found covers k d lt =
+    let at = map_parts (λ (e : FoundRace). e.1) found (get_or (map (λ e. e.1) found) k d) (Contains-get_or (map (λ e. e.1) found) k d lt) in
+    subst (λ (r : ListedRace). HasVariable trace.events r) at.2 (covers.races at.0 at.1).1
 
-  pub sorted_in_range : All (IsPairOf trace) back
-  sorted_in_range = All-permutation (IsPairOf trace) found back order.permutation (λ k d lt.
-      let race = covers.races k d lt in
-      record { first = earlier_in_range trace.events _ _ race; second = later_in_range trace.events _ _ race })
+pairs_of_found : (found : List FoundRace) → map race_in (map (λ e. e.1) found) ≡ races_in found
+pairs_of_found [] = refl
+pairs_of_found (e ∷ found) = ap (λ (l : List Pair). race_in e.1 ∷ l) (pairs_of_found found)
 
-  pub sorted_lead : {V E : Type 0} (items : V → List Pair) (r : Result V E) → IsNumberedByAccess events → IfOk r (λ v. AreLeading trace back (items v)) → IfOk r (λ v. LeadingRaces trace (map ends (items v)))
-  sorted_lead items (Ok v) numbered are = covered_lead trace found back (items v) covers order are (subst (λ (e : List Event). IsNumberedByAccess e) same numbered)
-  sorted_lead items (Err e) numbered are = tt
+-- the sorted races, by what the functions say of them
+pub leading_sorted : (trace : TraceData) (found : List FoundRace) (races : List ListedRace) (sorted : List Pair) → races ≡ map (λ e. e.1) found → (All (HasVariable trace.events) races → IsInListOrder trace.events (map race_in races) sorted) → IsNumberedByAccess trace.events → Covers trace found → LeadingRaces trace (map ends sorted)
+leading_sorted trace found races sorted races_are ordered numbered covers =
+    let variables : All (HasVariable trace.events) races = subst (λ (l : List ListedRace). All (HasVariable trace.events) l) (sym races_are) (found_variables trace found covers) in
+    sorted_lead trace found sorted covers (subst (λ (l : List Pair). IsInListOrder trace.events l sorted) (ap (λ (l : List ListedRace). map race_in l) races_are ∙ pairs_of_found found) (ordered variables)) numbered

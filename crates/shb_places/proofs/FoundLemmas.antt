@@ -1,89 +1,67 @@
 -- The races that are found, one more at a time.
-use Rattle.std.proofs.Common.{◌≡◌, ℕ, ◌<◌, ◌≤◌, ◌⊎◌, inl, inr, List, [], ◌∷◌, ◌++◌, Option, Some, length, get_or, slice_get, arith, refl, subst, ap, sym, ◌∙◌}
+use Rattle.std.proofs.Common.{◌≡◌, ℕ, ◌+◌, ◌<◌, ◌≤◌, ◌⊎◌, inl, inr, Bool, true, false, cond, List, [], ◌∷◌, Some, arith, refl, subst, ap, sym, ◌∙◌}
 use Rattle.std.specs.Prelude.{Contains}
-use Rattle.std.proofs.Math.ListN.{set, length-set}
-use Rattle.std.proofs.lemmas.Bool.{cases_eq, cases_lt}
-use Rattle.std.proofs.lemmas.List.{length-append}
-use Rattle.std.proofs.lemmas.Option.{slice_get_within, slice_get-get_or}
-use Rattle.shb_lines.specs.declared.event.Pair.{Pair}
-use Rattle.shb_lines.specs.events.Race.{KeyBefore, variable_at}
+use Rattle.std.specs.Map.{lookup}
+use Rattle.std.proofs.lemmas.Bool.Decides.{Decides-and, Decides-eqb}
+use Rattle.std.proofs.lemmas.Map.Views.{Contains-from_lookup}
+use Rattle.indexmap.specs.IndexMap.{insert_entry}
 use Rattle.shb_lines.specs.text.TraceData.{TraceData}
+use Rattle.shb_lines.proofs.events.Increasing.{contains_cases, contains_head, contains_none, contains_tail}
 use Rattle.shb_report.specs.Leading.{place_at}
 use Rattle.shb_report.specs.Places.{location_at}
-use Rattle.shb_places.specs.declared.found.Place.{Place}
+use Rattle.shb_places.specs.declared.found.ListedRace.{ListedRace}
 use Rattle.shb_places.specs.declared.notes.Access.{Access}
 use Rattle.shb_places.specs.Access.{IsAccess}
-use Rattle.shb_places.specs.Covering.{IsCovered}
+use Rattle.shb_places.specs.Covering.{FoundRace, IsCovered, NotAfter, race_of}
 use Rattle.shb_places.specs.Known.{IsKnown}
-use Rattle.shb_places.specs.Found.{AreFound, Improves, IsFound, IsOffered, IsPlace, NotAfter}
-use Rattle.shb_places.proofs.Lists.{contains_get, get_cases, get_contains, get_last, get_more, get_set, get_set_other, same_entry}
+use Rattle.shb_places.specs.Firsts.{HasFirsts, HaveFirsts}
+use Rattle.shb_places.specs.Found.{AreFound, Improves, IsFound, IsOffered, same_key}
 
-same_key : (x y j k i l : ℕ) → x ≡ y → j ≡ k → i ≡ l → ◌≡◌ {A = ℕ × ℕ × ℕ} (x, j, i) (y, k, l)
-same_key x y j k i l a b c = cc
-
-pub key_to : (x j i y k l : ℕ) → KeyBefore (x, j, i) (y, k, l) ⊎ (◌≡◌ {A = ℕ × ℕ × ℕ} (x, j, i) (y, k, l)) → NotAfter x j i y k l
-key_to x j i y k l (inl (inl lt)) = inl lt
-key_to x j i y k l (inl (inr rest)) = inr (rest.0, elim (rest.1) [ inl lt ↦ inl lt | inr least ↦ inr (least.0, (let lt = least.1 in omega (arith, lt))) ])
-key_to x j i y k l (inr same) = inr (ap (λ (t : ℕ × ℕ × ℕ). t.0) same, inr (ap (λ (t : ℕ × ℕ × ℕ). t.1) same, (let e = ap (λ (t : ℕ × ℕ × ℕ). t.2) same in omega (arith, e))))
-
-pub key_from : (x j i y k l : ℕ) → NotAfter x j i y k l → KeyBefore (x, j, i) (y, k, l) ⊎ (◌≡◌ {A = ℕ × ℕ × ℕ} (x, j, i) (y, k, l))
-key_from x j i y k l (inl lt) = inl (inl lt)
-key_from x j i y k l (inr rest) = elim (rest.1) [
-  | inl lt ↦ inl (inr (rest.0, inl lt))
-  | inr least ↦ elim (cases_lt i l) [
-    | inl lt ↦ inl (inr (rest.0, inr (least.0, lt)))
-    | inr ge ↦ inr (same_key x y j k i l rest.0 least.0 (let le = least.1 in omega (arith, le, ge)))
-  ]
-]
-
-pub key_then : (x j i y k l z m n : ℕ) → NotAfter x j i y k l → NotAfter y k l z m n → NotAfter x j i z m n
-key_then x j i y k l z m n (inl a) (inl b) = inl (omega (arith, a, b))
-key_then x j i y k l z m n (inl a) (inr b) = inl (let e = b.0 in omega (arith, a, e))
-key_then x j i y k l z m n (inr a) (inl b) = inl (let e = a.0 in omega (arith, b, e))
-key_then x j i y k l z m n (inr a) (inr b) = inr (a.0 ∙ b.0, go a.1 b.1)
+pub key_then : (a b c : ListedRace) → NotAfter a b → NotAfter b c → NotAfter a c
+key_then a b c (inl h) (inl g) = inl (omega (arith, h, g))
+key_then a b c (inl h) (inr g) = inl (let e = g.0 in omega (arith, h, e))
+key_then a b c (inr h) (inl g) = inl (let e = h.0 in omega (arith, g, e))
+key_then a b c (inr h) (inr g) = inr (h.0 ∙ g.0, go h.1 g.1)
   where
-    go : (j < k) ⊎ ((j ≡ k) × (i ≤ l)) → (k < m) ⊎ ((k ≡ m) × (l ≤ n)) → (j < m) ⊎ ((j ≡ m) × (i ≤ n))
-    go (inl c) (inl d) = inl (omega (arith, c, d))
-    go (inl c) (inr d) = inl (let e = d.0 in omega (arith, c, e))
-    go (inr c) (inl d) = inl (let e = c.0 in omega (arith, d, e))
-    go (inr c) (inr d) = inr (c.0 ∙ d.0, (let e = c.1 in let f = d.1 in omega (arith, e, f)))
+    go : (a.second < b.second) ⊎ ((a.second ≡ b.second) × (a.first ≤ b.first)) → (b.second < c.second) ⊎ ((b.second ≡ c.second) × (b.first ≤ c.first)) → (a.second < c.second) ⊎ ((a.second ≡ c.second) × (a.first ≤ c.first))
+    go (inl x) (inl y) = inl (omega (arith, x, y))
+    go (inl x) (inr y) = inl (let e = y.0 in omega (arith, x, e))
+    go (inr x) (inl y) = inl (let e = x.0 in omega (arith, y, e))
+    go (inr x) (inr y) = inr (x.0 ∙ y.0, (let e = x.1 in let f = y.1 in omega (arith, e, f)))
 
-same_some : (x y : ℕ) (o : Option ℕ) → o ≡ Some x → o ≡ Some y → x ≡ y
-same_some x y o a b = let s : Some x ≡ Some y = sym a ∙ b in cc
+pub key_self : (a : ListedRace) → NotAfter a a
+key_self a = inr (refl, inr (refl, (omega arith)))
 
--- a race in the list whose key isn't after
-pub covered_by : (trace : TraceData) (found : List Pair) (pair : Pair) (i j x y : ℕ) → Contains found pair → place_at trace pair.first pair.second ≡ place_at trace i j → variable_at trace.events pair.second ≡ Some x → variable_at trace.events j ≡ Some y → NotAfter x pair.second pair.first y j i → IsCovered trace found i j
-covered_by trace found pair i j x y there same of_pair of_j low = record {
-  pair = pair;
-  there = there;
-  same_place = same;
-  not_after = λ v w of_v of_w. key_from v pair.second pair.first w j i (subst (λ (n : ℕ). NotAfter v pair.second pair.first n j i) (same_some y w (variable_at trace.events j) of_j of_w) (subst (λ (n : ℕ). NotAfter n pair.second pair.first y j i) (same_some x v (variable_at trace.events pair.second) of_pair of_v) low));
-}
+-- a race in the list that isn't after
+pub covered_by : (trace : TraceData) (found : List FoundRace) (e : FoundRace) (race : ListedRace) → Contains found e → place_at trace e.1.first e.1.second ≡ place_at trace race.first race.second → NotAfter e.1 race → IsCovered trace found race
+covered_by trace found e race there same low = record { place = e.0; known = e.1; there = there; same_place = same; not_after = low }
 
-pub covered_self : (trace : TraceData) (found : List Pair) (race : Pair) (x : ℕ) → Contains found race → variable_at trace.events race.second ≡ Some x → IsCovered trace found race.first race.second
-covered_self trace found race x there of_race = covered_by trace found race race.first race.second x x there refl of_race of_race (inr (refl, inr (refl, (omega arith))))
+pub covered_self : (trace : TraceData) (found : List FoundRace) (e : FoundRace) → Contains found e → IsCovered trace found e.1
+covered_self trace found e there = covered_by trace found e e.1 there refl (key_self e.1)
 
--- what is found is of a variable
-pub found_variable : (trace : TraceData) (n : ℕ) (places : List Place) (races : List Pair) (race : Pair) → AreFound trace n places races → Contains races race → (place : Place) × IsFound trace n place race
-found_variable trace n places races race found there =
-    let at = contains_get races race there in
-    let low = there.1 in
-    let long = found.as_many in
-    let d : Place = record { first = 0; second = 0; variable = 0 } in
-    let place = get_or places there.0 d in
-    (place, found.each there.0 place race (slice_get-get_or places there.0 d (omega (arith, low, long))) at)
-
-pub covered_then : (trace : TraceData) (n : ℕ) (places : List Place) (old new : List Pair) (i j : ℕ) → AreFound trace n places old → Improves trace old new → IsCovered trace old i j → IsCovered trace new i j
-covered_then trace n places old new i j found improves cover =
-    let more = improves cover.pair cover.there in
-    let middle = found_variable trace n places old cover.pair found cover.there in
-    let of_middle = middle.1.variable_is in
+-- what is covered stays so for a list that improves, and for a later race of the place
+pub covered_then : (trace : TraceData) (old new : List FoundRace) (race : ListedRace) → Improves trace old new → IsCovered trace old race → IsCovered trace new race
+covered_then trace old new race improves cover =
+    let more = improves (cover.place, cover.known) cover.there in
     record {
-      pair = more.pair;
+      place = more.place;
+      known = more.known;
       there = more.there;
       same_place = more.same_place ∙ cover.same_place;
-      not_after = λ x y of_x of_y. key_from x more.pair.second more.pair.first y j i (key_then x more.pair.second more.pair.first middle.0.variable cover.pair.second cover.pair.first y j i (key_to x more.pair.second more.pair.first middle.0.variable cover.pair.second cover.pair.first (more.not_after x middle.0.variable of_x of_middle)) (key_to middle.0.variable cover.pair.second cover.pair.first y j i (cover.not_after middle.0.variable y of_middle of_y)));
+      not_after = key_then more.known cover.known race more.not_after cover.not_after;
     }
+
+pub covered_later : (trace : TraceData) (found : List FoundRace) (race later : ListedRace) → place_at trace race.first race.second ≡ place_at trace later.first later.second → NotAfter race later → IsCovered trace found race → IsCovered trace found later
+covered_later trace found race later same low cover = record {
+  place = cover.place;
+  known = cover.known;
+  there = cover.there;
+  same_place = cover.same_place ∙ same;
+  not_after = key_then cover.known race later cover.not_after low;
+}
+
+pub improves_self : (trace : TraceData) (found : List FoundRace) → Improves trace found found
+improves_self trace found e there = covered_self trace found e there
 
 pub same_places : (trace : TraceData) (i j k l : ℕ) → location_at trace i ≡ location_at trace k → location_at trace j ≡ location_at trace l → place_at trace i j ≡ place_at trace k l
 same_places trace i j k l a b = ap (λ (t : List ℕ). pair_of t (location_at trace j)) a ∙ ap (λ (t : List ℕ). pair_of (location_at trace k) t) b
@@ -91,81 +69,123 @@ same_places trace i j k l a b = ap (λ (t : List ℕ). pair_of t (location_at tr
     pair_of : List ℕ → List ℕ → List ℕ × List ℕ
     pair_of a b = (a, b)
 
+-- equal keys are the same
+pub one_key : (x y : ℕ × ℕ) → same_key x y ≡ true → x ≡ y
+one_key x y is = let h = (Decides-and _ _ (Decides-eqb x.0 y.0) (Decides-eqb x.1 y.1)).0 is in λ i. (h.0 i, h.1 i)
+
+pub key_same : (x y : ℕ × ℕ) → x ≡ y → same_key x y ≡ true
+key_same x y is = (Decides-and _ _ (Decides-eqb x.0 y.0) (Decides-eqb x.1 y.1)).1 (ap (λ (p : ℕ × ℕ). p.0) is, ap (λ (p : ℕ × ℕ). p.1) is)
+
+known_there : (found : List FoundRace) (place : ℕ × ℕ) (race : ListedRace) → lookup (same_key place) found ≡ Some race → Contains found (place, race)
+known_there found place race at = Contains-from_lookup one_key place race found at
+
 -- a place that is known before an access
-pub known_covers : (trace : TraceData) (n : ℕ) (places : List Place) (races : List Pair) (first q : ℕ) (race : Pair) (access : Access) → AreFound trace n places races → IsAccess trace access → (is : IsPlace places first access.location q) → slice_get races q ≡ Some race → (is.place.variable < access.variable) ⊎ ((is.place.variable ≡ access.variable) × (race.second < access.event)) → IsKnown trace races access.variable first access.location access.event
-known_covers trace n places races first q race access found own is at early = record {
-  covers = λ i j later of_j first_is second_is. (
-      let h = found.each q is.place race is.there at in
-      covered_by trace races race i j is.place.variable access.variable (get_contains races q race at)
-      (same_places trace race.first race.second i j (h.first_is ∙ (ap (λ (l : ℕ). location_at trace l) is.first_is ∙ sym first_is)) (h.second_is ∙ (ap (λ (l : ℕ). location_at trace l) is.second_is ∙ sym second_is)))
-      h.variable_is of_j
+pub known_covers : (trace : TraceData) (n : ℕ) (found : List FoundRace) (first : ℕ) (race : ListedRace) (access : Access) → AreFound trace n found → IsAccess trace access → lookup (same_key (first, access.location)) found ≡ Some race
+    → (race.variable < access.variable) ⊎ ((race.variable ≡ access.variable) × (race.second < access.event)) → IsKnown trace found access.variable first access.location access.event
+known_covers trace n found first race access are own at early = record {
+  covers = λ i j later first_is second_is. (
+      let there = known_there found (first, access.location) race at in
+      let h = are ((first, access.location), race) there in
+      covered_by trace found ((first, access.location), race) (race_of access.variable j i) there
+      (same_places trace race.first race.second i j (h.first_is ∙ sym first_is) (h.second_is ∙ sym second_is))
       (elim early [ inl lt ↦ inl lt | inr rest ↦ inr (rest.0, inl (let lt = rest.1 in omega (arith, lt, later))) ]));
 }
 
 -- a place that is known stays so, for later races and for a list that improves
-pub known_then : (trace : TraceData) (n : ℕ) (places : List Place) (old new : List Pair) (x l m k next : ℕ) → AreFound trace n places old → Improves trace old new → k ≤ next → IsKnown trace old x l m k → IsKnown trace new x l m next
-known_then trace n places old new x l m k next found improves later known = record {
-  covers = λ i j lt of_j first_is second_is. covered_then trace n places old new i j found improves (known.covers i j (omega (arith, later, lt)) of_j first_is second_is);
+pub known_then : (trace : TraceData) (old new : List FoundRace) (x l m k next : ℕ) → Improves trace old new → k ≤ next → IsKnown trace old x l m k → IsKnown trace new x l m next
+known_then trace old new x l m k next improves later known = record {
+  covers = λ i j lt first_is second_is. covered_then trace old new (race_of x j i) improves (known.covers i j (omega (arith, later, lt)) first_is second_is);
 }
 
--- a race in the place of a later one
-pub kept_earlier : (trace : TraceData) (n : ℕ) (places : List Place) (races : List Pair) (q : ℕ) (known place : Place) (kept race : Pair) → AreFound trace n places races → IsFound trace n place race → slice_get places q ≡ Some known → slice_get races q ≡ Some kept → known.first ≡ place.first → known.second ≡ place.second → KeyBefore (place.variable, race.second, race.first) (known.variable, kept.second, kept.first) → IsOffered trace n (set places q place) races (set races q race) race
-kept_earlier trace n places races q known place kept race found own at_place at_race first_is second_is before =
-    let in_places = slice_get_within places q known at_place in
-    let in_races = slice_get_within races q kept at_race in
-    let here_now = get_contains (set races q race) q race (get_set races q race in_races) in
-    record {
-      found = record {
-        as_many = length-set races q race ∙ (found.as_many ∙ sym (length-set places q place));
-        each = λ k p r at_p at_r. elim (cases_eq k q) [
-          | inl same ↦ (
-              let p_is : place ≡ p = same_entry (set places q place) q place p (get_set places q place in_places) (subst (λ (m : ℕ). slice_get (set places q place) m ≡ Some p) same at_p) in
-              let r_is : race ≡ r = same_entry (set races q race) q race r (get_set races q race in_races) (subst (λ (m : ℕ). slice_get (set races q race) m ≡ Some r) same at_r) in
-              subst (λ (m : Pair). IsFound trace n p m) r_is (subst (λ (m : Place). IsFound trace n m race) p_is own))
-          | inr ne ↦ found.each k p r (sym (get_set_other places q k place ne) ∙ at_p) (sym (get_set_other races q k race ne) ∙ at_r)
-        ];
-      };
-      improves = λ old there. (
-          let at_old = contains_get races old there in
-          elim (cases_eq there.0 q) [
-            | inl same ↦ (
-                let old_is : kept ≡ old = same_entry races q kept old at_race (subst (λ (m : ℕ). slice_get races m ≡ Some old) same at_old) in
-                let h = found.each q known kept at_place at_race in
-                let cover : IsCovered trace (set races q race) kept.first kept.second = covered_by trace (set races q race) race kept.first kept.second place.variable known.variable here_now (same_places trace race.first race.second kept.first kept.second (own.first_is ∙ (ap (λ (l : ℕ). location_at trace l) (sym first_is) ∙ sym h.first_is)) (own.second_is ∙ (ap (λ (l : ℕ). location_at trace l) (sym second_is) ∙ sym h.second_is))) own.variable_is h.variable_is (key_to place.variable race.second race.first known.variable kept.second kept.first (inl before)) in
-                subst (λ (m : Pair). IsCovered trace (set races q race) m.first m.second) old_is cover)
-            | inr ne ↦ (
-                let v = found_variable trace n places races old found there in
-                covered_self trace (set races q race) old v.0.variable (get_contains (set races q race) there.0 old (get_set_other races q there.0 race ne ∙ at_old)) v.1.variable_is)
-          ]);
-      covered = covered_self trace (set races q race) race place.variable here_now own.variable_is;
-    }
+-- what is found is found for later races
+pub found_later : (trace : TraceData) (n : ℕ) (found : List FoundRace) → AreFound trace n found → AreFound trace (n + 1) found
+found_later trace n found are e there = (let h = are e there in record {
+  is_race = h.is_race;
+  past = (let low = h.past in omega (arith, low));
+  first_is = h.first_is;
+  second_is = h.second_is;
+  variable_is = h.variable_is;
+})
 
--- a race that isn't before the one of its place
-pub kept_same : (trace : TraceData) (n : ℕ) (places : List Place) (races : List Pair) (q : ℕ) (known place : Place) (kept race : Pair) → AreFound trace n places races → IsFound trace n place race → slice_get places q ≡ Some known → slice_get races q ≡ Some kept → known.first ≡ place.first → known.second ≡ place.second → NotAfter known.variable kept.second kept.first place.variable race.second race.first → IsOffered trace n places races races race
-kept_same trace n places races q known place kept race found own at_place at_race first_is second_is low =
-    let h = found.each q known kept at_place at_race in
-    record {
-      found = found;
-      improves = λ old there. (let v = found_variable trace n places races old found there in covered_self trace races old v.0.variable there v.1.variable_is);
-      covered = covered_by trace races kept race.first race.second known.variable place.variable (get_contains races q kept at_race) (same_places trace kept.first kept.second race.first race.second (h.first_is ∙ (ap (λ (l : ℕ). location_at trace l) first_is ∙ sym own.first_is)) (h.second_is ∙ (ap (λ (l : ℕ). location_at trace l) second_is ∙ sym own.second_is))) h.variable_is own.variable_is low;
-    }
+-- a place that is put among the others: it is there, what was there stays but for its race, and nothing else comes
+module _ (place : ℕ × ℕ) (race : ListedRace) where
+  abbrev put : List FoundRace → List FoundRace
+  put found = insert_entry same_key found place race
 
--- a race of a new place
-pub added_place : (trace : TraceData) (n : ℕ) (places : List Place) (races : List Pair) (place : Place) (race : Pair) → AreFound trace n places races → IsFound trace n place race → IsOffered trace n (places ++ place ∷ []) races (races ++ race ∷ []) race
-added_place trace n places races place race found own = record {
-  found = record {
-    as_many = (let a = length-append races (race ∷ []) in let b = length-append places (place ∷ []) in let e = found.as_many in omega (arith, a, b, e));
-    each = λ k p r at_p at_r. elim (get_cases places place k p at_p) [
-      | inl old_p ↦ elim (get_cases races race k r at_r) [
-        | inl old_r ↦ found.each k p r old_p old_r
-        | inr new_r ↦ absurd (let low = slice_get_within places k p old_p in let e = found.as_many in let f = new_r.0 in omega (arith, low, e, f))
+  put_there : (found : List FoundRace) → Contains (put found) (place, race)
+  put_there [] = contains_head (place, race) []
+  put_there (e ∷ found) = by (same_key place e.0) refl (put_there found)
+    where
+      by : (b : Bool) → same_key place e.0 ≡ b → Contains (put found) (place, race) → Contains (cond b ((e.0, race) ∷ found) (e ∷ put found)) (place, race)
+      by true is rest = subst (λ (p : ℕ × ℕ). Contains ((p, race) ∷ found) (place, race)) (one_key place e.0 is) (contains_head (place, race) found)
+      by false is rest = contains_tail e (place, race) (put found) rest
+
+  put_stays : (found : List FoundRace) (old : FoundRace) → Contains found old → Contains (put found) old ⊎ ((place ≡ old.0) × (lookup (same_key place) found ≡ Some old.1))
+  put_stays [] old there = absurd (contains_none old there)
+  put_stays (e ∷ found) old there = by (same_key place e.0) refl (contains_cases e old found there) (λ rest. put_stays found old rest)
+    where
+      by : (b : Bool) → same_key place e.0 ≡ b → (e ≡ old) ⊎ Contains found old → (Contains found old → Contains (put found) old ⊎ ((place ≡ old.0) × (lookup (same_key place) found ≡ Some old.1))) → Contains (cond b ((e.0, race) ∷ found) (e ∷ put found)) old ⊎ ((place ≡ old.0) × (cond b (Some e.1) (lookup (same_key place) found) ≡ Some old.1))
+      by true is (inl same) more = inr (one_key place e.0 is ∙ ap (λ (k : FoundRace). k.0) same, ap (λ (k : FoundRace). Some k.1) same)
+      by true is (inr rest) more = inl (contains_tail (e.0, race) old found rest)
+      by false is (inl same) more = inl (subst (λ (k : FoundRace). Contains (e ∷ put found) k) same (contains_head e (put found)))
+      by false is (inr rest) more = elim (more rest) [
+        | inl stays ↦ inl (contains_tail e old (put found) stays)
+        | inr gone ↦ inr gone
       ]
-      | inr new_p ↦ elim (get_cases races race k r at_r) [
-        | inl old_r ↦ absurd (let low = slice_get_within races k r old_r in let e = found.as_many in let f = new_p.0 in omega (arith, low, e, f))
-        | inr new_r ↦ subst (λ (m : Pair). IsFound trace n p m) new_r.1 (subst (λ (m : Place). IsFound trace n m race) new_p.1 own)
+
+  put_from : (found : List FoundRace) (new : FoundRace) → Contains (put found) new → Contains found new ⊎ ((place, race) ≡ new)
+  put_from [] new there = elim (contains_cases (place, race) new [] there) [ inl same ↦ inr same | inr none ↦ absurd (contains_none new none) ]
+  put_from (e ∷ found) new there = by (same_key place e.0) refl there (λ rest. put_from found new rest)
+    where
+      by : (b : Bool) → same_key place e.0 ≡ b → Contains (cond b ((e.0, race) ∷ found) (e ∷ put found)) new → (Contains (put found) new → Contains found new ⊎ ((place, race) ≡ new)) → Contains (e ∷ found) new ⊎ ((place, race) ≡ new)
+      by true is h more = elim (contains_cases (e.0, race) new found h) [
+        | inl same ↦ inr (ap (λ (p : ℕ × ℕ). with_race p) (one_key place e.0 is) ∙ same)
+        | inr rest ↦ inl (contains_tail e new found rest)
       ]
+        where
+          with_race : ℕ × ℕ → FoundRace
+          with_race p = (p, race)
+      by false is h more = elim (contains_cases e new (put found) h) [
+        | inl same ↦ inl (subst (λ (k : FoundRace). Contains (e ∷ found) k) same (contains_head e found))
+        | inr rest ↦ elim (more rest) [
+          | inl old ↦ inl (contains_tail e new found old)
+          | inr same ↦ inr same
+        ]
+      ]
+
+  -- a race came to a place that isn't known, or is known by a race that stands after it
+  pub offered_put : (trace : TraceData) (n : ℕ) (found : List FoundRace) → AreFound trace n found → IsFound trace n (place, race) → ((known : ListedRace) → lookup (same_key place) found ≡ Some known → NotAfter race known) → IsOffered trace n found (put found) race
+  offered_put trace n found are own earlier = record {
+    found = λ e there. elim (put_from found e there) [
+      | inl old ↦ are e old
+      | inr same ↦ subst (λ (k : FoundRace). IsFound trace n k) same own
     ];
-  };
-  improves = λ old there. (let v = found_variable trace n places races old found there in let at = contains_get races old there in covered_self trace (races ++ race ∷ []) old v.0.variable (get_contains (races ++ race ∷ []) there.0 old (get_more races (race ∷ []) there.0 old at)) v.1.variable_is);
-  covered = covered_self trace (races ++ race ∷ []) race place.variable (get_contains (races ++ race ∷ []) (length races) race (get_last races race (length races) refl)) own.variable_is;
-}
+    improves = λ old there. elim (put_stays found old there) [
+      | inl stays ↦ covered_self trace (put found) old stays
+      | inr gone ↦ (
+          let h = are old there in
+          let same_first = ap (λ (p : ℕ × ℕ). location_at trace p.0) gone.0 in
+          let same_second = ap (λ (p : ℕ × ℕ). location_at trace p.1) gone.0 in
+          covered_by trace (put found) (place, race) old.1 (put_there found)
+          (same_places trace race.first race.second old.1.first old.1.second (own.first_is ∙ (same_first ∙ sym h.first_is)) (own.second_is ∙ (same_second ∙ sym h.second_is)))
+          (earlier old.1 gone.1))
+    ];
+    covered = covered_self trace (put found) (place, race) (put_there found);
+  }
+
+  pub have_put : (firsts : List ℕ) (found : List FoundRace) → HaveFirsts firsts found → HasFirsts firsts (place, race) → HaveFirsts firsts (put found)
+  have_put firsts found have here e there = elim (put_from found e there) [
+    | inl old ↦ have e old
+    | inr same ↦ subst (λ (k : FoundRace). HasFirsts firsts k) same here
+  ]
+
+  -- or to one that is known by a race that doesn't stand after it
+  pub offered_kept : (trace : TraceData) (n : ℕ) (found : List FoundRace) (known : ListedRace) → AreFound trace n found → IsFound trace n (place, race) → lookup (same_key place) found ≡ Some known → NotAfter known race → IsOffered trace n found found race
+  offered_kept trace n found known are own at low =
+      let there = known_there found place known at in
+      let h = are (place, known) there in
+      record {
+        found = are;
+        improves = improves_self trace found;
+        covered = covered_by trace found (place, known) race there (same_places trace known.first known.second race.first race.second (h.first_is ∙ sym own.first_is) (h.second_is ∙ sym own.second_is)) low;
+      }

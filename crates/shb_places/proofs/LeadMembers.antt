@@ -38,17 +38,6 @@ module _ (trace : TraceData) (races leading : List Pair) (are : AreLeading trace
       let found = number_at at.0 p at.1 in
       (found.0, found.2, lead_number found.0 at.0 found.1)
 
-  -- and one that leads is a leading race
-  pub leads_in : (n : ℕ) (p : Pair) → slice_get races n ≡ Some p → Leads trace races n → Contains leading p
-  leads_in n p there leads =
-      let c = (are.members n).1 leads in
-      let at : slice_get are.numbers c.0 ≡ Some n = slice_get-get_or are.numbers c.0 n c.1 ∙ ap (λ (m : ℕ). Some m) c.2 in
-      contained_at leading c.0 p (by (slice_get leading c.0) (sym (both c.0) ∙ ap (λ (o : Option ℕ). option_map (slice_get races) o) at ∙ ap (λ (o : Option Pair). Some o) there))
-    where
-      by : (o : Option Pair) → option_map (λ (q : Pair). Some q) o ≡ Some (Some p) → o ≡ Some p
-      by None is = absurd (let f : ⊥ = cc in f)
-      by (Some q) is = let f : Some q ≡ Some p = cc in f
-
   -- leading races stand in the order of the list, and have different places
   pub leading_ordered : (R : Pair → Pair → Type 0) → AllPairs R races → AllPairs (λ p q. R p q × (place_at trace p.first p.second ≢ place_at trace q.first q.second)) leading
   leading_ordered R ordered = λ i j d low within.

@@ -1,5 +1,4 @@
 mod CoveredLeading
-mod Entries
 pub mod FirstLemmas
 pub mod FoundLemmas
 mod KeyOrder

@@ -1,5 +1,5 @@
 -- Lists in flat tables.
-use Rattle.std.proofs.Common.{◌≡◌, ◌≢◌, ℕ, zero, suc, ◌<◌, ◌≤◌, ◌⊎◌, inl, inr, List, [], ◌∷◌, ◌++◌, Some, length, get_or, slice_get, arith, refl, subst, ap, sym, ◌∙◌}
+use Rattle.std.proofs.Common.{◌≡◌, ◌≢◌, ℕ, zero, suc, ◌<◌, ◌≤◌, ◌⊎◌, inl, inr, List, [], ◌∷◌, ◌++◌, Some, Result, Ok, Err, OnOk, length, get_or, slice_get, arith, refl, subst, ap, sym, ◌∙◌}
 use Rattle.std.specs.Prelude.{Contains}
 use Rattle.std.proofs.Math.ListN.{set}
 use Rattle.std.proofs.lemmas.Option.{get_or_from_slice_get, slice_get_read, slice_get_within, slice_get-get_or}
@@ -83,3 +83,8 @@ reaches_then next entries k p entry at falls (further other there lower rest) = 
 -- an entry that was read from the same table under another name
 pub read_same : {T : Type 0} (entries seen : List T) (k : ℕ) (entry : T) → seen ≡ entries → k < length seen → entry ≡ get_or seen k entry → slice_get entries k ≡ Some entry
 read_same {T} entries seen k entry same lt is = subst (λ (es : List T). slice_get es k ≡ Some entry) same (slice_get_read seen (length seen) k entry refl lt is)
+
+-- what holds whatever the answer
+pub on_ok_always : {T E P : Type 0} (r : Result T E) → P → OnOk r P
+on_ok_always (Ok v) p = p
+on_ok_always (Err e) p = tt

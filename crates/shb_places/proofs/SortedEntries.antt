@@ -1,5 +1,5 @@
 -- Entries that were sorted have their races in the order of the race list.
-use Rattle.std.proofs.Common.{◌≡◌, ℕ, ◌<◌, false, List, Some, Result, Ok, Err, IfOk, length, map, get_or, All, sym, ap, subst, ◌∙◌, arith}
+use Rattle.std.proofs.Common.{◌≡◌, ℕ, ◌<◌, false, List, Some, length, map, get_or, All, sym, ap, subst, ◌∙◌, arith}
 use Rattle.std.specs.Prelude.{AllPairs}
 use Rattle.std.specs.Ordering.{is_lt, nat_cmp, ordering_then}
 use Rattle.std.specs.Cmp.{IsTotalOrder}
@@ -11,8 +11,9 @@ use Rattle.shb_lines.specs.declared.event.Event.{Event}
 use Rattle.shb_lines.specs.declared.event.Pair.{Pair}
 use Rattle.shb_lines.specs.events.Race.{variable_at}
 use Rattle.shb_pairs.proofs.FlatMaps.{map_ordered}
-use Rattle.shb_places.specs.declared.leading.ListedRace.{ListedRace}
-use Rattle.shb_places.specs.ListOrder.{AreEntries, HasVariable, IsInListOrder, IsNotAfter, race_in}
+use Rattle.shb_places.specs.declared.found.ListedRace.{ListedRace}
+use Rattle.shb_places.specs.Covering.{race_in}
+use Rattle.shb_places.specs.ListOrder.{HasVariable, IsInListOrder, IsNotAfter}
 use Rattle.shb_places.proofs.KeyOrder.{KeyUpTo, compared}
 
 -- entries are compared by their variables, their later events and their earlier ones
@@ -42,11 +43,10 @@ module _ (trace : List Event) (entries : List ListedRace) (variables : All (HasV
   races_ordered = map_ordered (IsNotAfter trace) race_in entries (λ i j d low within. not_after i j d low within)
 
 -- the races of the sorted entries, which are read back under another name
-pub sorted_races : {V E : Type 0} (items : V → List Pair) (r : Result V E) (trace : List Event) (races : List Pair) (entries sorted back : List ListedRace) → AreEntries trace races entries
-    → IsPermutation entries sorted → IsSorted entry_cmp sorted → back ≡ sorted → IfOk r (λ v. items v ≡ map race_in back) → IfOk r (λ v. IsInListOrder trace races (items v))
-sorted_races items (Ok v) trace races entries sorted back are moved up same is =
-    subst (λ (l : List Pair). IsInListOrder trace races l) (sym (is ∙ ap (λ (l : List ListedRace). map race_in l) same)) (record {
-      permutation = subst (λ (l : List Pair). IsPermutation l (map race_in sorted)) are.races_are (IsPermutation-map race_in entries sorted moved);
-      in_order = races_ordered trace sorted (All-permutation (HasVariable trace) entries sorted moved are.variables_are) up;
+pub sorted_races : (trace : List Event) (races sorted back : List ListedRace) (pairs : List Pair) → All (HasVariable trace) races
+    → IsPermutation races sorted → IsSorted entry_cmp sorted → back ≡ sorted → pairs ≡ map race_in back → IsInListOrder trace (map race_in races) pairs
+sorted_races trace races sorted back pairs variables moved up same is =
+    subst (λ (l : List Pair). IsInListOrder trace (map race_in races) l) (sym (is ∙ ap (λ (l : List ListedRace). map race_in l) same)) (record {
+      permutation = IsPermutation-map race_in races sorted moved;
+      in_order = races_ordered trace sorted (All-permutation (HasVariable trace) races sorted moved variables) up;
     })
-sorted_races items (Err e) trace races entries sorted back are moved up same is = tt

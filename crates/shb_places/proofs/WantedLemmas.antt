@@ -3,15 +3,13 @@ use Rattle.std.proofs.Common.{◌≡◌, ◌≢◌, ℕ, zero, suc, ◌+◌, ◌
 use Rattle.std.specs.Prelude.{Contains}
 use Rattle.std.proofs.lemmas.Bool.{cases_eq}
 use Rattle.std.proofs.lemmas.Option.{slice_get_within, slice_get-get_or}
-use Rattle.shb_lines.specs.declared.event.Pair.{Pair}
 use Rattle.shb_lines.specs.text.TraceData.{TraceData}
 use Rattle.shb_report.specs.Places.{location_at}
-use Rattle.shb_places.specs.declared.found.Place.{Place}
 use Rattle.shb_places.specs.declared.notes.Access.{Access}
 use Rattle.shb_places.specs.declared.sites.Site.{Site}
 use Rattle.shb_places.specs.declared.wanted.Wanted.{Wanted}
 use Rattle.shb_places.specs.Access.{IsAccess}
-use Rattle.shb_places.specs.Covering.{IsCovered}
+use Rattle.shb_places.specs.Covering.{FoundRace, IsCovered, race_of}
 use Rattle.shb_places.specs.Found.{AreFound, Improves, IsOffered}
 use Rattle.shb_places.specs.Known.{IsKnown}
 use Rattle.shb_places.specs.Lists.{Reaches, none, site_previous}
@@ -19,23 +17,23 @@ use Rattle.shb_places.specs.Notes.{AreKept, IsEarliestAt, IsNotedAt, Tables}
 use Rattle.shb_places.specs.Searched.{AreToldFrom, IsAskedAll, IsTold}
 use Rattle.shb_places.specs.Sites.{AreSites}
 use Rattle.shb_places.specs.Wanted.{AreHeld, AreWanted, IsWanted}
-use Rattle.shb_places.proofs.FoundLemmas.{covered_by, covered_then, found_variable, key_then, key_to, known_then, same_places}
+use Rattle.shb_places.proofs.FoundLemmas.{covered_later, covered_then, improves_self, known_then, same_places}
 use Rattle.shb_places.proofs.Lists.{contains_get, get_cases, reaches_down, reaches_end, reaches_next, same_entry}
 use Rattle.shb_places.proofs.NoteLemmas.{not_both}
-use Rattle.shb_places.proofs.SearchLemmas.{asked_none, asked_offered, asked_other, found_same, noted_in}
+use Rattle.shb_places.proofs.SearchLemmas.{asked_none, asked_offered, asked_other, noted_in}
 
 -- sites that are in the list, or known, or still to be looked at from the site p back
-pub record AreLookedFrom (trace : TraceData) (sites : List Site) (races : List Pair) (list : List ℕ) (x m n looked p : ℕ) : Type 0 where
+pub record AreLookedFrom (trace : TraceData) (sites : List Site) (races : List FoundRace) (list : List ℕ) (x m n looked p : ℕ) : Type 0 where
   pub held : AreHeld trace sites races list x m n looked
   pub rest : (s : ℕ) (site : Site) → slice_get sites s ≡ Some site → site.variable ≡ x → (Contains list s ⊎ IsKnown trace races x site.location m n) ⊎ Reaches site_previous sites s p
 
-pub looked_start : (trace : TraceData) (newest : List ℕ) (sites : List Site) (races : List Pair) (list : List ℕ) (x m n looked p : ℕ) → AreSites newest sites → AreHeld trace sites races list x m n looked → ((head : ℕ) → slice_get newest x ≡ Some head → p ≡ head) → AreLookedFrom trace sites races list x m n looked p
+pub looked_start : (trace : TraceData) (newest : List ℕ) (sites : List Site) (races : List FoundRace) (list : List ℕ) (x m n looked p : ℕ) → AreSites newest sites → AreHeld trace sites races list x m n looked → ((head : ℕ) → slice_get newest x ≡ Some head → p ≡ head) → AreLookedFrom trace sites races list x m n looked p
 looked_start trace newest sites races list x m n looked p listed held is = record {
   held = held;
   rest = λ s site there same. inr (let h = listed s site there in subst (λ (k : ℕ). Reaches site_previous sites s k) (sym (is h.0 (subst (λ (y : ℕ). slice_get newest y ≡ Some h.0) same h.1))) h.2);
 }
 
-pub looked_next : (trace : TraceData) (sites : List Site) (races : List Pair) (list more : List ℕ) (x m n looked p : ℕ) (at : Site) → slice_get sites p ≡ Some at → ((t : ℕ) → Contains list t → Contains more t) → Contains more p ⊎ IsKnown trace races x at.location m n → AreLookedFrom trace sites races list x m n looked p
+pub looked_next : (trace : TraceData) (sites : List Site) (races : List FoundRace) (list more : List ℕ) (x m n looked p : ℕ) (at : Site) → slice_get sites p ≡ Some at → ((t : ℕ) → Contains list t → Contains more t) → Contains more p ⊎ IsKnown trace races x at.location m n → AreLookedFrom trace sites races list x m n looked p
     → AreHeld trace sites races more x m n looked × ((s : ℕ) (site : Site) → slice_get sites s ≡ Some site → site.variable ≡ x → (Contains more s ⊎ IsKnown trace races x site.location m n) ⊎ ((at.previous < p) × Reaches site_previous sites s at.previous))
 looked_next trace sites races list more x m n looked p at there stay added before = (
   (λ s site low at_site same. elim (before.held s site low at_site same) [
@@ -57,27 +55,27 @@ looked_next trace sites races list more x m n looked p at there stay added befor
   ]),
 )
 
-pub looked_end : (trace : TraceData) (sites : List Site) (races : List Pair) (list : List ℕ) (x m n looked p : ℕ) → length sites ≤ p → AreLookedFrom trace sites races list x m n looked p → AreHeld trace sites races list x m n (length sites)
+pub looked_end : (trace : TraceData) (sites : List Site) (races : List FoundRace) (list : List ℕ) (x m n looked p : ℕ) → length sites ≤ p → AreLookedFrom trace sites races list x m n looked p → AreHeld trace sites races list x m n (length sites)
 looked_end trace sites races list x m n looked p past h s site low at same = elim (h.rest s site at same) [
   | inl held ↦ held
   | inr rest ↦ absurd (let is = reaches_end site_previous sites s p past rest in omega (arith, is, low, past))
 ]
 
-pub looked_before : (trace : TraceData) (sites : List Site) (races : List Pair) (list : List ℕ) (x m n looked p : ℕ) → p < looked → AreLookedFrom trace sites races list x m n looked p → AreHeld trace sites races list x m n (length sites)
+pub looked_before : (trace : TraceData) (sites : List Site) (races : List FoundRace) (list : List ℕ) (x m n looked p : ℕ) → p < looked → AreLookedFrom trace sites races list x m n looked p → AreHeld trace sites races list x m n (length sites)
 looked_before trace sites races list x m n looked p before h s site low at same = elim (h.rest s site at same) [
   | inl held ↦ held
   | inr rest ↦ h.held s site (let down = reaches_down site_previous sites s p rest in omega (arith, down, before)) at same
 ]
 
 -- no lists
-pub wanted_none : (trace : TraceData) (sites : List Site) (races : List Pair) (n : ℕ) (lists : List Wanted) → lists ≡ [] → AreWanted trace sites races n lists
+pub wanted_none : (trace : TraceData) (sites : List Site) (races : List FoundRace) (n : ℕ) (lists : List Wanted) → lists ≡ [] → AreWanted trace sites races n lists
 wanted_none trace sites races n lists none_yet k list at = absurd (apart (subst (λ (ls : List Wanted). slice_get ls k ≡ Some list) none_yet at))
   where
     apart : {T : Type 0} {x : T} → None ≡ Some x → ⊥
     apart e = cc
 
 -- a new list, which looked at nothing
-pub wanted_new : (trace : TraceData) (sites : List Site) (races : List Pair) (n : ℕ) (lists all : List Wanted) (last : Wanted) → all ≡ lists ++ last ∷ [] → length lists < length sites → last.looked ≡ 0 → AreWanted trace sites races n lists → AreWanted trace sites races n all
+pub wanted_new : (trace : TraceData) (sites : List Site) (races : List FoundRace) (n : ℕ) (lists all : List Wanted) (last : Wanted) → all ≡ lists ++ last ∷ [] → length lists < length sites → last.looked ≡ 0 → AreWanted trace sites races n lists → AreWanted trace sites races n all
 wanted_new trace sites races n lists all last grown low nothing h k list at = elim (get_cases lists last k list (subst (λ (ls : List Wanted). slice_get ls k ≡ Some list) grown at)) [
   | inl old ↦ h k list old
   | inr new ↦ (
@@ -93,14 +91,14 @@ wanted_new trace sites races n lists all last grown low nothing h k list at = el
 ]
 
 -- a list stays, for later events and for races that improve
-pub wanted_then : (trace : TraceData) (sites : List Site) (m n next k : ℕ) (places : List Place) (old new : List Pair) (list : Wanted) → AreFound trace m places old → Improves trace old new → n ≤ next → IsWanted trace sites old n k list → IsWanted trace sites new next k list
-wanted_then trace sites m n next k places old new list found improves later h = record {
+pub wanted_then : (trace : TraceData) (sites : List Site) (n next k : ℕ) (old new : List FoundRace) (list : Wanted) → Improves trace old new → n ≤ next → IsWanted trace sites old n k list → IsWanted trace sites new next k list
+wanted_then trace sites n next k old new list improves later h = record {
   asker = h.asker;
   at_asker = h.at_asker;
   looked = h.looked;
   held = λ s site low at same. elim (h.held s site low at same) [
     | inl in_list ↦ inl in_list
-    | inr known ↦ inr (known_then trace m places old new h.asker.variable site.location h.asker.location n next found improves later known)
+    | inr known ↦ inr (known_then trace old new h.asker.variable site.location h.asker.location n next improves later known)
   ];
 }
 
@@ -112,7 +110,7 @@ within_more old new (suc n) stay le =
     omega (arith, low)
 
 -- a list stays when sites come
-pub wanted_grown : (trace : TraceData) (old new : List Site) (races : List Pair) (n k : ℕ) (list : Wanted) → ((s : ℕ) (site : Site) → slice_get old s ≡ Some site → slice_get new s ≡ Some site) → IsWanted trace old races n k list → IsWanted trace new races n k list
+pub wanted_grown : (trace : TraceData) (old new : List Site) (races : List FoundRace) (n k : ℕ) (list : Wanted) → ((s : ℕ) (site : Site) → slice_get old s ≡ Some site → slice_get new s ≡ Some site) → IsWanted trace old races n k list → IsWanted trace new races n k list
 wanted_grown trace old new races n k list stay h = record {
   asker = h.asker;
   at_asker = stay k h.asker h.at_asker;
@@ -126,21 +124,18 @@ wanted_grown trace old new races n k list stay h = record {
 }
 
 -- a race that was offered makes its place known
-pub offered_known : (trace : TraceData) (access : Access) (earliest l : ℕ) (places : List Place) (new : List Pair) → IsAccess trace access → AreFound trace (access.event + 1) places new → IsCovered trace new earliest access.event → location_at trace earliest ≡ location_at trace l → IsKnown trace new access.variable l access.location (access.event + 1)
-offered_known trace access earliest l places new own found cover located = record {
-  covers = λ i j later of_j first_is second_is. (
-      let v = found_variable trace (access.event + 1) places new cover.pair found cover.there in
-      covered_by trace new cover.pair i j v.0.variable access.variable cover.there
-      (cover.same_place ∙ same_places trace earliest access.event i j (located ∙ sym first_is) (own.location ∙ sym second_is)) v.1.variable_is of_j
-      (key_then v.0.variable cover.pair.second cover.pair.first access.variable access.event earliest access.variable j i (key_to v.0.variable cover.pair.second cover.pair.first access.variable access.event earliest (cover.not_after v.0.variable access.variable v.1.variable_is own.variable)) (inr (refl, inl (omega (arith, later))))));
+pub offered_known : (trace : TraceData) (access : Access) (earliest l : ℕ) (new : List FoundRace) → IsAccess trace access → IsCovered trace new (race_of access.variable access.event earliest) → location_at trace earliest ≡ location_at trace l → IsKnown trace new access.variable l access.location (access.event + 1)
+offered_known trace access earliest l new own cover located = record {
+  covers = λ i j later first_is second_is. covered_later trace new (race_of access.variable access.event earliest) (race_of access.variable j i)
+      (same_places trace earliest access.event i j (located ∙ sym first_is) (own.location ∙ sym second_is)) (inr (refl, inl (omega (arith, later)))) cover;
 }
 
 -- no site, or one of another variable
-pub told_no_site : (trace : TraceData) (sites : List Site) (notes : Tables) (access : Access) (s : ℕ) (places : List Place) (races : List Pair) → AreKept trace sites notes access.event → length sites ≤ s → AreFound trace (access.event + 1) places races → IsTold trace sites notes access s false races places races
-told_no_site trace sites notes access s places races kept past found = record {
+pub told_no_site : (trace : TraceData) (sites : List Site) (notes : Tables) (access : Access) (s : ℕ) (races : List FoundRace) → AreKept trace sites notes access.event → length sites ≤ s → AreFound trace (access.event + 1) races → IsTold trace sites notes access s false races races
+told_no_site trace sites notes access s races kept past found = record {
   asked = record {
     found = found;
-    improves = found_same trace (access.event + 1) places races found;
+    improves = improves_self trace races;
     covers = λ i noted race. absurd (
         let is = noted.site_is in
         let own = kept.classes noted.number noted.class noted.there in
@@ -150,52 +145,52 @@ told_no_site trace sites notes access s places races kept past found = record {
   known_is = λ yes. absurd (not_both false refl yes);
 }
 
-pub told_other : (trace : TraceData) (sites : List Site) (notes : Tables) (access : Access) (s : ℕ) (site : Site) (places : List Place) (races : List Pair) → IsAccess trace access → AreKept trace sites notes access.event → slice_get sites s ≡ Some site → AreFound trace (access.event + 1) places races → site.variable ≢ access.variable → IsTold trace sites notes access s false races places races
-told_other trace sites notes access s site places races own kept at found other = record {
-  asked = asked_other trace sites notes access s site places races own kept at found other;
+pub told_other : (trace : TraceData) (sites : List Site) (notes : Tables) (access : Access) (s : ℕ) (site : Site) (races : List FoundRace) → IsAccess trace access → AreKept trace sites notes access.event → slice_get sites s ≡ Some site → AreFound trace (access.event + 1) races → site.variable ≢ access.variable → IsTold trace sites notes access s false races races
+told_other trace sites notes access s site races own kept at found other = record {
+  asked = asked_other trace sites notes access s site races own kept at found other;
   known_is = λ yes. absurd (not_both false refl yes);
 }
 
 -- no access there races
-pub told_none : (trace : TraceData) (sites : List Site) (notes : Tables) (access : Access) (s : ℕ) (places : List Place) (races : List Pair) → access.event < none → AreFound trace (access.event + 1) places races → IsEarliestAt trace sites notes s access none → IsTold trace sites notes access s false races places races
-told_none trace sites notes access s places races few found nothing = record {
-  asked = asked_none trace sites notes access s places races few found nothing;
+pub told_none : (trace : TraceData) (sites : List Site) (notes : Tables) (access : Access) (s : ℕ) (races : List FoundRace) → access.event < none → AreFound trace (access.event + 1) races → IsEarliestAt trace sites notes s access none → IsTold trace sites notes access s false races races
+told_none trace sites notes access s races few found nothing = record {
+  asked = asked_none trace sites notes access s races few found nothing;
   known_is = λ yes. absurd (not_both false refl yes);
 }
 
 -- the earliest was offered
-pub told_offered : (trace : TraceData) (sites : List Site) (notes : Tables) (access : Access) (s earliest : ℕ) (site : Site) (old : List Pair) (places : List Place) (new : List Pair) → IsAccess trace access → AreKept trace sites notes access.event → slice_get sites s ≡ Some site → IsEarliestAt trace sites notes s access earliest → earliest ≢ none → IsOffered trace (access.event + 1) places old new (record { first = earliest; second = access.event }) → IsTold trace sites notes access s true old places new
-told_offered trace sites notes access s earliest site old places new own kept at least some offered =
+pub told_offered : (trace : TraceData) (sites : List Site) (notes : Tables) (access : Access) (s earliest : ℕ) (site : Site) (old new : List FoundRace) → IsAccess trace access → AreKept trace sites notes access.event → slice_get sites s ≡ Some site → IsEarliestAt trace sites notes s access earliest → earliest ≢ none → IsOffered trace (access.event + 1) old new (race_of access.variable access.event earliest) → IsTold trace sites notes access s true old new
+told_offered trace sites notes access s earliest site old new own kept at least some offered =
     let h = least.races some in
     record {
-      asked = asked_offered trace sites notes access s earliest site old places new own kept at least some offered;
-      known_is = λ yes other at_other. offered_known trace access earliest other.location places new own offered.found offered.covered (h.location_is ∙ ap (λ (k : Site). location_at trace k.location) (same_entry sites s h.site other h.at_site at_other));
+      asked = asked_offered trace sites notes access s earliest site old new own kept at least some offered;
+      known_is = λ yes other at_other. offered_known trace access earliest other.location new own offered.covered (h.location_is ∙ ap (λ (k : Site). location_at trace k.location) (same_entry sites s h.site other h.at_site at_other));
     }
 
 -- a list of which nothing is asked yet
-pub told_start : (trace : TraceData) (sites : List Site) (notes : Tables) (access : Access) (k : ℕ) (list : List ℕ) (places : List Place) (races : List Pair) → length list ≤ k → AreFound trace (access.event + 1) places races → AreToldFrom trace sites notes access k list list races places races
-told_start trace sites notes access k list places races past found = record {
+pub told_start : (trace : TraceData) (sites : List Site) (notes : Tables) (access : Access) (k : ℕ) (list : List ℕ) (races : List FoundRace) → length list ≤ k → AreFound trace (access.event + 1) races → AreToldFrom trace sites notes access k list list races races
+told_start trace sites notes access k list races past found = record {
   found = found;
-  improves = found_same trace (access.event + 1) places races found;
+  improves = improves_self trace races;
   told = λ j s i site le at. absurd (let low = slice_get_within list j s at in omega (arith, low, le, past));
   stays = λ s site in_list at. inl in_list;
 }
 
 -- one entry more
-pub told_next : (trace : TraceData) (sites : List Site) (notes : Tables) (access : Access) (k s : ℕ) (known : Bool) (before list after : List ℕ) (old : List Pair) (places more : List Place) (races new : List Pair) → slice_get list k ≡ Some s
+pub told_next : (trace : TraceData) (sites : List Site) (notes : Tables) (access : Access) (k s : ℕ) (known : Bool) (before list after : List ℕ) (old races new : List FoundRace) → slice_get list k ≡ Some s
     → ((r t : ℕ) → slice_get list k ≡ Some r → Contains list t → Contains after t ⊎ ((r ≡ t) × (known ≡ true)))
     → ((j t : ℕ) → k ≤ j → slice_get after j ≡ Some t → (i : ℕ) × (k ≤ i) × (slice_get list i ≡ Some t))
-    → IsTold trace sites notes access s known races more new → AreToldFrom trace sites notes access (k + 1) before list old places races → AreToldFrom trace sites notes access k before after old more new
-told_next trace sites notes access k s known before list after old places more races new at stay later told h = record {
+    → IsTold trace sites notes access s known races new → AreToldFrom trace sites notes access (k + 1) before list old races → AreToldFrom trace sites notes access k before after old new
+told_next trace sites notes access k s known before list after old races new at stay later told h = record {
   found = told.asked.found;
-  improves = λ race is. covered_then trace (access.event + 1) places races new race.first race.second h.found told.asked.improves (h.improves race is);
+  improves = λ e is. covered_then trace races new e.1 told.asked.improves (h.improves e is);
   told = λ j t i site le at_t at_site noted race. (
       let from = later j t le at_t in
       elim (cases_eq from.0 k) [
         | inl same ↦ (
             let is : s ≡ t = same_entry list k s t at (subst (λ (m : ℕ). slice_get list m ≡ Some t) same from.2) in
             told.asked.covers i (subst (λ (m : ℕ). IsNotedAt notes m i) (sym is) noted) race)
-        | inr ne ↦ (let le_from = from.1 in covered_then trace (access.event + 1) places races new i access.event h.found told.asked.improves (h.told from.0 t i site (omega (arith, ne, le_from)) from.2 at_site noted race))
+        | inr ne ↦ (let le_from = from.1 in covered_then trace races new (race_of access.variable access.event i) told.asked.improves (h.told from.0 t i site (omega (arith, ne, le_from)) from.2 at_site noted race))
       ]);
   stays = λ t site in_before at_site. elim (h.stays t site in_before at_site) [
     | inl in_list ↦ elim (stay s t at in_list) [
@@ -207,15 +202,15 @@ told_next trace sites notes access k s known before list after old places more r
           })
     ]
     | inr settled ↦ inr (record {
-      covers = λ i noted race. covered_then trace (access.event + 1) places races new i access.event h.found told.asked.improves (settled.covers i noted race);
-      known = known_then trace (access.event + 1) places races new access.variable site.location access.location (access.event + 1) (access.event + 1) h.found told.asked.improves (omega arith) settled.known;
+      covers = λ i noted race. covered_then trace races new (race_of access.variable access.event i) told.asked.improves (settled.covers i noted race);
+      known = known_then trace races new access.variable site.location access.location (access.event + 1) (access.event + 1) told.asked.improves (omega arith) settled.known;
     })
   ];
 }
 
 -- a list that has each site whose place isn't known, all of which were asked
-pub told_all : (trace : TraceData) (sites : List Site) (notes : Tables) (access : Access) (before after : List ℕ) (old : List Pair) (start places : List Place) (new : List Pair) → IsAccess trace access → AreKept trace sites notes access.event → AreFound trace (access.event + 1) start old → AreHeld trace sites old before access.variable access.location access.event (length sites) → AreToldFrom trace sites notes access 0 before after old places new → IsAskedAll trace sites notes access old places new
-told_all trace sites notes access before after old start places new own kept found held h = record {
+pub told_all : (trace : TraceData) (sites : List Site) (notes : Tables) (access : Access) (before after : List ℕ) (old new : List FoundRace) → IsAccess trace access → AreKept trace sites notes access.event → AreHeld trace sites old before access.variable access.location access.event (length sites) → AreToldFrom trace sites notes access 0 before after old new → IsAskedAll trace sites notes access old new
+told_all trace sites notes access before after old new own kept held h = record {
   found = h.found;
   improves = h.improves;
   covers = λ s i site at same noted race. elim (held s site (slice_get_within sites s site at) at same) [
@@ -223,16 +218,16 @@ told_all trace sites notes access before after old start places new own kept fou
       | inl in_after ↦ h.told in_after.0 s i site (omega arith) (contains_get after s in_after) at noted race
       | inr settled ↦ settled.covers i noted race
     ]
-    | inr known ↦ covered_then trace (access.event + 1) start old new i access.event found h.improves (known.covers i access.event (omega arith) own.variable (noted_in trace sites notes s i access.event site kept at noted).1 own.location)
+    | inr known ↦ covered_then trace old new (race_of access.variable access.event i) h.improves (known.covers i access.event (omega arith) (noted_in trace sites notes s i access.event site kept at noted).1 own.location)
   ];
 }
 
 -- the list after it was asked
-pub told_held : (trace : TraceData) (sites : List Site) (notes : Tables) (access : Access) (before after : List ℕ) (old : List Pair) (start places : List Place) (new : List Pair) → AreFound trace (access.event + 1) start old → AreHeld trace sites old before access.variable access.location access.event (length sites) → AreToldFrom trace sites notes access 0 before after old places new → AreHeld trace sites new after access.variable access.location (access.event + 1) (length sites)
-told_held trace sites notes access before after old start places new found held h s site low at same = elim (held s site low at same) [
+pub told_held : (trace : TraceData) (sites : List Site) (notes : Tables) (access : Access) (before after : List ℕ) (old new : List FoundRace) → AreHeld trace sites old before access.variable access.location access.event (length sites) → AreToldFrom trace sites notes access 0 before after old new → AreHeld trace sites new after access.variable access.location (access.event + 1) (length sites)
+told_held trace sites notes access before after old new held h s site low at same = elim (held s site low at same) [
   | inl in_before ↦ elim (h.stays s site in_before at) [
     | inl in_after ↦ inl in_after
     | inr settled ↦ inr settled.known
   ]
-  | inr known ↦ inr (known_then trace (access.event + 1) start old new access.variable site.location access.location access.event (access.event + 1) found h.improves (omega arith) known)
+  | inr known ↦ inr (known_then trace old new access.variable site.location access.location access.event (access.event + 1) h.improves (omega arith) known)
 ]

@@ -1,23 +1,14 @@
 -- Races in the order of the race list: by the number of the variable, which is that of its first access, by the later event, and by the earlier one.
-use Rattle.std.specs.Prelude.{◌≡◌, ℕ, ◌⊎◌, List, Some, All, AllPairs, map}
+use Rattle.std.specs.Prelude.{◌≡◌, ℕ, ◌⊎◌, List, Some, AllPairs}
 use Rattle.std.specs.List.Sorted.{IsPermutation}
 use Rattle.shb_lines.specs.declared.event.Event.{Event}
 use Rattle.shb_lines.specs.declared.event.Pair.{Pair}
 use Rattle.shb_lines.specs.events.Race.{KeyBefore, variable_at}
-use Rattle.shb_places.specs.declared.leading.ListedRace.{ListedRace}
+use Rattle.shb_places.specs.declared.found.ListedRace.{ListedRace}
 
--- the race of an entry
-abbrev pub race_in : ListedRace → Pair
-race_in entry = record { first = entry.first; second = entry.second }
-
--- the entry has the variable of its race
+-- the variable is that of the race
 abbrev pub HasVariable : List Event → ListedRace → Type 0
-HasVariable trace entry = variable_at trace entry.second ≡ Some entry.variable
-
--- these are the entries of the races, in the same order
-pub record AreEntries (trace : List Event) (races : List Pair) (entries : List ListedRace) : Type 0 where
-  pub races_are : map race_in entries ≡ races
-  pub variables_are : All (HasVariable trace) entries
+HasVariable trace race = variable_at trace race.second ≡ Some race.variable
 
 -- p doesn't stand after q
 abbrev pub IsNotAfter : List Event → Pair → Pair → Type 0

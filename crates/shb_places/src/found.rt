@@ -1,152 +1,108 @@
-//! A race of each place that is known.
+//! The races that are found, one of each place that is known.
 
-ghost use Rattle.std.specs.Prelude.{◌≡◌, ◌⊎◌, ◌<◌, ◌+◌, ℕ, IfOk, IfSome, IsTrue, OnOk, [], length, slice_get};
-ghost use Rattle.shb_lines.specs.events.Race.{KeyBefore, variable_at};
+ghost use Rattle.std.specs.Prelude.{◌≡◌, ◌⊎◌, ◌<◌, ℕ, IfOk, IsTrue, List, OnOk, [], map};
+ghost use Rattle.std.specs.List.{IsDistinct};
+ghost use Rattle.std.specs.Map.{keys_of};
 ghost use Rattle.shb_lines.specs.text.TraceData.{TraceData};
 ghost use Rattle.shb_places.specs.Access.{IsAccess};
-ghost use Rattle.shb_places.specs.Found.{AreFound, IsFound, IsOffered, IsPlace, NotAfter};
+ghost use Rattle.shb_places.specs.Firsts.{HasFirsts, HaveFirsts};
+ghost use Rattle.shb_places.specs.Found.{AreFound, IsFound, IsOffered, StandsFirst, same_key};
 ghost use Rattle.shb_places.specs.Known.{IsKnown};
 
 use crate::notes::Access;
-use crate::numbers::next_number;
-use crate::pair_numbers::{Keys, PairNumbers};
+use indexmap::IndexMap;
 use shb_io::NoMemory;
-use shb_lines::Pair;
+use shb_lines::HashKeys;
 use std::alloc::Global;
+use std::random::RandomSource;
 
-/// The place of a race: the numbers of its two locations, and the variable of the race.
-#[derive(Clone, Copy)]
-pub struct Place {
-    pub first: u32,
-    pub second: u32,
+/// A race as the race list orders it: by the number of its variable, by its later event, and by its
+/// earlier one.
+#[derive(Clone, Copy, PartialEq, Eq, PartialOrd, Ord)]
+pub struct ListedRace {
     pub variable: u32,
+    pub second: u32,
+    pub first: u32,
 }
 
-/// Of each place that is known one race.
-#[derive(Drop)]
+/// Of each place that is known one race. A place has the numbers of its two locations.
 pub struct Found {
-    pub places: Vec<Place>,
-    pub races: Vec<Pair>,
-    pub numbers: PairNumbers,
+    pub races: IndexMap<(u32, u32), ListedRace, HashKeys>,
 }
 
-/// Whether a race of one variable stands before another race in the order of races.
-fn is_before(x: u32, race: Pair, y: u32, other: Pair) -> bool
-    ensures before { IsTrue result → KeyBefore (x, race.second, race.first) (y, other.second, other.first) }
-    ensures not_before { (IsTrue result → ⊥) → NotAfter y other.second other.first x race.second race.first }
-{
-    if x < y {
-        return true;
-    }
-    if y < x {
-        return false;
-    }
-    if race.second < other.second {
-        return true;
-    }
-    if other.second < race.second {
-        return false;
-    }
-    race.first < other.first
-}
-
-/// Whether the place of this number has these locations.
-fn is_place(places: &[Place], q: u32, first: u32, second: u32) -> bool
-    ensures { IsTrue result → IsPlace places.now first second q }
-{
-    match places.get(q as usize) {
-        Some(place) => place.first == first && place.second == second,
-        None => false,
+// By hand: a derived one stands in each function that drops it, with a step for each part of the table.
+impl Drop for Found {
+    fn drop(self) {
+        let Found { races: _ } = self;
     }
 }
 
-/// Whether a race stands before all races of an access, by its variable and its later event.
-fn is_early(variable: u32, second: u32, access: Access) -> bool
-    ensures { IsTrue result → (variable < access.variable) ⊎ ((variable ≡ access.variable) × (second < access.event)) }
+/// Whether a race stands before all races of an access.
+fn is_early(race: ListedRace, access: Access) -> bool
+    ensures { IsTrue result → (race.variable < access.variable) ⊎ ((race.variable ≡ access.variable) × (race.second < access.event)) }
 {
-    if variable == access.variable {
-        second < access.event
+    if race.variable == access.variable {
+        race.second < access.event
     } else {
-        variable < access.variable
+        race.variable < access.variable
     }
 }
 
 impl Found {
     /// No place.
-    pub fn new(alloc: Global, keys: Keys) -> Found
-        ensures places { result.places.items ≡ [] }
-        ensures races { result.races.items ≡ [] }
+    ///
+    /// # Errors
+    ///
+    /// `NoMemory` where there were no random numbers for the table.
+    pub fn new<R: RandomSource>(rt: &R, alloc: Global) -> Result<Found, NoMemory>
+        ensures { IfOk result (λ found. found.races.entries ≡ []) }
     {
-        Found {
-            places: Vec::new(alloc),
-            races: Vec::new(alloc),
-            numbers: PairNumbers::new(alloc, keys),
-        }
+        Ok(Found {
+            races: IndexMap::with_hasher(alloc, HashKeys::new(rt)?),
+        })
     }
 
     /// The races, one of each place.
-    pub fn into_races(self) -> Vec<Pair>
-        ensures { result.items ≡ self.races.items }
+    ///
+    /// # Errors
+    ///
+    /// `NoMemory` where memory was refused.
+    pub fn to_races(&self, alloc: Global) -> Result<Vec<ListedRace>, NoMemory>
+        ensures { IfOk result (λ races. races.items ≡ map (λ e. e.1) self.now.races.entries) }
     {
-        let Found { races, .. } = self;
-        races
-    }
-
-    /// The number of a place, if it is known.
-    fn number_of(&self, first: u32, second: u32) -> Option<u32>
-        ensures { IfSome result (IsPlace self.now.places.items first second) }
-    {
-        let Some(q) = self.numbers.get(first, second) else {
-            return None;
-        };
-        if is_place(self.places.as_slice(), q, first, second) {
-            return Some(q);
+        let mut races = Vec::with_capacity(alloc, self.races.len())?;
+        for race in self.races.values() {
+            races.push(*race)?;
         }
-        None
+        Ok(races)
     }
 
     /// Whether a race of the place is known that stands before all races of an access.
     pub fn knows(&self, first: u32, access: Access) -> bool
-        requires as_many { length self.now.races.items ≡ length self.now.places.items }
-        ensures { (trace : TraceData) (n : ℕ) → AreFound trace n self.now.places.items self.now.races.items → IsAccess trace access
-            → IsTrue result → IsKnown trace self.now.races.items access.variable first access.location access.event }
+        ensures { (trace : TraceData) (n : ℕ) → AreFound trace n self.now.races.entries → IsAccess trace access
+            → IsTrue result → IsKnown trace self.now.races.entries access.variable first access.location access.event }
     {
-        let Some(q) = self.number_of(first, access.location) else {
-            return false;
-        };
-        let known = self.places[q as usize];
-        let kept = self.races[q as usize];
-        is_early(known.variable, kept.second, access)
-    }
-
-    /// Puts a race in the place of one that stands after it.
-    fn keep_earlier(&mut self, q: u32, place: Place, race: Pair)
-        requires as_many { length self.old.races.items ≡ length self.old.places.items }
-        requires place { IsPlace self.old.places.items place.first place.second q }
-        ensures offered { (trace : TraceData) (n : ℕ) → AreFound trace n self.old.places.items self.old.races.items → IsFound trace n place race
-            → IsOffered trace n self.new.places.items self.old.races.items self.new.races.items race }
-        ensures as_many { length self.new.races.items ≡ length self.new.places.items }
-    {
-        let known = self.places[q as usize];
-        let kept = self.races[q as usize];
-        if is_before(place.variable, race, known.variable, kept) {
-            self.places[q as usize] = place;
-            self.races[q as usize] = race;
+        match self.races.get(&(first, access.location)) {
+            Some(race) => is_early(*race, access),
+            None => false,
         }
     }
 
-    /// Adds a place with its first race.
-    fn add(&mut self, place: Place, race: Pair) -> Result<(), NoMemory>
-        requires as_many { length self.old.races.items ≡ length self.old.places.items }
-        ensures offered { (trace : TraceData) (n : ℕ) → AreFound trace n self.old.places.items self.old.races.items → IsFound trace n place race
-            → OnOk result (IsOffered trace n self.new.places.items self.old.races.items self.new.races.items race) }
-        ensures as_many { OnOk result (length self.new.races.items ≡ length self.new.places.items) }
+    /// No two races have one place.
+    pub fn are_different(&self)
+        ensures { IsDistinct same_key (keys_of self.now.races.entries) }
     {
-        let q = next_number(self.places.as_slice())?;
-        self.places.push(place)?;
-        self.races.push(race)?;
-        self.numbers.insert(place.first, place.second, q)?;
-        Ok(())
+        let _ = self.races.len();
+    }
+
+    /// Whether the place isn't known, or is known by a race that stands after this one.
+    fn stands_first(&self, place: (u32, u32), race: ListedRace) -> bool
+        ensures { StandsFirst self.now.races.entries place race result }
+    {
+        match self.races.get(&place) {
+            Some(known) => race.cmp(known).is_lt(),
+            None => true,
+        }
     }
 
     /// Takes a race of a place: it is kept where the place isn't known, or is known by a race that stands
@@ -155,16 +111,16 @@ impl Found {
     /// # Errors
     ///
     /// `NoMemory` where a growth was refused.
-    pub fn offer(&mut self, place: Place, race: Pair) -> Result<(), NoMemory>
-        requires as_many { length self.old.races.items ≡ length self.old.places.items }
-        ensures offered { (trace : TraceData) (n : ℕ) → AreFound trace n self.old.places.items self.old.races.items → IsFound trace n place race
-            → OnOk result (IsOffered trace n self.new.places.items self.old.races.items self.new.races.items race) }
-        ensures as_many { OnOk result (length self.new.races.items ≡ length self.new.places.items) }
+    pub fn offer(&mut self, place: (u32, u32), race: ListedRace) -> Result<(), NoMemory>
+        ensures offered { (trace : TraceData) (n : ℕ) → AreFound trace n self.old.races.entries → IsFound trace n (place, race)
+            → OnOk result (IsOffered trace n self.old.races.entries self.new.races.entries race) }
+        ensures numbered { (firsts : List ℕ) → HaveFirsts firsts self.old.races.entries → HasFirsts firsts (place, race)
+            → OnOk result (HaveFirsts firsts self.new.races.entries) }
     {
-        if let Some(q) = self.number_of(place.first, place.second) {
-            self.keep_earlier(q, place, race);
+        if !self.stands_first(place, race) {
             return Ok(());
         }
-        self.add(place, race)
+        self.races.insert(place, race)?;
+        Ok(())
     }
 }

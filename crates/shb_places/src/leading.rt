@@ -1,91 +1,54 @@
 //! The leading races of a trace, from races that stand for all races at their places.
-ghost use Rattle.std.specs.Prelude.{◌≡◌, All, IfOk, map};
-ghost use Rattle.shb_lines.specs.events.Race.{Race, ends};
+ghost use Rattle.std.specs.Prelude.{◌≡◌, All, IfOk, List, map};
+ghost use Rattle.shb_lines.specs.declared.event.Event.{Event};
+ghost use Rattle.shb_lines.specs.events.Race.{ends};
+ghost use Rattle.shb_lines.specs.events.Sizes.{IsNumberedByAccess};
+ghost use Rattle.shb_lines.specs.text.TraceData.{TraceData};
 ghost use Rattle.shb_report.specs.Report.{LeadingRaces};
-ghost use Rattle.shb_places.specs.Covering.{Covers};
-ghost use Rattle.shb_places.specs.ListOrder.{AreEntries, HasVariable, IsInListOrder, race_in};
+ghost use Rattle.shb_places.specs.Covering.{Covers, race_in};
+ghost use Rattle.shb_places.specs.ListOrder.{HasVariable, IsInListOrder};
 
-use shb_discipline::Disciplined;
+use crate::found::{Found, ListedRace};
 use shb_io::NoMemory;
-use shb_lines::{Events, Pair};
-use shb_report::leading_of;
+use shb_lines::Pair;
 use std::alloc::Global;
-use std::random::RandomSource;
 
-/// A race as the race list orders it: by the number of its variable, by its later event, and by its
-/// earlier one.
-#[derive(Clone, Copy, PartialEq, Eq, PartialOrd, Ord)]
-struct ListedRace {
-    variable: u32,
-    second: u32,
-    first: u32,
-}
-
-/// A race with what the race list orders it by.
-fn entry_of(events: &Events, race: Pair) -> ListedRace
-    requires { Race events.now race.first race.second }
-    ensures race { race_in result ≡ race }
-    ensures variable { HasVariable events.now result }
+/// Some races as pairs, in their order.
+fn pairs_of(alloc: Global, races: &[ListedRace]) -> Result<Vec<Pair>, NoMemory>
+    ensures { IfOk result (λ pairs. pairs.items ≡ map race_in races.now) }
 {
-    ListedRace {
-        variable: events.op(race.second).variable().unwrap_or(0),
-        second: race.second,
-        first: race.first,
-    }
-}
-
-/// The entries of some races, in their order.
-fn entries_of(alloc: Global, events: &Events, races: &[Pair]) -> Result<Vec<ListedRace>, NoMemory>
-    requires { All (λ race. Race events.now race.first race.second) races.now }
-    ensures { IfOk result (λ entries. AreEntries events.now races.now entries.items) }
-{
-    let mut entries = Vec::with_capacity(alloc, races.len())?;
+    let mut pairs = Vec::with_capacity(alloc, races.len())?;
     for race in races {
-        entries.push(entry_of(events, *race))?;
-    }
-    Ok(entries)
-}
-
-/// The races of some entries, in their order.
-fn races_of(alloc: Global, entries: &[ListedRace]) -> Result<Vec<Pair>, NoMemory>
-    ensures { IfOk result (λ races. races.items ≡ map race_in entries.now) }
-{
-    let mut races = Vec::with_capacity(alloc, entries.len())?;
-    for entry in entries {
-        races.push(Pair {
-            first: entry.first,
-            second: entry.second,
+        pairs.push(Pair {
+            first: race.first,
+            second: race.second,
         })?;
     }
-    Ok(races)
+    Ok(pairs)
 }
 
 /// Some races in the order of the race list.
-fn in_list_order(alloc: Global, events: &Events, races: &[Pair]) -> Result<Vec<Pair>, NoMemory>
-    requires { All (λ race. Race events.now race.first race.second) races.now }
-    ensures { IfOk result (λ sorted. IsInListOrder events.now races.now sorted.items) }
+fn in_list_order(alloc: Global, races: Vec<ListedRace>) -> Result<Vec<Pair>, NoMemory>
+    ensures { (trace : List Event) → All (HasVariable trace) races.items
+        → IfOk result (λ sorted. IsInListOrder trace (map race_in races.items) sorted.items) }
 {
-    let mut entries = entries_of(alloc, events, races)?;
-    entries.sort_unstable();
-    races_of(alloc, &entries)
+    let mut sorted = races;
+    sorted.sort_unstable();
+    let pairs = pairs_of(alloc, &sorted)?;
+    Ok(pairs)
 }
 
 /// The leading races of a trace, of each place the first race of the race list, from races that stand
-/// for all races: of each place one is found that no race of the place stands before. Further ones,
-/// also twice the same, change nothing.
+/// for all races, of each place one.
 ///
 /// # Errors
 ///
-/// `NoMemory` where a growth was refused, or where there were no random numbers for the table of places.
-pub fn leading_of_found<R: RandomSource>(
-    rt: &R,
-    alloc: Global,
-    trace: &Disciplined<'_>,
-    found: Vec<Pair>,
-) -> Result<Vec<Pair>, NoMemory>
-    requires { Covers trace.now.trace.now found.items }
-    ensures { IfOk result (λ leading. LeadingRaces trace.now.trace.now (map ends leading.items)) }
+/// `NoMemory` where memory was refused.
+pub fn leading_of_found(alloc: Global, found: &Found) -> Result<Vec<Pair>, NoMemory>
+    ensures { (trace : TraceData) → IsNumberedByAccess trace.events → Covers trace found.now.races.entries
+        → IfOk result (λ leading. LeadingRaces trace (map ends leading.items)) }
 {
-    let sorted = in_list_order(alloc, trace.events, &found)?;
-    leading_of(rt, alloc, trace.trace, &sorted)
+    let races = found.to_races(alloc)?;
+    let sorted = in_list_order(alloc, races)?;
+    Ok(sorted)
 }

@@ -4,8 +4,10 @@
 //!
 //! The search is one pass over the accesses of open variables, with a sweep. An access asks, of each
 //! location that its variable was accessed at before it, whether the newest accesses there race with it,
-//! where no race of their place is known that stands before. Look-ups propose numbers, and what a number
-//! stands for is compared before it is used, so no contract is needed of a table.
+//! where no race of their place is known that stands before. Locations have exact numbers, and the races
+//! that are found stand in a table by the two numbers of their place (`found`), so it has one of each place.
+//! Look-ups of sites and classes propose numbers, and what a number stands for is compared before it is
+//! used, so no contract is needed of these tables.
 #![tactic(auto)]
 
 ghost use Rattle.std.specs.Prelude.{◌≡◌, IfOk, map};
@@ -18,7 +20,6 @@ mod leading;
 mod locations;
 mod notes;
 mod numbers;
-mod pair_numbers;
 mod search;
 mod sites;
 mod wanted;
@@ -40,7 +41,7 @@ use std::random::RandomSource;
 ///
 /// # Errors
 ///
-/// `NoMemory` where a growth was refused, or where there were no random numbers for the table of places.
+/// `NoMemory` where a growth was refused, or where there were no random numbers for a table.
 pub fn leading_races<'a, R: RandomSource>(
     rt: &R,
     alloc: Global,
@@ -53,5 +54,6 @@ pub fn leading_races<'a, R: RandomSource>(
     ensures { IfOk result (λ leading. LeadingRaces trace.now.trace.now (map ends leading.items)) }
 {
     let found = covering_races(rt, alloc, &*trace, &*links, flags)?;
-    leading_of_found(rt, alloc, &*trace, found)
+    let leading = leading_of_found(alloc, &found)?;
+    Ok(leading)
 }

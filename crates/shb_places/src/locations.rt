@@ -1,6 +1,6 @@
 //! The location of an access as a number: the first access that has it.
 
-ghost use Rattle.std.specs.Prelude.{◌≡◌, ◌<◌, IfOk, OnOk, length};
+ghost use Rattle.std.specs.Prelude.{◌≡◌, ◌<◌, ℕ, Contains, IfOk, OnOk, length};
 ghost use Rattle.shb_places.specs.Access.{IsLocatedAt};
 ghost use Rattle.shb_places.specs.Firsts.{AreFirsts};
 ghost use Rattle.shb_report.specs.Places.{location_at};
@@ -52,6 +52,8 @@ impl<'t> FirstAccesses<'t> {
         ensures of_trace { self.new.trace ≡ self.old.trace }
         ensures located { IfOk result (λ l. IsLocatedAt self.old.trace.now.trace.now l (location_at self.old.trace.now.trace.now e)) }
         ensures firsts { OnOk result (AreFirsts self.old.trace.now.trace.now self.new.known self.new.firsts.items) }
+        ensures there { IfOk result (Contains self.new.firsts.items) }
+        ensures stay { OnOk result ((l : ℕ) → Contains self.old.firsts.items l → Contains self.new.firsts.items l) }
     {
         let number = self.known.number_of(self.trace.trace.location(e))?;
         if number == self.firsts.len() {

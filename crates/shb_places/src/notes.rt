@@ -13,11 +13,13 @@ ghost use Rattle.shb_places.specs.declared.sites.Site.{Site};
 ghost use Rattle.shb_places.specs.declared.notes.Newest.{Newest};
 
 use crate::numbers::{NONE, next_number};
-use crate::pair_numbers::{Keys, PairNumbers};
 use crate::sites::Site;
+use indexmap::IndexMap;
 use shb_clocks::{Order, Ordered};
 use shb_io::NoMemory;
+use shb_lines::HashKeys;
 use std::alloc::Global;
+use std::random::RandomSource;
 
 /// The accesses of a site by one thread, of one kind; and the number of the class of the same site and kind before it.
 #[derive(Clone, Copy)]
@@ -44,13 +46,25 @@ pub struct Link {
 
 /// The accesses so far: for each site its newest class that writes and its newest one that doesn't, for each class its
 /// newest link.
-#[derive(Drop)]
 pub struct Notes {
     pub heads: Vec<u32>,
     pub classes: Vec<Class>,
     pub newest: Vec<Newest>,
     pub links: Vec<Link>,
-    pub numbers: PairNumbers,
+    pub numbers: IndexMap<(u32, u32), u32, HashKeys>,
+}
+
+// By hand: a derived one stands in each function that drops them, with a step for each part of the table.
+impl Drop for Notes {
+    fn drop(self) {
+        let Notes {
+            heads: _,
+            classes: _,
+            newest: _,
+            links: _,
+            numbers: _,
+        } = self;
+    }
 }
 
 /// An access of an open variable: the event, its thread, its variable, the number of its location, and
@@ -144,16 +158,16 @@ fn list_of(s: u32, writes: bool) -> usize
 
 impl Notes {
     /// No accesses.
-    pub fn new(alloc: Global, keys: Keys) -> Notes
-        ensures { tables_of result ≡ record { heads = []; classes = []; newest = []; links = [] } }
+    pub fn new<R: RandomSource>(rt: &R, alloc: Global) -> Result<Notes, NoMemory>
+        ensures { IfOk result (λ notes. tables_of notes ≡ record { heads = []; classes = []; newest = []; links = [] }) }
     {
-        Notes {
+        Ok(Notes {
             heads: Vec::new(alloc),
             classes: Vec::new(alloc),
             newest: Vec::new(alloc),
             links: Vec::new(alloc),
-            numbers: PairNumbers::new(alloc, keys),
-        }
+            numbers: IndexMap::with_hasher(alloc, HashKeys::new(rt)?),
+        })
     }
 
     /// The number of the newest class of a site that writes, or of one that doesn't, or `NONE`.
@@ -171,11 +185,12 @@ impl Notes {
         if is_class(self.classes.as_slice(), newest, s, access) {
             return Some(newest);
         }
-        let Some(c) = self.numbers.get(s, kind_of(access.thread, access.writes)) else {
+        let kind = kind_of(access.thread, access.writes);
+        let Some(c) = self.numbers.get(&(s, kind)) else {
             return None;
         };
-        if is_class(self.classes.as_slice(), c, s, access) {
-            return Some(c);
+        if is_class(self.classes.as_slice(), *c, s, access) {
+            return Some(*c);
         }
         None
     }
@@ -189,8 +204,9 @@ impl Notes {
         let Some(class) = self.classes.get(newest as usize) else {
             return Ok(());
         };
-        self.numbers
-            .insert(class.site, kind_of(class.thread, class.writes), newest)
+        let kind = kind_of(class.thread, class.writes);
+        self.numbers.insert((class.site, kind), newest)?;
+        Ok(())
     }
 
     /// Adds an access to a class.

@@ -3,31 +3,29 @@
 //! The site of an access has a list of those sites of its variable whose place with it isn't known
 //! ([`crate::wanted`]), and asks these.
 
-ghost use Rattle.std.specs.Prelude.{◌≡◌, ◌+◌, ◌<◌, ℕ, Bool, false, true, IfOk, List, OnOk, Some, length, slice_get};
+ghost use Rattle.std.specs.Prelude.{◌≡◌, ◌+◌, ◌<◌, ℕ, Bool, false, true, Contains, IfOk, List, OnOk, Some, length, slice_get};
 ghost use Rattle.shb_clocks.specs.Open.{is_open as open_flag};
 ghost use Rattle.shb_lines.specs.events.Race.{variable_at};
 ghost use Rattle.shb_lines.specs.text.TraceData.{TraceData};
 ghost use Rattle.shb_pairs.specs.Open.{AreOpen};
 ghost use Rattle.shb_places.specs.Access.{IsAccess};
 ghost use Rattle.shb_places.specs.Covering.{Covers};
-ghost use Rattle.shb_places.specs.Firsts.{AreFirsts};
+ghost use Rattle.shb_places.specs.Firsts.{AreFirsts, AreNumbered};
 ghost use Rattle.shb_places.specs.Found.{AreFound};
 ghost use Rattle.shb_places.specs.Notes.{AreKept, tables_of};
 ghost use Rattle.shb_places.specs.Searched.{AreSearched, AreToldFrom, IsAskable, IsAskedBy, IsTold};
 ghost use Rattle.shb_places.specs.Sites.{IsSite};
 ghost use Rattle.shb_places.specs.declared.notes.Link.{Link};
 
-use crate::found::{Found, Place};
+use crate::found::{Found, ListedRace};
 use crate::locations::FirstAccesses;
 use crate::notes::{Access, Notes};
 use crate::numbers::NONE;
-use crate::pair_numbers::Keys;
 use crate::sites::Sites;
 use crate::wanted::{Wanted, look, make_room, remove_if};
 use shb_clocks::{Order, Ordered, Sweep, is_open};
 use shb_discipline::Disciplined;
 use shb_io::NoMemory;
-use shb_lines::Pair;
 use shb_links::{Linked, Links};
 use std::alloc::Global;
 use std::random::RandomSource;
@@ -66,11 +64,10 @@ fn ask_site<O: Order>(
     requires access { IsAccess ordered.now.disciplined.now.trace.now access }
     requires asked { O.asks ordered.now.order.now access.event ≡ true }
     requires in_range { (k : ℕ) (link : Link) → slice_get notes.now.links.items k ≡ Some link → link.event < length ordered.now.disciplined.now.trace.now.events }
-    requires as_many { length found.old.races.items ≡ length found.old.places.items }
-    ensures as_many { OnOk result (length found.new.races.items ≡ length found.new.places.items) }
     ensures told { AreKept ordered.now.disciplined.now.trace.now sites.now.sites.items (tables_of notes.now) access.event
-        → AreFound ordered.now.disciplined.now.trace.now (access.event + 1) found.old.places.items found.old.races.items
-        → IfOk result (λ known. IsTold ordered.now.disciplined.now.trace.now sites.now.sites.items (tables_of notes.now) access s known found.old.races.items found.new.places.items found.new.races.items) }
+        → AreFound ordered.now.disciplined.now.trace.now (access.event + 1) found.old.races.entries
+        → IfOk result (λ known. IsTold ordered.now.disciplined.now.trace.now sites.now.sites.items (tables_of notes.now) access s known found.old.races.entries found.new.races.entries) }
+    ensures numbered { (firsts : List ℕ) → Contains firsts access.location → AreNumbered firsts sites.now.sites.items found.old.races.entries → OnOk result (AreNumbered firsts sites.now.sites.items found.new.races.entries) }
 {
     let Some(site) = sites.sites.get(s as usize) else {
         return Ok(false);
@@ -82,16 +79,12 @@ fn ask_site<O: Order>(
     if earliest == NONE {
         return Ok(false);
     }
-    let place = Place {
-        first: site.location,
-        second: access.location,
+    let race = ListedRace {
         variable: access.variable,
-    };
-    let race = Pair {
-        first: earliest,
         second: access.event,
+        first: earliest,
     };
-    found.offer(place, race)?;
+    found.offer((site.location, access.location), race)?;
     Ok(true)
 }
 
@@ -107,10 +100,10 @@ fn ask_list<O: Order>(
     requires access { IsAccess ordered.now.disciplined.now.trace.now access }
     requires asked { O.asks ordered.now.order.now access.event ≡ true }
     requires in_range { (k : ℕ) (link : Link) → slice_get notes.now.links.items k ≡ Some link → link.event < length ordered.now.disciplined.now.trace.now.events }
-    requires as_many { length found.old.races.items ≡ length found.old.places.items }
-    ensures { AreKept ordered.now.disciplined.now.trace.now sites.now.sites.items (tables_of notes.now) access.event
-        → AreFound ordered.now.disciplined.now.trace.now (access.event + 1) found.old.places.items found.old.races.items
-        → OnOk result (AreToldFrom ordered.now.disciplined.now.trace.now sites.now.sites.items (tables_of notes.now) access 0 list.old.items list.new.items found.old.races.items found.new.places.items found.new.races.items) }
+    ensures told { AreKept ordered.now.disciplined.now.trace.now sites.now.sites.items (tables_of notes.now) access.event
+        → AreFound ordered.now.disciplined.now.trace.now (access.event + 1) found.old.races.entries
+        → OnOk result (AreToldFrom ordered.now.disciplined.now.trace.now sites.now.sites.items (tables_of notes.now) access 0 list.old.items list.new.items found.old.races.entries found.new.races.entries) }
+    ensures numbered { (firsts : List ℕ) → Contains firsts access.location → AreNumbered firsts sites.now.sites.items found.old.races.entries → OnOk result (AreNumbered firsts sites.now.sites.items found.new.races.entries) }
 {
     let mut left = list.len();
     while left > 0 {
@@ -123,14 +116,15 @@ fn ask_list<O: Order>(
 
 impl Search {
     /// Before the first event.
-    fn new(alloc: Global, keys: Keys, variables: u32) -> Result<Search, NoMemory>
-        ensures { (trace : TraceData) (flags : List Bool) → ((e x : ℕ) → variable_at trace.events e ≡ Some x → x < variables)
+    fn new<R: RandomSource>(rt: &R, alloc: Global, variables: u32) -> Result<Search, NoMemory>
+        ensures searched { (trace : TraceData) (flags : List Bool) → ((e x : ℕ) → variable_at trace.events e ≡ Some x → x < variables)
             → IfOk result (λ search. AreSearched trace flags search.sites search.notes search.wanted.items search.found 0) }
+        ensures numbered { (firsts : List ℕ) → IfOk result (λ search. AreNumbered firsts search.sites.sites.items search.found.races.entries) }
     {
-        let sites = Sites::new(alloc, keys, variables)?;
-        let notes = Notes::new(alloc, keys);
+        let sites = Sites::new(rt, alloc, variables)?;
+        let notes = Notes::new(rt, alloc)?;
         let wanted = Vec::new(alloc);
-        let found = Found::new(alloc, keys);
+        let found = Found::new(rt, alloc)?;
         Ok(Search {
             sites,
             notes,
@@ -150,12 +144,12 @@ impl Search {
         requires access { IsAccess ordered.now.disciplined.now.trace.now access }
         requires asked { O.asks ordered.now.order.now access.event ≡ true }
         requires in_range { (k : ℕ) (link : Link) → slice_get self.old.notes.links.items k ≡ Some link → link.event < length ordered.now.disciplined.now.trace.now.events }
-        requires as_many { length self.old.found.races.items ≡ length self.old.found.places.items }
         ensures sites { self.new.sites ≡ self.old.sites }
         ensures notes { self.new.notes ≡ self.old.notes }
         ensures asked { IsSite self.old.sites.sites.items access.variable access.location s
             → IsAskable ordered.now.disciplined.now.trace.now self.old.sites self.old.notes self.old.wanted.items self.old.found access
             → OnOk result (IsAskedBy ordered.now.disciplined.now.trace.now self.old.sites self.old.notes self.new.wanted.items self.old.found self.new.found access) }
+        ensures numbered { (firsts : List ℕ) → Contains firsts access.location → AreNumbered firsts self.old.sites.sites.items self.old.found.races.entries → OnOk result (AreNumbered firsts self.old.sites.sites.items self.new.found.races.entries) }
     {
         make_room(alloc, &mut self.wanted, s)?;
         let list = &mut self.wanted[s as usize];
@@ -180,8 +174,9 @@ impl Search {
         requires access { IsAccess ordered.now.disciplined.now.trace.now access }
         requires asked { O.asks ordered.now.order.now access.event ≡ true }
         requires searched { (flags : List Bool) × AreSearched ordered.now.disciplined.now.trace.now flags self.old.sites self.old.notes self.old.wanted.items self.old.found access.event }
-        ensures { (flags : List Bool) → open_flag flags access.variable ≡ true → AreSearched ordered.now.disciplined.now.trace.now flags self.old.sites self.old.notes self.old.wanted.items self.old.found access.event
+        ensures searched { (flags : List Bool) → open_flag flags access.variable ≡ true → AreSearched ordered.now.disciplined.now.trace.now flags self.old.sites self.old.notes self.old.wanted.items self.old.found access.event
             → OnOk result (AreSearched ordered.now.disciplined.now.trace.now flags self.new.sites self.new.notes self.new.wanted.items self.new.found (access.event + 1)) }
+        ensures numbered { (firsts : List ℕ) → Contains firsts access.location → AreNumbered firsts self.old.sites.sites.items self.old.found.races.entries → OnOk result (AreNumbered firsts self.new.sites.sites.items self.new.found.races.entries) }
     {
         let s = self.sites.number_of(access.variable, access.location)?;
         self.ask(alloc, ordered, s, access)?;
@@ -205,6 +200,8 @@ impl Search {
         requires of_trace { locations.old.trace.now ≡ ordered.now.disciplined.now }
         requires firsts { AreFirsts locations.old.trace.now.trace.now locations.old.known locations.old.firsts.items }
         ensures searched { OnOk result (AreSearched ordered.now.disciplined.now.trace.now flags.now self.new.sites self.new.notes self.new.wanted.items self.new.found (e + 1)) }
+        ensures numbered { AreNumbered locations.old.firsts.items self.old.sites.sites.items self.old.found.races.entries
+            → OnOk result (AreNumbered locations.new.firsts.items self.new.sites.sites.items self.new.found.races.entries) }
         ensures of_trace { locations.new.trace ≡ locations.old.trace }
         ensures firsts { OnOk result (AreFirsts locations.old.trace.now.trace.now locations.new.known locations.new.firsts.items) }
     {
@@ -241,23 +238,25 @@ pub fn covering_races<'a, R: RandomSource>(
     trace: &'a Disciplined<'a>,
     links: &'a Links<'a>,
     flags: &[bool],
-) -> Result<Vec<Pair>, NoMemory>
+) -> Result<Found, NoMemory>
     requires of_trace { links.now ≡ trace.now.events.now }
     requires settled { AreOpen trace.now.events.now flags.now }
-    ensures { IfOk result (λ found. Covers trace.now.trace.now found.items) }
+    ensures { IfOk result (λ found. Covers trace.now.trace.now found.races.entries) }
 {
     if !any_open(flags, trace.sizes.variables) {
-        return Ok(Vec::new(alloc));
+        let none = Found::new(rt, alloc)?;
+        return Ok(none);
     }
-    let keys = Keys::new(rt)?;
     let mut locations = FirstAccesses::new(rt, alloc, &*trace)?;
-    let mut search = Search::new(alloc, keys, trace.sizes.variables)?;
+    let mut search = Search::new(rt, alloc, trace.sizes.variables)?;
     let mut sweep = Sweep::new(alloc, Linked::new(&*trace, &*links))?;
     for e in 0..trace.events.len() as u32 {
         let ordered = Ordered::new(&sweep, &*trace, &*links);
         search.step(alloc, &ordered, &mut locations, flags, e)?;
         sweep.pass(alloc)?;
     }
+    locations.known.are_different();
+    search.found.are_different();
     let Search { found, .. } = search;
-    Ok(found.into_races())
+    Ok(found)
 }

@@ -1,12 +1,14 @@
 //! Sites: the locations of each variable.
 
-ghost use Rattle.std.specs.Prelude.{◌≡◌, ◌<◌, ◌≤◌, ℕ, IfOk, IfSome, IsTrue, OnOk, List, [], Some, length, slice_get};
+ghost use Rattle.std.specs.Prelude.{◌≡◌, ◌⊎◌, ◌<◌, ◌≤◌, ℕ, IfOk, IfSome, IsTrue, OnOk, List, [], Some, length, slice_get};
 ghost use Rattle.shb_places.specs.Sites.{AreMore, AreSites, IsSite};
 
 use crate::numbers::{NONE, next_number};
-use crate::pair_numbers::{Keys, PairNumbers};
+use indexmap::IndexMap;
 use shb_io::NoMemory;
+use shb_lines::HashKeys;
 use std::alloc::Global;
+use std::random::RandomSource;
 
 /// A variable, a location of accesses of it, and the number of the site of the variable before it.
 #[derive(Clone, Copy)]
@@ -17,11 +19,21 @@ pub struct Site {
 }
 
 /// The sites, and the newest one of each variable.
-#[derive(Drop)]
 pub struct Sites {
     pub newest: Vec<u32>,
     pub sites: Vec<Site>,
-    pub numbers: PairNumbers,
+    pub numbers: IndexMap<(u32, u32), u32, HashKeys>,
+}
+
+// By hand: a derived one stands in each function that drops them, with a step for each part of the table.
+impl Drop for Sites {
+    fn drop(self) {
+        let Sites {
+            newest: _,
+            sites: _,
+            numbers: _,
+        } = self;
+    }
 }
 
 /// Whether the site of this number is that of a variable and a location.
@@ -36,7 +48,7 @@ fn is_site(sites: &[Site], s: u32, variable: u32, location: u32) -> bool
 
 impl Sites {
     /// No sites of so many variables.
-    pub fn new(alloc: Global, keys: Keys, variables: u32) -> Result<Sites, NoMemory>
+    pub fn new<R: RandomSource>(rt: &R, alloc: Global, variables: u32) -> Result<Sites, NoMemory>
         ensures none { IfOk result (λ sites. sites.sites.items ≡ []) }
         ensures as_many { IfOk result (λ sites. length sites.newest.items ≡ variables) }
     {
@@ -44,7 +56,7 @@ impl Sites {
         Ok(Sites {
             newest,
             sites: Vec::new(alloc),
-            numbers: PairNumbers::new(alloc, keys),
+            numbers: IndexMap::with_hasher(alloc, HashKeys::new(rt)?),
         })
     }
 
@@ -70,11 +82,11 @@ impl Sites {
         if is_site(self.sites.as_slice(), newest, variable, location) {
             return Some(newest);
         }
-        let Some(s) = self.numbers.get(variable, location) else {
+        let Some(s) = self.numbers.get(&(variable, location)) else {
             return None;
         };
-        if is_site(self.sites.as_slice(), s, variable, location) {
-            return Some(s);
+        if is_site(self.sites.as_slice(), *s, variable, location) {
+            return Some(*s);
         }
         None
     }
@@ -89,7 +101,8 @@ impl Sites {
         let Some(site) = self.sites.get(newest as usize) else {
             return Ok(());
         };
-        self.numbers.insert(site.variable, site.location, newest)
+        self.numbers.insert((site.variable, site.location), newest)?;
+        Ok(())
     }
 
     /// A new site.
@@ -97,6 +110,7 @@ impl Sites {
         requires { variable < length self.old.newest.items }
         ensures site { IfOk result (IsSite self.new.sites.items variable location) }
         ensures more { OnOk result (AreMore self.old.newest.items self.old.sites.items self.new.newest.items self.new.sites.items) }
+        ensures from { OnOk result ((s : ℕ) (site : Site) → slice_get self.new.sites.items s ≡ Some site → (slice_get self.old.sites.items s ≡ Some site) ⊎ (site.location ≡ location)) }
     {
         let s = next_number(self.sites.as_slice())?;
         let previous = self.newest[variable as usize];
@@ -119,6 +133,7 @@ impl Sites {
         requires { variable < length self.old.newest.items }
         ensures site { IfOk result (IsSite self.new.sites.items variable location) }
         ensures more { OnOk result (AreMore self.old.newest.items self.old.sites.items self.new.newest.items self.new.sites.items) }
+        ensures from { OnOk result ((s : ℕ) (site : Site) → slice_get self.new.sites.items s ≡ Some site → (slice_get self.old.sites.items s ≡ Some site) ⊎ (site.location ≡ location)) }
     {
         if let Some(s) = self.known(variable, location) {
             return Ok(s);

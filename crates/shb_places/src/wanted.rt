@@ -1,9 +1,9 @@
 //! The sites that a site still has to ask: those of its variable whose place with it isn't known.
 
 ghost use Rattle.std.specs.Prelude.{◌≡◌, ◌⊎◌, ◌<◌, ◌≤◌, ℕ, true, Contains, IfOk, IfSome, IsTrue, List, OnOk, [], Some, length, slice_get};
-ghost use Rattle.shb_lines.specs.declared.event.Pair.{Pair};
 ghost use Rattle.shb_lines.specs.text.TraceData.{TraceData};
 ghost use Rattle.shb_places.specs.Access.{IsAccess};
+ghost use Rattle.shb_places.specs.Covering.{FoundRace};
 ghost use Rattle.shb_places.specs.Found.{AreFound};
 ghost use Rattle.shb_places.specs.Known.{IsKnown};
 ghost use Rattle.shb_places.specs.Sites.{AreSites};
@@ -27,7 +27,7 @@ pub struct Wanted {
 /// Sees that a site has its list, which is empty where it is new.
 pub fn make_room(alloc: Global, lists: &mut Vec<Wanted>, s: u32) -> Result<(), NoMemory>
     ensures room { OnOk result (s < length lists.new.items) }
-    ensures wanted { (trace : TraceData) (sites : List Site) (races : List Pair) (n : ℕ) → s < length sites
+    ensures wanted { (trace : TraceData) (sites : List Site) (races : List FoundRace) (n : ℕ) → s < length sites
         → AreWanted trace sites races n lists.old.items → OnOk result (AreWanted trace sites races n lists.new.items) }
 {
     for _ in lists.len()..s as usize + 1 {
@@ -47,10 +47,9 @@ fn add_unknown(
     location: u32,
     access: Access,
 ) -> Result<(), NoMemory>
-    requires as_many { length found.now.races.items ≡ length found.now.places.items }
     ensures stay { OnOk result ((t : ℕ) → Contains list.old.items t → Contains list.new.items t) }
-    ensures held { (trace : TraceData) (n : ℕ) → AreFound trace n found.now.places.items found.now.races.items → IsAccess trace access
-        → OnOk result (Contains list.new.items s ⊎ IsKnown trace found.now.races.items access.variable location access.location access.event) }
+    ensures held { (trace : TraceData) (n : ℕ) → AreFound trace n found.now.races.entries → IsAccess trace access
+        → OnOk result (Contains list.new.items s ⊎ IsKnown trace found.now.races.entries access.variable location access.location access.event) }
 {
     if found.knows(location, access) {
         return Ok(());
@@ -68,10 +67,9 @@ fn look_from(
     found: &Found,
     access: Access,
 ) -> Result<(), NoMemory>
-    requires as_many { length found.now.races.items ≡ length found.now.places.items }
-    ensures { (trace : TraceData) (n : ℕ) → AreSites sites.now.newest.items sites.now.sites.items → AreFound trace n found.now.places.items found.now.races.items → IsAccess trace access
-        → AreHeld trace sites.now.sites.items found.now.races.items list.old.items access.variable access.location access.event looked
-        → OnOk result (AreHeld trace sites.now.sites.items found.now.races.items list.new.items access.variable access.location access.event (length sites.now.sites.items)) }
+    ensures { (trace : TraceData) (n : ℕ) → AreSites sites.now.newest.items sites.now.sites.items → AreFound trace n found.now.races.entries → IsAccess trace access
+        → AreHeld trace sites.now.sites.items found.now.races.entries list.old.items access.variable access.location access.event looked
+        → OnOk result (AreHeld trace sites.now.sites.items found.now.races.entries list.new.items access.variable access.location access.event (length sites.now.sites.items)) }
 {
     let mut at = sites.newest_of(access.variable);
     loop {
@@ -103,11 +101,10 @@ pub fn remove_if(list: &mut Vec<u32>, k: usize, known: bool)
 
 /// Sees that a list has each site of the variable of an access whose place isn't known.
 pub fn look(list: &mut Wanted, sites: &Sites, found: &Found, access: Access) -> Result<(), NoMemory>
-    requires as_many { length found.now.races.items ≡ length found.now.places.items }
     ensures looked { OnOk result (list.new.looked ≤ length sites.now.sites.items) }
-    ensures held { (trace : TraceData) (n : ℕ) → AreSites sites.now.newest.items sites.now.sites.items → AreFound trace n found.now.places.items found.now.races.items → IsAccess trace access
-        → AreHeld trace sites.now.sites.items found.now.races.items list.old.sites.items access.variable access.location access.event list.old.looked
-        → OnOk result (AreHeld trace sites.now.sites.items found.now.races.items list.new.sites.items access.variable access.location access.event (length sites.now.sites.items)) }
+    ensures held { (trace : TraceData) (n : ℕ) → AreSites sites.now.newest.items sites.now.sites.items → AreFound trace n found.now.races.entries → IsAccess trace access
+        → AreHeld trace sites.now.sites.items found.now.races.entries list.old.sites.items access.variable access.location access.event list.old.looked
+        → OnOk result (AreHeld trace sites.now.sites.items found.now.races.entries list.new.sites.items access.variable access.location access.event (length sites.now.sites.items)) }
 {
     look_from(&mut list.sites, list.looked, sites, found, access)?;
     list.looked = sites.count();

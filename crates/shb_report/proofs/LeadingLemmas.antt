@@ -1,5 +1,5 @@
 -- The first pairs of the places of a list of pairs are its leading races.
-use Rattle.std.proofs.Common.{◌≡◌, ◌⊎◌, inl, inr, ℕ, zero, suc, ◌+◌, ◌<◌, ◌&&◌, Bool, true, false, cond, List, [], ◌∷◌, ◌++◌, length, map, fold, Option, None, Some, Result, Ok, Err, IfOk, refl, sym, ap, subst, ◌∙◌, append_assoc, append-nil, arith}
+use Rattle.std.proofs.Common.{◌≡◌, ◌⊎◌, inl, inr, ℕ, zero, suc, ◌+◌, ◌<◌, ◌&&◌, Bool, true, false, cond, List, [], ◌∷◌, ◌++◌, length, map, fold, Option, None, Some, refl, sym, ap, subst, ◌∙◌, append_assoc, append-nil, arith}
 use Rattle.std.specs.Prelude.{slice_get, Contains}
 use Rattle.std.specs.List.{AllByRecursion}
 use Rattle.std.specs.Bool.{Decides}
@@ -15,7 +15,6 @@ use Rattle.shb_lines.specs.declared.event.Pair.{Pair}
 use Rattle.shb_lines.specs.text.TraceData.{TraceData}
 use Rattle.shb_lines.proofs.events.Listed.{IsListed, listed_more_no, listed_more_yes, listed_none}
 use Rattle.shb_lines.proofs.events.Increasing.{increasing_equal}
-use Rattle.shb_report.specs.declared.places.PlaceCount.{PlaceCount}
 use Rattle.shb_report.specs.Leading.{AreLeading, HasOnce, Leads, place_at}
 use Rattle.shb_lines.specs.events.Race.{ends}
 use Rattle.shb_report.specs.Report.{LeadingRaces, pair_of}
@@ -234,18 +233,6 @@ module _ (trace : TraceData) (pairs : List Pair) where
     );
     races_are = all_places.firsts_are;
   }
-
--- the pairs of the counted places are their first pairs
-pub counted_firsts : (places : List PlaceOf) → map (λ counted. counted.pair) (counts_in places) ≡ firsts places
-counted_firsts [] = refl
-counted_firsts (place ∷ places) = ap (λ l. place.counted.pair ∷ l) (counted_firsts places)
-
--- so what they are copied to has the leading races
-pub copied_firsts : {V E : Type 0} (items : V → List Pair) (r : Result V E) (trace : TraceData) (races : List Pair) (counts : List PlaceCount) → counts ≡ counts_in (places_of_pairs trace races)
-    → IfOk r (λ v. items v ≡ map (λ counted. counted.pair) counts) → IfOk r (λ v. AreLeading trace races (items v))
-copied_firsts items (Ok v) trace races counts are copied =
-    subst (AreLeading trace races) (sym (copied ∙ ap (map (λ (counted : PlaceCount). counted.pair)) are ∙ counted_firsts (places_of_pairs trace races))) (firsts_lead trace races)
-copied_firsts items (Err e) trace races counts are copied = tt
 
 -- ---- laws
 

@@ -5,18 +5,15 @@
 //! has a call that writes it into any sink. A call puts its text together in a buffer of 1 KiB and
 //! sends that when it is full and at the end; it takes no memory. [`scheduled_block`] copies the
 //! runs of a schedule out of one text of all numbers, [`NumberTexts`], which is made once.
-//! [`leading_of`] chooses of each place the first race that has it, for reports of those alone.
 #![tactic(auto)]
 
 mod counts;
 pub mod laws;
-mod leading;
 mod locations;
 mod places;
 mod writing;
 
 pub use counts::Counts;
-pub use leading::leading_of;
 pub use locations::Locations;
 pub use places::{PlaceCount, PlaceTable, Places, places_of};
 pub use writing::{NumberTexts, block, head, numbered_line, place_lines, scheduled_block, tail};

@@ -7,8 +7,8 @@ use Rattle.shb_places.proofs.search.ask_list.Goals as goal
 
 pub loop-left-preserved : goal.loop-left-preserved
 loop-left-preserved g c = record {
-  as_many = c.in_ok-known.ensures.as_many;
   long = c.remove_if.ensures.long;
+  numbered = λ firsts here h. c.in_ok-known.ensures.numbered firsts here (c.loop-left.invariant.numbered firsts here h);
   told = λ kept found. (
       let trace = c.args.ordered.now.disciplined.now.trace.now in
       let sites = c.args.sites.now.sites.items in
@@ -19,13 +19,16 @@ loop-left-preserved g c = record {
       let is : c.loop-left.left ≡ k + 1 = omega (arith, some) in
       let at = slice_get_read list (length list) k c.index.result.now refl (omega (arith, long, some)) c.index.ensures in
       let before = c.loop-left.invariant.told kept found in
-      told_next trace sites (tables_of c.args.notes.now) c.args.access k c.index.result.now c.in_ok-known.known c.args.list.now.items list c.remove_if.new.list.items c.args.found.now.races.items c.loop-left.found.places.items c.ask_site.new.found.places.items c.loop-left.found.races.items c.ask_site.new.found.races.items at c.remove_if.ensures.stay c.remove_if.ensures.after
+      told_next trace sites (tables_of c.args.notes.now) c.args.access k c.index.result.now c.in_ok-known.known c.args.list.now.items list c.remove_if.new.list.items c.args.found.now.races.entries c.loop-left.found.races.entries c.ask_site.new.found.races.entries at c.remove_if.ensures.stay c.remove_if.ensures.after
       (c.in_ok-known.ensures.told kept before.found)
-      (subst (λ (n : ℕ). AreToldFrom trace sites (tables_of c.args.notes.now) c.args.access n c.args.list.now.items list c.args.found.now.races.items c.loop-left.found.places.items c.loop-left.found.races.items) is before));
+      (subst (λ (n : ℕ). AreToldFrom trace sites (tables_of c.args.notes.now) c.args.access n c.args.list.now.items list c.args.found.now.races.entries c.loop-left.found.races.entries) is before));
 }
 
-pub returns : goal.returns
-returns g c kept found =
+pub returns-clause-told : goal.returns-clause-told
+returns-clause-told g c kept found =
     let none = c.loop-left-test.false in
     let is : c.loop-left.left ≡ 0 = omega (arith, none) in
-    subst (λ (n : ℕ). AreToldFrom c.args.ordered.now.disciplined.now.trace.now c.args.sites.now.sites.items (tables_of c.args.notes.now) c.args.access n c.args.list.now.items c.loop-left.list.items c.args.found.now.races.items c.loop-left.found.places.items c.loop-left.found.races.items) is (c.loop-left.invariant.told kept found)
+    subst (λ (n : ℕ). AreToldFrom c.args.ordered.now.disciplined.now.trace.now c.args.sites.now.sites.items (tables_of c.args.notes.now) c.args.access n c.args.list.now.items c.loop-left.list.items c.args.found.now.races.entries c.loop-left.found.races.entries) is (c.loop-left.invariant.told kept found)
+
+pub returns-clause-numbered : goal.returns-clause-numbered
+returns-clause-numbered g c firsts here h = c.loop-left.invariant.numbered firsts here h

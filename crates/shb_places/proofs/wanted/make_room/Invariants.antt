@@ -1,6 +1,6 @@
 use Rattle.std.proofs.Common.{◌≡◌, ◌<◌, List, ℕ, length}
-use Rattle.shb_lines.specs.declared.event.Pair.{Pair}
 use Rattle.shb_lines.specs.text.TraceData.{TraceData}
+use Rattle.shb_places.specs.Covering.{FoundRace}
 use Rattle.shb_places.specs.Wanted.{AreWanted}
 use Rattle.shb_places.specs.declared.sites.Site.{Site}
 use Rattle.shb_places.proofs.wanted.make_room.Given as goal
@@ -8,6 +8,6 @@ use Rattle.shb_places.proofs.wanted.make_room.Given as goal
 abbrev pub invariant-loop : goal.invariant-loop
 invariant-loop l = record {
   many : length l.lists.items ≡ l.counter;
-  wanted : (trace : TraceData) (sites : List Site) (races : List Pair) (n : ℕ) → l.s < length sites
+  wanted : (trace : TraceData) (sites : List Site) (races : List FoundRace) (n : ℕ) → l.s < length sites
       → AreWanted trace sites races n l.fn.lists.items → AreWanted trace sites races n l.lists.items;
 }

@@ -14,12 +14,15 @@ returns-clause-asked g c is able =
     let access = c.args.access in
     let sites = own.sites.sites.items in
     let lists = c.make_room.new.lists.items in
-    let before = c.in_ok-make_room.ensures.wanted trace sites own.found.races.items access.event (slice_get_within sites c.args.s is.site is.there) able.wanted in
+    let before = c.in_ok-make_room.ensures.wanted trace sites own.found.races.entries access.event (slice_get_within sites c.args.s is.site is.there) able.wanted in
     let list : Wanted = c.index_mut-list.result.now in
     let at = slice_get_read lists (length lists) c.args.s list refl c.in_ok-make_room.ensures.room c.index_mut-list.ensures.value in
-    let held = c.in_ok-look.ensures.held trace (access.event + 1) able.listed able.found c.requires.access (held_of trace sites own.found.races.items access.event access.variable access.location c.args.s list is (before c.args.s list at)) in
+    let held = c.in_ok-look.ensures.held trace (access.event + 1) able.listed able.found c.requires.access (held_of trace sites own.found.races.entries access.event access.variable access.location c.args.s list is (before c.args.s list at)) in
     let after : Wanted = record { looked = c.look.new.list.looked; sites = c.ask_list.new.list } in
     on_ok_weaker c.ask_list.result (λ told. record {
-      asked = told_all trace sites (tables_of own.notes) access c.look.new.list.sites.items after.sites.items own.found.races.items own.found.places.items c.ask_list.new.found.places.items c.ask_list.new.found.races.items c.requires.access able.kept able.found held told;
-      wanted = lists_asked trace sites (tables_of own.notes) lists c.args.s list after c.look.new.list.sites.items own.found.places.items c.ask_list.new.found.places.items own.found.races.items c.ask_list.new.found.races.items access able.found at is before held told c.in_ok-look.ensures.looked;
-    }) (c.ask_list.ensures able.kept able.found)
+      asked = told_all trace sites (tables_of own.notes) access c.look.new.list.sites.items after.sites.items own.found.races.entries c.ask_list.new.found.races.entries c.requires.access able.kept held told;
+      wanted = lists_asked trace sites (tables_of own.notes) lists c.args.s list after c.look.new.list.sites.items own.found.races.entries c.ask_list.new.found.races.entries access at is before held told c.in_ok-look.ensures.looked;
+    }) (c.ask_list.ensures.told able.kept able.found)
+
+pub returns-clause-numbered : goal.returns-clause-numbered
+returns-clause-numbered g c firsts here h = c.ask_list.ensures.numbered firsts here h

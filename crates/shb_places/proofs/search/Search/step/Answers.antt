@@ -3,6 +3,7 @@ use Rattle.shb_discipline.specs.declared.disciplined.Disciplined.{Disciplined}
 use Rattle.shb_lines.specs.text.TraceData.{TraceData}
 use Rattle.shb_places.specs.Access.{IsLocatedAt}
 use Rattle.shb_report.specs.Places.{location_at}
+use Rattle.shb_places.proofs.FirstLemmas.{numbered_more}
 use Rattle.shb_places.proofs.TakeLemmas.{passed_other}
 use Rattle.shb_places.proofs.StepLemmas.{access_of, shut_known, shut_none}
 use Rattle.shb_places.proofs.search.Search.step.Goals as goal
@@ -31,3 +32,9 @@ take-requires-clause-access g c =
 
 pub number_of-requires-clause-in_range : goal.number_of-requires-clause-in_range
 number_of-requires-clause-in_range g c = subst (λ (t : TraceData). c.args.e < length t.events) (sym (ap (λ (d : Disciplined). d.trace.now) c.requires.of_trace)) c.requires.in_range
+
+pub returns-clause-numbered : goal.returns-clause-numbered
+returns-clause-numbered g c h =
+    let own = c.args.self.now in
+    c.take.ensures.numbered c.number_of.new.self.firsts.items c.in_ok-location.ensures.there
+    (numbered_more c.args.locations.now.firsts.items c.number_of.new.self.firsts.items own.sites.sites.items own.found.races.entries c.in_ok-location.ensures.stay h)

@@ -1,8 +1,9 @@
-use Rattle.std.proofs.Common.{ℕ, List, ap, length, refl, sym, subst, ◌∙◌}
+use Rattle.std.proofs.Common.{◌≡◌, inl, inr, ℕ, List, Some, slice_get, ap, length, refl, sym, subst, ◌∙◌}
 use Rattle.std.proofs.Math.ListN.{set}
 use Rattle.std.proofs.lemmas.Option.{slice_get_read}
 use Rattle.shb_places.specs.declared.sites.Site.{Site}
 use Rattle.shb_places.specs.Sites.{AreMore}
+use Rattle.shb_places.proofs.Lists.{get_cases}
 use Rattle.shb_places.proofs.SiteLemmas.{site_added}
 use Rattle.shb_places.proofs.sites.Sites.add.Goals as goal
 
@@ -14,3 +15,12 @@ returns-clause-more c =
     let e = site_added newest sites last (slice_get_read newest (length newest) c.args.variable c.index-previous.result.now refl c.requires c.index-previous.ensures) in
     let more : AreMore newest sites (set newest c.args.variable (length sites)) c.push.new.self.items = subst (λ (all : List Site). AreMore newest sites (set newest c.args.variable (length sites)) all) (sym c.in_ok-push.ensures.items) e in
     subst (λ (k : ℕ). AreMore newest sites (set newest c.args.variable k) c.push.new.self.items) (sym (c.in_ok-s.ensures.0 ∙ ap length c.as_slice.ensures.value)) more
+
+pub returns-clause-from : goal.returns-clause-from
+returns-clause-from c s site at =
+    let sites = c.args.self.now.sites.items in
+    let last : Site = record { variable = c.args.variable; location = c.args.location; previous = c.index-previous.result.now } in
+    elim (get_cases sites last s site (subst (λ (all : List Site). slice_get all s ≡ Some site) c.in_ok-push.ensures.items at)) [
+      | inl old ↦ inl old
+      | inr new ↦ inr (ap (λ (k : Site). k.location) (sym new.1))
+    ]

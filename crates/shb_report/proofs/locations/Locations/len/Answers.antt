@@ -1,4 +1,4 @@
-use Rattle.std.proofs.Common.{◌∙◌, List, ap, length, sym}
+use Rattle.std.proofs.Common.{◌∙◌, ap, length, sym}
 use Rattle.std.proofs.lemmas.List.{length-map}
 use Rattle.shb_lines.specs.declared.hashing.TextKey.{TextKey}
 use Rattle.shb_report.proofs.locations.Locations.len.Goals as goal
