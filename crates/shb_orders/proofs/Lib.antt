@@ -1,7 +1,6 @@
-pub mod FrontLemmas
-pub mod KeptLemmas
+pub mod ClockLemmas
 pub mod LearnedLemmas
 pub mod MarksLemmas
 pub mod MayLearn
-pub mod PastLemmas
+pub mod RowLemmas
 pub mod Times

@@ -1,8 +1,8 @@
 -- The sweep that marks what is SHB-below an event.
-use Rattle.std.proofs.Common.{◌≡◌, ◌≢◌, ℕ, ◌+◌, ◌<◌, ◌≤◌, ◌⊎◌, inl, inr, Bool, true, false, List, [], ◌∷◌, ◌++◌, Some, length, get_or, sym, ◌∙◌, ap, arith, subst, get_or-set_same, get_or-set_other}
+use Rattle.std.proofs.Common.{◌≡◌, ◌≢◌, ℕ, ◌+◌, ◌<◌, ◌≤◌, ◌⊎◌, inl, inr, Bool, true, false, List, [], Some, length, get_or, sym, ◌∙◌, ap, arith, subst, get_or-set_same, get_or-set_other}
 use Rattle.std.specs.Prelude.{◌↔◌, replicate, slice_get}
-use Rattle.std.proofs.Math.ListN.{set, length-set, length-replicate, get_or-append, get_or-replicate}
-use Rattle.std.proofs.lemmas.List.{get_or_push, length_push, get_or_past, get_or_default}
+use Rattle.std.proofs.Math.ListN.{set, length-set, length-replicate, get_or-replicate}
+use Rattle.std.proofs.lemmas.List.{get_or_past, get_or_default}
 use Rattle.std.proofs.lemmas.Bool.{cases_lt, cases_eq}
 use Rattle.std.proofs.lemmas.Option.{slice_get_within, get_or_from_slice_get}
 use Rattle.shb_lines.specs.declared.event.Event.{Event}
@@ -14,7 +14,8 @@ use Rattle.shb_lines.proofs.events.Decide.{path_cases, pred_unique}
 use Rattle.shb_lines.proofs.events.Events.{event_of_thread}
 use Rattle.shb_lines.proofs.events.Listed.{number_same}
 use Rattle.shb_lines.proofs.events.Schedulable.{path_forward, edge_earlier}
-use Rattle.shb_orders.specs.Marks.{MarksFrom, IsRowOf, HasRows}
+use Rattle.shb_orders.specs.Marks.{MarksFrom, IsRowOf}
+use Rattle.shb_orders.specs.Rows.{AreEach}
 
 -- the test of an edge, of the events as the code reads them
 pub rule_read : (trace : List Event) (a b : ℕ) (d x y : Event) (test : Bool) → slice_get trace a ≡ Some x → slice_get trace b ≡ Some y → test ≡ is_hb_rule x y → is_hb_rule (get_or trace a d) (get_or trace b d) ≡ test
@@ -79,20 +80,6 @@ row_without_pred trace e marks row none clear same = subst (IsRowOf trace e) (sy
   );
 })
 
--- one more row
-pub rows_more : (trace : List Event) (n : ℕ) (rows : List (List Bool)) (row : List Bool) → HasRows trace n rows → IsRowOf trace n row → HasRows trace (n + 1) (rows ++ row ∷ [])
-rows_more trace n rows row old new = record {
-  as_many = length_push rows row ∙ ap (λ m. m + 1) old.as_many;
-  each = λ e lt. go e lt (cases_lt e n);
-}
-  where
-    go : (e : ℕ) → e < n + 1 → (e < n) ⊎ (n ≤ e) → IsRowOf trace e (get_or (rows ++ row ∷ []) e [])
-    go e lt (inl low) = subst (IsRowOf trace e) (sym (get_or-append rows (row ∷ []) [] e (let m = old.as_many in omega arith))) (old.each e low)
-    go e lt (inr le) =
-        let same : n ≡ e = omega arith in
-        let at_end = get_or_push rows row [] e (old.as_many ∙ same) in
-        subst (IsRowOf trace e) (sym at_end) (subst (λ k. IsRowOf trace k row) same new)
-
 -- the marked events of a thread are those that are below the predecessor
 pub count_from_row : (trace : List Event) (e t n : ℕ) (row : List Bool) → IsRowOf trace e row → IsNumberOf (λ k. (thread_at trace k ≡ Some t) × (get_or row k false ≡ true)) n → IsBelowPredCount trace t e n
 count_from_row trace e t n row marks count = number_same _ _ n (λ k. (
@@ -104,8 +91,8 @@ count_from_row trace e t n row marks count = number_same _ _ n (λ k. (
     within k h = let d = event_of_thread trace k t h in slice_get_within trace k d.0 d.1
 
 -- the order's answer, from its rows
-pub count_from_rows : (trace seen : List Event) (rows : List (List Bool)) (row : List Bool) (e t n : ℕ) → trace ≡ seen → HasRows trace (length trace) rows → e < length seen → row ≡ get_or rows e row → IsNumberOf (λ k. (thread_at trace k ≡ Some t) × (get_or row k false ≡ true)) n → IsBelowPredCount seen t e n
-count_from_rows trace seen rows row e t n same has lt is count =
+pub count_from_rows : (trace seen : List Event) (rows : List (List Bool)) (item row : List Bool) (e t n : ℕ) → trace ≡ seen → AreEach (IsRowOf trace) (length trace) rows → e < length seen → item ≡ get_or rows e item → row ≡ item → IsNumberOf (λ k. (thread_at trace k ≡ Some t) × (get_or row k false ≡ true)) n → IsBelowPredCount seen t e n
+count_from_rows trace seen rows item row e t n same has lt is shown count =
     let within : e < length trace = (let size = ap length same in omega (arith, size, lt)) in
-    let there : get_or rows e [] ≡ row = get_or_default rows e [] row (let m = has.as_many in omega arith) ∙ sym is in
+    let there : get_or rows e [] ≡ row = get_or_default rows e [] item (let m = has.as_many in omega arith) ∙ sym is ∙ sym shown in
     subst (λ (tr : List Event). IsBelowPredCount tr t e n) same (count_from_row trace e t n row (subst (IsRowOf trace e) there (has.each e within)) count)

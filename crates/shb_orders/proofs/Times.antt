@@ -1,5 +1,5 @@
--- The local time of a first event, and of one just after another of its thread.
-use Rattle.std.proofs.Common.{◌≡◌, ◌≢◌, ℕ, ◌+◌, ◌<◌, ◌≤◌, ◌⊎◌, inl, inr, true, false, List, Some, take, arith, ap, ◌∙◌}
+-- The local time of a first event.
+use Rattle.std.proofs.Common.{◌≡◌, ◌≢◌, ℕ, ◌<◌, ◌≤◌, ◌⊎◌, inl, inr, true, false, List, Some, take, arith, ap, ◌∙◌}
 use Rattle.std.specs.Prelude.{count_by, slice_get}
 use Rattle.std.proofs.lemmas.Bool.{cases_Bool}
 use Rattle.shb_lines.specs.declared.event.Event.{Event}
@@ -21,6 +21,3 @@ module _ (trace : List Event) (t : ℕ) where
 
   pub time_first : (e : ℕ) → thread_at trace e ≡ Some t → ((m : ℕ) → m < e → thread_at trace m ≢ Some t) → local_time trace t e ≡ 1
   time_first e of_e none = let before = gap 0 e (omega arith) (λ m low high. none m high) in let own = time_at trace t e of_e in omega (arith, before, own)
-
-  pub time_after : (p e : ℕ) → thread_at trace e ≡ Some t → p < e → ((m : ℕ) → p < m → m < e → thread_at trace m ≢ Some t) → local_time trace t e ≡ local_time trace t p + 1
-  time_after p e of_e lt none = let between = gap (p + 1) e (omega (arith, lt)) (λ m low high. none m (omega (arith, low)) high) in let own = time_at trace t e of_e in omega (arith, between, own)

@@ -1,4 +1,3 @@
 pub mod Learned
 pub mod Marks
-pub mod Past
-pub mod Sweeps
+pub mod Rows

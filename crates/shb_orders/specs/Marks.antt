@@ -1,5 +1,5 @@
 -- What the marks of a plain order stand for.
-use Rattle.std.specs.Prelude.{◌≡◌, ℕ, ◌<◌, ◌≤◌, ◌↔◌, Bool, true, false, List, [], length, slice_index_or}
+use Rattle.std.specs.Prelude.{◌≡◌, ℕ, ◌<◌, ◌≤◌, ◌↔◌, Bool, true, false, List, length, slice_index_or}
 use Rattle.shb_lines.specs.declared.event.Event.{Event}
 use Rattle.shb_lines.specs.events.Order.{ShbBelow, BelowPred}
 
@@ -13,8 +13,3 @@ pub record MarksFrom (trace : List Event) (p low : ℕ) (marks : List Bool) : Ty
 pub record IsRowOf (trace : List Event) (e : ℕ) (marks : List Bool) : Type 0 where
   pub as_long : length marks ≡ length trace
   pub exact : (k : ℕ) → k < length trace → (slice_index_or marks k false ≡ true) ↔ BelowPred trace k e
-
--- the rows of the first n events
-pub record HasRows (trace : List Event) (n : ℕ) (rows : List (List Bool)) : Type 0 where
-  pub as_many : length rows ≡ n
-  pub each : (e : ℕ) → e < n → IsRowOf trace e (slice_index_or rows e [])

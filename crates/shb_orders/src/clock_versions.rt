@@ -1,12 +1,14 @@
-//! An order by clocks that are kept only where a thread may learn of others.
+//! An order by clocks that are kept only where a thread learns of others.
 
-ghost use Rattle.std.specs.Prelude.{◌≡◌, ◌<◌, true, List, IfOk, length};
+ghost use Rattle.std.specs.Prelude.{◌≡◌, ℕ, ◌<◌, true, All, Contains, List, IfOk, length, slice_index_or, []};
 ghost use Rattle.shb_lines.specs.declared.event.Event.{Event};
-ghost use Rattle.shb_orders.specs.Learned.{AreKept, AreLearnedTimes};
+ghost use Rattle.shb_clocks.specs.Listed.{is_listed};
+ghost use Rattle.shb_orders.specs.Learned.{AreLearnedTimes};
+ghost use Rattle.shb_orders.specs.Rows.{AreEach};
 
-use crate::kept_clocks::KeptClocks;
-use crate::learned_past::sweep;
-use shb_clocks::Order;
+use crate::learning::learned_times;
+use crate::row::Row;
+use shb_clocks::{ListedRows, Order, at_events};
 use shb_discipline::Disciplined;
 use shb_io::NoMemory;
 use shb_lines::Event;
@@ -14,27 +16,57 @@ use shb_links::{Linked, Links};
 use std::alloc::Global;
 use std::marker::Model;
 
-/// An order by vector clocks that are kept only where a thread may learn of others. Contracts see it
+/// An order by vector clocks that are kept only where a thread learns of others. Contracts see it
 /// as the list of events of the trace that it orders. It may be shared between threads.
 #[derive(Drop)]
 pub struct ClockVersions<'a> {
-    linked: Linked<'a>,
-    clocks: KeptClocks,
+    /// Rows of clocks, which can be asked about each event.
+    rows: ListedRows<'a>,
+    /// For each thread the local times at which it may learn of others.
+    times: Vec<Row<u32>>,
 }
 
 impl<'a> Model for ClockVersions<'a> {
+    ghost use Rattle.std.specs.Prelude.{ℕ, ◌≡◌, ◌<◌, true, List, [], length, slice_index_or};
+    ghost use Rattle.shb_lines.specs.declared.event.Event.{Event};
+    ghost use Rattle.shb_clocks.specs.Listed.{is_listed};
+    ghost use Rattle.shb_orders.specs.Learned.{AreLearnedTimes};
+
     ghost Value = { List Event };
 
-    ghost view = { λ o. o.linked.events.now };
+    ghost view = { λ o. o.rows.trace };
 
-    ghost invariant = { λ o. AreKept o.linked.events.now (length o.linked.events.now) o.linked.sizes.threads
-        o.clocks.threads.items };
+    ghost invariant = { λ o. ((e : ℕ) → e < length o.rows.trace → is_listed o.rows.events e ≡ true)
+        × ((t : ℕ) → AreLearnedTimes o.rows.trace t (slice_index_or o.times.items t [])) };
+}
+
+/// All events of a trace.
+fn all_events(alloc: Global, count: u32) -> Result<Vec<u32>, NoMemory>
+    ensures within { IfOk result (λ events. All (λ e. e < count) events.items) }
+    ensures each { IfOk result (λ events. (e : ℕ) → e < count → Contains events.items e) }
+{
+    let mut events = Vec::new(alloc);
+    for e in 0..count {
+        events.push(e)?;
+    }
+    Ok(events)
+}
+
+/// For each thread the local times at which it may learn of others.
+fn times_of(alloc: Global, linked: &Linked<'_>) -> Result<Vec<Row<u32>>, NoMemory>
+    ensures { IfOk result (λ times. (t : ℕ) → AreLearnedTimes linked.now.events.now t (slice_index_or times.items t [])) }
+{
+    let mut times = Vec::new(alloc);
+    for t in 0..linked.sizes.threads {
+        times.push(learned_times(alloc, linked, t)?)?;
+    }
+    Ok(times)
 }
 
 /// The order of a trace by vector clocks, found by one forward pass. A clock is kept only where a
-/// thread may learn of others: at its first event, at each acquire, each join and each read that has
-/// a last write. Memory: four bytes a thread for each such event and, while the pass runs, for each
-/// lock.
+/// thread learns of others, which it can only at its first event, at an acquire, a join and a read that has
+/// a last write. Memory: four bytes a thread for each such event, and eight for each event. Another pass for
+/// each thread finds where it may learn.
 ///
 /// # Errors
 ///
@@ -48,8 +80,10 @@ pub fn versions<'a>(
     ensures { IfOk result (λ order. order ≡ trace.now.events.now) }
 {
     let linked = Linked::new(trace, links);
-    let clocks = sweep(alloc, &linked)?;
-    Ok(ClockVersions { linked, clocks })
+    let times = times_of(alloc, &linked)?;
+    let events = all_events(alloc, linked.events.len() as u32)?;
+    let rows = at_events(alloc, linked, events.as_slice())?;
+    Ok(ClockVersions { rows, times })
 }
 
 impl<'a> ClockVersions<'a> {
@@ -59,8 +93,8 @@ impl<'a> ClockVersions<'a> {
     pub fn learned(&self, t: u32) -> &[u32]
         ensures { AreLearnedTimes self.now t result.now }
     {
-        match self.clocks.threads.get(t as usize) {
-            Some(kept) => kept.times(),
+        match self.times.get(t as usize) {
+            Some(times) => times.as_slice(),
             None => &[],
         }
     }
@@ -72,6 +106,6 @@ impl<'a> Order for ClockVersions<'a> {
     ghost asks = { λ _ _. true };
 
     fn below_pred(&self, e: u32, t: u32) -> u32 {
-        self.clocks.below_pred(&self.linked, e, t)
+        self.rows.below_pred(e, t)
     }
 }

@@ -1,12 +1,11 @@
 //! An order by one clock for each event.
 
-ghost use Rattle.std.specs.Prelude.{◌≡◌, ℕ, ◌<◌, true, List, IfOk, length};
+ghost use Rattle.std.specs.Prelude.{◌≡◌, ◌<◌, true, List, IfOk, length, slice_index_or};
 ghost use Rattle.shb_lines.specs.declared.event.Event.{Event};
-ghost use Rattle.shb_orders.specs.Past.{HasClocks};
+ghost use Rattle.shb_orders.specs.Rows.{AreEach, IsClockBefore};
 
-use crate::clock::{Clock, entry};
-use crate::learned_past::sweep;
-use shb_clocks::Order;
+use crate::row::Row;
+use shb_clocks::{Order, Sweep};
 use shb_discipline::Disciplined;
 use shb_io::NoMemory;
 use shb_lines::Event;
@@ -19,7 +18,8 @@ use std::marker::Model;
 #[derive(Drop)]
 pub struct FullClocks<'a> {
     linked: Linked<'a>,
-    clocks: Vec<Clock>,
+    /// For each event the clock of its predecessor.
+    clocks: Vec<Row<u32>>,
 }
 
 impl<'a> Model for FullClocks<'a> {
@@ -27,7 +27,36 @@ impl<'a> Model for FullClocks<'a> {
 
     ghost view = { λ o. o.linked.events.now };
 
-    ghost invariant = { λ o. HasClocks o.linked.events.now (length o.linked.events.now) o.linked.sizes.threads o.clocks.items };
+    ghost invariant = { λ o. AreEach (IsClockBefore o.linked.events.now) (length o.linked.events.now) o.clocks.items };
+}
+
+/// The entry of a thread, 0 where the clock has none.
+fn entry(clock: &[u32], t: u32) -> u32
+    ensures { result ≡ slice_index_or clock.now t 0 }
+{
+    match clock.get(t as usize) {
+        Some(number) => *number,
+        None => 0,
+    }
+}
+
+/// The clock of the predecessor of the next event of a sweep.
+fn clock_before(
+    alloc: Global,
+    linked: &Linked<'_>,
+    sweep: &Sweep<'_>,
+    e: u32,
+) -> Result<Row<u32>, NoMemory>
+    requires of_trace { sweep.now.trace ≡ linked.now.events.now }
+    requires next { sweep.now.next ≡ e }
+    requires in_range { e < length linked.now.events.now }
+    ensures { IfOk result (IsClockBefore linked.now.events.now e) }
+{
+    let mut clock = Vec::new(alloc);
+    for t in 0..linked.sizes.threads {
+        clock.push(sweep.below_pred(e, t))?;
+    }
+    Ok(Row::new(clock))
 }
 
 /// The order of a trace by a vector clock for each event, found by one forward pass. Time and memory
@@ -45,12 +74,11 @@ pub fn full<'a>(
     ensures { IfOk result (λ order. order ≡ trace.now.events.now) }
 {
     let linked = Linked::new(trace, links);
-    let kept = sweep(alloc, &linked)?;
+    let mut sweep = Sweep::new(alloc, linked)?;
     let mut clocks = Vec::new(alloc);
     for e in 0..linked.events.len() as u32 {
-        let mut clock = Clock::new(alloc, linked.sizes.threads as usize)?;
-        clock.copy_event(&kept.clock_of(&linked, e));
-        clocks.push(clock)?;
+        clocks.push(clock_before(alloc, &linked, &sweep, e)?)?;
+        sweep.pass(alloc)?;
     }
     Ok(FullClocks { linked, clocks })
 }
@@ -61,9 +89,6 @@ impl<'a> Order for FullClocks<'a> {
     ghost asks = { λ _ _. true };
 
     fn below_pred(&self, e: u32, t: u32) -> u32 {
-        match self.linked.links.pred(e) {
-            Some(p) => entry(self.clocks[p as usize].as_slice(), t),
-            None => 0,
-        }
+        entry(self.clocks[e as usize].as_slice(), t)
     }
 }

@@ -2,21 +2,17 @@
 //! with one another and with the orders of `shb_clocks`, and search races with them.
 //!
 //! [`PlainOrder`] has marks by a backward sweep over the edges, for small traces. [`FullClocks`] has a
-//! vector clock for each event. [`ClockVersions`] has a clock only where a thread may learn of others (its
-//! first event, an acquire, a join, a read that has a last write), found by binary search. The pass that
-//! finds these keeps a clock for each lock, where `shb_clocks` has a stamp; `full` takes each event's clock from
-//! them.
+//! vector clock for each event, made of what `Sweep` of `shb_clocks` answers. [`ClockVersions`] has the rows of
+//! `at_events`, which are kept only where a thread learns of others, for all events; and it gives the local
+//! times at which a thread may learn (its first event, an acquire, a join, a read that has a last write).
 #![tactic(auto)]
 
-mod clock;
 mod clock_versions;
 mod edges;
 mod full_clocks;
-mod kept_clocks;
-mod learned_past;
-mod marks;
+mod learning;
 mod plain_order;
-mod thread_clocks;
+mod row;
 
 pub use clock_versions::{ClockVersions, versions};
 pub use full_clocks::{FullClocks, full};

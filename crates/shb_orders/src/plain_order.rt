@@ -4,10 +4,11 @@ ghost use Rattle.std.specs.Prelude.{◌≡◌, ℕ, ◌+◌, ◌<◌, ◌≤◌,
 ghost use Rattle.shb_lines.specs.declared.event.Event.{Event};
 ghost use Rattle.shb_lines.specs.events.Events.{thread_at};
 ghost use Rattle.shb_lines.specs.events.Order.{ShbBelow, IsNumberOf};
-ghost use Rattle.shb_orders.specs.Marks.{MarksFrom, IsRowOf, HasRows};
+ghost use Rattle.shb_orders.specs.Marks.{MarksFrom, IsRowOf};
+ghost use Rattle.shb_orders.specs.Rows.{AreEach};
 
 use crate::edges::is_edge;
-use crate::marks::Marks;
+use crate::row::Row;
 use shb_clocks::Order;
 use shb_discipline::Disciplined;
 use shb_io::NoMemory;
@@ -21,7 +22,7 @@ use std::marker::Model;
 #[derive(Drop)]
 pub struct PlainOrder<'a> {
     linked: Linked<'a>,
-    rows: Vec<Marks>,
+    rows: Vec<Row<bool>>,
 }
 
 impl<'a> Model for PlainOrder<'a> {
@@ -29,7 +30,7 @@ impl<'a> Model for PlainOrder<'a> {
 
     ghost view = { λ o. o.linked.events.now };
 
-    ghost invariant = { λ o. HasRows o.linked.events.now (length o.linked.events.now) o.rows.items };
+    ghost invariant = { λ o. AreEach (IsRowOf o.linked.events.now) (length o.linked.events.now) o.rows.items };
 }
 
 /// No marks.
@@ -72,13 +73,13 @@ fn marks_below(alloc: Global, linked: &Linked<'_>, p: u32) -> Result<Vec<bool>, 
 }
 
 /// The marks of one event.
-fn row_of(alloc: Global, linked: &Linked<'_>, e: u32) -> Result<Marks, NoMemory>
+fn row_of(alloc: Global, linked: &Linked<'_>, e: u32) -> Result<Row<bool>, NoMemory>
     requires in_range { e < length linked.now.events.now }
     ensures { IfOk result (λ row. IsRowOf linked.now.events.now e row) }
 {
     match linked.links.pred(e) {
-        Some(p) => Ok(Marks::new(marks_below(alloc, linked, p)?)),
-        None => Ok(Marks::new(unmarked(alloc, linked.events.len())?)),
+        Some(p) => Ok(Row::new(marks_below(alloc, linked, p)?)),
+        None => Ok(Row::new(unmarked(alloc, linked.events.len())?)),
     }
 }
 
@@ -106,14 +107,14 @@ pub fn plain<'a>(
 }
 
 /// How many events of a thread are marked.
-fn count_marked(events: &Events, row: &Marks, t: u32) -> u32
+fn count_marked(events: &Events, row: &[bool], t: u32) -> u32
     requires as_long { length row.now ≡ length events.now }
     requires small { length events.now < 2 ^ 32 }
     ensures { IsNumberOf (λ k. (thread_at events.now k ≡ Some t) × (slice_index_or row.now k false ≡ true)) result }
 {
     let mut count = 0;
     for k in 0..events.len() as u32 {
-        if events.thread(k) == t && row.is_marked(k as usize) {
+        if events.thread(k) == t && row[k as usize] {
             count += 1;
         }
     }
@@ -126,6 +127,6 @@ impl<'a> Order for PlainOrder<'a> {
     ghost asks = { λ _ _. true };
 
     fn below_pred(&self, e: u32, t: u32) -> u32 {
-        count_marked(self.linked.events, &self.rows[e as usize], t)
+        count_marked(self.linked.events, self.rows[e as usize].as_slice(), t)
     }
 }

@@ -1,5 +1,10 @@
-use Rattle.shb_orders.specs.Past.{HasClocks}
+use Rattle.std.proofs.Common.{◌≡◌}
+use Rattle.shb_orders.specs.Rows.{AreEach, IsClockBefore}
 use Rattle.shb_orders.proofs.full_clocks.full.Given as goal
 
 abbrev pub invariant-loop-e : goal.invariant-loop-e
-invariant-loop-e l = HasClocks l.linked.events.now l.e l.linked.sizes.threads l.clocks.items
+invariant-loop-e l = record {
+  of_trace : l.sweep.trace ≡ l.linked.events.now;
+  next : l.sweep.next ≡ l.e;
+  clocks : AreEach (IsClockBefore l.linked.events.now) l.e l.clocks.items;
+}

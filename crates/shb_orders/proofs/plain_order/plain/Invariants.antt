@@ -1,5 +1,6 @@
-use Rattle.shb_orders.specs.Marks.{HasRows}
+use Rattle.shb_orders.specs.Marks.{IsRowOf}
+use Rattle.shb_orders.specs.Rows.{AreEach}
 use Rattle.shb_orders.proofs.plain_order.plain.Given as goal
 
 abbrev pub invariant-loop-e : goal.invariant-loop-e
-invariant-loop-e l = HasRows l.linked.events.now l.e l.rows.items
+invariant-loop-e l = AreEach (IsRowOf l.linked.events.now) l.e l.rows.items

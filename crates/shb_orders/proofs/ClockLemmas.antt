@@ -1,0 +1,47 @@
+-- The clock before an event, one thread more.
+use Rattle.std.proofs.Common.{◌≡◌, ℕ, ◌+◌, ◌<◌, ◌≤◌, ◌⊎◌, inl, inr, List, [], ◌∷◌, ◌++◌, length, get_or, ap, arith, subst, sym, refl, ◌∙◌}
+use Rattle.std.proofs.Math.ListN.{get_or-append}
+use Rattle.std.proofs.lemmas.List.{get_or_default, get_or_past, get_or_push, length_push}
+use Rattle.std.proofs.lemmas.Bool.{cases_lt}
+use Rattle.shb_lines.specs.declared.event.Event.{Event}
+use Rattle.shb_lines.specs.declared.event.Sizes.{Sizes}
+use Rattle.shb_lines.specs.events.Order.{IsBelowPredCount}
+use Rattle.shb_lines.specs.events.Sizes.{IsWithin}
+use Rattle.shb_lines.proofs.events.Items.{thread_within}
+use Rattle.shb_orders.specs.Rows.{AreEach, IsClockBefore}
+
+-- the entries of the first threads
+pub record HasEntries (trace : List Event) (e threads : ℕ) (clock : List ℕ) : Type 0 where
+  pub as_many : length clock ≡ threads
+  pub each : (t : ℕ) → t < threads → IsBelowPredCount trace t e (get_or clock t 0)
+
+pub entries_more : (trace : List Event) (e threads count : ℕ) (clock : List ℕ) → IsBelowPredCount trace threads e count → HasEntries trace e threads clock → HasEntries trace e (threads + 1) (clock ++ count ∷ [])
+entries_more trace e threads count clock new old = record {
+  as_many = (let many = old.as_many in let long = length_push clock count in omega (arith, many, long));
+  each = λ t lt. go t lt (cases_lt t threads);
+}
+  where
+    go : (t : ℕ) → t < threads + 1 → (t < threads) ⊎ (threads ≤ t) → IsBelowPredCount trace t e (get_or (clock ++ count ∷ []) t 0)
+    go t lt (inl low) = subst (IsBelowPredCount trace t e) (sym (get_or-append clock (count ∷ []) 0 t (let many = old.as_many in omega (arith, many, low)))) (old.each t low)
+    go t lt (inr le) =
+        let same : threads ≡ t = omega (arith, lt, le) in
+        let at_end = get_or_push clock count 0 t (let many = old.as_many in omega (arith, many, same)) in
+        subst (IsBelowPredCount trace t e) (sym at_end) (subst (λ (u : ℕ). IsBelowPredCount trace u e count) same new)
+
+pub clock_whole : (trace : List Event) (sizes : Sizes) (e threads : ℕ) (clock : List ℕ) → IsWithin trace sizes → sizes.threads ≤ threads → HasEntries trace e threads clock → IsClockBefore trace e clock
+clock_whole trace sizes e threads clock within all has t = elim (cases_lt t threads) [
+  | inl lt ↦ has.each t lt
+  | inr le ↦ subst (IsBelowPredCount trace t e) (sym (get_or_past clock t 0 (let many = has.as_many in omega (arith, many, le)))) (record {
+    members = [];
+    rising = λ k lt. absurd (omega arith);
+    all = λ k. ((λ c. absurd (let lt = c.1 in omega arith)), (λ h. absurd (let low = thread_within trace sizes k t within h.0 in omega (arith, low, all, le))));
+    number = refl;
+  })
+]
+
+-- the order's answer, from its clocks
+pub clock_answer : (trace seen : List Event) (clocks : List (List ℕ)) (item clock : List ℕ) (e t n : ℕ) → trace ≡ seen → AreEach (IsClockBefore trace) (length trace) clocks → e < length seen → item ≡ get_or clocks e item → clock ≡ item → n ≡ get_or clock t 0 → IsBelowPredCount seen t e n
+clock_answer trace seen clocks item clock e t n same has lt is shown entry =
+    let within : e < length trace = (let size = ap length same in omega (arith, size, lt)) in
+    let there : get_or clocks e [] ≡ clock = get_or_default clocks e [] item (let many = has.as_many in omega (arith, many, within)) ∙ sym is ∙ sym shown in
+    subst (λ (tr : List Event). IsBelowPredCount tr t e n) same (subst (IsBelowPredCount trace t e) (ap (λ (xs : List ℕ). get_or xs t 0) there ∙ sym entry) (has.each e within t))
