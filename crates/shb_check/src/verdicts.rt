@@ -11,10 +11,9 @@ ghost use Rattle.shb_check.specs.Checks.{CountsSources, IsChecked, IsLineCutShor
 ghost use Rattle.shb_check.specs.Outcomes.{Grows, OnJudged, OnMemory, OnNoTrace, OnSink, OnTrace, OnWriting, sink_failed};
 
 use crate::errors::RunError;
-use crate::judging::judge;
+use crate::judging::{judge, read_trace};
 use shb_io::{Sink, Source};
 use shb_judging::{Verdict, judge_report, verdict_line};
-use shb_lines::{Limits, parse};
 use std::alloc::Global;
 use std::random::RandomSource;
 
@@ -106,7 +105,7 @@ pub fn check<S: Source, Q: Source, K: Sink, R: RandomSource>(
         (Q.failure_count report_source.old) (Q.failure_count report_source.new) result }
     ensures sink { CountsFailure sink_failed (K.failure_count sink.old) (K.failure_count sink.new) result }
 {
-    let parsed = parse(rt, alloc, trace_source, &Limits::standard())?;
+    let parsed = read_trace(rt, alloc, trace_source)?;
     let trace = judge(alloc, &parsed)?;
     let verdict = judge_report(rt, alloc, &trace, report_source)?;
     let Ok(()) = verdict_line(sink, verdict) else {

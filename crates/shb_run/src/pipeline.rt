@@ -12,12 +12,12 @@ use crate::all::report_found;
 use crate::leading::report_leading;
 use crate::screened::Screened;
 use crate::settings::{Choice, Gates, Settings, Summary, Task};
-use shb_check::{RunError, judge};
+use shb_check::{RunError, judge, read_trace};
 use shb_clocks::{Ordered, by_event};
 use shb_discipline::Disciplined;
 use shb_fan::{FreeGate, Gate};
 use shb_io::{Sink, Source};
-use shb_lines::{Limits, Trace, parse};
+use shb_lines::Trace;
 use shb_links::{Linked, links_of};
 use shb_pairs::open_variables;
 use shb_write::WriteError;
@@ -183,7 +183,7 @@ pub(crate) fn run_task<
     ensures { IsOutcome task.choice task.settings.schedules S.remaining S.given_count S.failure_count source.old source.new
         K.taken K.failure_count sink.old sink.new result }
 {
-    let parsed = parse(rt, alloc, source, &Limits::standard())?;
+    let parsed = read_trace(rt, alloc, source)?;
     let trace = judge(alloc, &parsed)?;
     match report_asked(rt, alloc, sink, &trace, task, gates) {
         Ok(summary) => Ok(summary),

@@ -1,150 +1,52 @@
 use Rattle.std.proofs.Common.{refl}
-use Rattle.shb_lines.specs.text.Taking.{ReadsText}
-use Rattle.shb_lines.specs.text.TraceData.{IsReadingOf}
 use Rattle.shb_lines.proofs.text.TakingLemmas.{reads_left, reads_then, reads_told}
-use Rattle.shb_lines.specs.text.Limits.{most_read, standard_limits}
-use Rattle.shb_check.proofs.Endings.{Takes-none, checked_of, counted_judged, given_none, judged, none_found, not_judged, of_any_fault, of_any_trace, of_no_trace, refusal_first}
+use Rattle.shb_lines.specs.text.Limits.{most_read}
+use Rattle.shb_check.proofs.Endings.{checked_of, counted_judged, judged, none_found, not_judged, of_any_fault, of_any_trace, of_no_trace, refusal_first}
 use Rattle.shb_check.proofs.verdicts.check.Goals as goal
 
 pub returns-clause-verdict : goal.returns-clause-verdict
 returns-clause-verdict g c =
-    let parsed = c.in_ok-parsed.parsed in
-    let known = g.S.Source.remaining c.args.trace_source.now in
-    let left = g.S.Source.remaining c.parse.new.source in
-    let before = g.S.Source.given_count c.args.trace_source.now in
-    let given = g.S.Source.given_count c.parse.new.source in
-    let reading : ReadsText most_read known left before given (λ text. IsReadingOf standard_limits text parsed.trace parsed.stop) = rw c.standard.ensures at c.in_ok-parsed.ensures.reading in
     let trace = c.in_ok-trace.trace in
     let told = g.Q.Source.remaining c.args.report_source.now in
     let after = g.Q.Source.remaining c.judge_report.new.source in
-    reads_then most_read known left _ _ _ _ reading (λ text r. reads_then most_read told after _ _ _ _ c.in_ok-verdict.ensures.verdict (λ report v.
-    (checked_of text report parsed.trace parsed.stop trace.events.now trace.trace.now c.in_ok-verdict.verdict trace.meets trace.of_trace c.in_ok-trace.ensures.accepted r v)))
+    reads_then most_read (g.S.Source.remaining c.args.trace_source.now) (g.S.Source.remaining c.read_trace.new.source) _ _ _ _ c.in_ok-parsed.ensures.reading (λ text r. reads_then most_read told after _ _ _ _ c.in_ok-verdict.ensures.verdict (λ report v.
+    (checked_of text report c.in_ok-parsed.parsed.trace c.in_ok-parsed.parsed.stop trace.events.now trace.trace.now c.in_ok-verdict.verdict trace.meets trace.of_trace c.in_ok-trace.ensures.accepted r v)))
 
 pub returns-in_default-clause-cut : goal.returns-in_default-clause-cut
 returns-in_default-clause-cut g c =
-    let parsed = c.in_ok-parsed.parsed in
-    let known = g.S.Source.remaining c.args.trace_source.now in
-    let left = g.S.Source.remaining c.parse.new.source in
-    let before = g.S.Source.given_count c.args.trace_source.now in
-    let given = g.S.Source.given_count c.parse.new.source in
-    let reading : ReadsText most_read known left before given (λ text. IsReadingOf standard_limits text parsed.trace parsed.stop) = rw c.standard.ensures at c.in_ok-parsed.ensures.reading in
     let trace = c.in_ok-trace.trace in
     let told = g.Q.Source.remaining c.args.report_source.now in
     let after = g.Q.Source.remaining c.judge_report.new.source in
-    reads_then most_read known left _ _ _ _ reading (λ text r. reads_then most_read told after _ _ _ _ c.in_ok-verdict.ensures.verdict (λ report v.
+    reads_then most_read (g.S.Source.remaining c.args.trace_source.now) (g.S.Source.remaining c.read_trace.new.source) _ _ _ _ c.in_ok-parsed.ensures.reading (λ text r. reads_then most_read told after _ _ _ _ c.in_ok-verdict.ensures.verdict (λ report v.
     record {
       verdict = c.in_ok-verdict.verdict;
-      checked = (checked_of text report parsed.trace parsed.stop trace.events.now trace.trace.now c.in_ok-verdict.verdict trace.meets trace.of_trace c.in_ok-trace.ensures.accepted r v);
+      checked = (checked_of text report c.in_ok-parsed.parsed.trace c.in_ok-parsed.parsed.stop trace.events.now trace.trace.now c.in_ok-verdict.verdict trace.meets trace.of_trace c.in_ok-trace.ensures.accepted r v);
       written = c.in_default.ensures.written;
     }))
 
 pub returns-in_err-trace-clause-refused : goal.returns-in_err-trace-clause-refused
 returns-in_err-trace-clause-refused g c =
-    let parsed = c.in_ok-parsed.parsed in
-    let known = g.S.Source.remaining c.args.trace_source.now in
-    let left = g.S.Source.remaining c.parse.new.source in
-    let before = g.S.Source.given_count c.args.trace_source.now in
-    let given = g.S.Source.given_count c.parse.new.source in
-    let reading : ReadsText most_read known left before given (λ text. IsReadingOf standard_limits text parsed.trace parsed.stop) = rw c.standard.ensures at c.in_ok-parsed.ensures.reading in
-    refusal_first parsed.trace parsed.stop most_read known left _ _ _ c.from_residual-in_err-trace.result c.from_residual-in_err-trace.ensures.1 reading c.in_err-trace.ensures.refused
+    refusal_first c.in_ok-parsed.parsed.trace c.in_ok-parsed.parsed.stop most_read (g.S.Source.remaining c.args.trace_source.now) (g.S.Source.remaining c.read_trace.new.source) _ _ _ c.from_residual-in_err-trace.result c.from_residual-in_err-trace.ensures.1 c.in_ok-parsed.ensures.reading c.in_err-trace.ensures.refused
 
 pub returns-in_default-clause-silent : goal.returns-in_default-clause-silent
 returns-in_default-clause-silent g c =
-    let parsed = c.in_ok-parsed.parsed in
-    let known = g.S.Source.remaining c.args.trace_source.now in
-    let left = g.S.Source.remaining c.parse.new.source in
-    let before = g.S.Source.given_count c.args.trace_source.now in
-    let given = g.S.Source.given_count c.parse.new.source in
-    let reading : ReadsText most_read known left before given (λ text. IsReadingOf standard_limits text parsed.trace parsed.stop) = rw c.standard.ensures at c.in_ok-parsed.ensures.reading in
-    none_found parsed.trace parsed.stop c.in_ok-trace.trace.trace.now known _ c.in_ok-trace.ensures.accepted (reads_told most_read known left _ _ _ reading)
+    none_found c.in_ok-parsed.parsed.trace c.in_ok-parsed.parsed.stop c.in_ok-trace.trace.trace.now (g.S.Source.remaining c.args.trace_source.now) _ c.in_ok-trace.ensures.accepted (reads_told most_read (g.S.Source.remaining c.args.trace_source.now) (g.S.Source.remaining c.read_trace.new.source) _ _ _ c.in_ok-parsed.ensures.reading)
 
 pub returns-clause-silent : goal.returns-clause-silent
 returns-clause-silent g c =
-    let parsed = c.in_ok-parsed.parsed in
-    let known = g.S.Source.remaining c.args.trace_source.now in
-    let left = g.S.Source.remaining c.parse.new.source in
-    let before = g.S.Source.given_count c.args.trace_source.now in
-    let given = g.S.Source.given_count c.parse.new.source in
-    let reading : ReadsText most_read known left before given (λ text. IsReadingOf standard_limits text parsed.trace parsed.stop) = rw c.standard.ensures at c.in_ok-parsed.ensures.reading in
-    none_found parsed.trace parsed.stop c.in_ok-trace.trace.trace.now known _ c.in_ok-trace.ensures.accepted (reads_told most_read known left _ _ _ reading)
+    none_found c.in_ok-parsed.parsed.trace c.in_ok-parsed.parsed.stop c.in_ok-trace.trace.trace.now (g.S.Source.remaining c.args.trace_source.now) _ c.in_ok-trace.ensures.accepted (reads_told most_read (g.S.Source.remaining c.args.trace_source.now) (g.S.Source.remaining c.read_trace.new.source) _ _ _ c.in_ok-parsed.ensures.reading)
 
 pub returns-in_err-verdict-clause-unread : goal.returns-in_err-verdict-clause-unread
 returns-in_err-verdict-clause-unread g c =
-    let parsed = c.in_ok-parsed.parsed in
-    let known = g.S.Source.remaining c.args.trace_source.now in
-    let left = g.S.Source.remaining c.parse.new.source in
-    let before = g.S.Source.given_count c.args.trace_source.now in
-    let given = g.S.Source.given_count c.parse.new.source in
-    let reading : ReadsText most_read known left before given (λ text. IsReadingOf standard_limits text parsed.trace parsed.stop) = rw c.standard.ensures at c.in_ok-parsed.ensures.reading in
-    none_found parsed.trace parsed.stop c.in_ok-trace.trace.trace.now known _ c.in_ok-trace.ensures.accepted (reads_told most_read known left _ _ _ reading)
+    none_found c.in_ok-parsed.parsed.trace c.in_ok-parsed.parsed.stop c.in_ok-trace.trace.trace.now (g.S.Source.remaining c.args.trace_source.now) _ c.in_ok-trace.ensures.accepted (reads_told most_read (g.S.Source.remaining c.args.trace_source.now) (g.S.Source.remaining c.read_trace.new.source) _ _ _ c.in_ok-parsed.ensures.reading)
 
 pub returns-in_default-clause-unread : goal.returns-in_default-clause-unread
 returns-in_default-clause-unread g c =
-    let parsed = c.in_ok-parsed.parsed in
-    let known = g.S.Source.remaining c.args.trace_source.now in
-    let left = g.S.Source.remaining c.parse.new.source in
-    let before = g.S.Source.given_count c.args.trace_source.now in
-    let given = g.S.Source.given_count c.parse.new.source in
-    let reading : ReadsText most_read known left before given (λ text. IsReadingOf standard_limits text parsed.trace parsed.stop) = rw c.standard.ensures at c.in_ok-parsed.ensures.reading in
-    none_found parsed.trace parsed.stop c.in_ok-trace.trace.trace.now known _ c.in_ok-trace.ensures.accepted (reads_told most_read known left _ _ _ reading)
+    none_found c.in_ok-parsed.parsed.trace c.in_ok-parsed.parsed.stop c.in_ok-trace.trace.trace.now (g.S.Source.remaining c.args.trace_source.now) _ c.in_ok-trace.ensures.accepted (reads_told most_read (g.S.Source.remaining c.args.trace_source.now) (g.S.Source.remaining c.read_trace.new.source) _ _ _ c.in_ok-parsed.ensures.reading)
 
 pub returns-clause-unread : goal.returns-clause-unread
 returns-clause-unread g c =
-    let parsed = c.in_ok-parsed.parsed in
-    let known = g.S.Source.remaining c.args.trace_source.now in
-    let left = g.S.Source.remaining c.parse.new.source in
-    let before = g.S.Source.given_count c.args.trace_source.now in
-    let given = g.S.Source.given_count c.parse.new.source in
-    let reading : ReadsText most_read known left before given (λ text. IsReadingOf standard_limits text parsed.trace parsed.stop) = rw c.standard.ensures at c.in_ok-parsed.ensures.reading in
-    none_found parsed.trace parsed.stop c.in_ok-trace.trace.trace.now known _ c.in_ok-trace.ensures.accepted (reads_told most_read known left _ _ _ reading)
-
-pub returns-in_err-parsed-clause-trace_taken : goal.returns-in_err-parsed-clause-trace_taken
-returns-in_err-parsed-clause-trace_taken g c =
-    rw c.standard.ensures at c.in_err-parsed.ensures.taken
-
-pub returns-in_err-parsed-clause-trace_given : goal.returns-in_err-parsed-clause-trace_given
-returns-in_err-parsed-clause-trace_given g c =
-    rw c.standard.ensures at c.in_err-parsed.ensures.given
-
-pub returns-in_err-trace-clause-trace_taken : goal.returns-in_err-trace-clause-trace_taken
-returns-in_err-trace-clause-trace_taken g c =
-    rw c.standard.ensures at c.in_ok-parsed.ensures.taken
-
-pub returns-in_err-trace-clause-trace_given : goal.returns-in_err-trace-clause-trace_given
-returns-in_err-trace-clause-trace_given g c =
-    rw c.standard.ensures at c.in_ok-parsed.ensures.given
-
-pub returns-in_err-verdict-clause-trace_taken : goal.returns-in_err-verdict-clause-trace_taken
-returns-in_err-verdict-clause-trace_taken g c =
-    rw c.standard.ensures at c.in_ok-parsed.ensures.taken
-
-pub returns-in_err-verdict-clause-trace_given : goal.returns-in_err-verdict-clause-trace_given
-returns-in_err-verdict-clause-trace_given g c =
-    rw c.standard.ensures at c.in_ok-parsed.ensures.given
-
-pub returns-in_default-clause-trace_taken : goal.returns-in_default-clause-trace_taken
-returns-in_default-clause-trace_taken g c =
-    rw c.standard.ensures at c.in_ok-parsed.ensures.taken
-
-pub returns-in_default-clause-trace_given : goal.returns-in_default-clause-trace_given
-returns-in_default-clause-trace_given g c =
-    rw c.standard.ensures at c.in_ok-parsed.ensures.given
-
-pub returns-clause-trace_taken : goal.returns-clause-trace_taken
-returns-clause-trace_taken g c =
-    rw c.standard.ensures at c.in_ok-parsed.ensures.taken
-
-pub returns-clause-trace_given : goal.returns-clause-trace_given
-returns-clause-trace_given g c =
-    rw c.standard.ensures at c.in_ok-parsed.ensures.given
-
-pub returns-in_err-parsed-clause-report_taken : goal.returns-in_err-parsed-clause-report_taken
-returns-in_err-parsed-clause-report_taken g c =
-    Takes-none _ _
-
-pub returns-in_err-trace-clause-report_taken : goal.returns-in_err-trace-clause-report_taken
-returns-in_err-trace-clause-report_taken g c =
-    Takes-none _ _
+    none_found c.in_ok-parsed.parsed.trace c.in_ok-parsed.parsed.stop c.in_ok-trace.trace.trace.now (g.S.Source.remaining c.args.trace_source.now) _ c.in_ok-trace.ensures.accepted (reads_told most_read (g.S.Source.remaining c.args.trace_source.now) (g.S.Source.remaining c.read_trace.new.source) _ _ _ c.in_ok-parsed.ensures.reading)
 
 pub returns-in_err-parsed-clause-trace_left : goal.returns-in_err-parsed-clause-trace_left
 returns-in_err-parsed-clause-trace_left g c =
@@ -152,43 +54,19 @@ returns-in_err-parsed-clause-trace_left g c =
 
 pub returns-in_err-trace-clause-trace_left : goal.returns-in_err-trace-clause-trace_left
 returns-in_err-trace-clause-trace_left g c =
-    let parsed = c.in_ok-parsed.parsed in
-    let known = g.S.Source.remaining c.args.trace_source.now in
-    let left = g.S.Source.remaining c.parse.new.source in
-    let before = g.S.Source.given_count c.args.trace_source.now in
-    let given = g.S.Source.given_count c.parse.new.source in
-    let reading : ReadsText most_read known left before given (λ text. IsReadingOf standard_limits text parsed.trace parsed.stop) = rw c.standard.ensures at c.in_ok-parsed.ensures.reading in
-    judged _ _ (reads_left most_read known left _ _ _ reading)
+    judged _ _ (reads_left most_read (g.S.Source.remaining c.args.trace_source.now) (g.S.Source.remaining c.read_trace.new.source) _ _ _ c.in_ok-parsed.ensures.reading)
 
 pub returns-in_err-verdict-clause-trace_left : goal.returns-in_err-verdict-clause-trace_left
 returns-in_err-verdict-clause-trace_left g c =
-    let parsed = c.in_ok-parsed.parsed in
-    let known = g.S.Source.remaining c.args.trace_source.now in
-    let left = g.S.Source.remaining c.parse.new.source in
-    let before = g.S.Source.given_count c.args.trace_source.now in
-    let given = g.S.Source.given_count c.parse.new.source in
-    let reading : ReadsText most_read known left before given (λ text. IsReadingOf standard_limits text parsed.trace parsed.stop) = rw c.standard.ensures at c.in_ok-parsed.ensures.reading in
-    judged _ _ (reads_left most_read known left _ _ _ reading)
+    judged _ _ (reads_left most_read (g.S.Source.remaining c.args.trace_source.now) (g.S.Source.remaining c.read_trace.new.source) _ _ _ c.in_ok-parsed.ensures.reading)
 
 pub returns-in_default-clause-trace_left : goal.returns-in_default-clause-trace_left
 returns-in_default-clause-trace_left g c =
-    let parsed = c.in_ok-parsed.parsed in
-    let known = g.S.Source.remaining c.args.trace_source.now in
-    let left = g.S.Source.remaining c.parse.new.source in
-    let before = g.S.Source.given_count c.args.trace_source.now in
-    let given = g.S.Source.given_count c.parse.new.source in
-    let reading : ReadsText most_read known left before given (λ text. IsReadingOf standard_limits text parsed.trace parsed.stop) = rw c.standard.ensures at c.in_ok-parsed.ensures.reading in
-    reads_left most_read known left _ _ _ reading
+    reads_left most_read (g.S.Source.remaining c.args.trace_source.now) (g.S.Source.remaining c.read_trace.new.source) _ _ _ c.in_ok-parsed.ensures.reading
 
 pub returns-clause-trace_left : goal.returns-clause-trace_left
 returns-clause-trace_left g c =
-    let parsed = c.in_ok-parsed.parsed in
-    let known = g.S.Source.remaining c.args.trace_source.now in
-    let left = g.S.Source.remaining c.parse.new.source in
-    let before = g.S.Source.given_count c.args.trace_source.now in
-    let given = g.S.Source.given_count c.parse.new.source in
-    let reading : ReadsText most_read known left before given (λ text. IsReadingOf standard_limits text parsed.trace parsed.stop) = rw c.standard.ensures at c.in_ok-parsed.ensures.reading in
-    reads_left most_read known left _ _ _ reading
+    reads_left most_read (g.S.Source.remaining c.args.trace_source.now) (g.S.Source.remaining c.read_trace.new.source) _ _ _ c.in_ok-parsed.ensures.reading
 
 pub returns-in_default-clause-report_left : goal.returns-in_default-clause-report_left
 returns-in_default-clause-report_left g c =
@@ -214,14 +92,6 @@ pub returns-in_err-parsed-clause-unread_after : goal.returns-in_err-parsed-claus
 returns-in_err-parsed-clause-unread_after g c =
     of_any_trace c.from_residual.result _ refl
 
-pub returns-in_err-parsed-clause-unread_failed : goal.returns-in_err-parsed-clause-unread_failed
-returns-in_err-parsed-clause-unread_failed g c =
-    λ _. refl
-
-pub returns-in_err-parsed-clause-report_given : goal.returns-in_err-parsed-clause-report_given
-returns-in_err-parsed-clause-report_given g c =
-    given_none _ _
-
 pub returns-in_err-trace-clause-unwritten : goal.returns-in_err-trace-clause-unwritten
 returns-in_err-trace-clause-unwritten g c =
     of_no_trace c.from_residual-in_err-trace.result _ refl
@@ -237,14 +107,6 @@ returns-in_err-trace-clause-unread g c =
 pub returns-in_err-trace-clause-unread_after : goal.returns-in_err-trace-clause-unread_after
 returns-in_err-trace-clause-unread_after g c =
     of_any_trace c.from_residual-in_err-trace.result _ refl
-
-pub returns-in_err-trace-clause-unread_failed : goal.returns-in_err-trace-clause-unread_failed
-returns-in_err-trace-clause-unread_failed g c =
-    λ _. refl
-
-pub returns-in_err-trace-clause-report_given : goal.returns-in_err-trace-clause-report_given
-returns-in_err-trace-clause-report_given g c =
-    given_none _ _
 
 pub returns-in_err-trace-clause-sources : goal.returns-in_err-trace-clause-sources
 returns-in_err-trace-clause-sources g c =

@@ -1,7 +1,4 @@
 -- Each exit has its outcome.
-use Rattle.shb_lines.specs.text.Taking.{ReadsText}
-use Rattle.shb_lines.specs.text.TraceData.{IsReadingOf}
-use Rattle.shb_lines.specs.text.Limits.{most_read, standard_limits}
 use Rattle.shb_lines.specs.declared.read.Parsed.{Parsed}
 use Rattle.shb_run.proofs.Outcomes.{of_failed_sink, of_no_memory, of_refused, of_report, of_unread}
 use Rattle.shb_run.proofs.pipeline.run_task.Goals as goal
@@ -9,31 +6,27 @@ use Rattle.shb_run.proofs.pipeline.run_task.Goals as goal
 pub returns-in_err-parsed : goal.returns-in_err-parsed
 returns-in_err-parsed g c =
     let error = c.in_err-parsed.ensures in
-    of_unread c.args.task.choice c.args.task.settings.schedules g.S.Source.remaining g.S.Source.given_count g.S.Source.failure_count c.args.source.now c.parse.new.source
-    g.K.Sink.taken g.K.Sink.failure_count c.args.sink.now (rw c.standard.ensures at error.taken) (rw c.standard.ensures at error.given)
+    of_unread c.args.task.choice c.args.task.settings.schedules g.S.Source.remaining g.S.Source.given_count g.S.Source.failure_count c.args.source.now c.read_trace.new.source
+    g.K.Sink.taken g.K.Sink.failure_count c.args.sink.now error.taken error.given
     Parsed _ c.from_residual.result c.from_residual.ensures.1 error.counted
 
 pub returns-in_err-trace : goal.returns-in_err-trace
 returns-in_err-trace g c =
     let parsed = c.in_ok-parsed.parsed in
     let read = c.in_ok-parsed.ensures in
-    let reading : ReadsText most_read (g.S.Source.remaining c.args.source.now) (g.S.Source.remaining c.parse.new.source) (g.S.Source.given_count c.args.source.now) (g.S.Source.given_count c.parse.new.source)
-    (λ text. IsReadingOf standard_limits text parsed.trace parsed.stop) = rw c.standard.ensures at read.reading in
-    of_refused c.args.task.choice c.args.task.settings.schedules g.S.Source.remaining g.S.Source.given_count g.S.Source.failure_count c.args.source.now c.parse.new.source
-    g.K.Sink.taken g.K.Sink.failure_count c.args.sink.now (rw c.standard.ensures at read.taken) (rw c.standard.ensures at read.given)
-    parsed.trace parsed.stop reading read.counted
+    of_refused c.args.task.choice c.args.task.settings.schedules g.S.Source.remaining g.S.Source.given_count g.S.Source.failure_count c.args.source.now c.read_trace.new.source
+    g.K.Sink.taken g.K.Sink.failure_count c.args.sink.now read.taken read.given
+    parsed.trace parsed.stop read.reading read.counted
     _ c.from_residual-in_err-trace.result c.from_residual-in_err-trace.ensures.1 c.in_err-trace.ensures.refused
 
 pub returns-in-Ok : goal.returns-in-Ok
 returns-in-Ok g c =
     let parsed = c.in_ok-parsed.parsed in
     let read = c.in_ok-parsed.ensures in
-    let reading : ReadsText most_read (g.S.Source.remaining c.args.source.now) (g.S.Source.remaining c.parse.new.source) (g.S.Source.given_count c.args.source.now) (g.S.Source.given_count c.parse.new.source)
-    (λ text. IsReadingOf standard_limits text parsed.trace parsed.stop) = rw c.standard.ensures at read.reading in
     let trace = c.in_ok-trace.trace in
-    of_report c.args.task.choice c.args.task.settings.schedules g.S.Source.remaining g.S.Source.given_count g.S.Source.failure_count c.args.source.now c.parse.new.source
-    g.K.Sink.taken g.K.Sink.failure_count c.args.sink.now (rw c.standard.ensures at read.taken) (rw c.standard.ensures at read.given)
-    parsed.trace parsed.stop reading read.counted
+    of_report c.args.task.choice c.args.task.settings.schedules g.S.Source.remaining g.S.Source.given_count g.S.Source.failure_count c.args.source.now c.read_trace.new.source
+    g.K.Sink.taken g.K.Sink.failure_count c.args.sink.now read.taken read.given
+    parsed.trace parsed.stop read.reading read.counted
     trace.trace.now c.in_ok-trace.ensures.accepted c.report_asked.new.sink
     trace.events.now _ trace.meets trace.of_trace c.in-Ok.ensures.report c.in-Ok.ensures.fits c.in-Ok.ensures.counted
 
@@ -41,11 +34,9 @@ pub returns-in-Err-Sink : goal.returns-in-Err-Sink
 returns-in-Err-Sink g c =
     let parsed = c.in_ok-parsed.parsed in
     let read = c.in_ok-parsed.ensures in
-    let reading : ReadsText most_read (g.S.Source.remaining c.args.source.now) (g.S.Source.remaining c.parse.new.source) (g.S.Source.given_count c.args.source.now) (g.S.Source.given_count c.parse.new.source)
-    (λ text. IsReadingOf standard_limits text parsed.trace parsed.stop) = rw c.standard.ensures at read.reading in
-    of_failed_sink c.args.task.choice c.args.task.settings.schedules g.S.Source.remaining g.S.Source.given_count g.S.Source.failure_count c.args.source.now c.parse.new.source
-    g.K.Sink.taken g.K.Sink.failure_count c.args.sink.now (rw c.standard.ensures at read.taken) (rw c.standard.ensures at read.given)
-    parsed.trace parsed.stop reading read.counted
+    of_failed_sink c.args.task.choice c.args.task.settings.schedules g.S.Source.remaining g.S.Source.given_count g.S.Source.failure_count c.args.source.now c.read_trace.new.source
+    g.K.Sink.taken g.K.Sink.failure_count c.args.sink.now read.taken read.given
+    parsed.trace parsed.stop read.reading read.counted
     c.in_ok-trace.trace.trace.now c.in_ok-trace.ensures.accepted c.report_asked.new.sink
     (rw c.in-Err-Sink.field-0-is at c.in-Err-Sink.ensures.cut) (rw c.in-Err-Sink.field-0-is at c.in-Err-Sink.ensures.counted)
 
@@ -53,10 +44,8 @@ pub returns : goal.returns
 returns g c =
     let parsed = c.in_ok-parsed.parsed in
     let read = c.in_ok-parsed.ensures in
-    let reading : ReadsText most_read (g.S.Source.remaining c.args.source.now) (g.S.Source.remaining c.parse.new.source) (g.S.Source.given_count c.args.source.now) (g.S.Source.given_count c.parse.new.source)
-    (λ text. IsReadingOf standard_limits text parsed.trace parsed.stop) = rw c.standard.ensures at read.reading in
-    of_no_memory c.args.task.choice c.args.task.settings.schedules g.S.Source.remaining g.S.Source.given_count g.S.Source.failure_count c.args.source.now c.parse.new.source
-    g.K.Sink.taken g.K.Sink.failure_count c.args.sink.now (rw c.standard.ensures at read.taken) (rw c.standard.ensures at read.given)
-    parsed.trace parsed.stop reading read.counted
+    of_no_memory c.args.task.choice c.args.task.settings.schedules g.S.Source.remaining g.S.Source.given_count g.S.Source.failure_count c.args.source.now c.read_trace.new.source
+    g.K.Sink.taken g.K.Sink.failure_count c.args.sink.now read.taken read.given
+    parsed.trace parsed.stop read.reading read.counted
     c.in_ok-trace.trace.trace.now c.in_ok-trace.ensures.accepted c.report_asked.new.sink c.in-Err-Memory.refused
     (rw c.in-Err-Memory.field-0-is at c.in-Err-Memory.ensures.memory) (rw c.in-Err-Memory.field-0-is at c.in-Err-Memory.ensures.counted)
