@@ -1,6 +1,7 @@
 -- The reasons of an event by its operation, where no index before it has a reason.
-use Rattle.std.proofs.Common.{◌≡◌, ◌≢◌, ℕ, ◌<◌, ◌≤◌, ◌⊎◌, inl, inr, true, false, List, Option, Some, None, length, take, get_or, refl, sym, ◌∙◌, ap, arith, subst}
+use Rattle.std.proofs.Common.{◌≡◌, ◌≢◌, ℕ, ◌<◌, ◌≤◌, ◌⊎◌, inl, inr, Bool, true, false, List, Option, Some, None, length, take, get_or, refl, sym, ◌∙◌, ap, arith, subst}
 use Rattle.std.specs.Prelude.{slice_get, ◌==◌, ◌↔◌, IfSome}
+use Rattle.std.specs.Bool.{then_some}
 use Rattle.std.specs.Option.{option_eq}
 use Rattle.std.proofs.Math.Dec.{eqb}
 use Rattle.std.proofs.lemmas.List.{get_or_read}
@@ -19,7 +20,7 @@ use Rattle.shb_links.specs.Links.{Exactly}
 use Rattle.shb_replay.specs.declared.broken.Why.{Why}
 use Rattle.shb_replay.specs.declared.broken.Why.TheVariants as whys
 use Rattle.shb_replay.specs.Reasons.{number_of, StandsEarlier, IsLatestWrite, HasReason, IsUnbroken}
-use Rattle.shb_replay.specs.Walks.{AreLatestWrites, IsLowestIn, JoinStands, TellsLack}
+use Rattle.shb_replay.specs.Walks.{AreLatestWrites, IsLowestIn, JoinStands, Tells, TellsLack}
 use Rattle.shb_replay.proofs.Standing.{widen}
 use Rattle.shb_replay.proofs.Closed.{thread_stands, release_stands}
 use Rattle.shb_links.proofs.Balance.{HasHolder, IsPassing, balanced, disciplined_below, holder_after, some_counted}
@@ -157,35 +158,29 @@ module _ (trace : List Event) (disciplined : IsDisciplined trace) (s : List ℕ)
     other_operation no_join no_fork no_acquire no_read = none_of (no_five no_join no_fork) (no_six no_acquire) (no_seven no_read)
 
   module _ (x : ℕ) where
-    pub join_reason : (t : ℕ) (o : Option ℕ) → op_at trace x ≡ Some (Join t) → Latest (OfThread trace t) (length trace) o → TellsLack s p o true → IsLowestIn 5 8 (HasReason trace s p x) (Some whys.JoinEarly)
-    join_reason t (Some b) joins latest (a, is, absent) = first_five x (Join t) joins (inl (a, record { thread = t; joins = joins; of = (let same : b ≡ a = cc in subst (λ (k : ℕ). thread_at trace k ≡ Some t) same latest.holds); absent = absent }))
-    join_reason t None joins latest (a, is, absent) = absurd (let f : ⊥ = cc in f)
-
-    pub join_no_reason : (t : ℕ) (o : Option ℕ) → op_at trace x ≡ Some (Join t) → Latest (OfThread trace t) (length trace) o → TellsLack s p o false → IsLowestIn 5 8 (HasReason trace s p x) None
-    join_no_reason t o joins latest all = none_of x (Join t) joins five (no_six x (Join t) joins (λ l is. (let f : ⊥ = cc in f))) (no_seven x (Join t) joins (λ y is. (let f : ⊥ = cc in f)))
+    pub join_told : (t : ℕ) (o : Option ℕ) (b : Bool) → op_at trace x ≡ Some (Join t) → Latest (OfThread trace t) (length trace) o → TellsLack s p o b → IsLowestIn 5 8 (HasReason trace s p x) (then_some b whys.JoinEarly)
+    join_told t (Some b) true joins latest (a, is, absent) = first_five x (Join t) joins (inl (a, record { thread = t; joins = joins; of = (let same : b ≡ a = cc in subst (λ (k : ℕ). thread_at trace k ≡ Some t) same latest.holds); absent = absent }))
+    join_told t None true joins latest (a, is, absent) = absurd (let f : ⊥ = cc in f)
+    join_told t o false joins latest all = none_of x (Join t) joins five (no_six x (Join t) joins (λ l is. (let f : ⊥ = cc in f))) (no_seven x (Join t) joins (λ y is. (let f : ⊥ = cc in f)))
       where
         five : HasReason trace s p x whys.JoinEarly → ⊥
         five (inl (a, h)) = h.absent (thread_ended t o latest all a (h.of ∙ ap (λ (n : ℕ). Some n) (let same = is_op x (Join t) joins (Join h.thread) h.joins in let g : h.thread ≡ t = cc in g)))
         five (inr (j, h)) = let same = is_op x (Join t) joins (Fork h.thread) h.forks in (let f : ⊥ = cc in f)
 
-    pub fork_reason : (t : ℕ) → op_at trace x ≡ Some (Fork t) → JoinStands trace s p t → IsLowestIn 5 8 (HasReason trace s p x) (Some whys.JoinEarly)
-    fork_reason t forks h = first_five x (Fork t) forks (inr (h.event, record { thread = t; forks = forks; joins = h.joins; stands = h.stands }))
-
-    pub fork_no_reason : (t : ℕ) → op_at trace x ≡ Some (Fork t) → (JoinStands trace s p t → ⊥) → IsLowestIn 5 8 (HasReason trace s p x) None
-    fork_no_reason t forks none = none_of x (Fork t) forks five (no_six x (Fork t) forks (λ l is. (let f : ⊥ = cc in f))) (no_seven x (Fork t) forks (λ y is. (let f : ⊥ = cc in f)))
+    pub fork_told : (t : ℕ) (b : Bool) → op_at trace x ≡ Some (Fork t) → Tells b (JoinStands trace s p t) → IsLowestIn 5 8 (HasReason trace s p x) (then_some b whys.JoinEarly)
+    fork_told t true forks h = first_five x (Fork t) forks (inr (h.event, record { thread = t; forks = forks; joins = h.joins; stands = h.stands }))
+    fork_told t false forks none = none_of x (Fork t) forks five (no_six x (Fork t) forks (λ l is. (let f : ⊥ = cc in f))) (no_seven x (Fork t) forks (λ y is. (let f : ⊥ = cc in f)))
       where
         five : HasReason trace s p x whys.JoinEarly → ⊥
         five (inl (a, h)) = let same = is_op x (Fork t) forks (Join h.thread) h.joins in (let f : ⊥ = cc in f)
         five (inr (j, h)) = none (record { event = j; joins = (let same = is_op x (Fork t) forks (Fork h.thread) h.forks in let g : h.thread ≡ t = cc in subst (λ (u : ℕ). op_at trace j ≡ Some (Join u)) g h.joins); stands = h.stands })
 
-    pub lock_reason : (l : ℕ) (o : Option ℕ) → op_at trace x ≡ Some (Acquire l) → Latest (ReleasesLock trace l) x o → TellsLack s p o true → IsLowestIn 5 8 (HasReason trace s p x) (Some whys.LockOrder)
-    lock_reason l (Some b) takes latest (a, is, absent) =
+    pub lock_told : (l : ℕ) (o : Option ℕ) (b : Bool) → op_at trace x ≡ Some (Acquire l) → Latest (ReleasesLock trace l) x o → TellsLack s p o b → IsLowestIn 5 8 (HasReason trace s p x) (then_some b whys.LockOrder)
+    lock_told l (Some b) true takes latest (a, is, absent) =
         let same : b ≡ a = cc in
         first_six x (Acquire l) takes (b, record { lock = l; acquires = takes; releases = latest.holds; earlier = latest.earlier; absent = subst (λ (k : ℕ). ¬ StandsEarlier s p k) (sym same) absent }) (no_five x (Acquire l) takes (λ t h. (let f : ⊥ = cc in f)) (λ t h. (let f : ⊥ = cc in f)))
-    lock_reason l None takes latest (a, is, absent) = absurd (let f : ⊥ = cc in f)
-
-    pub lock_no_reason : (l : ℕ) (o : Option ℕ) → op_at trace x ≡ Some (Acquire l) → Latest (ReleasesLock trace l) x o → TellsLack s p o false → IsLowestIn 5 8 (HasReason trace s p x) None
-    lock_no_reason l o takes latest all = none_of x (Acquire l) takes (no_five x (Acquire l) takes (λ t h. (let f : ⊥ = cc in f)) (λ t h. (let f : ⊥ = cc in f))) six (no_seven x (Acquire l) takes (λ y is. (let f : ⊥ = cc in f)))
+    lock_told l None true takes latest (a, is, absent) = absurd (let f : ⊥ = cc in f)
+    lock_told l o false takes latest all = none_of x (Acquire l) takes (no_five x (Acquire l) takes (λ t h. (let f : ⊥ = cc in f)) (λ t h. (let f : ⊥ = cc in f))) six (no_seven x (Acquire l) takes (λ y is. (let f : ⊥ = cc in f)))
       where
         six : HasReason trace s p x whys.LockOrder → ⊥
         six (r, h) =

@@ -94,26 +94,11 @@ impl Walked {
         let e = list[at];
         match rules.linked.events.op(e) {
             Op::Join(thread) => {
-                if self.lacks(rules.linked.links.last_of(thread)) {
-                    Some(Why::JoinEarly)
-                } else {
-                    None
-                }
+                let lacks = self.lacks(rules.linked.links.last_of(thread));
+                lacks.then_some(Why::JoinEarly)
             }
-            Op::Fork(thread) => {
-                if self.joined[thread as usize] {
-                    Some(Why::JoinEarly)
-                } else {
-                    None
-                }
-            }
-            Op::Acquire(_) => {
-                if self.lacks(rules.origin(e)) {
-                    Some(Why::LockOrder)
-                } else {
-                    None
-                }
-            }
+            Op::Fork(thread) => self.joined[thread as usize].then_some(Why::JoinEarly),
+            Op::Acquire(_) => self.lacks(rules.origin(e)).then_some(Why::LockOrder),
             Op::Read(variable) => {
                 if self.writes[variable as usize] == rules.origin(e) {
                     None

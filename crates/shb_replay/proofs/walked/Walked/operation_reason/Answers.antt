@@ -1,4 +1,5 @@
-use Rattle.std.proofs.Common.{◌<◌, List, Some, None, length, arith, slice_index_or, ap, subst, ◌∙◌, Bool}
+use Rattle.std.proofs.Common.{◌<◌, List, Some, None, length, arith, slice_index_or, ap, subst, ◌∙◌}
+use Rattle.std.specs.Bool.{then_some}
 use Rattle.std.proofs.lemmas.Option.{slice_get-get_or, slice_get_read}
 use Rattle.shb_lines.specs.declared.event.Event.{Event}
 use Rattle.shb_lines.specs.declared.event.Op.TheVariants.{Read, Fork}
@@ -6,10 +7,10 @@ use Rattle.shb_lines.proofs.events.Items.{op_within_at}
 use Rattle.shb_links.specs.Latest.{Latest, OfThread}
 use Rattle.shb_links.proofs.Steps.{write_link}
 use Rattle.shb_replay.specs.Reasons.{HasReason}
-use Rattle.shb_replay.specs.Walks.{IsLowestIn, JoinStands, TellsLack}
+use Rattle.shb_replay.specs.Walks.{IsLowestIn}
 use Rattle.shb_replay.specs.declared.broken.Why.TheVariants as whys
-use Rattle.shb_replay.proofs.OrderReasons.{at_index, flag_false, flag_true}
-use Rattle.shb_replay.proofs.OperationReasons.{fork_no_reason, fork_reason, handover_in_trace, join_no_reason, join_reason, lock_no_reason, lock_reason, options_differ, options_same, other_operation, read_no_reason, read_reason, write_is}
+use Rattle.shb_replay.proofs.OrderReasons.{at_index}
+use Rattle.shb_replay.proofs.OperationReasons.{fork_told, handover_in_trace, join_told, lock_told, options_differ, options_same, other_operation, read_no_reason, read_reason, write_is}
 use Rattle.shb_replay.proofs.walked.Walked.operation_reason.Goals as goal
 
 pub index-requires : goal.index-requires
@@ -18,8 +19,8 @@ index-requires c =
     let low : c.in-Fork.thread < trace.sizes.threads = op_within_at trace.events.now trace.sizes _ (Fork c.in-Fork.thread) trace.within (c.op.ensures ∙ ap (λ o. Some o) c.in-Fork.is) in
     omega (arith, low, c.requires.walked.joined.as_long, c.args.self.now.joined.ok.0)
 
-pub lacks-requires-in-Acquire : goal.lacks-requires-in-Acquire
-lacks-requires-in-Acquire c =
+pub lacks-requires : goal.lacks-requires
+lacks-requires c =
     let trace = c.args.rules.now.linked in
     let x = slice_index_or c.args.list.now c.args.at 0 in
     let lt = c.requires.in_trace _ (slice_get-get_or c.args.list.now c.args.at 0 c.requires.at) in
@@ -37,83 +38,35 @@ index-requires-in-Read c =
     let len = c.args.self.now.writes.ok.0 in
     omega (arith, low, long, len)
 
-pub returns-then-lacks : goal.returns-then-lacks
-returns-then-lacks c =
+pub returns-in-Join : goal.returns-in-Join
+returns-in-Join c =
     let trace = c.args.rules.now.linked in
     let s = c.args.list.now in
     let p = c.args.at in
-    let x = slice_index_or s p 0 in
-    let lt = c.requires.in_trace _ (slice_get-get_or s p 0 c.requires.at) in
-    let joins = c.op.ensures ∙ ap (λ o. Some o) c.in-Join.is in
     let latest = subst (λ (tr : List Event). Latest (OfThread tr c.in-Join.thread) (length tr) c.last_of.result) trace.of_links c.last_of.ensures in
-    let lacks = subst (λ (b : Bool). TellsLack s p c.last_of.result b) c.if-lacks.true (c.lacks.ensures s p (length trace.events.now) c.requires.walked.stands) in
-    at_index (λ e. IsLowestIn 5 8 (HasReason trace.events.now s p e) (Some whys.JoinEarly)) s p (join_reason trace.events.now trace.meets s p c.requires.unbroken x c.in-Join.thread c.last_of.result joins latest lacks)
+    rw c.then_some.ensures (at_index (λ e. IsLowestIn 5 8 (HasReason trace.events.now s p e) (then_some c.lacks-lacks.result whys.JoinEarly)) s p
+    (join_told trace.events.now trace.meets s p c.requires.unbroken (slice_index_or s p 0) c.in-Join.thread c.last_of.result c.lacks-lacks.result (c.op.ensures ∙ ap (λ o. Some o) c.in-Join.is) latest (c.lacks-lacks.ensures s p (length trace.events.now) c.requires.walked.stands)))
 
-pub returns-else-lacks : goal.returns-else-lacks
-returns-else-lacks c =
-    let trace = c.args.rules.now.linked in
-    let s = c.args.list.now in
-    let p = c.args.at in
-    let x = slice_index_or s p 0 in
-    let lt = c.requires.in_trace _ (slice_get-get_or s p 0 c.requires.at) in
-    let joins = c.op.ensures ∙ ap (λ o. Some o) c.in-Join.is in
-    let latest = subst (λ (tr : List Event). Latest (OfThread tr c.in-Join.thread) (length tr) c.last_of.result) trace.of_links c.last_of.ensures in
-    let all = subst (λ (b : Bool). TellsLack s p c.last_of.result b) c.if-lacks.false (c.lacks.ensures s p (length trace.events.now) c.requires.walked.stands) in
-    at_index (λ e. IsLowestIn 5 8 (HasReason trace.events.now s p e) None) s p (join_no_reason trace.events.now trace.meets s p c.requires.unbroken x c.in-Join.thread c.last_of.result joins latest all)
-
-pub returns-then-index : goal.returns-then-index
-returns-then-index c =
+pub returns-in-Fork : goal.returns-in-Fork
+returns-in-Fork c =
     let trace = c.args.rules.now.linked in
     let joined = c.args.self.now.joined in
     let s = c.args.list.now in
     let p = c.args.at in
-    let x = slice_index_or s p 0 in
-    let lt = c.requires.in_trace _ (slice_get-get_or s p 0 c.requires.at) in
-    let forks = c.op.ensures ∙ ap (λ o. Some o) c.in-Fork.is in
     let within : c.in-Fork.thread < trace.sizes.threads = op_within_at trace.events.now trace.sizes _ (Fork c.in-Fork.thread) trace.within (c.op.ensures ∙ ap (λ o. Some o) c.in-Fork.is) in
     let long = c.requires.walked.joined.as_long in
     let flag = slice_get_read joined.items joined.len c.in-Fork.thread c.index.result.now joined.ok.0 (let len = joined.ok.0 in omega (arith, within, long, len)) c.index.ensures in
-    let stands = flag_true (JoinStands trace.events.now s p) trace.sizes.threads c.in-Fork.thread joined.items c.index.result.now c.requires.walked.joined flag c.if-index.true in
-    at_index (λ e. IsLowestIn 5 8 (HasReason trace.events.now s p e) (Some whys.JoinEarly)) s p (fork_reason trace.events.now trace.meets s p c.requires.unbroken x c.in-Fork.thread forks stands)
+    rw c.then_some-in-Fork.ensures (at_index (λ e. IsLowestIn 5 8 (HasReason trace.events.now s p e) (then_some c.index.result.now whys.JoinEarly)) s p
+    (fork_told trace.events.now trace.meets s p c.requires.unbroken (slice_index_or s p 0) c.in-Fork.thread c.index.result.now (c.op.ensures ∙ ap (λ o. Some o) c.in-Fork.is) (c.requires.walked.joined.each c.in-Fork.thread c.index.result.now flag)))
 
-pub returns-else-index : goal.returns-else-index
-returns-else-index c =
-    let trace = c.args.rules.now.linked in
-    let joined = c.args.self.now.joined in
-    let s = c.args.list.now in
-    let p = c.args.at in
-    let x = slice_index_or s p 0 in
-    let lt = c.requires.in_trace _ (slice_get-get_or s p 0 c.requires.at) in
-    let forks = c.op.ensures ∙ ap (λ o. Some o) c.in-Fork.is in
-    let within : c.in-Fork.thread < trace.sizes.threads = op_within_at trace.events.now trace.sizes _ (Fork c.in-Fork.thread) trace.within (c.op.ensures ∙ ap (λ o. Some o) c.in-Fork.is) in
-    let long = c.requires.walked.joined.as_long in
-    let flag = slice_get_read joined.items joined.len c.in-Fork.thread c.index.result.now joined.ok.0 (let len = joined.ok.0 in omega (arith, within, long, len)) c.index.ensures in
-    let none = flag_false (JoinStands trace.events.now s p) trace.sizes.threads c.in-Fork.thread joined.items c.index.result.now c.requires.walked.joined flag c.if-index.false in
-    at_index (λ e. IsLowestIn 5 8 (HasReason trace.events.now s p e) None) s p (fork_no_reason trace.events.now trace.meets s p c.requires.unbroken x c.in-Fork.thread forks none)
-
-pub returns-then-lacks-2 : goal.returns-then-lacks-2
-returns-then-lacks-2 c =
+pub returns-in-Acquire : goal.returns-in-Acquire
+returns-in-Acquire c =
     let trace = c.args.rules.now.linked in
     let s = c.args.list.now in
     let p = c.args.at in
-    let x = slice_index_or s p 0 in
-    let lt = c.requires.in_trace _ (slice_get-get_or s p 0 c.requires.at) in
     let takes = c.op.ensures ∙ ap (λ o. Some o) c.in-Acquire.is in
-    let latest = c.origin.ensures.releases c.in-Acquire.field-0 takes in
-    let lacks = subst (λ (b : Bool). TellsLack s p c.origin.result b) c.if-lacks-2.true (c.lacks-in-Acquire.ensures s p (length trace.events.now) c.requires.walked.stands) in
-    at_index (λ e. IsLowestIn 5 8 (HasReason trace.events.now s p e) (Some whys.LockOrder)) s p (lock_reason trace.events.now trace.meets s p c.requires.unbroken x c.in-Acquire.field-0 c.origin.result takes latest lacks)
-
-pub returns-else-lacks-2 : goal.returns-else-lacks-2
-returns-else-lacks-2 c =
-    let trace = c.args.rules.now.linked in
-    let s = c.args.list.now in
-    let p = c.args.at in
-    let x = slice_index_or s p 0 in
-    let lt = c.requires.in_trace _ (slice_get-get_or s p 0 c.requires.at) in
-    let takes = c.op.ensures ∙ ap (λ o. Some o) c.in-Acquire.is in
-    let latest = c.origin.ensures.releases c.in-Acquire.field-0 takes in
-    let all = subst (λ (b : Bool). TellsLack s p c.origin.result b) c.if-lacks-2.false (c.lacks-in-Acquire.ensures s p (length trace.events.now) c.requires.walked.stands) in
-    at_index (λ e. IsLowestIn 5 8 (HasReason trace.events.now s p e) None) s p (lock_no_reason trace.events.now trace.meets s p c.requires.unbroken x c.in-Acquire.field-0 c.origin.result takes latest all)
+    rw c.then_some-in-Acquire.ensures (at_index (λ e. IsLowestIn 5 8 (HasReason trace.events.now s p e) (then_some c.lacks.result whys.LockOrder)) s p
+    (lock_told trace.events.now trace.meets s p c.requires.unbroken (slice_index_or s p 0) c.in-Acquire.field-0 c.origin.result c.lacks.result takes (c.origin.ensures.releases c.in-Acquire.field-0 takes) (c.lacks.ensures s p (length trace.events.now) c.requires.walked.stands)))
 
 pub returns-then-eq : goal.returns-then-eq
 returns-then-eq c =
@@ -121,7 +74,6 @@ returns-then-eq c =
     let s = c.args.list.now in
     let p = c.args.at in
     let x = slice_index_or s p 0 in
-    let lt = c.requires.in_trace _ (slice_get-get_or s p 0 c.requires.at) in
     let reads = c.op.ensures ∙ ap (λ o. Some o) c.in-Read.is in
     let within : c.in-Read.variable < trace.sizes.variables = op_within_at trace.events.now trace.sizes _ (Read c.in-Read.variable) trace.within (c.op.ensures ∙ ap (λ o. Some o) c.in-Read.is) in
     let latest = write_is trace.events.now s p trace.sizes.variables c.in-Read.variable c.args.self.now.writes.items c.index-in-Read.result.now c.requires.walked.writes within c.index-in-Read.ensures in
@@ -134,7 +86,6 @@ returns-else-eq c =
     let s = c.args.list.now in
     let p = c.args.at in
     let x = slice_index_or s p 0 in
-    let lt = c.requires.in_trace _ (slice_get-get_or s p 0 c.requires.at) in
     let reads = c.op.ensures ∙ ap (λ o. Some o) c.in-Read.is in
     let within : c.in-Read.variable < trace.sizes.variables = op_within_at trace.events.now trace.sizes _ (Read c.in-Read.variable) trace.within (c.op.ensures ∙ ap (λ o. Some o) c.in-Read.is) in
     let latest = write_is trace.events.now s p trace.sizes.variables c.in-Read.variable c.args.self.now.writes.items c.index-in-Read.result.now c.requires.walked.writes within c.index-in-Read.ensures in
@@ -147,5 +98,4 @@ returns-in_default c =
     let s = c.args.list.now in
     let p = c.args.at in
     let x = slice_index_or s p 0 in
-    let lt = c.requires.in_trace _ (slice_get-get_or s p 0 c.requires.at) in
     at_index (λ e. IsLowestIn 5 8 (HasReason trace.events.now s p e) None) s p (other_operation trace.events.now trace.meets s p c.requires.unbroken x _ c.op.ensures c.in_default.not-Join c.in_default.not-Fork c.in_default.not-Acquire c.in_default.not-Read)
