@@ -12,7 +12,7 @@ use shb_links::Links;
 
 /// Whether an event is SHB-below the predecessor of a later one, or is it: whether its local time in its
 /// thread is at most the number of events of that thread that the order answers.
-pub(crate) fn is_below_pred<O: Order>(ordered: &Ordered<'_, O>, first: u32, second: u32) -> bool
+fn is_below_pred<O: Order>(ordered: &Ordered<'_, O>, first: u32, second: u32) -> bool
     requires first { first < length ordered.now.disciplined.now.events.now }
     requires second { second < length ordered.now.disciplined.now.events.now }
     requires asked { O.asks ordered.now.order.now second ≡ true }
@@ -20,19 +20,6 @@ pub(crate) fn is_below_pred<O: Order>(ordered: &Ordered<'_, O>, first: u32, seco
 {
     let thread = ordered.disciplined.events.thread(first);
     ordered.links.local(first) <= ordered.order.below_pred(second, thread)
-}
-
-/// Whether two events are a race, as [`is_race`] tells it.
-pub(crate) fn is_race_by<O: Order>(ordered: &Ordered<'_, O>, first: u32, second: u32) -> bool
-    requires earlier { first < second }
-    requires in_range { second < length ordered.now.disciplined.now.events.now }
-    requires asked { O.asks ordered.now.order.now second ≡ true }
-    ensures race { IsTrue result ↔ Race ordered.now.disciplined.now.events.now first second }
-    ensures below { ¬ IsTrue result → Conflict ordered.now.disciplined.now.events.now first second
-        → BelowPred ordered.now.disciplined.now.events.now first second }
-{
-    let conflicting = events_conflict_at(ordered.disciplined.events, first, second);
-    conflicting && !is_below_pred(ordered, first, second)
 }
 
 /// Whether two events are a race: they conflict, and the earlier one is not SHB-below the
@@ -67,5 +54,6 @@ pub fn is_race<O: Order>(
         disciplined: &*trace,
         links: &*links,
     };
-    is_race_by(&ordered, first, second)
+    let conflicting = events_conflict_at(trace.events, first, second);
+    conflicting && !is_below_pred(&ordered, first, second)
 }
