@@ -1,6 +1,7 @@
 /* Preloaded into the program: refuses the request for memory of number REFUSE_MEMORY, counted from 1, and with
    REFUSE_THREADS every thread from that number on; with WATCH_READS it refuses each read after the end of a file.
-   Makes the file REFUSED where it refused something. */
+   Makes the file REFUSED where it refused something. Each thread but the first is held at its hundredth request for as
+   long as there is a file HELD. */
 #define _GNU_SOURCE
 #include <dlfcn.h>
 #include <errno.h>
@@ -24,7 +25,15 @@ static void note(void) {
     if (file >= 0) close(file);
 }
 
+static void hold(void) {
+    static _Thread_local long requests_here __attribute__((tls_model("initial-exec")));
+    const char *held = getenv("HELD");
+    if (!held || gettid() == getpid() || ++requests_here != 100) return;
+    while (access(held, F_OK) == 0) usleep(1000);
+}
+
 static int is_refused(void) {
+    hold();
     if (__atomic_add_fetch(&requests, 1, __ATOMIC_SEQ_CST) != setting("REFUSE_MEMORY")) return 0;
     note();
     errno = ENOMEM;

@@ -9,6 +9,7 @@ import subprocess
 
 import program
 import shb
+import test_large
 import test_long_lists
 
 MOST_EVENTS = 4_194_304
@@ -192,6 +193,58 @@ def locks_with_clocks(threads, locks):
     return b"".join(held % (t, k, t, k) for t, k in turns) + b"T0|w(z)\nT1|w(z)\n"
 
 
+def beginnings(threads):
+    return b"".join(b"T%d|begin(t)\n" % t for t in range(threads))
+
+
+def reads_after_a_race(threads, reads):
+    """Two threads write a variable, and then a third one reads it so often. All that it learns is the second write."""
+    return beginnings(threads) + b"T0|w(x)|a\nT1|w(x)|b\n" + b"T2|r(x)|c\n" * reads
+
+
+def report_of_reads(threads, reads):
+    """The first write races with all else, and the second with the first read alone."""
+    first, second, read = threads + 1, threads + 2, threads + 3
+    yield head(threads + 2 + reads, threads, 0, 1, reads + 2)
+    yield b"places 3\nplace 1: 1\nat a\nand b\nplace 2: %d\nat a\nand c\nplace 3: 1\nat b\nand c\n" % reads
+    yield b"race 1: %d %d\nfirst T0|w(x)|a\nsecond T1|w(x)|b\n" % (first, second)
+    yield b"race 2: %d %d\nfirst T0|w(x)|a\nsecond T2|r(x)|c\n" % (first, read)
+    yield b"race 3: %d %d\nfirst T1|w(x)|b\nsecond T2|r(x)|c\n" % (second, read)
+    block = b"race %d: %d %d\nfirst T0|w(x)|a\nsecond T2|r(x)|c\n"
+    yield from filled(block, range(4, reads + 3), itertools.repeat(first), itertools.count(read + 1))
+    yield b"end\n"
+
+
+def reads_of_writes(readers, rounds):
+    """Each round a thread takes a lock of each other one, and writes a variable. Then each other thread reads it, and takes its
+    own lock. So each read races with the write that it saw, and with no other."""
+    theirs = b"".join(b"W|acq(l%d)\nW|rel(l%d)\n" % (t, t) for t in range(readers))
+    read = b"T%d|r(x)|r\nT%d|acq(l%d)\nT%d|rel(l%d)\n"
+    return (theirs + b"W|w(x)|w\n" + b"".join(read % ((t,) * 5) for t in range(readers))) * rounds
+
+
+def report_of_writes(readers, rounds):
+    events, races = 5 * readers + 1, readers * rounds
+    yield head(events * rounds, readers + 1, readers, 1, races)
+    yield b"places 1\nplace 1: %d\nat w\nand r\n" % races
+    for k in range(races):
+        r, t = divmod(k, readers)
+        write = events * r + 2 * readers + 1
+        yield b"race %d: %d %d\nfirst W|w(x)|w\nsecond T%d|r(x)|r\n" % (k + 1, write, write + 3 * t + 1, t)
+    yield b"end\n"
+
+
+def reads_before_writes(readers, turns, rounds):
+    """Each round a thread takes a lock of each other one, and writes a variable under a lock. Then the others take that lock,
+    read the variable by turns, and take their own locks. So the reads of a round aren't ordered, and nothing races."""
+    each = range(readers)
+    theirs = b"".join(b"W|acq(l%d)\nW|rel(l%d)\n" % (t, t) for t in each)
+    before = b"".join(b"T%d|acq(g)\nT%d|rel(g)\n" % (t, t) for t in each)
+    reads = b"".join(b"T%d|r(x)\n" % t for t in each)
+    own = b"".join(b"T%d|acq(l%d)\nT%d|rel(l%d)\n" % (t, t, t, t) for t in each)
+    return (theirs + b"W|acq(g)\nW|w(x)\nW|rel(g)\n" + before + reads * turns + own) * rounds
+
+
 def report_of_locks(threads, locks):
     events = 4 * locks + 2
     block = b"race 1: %d %d\nfirst T0|w(z)\nsecond T1|w(z)\n" % (events - 1, events)
@@ -213,6 +266,9 @@ class SmallSizes(program.Case):
         self.expect_report(SquareOfPlaces(3, 4).trace(), SquareOfPlaces(3, 4).report(), leading=True)
         self.expect_report(locks_with_clocks(4, 6), [report_of_locks(4, 6)])
         self.expect_report(LongSchedules(4, 6).trace(), LongSchedules(4, 6).report(), with_schedules=True)
+        self.expect_report(reads_before_writes(4, 2, 3), [without_races(3 * (8 * 4 + 3), 5, 5, 1)])
+        self.expect_report(reads_after_a_race(4, 5), report_of_reads(4, 5))
+        self.expect_report(reads_of_writes(3, 4), report_of_writes(3, 4))
         for threads, times in ((5, 1), (2, 2), (4, 2)):
             self.expect_report(Writes(threads, times).trace(), Writes(threads, times).report(False))
             self.expect_report(Writes(threads, times).trace(), Writes(threads, times).report(True), with_schedules=True)
@@ -280,6 +336,14 @@ class Sizes(program.Case):
         trace = made.trace(b"T|join(U)\n")
         self.expect(program.run(["races"], trace), 0, without_races(trace.count(b"\n"), 2, 0, 1))
 
+    def test_that_reads_are_kept(self):
+        """More than 10,000 of one variable at once, and a million in all. Without them the variable is open, and each thread has
+        a clock of 4 KiB for it in each round: they don't fit."""
+        readers, turns, rounds, room = MOST_THREADS - 1, 10, 100, 96 * 2**20
+        self.assertGreater(4 * MOST_THREADS * readers * rounds, 4 * room)
+        trace = reads_before_writes(readers, turns, rounds)
+        self.expect_within(room, trace, [without_races(trace.count(b"\n"), MOST_THREADS, MOST_THREADS, 1)])
+
     def test_two_million_places(self):
         """With a table of places that grows no further than 65,536 it would take some ten minutes."""
         made = SquareOfPlaces(OTHER_VARIABLES, 1_450)
@@ -297,6 +361,19 @@ class Sizes(program.Case):
         locks = 66_000
         trace = locks_with_clocks(MOST_THREADS, locks)
         self.expect(program.run(["races", "--list"], trace), 0, report_of_locks(MOST_THREADS, locks))
+
+    def expect_within(self, room, trace, parts):
+        """The list of a trace, in so much memory beside its text."""
+        answer = program.run(["races", "--list"], trace, **test_large.within(len(trace) + room))
+        self.expect(answer, 0, b"".join(parts))
+
+    def test_that_clocks_are_shared(self):
+        """A clock of 1,024 threads has 4 KiB: one for each read doesn't fit. The reads of a thread that learns nothing share
+        one, and so do threads that read one write."""
+        room, reads, readers, rounds = 96 * 2**20, 100_000, MOST_THREADS - 1, 100
+        self.assertGreater(4 * MOST_THREADS * reads, 4 * room)
+        self.expect_within(room, reads_after_a_race(MOST_THREADS, reads), report_of_reads(MOST_THREADS, reads))
+        self.expect_within(room, reads_of_writes(readers, rounds), report_of_writes(readers, rounds))
 
     def test_races_that_are_kept_with_schedules(self):
         """100 threads have 4,950 races, and with as many marks after these there are no more races than events."""
