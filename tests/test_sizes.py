@@ -234,17 +234,6 @@ def report_of_writes(readers, rounds):
     yield b"end\n"
 
 
-def reads_before_writes(readers, turns, rounds):
-    """Each round a thread takes a lock of each other one, and writes a variable under a lock. Then the others take that lock,
-    read the variable by turns, and take their own locks. So the reads of a round aren't ordered, and nothing races."""
-    each = range(readers)
-    theirs = b"".join(b"W|acq(l%d)\nW|rel(l%d)\n" % (t, t) for t in each)
-    before = b"".join(b"T%d|acq(g)\nT%d|rel(g)\n" % (t, t) for t in each)
-    reads = b"".join(b"T%d|r(x)\n" % t for t in each)
-    own = b"".join(b"T%d|acq(l%d)\nT%d|rel(l%d)\n" % (t, t, t, t) for t in each)
-    return (theirs + b"W|acq(g)\nW|w(x)\nW|rel(g)\n" + before + reads * turns + own) * rounds
-
-
 def report_of_locks(threads, locks):
     events = 4 * locks + 2
     block = b"race 1: %d %d\nfirst T0|w(z)\nsecond T1|w(z)\n" % (events - 1, events)
@@ -266,7 +255,6 @@ class SmallSizes(program.Case):
         self.expect_report(SquareOfPlaces(3, 4).trace(), SquareOfPlaces(3, 4).report(), leading=True)
         self.expect_report(locks_with_clocks(4, 6), [report_of_locks(4, 6)])
         self.expect_report(LongSchedules(4, 6).trace(), LongSchedules(4, 6).report(), with_schedules=True)
-        self.expect_report(reads_before_writes(4, 2, 3), [without_races(3 * (8 * 4 + 3), 5, 5, 1)])
         self.expect_report(reads_after_a_race(4, 5), report_of_reads(4, 5))
         self.expect_report(reads_of_writes(3, 4), report_of_writes(3, 4))
         for threads, times in ((5, 1), (2, 2), (4, 2)):
@@ -328,21 +316,12 @@ class Sizes(program.Case):
             text = b"T|w(x)|".ljust(length, b"a") + b"\n" + b"U|w(x)|".ljust(length, b"b") + b"\n"
             self.expect(program.run(["races"], text), 0, shb.report(text, True))
 
-    def test_more_reads_than_are_kept(self):
-        """While it is found out which variables are open, at most 2^20 reads of all variables together are kept. After a join
-        of the other thread the write has no race."""
+    def test_many_reads_by_turns(self):
+        """None of them is ordered after the one before. After a join of the other thread the write has no race."""
         made = ReadsByTurns(600_000)
         self.assertEqual(self.digest_of(["races", "--list", self.file(made.trace())]), digest(made.report()))
         trace = made.trace(b"T|join(U)\n")
         self.expect(program.run(["races"], trace), 0, without_races(trace.count(b"\n"), 2, 0, 1))
-
-    def test_that_reads_are_kept(self):
-        """More than 10,000 of one variable at once, and a million in all. Without them the variable is open, and each thread has
-        a clock of 4 KiB for it in each round: they don't fit."""
-        readers, turns, rounds, room = MOST_THREADS - 1, 10, 100, 96 * 2**20
-        self.assertGreater(4 * MOST_THREADS * readers * rounds, 4 * room)
-        trace = reads_before_writes(readers, turns, rounds)
-        self.expect_within(room, trace, [without_races(trace.count(b"\n"), MOST_THREADS, MOST_THREADS, 1)])
 
     def test_two_million_places(self):
         """With a table of places that grows no further than 65,536 it would take some ten minutes."""

@@ -3,8 +3,8 @@
 //!
 //! [`open_variables`] goes over the trace once, with a sweep, and finds variables that can't race
 //! ("settled"): before each access the last write is SHB-below its predecessor and, before a write,
-//! so are the reads since, which the newest tells where each has the one before it below. The others
-//! are open. [`accesses_of_open`] collects their
+//! so is the newest read since, and before that the read before it. The others are open.
+//! [`accesses_of_open`] collects their
 //! accesses in one pass and sorts them by counting, in trace order and by thread; [`pieces`] cuts
 //! each list into pieces of at most 64; [`RangeJob`] is the job over them, whose piece has the races
 //! with the later access among its accesses, as [`RaceRanges`]: for each later access a range of the accesses

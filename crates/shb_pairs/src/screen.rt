@@ -1,13 +1,11 @@
 //! The variables that may have a race, by one pass over a trace.
 
-ghost use Rattle.std.specs.Prelude.{◌≡◌, ◌≢◌, ◌==◌, ℕ, ◌+◌, ◌<◌, true, Some, IfOk, IsTrue, OnOk, length, map};
+ghost use Rattle.std.specs.Prelude.{◌≡◌, ◌≢◌, ◌==◌, ℕ, ◌+◌, ◌<◌, true, Some, IfOk, IsTrue, length, map};
 ghost use Rattle.shb_lines.specs.declared.event.Op.TheVariants.{Write};
 ghost use Rattle.shb_lines.specs.events.Events.{op_at};
 ghost use Rattle.shb_lines.specs.events.Race.{variable_at};
 ghost use Rattle.shb_pairs.specs.Open.{AreOpen};
-ghost use Rattle.shb_pairs.specs.Screen.{AreScreened, IsMarkOf, IsOf, IsPast, IsScreened, no_time};
-ghost use Rattle.shb_pairs.specs.declared.screen.Mark.{Mark};
-ghost use Rattle.shb_pairs.specs.declared.screen.KeptRead.{KeptRead};
+ghost use Rattle.shb_pairs.specs.Screen.{AreScreened, IsMarkOf, IsPast, IsScreened, no_time};
 
 use shb_clocks::{Order, Ordered, Sweep};
 use shb_discipline::Disciplined;
@@ -18,12 +16,6 @@ use std::alloc::Global;
 /// The local time of an event that isn't known any more, above that of each event.
 const NO_TIME: u32 = u32::MAX;
 
-/// The number of no read, above that of each.
-const NO_READ: u32 = u32::MAX;
-
-/// At most so many reads are kept: 12 MiB.
-const MOST_READS: usize = 1 << 20;
-
 /// An event by its local time, from 1, and its thread; or nothing, or an event that isn't
 /// known any more.
 #[derive(Clone, Copy)]
@@ -32,21 +24,12 @@ struct Mark {
     thread: u32,
 }
 
-/// A read of a variable, and the number of a read before it, since the same write, that isn't ordered
-/// before it; or `NO_READ`.
-#[derive(Clone, Copy)]
-struct KeptRead {
-    mark: Mark,
-    before: u32,
-}
-
-/// What is kept of a variable: its last write, and the newest read since, from which the numbers lead
-/// to the other reads that no later read is ordered after. Where the write is unordered, the variable
-/// is open; where the read is, not all reads since the write were kept.
+/// What is kept of a variable: its last write, and the newest read since, which all reads before it since the
+/// write are ordered before. Where the write is unordered, the variable is open; where the read is, they aren't.
 #[derive(Clone, Copy)]
 struct Latest {
     write: Mark,
-    read: KeptRead,
+    read: Mark,
 }
 
 /// The mark of nothing, after which each event is.
@@ -63,14 +46,6 @@ fn unordered() -> Mark
     Mark {
         time: NO_TIME,
         thread: 0,
-    }
-}
-
-/// No read.
-fn no_read() -> KeptRead {
-    KeptRead {
-        mark: nothing(),
-        before: NO_READ,
     }
 }
 
@@ -107,87 +82,43 @@ fn opened() -> Latest
 {
     Latest {
         write: unordered(),
-        read: no_read(),
+        read: nothing(),
     }
-}
-
-/// Whether a read, and all reads that its numbers lead to, are SHB-below the predecessor of an event.
-fn are_past<O: Order>(
-    ordered: &Ordered<'_, O>,
-    reads: &[KeptRead],
-    newest: KeptRead,
-    e: u32,
-) -> bool
-    requires in_range { e < length ordered.now.disciplined.now.events.now }
-    requires asked { O.asks ordered.now.order.now e ≡ true }
-    ensures { IsTrue result → (mark : Mark) → IsOf reads.now mark newest → IsPast ordered.now.disciplined.now.events.now mark e }
-{
-    let mut read = newest;
-    for _ in 0..reads.len() + 1 {
-        if !is_past(ordered, read.mark, e) {
-            return false;
-        }
-        let Some(before) = reads.get(read.before as usize) else {
-            return true;
-        };
-        read = *before;
-    }
-    false
 }
 
 /// What is kept of a variable after a read of it that is ordered after its last write.
-fn after_read<O: Order>(
-    ordered: &Ordered<'_, O>,
-    reads: &mut Vec<KeptRead>,
-    latest: Latest,
-    e: u32,
-) -> Result<Latest, NoMemory>
+fn after_read<O: Order>(ordered: &Ordered<'_, O>, latest: Latest, e: u32) -> Latest
     requires in_range { e < length ordered.now.disciplined.now.events.now }
     requires asked { O.asks ordered.now.order.now e ≡ true }
-    ensures kept { (mark : Mark) (read : KeptRead) → IsOf reads.old.items mark read → OnOk result (IsOf reads.new.items mark read) }
-    ensures screened { (x : ℕ) → variable_at ordered.now.disciplined.now.events.now e ≡ Some x
+    ensures { (x : ℕ) → variable_at ordered.now.disciplined.now.events.now e ≡ Some x
         → op_at ordered.now.disciplined.now.events.now e ≢ Some (Write x)
         → IsPast ordered.now.disciplined.now.events.now latest.write e
-        → IsScreened ordered.now.disciplined.now.events.now reads.old.items e x latest
-        → IfOk result (λ next. IsScreened ordered.now.disciplined.now.events.now reads.new.items (e + 1) x next) }
+        → IsScreened ordered.now.disciplined.now.events.now e x latest
+        → IsScreened ordered.now.disciplined.now.events.now (e + 1) x result }
 {
-    let Latest { write, read } = latest;
-    let mark = mark_of(ordered, e);
-    if is_past(ordered, read.mark, e) {
-        let before = read.before;
-        let read = KeptRead { mark, before };
-        return Ok(Latest { write, read });
+    let write = latest.write;
+    if is_past(ordered, latest.read, e) {
+        let read = mark_of(ordered, e);
+        Latest { write, read }
+    } else {
+        let read = unordered();
+        Latest { write, read }
     }
-    if reads.len() >= MOST_READS {
-        let mark = unordered();
-        let before = NO_READ;
-        let read = KeptRead { mark, before };
-        return Ok(Latest { write, read });
-    }
-    let before = reads.len() as u32;
-    reads.push(read)?;
-    let read = KeptRead { mark, before };
-    Ok(Latest { write, read })
 }
 
 /// What is kept of a variable after a write of it that is ordered after its last write.
-fn after_write<O: Order>(
-    ordered: &Ordered<'_, O>,
-    reads: &[KeptRead],
-    latest: Latest,
-    e: u32,
-) -> Latest
+fn after_write<O: Order>(ordered: &Ordered<'_, O>, latest: Latest, e: u32) -> Latest
     requires in_range { e < length ordered.now.disciplined.now.events.now }
     requires asked { O.asks ordered.now.order.now e ≡ true }
     ensures { (x : ℕ) → variable_at ordered.now.disciplined.now.events.now e ≡ Some x
         → IsPast ordered.now.disciplined.now.events.now latest.write e
-        → IsScreened ordered.now.disciplined.now.events.now reads.now e x latest
-        → IsScreened ordered.now.disciplined.now.events.now reads.now (e + 1) x result }
+        → IsScreened ordered.now.disciplined.now.events.now e x latest
+        → IsScreened ordered.now.disciplined.now.events.now (e + 1) x result }
 {
-    if are_past(ordered, reads, latest.read, e) {
+    if is_past(ordered, latest.read, e) {
         Latest {
             write: mark_of(ordered, e),
-            read: no_read(),
+            read: nothing(),
         }
     } else {
         opened()
@@ -195,49 +126,37 @@ fn after_write<O: Order>(
 }
 
 /// What is kept of a variable after an access of it.
-fn after_access<O: Order>(
-    ordered: &Ordered<'_, O>,
-    reads: &mut Vec<KeptRead>,
-    latest: Latest,
-    e: u32,
-) -> Result<Latest, NoMemory>
+fn after_access<O: Order>(ordered: &Ordered<'_, O>, latest: Latest, e: u32) -> Latest
     requires in_range { e < length ordered.now.disciplined.now.events.now }
     requires asked { O.asks ordered.now.order.now e ≡ true }
-    ensures kept { (mark : Mark) (read : KeptRead) → IsOf reads.old.items mark read → OnOk result (IsOf reads.new.items mark read) }
-    ensures screened { (x : ℕ) → variable_at ordered.now.disciplined.now.events.now e ≡ Some x
-        → IsScreened ordered.now.disciplined.now.events.now reads.old.items e x latest
-        → IfOk result (λ next. IsScreened ordered.now.disciplined.now.events.now reads.new.items (e + 1) x next) }
+    ensures { (x : ℕ) → variable_at ordered.now.disciplined.now.events.now e ≡ Some x
+        → IsScreened ordered.now.disciplined.now.events.now e x latest
+        → IsScreened ordered.now.disciplined.now.events.now (e + 1) x result }
 {
     if !is_past(ordered, latest.write, e) {
-        Ok(opened())
+        opened()
     } else if ordered.disciplined.events.op(e).is_write() {
-        Ok(after_write(ordered, reads.as_slice(), latest, e))
+        after_write(ordered, latest, e)
     } else {
-        after_read(ordered, reads, latest, e)
+        after_read(ordered, latest, e)
     }
 }
 
 /// Takes the event at e into what is kept of its variable, if it accesses a shared one.
-fn screen<O: Order>(
-    ordered: &Ordered<'_, O>,
-    reads: &mut Vec<KeptRead>,
-    table: &mut Vec<Latest>,
-    e: u32,
-) -> Result<(), NoMemory>
+fn screen<O: Order>(ordered: &Ordered<'_, O>, table: &mut Vec<Latest>, e: u32)
     requires in_range { e < length ordered.now.disciplined.now.events.now }
     requires asked { O.asks ordered.now.order.now e ≡ true }
-    requires screened { AreScreened ordered.now.disciplined.now.events.now reads.old.items e
+    requires screened { AreScreened ordered.now.disciplined.now.events.now e
         ordered.now.disciplined.now.sizes.variables table.old.items }
-    ensures { OnOk result (AreScreened ordered.now.disciplined.now.events.now reads.new.items (e + 1)
-        ordered.now.disciplined.now.sizes.variables table.new.items) }
+    ensures { AreScreened ordered.now.disciplined.now.events.now (e + 1)
+        ordered.now.disciplined.now.sizes.variables table.new.items }
 {
     if let Some(x) = ordered.disciplined.events.op(e).variable() {
         if ordered.links.is_shared(x) {
             let latest = table[x as usize];
-            table[x as usize] = after_access(ordered, reads, latest, e)?;
+            table[x as usize] = after_access(ordered, latest, e);
         }
     }
-    Ok(())
 }
 
 /// Which variables are open, by what is kept of each.
@@ -253,13 +172,12 @@ fn flags_of(alloc: Global, table: &[Latest]) -> Result<Vec<bool>, NoMemory>
 
 /// Which variables may have a race, a flag for each: where it is false, no pair of accesses of the
 /// variable is a race. One pass over the trace with a [`Sweep`], which is asked twice for each access of
-/// a shared variable and once more for each read that isn't ordered after the read before it. Beside what
-/// the sweep keeps, 20 bytes a variable and 12 such a read.
+/// a shared variable. Beside what the sweep keeps, 16 bytes a variable.
 ///
 /// A variable is settled where one thread alone accesses it, or where, of each access, the last write
-/// before it is SHB-below its predecessor and, where the access writes, so are the reads since that write.
-/// A flag may be true though no pair races: where there are more than 1,048,576 reads that aren't ordered
-/// after the one before.
+/// before it is SHB-below its predecessor and, where the access writes, so is the newest read since that
+/// write, which those before it are ordered before. A flag may be true though no pair races: where reads
+/// between two writes aren't ordered.
 ///
 /// # Errors
 ///
@@ -274,14 +192,13 @@ pub fn open_variables(
 {
     let none = Latest {
         write: nothing(),
-        read: no_read(),
+        read: nothing(),
     };
-    let mut reads = Vec::new(alloc);
     let mut table = vec![in alloc; none; trace.sizes.variables as usize]?;
     let mut sweep = Sweep::new(alloc, Linked::new(&*trace, &*links))?;
     for e in 0..trace.events.len() as u32 {
         let ordered = Ordered::new(&sweep, &*trace, &*links);
-        screen(&ordered, &mut reads, &mut table, e)?;
+        screen(&ordered, &mut table, e);
         sweep.pass(alloc)?;
     }
     flags_of(alloc, table.as_slice())

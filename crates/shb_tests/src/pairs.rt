@@ -81,10 +81,10 @@ const OPEN: [(&[u8], &[bool]); 11] = [
         b"T1|w(x)\nT1|fork(T2)\nT2|r(x)\nT1|join(T2)\nT1|w(x)\n",
         &[false],
     ),
-    // The two reads aren't ordered.
+    // The two reads aren't ordered: nothing races, and the variable is open all the same.
     (
         b"T1|w(x)\nT1|fork(T2)\nT2|r(x)\nT1|r(x)\nT1|join(T2)\nT1|w(x)\n",
-        &[false],
+        &[true],
     ),
     // The write is after the newest read alone.
     (

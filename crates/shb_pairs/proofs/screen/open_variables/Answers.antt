@@ -10,7 +10,7 @@ pub returns : goal.returns
 returns c =
     let trace = c.args.trace.now in
     let all : c.loop-e.e ≡ length trace.events.now = omega arith in
-    let last = subst (λ (n : ℕ). AreScreened trace.events.now c.loop-e.reads.items n trace.sizes.variables c.loop-e.table.items) all c.loop-e.invariant.screened in
+    let last = subst (λ (n : ℕ). AreScreened trace.events.now n trace.sizes.variables c.loop-e.table.items) all c.loop-e.invariant.screened in
     IfOk-weaker c.flags_of.result _ _
-    (λ flags is. flags_open trace.events.now c.loop-e.reads.items trace.sizes.variables c.loop-e.table.items _ (λ k x access. variable_sized trace.events.now trace.sizes k x trace.within access) (is ∙ ap (λ (t : List Latest). map (λ (latest : Latest). latest.write.time == no_time) t) c.as_slice.ensures.value) last)
+    (λ flags is. flags_open trace.events.now trace.sizes.variables c.loop-e.table.items _ (λ k x access. variable_sized trace.events.now trace.sizes k x trace.within access) (is ∙ ap (λ (t : List Latest). map (λ (latest : Latest). latest.write.time == no_time) t) c.as_slice.ensures.value) last)
     c.flags_of.ensures

@@ -6,5 +6,5 @@ abbrev pub invariant-loop-e : goal.invariant-loop-e
 invariant-loop-e l = record {
   of_trace : l.sweep.trace ≡ l.trace.events.now;
   next : l.sweep.next ≡ l.e;
-  screened : AreScreened l.trace.events.now l.reads.items l.e l.trace.sizes.variables l.table.items;
+  screened : AreScreened l.trace.events.now l.e l.trace.sizes.variables l.table.items;
 }

@@ -16,16 +16,15 @@ index_mut-requires g c =
     let low = variable_sized trace.events.now trace.sizes c.args.e c.in-Some.x trace.within (variable_known trace.events.now c.args.e _ c.op.ensures ∙ sym c.in-Some.ensures) in
     omega (arith, low.1, c.requires.screened.as_many, c.args.table.now.ok.0)
 
-pub returns-in_ok-table : goal.returns-in_ok-table
-returns-in_ok-table g c =
+pub returns-then-is_shared : goal.returns-then-is_shared
+returns-then-is_shared g c =
     let trace = c.args.ordered.now.disciplined.now in
     let events = trace.events.now in
     let x = c.in-Some.x in
-    let reads = c.args.reads.now.items in
     let access = variable_known events c.args.e _ c.op.ensures ∙ sym c.in-Some.ensures in
     let low = variable_sized events trace.sizes c.args.e x trace.within access in
     let shared = (shared_same events c.args.ordered.now.links.now x _ c.args.ordered.now.linked c.is_shared.ensures).0 c.if-is_shared.true in
-    table_access events reads c.after_access.new.reads.items c.args.e trace.sizes.variables x _ c.args.table.now.items c.in_ok-table.ensures.kept low.1 access (c.in_ok-table.ensures.screened x access (subst (IsScreened events reads c.args.e x) (sym c.index-latest.ensures) (c.requires.screened.each x _ low.1 shared))) c.requires.screened
+    table_access events c.args.e trace.sizes.variables x _ c.args.table.now.items low.1 access (c.after_access.ensures x access (subst (IsScreened events c.args.e x) (sym c.index-latest.ensures) (c.requires.screened.each x _ low.1 shared))) c.requires.screened
 
 pub returns-else-is_shared : goal.returns-else-is_shared
 returns-else-is_shared g c =
@@ -34,11 +33,11 @@ returns-else-is_shared g c =
     let x = c.in-Some.x in
     let access = variable_known events c.args.e _ c.op.ensures ∙ sym c.in-Some.ensures in
     let same = shared_same events c.args.ordered.now.links.now x _ c.args.ordered.now.linked c.is_shared.ensures in
-    table_other events c.args.reads.now.items c.args.e trace.sizes.variables c.args.table.now.items
+    table_other events c.args.e trace.sizes.variables c.args.table.now.items
     (λ y shared of_e. (let s : Some y ≡ Some x = sym of_e ∙ access in let g : y ≡ x = cc in let f : true ≡ false = sym (same.1 (rw (← g) shared)) ∙ c.if-is_shared.false in let none : ⊥ = cc in none))
     c.requires.screened
 
 pub returns-in_default : goal.returns-in_default
-returns-in_default g c = table_other c.args.ordered.now.disciplined.now.events.now c.args.reads.now.items c.args.e c.args.ordered.now.disciplined.now.sizes.variables c.args.table.now.items
+returns-in_default g c = table_other c.args.ordered.now.disciplined.now.events.now c.args.e c.args.ordered.now.disciplined.now.sizes.variables c.args.table.now.items
     (λ x shared access. apart x (sym access ∙ (variable_known c.args.ordered.now.disciplined.now.events.now c.args.e _ c.op.ensures ∙ (sym c.variable.ensures ∙ c.in_default.is))))
     c.requires.screened
