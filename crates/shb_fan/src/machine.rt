@@ -113,14 +113,6 @@ impl Fan {
         self.stopped
     }
 
-    /// Whether an actor was told that there is no more.
-    pub fn spent(&self, a: u32) -> bool
-        requires { a < length self.now.actors }
-        ensures { result ≡ (actor_of self.now a).spent }
-    {
-        self.actors[a as usize].is_spent()
-    }
-
     /// The numbers that an actor drew, in order.
     pub fn drawn(&self, a: u32) -> &[u64]
         requires { a < length self.now.actors }
