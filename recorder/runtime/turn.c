@@ -36,13 +36,13 @@
 #define PATIENCE_NS 300000             /* then a lone waiter looks at the holder; one of several after ten times it */
 #define TEST_YIELD() (void)0
 #endif
-#define START_NS 20000000              /* the longest wait for a new thread */
+#define START_NS 1000000000            /* the longest wait for a new thread: on a busy machine it begins late */
 #define FIRST_SLICES 4                 /* without SHB_SLICE slices begin with 1, 2, 4 or 8 hooks, on average, */
 #define SLICES_OF_A_SCALE 64           /* are twice as long after so many, and end with */
 #define LEAST_LAST_SLICE 100           /* 100, 200 or 400: to hand the turn over costs some 50 hooks */
 #define LAST_SLICES 3
 #define MOST_STARTS 64                 /* the first threads with which they begin anew */
-#define SLICES_HELD 16                 /* on average */
+#define SLICES_HELD 4                  /* on average */
 
 __thread thread *self __attribute__((tls_model("initial-exec")));
 volatile int recording;

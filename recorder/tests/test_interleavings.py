@@ -1,10 +1,12 @@
-"""Runs of a program whose threads are shorter than the start of one: with the recorder's own slices they meet, and differ."""
+"""Runs of a program whose threads are shorter than the start of one: with the recorder's own slices they meet, and differ. A seed
+decides what is drawn, not when the system lets a thread begin: so runs of one seed may differ too, and what is asked for here is
+less than what was seen, on a busy machine and on a quiet one: 25 to 30 different traces, and threads that overlap in 18 runs or more."""
 
 import itertools
 
 import recorder
 
-RUNS, DIFFERENT, OVERLAPPING = 30, 15, 4  # twice as many traces are seen, and three times as many in which the threads overlap
+RUNS, DIFFERENT, FEW = 30, 20, 8
 
 
 class Interleavings(recorder.Case):
@@ -18,8 +20,10 @@ class Interleavings(recorder.Case):
 
     def test_short_threads(self):
         traces = list(self.traces())
-        self.assertGreater(len(set(traces)), DIFFERENT)
-        self.assertGreater(sum(map(overlap, traces)), OVERLAPPING)
+        self.assertGreaterEqual(len(set(traces)), DIFFERENT)
+        overlaps = [overlap(trace) for trace in traces]
+        for first in range(0, RUNS - FEW, FEW):
+            self.assertTrue(any(overlaps[first:first + FEW]), overlaps)
 
 
 def overlap(trace):
