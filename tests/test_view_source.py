@@ -63,7 +63,7 @@ class Found(program.Case):
         self.assertEqual(self.place(b"one/util.c:1").line(), b"1")
         for location in (b"util.c:1", b"three/util.c:1"):
             place = self.place(location)
-            self.assertEqual((place.line(), place.fault), (None, "2 files are named util.c; record with `shb-std -p`"))
+            self.assertEqual((place.line(), place.fault), (None, "2 files are named util.c; --source can name the folder of one of them"))
 
     def test_the_first_folder_counts(self):
         self.put("new/util.c", b"new\n")

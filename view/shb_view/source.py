@@ -69,13 +69,13 @@ class Source:
             return None
         path, number = found[1], int(found[2])
         candidates = best(path, self.paths.get(path.split(b"/")[-1], {}))
-        if not candidates and path in self.recorded:
+        if len(candidates) != 1 and path in self.recorded:
             candidates = [(path, self.recorded[path])]
         if not candidates:
             return None
         if len(candidates) > 1:
             base = shown(path.split(b"/")[-1])
-            return Place(path, number, [], f"{len(candidates)} files are named {base}; record with `shb-std -p`", False)
+            return Place(path, number, [], f"{len(candidates)} files are named {base}; --source can name the folder of one of them", False)
         [(name, file)] = candidates
         lines, modified, fault = self.read(file)
         is_newer = modified > self.written
