@@ -13,6 +13,7 @@ import traceback
 import typing
 
 from shb_common.known import BadLine, Known
+from shb_common.standard import leave_standard_output, open_standard_files, words_of
 from shb_common.version import with_version
 from shb_farm import engines, files, limits, merging, passes, tables, traces
 from shb_farm.calls import Calls
@@ -236,22 +237,11 @@ def run(options):
     return status
 
 
-def open_standard_files():
-    """Opens those of standard input, output and error that are closed, for the jobs, too; so no other file takes their place."""
-    for number in range(3):
-        try:
-            os.fstat(number)
-        except OSError:
-            os.set_inheritable(os.open(os.devnull, os.O_RDWR), True)
-    sys.stdout = sys.stdout or open(os.devnull, "w", encoding="utf-8")
-    sys.stderr = sys.stderr or open(os.devnull, "w", encoding="utf-8")
-
-
 def write_out(text):
     try:
         print(text, end="", flush=True)
     except OSError as fault:
-        os.dup2(os.open(os.devnull, os.O_WRONLY), sys.stdout.fileno())  # else Python tries again at its end, with a status of its own
+        leave_standard_output()
         raise OSError(fault.errno, fault.strerror, "standard output") from None
 
 
@@ -269,7 +259,7 @@ def main(words):
     except (Refused, engines.NotInstalled) as refused:
         said = str(refused)
     except OSError as fault:
-        said = files.words_of(fault)
+        said = words_of(fault)
     except KeyboardInterrupt:
         return 130
     except Exception:

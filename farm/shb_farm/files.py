@@ -48,9 +48,3 @@ def checksum_of_file(file):
     for part in iter(lambda: file.read(1 << 20), b""):
         found.update(part)
     return found.hexdigest()
-
-
-def words_of(fault):
-    """What an OSError says, with the file that it names."""
-    words = fault.strerror or str(fault)
-    return f"{os.fsdecode(fault.filename)}: {words}" if isinstance(fault.filename, (str, bytes)) else words

@@ -15,6 +15,7 @@ import sys
 HOME = pathlib.Path(__file__).resolve().parents[1]
 sys.path[:0] = [str(HOME), str(HOME.parent / "common")]     # installed, all packages are in the first
 
+from shb_common.standard import words_of
 from shb_farm import files, outcomes, passes, reports, running
 
 
@@ -49,7 +50,7 @@ def main(words):
             kind = make_outcome(work, name)
         except (OSError, running.NotHere) as fault:
             kind = "failed"
-            said = files.words_of(fault) if isinstance(fault, OSError) else str(fault)
+            said = words_of(fault) if isinstance(fault, OSError) else str(fault)
             print(f"shb-farm: {name}: {said}", file=sys.stderr)
         if kind == "failed":
             status = 1

@@ -6,6 +6,7 @@ import os
 import sys
 
 from shb_common.report import BadReport
+from shb_common.standard import leave_standard_output, open_standard_files, words_of
 from shb_common.version import with_version
 from shb_view import text
 from shb_view.faults import Refused
@@ -57,20 +58,6 @@ def arguments(words, program):
     return parser.parse_args(words)
 
 
-def open_standard_files():
-    """Opens those of standard input, output and error that are closed, so that no other file takes their place. Says whether
-    standard output was open."""
-    is_open = sys.stdout is not None
-    for number in range(3):
-        try:
-            os.fstat(number)
-        except OSError:
-            os.open(os.devnull, os.O_RDWR)
-    sys.stdout = sys.stdout or open(os.devnull, "w", encoding="utf-8")
-    sys.stderr = sys.stderr or open(os.devnull, "w", encoding="utf-8")
-    return is_open
-
-
 def show(options, progress, is_open):
     """Writes what was asked for, and gives the status."""
     wants_text = options.text or not options.html
@@ -96,7 +83,7 @@ def write_text(lines):
     try:
         write_parts(sys.stdout, (f"{line}\n" for line in lines), "standard output")
     except OSError:
-        os.dup2(os.open(os.devnull, os.O_WRONLY), sys.stdout.fileno())  # else Python tries again at its end, and fails in its own words
+        leave_standard_output()
         raise
 
 
@@ -112,7 +99,7 @@ def main(words, program=None):
     except Refused as fault:
         status, said = 2, str(fault)
     except OSError as fault:
-        status, said = 2, said_of(fault)
+        status, said = 2, words_of(fault)
     except MemoryError:
         status, said = 2, "out of memory"
     except KeyboardInterrupt:
@@ -120,9 +107,3 @@ def main(words, program=None):
     progress.clear()
     print(f"shb-view: {said}", file=sys.stderr)
     return status
-
-
-def said_of(fault):
-    """A fault of the system in words, with the file's name if it has one."""
-    words = fault.strerror or str(fault)
-    return f"{shown(os.fsencode(fault.filename))}: {words}" if fault.filename else words

@@ -1,0 +1,31 @@
+"""Standard input, output and error, and what is said of a fault of the system."""
+
+import os
+import sys
+
+from shb_common.shown import shown
+
+
+def open_standard_files():
+    """Opens those of standard input, output and error that are closed, here and for what is started, so that no other file takes
+    their place. Says whether standard output was open."""
+    is_open = sys.stdout is not None
+    for number in range(3):
+        try:
+            os.fstat(number)
+        except OSError:
+            os.set_inheritable(os.open(os.devnull, os.O_RDWR), True)
+    sys.stdout = sys.stdout or open(os.devnull, "w", encoding="utf-8")
+    sys.stderr = sys.stderr or open(os.devnull, "w", encoding="utf-8")
+    return is_open
+
+
+def leave_standard_output():
+    """After a fault of standard output: else Python tries again at its end, in words and with a status of its own."""
+    os.dup2(os.open(os.devnull, os.O_WRONLY), sys.stdout.fileno())
+
+
+def words_of(fault):
+    """What an OSError says, with the file that it names."""
+    words = fault.strerror or str(fault)
+    return f"{shown(os.fsencode(fault.filename))}: {words}" if isinstance(fault.filename, (str, bytes)) else words
