@@ -57,6 +57,7 @@ class Stacks(program.Case):
         self.assertIn("     in get\n       from libc.so.6+0x10\n"
                       "       from sorter (no line is known: it called code without hooks)\n       from main a.c:31\n", out)
         self.assertIn("   thread T1 was created in main a.c:30\n", out)
+        self.assertIn("\nCounts are of the trace, where the recorder leaves out repeats: a loop may count as two accesses.\n", out)
         self.assertIn("   block a.c:9#2 was allocated in make a.c:9, from main a.c:31\n", out)
 
     def test_where_a_fiber_was_made(self):

@@ -1,6 +1,7 @@
 """Words that the text and the page share. What is said is a list of parts: plain text, and names as `Code`. A place is a pair of lines
 that race, whatever their order; a group is the places that share a variable."""
 
+from shb_common.stacks import Stacks
 from shb_view.held import read_lock
 from shb_view.names import by_numbers, short
 
@@ -104,6 +105,8 @@ def notes_of(view):
         yield view.verdict.words
     if not view.races:
         yield "Any two conflicting accesses are ordered in this trace. A run with another interleaving may have races."
+    if view.sections and isinstance(view.stacks, Stacks):
+        yield "Counts are of the trace, where the recorder leaves out repeats: a loop may count as two accesses."
     if view.listed < view.races:
         yield "The report has not all races of the trace; the counts are the report's."
     if view.is_sample:
