@@ -152,6 +152,12 @@ class Pages(program.Case):
                 self.assertIn(names.short(name, 80), "".join(text for _, text in page.all("code")))
                 self.assertIn(names.short(name, 120), page.all("pre")[0][1])
 
+    def test_blanks_in_names_are_kept(self):
+        """In the text of the page, and by its style; in a browser, where there is one, test_view_browser looks at them."""
+        page = self.page(b"A|w(a  b )|p\nB|w(a  b )|p\n")
+        self.assertIn("a  b ", [text for _, text in page.all("code")])
+        self.assertRegex(page.all("style")[0][1], r"(?m)^code \{.* white-space: pre-wrap; \}$")
+
     def test_long_names_are_cut(self):
         name = b"v" * 1500
         page = self.page(b"A|acq(" + name + b")|p\n" + b"".join(thread + b"|w(" + name + b")|" + name + b"\n" for thread in (b"A", b"B")))
