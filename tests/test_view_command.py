@@ -136,24 +136,13 @@ exec REAL "$@"
         self.assertTrue(answer.stdout.startswith(b"-t.std: 1 race "))
 
     def test_a_refused_trace(self):
-        """The line is shown, and what is likely to be wrong with it."""
-        form = "a line is THREAD|OPERATION|LOCATION, with bars between"
+        """The line is shown, and what is likely to be wrong with it; farm/tests/test_refused.py has all hints."""
         for text, fault, line, hint in (
-            (b"oops\n", "line 1: the line has no operation field", "oops", f"{form}; there are no comments"),
-            (b"A|w(x)\nA\tw(x)\n", "line 2: the line has no operation field", "A\\x09w(x)", f"{form}, not tabs; there are no comments"),
-            (b"A | w(x)|a.c:1\n", "line 1: the operation is not known", "A | w(x)|a.c:1",
-             "there are blanks around the bar: write THREAD|OPERATION|LOCATION without them"),
-            (b"A|w(x) |a.c:1\n", "line 1: the operand is not a name in parentheses", "A|w(x) |a.c:1",
-             "there are blanks around the bar: write THREAD|OPERATION|LOCATION without them"),
+            (b"A|w(x)\nA\tw(x)\n", "line 2: the line has no operation field", "A\\x09w(x)",
+             "a line is THREAD|OPERATION|LOCATION, with bars between, not tabs; there are no comments"),
             (b"\n\nA|W(x)\n", "line 3: the operation is not known", "A|W(x)", "operations are written in small letters, as `w`"),
-            (b"A|lock(l)\n", "line 1: the operation is not known", "A|lock(l)", "this operation is written `acq`"),
-            (b"A\r|w(x)\rB|w(x)|w\n", "line 1: the operand is not a name in parentheses", "A\\x0d|w(x)\\x0dB|w(x)|w",
-             "a carriage return stands alone: lines end with a line feed, or with both"),
             (b"\xef\xbb\xbf# a comment\n", "line 1: the line has no operation field", "\\ufeff# a comment",
              "the file begins with a byte order mark: save it without one"),
-            ("A|w(x)\n".encode("utf-16"), "line 1: the operation is not known", "\\xff\\xfeA\\x00|\\x00w\\x00(\\x00x\\x00)\\x00",
-             "the file is UTF-16: save it as UTF-8"),
-            (b"\x1f\x8b\x08\n", "line 1: the line has no operation field", "\\x1f\\x8b\\x08", "the file is packed by gzip: unpack it first"),
             (b"A|rel(l)\n", "line 1: the lock is not held by this thread", "A|rel(l)", None),
         ):
             with self.subTest(text):
