@@ -60,6 +60,19 @@ class Stacks(program.Case):
         self.assertIn("\nCounts are of the trace, where the recorder leaves out repeats: a loop may count as two accesses.\n", out)
         self.assertIn("   block a.c:9#2 was allocated in make a.c:9, from main a.c:31\n", out)
 
+    def test_functions_of_the_system(self):
+        """The innermost and the outermost are left out, several between others are one line, and the page has all."""
+        tables = TABLES.replace(b"stack 8 6 8 9", b"stack 8 6 8 3 9 3 8").replace(b"stack 6 0 5", b"stack 6 0 5 8 3").replace(
+            b"stack 7 8 6", b"stack 7 8 3 6")
+        self.assertIn("     in get\n       from (2 functions of the system's headers or libraries)\n"
+                      "       from sorter (no line is known: it called code without hooks)\n"
+                      "       from (2 functions of the system's headers or libraries)\n       from main a.c:31\n   thread",
+                      self.shown(stacks(tables=tables))[1])
+        self.shown(stacks(tables=tables), "--html", self.folder / "page.html")
+        self.assertIn("std::each each.h:8get a.c:7libc.so.6+0x10std::each each.h:8sorter (no line is known: it called code without hooks)"
+                      "std::each each.h:8libc.so.6+0x10main a.c:31libc.so.6+0x10std::each each.h:8",
+                      [text for _, text in Page((self.folder / "page.html").read_text()).all("ol", "stack")])
+
     def test_where_a_fiber_was_made(self):
         tables, path = TABLES.replace(b"sorter", b"__tsan_create_fiber"), self.folder / "page.html"
         _, out, err = self.shown(stacks(tables=tables), "--html", path)

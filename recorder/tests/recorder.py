@@ -65,6 +65,13 @@ def two_of_one_name(folder):
     return [folder / name for name in texts]
 
 
+def marked(source, word):
+    """By line: what stands behind this word in the comment at its end, with commas in between."""
+    marks = {f"{source.name}:{number}": re.search(rf" {word} (.*?)(?: \*/)?$", line)
+             for number, line in enumerate(source.read_text().splitlines(), 1)}
+    return {place: set(mark[1].split(", ")) for place, mark in marks.items() if mark}
+
+
 def settings(path, seed=1, slice=200, **more):
     """The environment that has a program recorded."""
     return {**os.environ, "SHB_RECORD": str(path), "SHB_SEED": str(seed), "SHB_SLICE": str(slice), **more}

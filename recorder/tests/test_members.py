@@ -8,16 +8,6 @@ import recorder
 from test_record import entry
 
 
-def marked(source):
-    """By line: what its mark in a program names."""
-    found = {}
-    for number, line in enumerate(source.read_text().splitlines(), 1):
-        mark = re.search(r" AT (.*?)(?: \*/)?$", line)
-        if mark:
-            found[f"{source.name}:{number}"] = set(mark[1].split(", "))
-    return found
-
-
 def sections(program):
     """Where each section of a program stands in its file."""
     listed = recorder.must(recorder.call("readelf", "-SW", program)).stdout.decode()
@@ -28,7 +18,7 @@ def sections(program):
 class Members(recorder.Case):
     def check(self, name):
         source, record = recorder.PROGRAMS / name, self.folder / "app.rec"
-        wanted = marked(source)
+        wanted = recorder.marked(source, "AT")
         for option in ("-O0", "-O1", "-O2"):
             recorder.build(source, option, self.folder / "app")
             recorder.must(recorder.call(self.folder / "app", env=recorder.settings(record)))

@@ -51,16 +51,6 @@ def places(stacks, events):
     return [" ".join(frame.location.decode() for frame in stacks.of_event(event)) for event in range(1, events + 1)]
 
 
-def marked(source):
-    """By line: the stacks that its mark in a program names."""
-    wanted = {}
-    for number, line in enumerate(source.read_text().splitlines(), 1):
-        found = re.search(r" IN (.*?)(?: \*/)?$", line)
-        if found:
-            wanted[f"{source.name}:{number}"] = set(found[1].split(", "))
-    return wanted
-
-
 class MadeByHand(recorder.Case):
     def record(self):
         return self.folder / "app.rec"
@@ -116,7 +106,7 @@ class Programs(recorder.Case):
         return found
 
     def check(self, source):
-        wanted = marked(source)
+        wanted = recorder.marked(source, "IN")
         for option in ("-O0", "-O1", "-O2"):
             found = self.stacks_of(source, option)
             for place, stacks in wanted.items():
@@ -128,7 +118,7 @@ class Programs(recorder.Case):
     def check_exactly(self, source):
         for option in ("-O0", "-O1", "-O2"):
             found = self.stacks_of(source, option)
-            for place, stacks in marked(source).items():
+            for place, stacks in recorder.marked(source, "IN").items():
                 with self.subTest(option=option, place=place):
                     self.assertEqual(found[place], stacks)
 
