@@ -207,4 +207,5 @@ void event(u32 t, const char *operation, part name, const char *tail, u64 caller
         hold_event(t, operation, (part){own_name, name.length}, own_tail, own, stack);
     } else hold_event(t, operation, name, tail, own, stack);
     if (*operation != 'r' || operation[1]) threads[t].epoch++;
+    if (!operation[1]) pass_access(t);
 }

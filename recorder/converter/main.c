@@ -69,6 +69,7 @@ static u32 forked_by[THREADS];         /* plus one */
 static void write_join(u32 t, u32 child, u64 caller) {
     if (!has_events(child) && forked_by[child] && forked_by[child] != t + 1) event(child, "begin", name_of_thread(child), "", caller);
     event(t, "join", name_of_thread(child), "", caller);
+    pass_join(t, child);
 }
 
 static void write_events(u64 i) {
@@ -78,7 +79,7 @@ static void write_events(u64 i) {
     if (operation == OP_FORK && other_thread_of(i) >= SHB_THREADS && !into_windows) cut_reason = "before a thread too many: shb takes 1,024";
     else if (operation == OP_FORK) {
         event(thread_of(i), "fork", name_of_thread(other_thread_of(i)), "", caller_of(i));
-        pass_release(thread_of(i));
+        pass_fork(thread_of(i), other_thread_of(i));
         forked_by[other_thread_of(i)] = thread_of(i) + 1;
         stack_of_thread(other_thread_of(i), stack_at(thread_of(i), caller_of(i)));
     }
@@ -138,6 +139,7 @@ static void find_open(void) {
     phase = FINDING_REPEATED;
     if (only_open) pass(find_repeated, 0);
     phase = WRITING;
+    begin_written_times();
     forget_states();
     forget_calls();
 }

@@ -232,25 +232,43 @@ void forget_states(void) {
     forget_holds();
 }
 
-/* ---- 4: locks that are held and order nothing: of one thread alone, and reader-writer locks, whose order is told by
-   locks of their own.  Such a lock is acquired in the trace right before its thread's next event, if there is one until
-   the release: so each lock that is held at an access in the trace is there. ---- */
-typedef struct { u64 caller; u32 object, stack; uint8_t reads, written; } hold;
-static struct { hold *list; u64 count, capacity, unwritten, sum, others; } held[THREADS];    /* others: a sum of those that order */
+/* ---- 4: which of an object's locks: its own (no sign), or a reader's own of a reader-writer lock ("X@reader.T2"); "X@3", of its
+   third version; "X@3>T2" (passed to T2), "X@3<T2" (passed by T2); with "@@" of a second object at an address ---- */
+typedef struct { char sign; u32 version, thread; } which;
+static const which own = {0}, of_reader = {.sign = 'r'};
+static which of_version(u32 version) { return (which){'@', version, 0}; }
+static which to_thread(u32 version, u32 t) { return (which){'>', version, t}; }
+static which by_thread(u32 version, u32 t) { return (which){'<', version, t}; }
+
+/* ---- 4: locks that are held and whose acquire tells a thread nothing: of one thread alone; reader-writer locks, whose order is told
+   by locks of their own; and with -r others where order.c says so. Such a lock is acquired in the trace right before its thread's
+   next event, if there is one until the release: so each lock that is held at an access in the trace is there. ---- */
+typedef struct { u64 caller; u32 object, stack; which lock; uint8_t written; } hold;
+static struct { hold *list; u64 count, capacity, unwritten, sum, others; } held[THREADS];    /* others: a sum of those that aren't in the list */
 
 static void forget_holds(void) {
     for (u32 t = 0; t < thread_bound(); t++) held[t].count = held[t].unwritten = held[t].sum = held[t].others = 0;
 }
 
+static u64 sum_of_lock(const object *o, which w) { return mix(o - objects + 1, w.sign); }
 int holds_unwritten(u32 t) { return held[t].unwritten > 0; }
 u64 held_locks(u32 t) { return held[t].sum; }
 u64 all_held_locks(u32 t) { return held[t].sum + held[t].others; }
 
+enum { TAIL_BYTES = THREAD_BYTES + 40 };
+static part name_of_lock(const object *o, which w, u32 t, char *tail) {
+    int length = 0;
+    *tail = 0;
+    if (w.sign == 'r') snprintf(tail, TAIL_BYTES, "@reader.%s", thread_name(t));
+    else if (w.sign) length = snprintf(tail, TAIL_BYTES, "%s%u", o->mark, w.version);
+    if (w.sign == '<' || w.sign == '>') snprintf(tail + length, TAIL_BYTES - length, "%c%s", w.sign, thread_name(w.thread));
+    return variable_name(o->at, block_of(o->block));
+}
+
 static void write_hold(u32 t, const hold *h, const char *operation, u64 caller, u32 stack) {
-    char reader[THREAD_BYTES + 20] = "";
-    object *o = &objects[h->object];
-    if (h->reads) snprintf(reader, sizeof reader, "@reader.%s", thread_name(t));
-    hold_event(t, operation, variable_name(o->at, block_of(o->block)), reader, caller, stack);
+    char tail[TAIL_BYTES];
+    part name = name_of_lock(&objects[h->object], h->lock, t, tail);
+    hold_event(t, operation, name, tail, caller, stack);
 }
 
 void write_holds(u32 t) {
@@ -262,73 +280,83 @@ void write_holds(u32 t) {
     held[t].unwritten = 0;
 }
 
-static void take_hold(object *o, u32 t, int reads, u64 caller) {
+static void take_hold(object *o, u32 t, which w, u64 caller) {
     if (phase == ORDERING) return;
     GROW(held[t].list, held[t].count, held[t].capacity);
-    held[t].list[held[t].count++] = (hold){own_place(t, caller), o - objects, stack_at(t, caller), reads, 0};
+    held[t].list[held[t].count++] = (hold){own_place(t, caller), o - objects, stack_at(t, caller), w, 0};
     held[t].unwritten++;
-    held[t].sum += mix(o - objects, reads + 1);
-    if (!reads) o->writer = t + 1;
+    held[t].sum += sum_of_lock(o, w);
 }
 
-static void end_hold(object *o, u32 t, int reads, u64 caller) {
+/* Gives whether there was one; *written: whether its acquire is in the trace. */
+static int end_hold(object *o, u32 t, which w, int *written) {
     for (u64 k = held[t].count; k-- > 0;) {
         hold h = held[t].list[k];
-        if (h.object != o - objects || h.reads != reads) continue;
-        if (h.written) write_hold(t, &h, "rel", own_place(t, caller), stack_at(t, caller));
-        else held[t].unwritten--;
+        if (h.object != o - objects || h.lock.sign != w.sign || h.lock.version != w.version || h.lock.thread != w.thread) continue;
+        *written = h.written;
+        held[t].unwritten -= !h.written;
         held[t].count--;
         memmove(&held[t].list[k], &held[t].list[k + 1], (held[t].count - k) * sizeof h);
-        held[t].sum -= mix(o - objects, reads + 1);
-        if (!reads) o->writer = 0;
-        return;
+        held[t].sum -= sum_of_lock(o, w);
+        return 1;
     }
+    return 0;
+}
+
+static int leave_hold(object *o, u32 t, which w, u64 caller) {
+    int written = 0, was_there = end_hold(o, t, w, &written);
+    if (written) write_hold(t, &(hold){.object = o - objects, .lock = w}, "rel", own_place(t, caller), stack_at(t, caller));
+    return was_there;
 }
 
 /* What an operation means for these, before and after its other events. */
 static void holds_before(u64 i, object *o, int is_private) {
     u32 t = thread_of(i);
-    if (operation_of(i) == OP_UNLOCK && is_private) end_hold(o, t, 0, caller_of(i));
-    if (operation_of(i) == OP_RW_UNLOCK) end_hold(o, t, o->holder != t + 1, caller_of(i));
+    if (operation_of(i) == OP_UNLOCK && is_private) leave_hold(o, t, own, caller_of(i));
+    if (operation_of(i) != OP_RW_UNLOCK) return;
+    if (o->holder != t + 1) leave_hold(o, t, of_reader, caller_of(i));
+    else if (leave_hold(o, t, own, caller_of(i))) o->writer = 0;
 }
 
 static void holds_after(u64 i, object *o, int is_private) {
     u32 t = thread_of(i);
-    if (operation_of(i) == OP_LOCK && is_private && !o->foreign) take_hold(o, t, 0, caller_of(i));
-    if (operation_of(i) == OP_READ_LOCK) take_hold(o, t, 1, caller_of(i));
+    if (operation_of(i) == OP_LOCK && is_private && !o->foreign) take_hold(o, t, own, caller_of(i));
+    if (operation_of(i) == OP_READ_LOCK) take_hold(o, t, of_reader, caller_of(i));
     if (operation_of(i) != OP_WRITE_LOCK) return;
     o->holder = t + 1;
-    if (!o->writer) take_hold(o, t, 0, caller_of(i));        /* else its last writer never released it */
+    if (o->writer) return;             /* its last writer never released it */
+    take_hold(o, t, own, caller_of(i));
+    if (phase != ORDERING) o->writer = t + 1;
 }
 
 /* ---- 4: events ---- */
-/* Which of an object's locks: its own (no sign); "X@3", of its third version; "X@3>T2" (passed to T2), "X@3<T2" (passed by T2);
-   with "@@" of a second object at an address. */
-typedef struct { char sign; u32 version, thread; } which;
-static const which own = {0};
-static which of_version(u32 version) { return (which){'@', version, 0}; }
-static which to_thread(u32 version, u32 t) { return (which){'>', version, t}; }
-static which by_thread(u32 version, u32 t) { return (which){'<', version, t}; }
-
 static void lock_event(object *o, u32 t, const char *operation, which w, u64 caller) {
-    char tail[120] = "";
-    int length = w.sign ? snprintf(tail, sizeof tail, "%s%u", o->mark, w.version) : 0;
-    if (w.sign && w.sign != '@') snprintf(tail + length, sizeof tail - length, "%c%s", w.sign, thread_name(w.thread));
-    event(t, operation, variable_name(o->at, block_at(o->at)), tail, caller);
+    char tail[TAIL_BYTES];
+    part name = name_of_lock(o, w, t, tail);
+    event(t, operation, name, tail, caller);
 }
 
+/* The two words by which order.c knows a lock; and whether nobody takes it any more when t leaves it. */
+static u64 first_word(const object *o, which w) { return (u64)(o - objects) << 8 | w.sign; }
+static u64 second_word(which w) { return (u64)w.thread << 32 | w.version; }
+static int is_last(which w, u32 t) { return w.sign == '>' && w.thread == t; }
+
 static void take_lock(object *o, u32 t, which w, u64 caller) {
-    if (phase == ORDERING) order_acquire(t, (u64)(o - objects) << 8 | w.sign, (u64)w.thread << 32 | w.version);
-    if (phase == WRITING) lock_event(o, t, "acq", w, caller);
-    held[t].others += mix(o - objects, w.sign);
+    if (phase == ORDERING) order_acquire(t, first_word(o, w), second_word(w));
+    if (phase == WRITING && !pass_acquire(t, first_word(o, w), second_word(w))) take_hold(o, t, w, caller);
+    else {
+        if (phase == WRITING) lock_event(o, t, "acq", w, caller);
+        held[t].others += sum_of_lock(o, w);
+    }
 }
 
 static void leave_lock(object *o, u32 t, which w, u64 caller) {
-    int is_last = w.sign == '>' && w.thread == t;
-    if (phase == ORDERING) order_release(t, (u64)(o - objects) << 8 | w.sign, (u64)w.thread << 32 | w.version, is_last);
-    if (phase == WRITING) lock_event(o, t, "rel", w, caller);
-    if (phase == WRITING && !is_last) pass_release(t);
-    held[t].others -= mix(o - objects, w.sign);
+    int written = 1;
+    if (phase == ORDERING) order_release(t, first_word(o, w), second_word(w), is_last(w, t));
+    if (phase != WRITING || !end_hold(o, t, w, &written)) held[t].others -= sum_of_lock(o, w);
+    if (phase != WRITING) return;
+    if (written) lock_event(o, t, "rel", w, caller);
+    pass_release(t, first_word(o, w), second_word(w), is_last(w, t));
 }
 
 static void pass_lock(object *o, u32 t, which w, u64 caller) {

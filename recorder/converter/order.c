@@ -32,7 +32,10 @@ static u32 passed[THREADS];
 static moment unused[MOST_SLOTS];      /* slots of threads that were joined, with their last times */
 static u32 unused_count;
 static map lock_map, mixed_map;
-static clock_of_slots *locks, *readers;
+/* user: the first thread that took it, plus one; takes: how often it is taken, and from the pass after it on how often it still will be. */
+typedef struct { clock_of_slots clock; u32 user, takes; int many_users; } lock;
+static lock *locks;
+static clock_of_slots *readers;
 static u64 lock_count, lock_capacity, reader_count, reader_capacity;
 static last_accesses *lasts;           /* by piece */
 static u64 last_count, last_capacity;
@@ -127,28 +130,33 @@ void order_join(u32 t, u32 child) {
     empty(&threads[child]);
 }
 
-static clock_of_slots *lock_of(u64 object, u64 which) {
+static lock *lock_of(u64 object, u64 which) {
     u32 number = map_number(&lock_map, object, which);
     if (number > lock_count) {
         GROW(locks, lock_count, lock_capacity);
-        locks[lock_count++] = (clock_of_slots){0};
+        locks[lock_count++] = (lock){0};
     }
     return &locks[number - 1];
 }
 
 void order_acquire(u32 t, u64 object, u64 which) {
     now(t);
-    if (!is_given_up) add_clock(&threads[t], lock_of(object, which));
+    if (is_given_up) return;
+    lock *l = lock_of(object, which);
+    l->takes++;
+    if (!l->user) l->user = t + 1;
+    if (l->user != t + 1) l->many_users = 1;
+    add_clock(&threads[t], &l->clock);
 }
 
 void order_release(u32 t, u64 object, u64 which, int is_last) {
     now(t);
     if (is_given_up) return;
     if (is_last) {
-        empty(lock_of(object, which));
+        empty(&lock_of(object, which)->clock);
         return;
     }
-    add_clock(lock_of(object, which), &threads[t]);
+    add_clock(&lock_of(object, which)->clock, &threads[t]);
     begin_next_time(t);
 }
 
@@ -271,8 +279,48 @@ int order_is_known(void) { return !is_given_up; }
 int is_open(u32 number) { return use_of_piece(number)->open; }
 int is_mixed_open(u32 number) { return use_of_piece(number)->mixed_open; }
 
-/* ---- the passes after it ---- */
-void pass_release(u32 t) { passed[t]++; }
+/* ---- the pass that writes: the same clocks, in which a slot's time goes on with each access that is in the trace ---- */
+void begin_written_times(void) {
+    for (u32 t = 0; t < thread_bound(); t++) empty(&threads[t]);
+    for (u64 k = 0; k < lock_count; k++) empty(&locks[k].clock);
+    memset(latest, 0, sizeof latest);
+}
+
+static int has_times(void) { return only_open && !is_given_up; }
+
+void pass_access(u32 t) {
+    u32 slot = firsts[t].slot;
+    if (has_times()) set_time(&threads[t], (moment){slot, ++latest[slot]});
+}
+
+void pass_fork(u32 t, u32 child) {
+    passed[t]++;
+    if (has_times()) add_clock(&threads[child], &threads[t]);
+}
+
+void pass_join(u32 t, u32 child) {
+    if (!has_times()) return;
+    add_clock(&threads[t], &threads[child]);
+    empty(&threads[child]);
+}
+
+int pass_acquire(u32 t, u64 object, u64 which) {
+    if (!has_times()) return 1;
+    lock *l = lock_of(object, which);
+    int learns = !are_before(&l->clock, &threads[t]), tells = --l->takes && l->many_users && !are_before(&threads[t], &l->clock);
+    if (learns) add_clock(&threads[t], &l->clock);
+    return learns || tells;
+}
+
+void pass_release(u32 t, u64 object, u64 which, int is_last) {
+    passed[t] += !is_last;
+    if (!has_times()) return;
+    lock *l = lock_of(object, which);
+    if (l->takes) add_clock(&l->clock, &threads[t]);
+    else empty(&l->clock);
+}
+
+/* ---- which accesses are in open pairs ---- */
 
 static int is_in_span(const open_piece *o, u32 t, int writes) {
     u32 slot = firsts[t].slot, time = firsts[t].time + passed[t];

@@ -42,6 +42,15 @@ class OwnFiles(Unchanged):
                 self.assertEqual((self.folder / "data").read_bytes(), b"x" * (1 << 20))
                 self.assertEqual(self.racing_lines("own_files.c"), self.marked("own_files.c"))
 
+    def test_a_record_that_has_another_path(self):
+        """It can't be opened again: its descriptor was spared."""
+        program = self.program("own_files.c")
+        for way in ("close", "closefrom", "close_range", "dup2", "dup3"):
+            with self.subTest(way):
+                self.assertEqual(self.run_recorded(program, way, "moved.rec", "app.rec").stderr, b"")
+                answer = recorder.must(recorder.convert(self.folder / "moved.rec"))
+                self.assertEqual(self.racing_lines("own_files.c", answer), self.marked("own_files.c"))
+
     def test_a_record_that_is_gone_ends_the_recording(self):
         ran = self.run_recorded(self.program("own_files.c"), "syscall", "moved.rec", "app.rec")
         self.assertEqual(ran.stdout, b"3: 1048576 of 1048576\n")
