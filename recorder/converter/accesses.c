@@ -157,11 +157,12 @@ static int repeats(u64 i, use u, u32 number) {
     return same && !whole_trace;
 }
 
-/* Of accesses in no open pair a thread's first at a place under the same locks stands for the others. */
+/* Of accesses in no open pair, where others of the piece race, a thread's first at a place under the same locks stands for the others. */
 static int is_left_out(u64 i, use u, u32 number) {
     static map met;
     if (is_open(number) && may_be_in_open_pair(number, u.thread, u.writes)) return 0;
     if (is_mixed_open(number) && !u.writes && may_be_in_mixed_pair(number, u.thread, u.writes_atomically)) return 0;
+    if (!is_mixed_open(number) && !has_races(number)) return 1;
     u64 before = met.count, what = mix(number | (u64)operation_of(i) << 32, all_held_locks(u.thread)) + (u.thread >> 16);
     map_number(&met, own_place(u.thread, caller_of(i)) | (u64)u.thread << 48, what);
     return met.count == before;
@@ -253,6 +254,7 @@ static same_accesses *same_as(u64 i, u32 t, u32 number) {
 
 static void find_repeated(u64 i, use u, u32 number) {
     if (!is_open(number) && !is_mixed_open(number)) return;
+    if (is_open(number)) pass_open_access(number, u.thread, u.writes);
     u64 turn = turn_of(number, u);
     if (operation_of(i) > OP_ATOMIC_UPDATE) return;
     same_accesses *s = same_as(i, u.thread, number);

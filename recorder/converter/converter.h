@@ -160,12 +160,14 @@ extern enum phase { ORDERING, FINDING_REPEATED, WRITING } phase;
 void order_fork(u32 t, u32 child), order_join(u32 t, u32 child);
 void order_acquire(u32 t, u64 object, u64 which);            /* a lock, by two words */
 void order_release(u32 t, u64 object, u64 which, int is_last);       /* is_last: nobody takes it any more */
-/* The same in the pass that writes. An acquire gives 0 where the thread knows of each access that the lock tells of, and the release
+/* The same in the passes after it. An acquire gives 0 where the thread knows of each access that the lock tells of, and the release
    behind it tells nobody of more: then all is ordered as without the two, if there is no event between. */
-void begin_written_times(void);
+void begin_times(void);
 void pass_access(u32 t), pass_fork(u32 t, u32 child), pass_join(u32 t, u32 child);
 int pass_acquire(u32 t, u64 object, u64 which);
 void pass_release(u32 t, u64 object, u64 which, int is_last);
+void pass_open_access(u32 piece, u32 t, int writes);         /* in the pass that finds what repeats: so has_races is known after it */
+int has_races(u32 piece);              /* of an open one; an atomic write with a plain read isn't meant */
 void order_access(u32 piece, u32 t, int writes);
 void order_mixed_access(u32 piece, u32 t, int writes);       /* an atomic write, or a plain read of what is also written so */
 int order_is_known(void);              /* if not, the next three can't be asked */

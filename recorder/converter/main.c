@@ -59,6 +59,8 @@ static void find_order(u64 i) {
 static void find_repeated(u64 i) {
     leave_out_closed(i);
     if (!known[i]) return;
+    if (operation_of(i) == OP_FORK) pass_fork(thread_of(i), other_thread_of(i));
+    if (operation_of(i) == OP_JOIN) pass_join(thread_of(i), other_thread_of(i));
     meet_call(i);
     meet_events(i);
 }
@@ -137,9 +139,10 @@ static void find_open(void) {
     forget_states();
     only_open = order_is_known();
     phase = FINDING_REPEATED;
+    begin_times();
     if (only_open) pass(find_repeated, 0);
     phase = WRITING;
-    begin_written_times();
+    begin_times();
     forget_states();
     forget_calls();
 }

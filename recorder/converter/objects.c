@@ -343,7 +343,7 @@ static int is_last(which w, u32 t) { return w.sign == '>' && w.thread == t; }
 
 static void take_lock(object *o, u32 t, which w, u64 caller) {
     if (phase == ORDERING) order_acquire(t, first_word(o, w), second_word(w));
-    if (phase == WRITING && !pass_acquire(t, first_word(o, w), second_word(w))) take_hold(o, t, w, caller);
+    if (phase != ORDERING && !pass_acquire(t, first_word(o, w), second_word(w)) && phase == WRITING) take_hold(o, t, w, caller);
     else {
         if (phase == WRITING) lock_event(o, t, "acq", w, caller);
         held[t].others += sum_of_lock(o, w);
@@ -354,9 +354,8 @@ static void leave_lock(object *o, u32 t, which w, u64 caller) {
     int written = 1;
     if (phase == ORDERING) order_release(t, first_word(o, w), second_word(w), is_last(w, t));
     if (phase != WRITING || !end_hold(o, t, w, &written)) held[t].others -= sum_of_lock(o, w);
-    if (phase != WRITING) return;
-    if (written) lock_event(o, t, "rel", w, caller);
-    pass_release(t, first_word(o, w), second_word(w), is_last(w, t));
+    if (phase == WRITING && written) lock_event(o, t, "rel", w, caller);
+    if (phase != ORDERING) pass_release(t, first_word(o, w), second_word(w), is_last(w, t));
 }
 
 static void pass_lock(object *o, u32 t, which w, u64 caller) {

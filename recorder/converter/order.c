@@ -18,8 +18,9 @@ typedef struct { moment write, read; u32 more; } last_accesses;
 typedef struct { u32 from, to; } span; /* times of a slot */
 typedef struct { span *list; u64 count, capacity; } spans;
 /* Of a piece with open pairs: the last accesses of each slot, those of them that were compared with the others', and the times of
-   all accesses that are in open pairs; some that aren't may be among them. */
-typedef struct { clock_of_slots last[2], compared[2]; spans (*slots)[2]; u32 slot_count; } open_piece;      /* [1]: writes */
+   all accesses that are in open pairs; some that aren't may be among them. In the pass after it `written` has what the last write
+   comes after. */
+typedef struct { clock_of_slots last[2], compared[2], written; spans (*slots)[2]; u32 slot_count; int races; } open_piece;  /* [1]: writes */
 
 enum phase phase = WRITING;
 static int is_given_up;
@@ -32,8 +33,8 @@ static u32 passed[THREADS];
 static moment unused[MOST_SLOTS];      /* slots of threads that were joined, with their last times */
 static u32 unused_count;
 static map lock_map, mixed_map;
-/* user: the first thread that took it, plus one; takes: how often it is taken, and from the pass after it on how often it still will be. */
-typedef struct { clock_of_slots clock; u32 user, takes; int many_users; } lock;
+/* user: the first thread that took it, plus one; takes: how often it is taken; left: in a pass after it how often it still will be. */
+typedef struct { clock_of_slots clock; u32 user, takes, left; int many_users; } lock;
 static lock *locks;
 static clock_of_slots *readers;
 static u64 lock_count, lock_capacity, reader_count, reader_capacity;
@@ -279,11 +280,20 @@ int order_is_known(void) { return !is_given_up; }
 int is_open(u32 number) { return use_of_piece(number)->open; }
 int is_mixed_open(u32 number) { return use_of_piece(number)->mixed_open; }
 
-/* ---- the pass that writes: the same clocks, in which a slot's time goes on with each access that is in the trace ---- */
-void begin_written_times(void) {
+/* ---- the passes after it: the same clocks, in which a slot's time goes on with each access that is met, or written ---- */
+void begin_times(void) {
     for (u32 t = 0; t < thread_bound(); t++) empty(&threads[t]);
-    for (u64 k = 0; k < lock_count; k++) empty(&locks[k].clock);
+    for (u64 k = 0; k < lock_count; k++) {
+        empty(&locks[k].clock);
+        locks[k].left = locks[k].takes;
+    }
+    for (u64 k = 0; k < open_count; k++)
+        for (int writes = 0; writes < 2; writes++) {
+            empty(&open_pieces[k].last[writes]);
+            empty(&open_pieces[k].compared[writes]);
+        }
     memset(latest, 0, sizeof latest);
+    memset(passed, 0, sizeof passed);
 }
 
 static int has_times(void) { return only_open && !is_given_up; }
@@ -307,7 +317,7 @@ void pass_join(u32 t, u32 child) {
 int pass_acquire(u32 t, u64 object, u64 which) {
     if (!has_times()) return 1;
     lock *l = lock_of(object, which);
-    int learns = !are_before(&l->clock, &threads[t]), tells = --l->takes && l->many_users && !are_before(&threads[t], &l->clock);
+    int learns = !are_before(&l->clock, &threads[t]), tells = --l->left && l->many_users && !are_before(&threads[t], &l->clock);
     if (learns) add_clock(&threads[t], &l->clock);
     return learns || tells;
 }
@@ -316,9 +326,26 @@ void pass_release(u32 t, u64 object, u64 which, int is_last) {
     passed[t] += !is_last;
     if (!has_times()) return;
     lock *l = lock_of(object, which);
-    if (l->takes) add_clock(&l->clock, &threads[t]);
+    if (l->left) add_clock(&l->clock, &threads[t]);
     else empty(&l->clock);
 }
+
+static open_piece *open_piece_of(u32 number) { return &open_pieces[lasts[number - 1].more - 1]; }
+
+/* That a read comes after the write whose value it takes may order a pair that locks and the like leave open. */
+void pass_open_access(u32 number, u32 t, int writes) {
+    open_piece *o = open_piece_of(number);
+    if (!has_times()) return;
+    if (!are_before(&o->last[1], &threads[t]) || (writes && !are_before(&o->last[0], &threads[t]))) o->races = 1;
+    if (!writes) add_clock(&threads[t], &o->written);
+    pass_access(t);
+    set_time(&o->last[writes], (moment){firsts[t].slot, latest[firsts[t].slot]});
+    if (!writes) return;
+    empty(&o->written);
+    add_clock(&o->written, &threads[t]);
+}
+
+int has_races(u32 number) { return is_given_up || open_piece_of(number)->races; }
 
 /* ---- which accesses are in open pairs ---- */
 
@@ -335,7 +362,7 @@ static int is_in_span(const open_piece *o, u32 t, int writes) {
     return low < s->count && s->list[low].from <= time;
 }
 
-int may_be_in_open_pair(u32 number, u32 t, int writes) { return is_in_span(&open_pieces[lasts[number - 1].more - 1], t, writes); }
+int may_be_in_open_pair(u32 number, u32 t, int writes) { return is_in_span(open_piece_of(number), t, writes); }
 
 int may_be_in_mixed_pair(u32 number, u32 t, int writes) {
     u32 found = map_find(&mixed_map, number, 0);

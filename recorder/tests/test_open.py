@@ -1,6 +1,8 @@
-"""What `shb-std -r` leaves out has no race: records drawn at random have the same places with it and without."""
+"""What `shb-std -r` leaves out has no race: records drawn at random have the same places with it and without. Of a variable that races
+each thread's accesses at each place are there."""
 
 import random
+import re
 
 import recorder
 from test_record import HEADER, entry
@@ -60,14 +62,27 @@ class Drawn:
             self.add("JOIN", ended)
 
 
+def races(trace):
+    """The places of a trace, and the variables of their races."""
+    listed = recorder.must(recorder.call(recorder.SHB, "races", "--list", input=trace)).stdout.decode()
+    return set(re.findall(r"^at (.*)\nand (.*)$", listed, re.M)), set(re.findall(r"^first .*?\|\w\((.*)\)\|", listed, re.M))
+
+
+def accesses(trace, variables):
+    """The threads' accesses of these variables, each with its place once."""
+    found = re.findall(r"^((.*?\|[rw])\((.*)\)\|.*)$", trace.decode(), re.M)
+    return {line for line, _, variable in found if variable in variables}
+
+
 class Open(recorder.Case):
     def test_the_places_are_the_same(self):
         record, lines, kept, found = self.folder / "app.rec", 0, 0, 0
         for seed in range(150):
             record.write_bytes(HEADER + b"".join(Drawn(seed).entries))
             whole, needed = (recorder.must(recorder.convert(record, *words)).stdout for words in ((), ("-r",)))
-            places = recorder.places(whole)
-            self.assertEqual(places, recorder.places(needed), seed)
+            places, variables = races(whole)
+            self.assertEqual((places, variables), races(needed), seed)
+            self.assertEqual(accesses(whole, variables), accesses(needed, variables), seed)
             lines, kept, found = lines + whole.count(b"\n"), kept + needed.count(b"\n"), found + len(places)
         self.assertGreater(found, 500)
-        self.assertLess(kept, 0.9 * lines)
+        self.assertLess(kept, 0.8 * lines)

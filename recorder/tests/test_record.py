@@ -274,6 +274,14 @@ class Open(recorder.Case):
             self.assertIn(b"T2|begin(T2)|0x201\nT1|join(T2)|0x201\n", trace)
             self.assertEqual(recorder.places(trace), set())
 
+    def test_a_lock_that_tells_of_a_joined_thread(self):
+        entries = [entry(0, "FORK", 1, 0x101), entry(0, "FORK", 2, 0x102), entry(0, "FORK", 3, 0x103), entry(1, "WRITE", CELL, 0x201, 4),
+                   entry(0, "JOIN", 1, 0x104), entry(0, "LOCK", LOCK, 0x105), entry(0, "UNLOCK", LOCK, 0x106), entry(2, "LOCK", LOCK, 0x301),
+                   entry(2, "UNLOCK", LOCK, 0x302), entry(2, "WRITE", CELL, 0x303, 4), entry(3, "WRITE", CELL, 0x401, 4)]
+        self.record.write_bytes(HEADER + b"".join(entries))
+        trace = recorder.must(recorder.convert(self.record, "-r")).stdout
+        self.assertEqual(recorder.places(trace), {("0x201", "0x401"), ("0x303", "0x401")})
+
     def test_more_threads_than_are_ordered(self):
         """At one time; then nothing is left out, neither the accesses under the lock nor the lock, which so orders nothing."""
         for threads, events in ((1000, 1000), (1100, 4400)):
