@@ -165,7 +165,7 @@ void order_release(u32 t, u64 object, u64 which, int is_last);       /* is_last:
 void begin_times(void);
 void pass_access(u32 t), pass_fork(u32 t, u32 child), pass_join(u32 t, u32 child);
 int pass_acquire(u32 t, u64 object, u64 which);
-void pass_release(u32 t, u64 object, u64 which, int is_last);
+void pass_release(u32 t, u64 object, u64 which, int is_last, int is_met);        /* met: not left out */
 void pass_open_access(u32 piece, u32 t, int writes);         /* in the pass that finds what repeats: so has_races is known after it */
 int has_races(u32 piece);              /* of an open one; an atomic write with a plain read isn't meant */
 void order_access(u32 piece, u32 t, int writes);

@@ -355,7 +355,7 @@ static void leave_lock(object *o, u32 t, which w, u64 caller) {
     if (phase == ORDERING) order_release(t, first_word(o, w), second_word(w), is_last(w, t));
     if (phase != WRITING || !end_hold(o, t, w, &written)) held[t].others -= sum_of_lock(o, w);
     if (phase == WRITING && written) lock_event(o, t, "rel", w, caller);
-    if (phase != ORDERING) pass_release(t, first_word(o, w), second_word(w), is_last(w, t));
+    if (phase != ORDERING) pass_release(t, first_word(o, w), second_word(w), is_last(w, t), written);
 }
 
 static void pass_lock(object *o, u32 t, which w, u64 caller) {

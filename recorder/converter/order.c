@@ -33,11 +33,12 @@ static u32 passed[THREADS];
 static moment unused[MOST_SLOTS];      /* slots of threads that were joined, with their last times */
 static u32 unused_count;
 static map lock_map, mixed_map;
-/* user: the first thread that took it, plus one; takes: how often it is taken; left: in a pass after it how often it still will be. */
-typedef struct { clock_of_slots clock; u32 user, takes, left; int many_users; } lock;
+typedef struct { clock_of_slots clock; u32 taker; u64 take; } lock;      /* who took it last, plus one; the number of that acquire */
 static lock *locks;
 static clock_of_slots *readers;
 static u64 lock_count, lock_capacity, reader_count, reader_capacity;
+static uint8_t *heard;                 /* by number of an acquire: is it another thread that takes the lock next? */
+static u64 take_count, heard_capacity;
 static last_accesses *lasts;           /* by piece */
 static u64 last_count, last_capacity;
 static open_piece *open_pieces;
@@ -144,9 +145,11 @@ void order_acquire(u32 t, u64 object, u64 which) {
     now(t);
     if (is_given_up) return;
     lock *l = lock_of(object, which);
-    l->takes++;
-    if (!l->user) l->user = t + 1;
-    if (l->user != t + 1) l->many_users = 1;
+    GROW(heard, take_count, heard_capacity);
+    heard[take_count] = 0;
+    if (l->taker && l->taker != t + 1) heard[l->take] = 1;
+    l->taker = t + 1;
+    l->take = take_count++;
     add_clock(&threads[t], &l->clock);
 }
 
@@ -283,10 +286,7 @@ int is_mixed_open(u32 number) { return use_of_piece(number)->mixed_open; }
 /* ---- the passes after it: the same clocks, in which a slot's time goes on with each access that is met, or written ---- */
 void begin_times(void) {
     for (u32 t = 0; t < thread_bound(); t++) empty(&threads[t]);
-    for (u64 k = 0; k < lock_count; k++) {
-        empty(&locks[k].clock);
-        locks[k].left = locks[k].takes;
-    }
+    for (u64 k = 0; k < lock_count; k++) empty(&locks[k].clock);
     for (u64 k = 0; k < open_count; k++)
         for (int writes = 0; writes < 2; writes++) {
             empty(&open_pieces[k].last[writes]);
@@ -294,6 +294,7 @@ void begin_times(void) {
         }
     memset(latest, 0, sizeof latest);
     memset(passed, 0, sizeof passed);
+    take_count = 0;
 }
 
 static int has_times(void) { return only_open && !is_given_up; }
@@ -317,17 +318,17 @@ void pass_join(u32 t, u32 child) {
 int pass_acquire(u32 t, u64 object, u64 which) {
     if (!has_times()) return 1;
     lock *l = lock_of(object, which);
-    int learns = !are_before(&l->clock, &threads[t]), tells = --l->left && l->many_users && !are_before(&threads[t], &l->clock);
+    int learns = !are_before(&l->clock, &threads[t]), tells = heard[take_count++] && !are_before(&threads[t], &l->clock);
     if (learns) add_clock(&threads[t], &l->clock);
     return learns || tells;
 }
 
-void pass_release(u32 t, u64 object, u64 which, int is_last) {
+void pass_release(u32 t, u64 object, u64 which, int is_last, int is_met) {
     passed[t] += !is_last;
-    if (!has_times()) return;
+    if (!has_times() || !is_met) return;
     lock *l = lock_of(object, which);
-    if (l->left) add_clock(&l->clock, &threads[t]);
-    else empty(&l->clock);
+    if (is_last) empty(&l->clock);
+    else add_clock(&l->clock, &threads[t]);
 }
 
 static open_piece *open_piece_of(u32 number) { return &open_pieces[lasts[number - 1].more - 1]; }
