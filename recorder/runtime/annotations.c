@@ -14,14 +14,6 @@ PUBLIC void AnnotateHappensAfter(const char *file, int line, const volatile void
 PUBLIC void WTFAnnotateHappensBefore(const char *file, int line, const volatile void *p) { note(OP_POST, p, CALLER); }
 PUBLIC void WTFAnnotateHappensAfter(const char *file, int line, const volatile void *p) { note(OP_WAIT, p, CALLER); }
 
-/* New variables, at an address of the program's own. */
-static void note_object(void *p, size_t size, uint64_t caller) {
-    thread *t = enter(NEVER_YIELD);
-    if (!t) return;
-    put(t, OP_ALLOC, p, size ? size : 1, caller);
-    leave(t);
-}
-
 PUBLIC void AnnotateThreadName(const char *file, int line, const char *name) {
     if (name) note_name(pthread_self(), name);
 }
@@ -48,8 +40,8 @@ PUBLIC int __tsan_mutex_pre_unlock(void *lock, unsigned flags) {
 }
 
 /* ---- a virtual machine of Java: objects and locks of its own, by their addresses ---- */
-PUBLIC void __tsan_java_alloc(void *p, size_t size) { note_object(p, size, CALLER); }
-PUBLIC void __tsan_java_move(void *from, void *to, size_t size) { note_object(to, size, CALLER); }
+PUBLIC void __tsan_java_alloc(void *p, size_t size) { allocated(p, size, CALLER); }
+PUBLIC void __tsan_java_move(void *from, void *to, size_t size) { allocated(to, size, CALLER); }
 PUBLIC void __tsan_java_mutex_lock(void *lock) { note_taken(lock, 1, CALLER); }
 PUBLIC void __tsan_java_mutex_lock_rec(void *lock, int depth) { note_taken(lock, 1, CALLER); }
 PUBLIC void __tsan_java_mutex_read_lock(void *lock) { note_taken(lock, 0, CALLER); }

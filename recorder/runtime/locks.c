@@ -200,26 +200,23 @@ PUBLIC void call_once(once_flag *flag, void (*function)(void)) { pthread_once((p
 /* Without a C++ library behind this one (it is linked into the program, or came by dlopen) it is done here: the first
    byte says that the variable is ready, the second that somebody makes it. */
 int __cxa_guard_acquire(char *), __cxa_guard_release(char *), __cxa_guard_abort(char *);
+static int plain_abort(char *byte) {
+    __atomic_store_n(byte + 1, 0, __ATOMIC_RELEASE);
+    return 0;
+}
 static int plain_acquire(char *byte) {
     for (;;) {
         char idle = 0;
         if (__atomic_load_n(byte, __ATOMIC_ACQUIRE)) return 0;
         if (__atomic_compare_exchange_n(byte + 1, &idle, 1, 0, __ATOMIC_ACQUIRE, __ATOMIC_RELAXED)) {
-            if (!__atomic_load_n(byte, __ATOMIC_ACQUIRE)) return 1;
-            __atomic_store_n(byte + 1, 0, __ATOMIC_RELEASE);
-            return 0;
+            return __atomic_load_n(byte, __ATOMIC_ACQUIRE) ? plain_abort(byte) : 1;
         }
         syscall(SYS_sched_yield);
     }
 }
 static int plain_release(char *byte) {
     __atomic_store_n(byte, 1, __ATOMIC_RELEASE);
-    __atomic_store_n(byte + 1, 0, __ATOMIC_RELEASE);
-    return 0;
-}
-static int plain_abort(char *byte) {
-    __atomic_store_n(byte + 1, 0, __ATOMIC_RELEASE);
-    return 0;
+    return plain_abort(byte);
 }
 static int real_acquire(char *byte) { return REAL(__cxa_guard_acquire) ? REAL(__cxa_guard_acquire)(byte) : plain_acquire(byte); }
 static int real_release(char *byte) { return REAL(__cxa_guard_release) ? REAL(__cxa_guard_release)(byte) : plain_release(byte); }

@@ -14,7 +14,7 @@ void *__libc_memalign(size_t, size_t);
 void __libc_free(void *);
 
 /* ---- a new block is new variables; a free is a write ---- */
-static void *allocated(void *p, size_t size, uint64_t caller) {
+void *allocated(void *p, size_t size, uint64_t caller) {
     thread *t = p ? enter(NEVER_YIELD) : 0;
     if (!t) return p;
     put(t, OP_ALLOC, p, size ? size : 1, t->new_caller ? t->new_caller : caller);

@@ -14,17 +14,17 @@
 enum { MAX_MODULES = 256 };
 struct module modules[MAX_MODULES];
 int module_count;
-static uint64_t openmp_low, openmp_high;                       /* the code of clang's OpenMP library */
+static struct module openmp;           /* the code of clang's OpenMP library */
 
-int tells_its_own_order(uint64_t caller) { return caller >= openmp_low && caller < openmp_high; }
+int tells_its_own_order(uint64_t caller) { return caller >= openmp.low && caller < openmp.high; }
 
-static void note_module(struct dl_phdr_info *info, uint64_t low, uint64_t high) {
+static void note_module(struct dl_phdr_info *info, struct module m) {
     char path[PATH_MAX] = "", line[PATH_MAX + 64];
     if (!*info->dlpi_name && readlink("/proc/self/exe", path, sizeof path - 1) < 0) return;
     if (*info->dlpi_name) snprintf(path, sizeof path, "%s", info->dlpi_name);
     for (char *p = path; *p; p++)
         if (*p == '\n') *p = LINE_END_IN_PATH;
-    snprintf(line, sizeof line, "%lx %lx %lx %s\n", low, high, (long)info->dlpi_addr, path);
+    snprintf(line, sizeof line, "%lx %lx %lx %s\n", m.low, m.high, (long)info->dlpi_addr, path);
     note_text(line);
 }
 
@@ -40,26 +40,28 @@ static int imports_hooks(struct dl_phdr_info *info, const ElfW(Phdr) *dynamic) {
     return strings && memmem((void *)strings, size, name, sizeof name);
 }
 
-static int see_module(struct dl_phdr_info *info, size_t size, void *unused) {
-    uint64_t low = ~0ull, high = 0, own = (uint64_t)see_module;
-    int hooks = 0;
+static struct module bounds_of(const struct dl_phdr_info *info) {
+    struct module m = {~0ull, 0};
     for (int i = 0; i < info->dlpi_phnum; i++) {
         const ElfW(Phdr) *part = &info->dlpi_phdr[i];
         uint64_t from = info->dlpi_addr + part->p_vaddr;
-        if (part->p_type == PT_DYNAMIC) hooks = imports_hooks(info, part);
         if (part->p_type != PT_LOAD) continue;
-        if (from < low) low = from;
-        if (from + part->p_memsz > high) high = from + part->p_memsz;
+        if (from < m.low) m.low = from;
+        if (from + part->p_memsz > m.high) m.high = from + part->p_memsz;
     }
-    note_module(info, low, high);
+    return m;
+}
+
+static int see_module(struct dl_phdr_info *info, size_t size, void *unused) {
+    struct module m = bounds_of(info);
+    uint64_t own = (uint64_t)see_module;
+    int hooks = 0;
+    for (int i = 0; i < info->dlpi_phnum; i++)
+        if (info->dlpi_phdr[i].p_type == PT_DYNAMIC) hooks = imports_hooks(info, &info->dlpi_phdr[i]);
+    note_module(info, m);
     const char *slash = strrchr(info->dlpi_name, '/');
-    if (slash && (!strncmp(slash, "/libomp.", 8) || !strncmp(slash, "/libiomp5.", 10))) {
-        openmp_low = low;
-        openmp_high = high;
-    }
-    if (!hooks || (own >= low && own < high) || instrumented(low) || module_count == MAX_MODULES) return 0;
-    modules[module_count].low = low;
-    modules[module_count++].high = high;
+    if (slash && (!strncmp(slash, "/libomp.", 8) || !strncmp(slash, "/libiomp5.", 10))) openmp = m;
+    if (hooks && (own < m.low || own >= m.high) && !instrumented(m.low) && module_count < MAX_MODULES) modules[module_count++] = m;
     return 0;
 }
 
@@ -97,15 +99,8 @@ typedef struct { struct module at[MAX_MODULES]; int count; } loaded;
 
 static int add_loaded(struct dl_phdr_info *info, size_t size, void *loaded_) {
     loaded *l = loaded_;
-    uint64_t low = ~0ull, high = 0;
-    for (int i = 0; i < info->dlpi_phnum; i++) {
-        const ElfW(Phdr) *part = &info->dlpi_phdr[i];
-        if (part->p_type != PT_LOAD) continue;
-        uint64_t from = info->dlpi_addr + part->p_vaddr;
-        if (from < low) low = from;
-        if (from + part->p_memsz > high) high = from + part->p_memsz;
-    }
-    if (high && l->count < MAX_MODULES) l->at[l->count++] = (struct module){low, high};
+    struct module m = bounds_of(info);
+    if (m.high && l->count < MAX_MODULES) l->at[l->count++] = m;
     return 0;
 }
 

@@ -137,6 +137,9 @@ void note_modules(void);
     real_; \
 })
 
+/* memory.c */
+void *allocated(void *p, size_t size, uint64_t caller);      /* notes new variables; gives p */
+
 /* waits.c */
 void let_others_run(void);             /* gives the turn up before a call that may wait */
 
