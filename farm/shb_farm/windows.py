@@ -35,10 +35,18 @@ def analysed(work, name, trace, folder):
 
 def cut(work, trace, folder):
     """Cuts an open trace into windows, each of which may be as long as the program takes."""
+    check_room(trace, folder)
     with files.temporary_file(passes.room_in(work.out)) as (out, _):
         wide = work._replace(size=max(work.size, MOST_BYTES // MIB))
         status, said = running.run(wide, [work.windows, "-n", str(MOST_EVENTS), "-o", str(folder)], trace, out)
     return running.end_of(wide, status, said, 0)
+
+
+def check_room(trace, folder):
+    """All windows are there at once, and most lines are in two of them."""
+    needed, free = 2 * os.fstat(trace.fileno()).st_size, shutil.disk_usage(folder).free
+    if needed > free:
+        raise running.NotHere(f"its windows take about {needed:,} bytes of the disk, and {free:,} are free")
 
 
 def window_analysed(work, window, places, folder):

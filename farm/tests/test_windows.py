@@ -1,9 +1,14 @@
 """A trace that is longer than the program takes, with a stand-in of the command that cuts it."""
 
 import json
+import shutil
+from unittest import mock
 
 import farm
 from farm import BAD, CLEAN, RACE
+from shb_farm import running, windows
+from shb_farm.passes import Pass
+from shb_farm.running import End
 
 LONG = b"A|end\n" * 4_194_305
 LONG_WORDS = "line 4194305: there are more than 4194304 events"
@@ -66,3 +71,15 @@ class Windows(farm.Case):
             self.farm("--memory", "2000", SHB_WINDOWS=self.cutter((), more))
             self.assertEqual(self.ends()["long.std"], wanted)
             (self.out / "outcomes" / "long.std.outcome").unlink()
+
+    def test_a_disk_without_room_for_its_windows(self):
+        """All are there at once, and take twice the trace's bytes, which are 28."""
+        work = Pass("", "", str(self.cutter(())), "", str(self.out), memory=2000, seconds=600, size=1)
+        use = shutil.disk_usage(self.folder)
+        with open(self.traces / "race.std", "rb") as trace:
+            with mock.patch("shutil.disk_usage", return_value=use._replace(free=56)):
+                end, _ = windows.analysed(work, "race.std", trace, self.folder / "room")
+            with mock.patch("shutil.disk_usage", return_value=use._replace(free=55)):
+                with self.assertRaisesRegex(running.NotHere, r"^its windows take about 56 bytes of the disk, and 55 are free$"):
+                    windows.analysed(work, "race.std", trace, self.folder / "none")
+        self.assertEqual(end, End("failed", "shb-windows made no window"))
