@@ -124,13 +124,17 @@ class Library(Unchanged):
 class NoRights(Unchanged):
     """A program may give up its rights, and /proc: threads that sleep are known as such, and no others."""
 
-    def test_a_program_that_gives_up_proc_or_its_rights(self):
+    def run_without(self, what):
+        """Runs the program that gives this up."""
         program = self.program("no_proc.c")
+        if recorder.call(program, what, env=self.settings(SHB_RECORD="")).returncode == 2:
+            self.skipTest("it takes root's rights")
+        return self.run_recorded(program, what)
+
+    def test_a_program_that_gives_up_proc_or_its_rights(self):
         for what in ("chroot", "setuid", "both"):
             with self.subTest(what):
-                if recorder.call(program, what, env=self.settings(SHB_RECORD="")).returncode == 2:
-                    self.skipTest("it takes root's rights")
-                ran = self.run_recorded(program, what)
+                ran = self.run_without(what)
                 self.assertEqual(ran.stderr, b"")
                 answer = recorder.must(recorder.convert(self.folder / "app.rec"))
                 self.assertEqual(self.racing_lines("no_proc.c", answer), self.marked("no_proc.c"))
@@ -139,3 +143,11 @@ class NoRights(Unchanged):
                     filled += thread != "main"
                     expected += [filled] * (thread == "main")
                 self.assertEqual([int(value) for value in ran.stdout.split()], expected)
+
+    def test_where_nothing_tells_who_sleeps_the_recording_ends(self):
+        reason = b"a thread's state cannot be read in /proc"
+        ran = self.run_without("close")
+        self.assertEqual(ran.stderr, b"shb recorder: " + reason + b"; the recording ends here, the program goes on\n")
+        answer = recorder.part(recorder.convert(self.folder / "app.rec"))
+        self.assertIn(b"is not the whole run: " + reason, answer.stderr)
+        self.assertLessEqual(self.racing_lines("no_proc.c", answer), self.marked("no_proc.c"))

@@ -1,7 +1,8 @@
-/* As its first word says it gives up /proc (chroot), its rights (setuid) or both. Then a thread fills a block in one call while
+/* As its first word says it gives up /proc (chroot; close: also where that was opened before), its rights (setuid) or both. Then a thread fills a block in one call while
    main reads its last byte, and prints what it got; and a thread sleeps in a call that the recorder doesn't see while others
    take turns. */
 #define _GNU_SOURCE
+#include <linux/magic.h>
 #include <pthread.h>
 #include <signal.h>
 #include <stdatomic.h>
@@ -9,6 +10,8 @@
 #include <stdlib.h>
 #include <string.h>
 #include <sys/stat.h>
+#include <sys/syscall.h>
+#include <sys/vfs.h>
 #include <unistd.h>
 
 enum { BYTES = 64 << 20, ROUNDS = 8 };
@@ -43,9 +46,12 @@ static void *work(void *unused) {
 
 static int give_up(const char *what) {
     char folder[] = "/tmp/no_procXXXXXX";
-    if (!strcmp(what, "chroot") || !strcmp(what, "both")) {
+    struct statfs of;
+    if (strcmp(what, "setuid")) {
         if (!mkdtemp(folder) || chdir(folder) || rmdir(folder) || chroot(".")) return 1;
     }
+    for (int f = 3; !strcmp(what, "close") && f < 1024; f++)
+        if (!fstatfs(f, &of) && of.f_type == PROC_SUPER_MAGIC) syscall(SYS_close, f);
     if (!strcmp(what, "setuid") || !strcmp(what, "both")) return setgid(65534) || setuid(65534);
     return 0;
 }
