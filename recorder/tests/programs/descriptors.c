@@ -1,9 +1,10 @@
 /* What is written to a descriptor comes before what is read at its other end: through a duplicate, a FIFO that is opened by
-   its name, a connection within the process, and streams. */
+   its name, a connection within the process, and streams. Each duplicate is written to when the one before was read. */
 #define _GNU_SOURCE
 #include <fcntl.h>
 #include <netinet/in.h>
 #include <pthread.h>
+#include <stdatomic.h>
 #include <stdio.h>
 #include <stdlib.h>
 #include <sys/socket.h>
@@ -11,6 +12,7 @@
 #include <unistd.h>
 
 enum { WAYS = 7 };
+static atomic_int got;                                      /* it orders nothing */
 static int data[WAYS], reply, racy, ends[2], copies[3], streams[2];
 static char folder[] = "/tmp/descriptorsXXXXXX";
 static struct sockaddr_in at = {.sin_family = AF_INET};
@@ -28,6 +30,7 @@ static void *work(void *unused) {
     for (int i = 0; i < 3; i++) {
         data[i] = 1;
         send_byte(copies[i]);
+        while (atomic_load_explicit(&got, memory_order_relaxed) <= i) ;
     }
     int fifo = open("fifo", O_WRONLY), f = socket(AF_INET, SOCK_STREAM, 0);
     data[3] = 1;
@@ -63,6 +66,7 @@ int main(void) {
     for (int i = 0; i < 3; i++) {
         get_byte(ends[0]);
         sum += data[i];
+        atomic_store_explicit(&got, i + 1, memory_order_relaxed);
     }
     int fifo = open("fifo", O_RDONLY);
     get_byte(fifo);
