@@ -134,7 +134,7 @@ class Command(recorder.Case):
         fake, log = self.folder / "shb", self.folder / "log"
         fake.write_text(f'#!/bin/sh\n[ "$1 $2" = "places --list" ] && find . -name "window-*.std" | wc -l >> {log}\nexec {recorder.SHB} "$@"\n')
         fake.chmod(0o755)
-        status, _, said = self.record("--window", "1500", self.program("long_race.c"), SHB=str(fake))
+        status, _, said = self.record("--window", "700", self.program("long_race.c"), SHB=str(fake))
         self.assertEqual(status, 66, said)
         numbers = list(map(int, text_of(log).split()))
         self.assertGreater(len(numbers), 8)
