@@ -84,6 +84,12 @@ class Edits(side_by_side.Case):
         self.assertEqual([functions for _, functions in self.checks], [{"first"}, {"first"}])
         self.assertEqual(self.alone, [])
 
+    def test_an_edit_outside_of_functions_is_a_check_of_its_own(self):
+        edits = [self.edit("first.outside", "file: src/lib.rt\nold: /// One more.\nnew: /// One less.\n"), self.edit("second.other", SECOND)]
+        told = self.tried(edits, (1, "fn low::Pair::second: not proved\n"), (1, "fn low::first: not proved\n"))
+        self.assertEqual(told, {"first.outside.edit": True, "second.other.edit": True})
+        self.assertEqual([functions for _, functions in self.checks], [{"Pair::second"}, {"first"}])
+
     def test_what_the_kit_says_of_one_edit_is_one_of_its_answers(self):
         kinds = {"REFUSED": "refused", "AT_LIMIT": "limit", "BAD": "bad", "MISSED": "missed", "UNSURE": "unsure"}
         for kind in kinds.values():

@@ -67,17 +67,29 @@ def functions_of(edit, crate):
     return found & known | {it for it in known for end in ends if re.search(rf"(?:^|::){end}$", it)}
 
 
+def is_in_functions(edit, crate):
+    """Whether an edit changes the lines of functions. Another one, as of a type's fields, may change what any function does."""
+    try:
+        return bool(changed_by(edit, crate.folder))
+    except (OSError, KeyError):
+        return False
+
+
 def batches(crate, edits):
-    """The edits as dicts from an edit to its functions. No two edits of a dict change one function."""
-    found = []
+    """The edits as dicts from an edit to its functions. No two edits of a dict change one function, and one outside of functions
+    is in a dict of its own."""
+    found, alone = [], []
     for edit in edits:
         names = functions_of(edit, crate)
+        if not is_in_functions(edit, crate):
+            alone.append({edit: names})
+            continue
         fits = (it for it in found if names and not names & set().union(*it.values()) and kit.change([*it, edit], crate))
         batch = next(fits, None)
         if batch is None:
             found.append(batch := {})
         batch[edit] = names
-    return found
+    return [*found, *alone]
 
 
 def refused_in(status, said, batch, name, texts):
