@@ -324,7 +324,7 @@ class Sizes(program.Case):
         self.expect(program.run(["races"], trace), 0, without_races(trace.count(b"\n"), 2, 0, 1))
 
     def test_two_million_places(self):
-        """With a table of places that grows no further than 65,536 it would take some ten minutes."""
+        """Each place is an entry of a table, which grows with them."""
         made = SquareOfPlaces(OTHER_VARIABLES, 1_450)
         self.assertGreater(len(made.pairs), 2**21)
         words = ["places", "--list", self.file(made.trace())]
