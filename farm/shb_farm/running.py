@@ -49,8 +49,19 @@ def run(work, words, given, out):
     check_machine(work)
     os.lseek(given.fileno(), 0, os.SEEK_SET)    # Python's own `seek` may move in its buffer alone
     ran = subprocess.run(words, stdin=given, stdout=out, stderr=subprocess.PIPE, preexec_fn=lambda: set_limits(work))
-    said = " ".join(ran.stderr[:MOST_WORDS].decode("utf-8", "backslashreplace").split())
-    return ran.returncode, said
+    return ran.returncode, words_in(ran.stderr)
+
+
+def start(work, words, given):
+    """Starts a command that gets an open file beside three pipes."""
+    check_machine(work)
+    return subprocess.Popen(words, bufsize=0, stdin=subprocess.PIPE, stdout=subprocess.PIPE, stderr=subprocess.PIPE,
+                            pass_fds=[given.fileno()], preexec_fn=lambda: set_limits(work))
+
+
+def words_in(said):
+    """What a command said, as words of an outcome."""
+    return " ".join(said[:MOST_WORDS].decode("utf-8", "backslashreplace").split())
 
 
 def end_of(work, status, said, written):

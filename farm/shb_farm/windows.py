@@ -4,10 +4,11 @@ The races of a window are those of the whole trace with both accesses in it. Wha
 isn't found.
 """
 
+import contextlib
 import os
 import shutil
 
-from shb_farm import files, passes, reports, running
+from shb_farm import passes, reports, running
 from shb_farm.limits import MIB, MOST_BYTES, MOST_EVENTS
 from shb_farm.running import End
 
@@ -16,40 +17,51 @@ def analysed(work, name, trace, folder):
     """How the program ended on the windows of an open trace, and the places that it found. `folder` is for the windows, and isn't
     there yet."""
     folder.mkdir()
-    end = cut(work, trace, folder)
-    places, found = {}, sorted(folder.glob("window-*.std"))
-    if not found and end.kind == "report":
-        end = End("failed", "shb-windows made no window")
+    check_room(trace, folder)
+    ends, places = [], {}
+    end = cut(work, trace, folder, lambda window: take(work, window, ends, places))
+    if end.kind == "report":
+        end = ends[-1] if ends else End("failed", "shb-windows made no window")
     if end.kind != "report":
         return end, []
-    for window in found:
-        end, more = window_analysed(work, window, places, folder)
-        if end.kind != "report":
-            words = f"{window.stem}: {end.words}" if end.kind in ("refused", "failed") else end.words
-            return End(end.kind, words), []
-        places.update(dict.fromkeys(more))
     if work.form == passes.FULL:
         put_reports(folder, passes.windows_path(work.out, name))
-    return End("report", f"{len(found)} windows"), list(places)
-
-
-def cut(work, trace, folder):
-    """Cuts an open trace into windows, each of which may be as long as the program takes."""
-    check_room(trace, folder)
-    with files.temporary_file(passes.room_in(work.out)) as (out, _):
-        wide = work._replace(size=max(work.size, MOST_BYTES // MIB))
-        status, said = running.run(wide, [work.windows, "-n", str(MOST_EVENTS), "-o", str(folder)], trace, out)
-    return running.end_of(wide, status, said, 0)
+    return End("report", f"{len(ends)} windows"), list(places)
 
 
 def check_room(trace, folder):
-    """All windows are there at once, and most lines are in two of them."""
-    needed, free = 2 * os.fstat(trace.fileno()).st_size, shutil.disk_usage(folder).free
+    """At most one and a half windows are there at once, and most lines are in two of a trace's."""
+    needed, free = min(2 * os.fstat(trace.fileno()).st_size, MOST_BYTES * 3 // 2), shutil.disk_usage(folder).free
     if needed > free:
         raise running.NotHere(f"its windows take about {needed:,} bytes of the disk, and {free:,} are free")
 
 
-def window_analysed(work, window, places, folder):
+def cut(work, trace, folder, use):
+    """Cuts an open trace into windows, each of which may be as long as the program takes, and has each one used before the next is
+    whole; gives how that ended."""
+    wide = work._replace(size=max(work.size, MOST_BYTES // MIB))
+    words = [work.windows, "--one-by-one", "-n", str(MOST_EVENTS), "-o", str(folder), f"/dev/fd/{trace.fileno()}"]
+    with running.start(wide, words, trace) as cutter:
+        for row in cutter.stdout:       # where a use fails nobody reads the next row, which ends the command
+            use(folder / row.decode().split("\t")[0])
+            with contextlib.suppress(BrokenPipeError):
+                cutter.stdin.write(b"\n")
+        said = cutter.stderr.read()
+    return running.end_of(wide, cutter.returncode, running.words_in(said), 0)
+
+
+def take(work, window, ends, places):
+    """Adds how the program ended on a window to `ends`, and to `places` those that it found, and deletes it where it has no report
+    that is kept. After one without a report no other is analysed, but the trace is read on, since it may be refused."""
+    if all(end.kind == "report" for end in ends):
+        end, more = window_analysed(work, window, places)
+        places.update(dict.fromkeys(more))
+        ends.append(end._replace(words=f"{window.stem}: {end.words}") if end.kind in ("refused", "failed") else end)
+    if not window.with_suffix(".report").exists():
+        window.unlink()
+
+
+def window_analysed(work, window, places):
     """How the program ended on one window, and its places that aren't among `places`. Of a pass for full reports the window's
     report is put beside it if it has such a place."""
     with open(window, "rb") as trace:
@@ -64,9 +76,6 @@ def window_analysed(work, window, places, folder):
 
 def put_reports(folder, place):
     """Keeps the windows that have a report, with the table that maps their events to those of the trace."""
-    for window in folder.glob("window-*.std"):
-        if not window.with_suffix(".report").exists():
-            window.unlink()
     place.parent.mkdir(parents=True, exist_ok=True)
     shutil.rmtree(place, ignore_errors=True)
     os.rename(folder, place)

@@ -2,6 +2,8 @@
 
 import random
 import re
+import signal
+import subprocess
 
 import recorder
 
@@ -140,6 +142,32 @@ class Windows(recorder.Case):
         self.assertEqual(self.files(), ["window-0001.std", "windows.tsv"])  # those of the first call are gone
         self.assertEqual((self.folder / "w" / "window-0001.std").read_text(), TRACE.replace("\n\n", "\n"))
 
+    def one_by_one(self):
+        path = self.folder / "trace"
+        path.write_text(TRACE)
+        words = [recorder.BUILT / "shb-windows", "--one-by-one", "-n", "6", "-o", self.folder / "w", path]
+        return subprocess.Popen(words, bufsize=0, stdin=subprocess.PIPE, stdout=subprocess.PIPE)
+
+    def test_one_by_one(self):
+        """At each row that window is whole, and beside it there is at most the next one, which has its first half."""
+        rows = TABLE.splitlines(True)[1:]
+        with self.one_by_one() as ran:
+            for number, row in enumerate(ran.stdout, 1):
+                self.assertEqual(row.decode(), rows[number - 1])
+                self.assertEqual(self.files(), [f"window-000{n}.std" for n in range(number, min(number + 2, 5))])
+                whole = self.folder / "w" / f"window-000{number}.std"
+                self.assertEqual(whole.read_text(), WINDOWS[number - 1])
+                whole.unlink()
+                ran.stdin.write(b"\n")
+        self.assertEqual((ran.returncode, number, self.files()), (0, 4, ["windows.tsv"]))
+        self.assertEqual((self.folder / "w" / "windows.tsv").read_text(), TABLE)
+
+    def test_one_by_one_without_a_reader(self):
+        """It ends at its next row."""
+        with self.one_by_one() as ran:
+            ran.stdout.readline()
+        self.assertEqual((ran.returncode, self.files()), (-signal.SIGPIPE, [f"window-000{n}.std" for n in range(1, 4)]))
+
     def test_what_shb_refuses(self):
         for trace, line, reason in REFUSED:
             with self.subTest(reason):
@@ -182,7 +210,8 @@ class Windows(recorder.Case):
 
     def test_words(self):
         for words, status, said in ((("-x",), 3, b"bad command line"), (("-n", "0", "-o", self.folder), 3, b"bad command line"),
-                                    ((), 3, b"bad command line"), (("-o", self.folder, "none"), 4, b"cannot open none"),
+                                    ((), 3, b"bad command line"), (("--one-by-one", "-o", self.folder), 3, b"bad command line"),
+                                    (("-o", self.folder, "none"), 4, b"cannot open none"),
                                     (("-o", "/dev/null", "/dev/null"), 4, b"cannot write to /dev/null")):
             answer = recorder.call(recorder.BUILT / "shb-windows", *words)
             self.assertEqual((answer.returncode, said in answer.stderr), (status, True), answer.stderr)

@@ -1,15 +1,15 @@
 /* shb-windows: cuts an STD trace of any length into overlapping windows that shb takes. */
 #include <errno.h>
+#include <getopt.h>
 #include <stdio.h>
 #include <stdlib.h>
 #include <string.h>
-#include <unistd.h>
 #include "../converter/converter.h"
 
 enum { SHB_EVENTS = 4194304, REFUSED = 2, FAILED = 4, LINE_ROOM = 1 << 20 };
 
 static const char help[] =
-    "usage: shb-windows [-n EVENTS] -o DIR [TRACE]\n"
+    "usage: shb-windows [-n EVENTS] [--one-by-one] -o DIR [TRACE]\n"
     "\n"
     "Cuts a trace of any length, from TRACE or standard input, into overlapping traces that shb takes:\n"
     "DIR/window-0001.std, window-0002.std.., and DIR/windows.tsv: for each file the first and the last\n"
@@ -18,9 +18,12 @@ static const char help[] =
     "races of the whole trace with both accesses in it; so each race whose accesses are fewer than half\n"
     "a window apart is found, and a race of accesses further apart may not be.\n"
     "\n"
-    "  -n EVENTS   a window's most events, the added ones counted (4194304, which is what shb takes)\n"
-    "  -o DIR      the folder; it is made if it isn't there\n"
-    "  -h, --help  this text\n"
+    "  -n EVENTS     a window's most events, the added ones counted (4194304, which is what shb takes)\n"
+    "  -o DIR        the folder; it is made if it isn't there\n"
+    "  --one-by-one  after each window write its row of windows.tsv to standard output, and go on after a\n"
+    "                line on standard input or its end, so that it can be deleted before the next one is\n"
+    "                whole; it needs TRACE\n"
+    "  -h, --help    this text\n"
     "\n"
     "Exit status: 0; 2 the trace is refused, as shb would refuse it; 3 wrong command line;\n"
     "4 a file can't be read or written.\n" VERSION_LINE;
@@ -30,14 +33,14 @@ static u64 most_events = SHB_EVENTS;
 
 /* Gives the trace's path, or null for standard input. */
 static const char *read_words(int count, char **words) {
-    if (count > 1 && !strcmp(words[1], "--help")) words[1] = "-h";
-    for (int c; (c = getopt(count, words, "hn:o:")) > 0;)
+    static const struct option options[] = {{"one-by-one", no_argument, &one_by_one, 1}, {"help", no_argument, 0, 'h'}, {0, 0, 0, 0}};
+    for (int c; (c = getopt_long(count, words, "hn:o:", options, 0)) >= 0;)
         if (c == 'h') {
             fputs(help, stdout);
             exit(0);
         } else if (c == 'o') folder = optarg;
-        else if (c != 'n' || (most_events = strtoull(optarg, 0, 10)) < 2 || most_events > SHB_EVENTS) bad_words();
-    if (!folder || optind + 1 < count) bad_words();
+        else if (c && (c != 'n' || (most_events = strtoull(optarg, 0, 10)) < 2 || most_events > SHB_EVENTS)) bad_words();
+    if (!folder || optind + 1 < count || (one_by_one && optind == count)) bad_words();
     return words[optind];
 }
 
