@@ -8,7 +8,7 @@
    Then records of 16 bytes in the order in which things happened, until one of zeros or the file's end. */
 #include <stdint.h>
 
-#define RECORD_MAGIC "shb-record 5\n"
+#define RECORD_MAGIC "shb-record 6\n"
 #define LINE_END_IN_PATH 1
 #define HEADER_BYTES 65536
 #define ENDED_BYTES 256
@@ -25,6 +25,7 @@
 #define MAX_SIZE (1ull << 36)          /* of a range; none is as long */
 #define THREAD_NUMBERS 65534           /* a joined thread's is used again when there is no new one: each fork begins another thread */
 #define MOST_FRAMES 16384              /* of a thread; those further in aren't recorded */
+#define PLACE_BITS 24                  /* of each of the two numbers of a record OP_PLACE */
 #define NAME_PIECE 12                  /* so many bytes of a thread's name stand in a record OP_NAME, as in piece_of_name */
 #define ATOMIC_SIZE_BITS 5             /* of an atomic access: the memory order stands above the size, as __ATOMIC_.. */
 
@@ -62,6 +63,11 @@ enum operation {
                                           __tsan_create_fiber, which made it, and those that it was called in */
     OP_WAY,                            /* of the record behind it, a frame too: its caller is code without hooks, which the
                                           innermost function called from here */
+    OP_PLACE,                          /* of the frame behind it, and of each later one with the same caller and function until
+                                          another such record: where its function lies on the stack. PLACE_BITS: how many bytes
+                                          below the stack pointer of the function further out (of the outermost one: below the
+                                          end of the thread's stack) its return address ends; above these: how many bytes below
+                                          that its own stack pointer is. 0, and where there is no such record: not known */
     OP_DEPTH,                          /* the size is how many of these it is in now; so is one more than that of an OP_FRAME */
     OP_NAME,                           /* a piece of the name that the program gives the thread: the size is 0 in its first one,
                                           and NAME_PIECE in another right behind it, where there is more */

@@ -129,6 +129,31 @@ class Stacks(program.Case):
         _, window, err = self.shown(stacks([1, 1, *NODES]), "--shift", "2")
         self.assertEqual((window, err), (whole, ""))
 
+    def test_locals(self):
+        """A variable on a stack has the name of a local that it is at all its racing accesses."""
+        trace = (b"main|fork(T1)|a.c:1\nT1|w(stack.main-0x40)|a.c:5\nmain|w(stack.main-0x40)|a.c:7\nT1|w(stack.main-0x38)|a.c:6\n"
+                 b"main|w(stack.main-0x38)|a.c:8\n")
+        tables = TABLES + b"local 2\tstack.main-0x40\tx.head of main\nlocal 4\tstack.main-0x38\tx.size of main\n"
+        page = self.folder / "page.html"
+        for more, names in ((b"", ["1. x of main (2 variables): "]), (b"local 3\tstack.main-0x40\t\n", ["1. stack.main-0x40: ", "x.size of main: "]),
+                            (b"local 5\tstack.main-0x38\ty of f\n", ["x.head of main: ", "stack.main-0x38: "]),
+                            (b"local 9\tstack.main-0x38\ty of f\n", ["1. x of main (2 variables): "])):
+            for shift in (0, 2):
+                moved = re.sub(rb"(?m)^local (\d+)", lambda it: b"local %d" % (int(it[1]) + shift), tables + more)
+                _, out, err = self.shown(stacks([1] * (5 + shift), moved), "--shift", str(shift), "--all", trace=trace)
+                self.assertEqual(err, "")
+                for name in names:
+                    self.assertIn(name, out)
+        self.assertIn("Variables: x.head of main and x.size of main", out)
+        self.assertIn("data race on x.head of main: a.c:5 and a.c:7\n", out)
+        self.shown(stacks(tables=tables), "--html", page, trace=trace)
+        self.assertTrue(any("x of main (2 variables)" in text for _, text in Page(page.read_text()).all("h2")))
+        _, out, _ = self.shown(stacks(tables=tables.replace(b"x.head", b"<b>\x1b[31m")), trace=trace)
+        self.assertIn(r"<b>\x1b[31m of main: ", out)
+        status, _, err = self.shown(stacks(tables=TABLES + b"local 2\tx\n"), trace=trace)
+        self.assertEqual(status, 2)
+        self.assertIn("is damaged: `local 2", err)
+
     def test_a_free(self):
         """One call frees a block of two variables that another thread uses: it is one free, and no write."""
         trace = (b"main|fork(T1)|a.c:1\nT1|r(a.c:9#2)|a.c:5\nT1|r(a.c:9#2+8)|a.c:6\nmain|w(a.c:9#2)|a.c:7\nmain|w(a.c:9#2+8)|a.c:7\n")

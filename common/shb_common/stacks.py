@@ -58,6 +58,7 @@ class Stacks:
         self.frames, self.calls, self.threads, self.blocks = [None], {}, {}, {}
         self.stores, self.loads = [], {}  # uses of atomics; the loads by name; an update is both
         self.sources = {}  # by the name in a location: the file's path
+        self.locals = {}  # by variable on a stack: events, each with the name of the local that it is from there on
         self.free_starts, self.free_ends, self.shift = array.array("Q"), array.array("Q"), shift
         with open(path, "rb") as file:
             count = events_in(file)
@@ -70,6 +71,8 @@ class Stacks:
                     self.read(line.rstrip(b"\n"))
                 except (ValueError, IndexError):
                     raise BadStacks(f"is damaged: `{shown(line[:80])}`") from None
+        for names in self.locals.values():
+            names.sort(key=lambda it: it[0])  # of several at one event the last one holds
 
     def read(self, line):
         kind, _, rest = line.partition(b" ")
@@ -94,6 +97,9 @@ class Stacks:
         elif kind == b"source":
             name, file = rest.split(b"\t")
             self.sources[name] = file
+        elif kind == b"local":
+            event, variable, name = rest.split(b"\t")
+            self.locals.setdefault(variable, []).append((int(event), name))
         elif kind == b"free":
             first, last = map(int, rest.split())
             self.free_starts.append(first)
@@ -126,6 +132,12 @@ class Stacks:
         number = bisect.bisect(self.free_starts, event + self.shift) - 1
         return number if number >= 0 and event + self.shift <= self.free_ends[number] else None
 
+    def local_of(self, variable, event):
+        """The local that a variable on a stack is at an event, or nothing."""
+        names = self.locals.get(variable, ())
+        number = bisect.bisect(names, (event + self.shift + 1,))
+        return names[number - 1][1] if number else b""
+
     def of_thread(self, name):
         """Where a thread was created."""
         return self.threads.get(name, ())
@@ -143,12 +155,15 @@ class Stacks:
 class NoStacks:
     """Of a trace without such a file nothing is known."""
 
-    sources, stores, loads = {}, (), {}
+    sources, stores, loads, locals = {}, (), {}, {}
 
     def of_event(self, event):
         return ()
 
     of_thread = of_variable = of_event
+
+    def local_of(self, variable, event):
+        return b""
 
     def functions(self):
         return {}

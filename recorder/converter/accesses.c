@@ -267,7 +267,11 @@ static void find_repeated(u64 i, use u, u32 number) {
 static void use_piece(u64 i, use u, u32 number) {
     if (phase == ORDERING) order_piece(u, number);
     else if (phase == FINDING_REPEATED) find_repeated(i, u, number);
-    else if (!map_find(&repeated, i, number)) piece_events(i, u, number);
+    else if (!map_find(&repeated, i, number)) {
+        u64 before = events;
+        piece_events(i, u, number);
+        if (events > before) note_local(number, before + 1, u.thread);
+    }
 }
 
 void leave_out_closed(u64 i) {

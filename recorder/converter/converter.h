@@ -84,10 +84,17 @@ int in_one_function(u64 caller, u64 other);
 const char *function_name(u64 address, char *buffer, size_t size);       /* "" where it is not known */
 int is_own_function(u64 address);      /* not of the system's libraries, nor of the C++ library's headers */
 void symbol_name(u64 address, char *buffer, size_t size);
+/* Of a function that is at `pc`, the local that lies so many bytes below the end of its return address, and above its stack pointer:
+   "x.head of main"; 0 where none is known. */
+int local_name(u64 function, u64 pc, u64 below, u64 above, u64 length, char *buffer, size_t size);
 
 /* members.c: what lies inside of variables. */
 struct members;
 struct members *read_members(const char *path);              /* of a module */
+/* The same of a local of a function that begins there, with its name before it; gives the name of the function that it is inlined
+   from, or "", and null where no local is known. */
+typedef struct { u64 function, pc, below, above, length; } place_of_local;
+const char *add_local(struct members *m, place_of_local at, char *buffer, size_t size);
 /* Adds what lies at an offset of the variable that is at an address of the module's file, in so many bytes: ".head", "[3]", "+4". */
 void add_member(struct members *m, u64 address, u64 offset, u64 length, char *buffer, size_t size);
 
@@ -130,6 +137,7 @@ void stack_of_event(u32 number);       /* of the event that comes next */
 void stack_of_thread(u32 t, u32 number);
 void stack_of_block(const block *b, u32 number);
 void note_free(u64 first, u64 last);   /* the events of one call that frees a block */
+void note_local(u32 number, u64 event, u32 t);               /* of a piece: this event of a thread is of it, and is written */
 void note_atomic(u64 i, u64 object);   /* a use of an atomic that several threads use */
 void forget_calls(void);               /* between the passes that meet them */
 void end_stacks(void);

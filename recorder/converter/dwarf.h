@@ -28,6 +28,14 @@ static inline u64 variable(bytes *b) {
     return 0;
 }
 
+static inline u64 signed_variable(bytes *b) {
+    u64 bits = 0;
+    const uint8_t *from = b->at;
+    u64 value = variable(b);
+    for (; from < b->at; from++) bits += 7;
+    return bits && bits < 64 && b->at[-1] & 64 ? value | -1ull << bits : value;
+}
+
 static inline const char *string(bytes *b) {
     const char *from = (const char *)b->at;
     u64 length = b->at < b->end ? strnlen(from, b->end - b->at) : 0;
@@ -43,8 +51,9 @@ static inline const char *string_at(bytes b, u64 offset) {
 /* How a value is written. */
 enum form { FORM_ADDRESS = 1, FORM_BLOCK2 = 3, FORM_BLOCK4, FORM_DATA2, FORM_DATA4, FORM_DATA8, FORM_STRING, FORM_BLOCK, FORM_BLOCK1,
             FORM_DATA1, FORM_FLAG, FORM_SDATA, FORM_STRP, FORM_UDATA, FORM_REF_ADDRESS, FORM_REF1, FORM_REF2, FORM_REF4, FORM_REF8,
-            FORM_REF_UDATA, FORM_OFFSET = 23, FORM_EXPRESSION, FORM_PRESENT, FORM_DATA16 = 30, FORM_LINE_STRING, FORM_SIGNATURE,
-            FORM_CONSTANT };
+            FORM_REF_UDATA, FORM_OFFSET = 23, FORM_EXPRESSION, FORM_PRESENT, FORM_STRING_NUMBER, FORM_ADDRESS_NUMBER,
+            FORM_DATA16 = 30, FORM_LINE_STRING, FORM_SIGNATURE, FORM_CONSTANT, FORM_LOCATIONS_NUMBER, FORM_RANGES_NUMBER,
+            FORM_STRING_NUMBER1 = 37, FORM_STRING_NUMBER4 = 40, FORM_ADDRESS_NUMBER1, FORM_ADDRESS_NUMBER4 = 44 };
 
 /* lines.c */
 bytes map_module(const char *path);    /* none where it can't be read */

@@ -1,36 +1,43 @@
-/* Members of a program's variables, by its debug information: "queue+8" is "queue.head" (DWARF 4 and 5 as gcc writes them; what
-   isn't told stays a number of bytes).  A module may be any file, so each step is held inside its section. */
+/* Members of a program's variables, by its debug information: "queue+8" is "queue.head" (DWARF 4 and 5 as gcc and clang write them;
+   what isn't told stays a number of bytes), and locals of its functions.  A module may be any file, so each step is held inside
+   its section. */
 #include <stdio.h>
 #include <stdlib.h>
 #include "dwarf.h"
 
-enum tag { TAG_ARRAY = 1, TAG_CLASS, TAG_MEMBER = 13, TAG_STRUCTURE = 19, TAG_TYPEDEF = 22, TAG_BASE_CLASS = 28, TAG_BOUND = 33,
-           TAG_CONST = 38, TAG_VARIABLE = 52, TAG_VOLATILE = 53, TAG_NAMESPACE = 57, TAG_ATOMIC = 71 };
-enum attribute { AT_SIBLING = 1, AT_LOCATION, AT_NAME, AT_BYTE_SIZE = 11, AT_BIT_SIZE = 13, AT_UPPER_BOUND = 47, AT_COUNT = 55,
-                 AT_PLACE = 56, AT_SPECIFICATION = 71, AT_TYPE = 73 };
-enum { OP_ADDRESS = 3 };
-enum { MOST_CODES = 1 << 16, MOST_DIMENSIONS = 8, MOST_STEPS = 64 };
+enum tag { TAG_ARRAY = 1, TAG_CLASS, TAG_PARAMETER = 5, TAG_LEXICAL_BLOCK = 11, TAG_MEMBER = 13, TAG_POINTER = 15, TAG_REFERENCE,
+           TAG_STRUCTURE = 19, TAG_TYPEDEF = 22, TAG_BASE_CLASS = 28, TAG_INLINED, TAG_BOUND = 33, TAG_CONST = 38, TAG_FUNCTION = 46,
+           TAG_VARIABLE = 52, TAG_VOLATILE = 53, TAG_NAMESPACE = 57, TAG_MOVED_REFERENCE = 66, TAG_ATOMIC = 71 };
+enum attribute { AT_SIBLING = 1, AT_LOCATION, AT_NAME, AT_BYTE_SIZE = 11, AT_BIT_SIZE = 13, AT_LOW = 17, AT_HIGH, AT_UPPER_BOUND = 47,
+                 AT_ORIGIN = 49, AT_COUNT = 55, AT_PLACE, AT_FRAME_BASE = 64, AT_SPECIFICATION = 71, AT_TYPE = 73, AT_RANGES = 85,
+                 AT_STRINGS_BASE = 114, AT_ADDRESSES_BASE, AT_RANGES_BASE, AT_LOCATIONS_BASE = 140 };
+enum { OP_ADDRESS = 3, OP_FRAME_POINTER = 86, OP_STACK_POINTER, OP_FROM_STACK_POINTER = 119, OP_FROM_FRAME_BASE = 145, OP_TOP = 156,
+       OP_ADDRESS_NUMBER = 161 };
+enum { MOST_CODES = 1 << 16, MOST_DIMENSIONS = 8, MOST_STEPS = 64, DWARF4 = 4, DWARF5 };
 
 typedef struct { u64 tag, has_children; bytes attributes; } abbreviation;
 typedef struct {
     u64 begin, end, first, abbreviations;                    /* where it and its abbreviations stand in their sections */
+    u64 version, low, strings, addresses, ranges, locations; /* where its code begins, and its part of these sections */
     abbreviation *codes;               /* these, by their codes; null until they are read */
     u64 code_count, code_capacity;
 } unit;
 /* An entry of the debug information. Offsets are in the section, and 0 where there is no such thing. */
 typedef struct {
     u64 tag, next, sibling, type, specification, size, count, place, address;    /* count: of an array's elements; 0: not known */
-    bytes name;
-    uint8_t has_children, has_place, has_bits;
+    u64 origin, low, high, ranges, locations;                /* of code: from `low`, up to before `high` */
+    u64 bases[4];                      /* of a unit: strings, addresses, ranges, locations */
+    bytes name, location, frame_base;
+    uint8_t has_children, has_place, has_bits, has_ranges, has_locations;
 } entry;
 typedef struct { u32 unit; u64 type; } typed;
 struct members {
-    bytes info, abbreviations, strings, line_strings;
+    bytes info, abbreviations, strings, line_strings, string_offsets, addresses, ranges, locations;
     unit *units;
     u64 unit_count, unit_capacity;
-    map by_address;                    /* the numbers of variables */
-    typed *variables;
-    u64 variable_count, variable_capacity;
+    map by_address, by_begin;          /* the numbers of variables, and of functions */
+    typed *variables, *functions;      /* of a function the type is its entry */
+    u64 variable_count, variable_capacity, function_count, function_capacity;
 };
 
 /* ---- entries ---- */
@@ -52,7 +59,7 @@ static void read_abbreviations(const struct members *m, unit *u) {
     }
 }
 
-typedef struct { u64 number; bytes block; uint8_t is_number, is_text; } value;
+typedef struct { u64 number; bytes block; uint8_t is_number, is_text, is_address, is_reference; } value;
 
 static bytes taken(bytes *b, u64 count) {
     bytes found = *b;
@@ -66,21 +73,47 @@ static value text_at(bytes strings, u64 offset) {
     return (value){.block = strings, .is_text = !strings.is_bad};
 }
 
+/* In a table of numbers. */
+static u64 number_at(bytes table, u64 base, u64 index, unsigned size) {
+    skip(&table, base);
+    skip(&table, index < 1ull << 32 ? index * size : -1ull);
+    return fixed(&table, size);
+}
+
+static value string_numbered(const struct members *m, const unit *u, u64 index) {
+    return text_at(m->strings, number_at(m->string_offsets, u->strings, index, 4));
+}
+
+static value address_numbered(const struct members *m, const unit *u, u64 index) {
+    return (value){number_at(m->addresses, u->addresses, index, 8), .is_number = 1, .is_address = 1};
+}
+
 /* References to other entries count from the unit's begin. */
+static value reference(const unit *u, u64 offset) { return (value){u->begin + offset, .is_number = 1, .is_reference = 1}; }
+
 static value read_value(const struct members *m, const unit *u, bytes *b, u64 form, bytes *constants) {
     switch (form) {
-    case FORM_ADDRESS: case FORM_DATA8: case FORM_SIGNATURE: return (value){fixed(b, 8), .is_number = 1};
+    case FORM_ADDRESS: return (value){fixed(b, 8), .is_number = 1, .is_address = 1};
+    case FORM_ADDRESS_NUMBER: return address_numbered(m, u, variable(b));
+    case FORM_ADDRESS_NUMBER1 ... FORM_ADDRESS_NUMBER4:
+        return address_numbered(m, u, fixed(b, form - FORM_ADDRESS_NUMBER1 + 1));
+    case FORM_STRING_NUMBER: return string_numbered(m, u, variable(b));
+    case FORM_STRING_NUMBER1 ... FORM_STRING_NUMBER4:
+        return string_numbered(m, u, fixed(b, form - FORM_STRING_NUMBER1 + 1));
+    case FORM_RANGES_NUMBER: return (value){u->ranges + number_at(m->ranges, u->ranges, variable(b), 4), .is_number = 1};
+    case FORM_LOCATIONS_NUMBER: return (value){u->locations + number_at(m->locations, u->locations, variable(b), 4), .is_number = 1};
+    case FORM_DATA8: case FORM_SIGNATURE: return (value){fixed(b, 8), .is_number = 1};
     case FORM_DATA1: case FORM_FLAG: return (value){fixed(b, 1), .is_number = 1};
     case FORM_DATA2: return (value){fixed(b, 2), .is_number = 1};
     case FORM_DATA4: case FORM_OFFSET: case FORM_REF_ADDRESS: return (value){fixed(b, 4), .is_number = 1};
     case FORM_UDATA: case FORM_SDATA: return (value){variable(b), .is_number = 1};
     case FORM_CONSTANT: return (value){variable(constants), .is_number = 1};
     case FORM_PRESENT: return (value){1, .is_number = 1};
-    case FORM_REF1: return (value){u->begin + fixed(b, 1), .is_number = 1};
-    case FORM_REF2: return (value){u->begin + fixed(b, 2), .is_number = 1};
-    case FORM_REF4: return (value){u->begin + fixed(b, 4), .is_number = 1};
-    case FORM_REF8: return (value){u->begin + fixed(b, 8), .is_number = 1};
-    case FORM_REF_UDATA: return (value){u->begin + variable(b), .is_number = 1};
+    case FORM_REF1: return reference(u, fixed(b, 1));
+    case FORM_REF2: return reference(u, fixed(b, 2));
+    case FORM_REF4: return reference(u, fixed(b, 4));
+    case FORM_REF8: return reference(u, fixed(b, 8));
+    case FORM_REF_UDATA: return reference(u, variable(b));
     case FORM_STRP: return text_at(m->strings, fixed(b, 4));
     case FORM_LINE_STRING: return text_at(m->line_strings, fixed(b, 4));
     case FORM_STRING: {
@@ -97,17 +130,40 @@ static value read_value(const struct members *m, const unit *u, bytes *b, u64 fo
     }
 }
 
-static void take_value(entry *e, u64 attribute, value v) {
+static void take_location(const struct members *m, const unit *u, entry *e, value v) {
+    e->location = v.block;
+    e->has_locations = v.is_number;
+    e->locations = v.number;
+    u64 operation = v.block.at ? fixed(&v.block, 1) : 0;
+    if (operation == OP_ADDRESS) e->address = fixed(&v.block, 8);
+    if (operation == OP_ADDRESS_NUMBER) e->address = address_numbered(m, u, variable(&v.block)).number;
+}
+
+/* Of what code has. `high` comes behind `low`. */
+static void take_bound(entry *e, u64 attribute, value v) {
+    if (attribute == AT_LOW) e->low = v.number;
+    if (attribute == AT_HIGH) e->high = v.is_address ? v.number : e->low + v.number;
+    if (attribute == AT_ORIGIN) e->origin = v.number;
+    if (attribute >= AT_STRINGS_BASE && attribute <= AT_RANGES_BASE) e->bases[attribute - AT_STRINGS_BASE] = v.number;
+    if (attribute == AT_LOCATIONS_BASE) e->bases[3] = v.number;
+    if (attribute != AT_RANGES) return;
+    e->ranges = v.number;
+    e->has_ranges = 1;
+}
+
+static void take_value(const struct members *m, const unit *u, entry *e, u64 attribute, value v) {
     if (attribute == AT_NAME && v.is_text) e->name = v.block;
     if (attribute == AT_BIT_SIZE) e->has_bits = 1;
-    if (attribute == AT_LOCATION && v.block.at && !v.is_text && fixed(&v.block, 1) == OP_ADDRESS) e->address = fixed(&v.block, 8);
+    if (attribute == AT_LOCATION && !v.is_text) take_location(m, u, e, v);
+    if (attribute == AT_FRAME_BASE && !v.is_text) e->frame_base = v.block;
     if (!v.is_number) return;
+    take_bound(e, attribute, v);
     if (attribute == AT_SIBLING) e->sibling = v.number;
     if (attribute == AT_TYPE) e->type = v.number;
     if (attribute == AT_SPECIFICATION) e->specification = v.number;
     if (attribute == AT_BYTE_SIZE) e->size = v.number;
-    if (attribute == AT_COUNT) e->count = v.number;
-    if (attribute == AT_UPPER_BOUND) e->count = v.number + 1;
+    if (attribute == AT_COUNT && !v.is_reference) e->count = v.number;
+    if (attribute == AT_UPPER_BOUND && !v.is_reference) e->count = v.number + 1;
     if (attribute != AT_PLACE) return;
     e->place = v.number;
     e->has_place = 1;
@@ -126,14 +182,63 @@ static entry read_entry(const struct members *m, const unit *u, u64 offset) {
     e.tag = u->codes[code].tag;
     e.has_children = u->codes[code].has_children;
     for (u64 name, form; name = variable(&attributes), form = variable(&attributes), name || form;) {
-        take_value(&e, name, read_value(m, u, &b, form, &attributes));
+        take_value(m, u, &e, name, read_value(m, u, &b, form, &attributes));
         if (b.is_bad || attributes.is_bad) return (entry){.next = u->end};
     }
     e.next = b.at - m->info.at;
     return e;
 }
 
+/* ---- lists of ranges and of locations (DWARF 5) ---- */
+typedef struct { u64 begin, end; bytes location; } range;
+#define ANY_CODE (-1ull)
+
+/* The next one; 0 at the end of the list, or where it can't be read. */
+static int next_range(const struct members *m, const unit *u, bytes *b, u64 *base, int has_locations, range *r) {
+    enum { BASE_NUMBER = 1, NUMBERS, NUMBER_LENGTH, OFFSETS, BASE, ADDRESSES, ADDRESS_LENGTH, ELSEWHERE = 5 };
+    for (;;) {
+        u64 kind = fixed(b, 1);
+        if (has_locations && kind == ELSEWHERE) return 0;
+        if (has_locations && kind > ELSEWHERE) kind--;
+        if (!kind || kind > ADDRESS_LENGTH) return 0;
+        if (kind == BASE_NUMBER || kind == BASE) {
+            *base = kind == BASE ? fixed(b, 8) : address_numbered(m, u, variable(b)).number;
+            continue;
+        }
+        r->begin = kind <= NUMBER_LENGTH ? address_numbered(m, u, variable(b)).number : kind == OFFSETS ? *base + variable(b) : fixed(b, 8);
+        r->end = kind == NUMBERS ? address_numbered(m, u, variable(b)).number : kind == OFFSETS ? *base + variable(b)
+            : kind == ADDRESSES ? fixed(b, 8) : r->begin + variable(b);
+        if (has_locations) r->location = taken(b, variable(b));
+        return !b->is_bad;
+    }
+}
+
+/* The range of a list that has this code; 0 where none has. */
+static int find_range(const struct members *m, const unit *u, int has_locations, u64 offset, u64 pc, range *r) {
+    bytes b = has_locations ? m->locations : m->ranges;
+    u64 base = u->low;
+    skip(&b, offset);
+    if (b.is_bad || u->version != DWARF5) return 0;
+    while (next_range(m, u, &b, &base, has_locations, r))
+        if (pc == ANY_CODE || (pc >= r->begin && pc < r->end)) return 1;
+    return 0;
+}
+
+static int covers(const struct members *m, const unit *u, const entry *e, u64 pc) {
+    range r;
+    if (e->high) return pc >= e->low && pc < e->high;
+    return e->has_ranges && find_range(m, u, 0, e->ranges, pc, &r);
+}
+
 /* ---- variables ---- */
+static void note_function(struct members *m, const unit *u, const entry *e, u64 at) {
+    range first = {.begin = e->low};
+    if (!e->high && !(e->has_ranges && find_range(m, u, 0, e->ranges, ANY_CODE, &first))) return;
+    if (map_number(&m->by_begin, first.begin, 0) <= m->function_count) return;
+    GROW(m->functions, m->function_count, m->function_capacity);
+    m->functions[m->function_count++] = (typed){u - m->units, at};
+}
+
 static void note_variable(struct members *m, const unit *u, const entry *e) {
     u64 type = e->type ? e->type : e->specification ? read_entry(m, u, e->specification).type : 0;
     if (!type || map_number(&m->by_address, e->address, 0) <= m->variable_count) return;
@@ -146,12 +251,13 @@ static void find_variables(struct members *m, const unit *u) {
     for (u64 at = u->first; at < u->end;) {
         entry e = read_entry(m, u, at);
         if (e.tag == TAG_VARIABLE && e.address) note_variable(m, u, &e);
+        if (e.tag == TAG_FUNCTION) note_function(m, u, &e, at);
         at = e.has_children && e.sibling > at && e.tag != TAG_NAMESPACE ? e.sibling : e.next;
     }
 }
 
 static int read_unit(struct members *m, bytes *b) {
-    enum { DWARF4 = 4, DWARF5, OF_CODE = 1, LONGEST = 0xfffffff0 };
+    enum { OF_CODE = 1, LONGEST = 0xfffffff0 };
     unit u = {.begin = b->at - m->info.at};
     u64 length = fixed(b, 4);
     bytes head = taken(b, length);
@@ -162,10 +268,21 @@ static int read_unit(struct members *m, bytes *b) {
     u.abbreviations = fixed(&head, 4);
     if (version == DWARF4) skip(&head, 1);
     u.first = head.at - m->info.at;
+    u.version = version;
     if (head.is_bad || kind != OF_CODE || (version != DWARF4 && version != DWARF5)) return 1;
     GROW(m->units, m->unit_count, m->unit_capacity);
     m->units[m->unit_count++] = u;
     return 1;
+}
+
+/* Where its code begins may be a number in what the unit's entry tells of. */
+static void read_bases(const struct members *m, unit *u) {
+    entry e = read_entry(m, u, u->first);
+    u->strings = e.bases[0];
+    u->addresses = e.bases[1];
+    u->ranges = e.bases[2];
+    u->locations = e.bases[3];
+    u->low = read_entry(m, u, u->first).low;
 }
 
 struct members *read_members(const char *path) {
@@ -175,10 +292,15 @@ struct members *read_members(const char *path) {
     m->abbreviations = section_of(file, ".debug_abbrev");
     m->strings = section_of(file, ".debug_str");
     m->line_strings = section_of(file, ".debug_line_str");
+    m->string_offsets = section_of(file, ".debug_str_offsets");
+    m->addresses = section_of(file, ".debug_addr");
+    m->ranges = section_of(file, ".debug_rnglists");
+    m->locations = section_of(file, ".debug_loclists");
     for (bytes b = m->info; b.at < b.end && read_unit(m, &b);) {}
     for (u64 k = 0; k < m->unit_count; k++) {
         unit *u = &m->units[k];
         read_abbreviations(m, u);
+        read_bases(m, u);
         find_variables(m, u);
         free(u->codes);                /* only few are asked for again */
         u->codes = 0;
@@ -212,7 +334,8 @@ static u64 size_of_type(const struct members *m, const unit *u, u64 type) {
         for (int k = read_dimensions(m, u, &e, counts); k-- > 0;) size *= counts[k];
         e = type_at(m, u, e.type);
     }
-    return size * e.size;
+    int is_pointer = e.tag == TAG_POINTER || e.tag == TAG_REFERENCE || e.tag == TAG_MOVED_REFERENCE;
+    return size * (is_pointer && !e.size ? 8 : e.size);
 }
 
 /* Names of the C and C++ library's own members say little. */
@@ -286,4 +409,83 @@ void add_member(struct members *m, u64 address, u64 offset, u64 length, char *bu
         add_members(m, u, m->variables[number - 1].type, offset, length, &to);
     }
     if (to.rest) snprintf(to.at, to.room, "+%lu", to.rest);
+}
+
+/* ---- locals ---- */
+/* What is looked for, and the one that was found; of several none is certain. */
+typedef struct {
+    const struct members *m;
+    const unit *u;
+    place_of_local at;
+    bytes frame_base;
+    int found;
+    u64 type, offset;
+    const char *name, *inlined;
+} search;
+
+static entry origin_of(const search *s, const entry *e) {
+    return e->origin ? read_entry(s->m, s->u, e->origin) : (entry){0};
+}
+
+/* How far behind the begin of a variable the place that is looked for lies; -1 where the location isn't a plain one. */
+static u64 offset_in(const search *s, bytes location) {
+    enum { SAVED = 16 };               /* the return address, and the frame pointer that points there */
+    bytes base = s->frame_base;
+    u64 operation = fixed(&location, 1), from = operation == OP_FROM_FRAME_BASE ? fixed(&base, 1) : OP_STACK_POINTER;
+    u64 offset = signed_variable(&location);
+    if (location.is_bad || location.at != location.end || base.is_bad) return -1ull;
+    if (operation != OP_FROM_FRAME_BASE && operation != OP_FROM_STACK_POINTER) return -1ull;
+    if (operation == OP_FROM_FRAME_BASE && base.at != base.end) return -1ull;
+    if (from == OP_TOP) return -s->at.below - offset;
+    if (from == OP_FRAME_POINTER) return SAVED - s->at.below - offset;
+    return from == OP_STACK_POINTER ? s->at.above - offset : -1ull;
+}
+
+static void look_at(search *s, const entry *e, const char *inlined) {
+    range r = {.location = e->location};
+    if (e->has_locations && !find_range(s->m, s->u, 1, e->locations, s->at.pc, &r)) return;
+    entry origin = origin_of(s, e);
+    bytes name = e->name.at ? e->name : origin.name;
+    u64 offset = r.location.at ? offset_in(s, r.location) : -1ull, type = e->type ? e->type : origin.type;
+    u64 size = type ? size_of_type(s->m, s->u, type) : 0;
+    if (offset >= size || s->at.length > size - offset) return;
+    s->found++;
+    s->type = type;
+    s->offset = offset;
+    s->name = string(&name);
+    s->inlined = inlined;
+}
+
+static u64 behind(const search *s, const entry *e, int depth) {
+    if (!e->has_children || e->sibling > e->next) return e->has_children ? e->sibling : e->next;
+    entry child = {.next = e->next};
+    while (depth < MOST_STEPS && (child = read_entry(s->m, s->u, child.next)).tag) child.next = behind(s, &child, depth + 1);
+    return child.next;
+}
+
+static void look_in(search *s, const entry *scope, const char *inlined, int depth) {
+    entry e = {.next = scope->next};
+    while (scope->has_children && (e = read_entry(s->m, s->u, e.next)).tag) {
+        entry origin = e.tag == TAG_INLINED ? origin_of(s, &e) : (entry){0};
+        if (e.tag == TAG_VARIABLE || e.tag == TAG_PARAMETER) look_at(s, &e, inlined);
+        else if ((e.tag == TAG_LEXICAL_BLOCK || e.tag == TAG_INLINED) && depth < MOST_STEPS && covers(s->m, s->u, &e, s->at.pc))
+            look_in(s, &e, e.tag == TAG_INLINED ? string(&origin.name) : inlined, depth + 1);
+        e.next = behind(s, &e, 0);
+    }
+}
+
+const char *add_local(struct members *m, place_of_local at, char *buffer, size_t size) {
+    u32 number = map_find(&m->by_begin, at.function, 0);
+    if (!number) return 0;
+    unit *u = &m->units[m->functions[number - 1].unit];
+    read_abbreviations(m, u);
+    entry function = read_entry(m, u, m->functions[number - 1].type);
+    search s = {.m = m, .u = u, .at = at, .frame_base = function.frame_base};
+    if (covers(m, u, &function, at.pc)) look_in(&s, &function, "", 0);
+    if (s.found != 1 || !*s.name) return 0;
+    text to = {buffer, size, s.offset};
+    add_name(&to, "", s.name, s.offset);
+    add_members(m, u, s.type, s.offset, at.length, &to);
+    if (to.rest) snprintf(to.at, to.room, "+%lu", to.rest);
+    return s.inlined;
 }

@@ -189,6 +189,21 @@ void symbol_name(u64 address, char *buffer, size_t size) {
     add_member(m->members, s->at - m->base, address - s->at, length, buffer + n, size - n);
 }
 
+int local_name(u64 function, u64 pc, u64 below, u64 above, u64 length, char *buffer, size_t size) {
+    module *m = module_at(function);
+    symbol *s = m ? symbol_at(m, function - 1) : 0;
+    char own[200];
+    if (!s) return 0;
+    if (!m->members) m->members = read_members(m->path);
+    place_of_local at = {s->at - m->base, pc - 1 - m->base, below, above, length};
+    const char *inlined = add_local(m->members, at, buffer, size - sizeof own);
+    if (!inlined) return 0;
+    size_t used = strlen(buffer);
+    snprintf(buffer + used, size - used, " of %s", *inlined ? inlined : function_name(function - 1, own, sizeof own - 5));
+    cleaned(buffer);
+    return 1;
+}
+
 /* ---- lines of code ---- */
 /* A caller's number, mostly from a table of recent ones; once places are found, 0 of one that wasn't noted. */
 static u32 caller_number(u64 caller) {

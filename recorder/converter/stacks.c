@@ -10,6 +10,9 @@
        thread NAME TAB NODE                          where the thread was created
        block NUMBER NODE                             where the block was allocated
        free FIRST LAST                               these events are of one call that freed a block
+       local EVENT TAB VARIABLE TAB NAME             from this event on the variable, which is on a stack, is this local of a
+                                                     function that the stack's thread is in, as "x.head of main"; or of none
+                                                     that is known, where the name is empty
        atomic NAME TAB THREAD TAB LOCATION TAB KIND ORDER       an atomic that several threads use: a load, store or update with
                                                      the order relaxed, acquire, release or both, whether or not it is an event
        source NAME TAB PATH                          a source file, as locations name it, and where it was when it was compiled */
@@ -24,12 +27,18 @@ enum { NODES_AT_ONCE = 1 << 14, MOST_FRAMES_OF_A_CALL = 64, MOST_LEFT = 256 };
 
 /* way: where code without hooks was called that has the caller, or 0. own: the innermost of the program's own places from here
    on further out, or 0. */
-typedef struct { u64 caller, function, way, own; } call;
+typedef struct { u64 caller, function, way, own, place; } call;         /* place: as in a record OP_PLACE */
+/* An access by another thread of what lies in a function of a thread, since whose last record it is the first one. */
+typedef struct { u64 event; u32 number, depth; } foreign;
 typedef struct {
     call *calls;                       /* the outermost first; further in than `depth` are those that were met before */
     u32 *nodes, known, owned;          /* of how many of the first the node is known, and the own place */
     u32 told_depth, depth;             /* by the records before; of the present one */
-    u64 way;                           /* of the present one */
+    u64 way, caller;                   /* of the present one */
+    u64 end;                           /* of its stack */
+    foreign *foreign;                  /* since its last record */
+    u64 foreign_count, foreign_capacity, records;
+    u32 lowest;                        /* of the frames that are new since then */
     u32 last, last_outer;              /* the node that was asked for last */
     u64 count, capacity, last_caller, last_way;
 } calls_of_thread;
@@ -51,9 +60,12 @@ static u64 block_count, block_capacity;
 static u32 thread_nodes[THREADS];
 static struct { u64 first, last; } *frees;
 static u64 free_count, free_capacity;
-static FILE *atomics;                  /* their lines, in memory */
-static char *atomics_text;
-static size_t atomics_bytes;
+static FILE *lines;                    /* of atomics and locals, in memory */
+static char *lines_text;
+static size_t lines_bytes;
+static map sites;                      /* of a caller and a function */
+static u64 *site_places, site_count, site_capacity, told_place;
+static int has_place;
 
 static void cannot_write(void) { die("cannot write to %s: %s", path, strerror(errno)); }
 
@@ -61,12 +73,57 @@ void open_stacks(const char *path_) {
     path = path_;
     file = fopen(path, "w");
     if (!file || fprintf(file, STACKS_BEGIN, 0ul) < 0) cannot_write();
-    atomics = open_memstream(&atomics_text, &atomics_bytes);
-    if (!atomics) die("out of memory");
+    lines = open_memstream(&lines_text, &lines_bytes);
+    if (!lines) die("out of memory");
     with_stacks = 1;
 }
 
 /* ---- the stack of each thread, as the record tells it ---- */
+static u64 place_at(u64 caller, u64 function) {
+    u32 number = map_number(&sites, caller, function);
+    if (number > site_count) {
+        GROW(site_places, site_count, site_capacity);
+        site_places[site_count++] = 0;
+    }
+    if (has_place) site_places[number - 1] = told_place;
+    return site_places[number - 1];
+}
+
+/* Of a piece on a stack: its name now, and how many records the stack's thread had at the last access by another one. */
+typedef struct { const char *name; u64 records; } named;
+
+static named *named_piece(u32 number) {
+    static map met;
+    static named *found;
+    static u64 count, capacity;
+    u32 k = map_number(&met, number, 0);
+    if (k > count) {
+        GROW(found, count, capacity);
+        found[count++] = (named){"", 0};
+    }
+    return &found[k - 1];
+}
+
+/* The piece has this name from the event on. */
+static void write_local(u64 event, u32 number, const char *name) {
+    const piece *p = piece_of(number);
+    named_piece(number)->name = name;
+    part variable = variable_name(p->at, block_of(p->block));
+    fprintf(lines, "local %lu\t%.*s\t%s\n", event, (int)variable.length, variable.at, name);
+}
+
+/* The thread has left functions since its last record, nobody knows when: what others accessed in them meanwhile has no name. */
+static void leave_functions(calls_of_thread *s) {
+    for (u64 k = 0; k < s->foreign_count; k++) {
+        const foreign *f = &s->foreign[k];
+        if (f->depth < s->depth && f->depth < s->lowest) continue;
+        write_local(f->event, f->number, "");
+    }
+    s->foreign_count = 0;
+    s->lowest = -1;
+    s->records++;
+}
+
 static void meet_frame(calls_of_thread *s, u64 i) {
     u64 d = size_of(i);
     while (s->count <= d) {
@@ -75,14 +132,15 @@ static void meet_frame(calls_of_thread *s, u64 i) {
         GROW(s->nodes, s->count, capacity);
         s->calls[s->count++] = (call){0};
     }
-    s->calls[d] = (call){caller_of(i), address_of(i), s->way, 0};
+    s->calls[d] = (call){caller_of(i), address_of(i), s->way, 0, place_at(caller_of(i), address_of(i))};
+    if (s->lowest > d) s->lowest = d;
     if (s->known > d) s->known = d;
     if (s->owned > d) s->owned = d;
     s->told_depth = d + 1;
 }
 
 void note_call(u64 i) {
-    if (operation_of(i) == OP_DEPTH) return;
+    if (operation_of(i) == OP_DEPTH || operation_of(i) == OP_PLACE) return;
     note_caller(caller_of(i));
     has_calls |= operation_of(i) == OP_FRAME;
     if (operation_of(i) == OP_FRAME && with_stacks) note_caller(address_of(i));
@@ -91,15 +149,21 @@ void note_call(u64 i) {
 void meet_call(u64 i) {
     calls_of_thread *s = &stacks[thread_of(i)];
     enum operation operation = operation_of(i);
+    if (operation == OP_NAME) return;
     s->way = has_way == i ? told_way : 0;
     if (operation == OP_WAY) {
         told_way = caller_of(i);
         has_way = i + 1;
     }
+    if (operation == OP_PLACE) told_place = address_of(i);
     if (operation == OP_FRAME) meet_frame(s, i);
+    if (operation != OP_WAY) has_place = operation == OP_PLACE;
+    if (operation == OP_START) s->end = address_of(i) + size_of(i);
+    s->caller = operation < OP_FRAME || operation > OP_DEPTH ? caller_of(i) : 0;
     if (operation == OP_DEPTH) s->told_depth = size_of(i);
     u64 inside = depth_inside(i), depth = inside == DEPTH_BEFORE ? s->told_depth : inside;
     s->depth = depth < s->count ? depth : s->count;
+    if (operation < OP_FRAME || operation == OP_DEPTH) leave_functions(s);
 }
 
 /* A way is one only if it lies in the function that was entered last. */
@@ -160,7 +224,57 @@ void forget_calls(void) {
         calls_of_thread *s = &stacks[t];
         s->count = s->known = s->owned = s->told_depth = s->depth = s->last = 0;
     }
-    has_way = 0;
+    has_way = has_place = 0;
+    for (u64 k = 0; k < site_count; k++) site_places[k] = 0;
+}
+
+/* ---- locals ---- */
+/* By where a thread is in a function, which is the caller or the way; "" where none is known. Each is looked for once. */
+static const char *name_of_local(u64 function, const call *in, u64 from_top, u64 from_stack, u64 length) {
+    static map places, ways, met;
+    static const char **names;
+    static u64 count, capacity;
+    u64 place = map_number(&ways, map_number(&places, function, in->caller), in->way);
+    u32 number = map_number(&met, place << 32 | from_top, length << 32 | from_stack);
+    if (number > count) {
+        char name[NAME_BYTES];
+        u64 pc = in_one_function(in->caller, function) ? in->caller : in->way && in_one_function(in->way, function) ? in->way : 0;
+        GROW(names, count, capacity);
+        names[count++] = pc && local_name(function, pc, from_top, from_stack, length, name, sizeof name) ? strdup(name) : "";
+        if (!names[count - 1]) die("out of memory");
+    }
+    return names[number - 1];
+}
+
+/* By the functions that the thread is in by its last record. Where nothing was told since it came back to a function it is behind the
+   call that it came from. */
+static const char *local_at(const calls_of_thread *s, u64 address, u64 length, u32 *depth) {
+    u64 outer = s->end;
+    for (u64 d = 0; d < s->depth; d++) {
+        *depth = d;
+        const call *c = &s->calls[d];
+        u64 top = outer - (c->place & ((1 << PLACE_BITS) - 1)), stack = top - (c->place >> PLACE_BITS);
+        if (!c->place || address >= top) return "";
+        call told = d + 1 == s->depth && s->caller ? (call){.caller = s->caller, .way = s->way} : d + 1 < s->count ? c[1] : (call){0};
+        if (address >= stack) return name_of_local(c->function, &told, top - address, address - stack, length);
+        outer = stack;
+    }
+    return "";
+}
+
+void note_local(u32 number, u64 event, u32 t) {
+    enum { MOST_LENGTH = 4096 };
+    const piece *p = piece_of(number);
+    const block *b = block_of(p->block);
+    if (!with_stacks || !b || !b->stack) return;
+    calls_of_thread *s = &stacks[b->thread];
+    u32 depth = 0;
+    const char *name = local_at(s, p->at, next_cut(p->at, p->at + MOST_LENGTH) - p->at, &depth);
+    if (strcmp(named_piece(number)->name, name)) write_local(event, number, name);
+    if (!*name || t == b->thread || named_piece(number)->records == s->records) return;
+    named_piece(number)->records = s->records;
+    GROW(s->foreign, s->foreign_count, s->foreign_capacity);
+    s->foreign[s->foreign_count++] = (foreign){event, number, depth};
 }
 
 /* ---- what is of use to a reader ---- */
@@ -193,7 +307,7 @@ void note_atomic(u64 i, u64 object) {
     if (!with_stacks || map_number(&met, object << 20 | thread_of(i), use) <= count) return;
     count++;
     part name = variable_name(address_of(i), block_at(address_of(i))), place = place_of(caller_of(i));
-    fprintf(atomics, "atomic %.*s\t%s\t%.*s\t%s %s\n", (int)name.length, name.at, thread_name(thread_of(i)), (int)place.length, place.at,
+    fprintf(lines, "atomic %.*s\t%s\t%.*s\t%s %s\n", (int)name.length, name.at, thread_name(thread_of(i)), (int)place.length, place.at,
             operation == OP_ATOMIC_LOAD ? "load" : operation == OP_ATOMIC_STORE ? "store" : "update", orders[order]);
 }
 
@@ -271,8 +385,8 @@ void end_stacks(void) {
     for (u64 b = 1; b < block_count; b++)
         if (block_of(b)->named && block_nodes[b]) fprintf(file, "block %lu %u\n", b, block_nodes[b]);
     for (u64 i = 0; i < free_count; i++) fprintf(file, "free %lu %lu\n", frees[i].first, frees[i].last);
-    if (fclose(atomics)) die("out of memory");
-    fwrite(atomics_text, 1, atomics_bytes, file);
+    if (fclose(lines)) die("out of memory");
+    fwrite(lines_text, 1, lines_bytes, file);
     write_sources(file);
     if (!has_calls && written) fprintf(stderr, "shb-std: no call stacks are known: the program was recorded with SHB_STACKS=0, or compiled without "
                                                "hooks of functions\n");

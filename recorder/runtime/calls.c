@@ -19,13 +19,66 @@ uint64_t way_to(const thread *t, uint32_t depth, uint64_t caller) {
     return instrumented(way) ? way : 0;
 }
 
-static __attribute__((noinline)) void set_frame(thread *t, uint32_t depth, uint64_t caller, uint64_t function) {
+/* ---- where functions lie on the stack: mostly it hangs on the call alone, and is recorded once for each ---- */
+enum { SITES = 1 << 14, MOST_PLACES = 8, NEAR = 512, NEAR_END = 1 << 14, PAGE = 4096 };
+#define MOVES (~0ull)                  /* the extent of a frame whose place isn't known, whatever it is */
+typedef struct { uint64_t caller, function, extent, place, size, changes, unused[2]; } site;     /* caller: of this record */
+static site sites[SITES];              /* each is the first call's that comes to it; with the turn */
+static uint64_t this_record = 1ull << 48;
+
+void forget_places(void) { this_record += 1ull << 48; }
+
+/* By the return address, which stands once near the stack pointer of the function further out. In the same page: what is
+   below may be no memory, where the two functions have stacks of their own. */
+static uint64_t found_place(const thread *t, uint32_t depth) {
+    const frame *f = &t->frames[depth];
+    uint64_t outer = f->stack + f->extent, top = (uint64_t)t->stack + t->stack_size, found = 0;
+    if (f->stack < (uint64_t)t->stack || f->stack >= outer || outer > top || f->extent >> PLACE_BITS) return 0;
+    uint64_t low = depth ? outer - NEAR : outer - NEAR_END, page = (outer - 1) & ~(PAGE - 1ull);
+    if (depth && low < page) low = page;
+    if (low < f->stack) low = f->stack;
+    for (uint64_t at = outer - sizeof at; at >= low; at -= sizeof at)
+        if (*(uint64_t *)at == f->caller) {
+            if (found) return 0;
+            found = at + sizeof at;
+        }
+    return found ? (outer - found) | (found - f->stack) << PLACE_BITS : 0;
+}
+
+/* Of a call whose place changes again and again it isn't known. A function that seems to take more or less room than before
+   doesn't: then its return address was left by another call. */
+static __attribute__((noinline)) int is_changed(thread *t, uint32_t depth, site *s, uint64_t *place) {
+    frame *f = &t->frames[depth];
+    uint64_t caller = f->caller | this_record;
+    if (s->caller >> 48 != caller >> 48) *s = (site){.caller = caller, .function = f->function};
+    if (s->caller != caller || s->function != f->function || s->changes == MOST_PLACES) f->extent = MOVES;
+    if (f->extent == MOVES) return 0;
+    uint64_t before = s->place;
+    s->extent = f->extent;
+    *place = ++s->changes < MOST_PLACES ? found_place(t, depth) : 0;
+    if (!s->size) s->size = *place >> PLACE_BITS;
+    if (*place >> PLACE_BITS != s->size) *place = 0;
+    s->place = *place;
+    if (s->changes == MOST_PLACES) f->extent = MOVES;
+    return *place != before;
+}
+
+int has_new_place(thread *t, uint32_t depth, uint64_t *place) {
+    const frame *f = &t->frames[depth];
+    site *s = &sites[(f->caller ^ f->function >> 4) % SITES];
+    int is_known = s->caller == (f->caller | this_record) && s->function == f->function && s->extent == f->extent;
+    return !is_known && is_changed(t, depth, s, place);
+}
+
+static __attribute__((noinline)) void set_frame(thread *t, uint32_t depth, uint64_t caller, uint64_t function, uint64_t extent) {
     frame *f = &t->frames[depth];
     uint64_t way = way_to(t, depth, caller);
-    if (f->caller == caller && f->function == function && f->way == way) return;
+    int is_same = f->caller == caller && f->function == function && f->way == way;
+    if (is_same && (f->extent == extent || f->extent == MOVES)) return;
     f->caller = caller | NOT_RECORDED;
     f->function = function;
     f->way = way;
+    f->extent = extent;
     if (t->first_new > depth) t->first_new = depth;
 }
 
@@ -41,7 +94,9 @@ PUBLIC void __tsan_func_entry(void *caller) {
         uint64_t stack = (uint64_t)__builtin_dwarf_cfa();
         while (depth && t->frames[depth - 1].stack <= stack) depth--;
         frame *f = &t->frames[depth];
-        if (f->caller != (uint64_t)caller || f->function != CALLER || f->way) set_frame(t, depth, (uint64_t)caller, CALLER);
+        uint64_t extent = (depth ? f[-1].stack : (uint64_t)t->stack + t->stack_size) - stack;
+        if (f->caller != (uint64_t)caller || f->function != CALLER || f->way || f->extent != extent)
+            set_frame(t, depth, (uint64_t)caller, CALLER, extent);
         f->stack = stack;
     }
     t->depth = depth + 1;
@@ -67,7 +122,7 @@ frame push_frame(thread *t, uint64_t caller, uint64_t function) {
     if (!records_calls) return old;
     if (t->depth < MOST_FRAMES) {
         old = t->frames[t->depth];
-        set_frame(t, t->depth, caller, function);
+        set_frame(t, t->depth, caller, function, MOVES);
         t->frames[t->depth].stack = ~0ull;
     }
     t->depth++;

@@ -51,7 +51,7 @@ static uint32_t recordable_depth(const thread *t) { return t->depth < MOST_FRAME
 
 static int room_of_frames(const thread *t) {
     uint32_t depth = recordable_depth(t);
-    return t->first_new < depth ? 3 * (depth - t->first_new) : 0;
+    return t->first_new < depth ? 4 * (depth - t->first_new) : 0;
 }
 
 static void add_frames(thread *t) {
@@ -59,7 +59,9 @@ static void add_frames(thread *t) {
     for (uint32_t d = t->first_new; d < depth; d++) {
         frame *f = &t->frames[d];
         if (!(f->caller & NOT_RECORDED)) continue;
+        uint64_t place;
         f->caller &= ~NOT_RECORDED;
+        if (has_new_place(t, d, &place)) add(t, OP_PLACE, place, 0, 0);
         if (f->way) add(t, OP_WAY, 0, 0, f->way);
         add(t, OP_FRAME, f->function, d, f->caller);
         t->recorded_depth = d + 1;
@@ -227,6 +229,7 @@ int leave_recording(void) {
                                                 MAP_PRIVATE | MAP_ANONYMOUS | MAP_NORESERVE, -1, 0));
     if (going_on) strcpy(header, parents);
     written = 0;
+    forget_places();
     changes++;                         /* the new record has no read */
     atomic_store(&room, STEP_BYTES / sizeof *records);
     munmap(parents, map_bytes());

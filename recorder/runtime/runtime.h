@@ -10,7 +10,10 @@
 #define CALLER ((uint64_t)__builtin_return_address(0))
 
 /* A function that a thread is in. NOT_RECORDED stands beside the caller where the record hasn't this one at its depth. */
-typedef struct { uint64_t caller, function, way, stack; } frame; /* way: as way_to gives it; stack: its stack pointer */
+typedef struct {
+    uint64_t caller, function, way;    /* way: as way_to gives it */
+    uint64_t stack, extent;            /* its stack pointer; how many bytes that is below the one further out */
+} frame;
 #define NOT_RECORDED (1ull << 63)
 
 enum { RECENT_READS = 4 };             /* a loop that waits reads no more */
@@ -80,6 +83,8 @@ void note_spin(thread *t, uint64_t read);
 extern int records_calls;              /* 0 where the user asks for none */
 uint64_t way_to(const thread *t, uint32_t depth, uint64_t caller);
 void forget_recorded_frames(thread *t);                      /* the record is another one, or the frames are */
+void forget_places(void);              /* the record is another one */
+int has_new_place(thread *t, uint32_t depth, uint64_t *place);   /* with the turn: is it to be recorded of this frame? */
 frame push_frame(thread *t, uint64_t caller, uint64_t function);       /* gives what lay there, for pop_frame */
 void pop_frame(thread *t, uint32_t depth, frame old);
 

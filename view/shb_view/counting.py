@@ -34,9 +34,9 @@ class Access(typing.NamedTuple):
 class Kinds:
     """What an access is, where the trace has it as reads and writes."""
 
-    def __init__(self, atomics, stacks):
-        """`atomics` has the atomic of a variable that stands for what a thread wrote to it."""
-        self.atomics, self.stacks = atomics, stacks
+    def __init__(self, gathered, stacks):
+        """`gathered` has the atomic of a variable that stands for what a thread wrote to it, and names of locals."""
+        self.atomics, self.locals, self.stacks = gathered.atomics, gathered.locals, stacks
 
     def of(self, number, word, variable):
         """The word of `words.KINDS` for an event."""
@@ -53,7 +53,8 @@ class Kinds:
 
     def name(self, variable):
         """The variable as the program has it."""
-        return self.atomics.get(variable, variable)
+        variable = self.atomics.get(variable, variable)
+        return self.locals.get(variable, variable)
 
 
 class Counting:

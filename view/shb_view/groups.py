@@ -5,9 +5,9 @@ import typing
 
 from shb_view.words import Code
 
-# Names as the recorder writes them: of a variable on a stack; of any other one.
-ON_STACK = re.compile(rb"(?P<base>stack\..*)(?P<block>)(?P<inside>-0x[0-9a-f]+)", re.S)
-NAME = re.compile(rb"(?P<base>.*?)(?P<block>#[0-9]+)?(?P<inside>(?:\.[A-Za-z_]\w*|\[[0-9]+\])*(?:\+[0-9]+)?)", re.S)
+# Names as the recorder writes them: of a variable on a stack; of any other one, which may be a local `of` a function.
+ON_STACK = re.compile(rb"(?P<base>stack\..*)(?P<block>)(?P<inside>-0x[0-9a-f]+)(?P<of>)", re.S)
+NAME = re.compile(rb"(?P<base>.*?)(?P<block>#[0-9]+)?(?P<inside>(?:\.[A-Za-z_]\w*|\[[0-9]+\])*(?:\+[0-9]+)?)(?P<of>(?: of .+)?)", re.S)
 
 
 class Pair:
@@ -22,7 +22,8 @@ class Pair:
 
 class Group(typing.NamedTuple):
     """`pairs` and `variables` are in the order in which the report names them, the variables those of the races that were read. An
-    atomic is one variable; `names` are those in the trace, which has one for each thread that writes it."""
+    atomic is one variable, and a local has its own name; `names` are those in the trace, which has one for each thread that writes an
+    atomic."""
 
     pairs: typing.Tuple[Pair, ...]
     variables: typing.Tuple[bytes, ...]
@@ -67,6 +68,7 @@ class Gathered:
 
     def __init__(self):
         self.atomics = {}  # by a name in the trace: the atomic that it is of
+        self.locals = {}  # by a variable on a stack: the local that it is
         self.pairs = {}  # by the two locations, the lesser first
         self.above = {}  # by location pair or variable: another one of its group
         self.lines = {}  # the line of each event that is named
@@ -107,6 +109,15 @@ class Gathered:
     def join(self, pair, variable):
         self.above[self.top(variable)] = self.top(pair)
 
+    def name_locals(self, stacks):
+        """Takes the names of locals: of a variable that is the same one at all events of its races."""
+        found = {}
+        for (name, _), events in self.racing.items():
+            variable = self.atomics.get(name, name)
+            if variable in stacks.locals:
+                found.setdefault(variable, set()).update(stacks.local_of(variable, event) for event in events)
+        self.locals = {variable: names.pop() for variable, names in found.items() if len(names) == 1 and b"" not in names}
+
     def groups(self):
         """The groups, in the order in which the report names them."""
         found = {}
@@ -114,10 +125,10 @@ class Gathered:
             found.setdefault(self.top(pair.locations), ([], [], []))[0].append(pair)
         for name in self.above:
             if isinstance(name, bytes):
-                found[self.top(name)][1].append(name)
+                found[self.top(name)][1].append(self.locals.get(name, name))
         for name in dict.fromkeys(name for name, _ in self.racing):
             found[self.top(self.atomics.get(name, name))][2].append(name)
-        return [Group(*map(tuple, parts)) for parts in found.values()]
+        return [Group(tuple(pairs), tuple(dict.fromkeys(variables)), tuple(names)) for pairs, variables, names in found.values()]
 
 
 def name_parts(variable):
@@ -128,7 +139,7 @@ def object_of(group):
     """The block of memory, or the named object, that all variables of a group are in; None where there is no one such thing, and of
     stacks, which have many."""
     parts = [name_parts(variable) for variable in group.variables]
-    things = {part["base"] + (part["block"] or b"") for part in parts}
+    things = {part["base"] + (part["block"] or b"") + part["of"] for part in parts}
     is_known = len(things) == 1 and not parts[0]["base"].startswith(b"stack.")
     return things.pop() if is_known else None
 
@@ -151,9 +162,10 @@ def common_name(variables):
         return variables[0], ""
     parts = [name_parts(variable) for variable in variables]
     bases, blocks, insides = ({part[name] or b"" for part in parts} for name in ("base", "block", "inside"))
-    if len(bases) > 1:
+    functions = {part["of"] for part in parts}
+    if len(bases) > 1 or len(functions) > 1:
         return variables[0], f"and {len(variables) - 1} more"
     if len(insides) == 1:
         return bases.pop() + insides.pop(), f"({len(variables)} blocks)"
-    shared = bases.pop() + (blocks.pop() if len(blocks) == 1 else b"")
+    shared = bases.pop() + (blocks.pop() if len(blocks) == 1 else b"") + functions.pop()
     return shared, f"({len(variables)} variables)"

@@ -91,13 +91,14 @@ def make_view(options, progress):
         head = analyser.head(None if options.report else gathered.share)
         given = given_report(options, analyser, stack) if options.report else own_report(analyser, head, stack)
         listed, has_schedules = read_report(given, head.counts, gathered, progress) if options.report or head.count else (0, True)
-        groups = gathered.groups()
         if options.report and not has_schedules:
             given = given._replace(verdict=NO_SCHEDULES)
         is_whole = bool(options.html or options.all)
         whole = "window" if options.window else "trace"
         stacks = stacks_of(options.stacks, options.shift, head.counts.events) if options.stacks else NoStacks()
-        asked = Asked(is_whole, whole, Kinds(gathered.atomics, stacks), gathered, head.counts.events)
+        gathered.name_locals(stacks)
+        groups = gathered.groups()
+        asked = Asked(is_whole, whole, Kinds(gathered, stacks), gathered, head.counts.events)
         count, sections = make_sections(asked, Trace(file, progress), given, groups)
         title = shown(os.fsencode(options.title or os.path.basename(options.trace)))
         pairs = sum(len(group.pairs) for group in groups)
