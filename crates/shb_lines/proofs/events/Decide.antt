@@ -1,7 +1,7 @@
 -- Predecessors, last writes, edges and paths can be decided.
 use Rattle.std.proofs.Common.{◌≡◌, ℕ, zero, suc, ◌+◌, ◌<◌, ◌≤◌, ◌⊎◌, inl, inr, Bool, true, false, List, Option, Some, None, length, get_or, refl, arith, subst, ap, sym, ◌∙◌}
-use Rattle.std.specs.Prelude.{slice_get, ◌↔◌, ◌==◌, ◌||◌, not}
-use Rattle.std.proofs.lemmas.Bool.{cases_lt, cases_order, cases_Bool, cases_eq, eqb-true, eq-eqb, or_cases, not-true}
+use Rattle.std.specs.Prelude.{slice_get, ◌↔◌, ◌==◌, ◌||◌}
+use Rattle.std.proofs.lemmas.Bool.{cases_lt, cases_order, cases_Bool, cases_eq, eqb-true, eq-eqb, or_cases}
 use Rattle.std.proofs.lemmas.Option.{slice_get_cases}
 use Rattle.shb_lines.specs.declared.event.Event.{Event}
 use Rattle.shb_lines.specs.declared.event.Op.{Op}
@@ -294,18 +294,6 @@ race_iff_schedulable trace disciplined i j earlier = (
   (λ h. race_of_schedule trace h.1.0 i j h.0 earlier h.1.1),
 )
 
--- a conflicting pair is a race exactly where the test of the predecessor fails
-pub race_test : (trace : List Event) → IsDisciplined trace → (i j : ℕ) → i < j → Conflict trace i j → (b : Bool) → (b ≡ true ↔ BelowPred trace i j) → (not b ≡ true) ↔ (Conflict trace i j × ((s : List ℕ) × IsSchedule trace s i j))
-race_test trace disciplined i j earlier conflict b test =
-    let iff = race_iff_schedulable trace disciplined i j earlier in (
-      (λ h. iff.0 (record { conflict = conflict; earlier = earlier; unordered = λ below. (let passing = test.1 below in let fails = not-true b h in (let f : ⊥ = cc in f)) })),
-      (λ h. go (cases_Bool b) (iff.1 h)),
-    )
-  where
-    go : (b ≡ true) ⊎ (b ≡ false) → Race trace i j → not b ≡ true
-    go (inl passing) race = absurd (race.unordered (test.0 passing))
-    go (inr fails) race = rw fails refl
-
 -- a list of all that is below either predecessor is the printed schedule
 pub printed_from_listed : (trace : List Event) (s : List ℕ) (i j : ℕ) → IsListed (λ k. BelowPred trace k i ⊎ BelowPred trace k j) (length trace) s → IsPrintedSchedule trace s i j
 printed_from_listed trace s i j h = record { in_order = h.rising; members = λ k. ((λ c. ((h.members k).0 c).1), (λ m. (h.members k).1 (within k m, m))) }
@@ -313,8 +301,3 @@ printed_from_listed trace s i j h = record { in_order = h.rising; members = λ k
     within : (k : ℕ) → BelowPred trace k i ⊎ BelowPred trace k j → k < length trace
     within k (inl h) = below_pred_in_range trace k i h
     within k (inr h) = below_pred_in_range trace k j h
-
--- the test of one event for the printed schedule
-pub either_test : (trace : List Event) (k i j : ℕ) (a b : Bool) → (a ≡ true ↔ BelowPred trace k i) → (b ≡ true ↔ BelowPred trace k j) → ((a || b) ≡ true) ↔ (BelowPred trace k i ⊎ BelowPred trace k j)
-either_test trace k i j true b ha hb = ((λ h. inl (ha.0 refl)), (λ h. refl))
-either_test trace k i j false b ha hb = ((λ h. inr (hb.0 h)), (λ h. elim h [ inl g ↦ (let e = ha.1 g in (let f : ⊥ = cc in absurd f)) | inr g ↦ hb.1 g ]))

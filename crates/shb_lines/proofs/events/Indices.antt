@@ -16,9 +16,6 @@ contains_at s p a h = (p, slice_get_within s p a h, get_or_from_slice_get s p a 
 pub contains_first : (s : List ℕ) (a b : ℕ) → StandsBefore s a b → Contains s a
 contains_first s a b h = contains_at s h.index a h.first
 
-pub contains_second : (s : List ℕ) (a b : ℕ) → StandsBefore s a b → Contains s b
-contains_second s a b h = contains_at s h.later_index b h.second
-
 -- in a strictly increasing list, earlier indices hold smaller positions
 pub smaller_before : (s : List ℕ) (p q a b : ℕ) → IsStrictlyIncreasing s → p < q → slice_get s p ≡ Some a → slice_get s q ≡ Some b → a < b
 smaller_before s p q a b rising lt at_p at_q =

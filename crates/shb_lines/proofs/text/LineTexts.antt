@@ -1,5 +1,5 @@
 -- The lines that give events have few bytes, and no line feed.
-use Rattle.std.proofs.Common.{◌≡◌, ◌&&◌, ◌+◌, ◌-◌, ◌==◌, ◌<◌, ◌≤◌, ℕ, Bool, true, false, cond, not, zero, suc, List, [], ◌∷◌, length, map, take, drop, get_or, Option, None, Some, Ok, Err, slice_get, slice_index_or, refl, sym, ap, subst, ◌∙◌, arith, length-take, length-drop}
+use Rattle.std.proofs.Common.{◌≡◌, ◌&&◌, ◌+◌, ◌-◌, ◌==◌, ◌<◌, ◌≤◌, ℕ, Bool, true, false, cond, not, zero, suc, List, [], ◌∷◌, length, map, take, drop, get_or, Option, None, Some, Ok, Err, slice_index_or, refl, sym, ap, subst, ◌∙◌, arith, length-take, length-drop}
 use Rattle.std.specs.List.{AllByRecursion, after_first, cons_option, enumerate_from, filter_map, list_all, onto_first, position_or_len}
 use Rattle.std.specs.Str.Lines.{strip_carriage_return}
 use Rattle.std.proofs.lemmas.List.{take_all}
@@ -12,7 +12,7 @@ use Rattle.shb_lines.specs.text.Grammar.{Meaning, NamedEvent}
 use Rattle.shb_lines.specs.text.Meaning.{is_bar, meaning}
 use Rattle.shb_lines.specs.text.Spans.{line_from}
 use Rattle.shb_lines.specs.text.Text.{IsLineText, event_on, lines_of, located, trace_of}
-use Rattle.shb_lines.specs.text.TraceData.{IsReading, IsWellFormed, TraceData, location_of}
+use Rattle.shb_lines.specs.text.TraceData.{IsReading, location_of}
 
 abbrev pub IsOneLine : List ℕ → Type 0
 IsOneLine bytes = list_all (λ b. not (b == 10)) bytes ≡ true
@@ -99,15 +99,6 @@ pub start_text : (text : List ℕ) (starts : List ℕ) (e start default : ℕ) �
 start_text text [] e start default all lt is = absurd (omega arith)
 start_text text (first ∷ starts) zero start default all lt is = subst (λ s. IsLineText (line_from text s)) (sym is) all.0
 start_text text (first ∷ starts) (suc e) start default all lt is = start_text text starts e start default all.1 (omega arith) is
-
-at_each : (lines : List (List ℕ)) (e : ℕ) → AllByRecursion IsLineText lines → e < length lines → (line : List ℕ) × (slice_get lines e ≡ Some line) × IsLineText line
-at_each [] e all lt = absurd (omega arith)
-at_each (line ∷ lines) zero all lt = (line, refl, all.0)
-at_each (line ∷ lines) (suc e) all lt = at_each lines e all.1 (omega arith)
-
--- each event of a well-formed trace has its line
-pub line_of_event : (trace : TraceData) (e : ℕ) → IsWellFormed trace → e < length trace.events → (line : List ℕ) × (slice_get trace.lines e ≡ Some line) × IsLineText line
-line_of_event trace e h lt = at_each trace.lines e h.line_texts (omega (arith, h.a_line_each))
 
 -- a line's location has few bytes and no line feed
 pub location_short : (line : List ℕ) → IsLineText line → IsShortLine (location_of line)

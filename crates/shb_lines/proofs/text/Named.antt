@@ -4,15 +4,10 @@ use Rattle.std.specs.List.{IsDistinct}
 use Rattle.std.specs.Str.{bytes_eq}
 use Rattle.std.proofs.lemmas.List.{length-map}
 use Rattle.std.proofs.lemmas.Option.{slice_get-map, slice_get_read}
-use Rattle.shb_lines.specs.declared.event.Event.{Event}
 use Rattle.shb_lines.specs.declared.names.Span.{Span}
 use Rattle.shb_lines.specs.text.Spans.{bytes_at, line_from}
 use Rattle.shb_lines.specs.text.Parts.{names_at}
 use Rattle.shb_lines.proofs.text.Numbers.{one_number}
-
-pub event_at : (items events : List Event) (k : ℕ) (event : Event) → items ≡ events → k < length events → event ≡ get_or items k event → slice_get events k ≡ Some event
-event_at items events k event events_are below at =
-    ap (λ es. slice_get es k) (sym events_are) ∙ slice_get_read items (length items) k event refl (omega (arith, ap length events_are)) at
 
 -- the line of number k begins at its start
 pub line_at : (text starts : List ℕ) (lines : List (List ℕ)) (k start : ℕ) (bytes line : List ℕ) → map (line_from text) starts ≡ lines → k < length starts → start ≡ get_or starts k start

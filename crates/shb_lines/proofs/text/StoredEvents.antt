@@ -1,8 +1,8 @@
 -- What the stored events stand for, and what one more changes.
-use Rattle.std.proofs.Common.{◌≡◌, ◌+◌, ◌-◌, ◌<◌, ◌≤◌, ℕ, List, [], ◌∷◌, ◌++◌, cond, get_or, length, leb, map, option_map, Some, slice_get, take, zero, suc, refl, sym, ap, subst, ◌∙◌, arith}
+use Rattle.std.proofs.Common.{◌≡◌, ◌+◌, ◌-◌, ◌<◌, ◌≤◌, ℕ, List, [], ◌∷◌, ◌++◌, cond, get_or, length, leb, map, option_map, Some, slice_get, zero, suc, refl, sym, ap, subst, ◌∙◌, arith}
 use Rattle.std.specs.List.{AllByRecursion, enumerate_from}
-use Rattle.std.proofs.lemmas.Bool.{le-leb, lt-leb}
-use Rattle.std.proofs.lemmas.List.{length-map, map-append, take_more}
+use Rattle.std.proofs.lemmas.Bool.{lt-leb}
+use Rattle.std.proofs.lemmas.List.{length-map, map-append}
 use Rattle.std.proofs.lemmas.List.FromFn.{get_or-enumerate_from, length-enumerate_from}
 use Rattle.std.proofs.lemmas.List.Sums.{fold-append}
 use Rattle.std.proofs.lemmas.Option.{slice_get-get_or, slice_get-map}
@@ -16,16 +16,8 @@ use Rattle.shb_lines.proofs.text.TraceLemmas.{enumerate_from-push}
 pub lines_before-push : (skipped : List Skipped) (entry : Skipped) (k : ℕ) → lines_before (skipped ++ entry ∷ []) k ≡ cond (leb entry.event k) entry.lines (lines_before skipped k)
 lines_before-push skipped entry k = fold-append (λ lines e. cond (leb e.event k) e.lines lines) 0 skipped (entry ∷ [])
 
--- the last entry decides where it is for the event or an earlier one
-pub lines_before-last : (skipped : List Skipped) (entry : Skipped) (k : ℕ) → entry.event ≤ k → lines_before (skipped ++ entry ∷ []) k ≡ entry.lines
-lines_before-last skipped entry k le = lines_before-push skipped entry k ∙ ap (λ b. cond b entry.lines (lines_before skipped k)) (le-leb entry.event k le)
-
 pub lines_before-later : (skipped : List Skipped) (entry : Skipped) (k : ℕ) → k < entry.event → lines_before (skipped ++ entry ∷ []) k ≡ lines_before skipped k
 lines_before-later skipped entry k lt = lines_before-push skipped entry k ∙ ap (λ b. cond b entry.lines (lines_before skipped k)) (lt-leb entry.event k lt)
-
--- one entry more of the list's front
-pub lines_before-more : (skipped : List Skipped) (i : ℕ) (d : Skipped) (k : ℕ) → i < length skipped → lines_before (take (i + 1) skipped) k ≡ cond (leb (get_or skipped i d).event k) (get_or skipped i d).lines (lines_before (take i skipped) k)
-lines_before-more skipped i d k below = ap (λ s. lines_before s k) (take_more skipped i d below) ∙ lines_before-push (take i skipped) (get_or skipped i d) k
 
 from_zero : (k : ℕ) → 0 + k ≡ k
 from_zero k = omega arith
