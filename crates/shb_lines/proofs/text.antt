@@ -2,6 +2,7 @@
 pub mod Bytes
 pub mod Meanings
 pub mod NameLemmas
+pub mod NumberHash
 pub mod EndsLemmas
 pub mod TraceLemmas
 pub mod FaultLemmas
