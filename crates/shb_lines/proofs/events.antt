@@ -2,6 +2,7 @@
 pub mod ConflictTests
 pub mod Counts
 pub mod Decide
+pub mod EdgeTests
 pub mod Events
 pub mod Items
 pub mod Increasing

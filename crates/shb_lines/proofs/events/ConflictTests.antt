@@ -1,7 +1,7 @@
 -- The test of a conflict.
-use Rattle.std.proofs.Common.{◌≡◌, ℕ, ◌⊎◌, inl, inr, Bool, true, false, List, Option, Some, refl, sym, ◌∙◌, ap}
-use Rattle.std.specs.Prelude.{slice_get, ◌==◌, ◌&&◌, ◌||◌, not, option_and_then}
-use Rattle.std.proofs.lemmas.Bool.{eqb-true, eq-eqb, or_cases}
+use Rattle.std.proofs.Common.{◌≡◌, ℕ, inl, inr, true, List, Option, Some, refl, sym, ◌∙◌, ap}
+use Rattle.std.specs.Prelude.{slice_get, ◌==◌, ◌||◌, not, option_and_then}
+use Rattle.std.proofs.lemmas.Bool.{and_from, eqb-true, eq-eqb, false_from_ne_true, not-true, not_from_false, or_cases, or_left, or_right}
 use Rattle.shb_lines.specs.declared.event.Event.{Event}
 use Rattle.shb_lines.specs.declared.event.Op.{Op}
 use Rattle.shb_lines.specs.declared.event.Op.TheVariants.{Write}
@@ -28,23 +28,6 @@ write_of _ x h is = absurd (let f : ⊥ = cc in f)
 is_write_of : (o : Op) (x : ℕ) → o ≡ Write x → is_write o ≡ true
 is_write_of o x h = rw h refl
 
-not_true : (b : Bool) → not b ≡ true → b ≡ false
-not_true true h = absurd (let f : ⊥ = cc in f)
-not_true false h = refl
-
-not_false : (b : Bool) → (b ≡ true → ⊥) → not b ≡ true
-not_false true h = absurd (h refl)
-not_false false h = refl
-
-both : (a b : Bool) → a ≡ true → b ≡ true → (a && b) ≡ true
-both true b h g = g
-both false b h g = h
-
-either : (a b : Bool) → (a ≡ true) ⊎ (b ≡ true) → (a || b) ≡ true
-either true b h = refl
-either false b (inl h) = absurd (let f : ⊥ = cc in f)
-either false b (inr h) = h
-
 -- the test of the operations and the threads at two positions
 pub conflict_from_parts : (trace : List Event) (i j : ℕ) (o p : Op) (t u : ℕ) → op_at trace i ≡ Some o → op_at trace j ≡ Some p → thread_at trace i ≡ Some t → thread_at trace j ≡ Some u → is_conflict_of o p ≡ true → not (t == u) ≡ true → Conflict trace i j
 conflict_from_parts trace i j o p t u op_i op_j thread_i thread_j h threads = record {
@@ -58,7 +41,7 @@ conflict_from_parts trace i j o p t u op_i op_j thread_i thread_j h threads = re
   other_thread = λ same.
       let s : Some t ≡ Some u = sym thread_i ∙ (same ∙ thread_j) in
       let passing = eq-eqb t u (let g : t ≡ u = cc in g) in
-      let fails = not_true (t == u) threads in
+      let fails = not-true (t == u) threads in
       (let f : ⊥ = cc in f);
 }
   where
@@ -70,11 +53,13 @@ conflict_from_parts trace i j o p t u op_i op_j thread_i thread_j h threads = re
 
 pub parts_from_conflict : (trace : List Event) (i j : ℕ) (o p : Op) (t u : ℕ) → op_at trace i ≡ Some o → op_at trace j ≡ Some p → thread_at trace i ≡ Some t → thread_at trace j ≡ Some u → Conflict trace i j → (is_conflict_of o p ≡ true) × (not (t == u) ≡ true)
 parts_from_conflict trace i j o p t u op_i op_j thread_i thread_j h =
-    (both _ _ (same_variable_is _ _ h.variable (sym (variable_is trace i o op_i) ∙ h.first_accesses) (sym (variable_is trace j p op_j) ∙ h.second_accesses)) (either _ _ (writer h.one_writes)), not_false (t == u) threads)
+    (and_from _ _ (same_variable_is _ _ h.variable (sym (variable_is trace i o op_i) ∙ h.first_accesses) (sym (variable_is trace j p op_j) ∙ h.second_accesses)) writes, not_from_false (t == u) (false_from_ne_true (t == u) threads))
   where
-    writer : (op_at trace i ≡ Some (Write h.variable)) ⊎ (op_at trace j ≡ Some (Write h.variable)) → (is_write o ≡ true) ⊎ (is_write p ≡ true)
-    writer (inl g) = inl (is_write_of o h.variable (let s : Some o ≡ Some (Write h.variable) = sym op_i ∙ g in cc))
-    writer (inr g) = inr (is_write_of p h.variable (let s : Some p ≡ Some (Write h.variable) = sym op_j ∙ g in cc))
+    writes : (is_write o || is_write p) ≡ true
+    writes = elim h.one_writes [
+      | inl g ↦ or_left (is_write o) (is_write p) (is_write_of o h.variable (let s : Some o ≡ Some (Write h.variable) = sym op_i ∙ g in cc))
+      | inr g ↦ or_right (is_write o) (is_write p) (is_write_of p h.variable (let s : Some p ≡ Some (Write h.variable) = sym op_j ∙ g in cc))
+    ]
 
     threads : (t == u) ≡ true → ⊥
     threads same = h.other_thread (thread_i ∙ (ap (λ t. Some t) (eqb-true t u same) ∙ sym thread_j))
@@ -88,4 +73,4 @@ conflict_from_test trace i j e d at_i at_j h =
 pub test_from_conflict : (trace : List Event) (i j : ℕ) (e d : Event) → slice_get trace i ≡ Some e → slice_get trace j ≡ Some d → Conflict trace i j → is_conflict e d ≡ true
 test_from_conflict trace i j e d at_i at_j h =
     let parts = parts_from_conflict trace i j e.op d.op e.thread d.thread (op_is trace i e at_i) (op_is trace j d at_j) (thread_is trace i e at_i) (thread_is trace j d at_j) h in
-    both _ _ parts.0 parts.1
+    and_from _ _ parts.0 parts.1

@@ -8,7 +8,8 @@ use Rattle.shb_lines.specs.events.Tests.{is_hb_rule}
 use Rattle.shb_lines.specs.declared.event.Sizes.{Sizes}
 use Rattle.shb_lines.specs.events.Sizes.{IsOpWithin, IsWithin}
 use Rattle.shb_lines.specs.events.Order.{LastWrite, ShbEdge, happens_before, read_from}
-use Rattle.shb_lines.proofs.events.Decide.{last_write_unique, rule_from_test, test_from_rule}
+use Rattle.shb_lines.proofs.events.Decide.{last_write_unique}
+use Rattle.shb_lines.proofs.events.EdgeTests.{rule_from_test, test_from_rule}
 use Rattle.shb_lines.proofs.events.Events.{event_of_op, event_of_thread, thread_is, op_is}
 
 pub thread_item : (trace : List Event) (k : ℕ) (d : Event) → k < length trace → thread_at trace k ≡ Some (get_or trace k d).thread

@@ -1,4 +1,4 @@
--- Bounded search, and the rising list of the numbers below a bound that have a decided property.
+-- Bounded search, and the rising list of the numbers below a bound that have a property.
 use Rattle.std.proofs.Common.{◌≡◌, ℕ, zero, suc, ◌+◌, ◌<◌, ◌≤◌, ◌⊎◌, inl, inr, List, [], ◌∷◌, ◌++◌, length, get_or, refl, arith, subst, ap, ◌∙◌}
 use Rattle.std.specs.Prelude.{Contains, ◌↔◌}
 use Rattle.std.specs.List.Sorted.{IsStrictlyIncreasing}
@@ -45,32 +45,6 @@ rising_push n ks rising low k within = go (cases_lt (k + 1) (length ks))
         let second = get_or_push ks n 0 (k + 1) here in
         let small = low (get_or ks k 0) (Contains-get_or ks k 0 (omega arith)) in
         omega (arith, first, second, small)
-
-pub listed : (P : ℕ → Type 0) → ((k : ℕ) → Decided (P k)) → (n : ℕ) → (ks : List ℕ) × IsListed P n ks
-listed P decide zero = ([], record { rising = λ k within. absurd (omega arith); members = λ k. ((λ c. absurd (let lt = c.1 in omega arith)), (λ h. absurd (let lt = h.0 in omega arith))) })
-listed P decide (suc n) = go (decide n) (listed P decide n)
-  where
-    old : (ks : List ℕ) → IsListed P n ks → (k : ℕ) → Contains ks k → (k < suc n) × P k
-    old ks h k c = let m = (h.members k).0 c in ((let lt = m.0 in omega arith), m.1)
-
-    go : Decided (P n) → (ks : List ℕ) × IsListed P n ks → (ks : List ℕ) × IsListed P (suc n) ks
-    go (inr fails) (ks, h) = (
-      ks,
-      record {
-        rising = h.rising;
-        members = λ k. (old ks h k, λ m. (h.members k).1 (elim (cases_lt k n) [ inl lt ↦ (lt, m.1) | inr le ↦ absurd (fails (let e : k ≡ n = (let lt = m.0 in omega arith) in subst P e m.1)) ]));
-      },
-    )
-    go (inl passing) (ks, h) = (
-      ks ++ n ∷ [],
-      record {
-        rising = rising_push n ks h.rising (λ k c. ((h.members k).0 c).0);
-        members = λ k. (
-          (λ c. elim (Contains-push_cases ks n k c) [ inl b ↦ old ks h k b | inr e ↦ ((let g : n ≡ k = e in omega arith), subst P e passing) ]),
-          (λ m. elim (cases_lt k n) [ inl lt ↦ Contains-append_left ks (n ∷ []) k ((h.members k).1 (lt, m.1)) | inr le ↦ (let e : n ≡ k = (let lt = m.0 in omega arith) in subst (Contains (ks ++ n ∷ [])) e (Contains-push ks n)) ]),
-        );
-      },
-    )
 
 -- how many numbers below a bound have a property, one more number at a time
 pub number_none : (P : ℕ → Type 0) → IsNumberOf (λ k. (k < 0) × P k) 0

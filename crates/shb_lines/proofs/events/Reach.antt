@@ -14,7 +14,7 @@ use Rattle.shb_lines.specs.events.Reach.{any_below, numbers_where, of_thread, wr
 use Rattle.shb_lines.specs.events.Order.{HbRule, LastWrite, ShbEdge, happens_before, read_from, here, step, ShbBelow, IsPred, in_thread, by_fork, BelowPred}
 use Rattle.shb_lines.specs.events.Race.{Conflict, Race, variable_at}
 use Rattle.shb_lines.proofs.events.ConflictTests.{conflict_from_test, test_from_conflict}
-use Rattle.shb_lines.proofs.events.Decide.{rule_from_test, test_from_rule, rule_ends, path_cases}
+use Rattle.shb_lines.proofs.events.EdgeTests.{rule_from_test, test_from_rule, rule_ends}
 use Rattle.shb_lines.proofs.events.Events.{event_of_thread, event_of_op, fork_op}
 use Rattle.shb_lines.proofs.events.Listed.{IsListed, listed_none, listed_more_yes, listed_more_no}
 use Rattle.shb_lines.proofs.events.Schedulable.{path_forward, edge_earlier}
@@ -82,6 +82,15 @@ numbers_listed f (suc n) = go (cases_Bool (f n)) (numbers_listed f n)
     go : (f n ≡ true) ⊎ (f n ≡ false) → IsListed (λ k. f k ≡ true) n (numbers_where f n) → IsListed (λ k. f k ≡ true) (suc n) (numbers_where f n ++ cond (f n) (n ∷ []) [])
     go (inl e) ih = rw (e, ← add-one) (listed_more_yes (λ k. f k ≡ true) n (numbers_where f n) e ih)
     go (inr e) ih = rw (e, append-nil, ← add-one) (listed_more_no (λ k. f k ≡ true) n (numbers_where f n) (λ h. (let g : ⊥ = cc in g)) ih)
+
+-- by what the test stands for
+pub listed_by_test : (f : ℕ → Bool) (P : ℕ → Type 0) (n : ℕ) → ((k : ℕ) → Reflects (f k) (P k)) → IsListed P n (numbers_where f n)
+listed_by_test f P n each =
+    let found = numbers_listed f n in
+    record {
+      rising = found.rising;
+      members = λ k. ((λ c. let m = (found.members k).0 c in (m.0, (each k).0 m.1)), (λ h. (found.members k).1 (h.0, (each k).1 h.1)));
+    }
 
 -- the tests of events at positions
 reflect_of_thread : (trace : List Event) (t k : ℕ) → Reflects (of_thread trace t k) (thread_at trace k ≡ Some t)
@@ -157,13 +166,11 @@ below_sound trace (suc n) a b h = elim ((reflect_step trace n a b).0 h) [
 below_complete : (trace : List Event) (n a b : ℕ) → b ≤ a + n → ShbBelow trace a b → is_shb_below trace n a b ≡ true
 unfolding is_shb_below
 below_complete trace zero a b close path = eq-eqb a b (let le = path_forward trace a b path in omega arith)
-below_complete trace (suc n) a b close path = (reflect_step trace n a b).1 (elim (path_cases trace a b path) [
-  | inl e ↦ inl e
-  | inr found ↦
-      (let low = edge_earlier trace a found.0 found.1 in
-      let high = path_forward trace found.0 b found.2 in
-      inr (found.0, omega arith, (found.1, below_complete trace n found.0 b (omega arith) found.2)))
-])
+below_complete trace (suc n) a b close here = (reflect_step trace n a b).1 (inl refl)
+below_complete trace (suc n) a b close (step {b = c} edge rest) =
+    let low = edge_earlier trace a c edge in
+    let high = path_forward trace c b rest in
+    (reflect_step trace n a b).1 (inr (c, omega arith, (edge, below_complete trace n c b (omega arith) rest)))
 
 reflect_below : (trace : List Event) (a p : ℕ) → Reflects (is_shb_below trace p a p) (ShbBelow trace a p)
 reflect_below trace a p = (below_sound trace p a p, below_complete trace p a p (omega arith))

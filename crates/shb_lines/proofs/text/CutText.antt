@@ -1,8 +1,8 @@
 -- A text that is cut one byte after its limit has the first fault of the whole text.
-use Rattle.std.proofs.Common.{◌≡◌, ◌⊎◌, inl, inr, ◌+◌, ◌==◌, ◌<◌, ◌≤◌, ℕ, Bool, true, false, cond, nat_lt, zero, suc, List, [], ◌∷◌, ◌++◌, length, take, slice_index_or, sum_by, IfSome, Option, None, Some, refl, sym, ap, subst, ◌∙◌, arith, append-nil, length-append}
+use Rattle.std.proofs.Common.{◌≡◌, ◌⊎◌, inl, inr, ◌+◌, ◌==◌, ◌<◌, ◌≤◌, ℕ, Bool, true, false, cond, zero, suc, List, [], ◌∷◌, ◌++◌, length, take, slice_index_or, sum_by, IfSome, Option, None, Some, refl, sym, ap, subst, ◌∙◌, arith, append-nil, length-append}
 use Rattle.std.specs.Io.KnownBytes.{Consumes, IsAtEnd}
 use Rattle.std.specs.List.{onto_first}
-use Rattle.std.proofs.lemmas.Bool.Decides.{nat_tests}
+use Rattle.std.proofs.lemmas.Bool.{cases_lt}
 use Rattle.std.proofs.lemmas.List.{get_or-take, take-take}
 use Rattle.std.proofs.lemmas.List.Sums.{sum_by-cons}
 use Rattle.shb_lines.specs.declared.fault.Fault.{Fault}
@@ -84,13 +84,6 @@ is_text_too_long : (f : Fault) → number_of f ≤ 1 → f ≡ faults.TextTooLon
 is_text_too_long faults.TextTooLong h = refl
 is_text_too_long _ h = absurd (omega arith)
 
-lt_or_ge : (m n : ℕ) → (m < n) ⊎ (n ≤ m)
-lt_or_ge m n = by (nat_lt m n) refl
-  where
-    by : (b : Bool) → nat_lt m n ≡ b → (m < n) ⊎ (n ≤ m)
-    by true e = inl (grind (arith, nat_tests))
-    by false e = inr (grind (arith, nat_tests))
-
 -- the lines before the shared one are the same
 take_same : (a b : List (List ℕ)) (k i : ℕ) → i ≤ k → take k a ≡ take k b → take i a ≡ take i b
 take_same a b k i le same = sym (take-take i k a le) ∙ ap (take i) same ∙ take-take i k b le
@@ -135,14 +128,14 @@ module _ (limits : Limits) (text whole : List ℕ) (over : limits.text < length 
   faultless_whole i le earlier j f l has = earlier j f l (from_whole j (omega arith) f has)
 
   not_after : (i : ℕ) → HasNoLineFaultBefore limits text i → i ≤ shared.k
-  not_after i earlier = by (lt_or_ge shared.k i)
+  not_after i earlier = by (cases_lt shared.k i)
     where
       by : (shared.k < i) ⊎ (i ≤ shared.k) → i ≤ shared.k
       by (inl l) = absurd (earlier shared.k faults.TextTooLong l passes)
       by (inr le) = le
 
   lowest_whole : (i : ℕ) (f : Fault) → i ≤ shared.k → IsLowest number_of (HasFault limits text i) (Some f) → IsLowest number_of (HasFault limits whole i) (Some f)
-  lowest_whole i f le lowest = by (lt_or_ge i shared.k)
+  lowest_whole i f le lowest = by (cases_lt i shared.k)
     where
       by : (i < shared.k) ⊎ (shared.k ≤ i) → IsLowest number_of (HasFault limits whole i) (Some f)
       by (inl l) = IsLowest-same (HasFault limits text i) (HasFault limits whole i) (to_whole i l) (from_whole i l) (Some f) lowest
@@ -170,7 +163,7 @@ module _ (limits : Limits) (text whole : List ℕ) (over : limits.text < length 
 
 -- what is read of a text up to one byte after the limit is what is read of the whole text
 pub reading_of_cut : (limits : Limits) (text more : List ℕ) (Holds : List (List ℕ) → Type 0) (stop : Option LineFault) → (length text ≤ limits.text → more ≡ []) → IsReading limits text Holds stop → IsReading limits (text ++ more) Holds stop
-reading_of_cut limits text more Holds stop ended h = by (lt_or_ge limits.text (length text))
+reading_of_cut limits text more Holds stop ended h = by (cases_lt limits.text (length text))
   where
     by : (limits.text < length text) ⊎ (length text ≤ limits.text) → IsReading limits (text ++ more) Holds stop
     by (inl over) = reading_whole limits text (text ++ more) over (omega (arith, length-append text more)) (shares text more limits.text over) Holds stop h

@@ -2,6 +2,7 @@
 use Rattle.std.proofs.Common.{◌≡◌, ◌≢◌, ◌⊎◌, inl, inr, ◌+◌, ◌-◌, ◌==◌, ◌<◌, ◌&&◌, ℕ, Bool, true, false, cond, not, nat_lt, zero, suc, List, [], ◌∷◌, ◌++◌, codes, length, take, drop, get_or, slice_index, Option, None, Some, Ok, Err, refl, sym, ap, subst, ◌∙◌, arith, length-append, length-take}
 use Rattle.std.specs.List.{after_first, before_first, position_or_len}
 use Rattle.std.specs.Str.{bytes_eq}
+use Rattle.std.proofs.lemmas.Bool.{eq-eqb, eqb-false, eqb-true, ne_eqb}
 use Rattle.std.proofs.lemmas.Bool.Decides.{nat_tests}
 use Rattle.std.proofs.lemmas.Slice.Eq.{bytes_eq-Decides}
 use Rattle.std.proofs.lemmas.List.{drop_more, take-append-drop, take_all}
@@ -18,36 +19,16 @@ use Rattle.shb_lines.proofs.text.Meanings.{meaning_is}
 abbrev is : ℕ → ℕ → Bool
 is c b = b == c
 
-differs : (b c : ℕ) → (b == c) ≡ false → b ≢ c
-differs b c e = grind (arith, nat_tests)
-
-is_false : (b c : ℕ) → b ≢ c → (b == c) ≡ false
-is_false b c e = by (b == c) refl
-  where
-    by : (t : Bool) → (b == c) ≡ t → (b == c) ≡ false
-    by true same = absurd (e (grind (arith, nat_tests)))
-    by false same = same
-
-is_same : (c : ℕ) → (c == c) ≡ true
-is_same c = by (c == c) refl
-  where
-    by : (t : Bool) → (c == c) ≡ t → (c == c) ≡ true
-    by true same = same
-    by false same = absurd (grind (arith, nat_tests))
-
-is_true : (b c : ℕ) → (b == c) ≡ true → b ≡ c
-is_true b c e = grind (arith, nat_tests)
-
 -- where a list without a byte ends at that byte
 position_at : (c : ℕ) (front rest : List ℕ) → Lacks c front → position_or_len (is c) (front ++ c ∷ rest) ≡ length front
-position_at c [] rest lacks = ap (λ t. cond (not t) (1 + position_or_len (is c) rest) 0) (is_same c)
+position_at c [] rest lacks = ap (λ t. cond (not t) (1 + position_or_len (is c) rest) 0) (eq-eqb c c refl)
 position_at c (x ∷ front) rest lacks =
-    let here = is_false x c (All-head (λ b. b ≢ c) x front lacks) in
+    let here = ne_eqb x c (All-head (λ b. b ≢ c) x front lacks) in
     let after = position_at c front rest (All-tail (λ b. b ≢ c) x front lacks) in
     ap (λ t. cond (not t) (1 + position_or_len (is c) (front ++ c ∷ rest)) 0) here ∙ omega (arith, after)
 
 position_lacks : (c : ℕ) (bytes : List ℕ) → Lacks c bytes → position_or_len (is c) bytes ≡ length bytes
-position_lacks c bytes lacks = position_or_len_is (is c) bytes (length bytes) 0 (omega arith) (λ k l. is_false _ c (lacks k 0 l)) (λ l. absurd (omega arith))
+position_lacks c bytes lacks = position_or_len_is (is c) bytes (length bytes) 0 (omega arith) (λ k l. ne_eqb _ c (lacks k 0 l)) (λ l. absurd (omega arith))
 
 before_at : (c : ℕ) (front rest : List ℕ) → Lacks c front → before_first (is c) (front ++ c ∷ rest) ≡ front
 before_at c front rest lacks = ap (λ n. take n (front ++ c ∷ rest)) (position_at c front rest lacks) ∙ take-append_seam front (c ∷ rest)
@@ -67,11 +48,11 @@ cut c [] = inl (λ k d l. absurd (omega arith))
 cut c (x ∷ bytes) = by (x == c) refl (cut c bytes)
   where
     more : (front : List ℕ) → (x == c) ≡ false → Lacks c front → Lacks c (x ∷ front)
-    more front e lacks zero d l = differs x c e
+    more front e lacks zero d l = eqb-false x c e
     more front e lacks (suc k) d l = lacks k d (omega arith)
 
     by : (t : Bool) → (x == c) ≡ t → Cut c bytes → Cut c (x ∷ bytes)
-    by true e rest = inr ([], bytes, (λ k d l. absurd (omega arith)), ap (λ b. b ∷ bytes) (is_true x c e))
+    by true e rest = inr ([], bytes, (λ k d l. absurd (omega arith)), ap (λ b. b ∷ bytes) (eqb-true x c e))
     by false e (inl lacks) = inl (more bytes e lacks)
     by false e (inr h) = inr (x ∷ h.0, h.1, more h.0 e h.2, ap (λ ls. x ∷ ls) h.3)
 
@@ -148,7 +129,7 @@ closed_of rest some ends =
     ap (λ ls. 40 ∷ ls) (last_of rest some ∙ ap (λ b. take (length rest - 1) rest ++ b ∷ []) at)
 
 lacks_of : (c : ℕ) (bytes : List ℕ) → position_or_len (is c) bytes ≡ length bytes → Lacks c bytes
-lacks_of c bytes e = λ k d l. differs _ c (fails_before_first (is c) bytes k d (omega arith))
+lacks_of c bytes e = λ k d l. eqb-false _ c (fails_before_first (is c) bytes k d (omega arith))
 
 word_lacks : (k : Kind) → Lacks 40 (word_of k)
 word_lacks kinds.Read = lacks_of 40 (codes "r") refl

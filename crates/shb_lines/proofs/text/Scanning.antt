@@ -1,8 +1,8 @@
 -- Where the lines of a text begin, and what the next one is.
-use Rattle.std.proofs.Common.{◌≡◌, ◌⊎◌, inl, inr, ◌+◌, ◌-◌, ◌==◌, ◌<◌, ◌≤◌, ℕ, Bool, true, false, zero, suc, List, [], ◌∷◌, ◌++◌, length, take, drop, nat_lt, slice_index_or, sum_by, refl, sym, ap, subst, ◌∙◌, arith, add-one, length-take, length-drop}
+use Rattle.std.proofs.Common.{◌≡◌, ◌⊎◌, inl, inr, ◌+◌, ◌-◌, ◌==◌, ◌<◌, ◌≤◌, ℕ, zero, suc, List, [], ◌∷◌, ◌++◌, length, take, drop, slice_index_or, sum_by, refl, sym, ap, subst, ◌∙◌, arith, add-one, length-take, length-drop}
 use Rattle.std.specs.List.{after_first, before_first, position_or_len}
 use Rattle.std.proofs.lemmas.List.{drop-drop, take_all}
-use Rattle.std.proofs.lemmas.Bool.Decides.{nat_tests}
+use Rattle.std.proofs.lemmas.Bool.{cases_lt}
 use Rattle.std.proofs.lemmas.List.Sums.{fails_before_first, sum_by-append}
 use Rattle.std.proofs.lemmas.List.Splits.{slice_split_first, slice_split_none}
 use Rattle.shb_lines.specs.text.Text.{lines_of}
@@ -39,17 +39,10 @@ pub record IsStart (text : List ℕ) (i start : ℕ) : Type 0 where
   pub offset : start ≡ sum_by (λ line. length line + 1) (take i (lines_of text))
   pub rest : StartsAt text start (drop i (lines_of text))
 
-lt_or_eq : (m n : ℕ) → m ≤ n → (m < n) ⊎ (m ≡ n)
-lt_or_eq m n le = by (nat_lt m n) refl
-  where
-    by : (b : Bool) → nat_lt m n ≡ b → (m < n) ⊎ (m ≡ n)
-    by true e = inl (grind (arith, nat_tests))
-    by false e = inr (grind (arith, nat_tests))
-
 -- the line that begins at an offset, and those after it
 first_line : (text : List ℕ) (start end : ℕ) → start ≤ length text → end ≤ length text → end ≡ start + position_or_len (λ b. b == 10) (drop start text)
     → (rest : List (List ℕ)) × (lines_of (drop start text) ≡ part text start end ∷ rest) × StartsAt text (end + 1) rest × (length (part text start end) ≡ end - start)
-first_line text start end within end_within end_is = by (lt_or_eq _ _ (omega (arith, length-drop start text)))
+first_line text start end within end_within end_is = elim (cases_lt (position_or_len (λ b. b == 10) tail) (length tail)) [ inl lt ↦ by (inl lt) | inr ge ↦ by (inr (omega (arith, ge, length-drop start text))) ]
   where
     tail : List ℕ
     tail = drop start text
