@@ -21,6 +21,7 @@ use std::hash::{BuildHasher, Hash, Hasher};
 use std::random::RandomSource;
 
 /// Both halves of the 128 bits of a product, joined by xor.
+#[tactic(auto, unfolding(crate::specs::text::Hashing::folded_product))]
 fn folded_product(a: u64, b: u64) -> u64
     ensures { result ≡ spec.folded_product a b }
 {
@@ -29,6 +30,7 @@ fn folded_product(a: u64, b: u64) -> u64
 }
 
 /// The eight bytes from an offset on, as a word.
+#[tactic(auto, unfolding(crate::specs::text::Hashing::word_at))]
 fn word_at(bytes: &[u8], at: usize) -> u64
     requires { at + 8 ≤ length bytes.now }
     ensures { result ≡ spec.word_at bytes.now at }
@@ -59,6 +61,7 @@ fn number_hash(state: u64, key: u64, len: u64, number: u64) -> u64
 }
 
 /// The state after at most 16 bytes: their ends have them all.
+#[tactic(auto, unfolding(crate::specs::text::Hashing::short_hash))]
 fn short_hash(state: u64, key: u64, bytes: &[u8]) -> u64
     requires { length bytes.now ≤ 16 }
     ensures { result ≡ spec.short_hash state key bytes.now }
@@ -83,6 +86,7 @@ fn long_hash(state: u64, key: u64, bytes: &[u8]) -> u64
 }
 
 /// The state after some bytes.
+#[tactic(auto, unfolding(crate::specs::text::Hashing::hash))]
 fn hash(state: u64, key: u64, bytes: &[u8]) -> u64
     ensures { result ≡ spec.hash state key bytes.now }
 {
@@ -116,10 +120,12 @@ impl Hasher for KeyedHasher {
         self.state = hash(self.state, self.key, bytes);
     }
 
+    #[tactic(auto, using(crate::proofs::text::NumberHash::hash_4))]
     fn write_u32(&mut self, i: u32) {
         self.state = number_hash(self.state, self.key, 4, u64::from(i));
     }
 
+    #[tactic(auto, using(crate::proofs::text::NumberHash::hash_8))]
     fn write_usize(&mut self, i: usize) {
         self.state = number_hash(self.state, self.key, 8, i as u64);
     }

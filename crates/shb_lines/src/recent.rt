@@ -90,6 +90,7 @@ fn two(bytes: &[u8]) -> u64
 }
 
 /// The ends of a name of up to 16 bytes.
+#[tactic(auto, unfolding(crate::specs::text::Hashing::first_word, crate::specs::text::Hashing::last_word))]
 pub fn ends_of(name: &[u8]) -> Ends
     requires { length name.now ≤ 16 }
     ensures ends { HasEnds result.first result.last result.len name.now }
