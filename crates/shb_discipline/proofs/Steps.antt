@@ -28,11 +28,11 @@ set_cases xs i j y z lt at = go (cases_eq j i)
     go (inl e) = inl (e, sym (get_or_from_slice_get (set xs i y) j z z at) ∙ (ap (λ n. get_or (set xs i y) n z) e ∙ get_or-set_same xs i y z lt))
     go (inr ne) = inr (ne, slice_get-get_or xs j z within ∙ ap (λ x. Some x) (sym (get_or-set_other xs i j y z ne) ∙ get_or_from_slice_get (set xs i y) j z z at))
 
-acquire_test : (who : ℕ → Bool) (l : ℕ) (e : Event) (b : Bool) → op_is_acquire l e.op ≡ b → is_acquire who l e ≡ (who e.thread && b)
+pub acquire_test : (who : ℕ → Bool) (l : ℕ) (e : Event) (b : Bool) → op_is_acquire l e.op ≡ b → is_acquire who l e ≡ (who e.thread && b)
 unfolding is_acquire
 acquire_test who l e b is = ap (λ x. who e.thread && x) is
 
-release_test : (who : ℕ → Bool) (l : ℕ) (e : Event) (b : Bool) → op_is_release l e.op ≡ b → is_release who l e ≡ (who e.thread && b)
+pub release_test : (who : ℕ → Bool) (l : ℕ) (e : Event) (b : Bool) → op_is_release l e.op ≡ b → is_release who l e ≡ (who e.thread && b)
 unfolding is_release
 release_test who l e b is = ap (λ x. who e.thread && x) is
 
@@ -72,7 +72,7 @@ release_cases w v true d same held = rw (same refl) (by w)
 release_cases w v false d same held = absurd (omega (arith, held))
 
 module _ (trace : List Event) (k : ℕ) (e : Event) (at : slice_get trace k ≡ Some e) where
-  count_more : (f : Event → Bool) → count_by f (take (k + 1) trace) ≡ count_by f (take k trace) + cond (f e) 1 0
+  pub count_more : (f : Event → Bool) → count_by f (take (k + 1) trace) ≡ count_by f (take k trace) + cond (f e) 1 0
   count_more f = go (cases_Bool (f e))
     where
       go : (f e ≡ true) ⊎ (f e ≡ false) → count_by f (take (k + 1) trace) ≡ count_by f (take k trace) + cond (f e) 1 0
@@ -122,14 +122,14 @@ module _ (trace : List Event) (k : ℕ) (e : Event) (at : slice_get trace k ≡ 
       omega (arith, a, b, c, d)
 
   -- a lock that the event doesn't name
-  other_lock : (l : ℕ) (lock : LockState) → op_is_acquire l e.op ≡ false → op_is_release l e.op ≡ false → IsLockAfter (take k trace) l lock → IsLockAfter (take (k + 1) trace) l lock
+  pub other_lock : (l : ℕ) (lock : LockState) → op_is_acquire l e.op ≡ false → op_is_release l e.op ≡ false → IsLockAfter (take k trace) l lock → IsLockAfter (take (k + 1) trace) l lock
   other_lock l lock no_acquire no_release = lock_more l lock lock (λ who. rw (acquire_test who l e false no_acquire, release_test who l e false no_release, and-false) refl)
 
   pub locks_same : (locks : List LockState) → ((l : ℕ) → op_is_acquire l e.op ≡ false) → ((l : ℕ) → op_is_release l e.op ≡ false) → AreLocks (take k trace) locks → AreLocks (take (k + 1) trace) locks
   locks_same locks no_acquire no_release old l lock at_l = other_lock l lock (no_acquire l) (no_release l) (old l lock at_l)
 
   -- the lock that is acquired
-  acquired_lock : (l : ℕ) (lock : LockState) → e.op ≡ Acquire l → acquires (other_than e.thread) l (take k trace) ≡ releases (other_than e.thread) l (take k trace) → IsLockAfter (take k trace) l lock → IsLockAfter (take (k + 1) trace) l record { holder = e.thread; depth = lock.depth + 1 }
+  pub acquired_lock : (l : ℕ) (lock : LockState) → e.op ≡ Acquire l → acquires (other_than e.thread) l (take k trace) ≡ releases (other_than e.thread) l (take k trace) → IsLockAfter (take k trace) l lock → IsLockAfter (take (k + 1) trace) l record { holder = e.thread; depth = lock.depth + 1 }
   acquired_lock l lock is may known = lock_more l lock record { holder = e.thread; depth = lock.depth + 1 } step known
     where
       step : (who : ℕ → Bool) → cond (is_acquire who l e) 1 0 + cond (who lock.holder) lock.depth 0 ≡ cond (is_release who l e) 1 0 + cond (who e.thread) (lock.depth + 1) 0
@@ -145,7 +145,7 @@ module _ (trace : List Event) (k : ℕ) (e : Event) (at : slice_get trace k ≡ 
       go (inr h) = other_lock m new (ap (op_is_acquire m) is ∙ ne_eqb m l h.0) (ap (op_is_release m) is) (old m new h.1)
 
   -- the lock that is released
-  released_lock : (l : ℕ) (lock : LockState) → e.op ≡ Release l → releases (only e.thread) l (take k trace) < acquires (only e.thread) l (take k trace) → IsLockAfter (take k trace) l lock → IsLockAfter (take (k + 1) trace) l record { holder = lock.holder; depth = lock.depth - 1 }
+  pub released_lock : (l : ℕ) (lock : LockState) → e.op ≡ Release l → releases (only e.thread) l (take k trace) < acquires (only e.thread) l (take k trace) → IsLockAfter (take k trace) l lock → IsLockAfter (take (k + 1) trace) l record { holder = lock.holder; depth = lock.depth - 1 }
   released_lock l lock is may known = lock_more l lock record { holder = lock.holder; depth = lock.depth - 1 } step known
     where
       step : (who : ℕ → Bool) → cond (is_acquire who l e) 1 0 + cond (who lock.holder) lock.depth 0 ≡ cond (is_release who l e) 1 0 + cond (who lock.holder) (lock.depth - 1) 0
