@@ -1,16 +1,17 @@
 -- A lock after disciplined events has at most one holder, and what follows from that between two positions.
 use Rattle.std.proofs.Common.{◌≡◌, ◌≢◌, ℕ, zero, suc, ◌+◌, ◌-◌, ◌<◌, ◌≤◌, ◌⊎◌, inl, inr, Bool, true, false, List, Some, take, refl, sym, ◌∙◌, ap, arith, subst, add-one}
-use Rattle.std.specs.Prelude.{slice_get, count_by, cond, not, ◌==◌, ◌&&◌}
+use Rattle.std.specs.Prelude.{slice_get, count_by, cond, ◌==◌}
 use Rattle.std.proofs.Math.Bool.{and-false, and-true}
-use Rattle.std.proofs.lemmas.Bool.{cases_Bool, cases_eq, cases_lt, eqb-true, eq-eqb, ne_eqb}
+use Rattle.std.proofs.lemmas.Bool.{cases_Bool, cases_eq, cases_lt, eqb-true, ne_eqb}
 use Rattle.std.proofs.lemmas.Option.{slice_get_cases}
 use Rattle.shb_lines.specs.declared.event.Event.{Event}
 use Rattle.shb_lines.specs.declared.event.Op.{Op}
 use Rattle.shb_lines.specs.declared.event.Op.TheVariants.{Acquire, Release}
 use Rattle.shb_lines.specs.events.Discipline.{IsDisciplined, MayCome, MayDo, acquires, releases, other_than, only, is_acquire, is_release, op_is_acquire, op_is_release}
-use Rattle.shb_lines.proofs.events.Counts.{count_more_yes, count_more_no, count_mono, count_gap, take_more_past}
+use Rattle.shb_lines.proofs.events.Counts.{count_more_no, count_mono, count_gap, take_more_past}
 use Rattle.shb_lines.proofs.events.Listed.{Decided, some_below}
 use Rattle.shb_lines.proofs.events.Locks.{DisciplinedBelow}
+use Rattle.shb_discipline.proofs.Steps.{acquire_test, acquired_lock, count_more, other_lock, release_test, released_lock}
 
 -- every set of threads acquired the lock as often as it released it, and depth times more where the holder is of the set
 pub record HasHolder (past : List Event) (l : ℕ) : Type 0 where
@@ -18,61 +19,17 @@ pub record HasHolder (past : List Event) (l : ℕ) : Type 0 where
   pub depth : ℕ
   pub balance : (who : ℕ → Bool) → acquires who l past ≡ releases who l past + cond (who holder) depth 0
 
--- w and v say whether the thread and the holder are of a set, same whether they are one
-acquire_cases : (w v same : Bool) (d : ℕ) → (same ≡ true → v ≡ w) → cond (not same) d 0 ≡ 0 → cond w 1 0 + cond v d 0 ≡ cond w (d + 1) 0
-acquire_cases w v true d is no_other = rw (is refl) (by w)
-  where
-    by : (b : Bool) → cond b 1 0 + cond b d 0 ≡ cond b (d + 1) 0
-    by true = omega arith
-    by false = refl
-acquire_cases w v false d is no_other = by w v
-  where
-    by : (a b : Bool) → cond a 1 0 + cond b d 0 ≡ cond a (d + 1) 0
-    by true true = omega (arith, no_other)
-    by true false = omega (arith, no_other)
-    by false true = omega (arith, no_other)
-    by false false = refl
-
-release_cases : (w v same : Bool) (d : ℕ) → (same ≡ true → v ≡ w) → 0 < cond same d 0 → cond v d 0 ≡ cond w 1 0 + cond v (d - 1) 0
-release_cases w v true d is held = rw (is refl) (by w)
-  where
-    by : (b : Bool) → cond b d 0 ≡ cond b 1 0 + cond b (d - 1) 0
-    by true = omega (arith, held)
-    by false = refl
-release_cases w v false d is held = absurd (omega (arith, held))
-
 cond_zero : (b : Bool) → ◌≡◌ {A = ℕ} (cond b 0 0) 0
 cond_zero true = refl
 cond_zero false = refl
 
 module _ (trace : List Event) (k : ℕ) (e : Event) (at : slice_get trace k ≡ Some e) where
-  pub count_more : (f : Event → Bool) → count_by f (take (k + 1) trace) ≡ count_by f (take k trace) + cond (f e) 1 0
-  count_more f = go (cases_Bool (f e))
-    where
-      go : (f e ≡ true) ⊎ (f e ≡ false) → count_by f (take (k + 1) trace) ≡ count_by f (take k trace) + cond (f e) 1 0
-      go (inl h) = rw h (count_more_yes f trace k e at h)
-      go (inr h) = let same = count_more_no f trace k e at h in rw h (omega (arith, same))
-
-  acquire_test : (who : ℕ → Bool) (l : ℕ) (b : Bool) → op_is_acquire l e.op ≡ b → is_acquire who l e ≡ (who e.thread && b)
-  unfolding is_acquire
-  acquire_test who l b is = ap (λ x. who e.thread && x) is
-
-  release_test : (who : ℕ → Bool) (l : ℕ) (b : Bool) → op_is_release l e.op ≡ b → is_release who l e ≡ (who e.thread && b)
-  unfolding is_release
-  release_test who l b is = ap (λ x. who e.thread && x) is
-
   -- how the counts of a lock's acquires and releases go on
   pub acquires_yes : (who : ℕ → Bool) (l : ℕ) → op_is_acquire l e.op ≡ true → acquires who l (take (k + 1) trace) ≡ acquires who l (take k trace) + cond (who e.thread) 1 0
-  acquires_yes who l is = count_more (is_acquire who l) ∙ ap (λ (b : Bool). acquires who l (take k trace) + cond b 1 0) (acquire_test who l true is ∙ and-true (who e.thread))
-
-  pub acquires_no : (who : ℕ → Bool) (l : ℕ) → op_is_acquire l e.op ≡ false → acquires who l (take (k + 1) trace) ≡ acquires who l (take k trace)
-  acquires_no who l is = count_more_no (is_acquire who l) trace k e at (acquire_test who l false is ∙ and-false (who e.thread))
-
-  pub releases_yes : (who : ℕ → Bool) (l : ℕ) → op_is_release l e.op ≡ true → releases who l (take (k + 1) trace) ≡ releases who l (take k trace) + cond (who e.thread) 1 0
-  releases_yes who l is = count_more (is_release who l) ∙ ap (λ (b : Bool). releases who l (take k trace) + cond b 1 0) (release_test who l true is ∙ and-true (who e.thread))
+  acquires_yes who l is = count_more trace k e at (is_acquire who l) ∙ ap (λ (b : Bool). acquires who l (take k trace) + cond b 1 0) (acquire_test who l e true is ∙ and-true (who e.thread))
 
   pub releases_no : (who : ℕ → Bool) (l : ℕ) → op_is_release l e.op ≡ false → releases who l (take (k + 1) trace) ≡ releases who l (take k trace)
-  releases_no who l is = count_more_no (is_release who l) trace k e at (release_test who l false is ∙ and-false (who e.thread))
+  releases_no who l is = count_more_no (is_release who l) trace k e at (release_test who l e false is ∙ and-false (who e.thread))
 
   module _ (l : ℕ) (held : HasHolder (take k trace) l) where
     -- an event that doesn't name the lock
@@ -80,38 +37,22 @@ module _ (trace : List Event) (k : ℕ) (e : Event) (at : slice_get trace k ≡ 
     passed_by no_acquire no_release = record {
       holder = held.holder;
       depth = held.depth;
-      balance = λ who. (let a = acquires_no who l no_acquire in let r = releases_no who l no_release in let b = held.balance who in omega (arith, a, r, b));
+      balance = other_lock trace k e at l record { holder = held.holder; depth = held.depth } no_acquire no_release held.balance;
     }
 
     acquired : e.op ≡ Acquire l → MayCome (take k trace) e → HasHolder (take (k + 1) trace) l
-    acquired is may = record { holder = e.thread; depth = held.depth + 1; balance = step }
-      where
-        allowed : e.op ≡ Acquire l → acquires (other_than e.thread) l (take k trace) ≡ releases (other_than e.thread) l (take k trace)
-        allowed is = subst (MayDo (take k trace) e.thread) is may.may_do
-
-        step : (who : ℕ → Bool) → acquires who l (take (k + 1) trace) ≡ releases who l (take (k + 1) trace) + cond (who e.thread) (held.depth + 1) 0
-        step who =
-            let a = acquires_yes who l (ap (op_is_acquire l) is ∙ eq-eqb l l refl) in
-            let r = releases_no who l (ap (op_is_release l) is) in
-            let b = held.balance who in
-            let no_other : cond (not (e.thread == held.holder)) held.depth 0 ≡ 0 = let h = held.balance (other_than e.thread) in let m = allowed is in omega (arith, h, m) in
-            let one = acquire_cases (who e.thread) (who held.holder) (e.thread == held.holder) held.depth (λ h. ap who (sym (eqb-true e.thread held.holder h))) no_other in
-            omega (arith, a, r, b, one)
+    acquired is may = record {
+      holder = e.thread;
+      depth = held.depth + 1;
+      balance = acquired_lock trace k e at l record { holder = held.holder; depth = held.depth } is (subst (MayDo (take k trace) e.thread) is may.may_do) held.balance;
+    }
 
     released : e.op ≡ Release l → MayCome (take k trace) e → HasHolder (take (k + 1) trace) l
-    released is may = record { holder = held.holder; depth = held.depth - 1; balance = step }
-      where
-        allowed : e.op ≡ Release l → releases (only e.thread) l (take k trace) < acquires (only e.thread) l (take k trace)
-        allowed is = subst (MayDo (take k trace) e.thread) is may.may_do
-
-        step : (who : ℕ → Bool) → acquires who l (take (k + 1) trace) ≡ releases who l (take (k + 1) trace) + cond (who held.holder) (held.depth - 1) 0
-        step who =
-            let a = acquires_no who l (ap (op_is_acquire l) is) in
-            let r = releases_yes who l (ap (op_is_release l) is ∙ eq-eqb l l refl) in
-            let b = held.balance who in
-            let own : 0 < cond (e.thread == held.holder) held.depth 0 = let h = held.balance (only e.thread) in let m = allowed is in omega (arith, h, m) in
-            let one = release_cases (who e.thread) (who held.holder) (e.thread == held.holder) held.depth (λ h. ap who (sym (eqb-true e.thread held.holder h))) own in
-            omega (arith, a, r, b, one)
+    released is may = record {
+      holder = held.holder;
+      depth = held.depth - 1;
+      balance = released_lock trace k e at l record { holder = held.holder; depth = held.depth } is (subst (MayDo (take k trace) e.thread) is may.may_do) held.balance;
+    }
 
     pub holder_more : MayCome (take k trace) e → HasHolder (take (k + 1) trace) l
     holder_more may = go e.op refl

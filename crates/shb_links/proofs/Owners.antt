@@ -1,7 +1,7 @@
 -- Accesses of a variable, and who makes them, an event at a time.
 use Rattle.std.proofs.Common.{◌≡◌, ◌≢◌, ℕ, ◌+◌, ◌<◌, ◌≤◌, ◌⊎◌, inl, inr, Bool, true, false, List, Option, Some, None, length, get_or, refl, arith, subst, ap, sym, ◌∙◌, get_or-set_same, get_or-set_other}
-use Rattle.std.specs.Prelude.{◌↔◌, IsTrue, map, replicate, option_and_then}
-use Rattle.std.proofs.Math.ListN.{set, length-set, length-replicate, get_or-replicate}
+use Rattle.std.specs.Prelude.{◌↔◌, IsTrue, map, option_and_then}
+use Rattle.std.proofs.Math.ListN.{set, length-set}
 use Rattle.std.proofs.lemmas.Bool.{cases_lt, cases_eq}
 use Rattle.std.proofs.lemmas.List.{get_or-map, get_or_past, length-map}
 use Rattle.std.proofs.lemmas.Option.{slice_get_within}
@@ -49,13 +49,6 @@ owner_other : (trace : List Event) (x n : ℕ) (owner : Owner) → variable_at t
 owner_other trace x n Nobody other none = λ k lt of_k. elim (cases_lt k n) [ inl low ↦ none k low of_k | inr le ↦ other (let same : k ≡ n = omega (arith, lt, le) in rw (← same) of_k) ]
 owner_other trace x n (One t) other is = sole_more trace x n t (λ of_n. absurd (other of_n)) is
 owner_other trace x n Several other is = is
-
--- the owners of all variables, an event more
-pub owners_start : (trace : List Event) (size : ℕ) (owners : List Owner) → owners ≡ replicate size Nobody → AreOwners trace 0 size owners
-owners_start trace size owners is = record {
-  as_many = ap length is ∙ length-replicate size Nobody;
-  each = λ x d lt. subst (IsOwner trace x 0) (sym (ap (λ (os : List Owner). get_or os x d) is ∙ get_or-replicate size x Nobody d lt)) (λ k below. absurd (let past = below in omega (arith, past)));
-}
 
 pub owners_other : (trace : List Event) (n size : ℕ) (owners : List Owner) → ((x : ℕ) → variable_at trace n ≢ Some x) → AreOwners trace n size owners → AreOwners trace (n + 1) size owners
 owners_other trace n size owners other h = record {

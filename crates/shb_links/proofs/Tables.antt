@@ -1,7 +1,6 @@
 -- Tables of latest positions, an event at a time.
-use Rattle.std.proofs.Common.{◌≡◌, ℕ, ◌+◌, ◌<◌, ◌≤◌, ◌⊎◌, inl, inr, List, Option, Some, None, length, get_or, arith, subst, ap, sym, ◌∙◌, get_or-set_same, get_or-set_other}
-use Rattle.std.specs.Prelude.{replicate}
-use Rattle.std.proofs.Math.ListN.{set, length-set, length-replicate, get_or-replicate}
+use Rattle.std.proofs.Common.{◌≡◌, ℕ, ◌+◌, ◌<◌, ◌≤◌, ◌⊎◌, inl, inr, List, Option, Some, None, length, get_or, arith, subst, sym, ◌∙◌, get_or-set_same, get_or-set_other}
+use Rattle.std.proofs.Math.ListN.{set, length-set}
 use Rattle.std.proofs.lemmas.Bool.{cases_lt, cases_eq}
 use Rattle.std.proofs.lemmas.List.{get_or_past}
 use Rattle.std.proofs.lemmas.Option.{slice_get_within}
@@ -26,12 +25,6 @@ latest_skip P n (Some p) fails latest = record {
   earlier = (let lt = latest.earlier in omega arith);
   holds = latest.holds;
   last = λ m low high h. elim (cases_lt m n) [ inl lt ↦ latest.last m low lt h | inr le ↦ fails (subst P (let g : m ≡ n = omega arith in g) h) ];
-}
-
-pub table_start : (P : ℕ → ℕ → Type 0) (size : ℕ) (table : List (Option ℕ)) → table ≡ replicate size None → IsLatestTable P 0 size table
-table_start P size table same = record {
-  as_long = ap length same ∙ length-replicate size None;
-  each = λ t lt. (let empty : get_or table t None ≡ None = ap (λ (xs : List (Option ℕ)). get_or xs t None) same ∙ get_or-replicate size t None None lt in rw empty (λ k below h. absurd (let past = below in omega arith)));
 }
 
 -- the position n is the latest of t, and of no other number

@@ -29,14 +29,14 @@ pub struct Linked<'a> {
 
 impl<'a> Linked<'a> {
     /// A trace with its links.
-    pub fn new(trace: &'a Disciplined<'a>, links: &'a Links<'a>) -> Linked<'a>
-        requires linked { links.now ≡ trace.now.events.now }
-        ensures events { result.events.now ≡ trace.now.events.now }
-        ensures sizes { result.sizes ≡ trace.now.sizes }
+    pub fn new(disciplined: &'a Disciplined<'a>, links: &'a Links<'a>) -> Linked<'a>
+        requires linked { links.now ≡ disciplined.now.events.now }
+        ensures events { result.events.now ≡ disciplined.now.events.now }
+        ensures sizes { result.sizes ≡ disciplined.now.sizes }
     {
         Linked {
-            events: trace.events,
-            sizes: trace.sizes,
+            events: disciplined.events,
+            sizes: disciplined.sizes,
             links,
         }
     }

@@ -21,7 +21,7 @@ use std::marker::Model;
 /// The links of a trace, and which of its variables are shared. Contracts see it as the list of the
 /// trace's events, since that list fixes both.
 pub struct Links<'a> {
-    trace: &'a Disciplined<'a>,
+    disciplined: &'a Disciplined<'a>,
     locals: Vec<u32>,
     forks: Vec<Option<u32>>,
     last: Vec<Option<u32>>,
@@ -32,7 +32,7 @@ pub struct Links<'a> {
 impl<'a> Drop for Links<'a> {
     fn drop(self) {
         let Links {
-            trace: _,
+            disciplined: _,
             locals: _,
             forks: _,
             last: _,
@@ -44,9 +44,9 @@ impl<'a> Drop for Links<'a> {
 impl<'a> Model for Links<'a> {
     ghost Value = { List Event };
 
-    ghost view = { λ l. l.trace.now.events.now };
+    ghost view = { λ l. l.disciplined.now.events.now };
 
-    ghost invariant = { λ l. HasLinks l.trace.now.events.now l.locals.items l.forks.items
+    ghost invariant = { λ l. HasLinks l.disciplined.now.events.now l.locals.items l.forks.items
         l.last.items l.shared.items };
 }
 
@@ -70,12 +70,12 @@ impl<'a> Links<'a> {
         requires { e < length self.now }
         ensures { Exactly (λ p. IsPred self.now p e) result }
     {
-        let thread = self.trace.events.thread(e);
+        let thread = self.disciplined.events.thread(e);
         let fork = self.forked_by(thread);
         if self.local(e) == 1 {
             return fork;
         }
-        latest_of_thread(self.trace.events, thread, e).or(fork)
+        latest_of_thread(self.disciplined.events, thread, e).or(fork)
     }
 
     /// The fork of thread `t`. `None` exactly where no event forks it, as for every number that
@@ -119,8 +119,8 @@ impl<'a> Links<'a> {
         requires { e < length self.now }
         ensures { Exactly (λ w. LastWrite self.now w e) result }
     {
-        match self.trace.events.op(e) {
-            Op::Read(variable) => latest_write(self.trace.events, variable, e),
+        match self.disciplined.events.op(e) {
+            Op::Read(variable) => latest_write(self.disciplined.events, variable, e),
             _ => None,
         }
     }
@@ -128,13 +128,13 @@ impl<'a> Links<'a> {
 
 /// The links of a trace, by two forward passes, in four bytes an event and one a variable. `NoMemory`
 /// where memory was refused.
-pub fn links_of<'a>(alloc: Global, trace: &'a Disciplined<'a>) -> Result<Links<'a>, NoMemory>
-    ensures { IfOk result (λ links. links ≡ trace.now.events.now) }
+pub fn links_of<'a>(alloc: Global, disciplined: &'a Disciplined<'a>) -> Result<Links<'a>, NoMemory>
+    ensures { IfOk result (λ links. links ≡ disciplined.now.events.now) }
 {
-    let mut found = LocalTimes::new(alloc, trace)?;
-    let count = trace.events.len() as u32;
+    let mut found = LocalTimes::new(alloc, disciplined)?;
+    let count = disciplined.events.len() as u32;
     for e in 0..count {
-        found.take(trace, e)?;
+        found.take(disciplined, e)?;
     }
     let LocalTimes {
         locals,
@@ -142,10 +142,10 @@ pub fn links_of<'a>(alloc: Global, trace: &'a Disciplined<'a>) -> Result<Links<'
         forks,
     } = found;
     Ok(Links {
-        trace,
+        disciplined,
         locals,
         forks,
         last,
-        shared: shared_variables(alloc, trace)?,
+        shared: shared_variables(alloc, disciplined)?,
     })
 }

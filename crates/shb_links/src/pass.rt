@@ -24,52 +24,52 @@ pub(crate) struct LocalTimes {
 
 impl LocalTimes {
     /// No event met, with room for the events of a trace.
-    pub(crate) fn new(alloc: Global, trace: &Disciplined<'_>) -> Result<Self, NoMemory>
-        ensures { IfOk result (AreLocalTimes trace.now.events.now 0 trace.now.sizes) }
+    pub(crate) fn new(alloc: Global, disciplined: &Disciplined<'_>) -> Result<Self, NoMemory>
+        ensures { IfOk result (AreLocalTimes disciplined.now.events.now 0 disciplined.now.sizes) }
     {
         Ok(LocalTimes {
-            locals: Vec::with_capacity(alloc, trace.events.len())?,
-            last: empty_table(alloc, trace.sizes.threads)?,
-            forks: empty_table(alloc, trace.sizes.threads)?,
+            locals: Vec::with_capacity(alloc, disciplined.events.len())?,
+            last: empty_table(alloc, disciplined.sizes.threads)?,
+            forks: empty_table(alloc, disciplined.sizes.threads)?,
         })
     }
 
     /// Takes event `e`.
-    pub(crate) fn take(&mut self, trace: &Disciplined<'_>, e: u32) -> Result<(), NoMemory>
-        requires in_range { e < length trace.now.events.now }
-        requires found { AreLocalTimes trace.now.events.now e trace.now.sizes self.old }
-        ensures { OnOk result (AreLocalTimes trace.now.events.now (e + 1) trace.now.sizes self.new) }
+    pub(crate) fn take(&mut self, disciplined: &Disciplined<'_>, e: u32) -> Result<(), NoMemory>
+        requires in_range { e < length disciplined.now.events.now }
+        requires found { AreLocalTimes disciplined.now.events.now e disciplined.now.sizes self.old }
+        ensures { OnOk result (AreLocalTimes disciplined.now.events.now (e + 1) disciplined.now.sizes self.new) }
     {
-        let local = next_local(trace, self.locals.as_slice(), self.last.as_slice(), e);
+        let local = next_local(disciplined, self.locals.as_slice(), self.last.as_slice(), e);
         self.locals.push(local)?;
-        note_thread(trace.events, trace.sizes, &mut self.last, e);
-        note_fork(trace, &mut self.forks, e);
+        note_thread(disciplined.events, disciplined.sizes, &mut self.last, e);
+        note_fork(disciplined, &mut self.forks, e);
         Ok(())
     }
 }
 
 /// The local time of an event, from those before it and the last event of each
 /// thread.
-fn next_local(trace: &Disciplined<'_>, locals: &[u32], last: &[Option<u32>], e: u32) -> u32
-    requires in_range { e < length trace.now.events.now }
-    requires locals { HasLocals trace.now.events.now e locals.now }
-    requires last { IsLatestTable (OfThread trace.now.events.now) e trace.now.sizes.threads last.now }
-    ensures { (t : ℕ) → thread_at trace.now.events.now e ≡ Some t
-        → result ≡ local_time trace.now.events.now t e }
+fn next_local(disciplined: &Disciplined<'_>, locals: &[u32], last: &[Option<u32>], e: u32) -> u32
+    requires in_range { e < length disciplined.now.events.now }
+    requires locals { HasLocals disciplined.now.events.now e locals.now }
+    requires last { IsLatestTable (OfThread disciplined.now.events.now) e disciplined.now.sizes.threads last.now }
+    ensures { (t : ℕ) → thread_at disciplined.now.events.now e ≡ Some t
+        → result ≡ local_time disciplined.now.events.now t e }
 {
-    match last[trace.events.thread(e) as usize] {
+    match last[disciplined.events.thread(e) as usize] {
         Some(p) => locals[p as usize] + 1,
         None => 1,
     }
 }
 
 /// Notes the event, where it is a fork, as that of its thread.
-fn note_fork(trace: &Disciplined<'_>, forks: &mut Vec<Option<u32>>, e: u32)
-    requires in_range { e < length trace.now.events.now }
-    requires forks { IsLatestTable (ForksThread trace.now.events.now) e trace.now.sizes.threads forks.old.items }
-    ensures { IsLatestTable (ForksThread trace.now.events.now) (e + 1) trace.now.sizes.threads forks.new.items }
+fn note_fork(disciplined: &Disciplined<'_>, forks: &mut Vec<Option<u32>>, e: u32)
+    requires in_range { e < length disciplined.now.events.now }
+    requires forks { IsLatestTable (ForksThread disciplined.now.events.now) e disciplined.now.sizes.threads forks.old.items }
+    ensures { IsLatestTable (ForksThread disciplined.now.events.now) (e + 1) disciplined.now.sizes.threads forks.new.items }
 {
-    if let Op::Fork(thread) = trace.events.op(e) {
+    if let Op::Fork(thread) = disciplined.events.op(e) {
         forks[thread as usize] = Some(e);
     }
 }

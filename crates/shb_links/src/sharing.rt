@@ -42,14 +42,14 @@ impl Owner {
 }
 
 /// Takes the event at e into what is known of its variable, if it is an access.
-fn note_access(trace: &Disciplined<'_>, owners: &mut Vec<Owner>, e: u32)
-    requires in_range { e < length trace.now.events.now }
-    requires owners { AreOwners trace.now.events.now e trace.now.sizes.variables owners.old.items }
-    ensures { AreOwners trace.now.events.now (e + 1) trace.now.sizes.variables owners.new.items }
+fn note_access(disciplined: &Disciplined<'_>, owners: &mut Vec<Owner>, e: u32)
+    requires in_range { e < length disciplined.now.events.now }
+    requires owners { AreOwners disciplined.now.events.now e disciplined.now.sizes.variables owners.old.items }
+    ensures { AreOwners disciplined.now.events.now (e + 1) disciplined.now.sizes.variables owners.new.items }
 {
-    if let Some(x) = trace.events.op(e).variable() {
+    if let Some(x) = disciplined.events.op(e).variable() {
         let owner = owners[x as usize];
-        owners[x as usize] = owner.with(trace.events.thread(e));
+        owners[x as usize] = owner.with(disciplined.events.thread(e));
     }
 }
 
@@ -68,14 +68,14 @@ fn flags_of(alloc: Global, owners: &[Owner]) -> Result<Vec<bool>, NoMemory>
 /// it runs. `NoMemory` where memory was refused.
 pub(crate) fn shared_variables(
     alloc: Global,
-    trace: &Disciplined<'_>,
+    disciplined: &Disciplined<'_>,
 ) -> Result<Vec<bool>, NoMemory>
-    ensures { IfOk result (λ flags. HasShared trace.now.events.now flags.items) }
+    ensures { IfOk result (λ flags. HasShared disciplined.now.events.now flags.items) }
 {
     let nobody = Owner::Nobody;
-    let mut owners = vec![in alloc; nobody; trace.sizes.variables as usize]?;
-    for e in 0..trace.events.len() as u32 {
-        note_access(trace, &mut owners, e);
+    let mut owners = vec![in alloc; nobody; disciplined.sizes.variables as usize]?;
+    for e in 0..disciplined.events.len() as u32 {
+        note_access(disciplined, &mut owners, e);
     }
     flags_of(alloc, owners.as_slice())
 }

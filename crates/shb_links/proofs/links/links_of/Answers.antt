@@ -1,5 +1,5 @@
 -- The local times and the tables of threads are those of all events.
-use Rattle.std.proofs.Common.{◌≡◌, ℕ, length, refl, subst, arith}
+use Rattle.std.proofs.Common.{◌≡◌, ℕ, length, subst, arith}
 use Rattle.shb_links.specs.Latest.{IsLatestTable, ForksThread, OfThread}
 use Rattle.shb_links.specs.Links.{HasLocals}
 use Rattle.shb_links.proofs.Tables.{forks_whole, last_whole}
@@ -7,7 +7,7 @@ use Rattle.shb_links.proofs.links.links_of.Goals as goal
 
 pub invariant_of-result : goal.invariant_of-result
 invariant_of-result c =
-    let trace = c.args.trace.now in
+    let trace = c.args.disciplined.now in
     let all : c.loop-e.e ≡ length trace.events.now = omega arith in
     let found = c.loop-e.found in
     record {

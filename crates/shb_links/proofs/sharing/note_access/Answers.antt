@@ -5,19 +5,19 @@ use Rattle.shb_links.proofs.sharing.note_access.Goals as goal
 
 pub index-owner-requires : goal.index-owner-requires
 index-owner-requires c =
-    let trace = c.args.trace.now in
+    let trace = c.args.disciplined.now in
     let low = variable_sized trace.events.now trace.sizes c.args.e c.in-Some.x trace.within (variable_known trace.events.now c.args.e c.op.result c.op.ensures ∙ sym c.in-Some.ensures) in
     omega (arith, low.1, c.requires.owners.as_many, c.args.owners.now.ok.0)
 
 pub index_mut-requires : goal.index_mut-requires
 index_mut-requires c =
-    let trace = c.args.trace.now in
+    let trace = c.args.disciplined.now in
     let low = variable_sized trace.events.now trace.sizes c.args.e c.in-Some.x trace.within (variable_known trace.events.now c.args.e c.op.result c.op.ensures ∙ sym c.in-Some.ensures) in
     omega (arith, low.1, c.requires.owners.as_many, c.args.owners.now.ok.0)
 
 pub returns-in-Some : goal.returns-in-Some
 returns-in-Some c =
-    let trace = c.args.trace.now in
+    let trace = c.args.disciplined.now in
     let events = trace.events.now in
     let e = c.args.e in
     let x = c.in-Some.x in
@@ -29,7 +29,7 @@ returns-in-Some c =
 
 pub returns-in_default : goal.returns-in_default
 returns-in_default c =
-    let trace = c.args.trace.now in
+    let trace = c.args.disciplined.now in
     let events = trace.events.now in
     owners_other events c.args.e trace.sizes.variables c.args.owners.now.items
     (λ x access. apart x (sym access ∙ (variable_known events c.args.e c.op.result c.op.ensures ∙ (sym c.variable.ensures ∙ c.in_default.is))))

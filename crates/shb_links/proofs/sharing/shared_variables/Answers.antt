@@ -7,7 +7,7 @@ use Rattle.shb_links.proofs.sharing.shared_variables.Goals as goal
 
 pub returns : goal.returns
 returns c =
-    let trace = c.args.trace.now in
+    let trace = c.args.disciplined.now in
     let all : c.loop-e.e ≡ length trace.events.now = omega arith in
     let last = subst (λ (n : ℕ). AreOwners trace.events.now n trace.sizes.variables c.loop-e.owners.items) all c.loop-e.invariant in
     IfOk-weaker c.flags_of.result _ _
