@@ -19,8 +19,7 @@ use Rattle.shb_report.specs.Leading.{AreLeading, HasOnce, Leads, place_at}
 use Rattle.shb_lines.specs.events.Race.{ends}
 use Rattle.shb_report.specs.Report.{LeadingRaces, pair_of}
 use Rattle.shb_report.specs.Places.{PlaceOf, counts_in, location_at, places_of_pairs, with_one_more, with_pair}
-use Rattle.shb_report.proofs.EachLemmas.{each-weaker}
-use Rattle.shb_report.proofs.EachLemmas.{each_at}
+use Rattle.shb_report.proofs.EachLemmas.{each-weaker, each_at}
 
 -- the first pairs of places
 abbrev pub firsts : List PlaceOf → List Pair
@@ -97,11 +96,16 @@ module _ (first second : List ℕ) (pair : Pair) where
       by false (inl here) rest = inl here
       by false (inr there) rest = inr (rest there)
 
--- the place that has these locations, with what holds of each
-covering : (P : PlaceOf → Type 0) (places : List PlaceOf) (a b : List ℕ) → Covers places a b → AllByRecursion P places → (place : PlaceOf) × P place × (a ≡ place.first) × (b ≡ place.second)
-covering P [] a b c h = absurd c
-covering P (place ∷ places) a b (inl here) h = (place, h.0, here.0, here.1)
-covering P (place ∷ places) a b (inr there) h = covering P places a b there h.1
+-- the number of the place that has these locations
+covering_at : (places : List PlaceOf) (a b : List ℕ) → Covers places a b → (n : ℕ) × (place : PlaceOf) × (slice_get places n ≡ Some place) × (a ≡ place.first) × (b ≡ place.second)
+covering_at [] a b c = absurd c
+covering_at (place ∷ places) a b (inl here) = (0, place, refl, here.0, here.1)
+covering_at (place ∷ places) a b (inr there) = let later = covering_at places a b there in (suc later.0, later.1, later.2, later.3, later.4)
+
+-- what stands after the front of a list
+at_seam : (xs : List Pair) (y : Pair) (ys : List Pair) → slice_get (xs ++ y ∷ ys) (length xs) ≡ Some y
+at_seam [] y ys = refl
+at_seam (x ∷ xs) y ys = at_seam xs y ys
 
 -- ---- the places of the first pairs of a list
 
@@ -141,13 +145,13 @@ module _ (trace : TraceData) (pairs : List Pair) where
     -- a pair of a known place doesn't lead
     not_leading : Covers places first second → Leads trace pairs i → ⊥
     not_leading known leads =
-        let earlier = covering (IsFoundBefore i) places first second known before.found in
-        let found = earlier.1 in
+        let earlier = covering_at places first second known in
+        let found = each_at (IsFoundBefore i) places earlier.0 earlier.1 earlier.2 before.found in
         let lead = leads.race in
         let same : pair ≡ lead = (let a = leads.there in cc) in
-        let place = earlier.0 in
-        let firsts_same : location_at trace place.counted.pair.first ≡ location_at trace lead.first = sym found.first_is ∙ sym earlier.2 ∙ ap (λ (p : Pair). location_at trace p.first) same in
-        let seconds_same : location_at trace place.counted.pair.second ≡ location_at trace lead.second = sym found.second_is ∙ sym earlier.3 ∙ ap (λ (p : Pair). location_at trace p.second) same in
+        let place = earlier.1 in
+        let firsts_same : location_at trace place.counted.pair.first ≡ location_at trace lead.first = sym found.first_is ∙ sym earlier.3 ∙ ap (λ (p : Pair). location_at trace p.first) same in
+        let seconds_same : location_at trace place.counted.pair.second ≡ location_at trace lead.second = sym found.second_is ∙ sym earlier.4 ∙ ap (λ (p : Pair). location_at trace p.second) same in
         leads.alone found.number place.counted.pair found.before found.there (λ k. (firsts_same k, seconds_same k))
 
     -- a pair of a new place leads
@@ -214,10 +218,6 @@ module _ (trace : TraceData) (pairs : List Pair) where
       let long : length past + 1 ≡ length (past ++ pair ∷ []) = sym (length_push past pair) in
       go_on (past ++ pair ∷ []) rest _ (split ∙ sym (append_assoc past (pair ∷ []) rest))
       (subst (λ (n : ℕ). LeadsUpTo n (with_pair places (location_at trace pair.first) (location_at trace pair.second) pair)) long (one_more (length past) pair at places before))
-    where
-      at_seam : (xs : List Pair) (y : Pair) (ys : List Pair) → slice_get (xs ++ y ∷ ys) (length xs) ≡ Some y
-      at_seam [] y ys = refl
-      at_seam (x ∷ xs) y ys = at_seam xs y ys
 
   all_places : LeadsUpTo (length pairs) (places_of_pairs trace pairs)
   all_places = go_on [] pairs [] refl none_yet
@@ -330,10 +330,6 @@ each_once trace past (pair ∷ rest) apart =
     ∙ each_once trace (past ++ pair ∷ []) rest (subst (AreApart trace) split apart)
     ∙ ap (map (only_one trace)) (sym split)
   where
-    at_seam : (xs : List Pair) (y : Pair) (ys : List Pair) → slice_get (xs ++ y ∷ ys) (length xs) ≡ Some y
-    at_seam [] y ys = refl
-    at_seam (x ∷ xs) y ys = at_seam xs y ys
-
     in_front : (xs ys : List Pair) (n : ℕ) (x : Pair) → slice_get xs n ≡ Some x → slice_get (xs ++ ys) n ≡ Some x
     in_front [] ys n x is = absurd (let f : ⊥ = cc in f)
     in_front (y ∷ xs) ys zero x is = is
@@ -343,7 +339,7 @@ counts_once : (trace : TraceData) (pairs : List Pair) → counts_in (map (only_o
 counts_once trace [] = refl
 counts_once trace (pair ∷ pairs) = ap (λ l. with_one_more None pair ∷ l) (counts_once trace pairs)
 
-pairs_back : (races : List Pair) → map pair_of (map ends races) ≡ races
+pub pairs_back : (races : List Pair) → map pair_of (map ends races) ≡ races
 pairs_back [] = refl
 pairs_back (race ∷ races) = ap (λ l. race ∷ l) (pairs_back races)
 
@@ -352,12 +348,6 @@ pub leading_once : (trace : TraceData) (leading : List Pair) → LeadingRaces tr
 leading_once trace leading lists =
     let are : AreLeading trace (map pair_of lists.races) leading = subst (AreLeading trace (map pair_of lists.races)) (pairs_back leading) lists.leading_are in
     sym (counts_once trace leading) ∙ ap counts_in (sym (each_once trace [] leading (one_place_each trace (map pair_of lists.races) leading are)))
-
--- the number of the place that has these locations
-covering_at : (places : List PlaceOf) (a b : List ℕ) → Covers places a b → (n : ℕ) × (place : PlaceOf) × (slice_get places n ≡ Some place) × (a ≡ place.first) × (b ≡ place.second)
-covering_at [] a b c = absurd c
-covering_at (place ∷ places) a b (inl here) = (0, place, refl, here.0, here.1)
-covering_at (place ∷ places) a b (inr there) = let later = covering_at places a b there in (suc later.0, later.1, later.2, later.3, later.4)
 
 -- each race of the list has the place of exactly one leading race
 pub led_once : (trace : TraceData) (races leading : List Pair) → AreLeading trace races leading → (race : Pair) → Contains races race → HasOnce trace leading (place_at trace race.first race.second)
