@@ -12,7 +12,7 @@ use Rattle.shb_discipline.proofs.Steps.{set_cases}
 use Rattle.shb_links.specs.Links.{Exactly}
 use Rattle.shb_replay.specs.declared.walked.Walked.{Walked}
 use Rattle.shb_replay.specs.Reasons.{StandsEarlier, IsLatestWrite}
-use Rattle.shb_replay.specs.Walks.{AreFlags, AreFlagsOnly, AreWritesOnly, IsBetween, IsBlank, IsLeft, IsWalked, JoinStands, Tells}
+use Rattle.shb_replay.specs.Walks.{AreFlags, AreFlagsOnly, AreWritesOnly, IsBetween, IsLeft, IsWalked, JoinStands}
 use Rattle.shb_replay.proofs.Standing.{one_value}
 
 -- the flags, at first
@@ -30,27 +30,9 @@ all_left trace sizes s p walked h = record {
   writes = record { as_long = h.writes.as_long; each = λ x w lt is. write_there trace s p x w (get_or walked.writes.items x None) (h.writes.each x lt) is };
 }
 
--- at last nothing is left
-none_between : (s : List ℕ) (p : ℕ) (P : ℕ → Type 0) → IsBetween s p p P → ⊥
-none_between s p P h = let from = h.from in let below = h.below in omega (arith, from, below)
-
-flags_none : (P Q : ℕ → Type 0) (size : ℕ) (flags : List Bool) → ((k : ℕ) → P k → ⊥) → ((k : ℕ) → Q k → ⊥) → AreFlagsOnly P size flags → AreFlags Q size flags
-flags_none P Q size flags none never h = record { as_long = h.as_long; each = λ k flag at. go k flag at }
-  where
-    go : (k : ℕ) (flag : Bool) → slice_get flags k ≡ Some flag → Tells flag (Q k)
-    go k true at = absurd (none k (h.each k at))
-    go k false at = never k
-
 no_write : (trace : List Event) (s : List ℕ) (x : ℕ) (o : Option ℕ) → ((w : ℕ) → o ≡ Some w → ⊥) → Exactly (IsLatestWrite trace s 0 x) o
 no_write trace s x (Some w) none = absurd (none w refl)
 no_write trace s x None none = λ w h. (let lt = h.earlier in omega (arith, lt))
-
-pub none_left : (trace : List Event) (sizes : Sizes) (s : List ℕ) (p : ℕ) (walked : Walked) → IsLeft trace sizes s p p walked → IsBlank trace sizes walked
-none_left trace sizes s p walked h r = record {
-  stands = flags_none (λ a. IsBetween s p p (λ b. b ≡ a)) (StandsEarlier r 0) (length trace) walked.stands.items (λ a. none_between s p (λ b. b ≡ a)) (λ a stands. (let lt = stands.earlier in omega (arith, lt))) h.stands;
-  joined = flags_none (λ t. IsBetween s p p (λ b. op_at trace b ≡ Some (Join t))) (JoinStands trace r 0) sizes.threads walked.joined.items (λ t. none_between s p (λ b. op_at trace b ≡ Some (Join t))) (λ t joined. (let lt = joined.stands.earlier in omega (arith, lt))) h.joined;
-  writes = record { as_long = h.writes.as_long; each = λ x lt. no_write trace r x (get_or walked.writes.items x None) (λ w is. none_between s p (λ b. op_at trace b ≡ Some (Write x)) (h.writes.each x w lt is)) };
-}
 
 -- one index less
 module _ (trace : List Event) (sizes : Sizes) (s : List ℕ) (m p e : ℕ) (at : slice_get s m ≡ Some e) where

@@ -8,8 +8,9 @@ use Rattle.shb_lines.specs.declared.event.Op.{Op}
 use Rattle.shb_lines.specs.declared.event.Op.TheVariants.{Acquire, Release, Fork, Join}
 use Rattle.shb_lines.specs.events.Events.{thread_at, op_at, events_at}
 use Rattle.shb_lines.specs.events.Discipline.{IsDisciplined, MayCome, MayDo, MayFork, acquires, releases, other_than, only, is_acquire, is_release, is_of, is_fork, is_join, op_is_acquire, op_is_release}
-use Rattle.shb_lines.proofs.events.Counts.{count_mono, counted_before}
-use Rattle.shb_lines.proofs.events.Events.{thread_is, op_is, event_of_op, fork_allowed, fork_op, is_fork_true, is_acquire_parts, is_release_parts, join_op}
+use Rattle.shb_lines.proofs.events.Counts.{count_mono}
+use Rattle.shb_lines.proofs.events.Decide.{fork_unique}
+use Rattle.shb_lines.proofs.events.Events.{thread_is, op_is, fork_op, is_acquire_parts, is_release_parts, join_op}
 use Rattle.shb_lines.proofs.events.Locks.{DisciplinedBelow, releases_le}
 use Rattle.shb_lines.proofs.events.Prefix.{is_of_thread}
 use Rattle.shb_replay.specs.declared.broken.Why.TheVariants as whys
@@ -35,21 +36,10 @@ release_tests h l e is = sym (eqb-true h e.thread (is_release_parts (only h) l e
 
 -- a thread has one fork
 pub one_fork : (trace : List Event) → IsDisciplined trace → (u a b : ℕ) → op_at trace a ≡ Some (Fork u) → op_at trace b ≡ Some (Fork u) → a ≡ b
-one_fork trace disciplined u a b fork_a fork_b = go (cases_order a b)
-  where
-    refuse : (c d : ℕ) → op_at trace c ≡ Some (Fork u) → op_at trace d ≡ Some (Fork u) → c < d → ⊥
-    refuse c d fork_c fork_d lt =
-        let e = event_of_op trace c (Fork u) fork_c in
-        let f = event_of_op trace d (Fork u) fork_d in
-        let may = fork_allowed _ f.0 u (disciplined d f.0 f.1) f.2 in
-        let some = counted_before (is_fork u) trace c d e.0 e.1 (is_fork_true u e.0 e.2) lt in
-        let none = may.not_forked in
-        omega arith
-
-    go : (a ≡ b) ⊎ ((a < b) ⊎ (b < a)) → a ≡ b
-    go (inl same) = same
-    go (inr (inl lt)) = absurd (refuse a b fork_a fork_b lt)
-    go (inr (inr gt)) = absurd (refuse b a fork_b fork_a gt)
+one_fork trace disciplined u a b fork_a fork_b = elim (cases_order a b) [
+  | inl same ↦ same
+  | inr apart ↦ elim apart [ inl lt ↦ absurd (fork_unique trace disciplined u a b fork_a fork_b lt) | inr gt ↦ absurd (fork_unique trace disciplined u b a fork_b fork_a gt) ]
+]
 
 module _ (trace : List Event) (disciplined : IsDisciplined trace) (s : List ℕ) (unbroken : IsUnbroken trace s (length s)) where
   none_counted : (f : Event → Bool) (q : ℕ) → ((k a : ℕ) (d : Event) → k < q → IsEventAt trace s k a d → f d ≡ true → ⊥) → count_by f (take q (events_at trace s)) ≡ 0

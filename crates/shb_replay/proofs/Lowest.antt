@@ -1,7 +1,7 @@
 -- The lowest reason of an event, and the first index with a reason.
-use Rattle.std.proofs.Common.{◌≡◌, ℕ, ◌+◌, ◌<◌, ◌≤◌, ◌⊎◌, inl, inr, List, Option, Some, None, length, refl, arith, subst}
+use Rattle.std.proofs.Common.{◌≡◌, ℕ, zero, suc, ◌+◌, ◌<◌, ◌≤◌, ◌⊎◌, inl, inr, List, Option, Some, None, length, refl, sym, ◌∙◌, ap, arith, subst}
 use Rattle.std.specs.Prelude.{slice_get, ◌↔◌}
-use Rattle.std.proofs.lemmas.Bool.{cases_lt}
+use Rattle.std.proofs.lemmas.Bool.{cases_eq, cases_lt}
 use Rattle.std.proofs.lemmas.Option.{slice_get_within}
 use Rattle.shb_lines.specs.declared.event.Event.{Event}
 use Rattle.shb_lines.specs.events.Discipline.{IsDisciplined}
@@ -9,80 +9,62 @@ use Rattle.shb_lines.specs.events.Schedule.{IsNext, IsSchedule}
 use Rattle.shb_replay.specs.declared.broken.Broken.{Broken}
 use Rattle.shb_replay.specs.declared.broken.Why.{Why}
 use Rattle.shb_replay.specs.declared.broken.Why.TheVariants as whys
-use Rattle.shb_replay.specs.Reasons.{number_of, HasReason, IsBroken, IsFirstReason, IsUnbroken}
+use Rattle.shb_replay.specs.Reasons.{number_of, HasReason, IsBroken, IsFirstReason, IsNotNext, IsUnbroken}
 use Rattle.shb_replay.specs.Walks.{IsAnswer, IsLowestIn}
 use Rattle.shb_replay.proofs.Law.{of_schedule, schedule_of}
 use Rattle.shb_lines.specs.Lowest.{IsLowest}
 
+-- a reason is known by its number
+abbrev why_of : ℕ → Why
+why_of (suc zero) = whys.NoSuchEvent
+why_of (suc (suc zero)) = whys.Repeated
+why_of (suc (suc (suc zero))) = whys.ThreadOrder
+why_of (suc (suc (suc (suc zero)))) = whys.ForkMissing
+why_of (suc (suc (suc (suc (suc zero))))) = whys.JoinEarly
+why_of (suc (suc (suc (suc (suc (suc zero)))))) = whys.LockOrder
+why_of (suc (suc (suc (suc (suc (suc (suc zero))))))) = whys.LastWrite
+why_of _ = whys.NotNext
+
+-- it is that of its number, which is from 1 to 8
+numbered : (why : Why) → (why_of (number_of why) ≡ why) × (1 ≤ number_of why) × (number_of why ≤ 8)
+numbered whys.NoSuchEvent = (refl, omega arith, omega arith)
+numbered whys.Repeated = (refl, omega arith, omega arith)
+numbered whys.ThreadOrder = (refl, omega arith, omega arith)
+numbered whys.ForkMissing = (refl, omega arith, omega arith)
+numbered whys.JoinEarly = (refl, omega arith, omega arith)
+numbered whys.LockOrder = (refl, omega arith, omega arith)
+numbered whys.LastWrite = (refl, omega arith, omega arith)
+numbered whys.NotNext = (refl, omega arith, omega arith)
+
+pub same_why : (why other : Why) → number_of why ≡ number_of other → why ≡ other
+same_why why other same = sym (numbered why).0 ∙ (ap why_of same ∙ (numbered other).0)
+
 module _ (Has : Why → Type 0) where
-  pub lowest_one : Has whys.NoSuchEvent → IsLowest number_of Has (Some whys.NoSuchEvent)
-  lowest_one h = (h, above)
-    where
-      above : (other : Why) → Has other → 1 ≤ number_of other
-      above whys.NoSuchEvent has = omega arith
-      above whys.Repeated has = omega arith
-      above whys.ThreadOrder has = omega arith
-      above whys.ForkMissing has = omega arith
-      above whys.JoinEarly has = omega arith
-      above whys.LockOrder has = omega arith
-      above whys.LastWrite has = omega arith
-      above whys.NotNext has = omega arith
+  -- where a reason doesn't hold, one that does and has no lower number has a higher one
+  pub above : (why other : Why) → (Has why → ⊥) → number_of why ≤ number_of other → Has other → number_of why + 1 ≤ number_of other
+  above why other none le has = elim (cases_eq (number_of why) (number_of other)) [
+    | inl same ↦ absurd (none (subst Has (sym (same_why why other same)) has))
+    | inr ne ↦ omega (arith, le, ne)
+  ]
 
   module _ (one : Has whys.NoSuchEvent → ⊥) where
     pub lowest_two : Has whys.Repeated → IsLowest number_of Has (Some whys.Repeated)
-    lowest_two h = (h, above)
-      where
-        above : (other : Why) → Has other → 2 ≤ number_of other
-        above whys.NoSuchEvent has = absurd (one has)
-        above whys.Repeated has = omega arith
-        above whys.ThreadOrder has = omega arith
-        above whys.ForkMissing has = omega arith
-        above whys.JoinEarly has = omega arith
-        above whys.LockOrder has = omega arith
-        above whys.LastWrite has = omega arith
-        above whys.NotNext has = omega arith
+    lowest_two h = (h, λ other has. above whys.NoSuchEvent other one (numbered other).1 has)
 
     module _ (two : Has whys.Repeated → ⊥) where
+      from_three : (other : Why) → Has other → 3 ≤ number_of other
+      from_three other has = above whys.Repeated other two (above whys.NoSuchEvent other one (numbered other).1 has) has
+
       pub lowest_three : (why : Why) → IsLowestIn 3 4 Has (Some why) → IsLowest number_of Has (Some why)
-      lowest_three why (has, from, low) = (has, above)
-        where
-          above : (other : Why) → Has other → number_of why ≤ number_of other
-          above whys.NoSuchEvent h = absurd (one h)
-          above whys.Repeated h = absurd (two h)
-          above whys.ThreadOrder h = low whys.ThreadOrder (omega arith) h
-          above whys.ForkMissing h = low whys.ForkMissing (omega arith) h
-          above whys.JoinEarly h = low whys.JoinEarly (omega arith) h
-          above whys.LockOrder h = low whys.LockOrder (omega arith) h
-          above whys.LastWrite h = low whys.LastWrite (omega arith) h
-          above whys.NotNext h = low whys.NotNext (omega arith) h
+      lowest_three why (has, from, low) = (has, λ other h. low other (from_three other h) h)
 
       module _ (none : IsLowestIn 3 4 Has None) where
-        lowest_none : IsLowestIn 5 8 Has None → IsLowest number_of Has None
-        lowest_none rest whys.NoSuchEvent h = one h
-        lowest_none rest whys.Repeated h = two h
-        lowest_none rest whys.ThreadOrder h = none whys.ThreadOrder (omega arith) (omega arith) h
-        lowest_none rest whys.ForkMissing h = none whys.ForkMissing (omega arith) (omega arith) h
-        lowest_none rest whys.JoinEarly h = rest whys.JoinEarly (omega arith) (omega arith) h
-        lowest_none rest whys.LockOrder h = rest whys.LockOrder (omega arith) (omega arith) h
-        lowest_none rest whys.LastWrite h = rest whys.LastWrite (omega arith) (omega arith) h
-        lowest_none rest whys.NotNext h = rest whys.NotNext (omega arith) (omega arith) h
-
-        lowest_some : (why : Why) → IsLowestIn 5 8 Has (Some why) → IsLowest number_of Has (Some why)
-        lowest_some why (has, from, low) = (has, above)
-          where
-            above : (other : Why) → Has other → number_of why ≤ number_of other
-            above whys.NoSuchEvent h = absurd (one h)
-            above whys.Repeated h = absurd (two h)
-            above whys.ThreadOrder h = absurd (none whys.ThreadOrder (omega arith) (omega arith) h)
-            above whys.ForkMissing h = absurd (none whys.ForkMissing (omega arith) (omega arith) h)
-            above whys.JoinEarly h = low whys.JoinEarly (omega arith) h
-            above whys.LockOrder h = low whys.LockOrder (omega arith) h
-            above whys.LastWrite h = low whys.LastWrite (omega arith) h
-            above whys.NotNext h = low whys.NotNext (omega arith) h
+        from_five : (other : Why) → Has other → 5 ≤ number_of other
+        from_five other has = elim (cases_lt (number_of other) 5) [ inl lt ↦ absurd (none other (from_three other has) (omega (arith, lt)) has) | inr ge ↦ ge ]
 
         pub lowest_five : (o : Option Why) → IsLowestIn 5 8 Has o → IsLowest number_of Has o
-        lowest_five None rest = lowest_none rest
-        lowest_five (Some why) rest = lowest_some why rest
+        lowest_five None rest = λ other has. rest other (from_five other has) (numbered other).2 has
+        lowest_five (Some why) (has, from, low) = (has, λ other h. low other (from_five other h) h)
 
 module _ (trace : List Event) (s : List ℕ) where
   pub unbroken_start : IsUnbroken trace s 0
@@ -110,16 +92,23 @@ module _ (trace : List Event) (s : List ℕ) where
   refuse : (at : ℕ) (why : Why) → IsFirstReason trace s at why → IsUnbroken trace s (length s) → ⊥
   refuse at why h all = all at h.event why (slice_get_within s at h.event h.there) h.there h.lowest.0
 
+  -- an answer is the first reason of an index, or that an access isn't next
+  pub two_ways : (i j at : ℕ) (why : Why) → IsBroken trace s i j at why → ((why ≡ whys.NotNext) × IsNotNext trace s i j at) ⊎ IsFirstReason trace s at why
+  two_ways i j at whys.NotNext h = inl (refl, h)
+  two_ways i j at whys.NoSuchEvent h = inr h
+  two_ways i j at whys.Repeated h = inr h
+  two_ways i j at whys.ThreadOrder h = inr h
+  two_ways i j at whys.ForkMissing h = inr h
+  two_ways i j at whys.JoinEarly h = inr h
+  two_ways i j at whys.LockOrder h = inr h
+  two_ways i j at whys.LastWrite h = inr h
+
   -- a list with an answer is no schedule
   pub broken_no_schedule : (i j at : ℕ) (why : Why) → IsBroken trace s i j at why → IsUnbroken trace s (length s) × IsNext trace s i × IsNext trace s j → ⊥
-  broken_no_schedule i j at whys.NotNext h all = elim h.not_next [ inl not ↦ not all.1 | inr not ↦ not all.2 ]
-  broken_no_schedule i j at whys.NoSuchEvent h all = refuse at whys.NoSuchEvent h all.0
-  broken_no_schedule i j at whys.Repeated h all = refuse at whys.Repeated h all.0
-  broken_no_schedule i j at whys.ThreadOrder h all = refuse at whys.ThreadOrder h all.0
-  broken_no_schedule i j at whys.ForkMissing h all = refuse at whys.ForkMissing h all.0
-  broken_no_schedule i j at whys.JoinEarly h all = refuse at whys.JoinEarly h all.0
-  broken_no_schedule i j at whys.LockOrder h all = refuse at whys.LockOrder h all.0
-  broken_no_schedule i j at whys.LastWrite h all = refuse at whys.LastWrite h all.0
+  broken_no_schedule i j at why h all = elim (two_ways i j at why h) [
+    | inl end ↦ elim end.1.not_next [ inl not ↦ not all.1 | inr not ↦ not all.2 ]
+    | inr first ↦ refuse at why first all.0
+  ]
 
 -- None is answered exactly for schedules
 pub answer_none : (trace : List Event) (s : List ℕ) (i j : ℕ) (answer : Option Broken) → IsDisciplined trace → IsAnswer trace s i j answer → answer ≡ None ↔ IsSchedule trace s i j

@@ -15,7 +15,7 @@ use Rattle.shb_lines.specs.events.Discipline.{IsDisciplined, MayDo, acquires, re
 use Rattle.shb_lines.specs.events.Order.{LastWrite}
 use Rattle.shb_lines.proofs.events.Counts.{count_mono}
 use Rattle.shb_lines.proofs.events.Events.{thread_is, op_is, event_of_thread, event_of_op, is_acquire_parts}
-use Rattle.shb_links.specs.Latest.{Latest, IsLatestTable, OfThread, ReleasesLock}
+use Rattle.shb_links.specs.Latest.{Latest, OfThread, ReleasesLock}
 use Rattle.shb_links.specs.Links.{Exactly}
 use Rattle.shb_replay.specs.declared.broken.Why.{Why}
 use Rattle.shb_replay.specs.declared.broken.Why.TheVariants as whys
@@ -24,6 +24,7 @@ use Rattle.shb_replay.specs.Walks.{AreLatestWrites, IsLowestIn, JoinStands, Tell
 use Rattle.shb_replay.proofs.Standing.{widen}
 use Rattle.shb_replay.proofs.Closed.{thread_stands, release_stands}
 use Rattle.shb_links.proofs.Balance.{HasHolder, IsPassing, balanced, disciplined_below, holder_after, some_counted}
+use Rattle.shb_replay.proofs.Lowest.{above}
 use Rattle.shb_replay.proofs.LastWrites.{writes_agree, writes_differ}
 
 module _ (trace : List Event) (disciplined : IsDisciplined trace) (s : List ℕ) (p : ℕ) (unbroken : IsUnbroken trace s p) where
@@ -104,44 +105,27 @@ module _ (trace : List Event) (disciplined : IsDisciplined trace) (s : List ℕ)
     is_op : (other : Op) → op_at trace x ≡ Some other → op ≡ other
     is_op other is = let both : Some op ≡ Some other = sym does ∙ is in cc
 
+    -- the reasons with higher numbers than those that don't hold
+    past_five : (HasReason trace s p x whys.JoinEarly → ⊥) → (other : Why) → 5 ≤ number_of other → HasReason trace s p x other → 6 ≤ number_of other
+    past_five five other = above (HasReason trace s p x) whys.JoinEarly other five
+
+    past_six : (HasReason trace s p x whys.JoinEarly → ⊥) → (HasReason trace s p x whys.LockOrder → ⊥) → (other : Why) → 5 ≤ number_of other → HasReason trace s p x other → 7 ≤ number_of other
+    past_six five six other low has = above (HasReason trace s p x) whys.LockOrder other six (past_five five other low has) has
+
     none_of : (HasReason trace s p x whys.JoinEarly → ⊥) → (HasReason trace s p x whys.LockOrder → ⊥) → (HasReason trace s p x whys.LastWrite → ⊥) → IsLowestIn 5 8 (HasReason trace s p x) None
-    none_of five six seven whys.JoinEarly low high h = five h
-    none_of five six seven whys.LockOrder low high h = six h
-    none_of five six seven whys.LastWrite low high h = seven h
-    none_of five six seven whys.NotNext low high h = h
-    none_of five six seven whys.NoSuchEvent low high h = omega (arith, low)
-    none_of five six seven whys.Repeated low high h = omega (arith, low)
-    none_of five six seven whys.ThreadOrder low high h = omega (arith, low)
-    none_of five six seven whys.ForkMissing low high h = omega (arith, low)
+    none_of five six seven other low high has =
+        let eight = above (HasReason trace s p x) whys.LastWrite other seven (past_six five six other low has) has in
+        let past = above (HasReason trace s p x) whys.NotNext other (λ h. h) eight has in
+        omega (arith, past, high)
 
     first_five : HasReason trace s p x whys.JoinEarly → IsLowestIn 5 8 (HasReason trace s p x) (Some whys.JoinEarly)
     first_five h = (h, omega arith, λ other low has. low)
 
     first_six : HasReason trace s p x whys.LockOrder → (HasReason trace s p x whys.JoinEarly → ⊥) → IsLowestIn 5 8 (HasReason trace s p x) (Some whys.LockOrder)
-    first_six h five = (h, omega arith, above)
-      where
-        above : (other : Why) → 5 ≤ number_of other → HasReason trace s p x other → 6 ≤ number_of other
-        above whys.JoinEarly low has = absurd (five has)
-        above whys.LockOrder low has = omega arith
-        above whys.LastWrite low has = omega arith
-        above whys.NotNext low has = omega arith
-        above whys.NoSuchEvent low has = absurd (omega (arith, low))
-        above whys.Repeated low has = absurd (omega (arith, low))
-        above whys.ThreadOrder low has = absurd (omega (arith, low))
-        above whys.ForkMissing low has = absurd (omega (arith, low))
+    first_six h five = (h, omega arith, past_five five)
 
     first_seven : HasReason trace s p x whys.LastWrite → (HasReason trace s p x whys.JoinEarly → ⊥) → (HasReason trace s p x whys.LockOrder → ⊥) → IsLowestIn 5 8 (HasReason trace s p x) (Some whys.LastWrite)
-    first_seven h five six = (h, omega arith, above)
-      where
-        above : (other : Why) → 5 ≤ number_of other → HasReason trace s p x other → 7 ≤ number_of other
-        above whys.JoinEarly low has = absurd (five has)
-        above whys.LockOrder low has = absurd (six has)
-        above whys.LastWrite low has = omega arith
-        above whys.NotNext low has = omega arith
-        above whys.NoSuchEvent low has = absurd (omega (arith, low))
-        above whys.Repeated low has = absurd (omega (arith, low))
-        above whys.ThreadOrder low has = absurd (omega (arith, low))
-        above whys.ForkMissing low has = absurd (omega (arith, low))
+    first_seven h five six = (h, omega arith, past_six five six)
 
     -- an operation of one kind has none of the reasons of the others
     no_five : ((t : ℕ) → op ≢ Join t) → ((t : ℕ) → op ≢ Fork t) → HasReason trace s p x whys.JoinEarly → ⊥
@@ -199,10 +183,6 @@ module _ (trace : List Event) (disciplined : IsDisciplined trace) (s : List ℕ)
             let is = is_op x (Read y) reads (Read z) h.reads in
             let g : z ≡ y = cc in
             h.differ (subst (λ (v : ℕ). (w : ℕ) → IsLatestWrite trace s p v w ↔ LastWrite trace w x) (sym g) (writes_agree trace s p y x o last latest known same))
-
--- an entry that was read of a table
-pub entry_is : (P : ℕ → ℕ → Type 0) (n size t : ℕ) (table : List (Option ℕ)) (x : Option ℕ) → IsLatestTable P n size table → t < size → x ≡ get_or table t x → Latest (P t) n x
-entry_is P n size t table x has lt is = subst (λ (o : Option ℕ). Latest (P t) n o) (sym (get_or_read table t x (let long = has.as_long in omega (arith, long, lt)) is None)) (has.each t lt)
 
 pub write_is : (trace : List Event) (s : List ℕ) (p size y : ℕ) (writes : List (Option ℕ)) (x : Option ℕ) → AreLatestWrites trace s p size writes → y < size → x ≡ get_or writes y x → Exactly (IsLatestWrite trace s p y) x
 write_is trace s p size y writes x has lt is = subst (λ (o : Option ℕ). Exactly (IsLatestWrite trace s p y) o) (sym (get_or_read writes y x (let long = has.as_long in omega (arith, long, lt)) is None)) (has.each y lt)

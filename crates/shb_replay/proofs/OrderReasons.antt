@@ -1,5 +1,5 @@
 -- The reasons of an event by its predecessor, and whether an event is next.
-use Rattle.std.proofs.Common.{◌≡◌, ◌≢◌, ℕ, ◌<◌, ◌≤◌, ◌⊎◌, inl, inr, Bool, true, false, List, Option, Some, None, length, get_or, refl, sym, ◌∙◌, ap, arith, subst}
+use Rattle.std.proofs.Common.{◌≡◌, ◌≢◌, ℕ, ◌<◌, ◌⊎◌, inl, inr, Bool, true, false, List, Option, Some, None, length, get_or, refl, sym, ◌∙◌, ap, arith, subst}
 use Rattle.std.specs.Prelude.{slice_get, not, IfSome}
 use Rattle.std.proofs.lemmas.Bool.{cases_order}
 use Rattle.std.proofs.lemmas.Option.{get_or_from_slice_get}
@@ -13,13 +13,13 @@ use Rattle.shb_lines.proofs.events.Decide.{pred_unique}
 use Rattle.shb_lines.proofs.events.Events.{thread_is, event_of_op, fork_allowed}
 use Rattle.shb_lines.proofs.events.Schedulable.{below_pred_in_range, thread_below_pred, fork_below_pred}
 use Rattle.shb_links.specs.Links.{Exactly}
-use Rattle.shb_replay.specs.declared.broken.Why.{Why}
 use Rattle.shb_replay.specs.declared.broken.Why.TheVariants as whys
-use Rattle.shb_replay.specs.Reasons.{number_of, StandsEarlier, HasReason, IsUnbroken}
+use Rattle.shb_replay.specs.Reasons.{StandsEarlier, HasReason, IsUnbroken}
 use Rattle.shb_replay.specs.Walks.{AreFlags, IsLowestIn, Tells, TellsLack}
 use Rattle.shb_replay.proofs.Standing.{member_stands, stands_member}
 use Rattle.shb_replay.proofs.Closed.{thread_stands, fork_stands}
 use Rattle.shb_replay.proofs.FrontDiscipline.{one_fork}
+use Rattle.shb_replay.proofs.Lowest.{above}
 
 -- what holds of the event at an index
 pub at_index : (P : ℕ → Type 0) (s : List ℕ) (p : ℕ) → P (get_or s p 0) → (e : ℕ) → slice_get s p ≡ Some e → P e
@@ -89,17 +89,7 @@ module _ (trace : List Event) (disciplined : IsDisciplined trace) (s : List ℕ)
       differ (subst (λ (k : ℕ). thread_at trace k ≡ thread_at trace x) same (before.before_of ∙ sym before.of))
 
   pub order_fork : (a : ℕ) → IsPred trace a x → ¬ StandsEarlier s p a → thread_at trace a ≢ thread_at trace x → IsLowestIn 3 4 (HasReason trace s p x) (Some whys.ForkMissing)
-  order_fork a pred absent differ = (missing_fork a pred absent differ, omega arith, above)
-    where
-      above : (other : Why) → 3 ≤ number_of other → HasReason trace s p x other → 4 ≤ number_of other
-      above whys.ThreadOrder low h = absurd (not_in_thread a pred differ h)
-      above whys.NoSuchEvent low h = absurd (omega (arith, low))
-      above whys.Repeated low h = absurd (omega (arith, low))
-      above whys.ForkMissing low h = omega arith
-      above whys.JoinEarly low h = omega arith
-      above whys.LockOrder low h = omega arith
-      above whys.LastWrite low h = omega arith
-      above whys.NotNext low h = omega arith
+  order_fork a pred absent differ = (missing_fork a pred absent differ, omega arith, λ other. above (HasReason trace s p x) whys.ThreadOrder other (not_in_thread a pred differ))
 
 -- whether an event is next after the list
 module _ (trace : List Event) (disciplined : IsDisciplined trace) (s : List ℕ) (unbroken : IsUnbroken trace s (length s)) (e : ℕ) where

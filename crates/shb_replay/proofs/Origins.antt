@@ -77,9 +77,6 @@ entries_more P n xs x long is old e lt (inr le) =
 entry_read : (P : Option ℕ → Type 0) (xs : List (Option ℕ)) (x : Option ℕ) (e : ℕ) → e < length xs → x ≡ get_or xs e x → P (get_or xs e None) → P x
 entry_read P xs x e lt is known = subst P (sym (get_or_read xs e x lt is None)) known
 
-pub preds_start : (trace : List Event) (xs : List (Option ℕ)) → xs ≡ [] → HasPreds trace 0 xs
-preds_start trace xs none = record { as_long = ap length none; each = λ e lt. absurd (omega (arith, lt)) }
-
 pub preds_more : (trace : List Event) (n : ℕ) (xs : List (Option ℕ)) (x : Option ℕ) → Exactly (λ p. IsPred trace p n) x → HasPreds trace n xs → HasPreds trace (n + 1) (xs ++ x ∷ [])
 preds_more trace n xs x is old = record {
   as_long = length_push xs x ∙ ap (λ m. m + 1) old.as_long;
@@ -88,9 +85,6 @@ preds_more trace n xs x is old = record {
 
 pub pred_is : (trace : List Event) (n e : ℕ) (xs : List (Option ℕ)) (x : Option ℕ) → HasPreds trace n xs → e < n → x ≡ get_or xs e x → Exactly (λ p. IsPred trace p e) x
 pred_is trace n e xs x has lt is = entry_read (λ o. Exactly (λ p. IsPred trace p e) o) xs x e (let long = has.as_long in omega (arith, long, lt)) is (has.each e lt)
-
-pub origins_start : (trace : List Event) (xs : List (Option ℕ)) → xs ≡ [] → HasOrigins trace 0 xs
-origins_start trace xs none = record { as_long = ap length none; each = λ e lt. absurd (omega (arith, lt)) }
 
 pub origins_more : (trace : List Event) (n : ℕ) (xs : List (Option ℕ)) (x : Option ℕ) → IsOrigin trace n x → HasOrigins trace n xs → HasOrigins trace (n + 1) (xs ++ x ∷ [])
 origins_more trace n xs x is old = record {

@@ -116,19 +116,19 @@ impl<'a> Judge<'a> {
 /// trace. Whoever has many lists of one trace makes a [`Judge`].
 pub fn replay(
     alloc: Global,
-    trace: &Disciplined<'_>,
+    disciplined: &Disciplined<'_>,
     links: &Links<'_>,
     list: &[u32],
     pair: Pair,
 ) -> Result<Option<Broken>, NoMemory>
-    requires linked { links.now ≡ trace.now.events.now }
-    requires first { pair.first < length trace.now.events.now }
-    requires second { pair.second < length trace.now.events.now }
+    requires linked { links.now ≡ disciplined.now.events.now }
+    requires first { pair.first < length disciplined.now.events.now }
+    requires second { pair.second < length disciplined.now.events.now }
     ensures schedule { IfOk result (λ answer. answer ≡ None
-        ↔ IsSchedule trace.now.events.now list.now pair.first pair.second) }
-    ensures broken { IfOk result (λ answer. IfSome answer (λ b. IsBroken trace.now.events.now
+        ↔ IsSchedule disciplined.now.events.now list.now pair.first pair.second) }
+    ensures broken { IfOk result (λ answer. IfSome answer (λ b. IsBroken disciplined.now.events.now
         list.now pair.first pair.second b.at b.why)) }
 {
-    let mut judge = Judge::new(alloc, Linked::new(&*trace, &*links))?;
+    let mut judge = Judge::new(alloc, Linked::new(&*disciplined, &*links))?;
     Ok(judge.replay(list, pair))
 }
