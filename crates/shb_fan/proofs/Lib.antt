@@ -13,7 +13,6 @@ pub mod MachineFacts
 pub mod Starts
 pub mod Drawn
 pub mod MachineRuns
-pub mod BatchValues
 pub mod Accounts
 pub mod SeatSteps
 pub mod FanSteps

@@ -5,8 +5,7 @@
 //! thread that made it to the one that takes it: piece k by slot k % 64, with one word a slot that
 //! says how far its piece is (4k empty, 4k + 1 claimed, 4k + 2 placed, 4k + 3 lifted, 4(k + 64)
 //! freed). [`stream`] hands the values of all pieces to a [`Taker`] in order while workers run
-//! pieces; [`gather`] is `stream` into a list, over batches of sixteen neighbours where there are
-//! many pieces.
+//! pieces; [`gather`] is `stream` into a list.
 //!
 //! All that threads share is words and slots of two tables of `atomic_table`, each with a rule that
 //! every single step keeps; there is no lock. `ticket_table` and `ring_table` are the two rules,
@@ -19,13 +18,12 @@
 //! How `stream` works: there is a pass and a seat for each worker and one for the caller. A worker
 //! draws, runs, claims and places until there is no more, memory runs out or a stop is seen; the
 //! caller's thread waits for each piece in order, lifts it and hands it on. The workers' side is a
-//! recursion over halves that run at once (`sides`). Until the first worker has begun, the caller
-//! draws pieces itself and runs each when its turn comes, so nothing is waited for that nobody
-//! makes. A thread that waits lets others run for 20 turns and then sleeps, for 1 to 256
+//! recursion over halves that run at once (`sides`). Where nobody has drawn the piece that the
+//! caller waits for, it draws one itself and runs it when its turn comes, so nothing is waited for that
+//! nobody makes. A thread that waits lets others run for 20 turns and then sleeps, for 1 to 256
 //! microseconds; it wakes by time alone.
 #![tactic(auto)]
 
-mod batches;
 mod crew;
 mod gate;
 mod gathered;

@@ -1,9 +1,9 @@
 //! The work of all workers, at once with what the caller does.
-ghost use Rattle.std.specs.Prelude.{All, ◌≡◌, ◌<◌, length};
+ghost use Rattle.std.specs.Prelude.{All, ◌≡◌, length};
 ghost use Rattle.std.specs.Thread.{IsSync, IsSend};
 
 use std::sync::Wait;
-use std::thread::{Threads, join_mut};
+use std::thread::{Threads, for_each_mut, join_mut};
 
 /// What each worker does.
 pub(crate) trait WorkerSide<W> {
@@ -33,7 +33,6 @@ pub(crate) trait CallerSide<O, K> {
 }
 
 /// Each worker works, at once with the others.
-#[cycle(halves)]
 fn work_all<R: Threads + Wait + Sync, W: Send, C: WorkerSide<W> + Sync>(
     rt: &R,
     side: &C,
@@ -42,38 +41,12 @@ fn work_all<R: Threads + Wait + Sync, W: Send, C: WorkerSide<W> + Sync>(
     requires { All (C.ready side.now) workers.old }
     ensures { (length workers.new ≡ length workers.old) × All (C.has_worked side.now) workers.new }
 {
-    if workers.is_empty() {
-        return;
-    }
-    if workers.len() == 1 {
-        side.work(rt, &mut workers[0]);
-        return;
-    }
-    let (front, back) = workers.split_at_mut(workers.len() / 2);
-    both_halves(rt, side, front, back);
-}
-
-#[cycle(halves)]
-fn both_halves<R: Threads + Wait + Sync, W: Send, C: WorkerSide<W> + Sync>(
-    rt: &R,
-    side: &C,
-    front: &mut [W],
-    back: &mut [W],
-)
-    requires front { (0 < length front.old) × All (C.ready side.now) front.old }
-    requires back { (0 < length back.old) × All (C.ready side.now) back.old }
-    ensures front { (length front.new ≡ length front.old) × All (C.has_worked side.now) front.new }
-    ensures back { (length back.new ≡ length back.old) × All (C.has_worked side.now) back.new }
-{
-    let mut left = ||
-        requires { IsSync R.row × IsSync C.row × IsSend W.row × All (C.ready side.now) front.now }
-        ensures { (length front.exit.now ≡ length front.entry.now) × All (C.has_worked side.entry.now) front.exit.now }
-    { work_all(rt, side, front) };
-    let mut right = ||
-        requires { IsSync R.row × IsSync C.row × IsSend W.row × All (C.ready side.now) back.now }
-        ensures { (length back.exit.now ≡ length back.entry.now) × All (C.has_worked side.entry.now) back.exit.now }
-    { work_all(rt, side, back) };
-    join_mut(rt, &mut left, &mut right);
+    let work = |_: usize, worker: &mut W|
+        requires { C.ready side.now worker.old }
+        ensures { C.has_worked side.entry.now worker.new }
+    { side.work(rt, worker) };
+    let threads = workers.len().max(1);
+    for_each_mut(rt, workers, threads, &work);
 }
 
 /// The work, at once with what the caller does in its own thread. The work comes last where no thread

@@ -13,7 +13,6 @@ use crate::tickets::{DrawEnd, Tickets};
 use crate::workers::Workers;
 use shb_io::NoMemory;
 use std::alloc::Global;
-use std::sync::atomic::{AtomicBool, Ordering};
 use std::sync::{OnceLock, Wait};
 use std::thread::Threads;
 
@@ -32,13 +31,12 @@ pub(crate) struct GatedJob<'a, J, G> {
     pub(crate) alloc: Global,
 }
 
-/// What all workers and the caller share. `begun` says that some worker has begun; it is a hint alone. `refused`
-/// keeps the first refusal of memory, from before the draw is stopped for it.
+/// What all workers and the caller share. `refused` keeps the first refusal of memory, from before the draw is
+/// stopped for it.
 #[derive(Drop)]
 pub(crate) struct Shared<'a, T: Drop, M, J: Job<Out = T, Meaning = M>, G> {
     pub(crate) gated: GatedJob<'a, J, G>,
     pub(crate) desk: &'a Desk<T, M, J>,
-    pub(crate) begun: &'a AtomicBool,
     pub(crate) refused: &'a OnceLock<NoMemory>,
     pub(crate) pieces: u64,
 }
@@ -173,7 +171,7 @@ fn make_kept<R: Wait, T: Drop, M, J: Job<Out = T, Meaning = M>, G: Gate>(
 
 /// The value of piece k, unless memory runs out or a stop is seen first.
 ///
-/// While no worker has begun, the caller draws a piece itself. It runs it when its turn comes, and draws
+/// Where nobody has drawn piece k, the caller draws one itself. It runs it when its turn comes, and draws
 /// no other before. So nothing is waited for that no thread will make.
 fn wait_to_lift<R: Wait, T: Drop, M, J: Job<Out = T, Meaning = M>, G: Gate>(
     rt: &R,
@@ -201,7 +199,7 @@ fn wait_to_lift<R: Wait, T: Drop, M, J: Job<Out = T, Meaning = M>, G: Gate>(
         if shared.desk.tickets.stopped(&mut caller.own.pass) {
             return None;
         }
-        if caller.kept.is_none() && !shared.begun.load(Ordering::SeqCst) {
+        if caller.kept.is_none() && shared.desk.tickets.is_left(k) {
             draw_one(shared, caller);
         } else {
             shared.desk.ring.pause(rt, k, 4 * k + 2, turns);
@@ -251,7 +249,6 @@ impl<'a, T: Drop, M, J: Job<Out = T, Meaning = M>, G: Gate> WorkerSide<Worker<T,
     ghost has_worked = { λ shared worker. CanWork J.value J.count shared worker × HasEnded worker };
 
     fn work<R: Wait>(&self, rt: &R, worker: &mut Worker<T, M>) {
-        self.begun.store(true, Ordering::SeqCst);
         work(rt, self, worker);
     }
 }
@@ -316,13 +313,11 @@ fn work_and_take<
     ensures all { IfOk result (λ _. HasAccounts caller.new.own × HasLifted caller.new.own (J.count gated.entry.job.now)) }
     ensures stopped { IfErr result (λ _. KnowsStop caller.new.own) }
 {
-    let begun = AtomicBool::new(false);
     let refused = OnceLock::new();
     let pieces = gated.job.pieces();
     let shared = Shared {
         gated,
         desk,
-        begun: &begun,
         refused: &refused,
         pieces,
     };

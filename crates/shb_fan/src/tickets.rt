@@ -142,6 +142,11 @@ impl Tickets {
         self.table.shared.load::<Look>(&mut pass.seat, STOP) != 0
     }
 
+    /// Whether nobody had drawn the number a moment ago. No clause says so: it is for a caller that looks again.
+    pub(crate) fn is_left(&self, number: u64) -> bool {
+        self.table.shared.peek(TICKET) <= number
+    }
+
     /// Ends the draw, once all passes have come back, and says how far it came.
     pub fn close(self, mut passes: Vec<Pass>) -> DrawEnd
         requires all { length passes.items ≡ self.passes }

@@ -5,7 +5,7 @@ ghost use Rattle.shb_fan.specs.Seated.{IsNewSeat, job_of};
 
 use crate::asserting::{holds, is_false, is_true, same};
 use crate::counters::{all_one, zeros};
-use crate::held::{expect_come, expect_entered, make_held};
+use crate::held::{expect_come, make_held};
 use crate::numbers::{Numbers, is_count, make_numbers, so_many};
 use shb_fan::*;
 use shb_io::NoMemory;
@@ -270,12 +270,6 @@ fn job_refuses_each(rt: HostRuntime) {
         holds(&rt, refused, "memory was refused");
         holds(&rt, taker.taken <= k, "no value after the refused piece");
         holds(&rt, fails_to_gather(&rt, &job, 3), "a gather of 70 pieces");
-        let batches = make_numbers(300, &[], Some(k));
-        holds(
-            &rt,
-            fails_to_gather(&rt, &batches, 1),
-            "a gather of 300 pieces",
-        );
     }
 }
 
@@ -404,15 +398,5 @@ fn seven_held(rt: HostRuntime) -> Result<(), Fail> {
     let gate = make_held(7, 7, 9);
     expect_stream(&rt, 16, &gate, 8);
     expect_come(&rt, &gate, "nine others entered");
-    Ok(())
-}
-
-/// Piece 0 is held until one of the second batch has entered.
-#[test]
-fn batches_are_shared_out(rt: HostRuntime) -> Result<(), Fail> {
-    let gate = make_held(1, 16, 1);
-    expect_gather(&rt, 512, &gate, 2)?;
-    expect_entered(&rt, &gate, 512);
-    expect_come(&rt, &gate, "another batch entered");
     Ok(())
 }

@@ -31,7 +31,7 @@ impl Gate for Watching<'_> {
     }
 }
 
-/// 20 pieces are drawn one by one, and 600 by one worker or two in batches of neighbours.
+/// Of 20 pieces and of 600, by one worker and by two.
 #[test]
 fn each_passes_its_gate_and_runs_once(rt: HostRuntime) -> Result<(), Fail> {
     for pieces in [20u32, 600] {
