@@ -118,9 +118,6 @@ once_below-min x m n = dite (dec_lt x n)
 pub once_below-nothing : (x n : ℕ) → n ≡ 0 → once_below x n ≡ 0
 once_below-nothing x n e = weight-false (ltb x n) (ltb-not x n (omega arith))
 
-pub once-is : (x n : ℕ) → x < n → once_below x n ≡ 1
-once-is x n l = weight-true (ltb x n) (grind (arith, nat_tests))
-
 -- a number above all the others goes after them
 next_after : (i : ℕ) → suc i + 1 ≡ suc (i + 1)
 next_after i = omega arith

@@ -84,10 +84,6 @@ closes plan id v ws xs f whole t z first second = let s = f.0 in
     subst (λ (w : ℕ × ℕ). Told plan v w.0 w.1) (λ i. ((ap (λ (l : List ℕ). get_or l 0 0) f.2 ∙ index-at ws 0 t first) i, (ap (λ (l : List ℕ). get_or l 1 0) f.2 ∙ index-at ws 1 z second) i))
     (told plan (get_or s.words 0 0) (get_or s.words 1 0) s.views f.1.0.1 id v f.1.1 whole)
 
-weight-is : (b : Bool) → 0 < weight b → b ≡ true
-weight-is true h = refl
-weight-is false h = absurd (omega arith)
-
 any_here : (f : PassState → Bool) (x : PassState) (xs : List PassState) (b : Bool) → f x ≡ b → (0 < sum_by (λ p. weight (f p)) xs → Any (λ p. IsTrue (f p)) xs) → 0 < weight b + sum_by (λ p. weight (f p)) xs
     → Any (λ p. IsTrue (f p)) (x ∷ xs)
 any_here f x xs true e later h = (0, x, omega arith, refl, e)

@@ -1,15 +1,16 @@
 -- Each step of a pass keeps the rule of the ticket table.
-use Rattle.std.proofs.Common.{◌≡◌, ℕ, ◌+◌, ◌%◌, ◌^◌, ◌<◌, ◌≤◌, List, [], ◌∷◌, ◌++◌, length, get_or, set, sym, refl, ◌∙◌, subst, arith, min, All, length-set, get_or-set_same, get_or-set_other}
+use Rattle.std.proofs.Common.{◌≡◌, ℕ, eqb, ◌+◌, ◌%◌, ◌^◌, ◌<◌, ◌≤◌, List, [], ◌∷◌, ◌++◌, length, get_or, set, sym, refl, ◌∙◌, subst, arith, min, All, length-set, get_or-set_same, get_or-set_other}
 use mathlib.Core.Logic.{dite}
 use mathlib.Core.Option.{none, some, some-ne-none}
 use native.Mathlib.Decide.{ℕ_discrete, dec_lt}
+use prog.Atomic.{either}
 use lib.ListN.{get_elem?}
-use Rattle.atomic_table.specs.Table.{State, Me, step, keeps, stepped, opening, Allows, Splits, Joins}
+use Rattle.atomic_table.specs.Table.{State, Me, Act, step, keeps, stepped, carried_after, Valid, opening, Allows, Splits, Joins}
 use Rattle.shb_fan.specs.declared.ticket_table.Plan.{Plan}
 use Rattle.shb_fan.specs.declared.ticket_table.PassView.{PassView}
 use Rattle.shb_fan.specs.Numbers.{once_below, total}
-use Rattle.shb_fan.specs.Drawing.{pass_view, parts_of, spent_of, halted_of, seen_of, times_of, Sound, Holds, KeepsDrawing, gained, used_up, warned, drew, saw, looked, stopped, left_over, one_part, joined, spent_pass_view}
-use Rattle.atomic_table.proofs.Lists.{set_again, set_else}
+use Rattle.shb_fan.specs.Drawing.{pass_view, parts_of, spent_of, halted_of, seen_of, times_of, Sound, Holds, KeepsDrawing, gained, used_up, warned, drew, drew_this, saw, looked, stopped, left_over, one_part, joined, spent_pass_view}
+use Rattle.atomic_table.proofs.Lists.{set_again, set_else, exchanged}
 use Rattle.shb_fan.proofs.Counts.{total-set, total-snoc, total-at, total-le, sound-set, sound-snoc, times-append, times-snoc, once_below-more, once_below-min, once_below-nothing, all-below}
 
 abbrev St : Type 0
@@ -122,6 +123,19 @@ module _ (plan : Plan) where
         subst (λ (n : ℕ). KeepsDrawing plan (stepped s 0 n id me.1 (used_up v) keeps)) up (on_ticket s r.0 (t + 1) id me (used_up v) (ends t z s.views h id v at (t + 1) one unspent (omega arith) (omega arith) (omega arith) (λ _. omega arith))),
         ((λ room. absurd (omega arith)), λ _. refl),
       ))
+
+  pub draws_this : (slots id : ℕ) (me : M) (k : ℕ) → 0 < me.0.parts → k < plan.limit
+      → Allows (KeepsDrawing plan) slots id me 0 (λ n. either (eqb n k) (k + 1) n) (drew_this (step slots 0 k (k + 1) none) me)
+  draws_this slots id me k one room s r _ at _ = let v : PassView = me.0 in let t : ℕ = get_or s.words 0 0 in let z : ℕ = get_or s.words 1 0 in let h = r.1 in
+      exchanged t k (k + 1) (λ (n : ℕ). (w : PassView) × (a : Act (Unit {0})) × Valid s.homes me.1 a × KeepsDrawing plan (stepped s 0 n id me.1 w a) × drew_this (step slots 0 k (k + 1) none) me t (w, carried_after me.1 a))
+      (λ is. (
+        gained v k,
+        keeps,
+        tt,
+        on_ticket s r.0 (k + 1) id me (gained v k) (subst (λ (n : ℕ). Holds plan (n + 1) z (set s.views id (gained v n))) is (gains t z s.views h id v at (omega arith) one)),
+        ((λ _. (subst (λ (n : ℕ). All (λ x. x < n) v.drawn) is (drawn_below t z s.views h id v at), refl)), λ ne. absurd (ne is)),
+      ))
+      (λ ne. (v, keeps, tt, on_ticket s r.0 t id me v (stays t z s.views h id v at), ((λ is. absurd (ne is)), λ _. refl)))
 
   -- what a view that is halted knows of the stop word
   seen_halted : (t z : ℕ) (views : List PassView) → Holds plan t z views → (id : ℕ) (v : PassView) → get_elem? views id ≡ some v → z ≡ 0 → v.halted ≡ 0

@@ -27,13 +27,6 @@ next_small s h =
     let actors = h.few_actors in
     omega (arith, few, low, pieces, actors)
 
-pub bounds_start : (actors pieces : ℕ) → actors ≤ 65 → pieces ≤ 2 ^ 60 → IsInBounds (start actors pieces)
-bounds_start actors pieces few low = record {
-  few_actors = (let long = length-replicate actors new_actor in omega (arith, long, few));
-  few_pieces = (let long = length-replicate pieces Empty in omega (arith, long, low));
-  next_low = omega arith;
-}
-
 -- one step more
 pub first_more : (xs : List Step) (s t : State) (x : Step) → Runs s xs t → Allowed t x → Runs s (xs ++ x ∷ []) (after t x)
 first_more [] s t x same allowed = (subst (λ (u : State). Allowed u x) same allowed, ap (λ (u : State). after u x) same)

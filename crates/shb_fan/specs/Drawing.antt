@@ -1,5 +1,5 @@
 -- The rule of the ticket table, and what each step tells. Word 0 is the ticket, word 1 the stop word.
-use Rattle.std.specs.Prelude.{◌≡◌, ℕ, ◌+◌, ◌-◌, ◌^◌, ◌<◌, ◌≤◌, List, [], ◌∷◌, ◌++◌, length, min, slice_index, All}
+use Rattle.std.specs.Prelude.{◌≡◌, ◌≢◌, ℕ, ◌+◌, ◌-◌, ◌^◌, ◌<◌, ◌≤◌, List, [], ◌∷◌, ◌++◌, length, min, slice_index, All}
 use mathlib.Core.Option.{some}
 use lib.ListN.{get_elem?}
 use Rattle.atomic_table.specs.Table.{State, Me, Step}
@@ -64,6 +64,10 @@ warned v = pass_view v.parts v.plan v.drawn v.spent v.halted 1
 -- the number found is the pass's, where it is below the limit, and above all that it drew; else the pass is spent
 abbrev pub drew : Step (Unit {0}) → M → ℕ → M → Type 0
 drew st m r m' = (r < m.0.plan.limit → All (λ x. x < r) m.0.drawn × (m' ≡ (gained m.0 r, m.1))) × (m.0.plan.limit ≤ r → m' ≡ (used_up m.0, m.1))
+
+-- where the number was found as the caller said, it is the pass's, and above all that it drew; else nothing changes
+abbrev pub drew_this : Step (Unit {0}) → M → ℕ → M → Type 0
+drew_this st m r m' = (r ≡ st.first → All (λ x. x < st.first) m.0.drawn × (m' ≡ (gained m.0 st.first, m.1))) × (r ≢ st.first → m' ≡ m)
 
 -- where the word isn't 0 the pass is spent, and it isn't 0 where the pass is halted or has seen a stop before
 abbrev pub saw : Step (Unit {0}) → M → ℕ → M → Type 0

@@ -1,9 +1,8 @@
 -- What a taker was given.
-use Rattle.std.specs.Prelude.{◌≡◌, ℕ, ◌+◌, ◌<◌, ◌≤◌, ◌⊎◌, Bool, false, IsTrue, All, Any, sum_by, List, [], ◌∷◌, map, Result, Ok, Err, MatchOption}
+use Rattle.std.specs.Prelude.{◌≡◌, ℕ, ◌+◌, ◌<◌, ◌≤◌, ◌⊎◌, Bool, false, IsTrue, All, Any, sum_by, List, [], ◌∷◌, map, Result, Ok, Err}
 use Rattle.shb_fan.specs.declared.shares.Ring.{Ring}
 use Rattle.shb_fan.specs.declared.shares.RingSeat.{RingSeat}
 use Rattle.shb_fan.specs.declared.crew.Worker.{Worker}
-use Rattle.shb_fan.specs.declared.streaming.Caller.{Caller}
 use Rattle.shb_fan.specs.declared.streaming.Shared.{Shared}
 use Rattle.shb_fan.specs.declared.taker.StreamError.{StreamError}
 use Rattle.shb_fan.specs.declared.taker.StreamError.TheVariants.{Memory, Taker}
@@ -101,10 +100,9 @@ module _ {T M J G : Type 0} (value : J → ℕ → M) (count : J → ℕ) where
   abbrev pub CanMake : Shared T M J G → Worker T M → ℕ → Type 0
   CanMake shared worker k = CanWork shared worker × IsRunning worker × Owes worker k × HasPlacedAllBut worker (k ∷ [])
 
-  -- the caller may work, and of all that it drew just the piece that it keeps isn't placed
-  abbrev pub CanTake : Shared T M J G → Caller T M → Type 0
-  CanTake shared caller = CanWork shared caller.own × IsRunning caller.own
-      × MatchOption caller.kept (HasPlacedAllBut caller.own []) (λ k. Owes caller.own k × HasPlacedAllBut caller.own (k ∷ []))
+  -- the worker may lift, and draw and make what nobody has drawn
+  abbrev pub CanTake : Shared T M J G → Worker T M → Type 0
+  CanTake shared worker = CanDraw shared worker × IsRunning worker
 
 module _ {T M : Type 0} (meaning : T → M) (value : ℕ → M) where
   -- the results of the pieces below k, in order

@@ -17,11 +17,10 @@
 //!
 //! How `stream` works: there is a pass and a seat for each worker and one for the caller. A worker
 //! draws, runs, claims and places until there is no more, memory runs out or a stop is seen; the
-//! caller's thread waits for each piece in order, lifts it and hands it on. The workers' side is a
-//! recursion over halves that run at once (`sides`). Where nobody has drawn the piece that the
-//! caller waits for, it draws one itself and runs it when its turn comes, so nothing is waited for that
-//! nobody makes. A thread that waits lets others run for 20 turns and then sleeps, for 1 to 256
-//! microseconds; it wakes by time alone.
+//! caller's thread waits for each piece in order, lifts it and hands it on (`sides`: all at once).
+//! Where nobody has drawn the piece that the caller waits for, it draws and makes that piece itself,
+//! so nothing is waited for that nobody makes. A thread that waits lets others run for 20 turns and
+//! then sleeps, for 1 to 256 microseconds; it wakes by time alone.
 #![tactic(auto)]
 
 mod crew;

@@ -16,13 +16,6 @@ use std::alloc::Global;
 use std::sync::{OnceLock, Wait};
 use std::thread::Threads;
 
-/// The caller's own pass and seat, and a piece that it drew and has not run.
-#[derive(Drop)]
-pub(crate) struct Caller<T, M> {
-    pub(crate) own: Worker<T, M>,
-    pub(crate) kept: Option<u64>,
-}
-
 /// What is run: the pieces of a job, each once its gate lets it pass.
 #[derive(Drop)]
 pub(crate) struct GatedJob<'a, J, G> {
@@ -123,84 +116,37 @@ fn work<R: Wait, T: Drop, M, J: Job<Out = T, Meaning = M>, G: Gate>(
     unreachable!()
 }
 
-/// Draws a piece for the caller, which keeps none, to keep, if there is one.
-fn draw_one<T: Drop, M, J: Job<Out = T, Meaning = M>, G>(
-    shared: &Shared<'_, T, M, J, G>,
-    caller: &mut Caller<T, M>,
-)
-    requires ready { CanTake J.value J.count shared.now caller.old }
-    requires none { caller.old.kept ≡ None }
-    ensures ready { CanTake J.value J.count shared.now caller.new }
-    ensures seat { caller.new.own.seat ≡ caller.old.own.seat }
-    ensures drawn { MatchOption caller.new.kept
-        ((caller.new.own.pass.drawn ≡ caller.old.own.pass.drawn) × (caller.new.own.pass.spent ≡ true))
-        (λ k. caller.new.own.pass.drawn ≡ caller.old.own.pass.drawn ++ k ∷ []) }
-{
-    match shared.desk.tickets.draw(&mut caller.own.pass) {
-        Some(k) => {
-            caller.kept = Some(k);
-        }
-        None => {
-            caller.kept = None;
-        }
-    }
-}
-
-/// Runs piece k and places it where the caller keeps it, unless memory runs out or a stop is seen. Says
-/// whether all is well.
-fn make_kept<R: Wait, T: Drop, M, J: Job<Out = T, Meaning = M>, G: Gate>(
-    rt: &R,
-    shared: &Shared<'_, T, M, J, G>,
-    caller: &mut Caller<T, M>,
-    k: u64,
-) -> bool
-    requires ready { CanTake J.value J.count shared.now caller.old }
-    requires piece { k < J.count shared.now.gated.job.now }
-    ensures ready { CanWork J.value J.count shared.now caller.new.own }
-    ensures running { IsTrue result → CanTake J.value J.count shared.now caller.new }
-    ensures made { IsTrue result → caller.new.kept ≢ Some k }
-    ensures stopped { IsFalse result → KnowsStop caller.new.own }
-    ensures lifted { lifted_of caller.new.own.seat ≡ lifted_of caller.old.own.seat }
-{
-    if caller.kept != Some(k) {
-        return true;
-    }
-    caller.kept = None;
-    make(rt, shared, &mut caller.own, k)
-}
-
 /// The value of piece k, unless memory runs out or a stop is seen first.
 ///
-/// Where nobody has drawn piece k, the caller draws one itself. It runs it when its turn comes, and draws
-/// no other before. So nothing is waited for that no thread will make.
+/// Where nobody has drawn piece k the caller draws it and makes it itself. So nothing is waited for that
+/// no thread will make.
 fn wait_to_lift<R: Wait, T: Drop, M, J: Job<Out = T, Meaning = M>, G: Gate>(
     rt: &R,
     shared: &Shared<'_, T, M, J, G>,
-    caller: &mut Caller<T, M>,
+    own: &mut Worker<T, M>,
     k: u64,
 ) -> Option<T>
-    requires ready { CanTake J.value J.count shared.now caller.old }
+    requires ready { CanTake J.value J.count shared.now own.old }
     requires piece { k < J.count shared.now.gated.job.now }
-    ensures ready { CanWork J.value J.count shared.now caller.new.own }
+    ensures ready { CanWork J.value J.count shared.now own.new }
     ensures value { IfSome result (λ out. (J.meaning out ≡ J.value shared.now.gated.job.now k)
-        × CanTake J.value J.count shared.now caller.new
-        × (lifted_of caller.new.own.seat ≡ lifted_of caller.old.own.seat ++ k ∷ [])) }
-    ensures stopped { IfNone result (KnowsStop caller.new.own) }
+        × CanTake J.value J.count shared.now own.new
+        × (lifted_of own.new.seat ≡ lifted_of own.old.seat ++ k ∷ [])) }
+    ensures stopped { IfNone result (KnowsStop own.new) }
 {
     let mut turns = 0u32;
     for _ in rt.forever() {
-        if !make_kept(rt, shared, caller, k) {
-            return None;
-        }
-        let lifted = shared.desk.ring.lift(&mut caller.own.seat, k);
+        let lifted = shared.desk.ring.lift(&mut own.seat, k);
         if lifted.is_some() {
             return lifted;
         }
-        if shared.desk.tickets.stopped(&mut caller.own.pass) {
+        if shared.desk.tickets.stopped(&mut own.pass) {
             return None;
         }
-        if caller.kept.is_none() && shared.desk.tickets.is_left(k) {
-            draw_one(shared, caller);
+        if shared.desk.tickets.draw_this(&mut own.pass, k) {
+            if !make(rt, shared, own, k) {
+                return None;
+            }
         } else {
             shared.desk.ring.pause(rt, k, 4 * k + 2, turns);
             turns = turns.saturating_add(1);
@@ -214,25 +160,25 @@ fn wait_to_lift<R: Wait, T: Drop, M, J: Job<Out = T, Meaning = M>, G: Gate>(
 fn take_all<R: Wait, T: Drop, M, J: Job<Out = T, Meaning = M>, G: Gate, E, K: Taker<T, Error = E>>(
     rt: &R,
     shared: &Shared<'_, T, M, J, G>,
-    caller: &mut Caller<T, M>,
+    own: &mut Worker<T, M>,
     taker: &mut K,
 ) -> Result<(), StreamError<E>>
-    requires ready { CanTake J.value J.count shared.now caller.old }
+    requires ready { CanTake J.value J.count shared.now own.old }
     requires may_take { MayTake J.meaning (J.value shared.now.gated.job.now) K.may_take (J.count shared.now.gated.job.now) taker.old }
     ensures ended { Ended J.meaning (J.value shared.now.gated.job.now) K.takes K.refuses (J.count shared.now.gated.job.now)
         taker.old result taker.new }
-    ensures idle { IsIdle J.value J.count shared.now.desk.now.tickets shared.now.desk.now.ring caller.new.own }
-    ensures all { IfOk result (λ _. HasAccounts caller.new.own × HasLifted caller.new.own (J.count shared.now.gated.job.now)) }
-    ensures stopped { IfErr result (λ _. KnowsStop caller.new.own) }
+    ensures idle { IsIdle J.value J.count shared.now.desk.now.tickets shared.now.desk.now.ring own.new }
+    ensures all { IfOk result (λ _. HasAccounts own.new × HasLifted own.new (J.count shared.now.gated.job.now)) }
+    ensures stopped { IfErr result (λ _. KnowsStop own.new) }
 {
     for k in 0..shared.pieces {
-        let Some(out) = wait_to_lift(rt, shared, caller, k) else {
+        let Some(out) = wait_to_lift(rt, shared, own, k) else {
             return Err(StreamError::Memory(*shared.refused.wait(rt)));
         };
         match taker.take(k, out) {
             Ok(()) => {}
             Err(e) => {
-                shared.desk.tickets.stop(&mut caller.own.pass);
+                shared.desk.tickets.stop(&mut own.pass);
                 return Err(StreamError::Taker(e));
             }
         }
@@ -254,7 +200,7 @@ impl<'a, T: Drop, M, J: Job<Out = T, Meaning = M>, G: Gate> WorkerSide<Worker<T,
 }
 
 impl<'a, T: Drop, M, J: Job<Out = T, Meaning = M>, G: Gate, E, K: Taker<T, Error = E>> CallerSide<
-    Caller<T, M>,
+    Worker<T, M>,
     K,
 > for Shared<'a, T, M, J, G> {
     ghost use Rattle.std.specs.Prelude.{IfOk, IfErr};
@@ -262,13 +208,13 @@ impl<'a, T: Drop, M, J: Job<Out = T, Meaning = M>, G: Gate, E, K: Taker<T, Error
 
     type Answer = Result<(), StreamError<E>>;
 
-    ghost can_take = { λ shared caller taker. CanTake J.value J.count shared caller
+    ghost can_take = { λ shared own taker. CanTake J.value J.count shared own
         × MayTake J.meaning (J.value shared.gated.job.now) K.may_take (J.count shared.gated.job.now) taker };
 
-    ghost leaves = { λ shared answer caller.
-        IsIdle J.value J.count shared.desk.now.tickets shared.desk.now.ring caller.own
-        × IfOk answer (λ _. HasAccounts caller.own × HasLifted caller.own (J.count shared.gated.job.now))
-        × IfErr answer (λ _. KnowsStop caller.own) };
+    ghost leaves = { λ shared answer own.
+        IsIdle J.value J.count shared.desk.now.tickets shared.desk.now.ring own
+        × IfOk answer (λ _. HasAccounts own × HasLifted own (J.count shared.gated.job.now))
+        × IfErr answer (λ _. KnowsStop own) };
 
     ghost gives = { λ shared start answer end.
         Ended J.meaning (J.value shared.gated.job.now) K.takes K.refuses (J.count shared.gated.job.now) start answer end };
@@ -276,7 +222,7 @@ impl<'a, T: Drop, M, J: Job<Out = T, Meaning = M>, G: Gate, E, K: Taker<T, Error
     fn take<R: Wait>(
         &self,
         rt: &R,
-        own: &mut Caller<T, M>,
+        own: &mut Worker<T, M>,
         taker: &mut K,
     ) -> Result<(), StreamError<E>> {
         take_all(rt, self, own, taker)
@@ -297,21 +243,21 @@ fn work_and_take<
     gated: GatedJob<'_, J, G>,
     desk: &Desk<T, M, J>,
     workers: &mut [Worker<T, M>],
-    caller: &mut Caller<T, M>,
+    own: &mut Worker<T, M>,
     taker: &mut K,
 ) -> Result<(), StreamError<E>>
     requires tickets { desk.now.tickets.limit ≡ J.count gated.job.now }
     requires ring { job_of desk.now.ring ≡ gated.job.now }
     requires workers { All (CanBegin J.value J.count desk.now.tickets desk.now.ring) workers.old }
-    requires caller { CanBegin J.value J.count desk.now.tickets desk.now.ring caller.old.own × (caller.old.kept ≡ None) }
+    requires own { CanBegin J.value J.count desk.now.tickets desk.now.ring own.old }
     requires may_take { MayTake J.meaning (J.value gated.job.now) K.may_take (J.count gated.job.now) taker.old }
     ensures ended { Ended J.meaning (J.value gated.entry.job.now) K.takes K.refuses (J.count gated.entry.job.now) taker.old result taker.new }
     ensures workers { (length workers.new ≡ length workers.old)
         × All (HasWorked J.value J.count desk.now.tickets desk.now.ring) workers.new }
     ensures worked { All HasEnded workers.new }
-    ensures idle { IsIdle J.value J.count desk.now.tickets desk.now.ring caller.new.own }
-    ensures all { IfOk result (λ _. HasAccounts caller.new.own × HasLifted caller.new.own (J.count gated.entry.job.now)) }
-    ensures stopped { IfErr result (λ _. KnowsStop caller.new.own) }
+    ensures idle { IsIdle J.value J.count desk.now.tickets desk.now.ring own.new }
+    ensures all { IfOk result (λ _. HasAccounts own.new × HasLifted own.new (J.count gated.entry.job.now)) }
+    ensures stopped { IfErr result (λ _. KnowsStop own.new) }
 {
     let refused = OnceLock::new();
     let pieces = gated.job.pieces();
@@ -321,7 +267,7 @@ fn work_and_take<
         refused: &refused,
         pieces,
     };
-    run_both_sides(rt, &shared, workers, &shared, caller, taker)
+    run_both_sides(rt, &shared, workers, &shared, own, taker)
 }
 
 /// Hands the values of all pieces to the taker in order, while workers run pieces at once.
@@ -371,13 +317,11 @@ pub fn stream<
         Ok(made) => made,
         Err(refused) => return Err(StreamError::Memory(refused)),
     };
-    let Some(own) = workers.pop() else {
+    let Some(mut own) = workers.pop() else {
         unreachable!()
     };
-    let mut caller = Caller { own, kept: None };
     let gated = GatedJob { job, gate, alloc };
-    let answer = work_and_take(rt, gated, &desk, workers.as_mut_slice(), &mut caller, taker);
-    let Caller { own, .. } = caller;
+    let answer = work_and_take(rt, gated, &desk, workers.as_mut_slice(), &mut own, taker);
     // From here on it is the same for a success and an error: all passes and seats come back, and the tickets
     // and the ring are closed. Of an error this is what the code does, and no clause says it.
     desk.take_back(workers, &mut passes, &mut seats);

@@ -7,7 +7,7 @@ ghost use Rattle.shb_fan.specs.Passes.{fresh};
 ghost use Rattle.shb_fan.specs.Turns.{IsMachineRun};
 
 use crate::pass::Pass;
-use crate::ticket_steps::{Cut, Draw, Look, Merge, See, StopDraw};
+use crate::ticket_steps::{Cut, Draw, DrawThis, Look, Merge, See, StopDraw};
 use crate::ticket_table::{Draws, PassView, Plan};
 use atomic_table::Table;
 use shb_io::NoMemory;
@@ -142,9 +142,18 @@ impl Tickets {
         self.table.shared.load::<Look>(&mut pass.seat, STOP) != 0
     }
 
-    /// Whether nobody had drawn the number a moment ago. No clause says so: it is for a caller that looks again.
-    pub(crate) fn is_left(&self, number: u64) -> bool {
-        self.table.shared.peek(TICKET) <= number
+    /// One try to draw this number, which is won only while it is the next. Says whether it was; else nothing changes.
+    pub(crate) fn draw_this(&self, pass: &mut Pass, number: u64) -> bool
+        requires source { pass.old.source ≡ self.now }
+        requires number { (number < self.now.limit) × (number < 2 ^ 60) }
+        ensures won { IsTrue result → All (λ x. x < number) pass.old.drawn
+            × (pass.new ≡ record pass.old { drawn = pass.old.drawn ++ number ∷ [] }) }
+        ensures lost { IsFalse result → pass.new ≡ pass.old }
+    {
+        self.table
+            .shared
+            .compare_exchange::<DrawThis>(&mut pass.seat, TICKET, number, number + 1)
+            == number
     }
 
     /// Ends the draw, once all passes have come back, and says how far it came.

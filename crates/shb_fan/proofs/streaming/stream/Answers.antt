@@ -24,10 +24,10 @@ work_and_take-answer-requires-clause-workers g c κs within =
     let both = new_last g.J.Job.value g.J.Job.count c.in-Ok.made.0 c.in-Ok-new.made.0 _ _ _ c.in-Some.ensures.items c.in-Ok-make_workers.ensures.workers.1 in
     All-same (CanBegin g.J.Job.value g.J.Job.count c.in-Ok.made.0 c.in-Ok-new.made.0) c.as_mut_slice.result.now c.pop.new.self.items c.as_mut_slice.ensures.value both.0
 
-pub work_and_take-answer-requires-clause-caller : goal.work_and_take-answer-requires-clause-caller
-work_and_take-answer-requires-clause-caller g c κs within =
+pub work_and_take-answer-requires-clause-own : goal.work_and_take-answer-requires-clause-own
+work_and_take-answer-requires-clause-own g c κs within =
     let both = new_last g.J.Job.value g.J.Job.count c.in-Ok.made.0 c.in-Ok-new.made.0 _ _ _ c.in-Some.ensures.items c.in-Ok-make_workers.ensures.workers.1 in
-    (both.1, refl)
+    both.1
 
 pub work_and_take-answer-requires-clause-may_take : goal.work_and_take-answer-requires-clause-may_take
 work_and_take-answer-requires-clause-may_take g c κs within = c.requires
@@ -84,4 +84,4 @@ pub returns-clause-ended : goal.returns-clause-ended
 returns-clause-ended g c = c.in_ok-answer.ensures.ended
 
 pub returns-clause-drawn : goal.returns-clause-drawn
-returns-clause-drawn g c = closed_whole c.work_and_take-answer.new.caller.own _ _ _ _ (c.in-Ok.ensures.0 ∙ c.pieces.ensures.exact) c.close_both-end.ensures c.in_ok-answer.ensures.all
+returns-clause-drawn g c = closed_whole c.work_and_take-answer.new.own _ _ _ _ (c.in-Ok.ensures.0 ∙ c.pieces.ensures.exact) c.close_both-end.ensures c.in_ok-answer.ensures.all

@@ -7,6 +7,6 @@ abbrev pub invariant-loop : goal.invariant-loop
 invariant-loop g l = record {
   can : (goal.iterator-loop g).can_next l.iterator';
   ends : (goal.iterator-loop g).is_finite l.iterator';
-  ready : CanTake g.J.Job.value g.J.Job.count l.shared l.caller;
-  lifted : lifted_of l.caller.own.seat ≡ lifted_of l.fn.caller.own.seat;
+  ready : CanTake g.J.Job.value g.J.Job.count l.shared l.own;
+  lifted : lifted_of l.own.seat ≡ lifted_of l.fn.own.seat;
 }
