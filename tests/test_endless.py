@@ -62,15 +62,13 @@ class Endless(unittest.TestCase):
     def test_one_wait_more_and_one_less_where_some_stand(self):
         file = endless.SLEEPS
         text = (endless.CRATES / file).read_text()
-        self.wrong(text, name=file)
-        planted = text + "park(rt)\n"
-        lines = [n for n, line in enumerate(planted.splitlines(), 1) if "park" in line]
-        self.assertEqual(len(lines), 2)
-        self.assertEqual(
-            endless.wrong_in(file, planted),
-            [f"{file}:{lines[0]}: park_timeout", f"{file}:{lines[1]}: park", rf"{file}: 1 of \bpark\w* are wanted"],
-        )
-        self.assertEqual(endless.wrong_in(file, text.replace("park_timeout", "nothing")), [rf"{file}: 1 of \bpark\w* are wanted"])
+        self.assertEqual(endless.wrong_in(file, text), [])
+        planted = text + "park_timeout(rt)\n"
+        lines = [n for n, line in enumerate(planted.splitlines(), 1) if "park_timeout" in line]
+        wanted = rf"{file}: 1 of \bpark_timeout\b are wanted"
+        self.assertEqual(endless.wrong_in(file, planted), [f"{file}:{n}: park_timeout" for n in lines] + [wanted])
+        (line,) = lines[:-1]
+        self.assertEqual(endless.wrong_in(file, text.replace("park_timeout", "park")), [wanted, f"{file}:{line}: park"])
 
     def test_what_waits_for_nothing(self):
         self.wrong("// std::sync::Mutex, rt.forever()\n/// Waits for nothing: `park`.\n" + SEARCH % "stream(rt, alloc, job)?;")
