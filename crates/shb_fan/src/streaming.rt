@@ -1,5 +1,5 @@
 //! Results in the order of their pieces, while others are computed.
-ghost use Rattle.std.specs.Prelude.{◌≡◌, ◌≢◌, ◌∷◌, ◌++◌, ◌+◌, ◌<◌, [], None, Some, true, false, All, IfOk, IfErr, IfSome, IfNone, IsTrue, IsFalse, MatchOption, length};
+ghost use Rattle.std.specs.Prelude.{◌≡◌, ◌∷◌, ◌++◌, ◌+◌, ◌<◌, [], None, Some, true, false, All, IfOk, IfErr, IfSome, IfNone, IsTrue, IsFalse, length};
 ghost use Rattle.shb_fan.specs.Seated.{IsSeatOf, job_of, claimed_of, placed_of, lifted_of};
 ghost use Rattle.shb_fan.specs.Streamed.{IsIdle, IsReady, IsRunning, HasWorked, HasAccounts, HasLifted, HasEnded, HasPlacedAllBut, KnowsStop, CanBegin, CanDraw, CanMake, CanTake, CanWork, MayTake, Ended};
 

@@ -2,7 +2,6 @@
 ghost use Rattle.std.specs.Prelude.{◌^◌, ◌-◌, ◌≤◌, length};
 
 use std::alloc::{AllocError, AllocFailed};
-use std::hash::RandomState;
 use std::random::RandomSource;
 
 /// There was no memory, or there were no random numbers. No other module can make one: it comes of a refusal of
@@ -46,16 +45,4 @@ pub fn random_keys<R: RandomSource>(rt: &R) -> Result<(u64, u64), NoMemory> {
     };
     let keys = u128::from_le_bytes(bytes);
     Ok(((keys & 0xFFFF_FFFF_FFFF_FFFF) as u64, (keys >> 64) as u64))
-}
-
-/// The random keys of a table of the standard library.
-///
-/// # Errors
-///
-/// `NoMemory` where the random source failed.
-pub fn random_state<R: RandomSource>(rt: &R) -> Result<RandomState, NoMemory> {
-    let Ok(state) = RandomState::new(rt) else {
-        return Err(NoMemory { refused: () });
-    };
-    Ok(state)
 }
