@@ -276,9 +276,9 @@ fn work_and_take<
 /// came before are the values of the pieces below that number in order, and the result is that of the
 /// piece. What the taker asks of such a call is all that the caller has to show.
 ///
-/// The caller's thread takes; each worker runs in a thread of its own where the system has one for it, and
-/// where it has none the caller runs the pieces itself. `Memory` where memory was refused, here or to a
-/// piece; `Taker` where the taker refused a value. After an error the taker was given the values of the
+/// The caller's thread takes; each worker runs in a thread of its own where the system has one for it. A piece
+/// that nobody has drawn when its turn comes the caller runs itself, so all of them where no worker has a
+/// thread. `Memory` where memory was refused, here or to a piece; `Taker` where the taker refused a value. After an error the taker was given the values of the
 /// first pieces, no call follows one that it refused, and values that it wasn't given are dropped.
 ///
 /// On Ok the answer is how the draw ended: `drawn` is the number of the pieces, and nobody stopped. Of how
