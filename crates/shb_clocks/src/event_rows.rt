@@ -4,7 +4,7 @@ ghost use Rattle.std.specs.Prelude.{◌≡◌, ◌<◌, true, IfOk, length};
 ghost use Rattle.shb_clocks.specs.Open.{OpenTrace, accesses_open};
 ghost use Rattle.shb_clocks.specs.Stamps.{HasOpenRows};
 
-use crate::clock::entry;
+use crate::answer::count_below;
 use crate::kept_rows::{KeptRows, kept_rows};
 use crate::order::Order;
 use crate::rows::Rows;
@@ -69,9 +69,6 @@ impl<'a> Order for EventRows<'a> {
     ghost asks = { λ o e. accesses_open o.flags o.trace e };
 
     fn below_pred(&self, e: u32, t: u32) -> u32 {
-        if t == self.linked.events.thread(e) {
-            return self.linked.links.local(e) - 1;
-        }
-        entry(self.rows.row(self.before[e as usize]), t)
+        count_below(&self.linked, &self.rows, self.before[e as usize], e, t)
     }
 }

@@ -26,6 +26,7 @@
 //! the table is emptied.
 #![tactic(auto)]
 
+mod answer;
 mod clock;
 mod compact;
 mod copies;

@@ -6,7 +6,7 @@ ghost use Rattle.shb_clocks.specs.KeptRows.{AreListedRows};
 ghost use Rattle.shb_clocks.specs.Listed.{HasListedRows, ListedTrace, is_listed};
 ghost use Rattle.shb_clocks.specs.Stamps.{IsSwept};
 
-use crate::clock::entry;
+use crate::answer::count_below;
 use crate::kept_rows::KeptRows;
 use crate::order::Order;
 use crate::rows::Rows;
@@ -115,10 +115,7 @@ impl<'a> Order for ListedRows<'a> {
     ghost asks = { λ o e. is_listed o.events e };
 
     fn below_pred(&self, e: u32, t: u32) -> u32 {
-        if t == self.linked.events.thread(e) {
-            return self.linked.links.local(e) - 1;
-        }
         let at = position_of(self.events.as_slice(), e);
-        entry(self.rows.row(self.before[at]), t)
+        count_below(&self.linked, &self.rows, self.before[at], e, t)
     }
 }

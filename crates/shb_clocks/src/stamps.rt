@@ -9,7 +9,8 @@ ghost use Rattle.shb_clocks.specs.Moved.{AreCopies};
 ghost use Rattle.shb_clocks.specs.Rows.{AreMore};
 ghost use Rattle.shb_clocks.specs.Stamps.{AreCurrent, AreStamps, HasGrown, IsRowFor, IsSource, IsStampOf, IsSwept, KnowsStamp, WritesShared, empty_stamp};
 
-use crate::clock::{Clock, entry, zeros};
+use crate::answer::count_below;
+use crate::clock::{Clock, zeros};
 use crate::compact::compacted;
 use crate::copies::forget_moved;
 use crate::rows::Rows;
@@ -255,10 +256,7 @@ impl Stamps {
         requires swept { IsSwept linked.now.events.now e linked.now.sizes self.now }
         ensures { IsBelowPredCount linked.now.events.now t e result }
     {
-        if t == linked.events.thread(e) {
-            return linked.links.local(e) - 1;
-        }
-        entry(self.rows.row(self.row_before(linked, e)), t)
+        count_below(linked, &self.rows, self.row_before(linked, e), e, t)
     }
 
     /// Takes the event e.

@@ -2,7 +2,7 @@ use Rattle.std.proofs.Common.{ℕ, List, refl, arith}
 use Rattle.shb_lines.specs.declared.event.Event.{Event}
 use Rattle.shb_clocks.proofs.Locals.{local_is, time_at}
 use Rattle.shb_clocks.proofs.Counting.{count_other, count_own}
-use Rattle.shb_clocks.proofs.stamps.Stamps.below_pred.Goals as goal
+use Rattle.shb_clocks.proofs.answer.count_below.Goals as goal
 
 pub returns-then-t-thread : goal.returns-then-t-thread
 returns-then-t-thread c =
@@ -14,11 +14,11 @@ returns-then-t-thread c =
     count_own trace trace c.args.linked.now.meets refl c.args.t u c.args.e _ of_e c.if-t-thread.true (omega (arith, time, some))
 
 pub row-requires : goal.row-requires
-row-requires c = (c.row_before.ensures _ c.thread.ensures).in_range
+row-requires c = (c.requires.row _ c.thread.ensures).in_range
 
 pub returns : goal.returns
 returns c =
     let trace : List Event = c.args.linked.now.events.now in
     let u : ℕ = c.thread.result in
-    let before = c.row_before.ensures u c.thread.ensures in
-    count_other trace trace c.args.self.now.rows.rows c.args.e u c.args.t c.row_before.result c.entry.result c.row.result.now refl before c.row.ensures.row c.if-t-thread.false c.entry.ensures
+    let before = c.requires.row u c.thread.ensures in
+    count_other trace trace c.args.rows.now.rows c.args.e u c.args.t c.args.row c.entry.result c.row.result.now refl before c.row.ensures.row c.if-t-thread.false c.entry.ensures
