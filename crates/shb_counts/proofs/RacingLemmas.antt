@@ -1,36 +1,31 @@
 -- The counts of the numbers of racing accesses.
-use Rattle.std.proofs.Common.{◌≡◌, ℕ, ◌+◌, ◌-◌, ◌<◌, ◌⊎◌, inl, inr, true, false, List, [], ◌∷◌, ◌++◌, length, ltb, refl, arith, ap, sym, subst, ◌∙◌, take, drop}
+use Rattle.std.proofs.Common.{◌≡◌, ℕ, ◌+◌, ◌-◌, ◌<◌, ◌≤◌, inl, inr, true, false, List, [], ◌∷◌, ◌++◌, length, ltb, refl, arith, ap, sym, subst, ◌∙◌, take, drop}
 use Rattle.std.specs.Prelude.{◌==◌, cond, All, map}
 use Rattle.std.proofs.lemmas.Bool.{cases_Bool}
 use Rattle.std.proofs.lemmas.List.{drop-map, length-map, map-append, take-map}
+use Rattle.std.proofs.lemmas.List.Sorted.{sum_by-IsPermutation}
+use Rattle.std.proofs.lemmas.List.Sums.{length-filter}
 use Rattle.shb_lines.specs.declared.event.Event.{Event}
 use Rattle.shb_lines.specs.events.Reach.{is_race, numbers_where}
 use Rattle.shb_pairs.specs.Buckets.{with_key}
-use Rattle.shb_pairs.specs.Ranges.{inserted, sorted}
+use Rattle.shb_pairs.specs.Ranges.{sorted}
 use Rattle.shb_pairs.specs.Spans.{IsSpanOf, in_spans}
 use Rattle.shb_pairs.specs.declared.spans.Span.{Span}
 use Rattle.shb_pairs.proofs.Counting.{numbers_few}
-use Rattle.shb_pairs.proofs.Merging.{sorted_length}
+use Rattle.shb_pairs.proofs.Merging.{sorted_length, sorted_permutes}
 use Rattle.shb_counts.specs.Counts.{AreCountsOf, AreRacingCounts, number_in}
 
 -- how often a number stands in a list with one element more
 pub times_cons : (f : ℕ → ℕ) (n k : ℕ) (ks : List ℕ) → length (with_key f (k ∷ ks) n) ≡ cond (f k == n) 1 0 + length (with_key f ks n)
 times_cons f n k ks = elim (cases_Bool (f k == n)) [ inl h ↦ rw h (omega arith) | inr h ↦ rw h (omega arith) ]
 
-times_inserted : (f : ℕ → ℕ) (n k : ℕ) (ks : List ℕ) → length (with_key f (inserted k ks) n) ≡ length (with_key f (k ∷ ks) n)
-unfolding inserted
-times_inserted f n k [] = refl
-times_inserted f n k (x ∷ xs) = go (cases_Bool (ltb x k)) (times_inserted f n k xs)
-  where
-    go : (ltb x k ≡ true) ⊎ (ltb x k ≡ false) → length (with_key f (inserted k xs) n) ≡ length (with_key f (k ∷ xs) n) → length (with_key f (cond (ltb x k) (x ∷ inserted k xs) (k ∷ (x ∷ xs))) n) ≡ length (with_key f (k ∷ (x ∷ xs)) n)
-    go (inl h) rest = rw h (let a = times_cons f n x (inserted k xs) in let b = times_cons f n k (x ∷ xs) in let c = times_cons f n x xs in let d = times_cons f n k xs in omega (arith, a, b, c, d, rest))
-    go (inr h) rest = rw h refl
-
 -- sorting changes no count
 times_sorted : (f : ℕ → ℕ) (n : ℕ) (ks : List ℕ) → length (with_key f (sorted ks) n) ≡ length (with_key f ks n)
-unfolding sorted
-times_sorted f n [] = refl
-times_sorted f n (k ∷ ks) = let a = times_inserted f n k (sorted ks) in let b = times_cons f n k (sorted ks) in let c = times_cons f n k ks in let d = times_sorted f n ks in omega (arith, a, b, c, d)
+times_sorted f n ks =
+    let same = sum_by-IsPermutation (λ k. cond (f k == n) 1 0) (sorted ks) ks (sorted_permutes ks) in
+    let a = length-filter (λ k. f k == n) (sorted ks) in
+    let b = length-filter (λ k. f k == n) ks in
+    omega (arith, same, a, b)
 
 -- the numbers of the elements
 times_map : (f : ℕ → ℕ) (n : ℕ) (ks : List ℕ) → length (with_key (λ k. k) (map f ks) n) ≡ length (with_key f ks n)
@@ -51,13 +46,13 @@ module _ (trace : List Event) (j : ℕ) (positions numbers listed : List ℕ) (s
   pub racing_within : All (IsSpanOf (length positions)) spans → All (IsSpanOf (length listed)) spans
   racing_within h = subst (λ (n : ℕ). All (IsSpanOf n) spans) (sym (ap length is ∙ length-map positions (number_in numbers))) h
 
-  pub racing_few : j < 4294967296 → length (in_spans listed spans) < 4294967296
-  racing_few small =
+  pub racing_few : length (in_spans listed spans) ≤ j
+  racing_few =
       let a = ap length in_numbers ∙ length-map (in_spans positions spans) (number_in numbers) in
       let b = sorted_length (in_spans positions spans) in
       let c = ap length races in
       let d = numbers_few (λ i. is_race trace i j) j in
-      omega (arith, a, b, c, d, small)
+      omega (arith, a, b, c, d)
 
   pub racing_counted : (classes : ℕ) (counts : List ℕ) → AreCountsOf classes (in_spans listed spans) counts → AreRacingCounts trace numbers j classes counts
   racing_counted classes counts h = record {

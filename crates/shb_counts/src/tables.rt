@@ -8,7 +8,6 @@ ghost use Rattle.shb_counts.specs.Tables.{AreTables, IsCompared};
 
 use crate::numbering::LocationNumbers;
 use crate::prefix_counts::PrefixCounts;
-use crate::racing::numbers_at;
 use shb_clocks::Order;
 use shb_io::NoMemory;
 use shb_lines::Op;
@@ -46,6 +45,18 @@ impl<'a> Drop for Tables<'a> {
             writes: _,
         } = self;
     }
+}
+
+/// The numbers of the events at some positions, of a list with the number of each event.
+fn numbers_at(alloc: Global, numbers: &[u32], positions: &[u32]) -> Result<Vec<u32>, NoMemory>
+    requires { All (λ k. k < length numbers.now) positions.now }
+    ensures { IfOk result (λ v. v.items ≡ map (number_in numbers.now) positions.now) }
+{
+    let mut found = Vec::with_capacity(alloc, positions.len())?;
+    for k in positions {
+        found.push(numbers[*k as usize])?;
+    }
+    Ok(found)
 }
 
 /// Accesses with the table of their numbers.

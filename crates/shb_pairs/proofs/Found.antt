@@ -1,5 +1,5 @@
 -- What the search finds, sorted, are the numbers below j that race with j.
-use Rattle.std.proofs.Common.{◌≡◌, ◌≢◌, ℕ, ◌<◌, ◌≤◌, ◌⊎◌, inl, inr, Bool, true, false, List, [], ◌++◌, Some, length, get_or, refl, arith, ap, sym, ◌∙◌}
+use Rattle.std.proofs.Common.{◌≡◌, ◌≢◌, ℕ, ◌<◌, ◌≤◌, ◌⊎◌, inl, inr, Bool, true, false, List, Some, length, get_or, refl, arith, ap, sym, ◌∙◌}
 use Rattle.std.specs.Prelude.{◌&&◌, cond, All}
 use Rattle.std.specs.List.Sorted.{IsNonDecreasing}
 use Rattle.std.proofs.lemmas.Bool.{cases_Bool, cases_lt}
@@ -10,11 +10,10 @@ use Rattle.shb_lines.specs.declared.event.Event.{Event}
 use Rattle.shb_lines.specs.declared.event.Op.{Op}
 use Rattle.shb_lines.specs.declared.event.Op.TheVariants.{Read, Write}
 use Rattle.shb_lines.specs.events.Events.{op_at, variable_of}
-use Rattle.shb_lines.specs.events.Race.{variable_at}
+use Rattle.shb_lines.specs.events.Race.{Race, variable_at}
 use Rattle.shb_lines.specs.events.Reach.{numbers_where, is_race}
 use Rattle.shb_lines.specs.events.Tests.{is_write}
 use Rattle.shb_lines.proofs.events.Events.{and_parts}
-use Rattle.shb_lines.proofs.events.Items.{op_of_item}
 use Rattle.shb_lines.proofs.events.Reach.{event_at_access, numbers_listed, reflect_race}
 use Rattle.shb_links.proofs.Owners.{variable_known}
 use Rattle.shb_pairs.specs.declared.accesses.Which.{Which}
@@ -22,6 +21,7 @@ use Rattle.shb_pairs.specs.declared.accesses.Which.TheVariants.{Both, Writes}
 use Rattle.shb_pairs.specs.Accesses.{accesses_at, is_selected, selected_at, occurs, IsByThread}
 use Rattle.shb_pairs.specs.Ranges.{sorted}
 use Rattle.shb_pairs.specs.Search.{AreRivals, racing}
+use Rattle.shb_pairs.specs.Spans.{AreComparedWith, compared_with}
 use Rattle.shb_pairs.proofs.ByThread.{accessed_selected, op_in, op_in_at, occurs_filter, occurs_none, occurs_once, selected_item, variable_in}
 use Rattle.shb_pairs.proofs.Counting.{access_from_test, numbers_few, test_from_access}
 use Rattle.shb_pairs.proofs.Merging.{occurs_contains, sorted_length, sorted_occurs, sorted_rises, sorted_same}
@@ -99,61 +99,31 @@ accessed_within trace k x h = let e = event_at_access trace k x h in slice_get_w
 numbers_rise : (f : ℕ → Bool) (n : ℕ) → IsNonDecreasing (numbers_where f n)
 numbers_rise f n = λ i j d le lt. elim (cases_lt i j) [ inl less ↦ (let rise = AllPairs-from_increasing (numbers_where f n) (numbers_listed f n).rising i j d less lt in omega (arith, rise)) | inr past ↦ (let e : i ≡ j = omega arith in rw e (omega arith)) ]
 
--- what is found of a write and of a read
-pub data HasFound (trace : List Event) (x j : ℕ) (found : List ℕ) : Type 0 where
-  of_write : (both : List ℕ) → IsByThread trace Both x both → found ≡ racing trace j both → HasFound trace x j found
-  of_read : (writes : List ℕ) → IsByThread trace Writes x writes → is_write (op_in trace j) ≡ false → found ≡ racing trace j writes → HasFound trace x j found
+-- what races with the later j is one of those that it is compared with
+race_selected : (trace : List Event) (j x v : ℕ) (op : Op) → op_at trace j ≡ Some op → variable_at trace v ≡ Some x → v < length trace → Race trace v j → selected_at trace (compared_with op) v ≡ true
+race_selected trace j x v (Write y) does first lt race = both_at trace v x lt first
+race_selected trace j x v (Read y) does first lt race = elim race.conflict.one_writes [ inl w ↦ selected_item trace Writes v _ w | inr w ↦ absurd (let f : ⊥ = cc in f) ]
+race_selected trace j x v _ does first lt race = elim race.conflict.one_writes [ inl w ↦ selected_item trace Writes v _ w | inr w ↦ absurd (let f : ⊥ = cc in f) ]
 
-module _ (trace : List Event) (x j : ℕ) (accessed : variable_at trace j ≡ Some x) where
-  racing_occurs : (v : ℕ) (list : List ℕ) → is_race trace v j ≡ true → occurs v (racing trace j list) ≡ occurs v list
-  racing_occurs v list h = occurs_filter (λ i. is_race trace i j) v list ∙ ap (λ (b : Bool). cond b (occurs v list) 0) h
+module _ (trace : List Event) (j : ℕ) (list : List ℕ) (h : AreComparedWith trace j list) where
+  racing_once : (v : ℕ) → is_race trace v j ≡ true → occurs v list ≡ 1
+  racing_once v passes =
+      let first = access_from_test trace h.variable v (race_accesses trace h.variable v j h.accesses passes) in
+      let lt = accessed_within trace v h.variable first in
+      occurs_selected trace (compared_with h.op) h.variable v list h.by_thread lt first (race_selected trace j h.variable v h.op h.does first lt ((reflect_race trace v j).0 passes))
 
-  not_racing_occurs : (v : ℕ) (list : List ℕ) → is_race trace v j ≡ false → occurs v (racing trace j list) ≡ 0
-  not_racing_occurs v list h = occurs_filter (λ i. is_race trace i j) v list ∙ ap (λ (b : Bool). cond b (occurs v list) 0) h
+  found_once : (v : ℕ) → (is_race trace v j ≡ true) ⊎ (is_race trace v j ≡ false) → occurs v (racing trace j list) ≡ occurs v (numbers_where (λ i. is_race trace i j) j)
+  found_once v (inl passes) =
+      occurs_filter (λ i. is_race trace i j) v list
+      ∙ (ap (λ (b : Bool). cond b (occurs v list) 0) passes
+      ∙ (racing_once v passes ∙ sym (occurs_once (λ i. is_race trace i j) v j ((reflect_race trace v j).0 passes).earlier passes)))
+  found_once v (inr fails) =
+      occurs_filter (λ i. is_race trace i j) v list
+      ∙ (ap (λ (b : Bool). cond b (occurs v list) 0) fails ∙ sym (occurs_none (λ i. is_race trace i j) v j (λ lt p. let f : ⊥ = cc in f)))
 
-  earlier_accessed : (v : ℕ) → is_race trace v j ≡ true → (v < length trace) × (variable_at trace v ≡ Some x)
-  earlier_accessed v h =
-      let first = access_from_test trace x v (race_accesses trace x v j accessed h) in
-      (accessed_within trace v x first, first)
-
-  of_write_occurs : (both : List ℕ) → IsByThread trace Both x both → (v : ℕ) → is_race trace v j ≡ true → occurs v (racing trace j both) ≡ 1
-  of_write_occurs both of_both v h =
-      let first = earlier_accessed v h in
-      racing_occurs v both h ∙ occurs_selected trace Both x v both of_both first.0 first.1 (both_at trace v x first.0 first.1)
-
-  of_read_occurs : (writes : List ℕ) → IsByThread trace Writes x writes → (v : ℕ) → is_write (op_in trace j) ≡ false → is_race trace v j ≡ true → occurs v (racing trace j writes) ≡ 1
-  of_read_occurs writes of_writes v reading h =
-      let a = racing_occurs v writes h in
-      let first = earlier_accessed v h in
-      let race = (reflect_race trace v j).0 h in
-      let written : selected_at trace Writes v ≡ true = elim race.conflict.one_writes [
-        | inl w ↦ selected_item trace Writes v _ w
-        | inr w ↦ absurd (let o : Some (op_in trace j) ≡ Some (Write race.conflict.variable) = sym (op_in_at trace j (accessed_within trace j x accessed)) ∙ w in let p : op_in trace j ≡ Write race.conflict.variable = cc in let g : is_write (op_in trace j) ≡ true = rw p refl in (let f : ⊥ = cc in f))
-      ] in
-      let one = occurs_selected trace Writes x v writes of_writes first.0 first.1 written in
-      omega (arith, a, one)
-
-  target : (v : ℕ) → is_race trace v j ≡ true → occurs v (numbers_where (λ i. is_race trace i j) j) ≡ 1
-  target v passes = occurs_once (λ i. is_race trace i j) v j ((reflect_race trace v j).0 passes).earlier passes
-
-  no_target : (v : ℕ) → is_race trace v j ≡ false → occurs v (numbers_where (λ i. is_race trace i j) j) ≡ 0
-  no_target v fails = occurs_none (λ i. is_race trace i j) v j (λ lt p. let f : ⊥ = cc in f)
-
-  found_occurs : (found : List ℕ) → HasFound trace x j found → (v : ℕ) → (is_race trace v j ≡ true) ⊎ (is_race trace v j ≡ false) → occurs v found ≡ occurs v (numbers_where (λ i. is_race trace i j) j)
-  found_occurs found (of_write both of_both is) v (inl passes) = ap (occurs v) is ∙ (of_write_occurs both of_both v passes ∙ sym (target v passes))
-  found_occurs found (of_write both of_both is) v (inr fails) = ap (occurs v) is ∙ (not_racing_occurs v both fails ∙ sym (no_target v fails))
-  found_occurs found (of_read writes of_writes reading is) v (inl passes) = ap (occurs v) is ∙ (of_read_occurs writes of_writes v reading passes ∙ sym (target v passes))
-  found_occurs found (of_read writes of_writes reading is) v (inr fails) = ap (occurs v) is ∙ (not_racing_occurs v writes fails ∙ sym (no_target v fails))
-
-  pub found_all : (found : List ℕ) → HasFound trace x j found → sorted found ≡ numbers_where (λ i. is_race trace i j) j
-  found_all found h = sorted_same (sorted found) (numbers_where (λ i. is_race trace i j) j) (sorted_rises found) (numbers_rise (λ i. is_race trace i j) j) (λ v. sorted_occurs v found ∙ found_occurs found h v (cases_Bool (is_race trace v j)))
-
--- what the search leaves in its list
-pub found_of_write : (trace : List Event) (x j : ℕ) (both start found : List ℕ) → start ≡ [] → found ≡ start ++ racing trace j both → IsByThread trace Both x both → HasFound trace x j found
-found_of_write trace x j both start found none one of_both = of_write both of_both (one ∙ ap (λ (ks : List ℕ). ks ++ racing trace j both) none)
-
-pub found_of_read : (trace : List Event) (x j : ℕ) (op : Op) (writes start found : List ℕ) → j < length trace → op_at trace j ≡ Some op → is_write op ≡ false → start ≡ [] → found ≡ start ++ racing trace j writes → IsByThread trace Writes x writes → HasFound trace x j found
-found_of_read trace x j op writes start found lt is_op reading none one of_writes = of_read writes of_writes (ap is_write (op_of_item trace j _ op lt is_op) ∙ reading) (one ∙ ap (λ (ks : List ℕ). ks ++ racing trace j writes) none)
+  pub compared_found : (found : List ℕ) → found ≡ racing trace j list → sorted found ≡ numbers_where (λ i. is_race trace i j) j
+  compared_found found is = ap sorted is ∙ sorted_same (sorted (racing trace j list)) (numbers_where (λ i. is_race trace i j) j) (sorted_rises (racing trace j list)) (numbers_rise (λ i. is_race trace i j) j)
+      (λ v. sorted_occurs v (racing trace j list) ∙ found_once v (cases_Bool (is_race trace v j)))
 
 -- accesses by thread are no more than events
 pub by_thread_few : (trace : List Event) (which : Which) (x : ℕ) (list : List ℕ) → IsByThread trace which x list → length list ≤ length trace

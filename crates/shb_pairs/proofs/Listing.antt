@@ -11,7 +11,7 @@ use Rattle.shb_lines.specs.events.Reach.{numbers_where, is_race}
 use Rattle.shb_lines.specs.events.Sizes.{IsNumberedByAccess}
 use Rattle.shb_lines.proofs.events.Reach.{numbers_listed, reflect_race, event_at_access}
 use Rattle.shb_pairs.specs.Accesses.{accesses_at, accesses_in, variables_in}
-use Rattle.shb_pairs.specs.Races.{races_with}
+use Rattle.shb_pairs.specs.Races.{PairBefore, races_with}
 use Rattle.shb_pairs.proofs.Counting.{access_from_test, test_from_access, variable_within, lower_accessed}
 use Rattle.shb_lines.proofs.events.RaceLists.{first_unique}
 use Rattle.shb_pairs.proofs.FlatMaps.{flat_map_parts, flat_map_contains, flat_map_ordered, map_parts, map_contains, map_ordered}
@@ -84,20 +84,26 @@ on_variable trace z p q at_p at_q order = λ x y f g of_x of_y first_x first_y.
     let same_y : y ≡ z = cc in
     inr (first_unique trace z f g (subst (λ (v : ℕ). FirstAccess trace v f) same_x first_x) (subst (λ (v : ℕ). FirstAccess trace v g) same_y first_y), order)
 
-with_ordered : (trace : List Event) (z j : ℕ) → variable_at trace j ≡ Some z → AllPairs (RaceBefore trace) (races_with trace j)
+-- the races of one later access stand by the earlier one
+with_rises : (trace : List Event) (j : ℕ) → AllPairs PairBefore (races_with trace j)
 unfolding races_with
-with_ordered trace z j accessed = map_ordered (RaceBefore trace) (λ i. (i, j)) (numbers_where (λ i. is_race trace i j) j) (λ a b d lt within. on_variable trace z _ _ accessed accessed (inr (refl, AllPairs-from_increasing (numbers_where (λ i. is_race trace i j) j) (numbers_listed (λ i. is_race trace i j) j).rising a b d lt within)))
+with_rises trace j = map_ordered PairBefore (λ i. (i, j)) (numbers_where (λ i. is_race trace i j) j)
+    (λ a b d lt within. inr (refl, AllPairs-from_increasing (numbers_where (λ i. is_race trace i j) j) (numbers_listed (λ i. is_race trace i j) j).rising a b d lt within))
 
-on_ordered : (trace : List Event) (x : ℕ) → AllPairs (RaceBefore trace) (races_on trace x)
-on_ordered trace x = flat_map_ordered (RaceBefore trace) (races_with trace) (accesses_in trace x)
-    (λ j c. with_ordered trace x j (access_member trace x j c))
+pub piece_rises : (trace : List Event) (ks : List ℕ) → AllPairs (λ (a b : ℕ). a < b) ks → AllPairs PairBefore (flat_map (races_with trace) ks)
+piece_rises trace ks rising = flat_map_ordered PairBefore (races_with trace) ks
+    (λ j c. with_rises trace j)
     (λ a b d lt within p q cp cq.
-    let first = access_member trace x (get_or (accesses_in trace x) a d) (Contains-get_or (accesses_in trace x) a d (omega arith)) in
-    let second = access_member trace x (get_or (accesses_in trace x) b d) (Contains-get_or (accesses_in trace x) b d within) in
     let later_p = (race_parts trace _ p cp).later in
     let later_q = (race_parts trace _ q cq).later in
-    let rising = AllPairs-from_increasing (accesses_in trace x) (numbers_listed (accesses_at trace x) (length trace)).rising a b d lt within in
-    on_variable trace x p q (rw later_p first) (rw later_q second) (inl (omega (arith, later_p, later_q, rising))))
+    let rise = rising a b d lt within in
+    inl (omega (arith, later_p, later_q, rise)))
+
+on_ordered : (trace : List Event) (x : ℕ) → AllPairs (RaceBefore trace) (races_on trace x)
+on_ordered trace x a b d lt within =
+    let at_a = races_on_parts trace x _ (Contains-get_or (races_on trace x) a d (omega arith)) in
+    let at_b = races_on_parts trace x _ (Contains-get_or (races_on trace x) b d within) in
+    on_variable trace x _ _ at_a.0 at_b.0 (piece_rises trace (accesses_in trace x) (AllPairs-from_increasing (accesses_in trace x) (numbers_listed (accesses_at trace x) (length trace)).rising) a b d lt within)
 
 pub all_ordered : (trace : List Event) → IsNumberedByAccess trace → AllPairs (RaceBefore trace) (all_races trace)
 all_ordered trace numbered = flat_map_ordered (RaceBefore trace) (races_on trace) (numbers_below (variables_in trace))

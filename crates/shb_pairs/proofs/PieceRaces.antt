@@ -136,24 +136,7 @@ piece_value a seen trace pieces k piece same of_trace is lt found =
     let own : piece ≡ piece_at (pieces_in seen) k = found ∙ ap (λ (ps : List Piece). piece_at ps k) (is ∙ ap (λ (b : OpenTrace). pieces_in b) same) in
     (subst (λ (tr : List Event). IsPieceOf tr a.flags piece) of_trace (subst (λ (b : OpenTrace). IsPieceOf b.trace b.flags piece) (sym same) (subst (IsPieceOf seen.trace seen.flags) (sym own) (piece_within seen k _ lt))), ap (λ (q : Piece). races_of seen.trace q) (sym own))
 
-pub piece_small : (trace : List Event) (flags : List Bool) (p : Piece) → IsPieceOf trace flags p → (p.from ≤ length trace) × (p.to ≤ length trace)
-piece_small trace flags p run =
-    let few = numbers_few (accesses_at trace p.variable) (length trace) in
-    let forward = run.forward in
-    let within = run.within in
-    (omega (arith, few, forward, within), omega (arith, few, within))
-
-pub races_value : (trace seen : List Event) (p : Piece) (found : List (ℕ × ℕ)) → trace ≡ seen → found ≡ flat_map (races_with trace) (slice_range (accesses_in trace p.variable) p.from p.to) → found ≡ races_of seen p
-unfolding races_of
-races_value trace seen p found same so = so ∙ ap (λ (tr : List Event). flat_map (races_with tr) (slice_range (accesses_in tr p.variable) p.from p.to)) same
-
 -- the races of a piece, by the accesses of its run
 pub piece_races : (a : OpenTrace) (k : ℕ) (p : Piece) → races_at a k ≡ races_of a.trace p → races_at a k ≡ flat_map (races_with a.trace) (slice_range (accesses_in a.trace p.variable) p.from p.to)
 unfolding races_of
 piece_races a k p is = is
-
--- the races of a run of one access
-pub one_access : (trace : List Event) (xs : List ℕ) (q : ℕ) → q < length xs → flat_map (races_with trace) (slice_range xs q (q + 1)) ≡ races_with trace (get_or xs q 0)
-one_access trace xs q lt =
-    let none : flat_map (races_with trace) (take (q - q) (drop q xs)) ≡ [] = sym (races_first trace xs [] q refl) in
-    races_more trace xs q q (omega arith) lt ∙ ap (λ (ps : List (ℕ × ℕ)). ps ++ races_with trace (get_or xs q 0)) none

@@ -9,7 +9,6 @@ use Rattle.shb_lines.specs.declared.event.Op.{Op}
 use Rattle.shb_lines.specs.declared.event.Op.TheVariants.{Read, Write}
 use Rattle.shb_lines.specs.events.Events.{op_at}
 use Rattle.shb_lines.specs.events.Race.{variable_at}
-use Rattle.shb_lines.specs.events.Reach.{is_race, numbers_where}
 use Rattle.shb_lines.specs.events.Tests.{is_write}
 use Rattle.shb_pairs.specs.declared.accesses.Which.{Which}
 use Rattle.shb_pairs.specs.declared.accesses.Which.TheVariants.{Both, Writes}
@@ -20,7 +19,7 @@ use Rattle.shb_pairs.specs.Ranges.{in_ranges, sorted}
 use Rattle.shb_pairs.specs.Search.{AreRivals, racing}
 use Rattle.shb_pairs.specs.Spans.{AreComparedWith, IsSpanOf, compared_with, in_spans}
 use Rattle.shb_pairs.proofs.Tails.{racing_more}
-use Rattle.shb_pairs.proofs.Found.{HasFound, accessed_within, both_are_rivals, found_all, found_of_read, found_of_write, range_by_thread, write_at, writes_are_rivals}
+use Rattle.shb_pairs.proofs.Found.{both_are_rivals, range_by_thread, write_at, writes_are_rivals}
 
 rivals_by_op : (trace : List Event) (j x : ℕ) (op : Op) (list : List ℕ) → variable_at trace j ≡ Some x → op_at trace j ≡ Some op → IsByThread trace (compared_with op) x list → AreRivals trace j list
 rivals_by_op trace j x (Write y) list accesses does h = both_are_rivals trace x j list accesses (write_at trace j x (Write y) does refl accesses) h
@@ -32,14 +31,6 @@ compared_rivals trace j list h = rivals_by_op trace j h.variable h.op list h.acc
 
 pub compared_range : (trace : List Event) (j : ℕ) (list : List ℕ) → AreComparedWith trace j list → All (λ k. k < length trace) list
 compared_range trace j list h = range_by_thread trace (compared_with h.op) h.variable list h.by_thread
-
-found_by_op : (trace : List Event) (j x : ℕ) (op : Op) (list found : List ℕ) → variable_at trace j ≡ Some x → op_at trace j ≡ Some op → IsByThread trace (compared_with op) x list → found ≡ racing trace j list → HasFound trace x j found
-found_by_op trace j x (Write y) list found accesses does h is = found_of_write trace x j list [] found refl is h
-found_by_op trace j x (Read y) list found accesses does h is = found_of_read trace x j (Read y) list [] found (accessed_within trace j x accesses) does refl refl is h
-found_by_op trace j x op list found accesses does h is = absurd (let f : ⊥ = cc in f)
-
-pub compared_found : (trace : List Event) (j : ℕ) (list found : List ℕ) → AreComparedWith trace j list → found ≡ racing trace j list → sorted found ≡ numbers_where (λ i. is_race trace i j) j
-compared_found trace j list found h is = found_all trace h.variable j h.accesses found (found_by_op trace j h.variable h.op list found h.accesses h.does h.by_thread is)
 
 -- a part of a part
 part_of_part : (start n a b : ℕ) (ks : List ℕ) → a ≤ b → b ≤ n → take ((start + b) - (start + a)) (drop (start + a) ks) ≡ take (b - a) (drop a (take n (drop start ks)))

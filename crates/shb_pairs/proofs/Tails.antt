@@ -2,8 +2,8 @@
 use Rattle.std.proofs.Common.{◌≡◌, ◌≢◌, ℕ, zero, suc, ◌+◌, ◌-◌, ◌<◌, ◌≤◌, inl, inr, Bool, true, false, List, [], ◌∷◌, ◌++◌, Some, length, get_or, drop, take, ltb, refl, arith, ap, subst, sym, ◌∙◌}
 use Rattle.std.specs.Prelude.{filter, ◌↔◌, All, AllPairs}
 use Rattle.std.proofs.Math.Seq.{take-add}
-use Rattle.std.specs.List.Sorted.{IsPartitionedBy}
-use Rattle.std.proofs.lemmas.Bool.{cases_Bool, cases_lt, lt-ltb}
+use Rattle.std.specs.List.Sorted.{IsPartitionPoint, IsPartitionedBy}
+use Rattle.std.proofs.lemmas.Bool.{cases_Bool, cases_lt, ltb-false, ltb-true}
 use Rattle.std.proofs.lemmas.List.{append-nil, append_assoc, drop-take, get_or-drop, get_or-take, get_or_default, length-drop, length-take-le, take-append-drop}
 use Rattle.std.proofs.lemmas.List.Sorted.{IsPartitionedBy-ltb}
 use Rattle.std.proofs.lemmas.List.Elements.{All-drop, All-take, filter-append}
@@ -158,12 +158,12 @@ own_thread_races trace j ks within h some same = filter_none (λ i. is_race trac
     race.conflict.other_thread (thread_key trace (get_or ks k 0) (h.in_range k 0 lt) ∙ (ap (λ (n : ℕ). Some n) (h.same_thread k lt ∙ same) ∙ sym (thread_key trace j within))))))
 
 -- what the search among the positions of another thread finds
-pub other_thread_races : (trace : List Event) (j n from to : ℕ) (ks : List ℕ) → j < length trace → AreRivals trace j ks → IsOfOneThread trace ks → 0 < length ks → (key_at trace Thread (get_or ks 0 0) ≡ key_at trace Thread j → ⊥) → IsBelowPredCount trace (key_at trace Thread (get_or ks 0 0)) j n → from ≤ to → to ≤ length ks → ((k : ℕ) → k < to → get_or ks k 0 < j) → ((k : ℕ) → to ≤ k → k < length ks → j ≤ get_or ks k 0) → ((t k : ℕ) → from ≤ k → k < to → thread_at trace (get_or ks k 0) ≡ Some t → n < local_time trace t (get_or ks k 0)) → ((t k : ℕ) → k + 1 ≡ from → thread_at trace (get_or ks k 0) ≡ Some t → local_time trace t (get_or ks k 0) ≤ n) → racing trace j ks ≡ take (to - from) (drop from ks)
-other_thread_races trace j n from to ks inside rivals h some other count le within before after above under =
+pub other_thread_races : (trace : List Event) (j n from to : ℕ) (ks : List ℕ) → j < length trace → AreRivals trace j ks → IsOfOneThread trace ks → 0 < length ks → (key_at trace Thread (get_or ks 0 0) ≡ key_at trace Thread j → ⊥) → IsBelowPredCount trace (key_at trace Thread (get_or ks 0 0)) j n → from ≤ to → to ≤ length ks → IsPartitionPoint (λ k. ltb k j ≡ true) (λ k. ltb k j ≡ false) ks to → ((t k : ℕ) → from ≤ k → k < to → thread_at trace (get_or ks k 0) ≡ Some t → n < local_time trace t (get_or ks k 0)) → ((t k : ℕ) → k + 1 ≡ from → thread_at trace (get_or ks k 0) ≡ Some t → local_time trace t (get_or ks k 0) ≤ n) → racing trace j ks ≡ take (to - from) (drop from ks)
+other_thread_races trace j n from to ks inside rivals h some other count le within point above under =
     filter_between (λ i. is_race trace i j) ks from to le within
     (λ k d lt here. rw (get_or_default ks k d 0 here) (not_racing trace (get_or ks k 0) j (λ race. let is_above = (rival_races trace thread j n (get_or ks k 0) count (is_rival k (omega arith))).0 race in let is_under = low k lt in omega (arith, is_above, is_under))))
     (λ k d low_k high_k. rw (get_or_default ks k d 0 (omega arith)) ((reflect_race trace (get_or ks k 0) j).1 ((rival_races trace thread j n (get_or ks k 0) count (is_rival k high_k)).1 (above thread k low_k high_k (of_thread k (omega arith))))))
-    (λ k d past here. rw (get_or_default ks k d 0 here) (not_racing trace (get_or ks k 0) j (λ race. let earlier = race.earlier in let later = after k past here in omega (arith, earlier, later))))
+    (λ k d past here. rw (get_or_default ks k d 0 here) (not_racing trace (get_or ks k 0) j (λ race. let earlier = race.earlier in let later = ltb-false _ _ (point.1 k 0 past here) in omega (arith, earlier, later))))
   where
     thread : ℕ
     thread = key_at trace Thread (get_or ks 0 0)
@@ -173,7 +173,7 @@ other_thread_races trace j n from to ks inside rivals h some other count le with
 
     is_rival : (k : ℕ) → k < to → IsRival trace thread j (get_or ks k 0)
     is_rival k lt = record {
-      earlier = before k lt;
+      earlier = ltb-true _ _ (point.0 k 0 (omega arith) lt);
       thread = of_thread k (omega arith);
       conflict = rival_conflicts trace j k ks rivals (omega arith) (λ same. other (let e : Some thread ≡ Some (key_at trace Thread j) = sym (of_thread k (omega arith)) ∙ (same ∙ thread_key trace j inside) in cc));
     }
@@ -192,9 +192,6 @@ other_thread_races trace j n from to ks inside rivals h some other count le with
 -- what a search by positions among rising positions finds
 pub rising_partitioned : (ks : List ℕ) (j : ℕ) → AllPairs (λ (a b : ℕ). a < b) ks → IsPartitionedBy (λ k. ltb k j) ks
 rising_partitioned ks j rising = IsPartitionedBy-ltb (λ (k : ℕ). k) ks j (λ a b d le lt. elim (cases_lt a b) [ inl less ↦ (let rise = rising a b d less lt in omega (arith, rise)) | inr past ↦ (let e : a ≡ b = omega arith in rw e (omega arith)) ])
-
-pub at_or_past : (k j : ℕ) → ltb k j ≡ false → j ≤ k
-at_or_past k j h = elim (cases_lt k j) [ inl lt ↦ absurd (let passes = lt-ltb k j lt in let f : ⊥ = cc in f) | inr le ↦ le ]
 
 -- what an order answers, of the trace that it orders
 pub count_seen : (trace ordered : List Event) (t u e n : ℕ) → ordered ≡ trace → t ≡ u → IsBelowPredCount ordered u e n → IsBelowPredCount trace t e n

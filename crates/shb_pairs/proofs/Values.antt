@@ -13,8 +13,8 @@ use Rattle.shb_clocks.specs.Open.{OpenTrace}
 use Rattle.shb_pairs.specs.Pieces.{pieces_in}
 use Rattle.shb_pairs.specs.Races.{AreRacesOfPiece, PairBefore, accesses_of_piece, piece_at, races_at, races_of, races_with}
 use Rattle.shb_pairs.proofs.ByThread.{listed_open}
-use Rattle.shb_pairs.proofs.Listing.{race_contained, race_parts}
-use Rattle.shb_pairs.proofs.FlatMaps.{flat_map_contains, flat_map_ordered, flat_map_parts, map_ordered}
+use Rattle.shb_pairs.proofs.Listing.{piece_rises, race_contained, race_parts}
+use Rattle.shb_pairs.proofs.FlatMaps.{flat_map_contains, flat_map_parts}
 use Rattle.shb_pairs.proofs.PieceRaces.{IsPieceOf, piece_within}
 
 part_length : (xs : List ℕ) (from to : ℕ) → from ≤ to → to ≤ length xs → length (slice_range xs from to) ≡ to - from
@@ -32,26 +32,11 @@ part_rises xs from to le within rising = λ a b d before inside.
     let rise = rising (from + a) (from + b) d (omega arith) (omega (arith, size)) in
     omega (arith, first, second, rise)
 
--- the races of one later access stand by the earlier one
-with_rises : (trace : List Event) (j : ℕ) → AllPairs PairBefore (races_with trace j)
-unfolding races_with
-with_rises trace j = map_ordered PairBefore (λ i. (i, j)) (numbers_where (λ i. is_race trace i j) j)
-    (λ a b d lt within. inr (refl, AllPairs-from_increasing (numbers_where (λ i. is_race trace i j) j) (numbers_listed (λ i. is_race trace i j) j).rising a b d lt within))
-
 piece_members : (trace : List Event) (ks : List ℕ) (p : ℕ × ℕ) → Contains (flat_map (races_with trace) ks) p → Race trace p.0 p.1 × Contains ks p.1
 piece_members trace ks p c =
     let there = flat_map_parts (races_with trace) ks p c in
     let parts = race_parts trace there.0 p there.2 in
     (parts.race, subst (λ (j : ℕ). Contains ks j) (sym parts.later) there.1)
-
-piece_rises : (trace : List Event) (ks : List ℕ) → AllPairs (λ (a b : ℕ). a < b) ks → AllPairs PairBefore (flat_map (races_with trace) ks)
-piece_rises trace ks rising = flat_map_ordered PairBefore (races_with trace) ks
-    (λ j c. with_rises trace j)
-    (λ a b d lt within p q cp cq.
-    let later_p = (race_parts trace _ p cp).later in
-    let later_q = (race_parts trace _ q cq).later in
-    let rise = rising a b d lt within in
-    inl (omega (arith, later_p, later_q, rise)))
 
 races_of_value : (a : OpenTrace) (p : Piece) → IsPieceOf a.trace a.flags p → AreRacesOfPiece a p (races_of a.trace p)
 unfolding races_of

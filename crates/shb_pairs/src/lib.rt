@@ -12,9 +12,9 @@
 //!
 //! The search for a later access j goes over the threads that write its variable (that access it,
 //! where j writes). In the accesses of a thread it finds where j stands, and back from there the first
-//! whose local time is above what the order answers: the races are the range between the two. It tries
-//! first what the last search of the variable found ([`Cursors`]), and else halves. So an access costs
-//! about one look-up of the order for each of these threads, whatever the number of its races.
+//! whose local time is above what the order answers: the races are the range between the two. So an
+//! access costs, for each of these threads, one look-up of the order and a few searches by halving,
+//! whatever the number of its races.
 #![tactic(auto)]
 
 mod accesses;
@@ -35,7 +35,6 @@ pub use job::{PairJob, RangeJob};
 pub use piece::{Piece, pieces};
 pub use race::is_race;
 pub use ranges::RaceRanges;
-pub use rivals::Cursors;
 pub use screen::open_variables;
 pub use search::Search;
 pub use spans::{Span, racing_spans};

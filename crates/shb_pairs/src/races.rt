@@ -6,7 +6,6 @@ ghost use Rattle.shb_pairs.specs.Accesses.{accesses_in};
 ghost use Rattle.shb_pairs.specs.Races.{joined, races_with};
 
 use crate::ranges::RaceRanges;
-use crate::rivals::Cursors;
 use crate::search::Search;
 use crate::spans::rivals_of;
 use shb_clocks::Order;
@@ -14,11 +13,10 @@ use shb_io::NoMemory;
 use std::alloc::Global;
 
 /// Adds the races of a later access with all accesses before it, found thread by thread.
-fn add_races<'a, O: Order>(
+pub(crate) fn add_races<'a, O: Order>(
     alloc: Global,
     races: &mut RaceRanges<'a>,
     search: &Search<'_, 'a, O>,
-    cursors: &mut Cursors,
     second: u32,
 ) -> Result<(), NoMemory>
     requires accessed { variable_at search.now.ordered.now.disciplined.now.events.now second ≡ Some search.now.variable }
@@ -26,7 +24,7 @@ fn add_races<'a, O: Order>(
     ensures { IfOk result (λ _. joined races.new ≡ joined races.old
         ++ races_with search.now.ordered.now.disciplined.now.events.now second) }
 {
-    let ranges = rivals_of(alloc, search, cursors, second)?;
+    let ranges = rivals_of(alloc, search, second)?;
     races.add(second, ranges)
 }
 
@@ -46,9 +44,8 @@ pub(crate) fn races_in<'a, O: Order>(
 {
     let accesses = search.in_order();
     let mut races = RaceRanges::new(alloc);
-    let mut cursors = Cursors::new(alloc);
     for index in from..to {
-        add_races(alloc, &mut races, search, &mut cursors, accesses[index])?;
+        add_races(alloc, &mut races, search, accesses[index])?;
     }
     Ok(races)
 }

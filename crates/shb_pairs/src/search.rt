@@ -1,7 +1,7 @@
 //! What the search for the races of one variable goes by.
 
-ghost use Rattle.std.specs.Prelude.{◌≡◌, ◌<◌, true, IfOk, length, map, slice_index_or};
-ghost use Rattle.shb_lines.specs.events.Race.{ends};
+ghost use Rattle.std.specs.Prelude.{◌≡◌, ◌<◌, true, Some, IfOk, map};
+ghost use Rattle.shb_lines.specs.events.Race.{ends, variable_at};
 ghost use Rattle.shb_pairs.specs.Accesses.{IsByThread, accesses_in, variables_in};
 ghost use Rattle.shb_clocks.specs.Open.{is_open};
 ghost use Rattle.shb_pairs.specs.Open.{AsksOpen};
@@ -9,7 +9,8 @@ ghost use Rattle.shb_pairs.specs.Races.{races_with};
 ghost use Rattle.shb_pairs.specs.declared.accesses.Which.TheVariants.{Both, Writes};
 
 use crate::accesses::Accesses;
-use crate::races::races_in;
+use crate::races::add_races;
+use crate::ranges::RaceRanges;
 use shb_clocks::{Order, Ordered};
 use shb_io::NoMemory;
 use shb_lines::Pair;
@@ -54,17 +55,17 @@ impl<'s, 'a, O: Order> Search<'s, 'a, O> {
         self.accesses.writes_by_thread(self.variable)
     }
 
-    /// The races whose later access has this index among the accesses in trace order, by the earlier access.
+    /// The races of a later access of the variable, by the earlier access.
     ///
     /// # Errors
     ///
     /// `NoMemory` where a growth was refused.
-    pub fn races_at(&self, alloc: Global, index: usize) -> Result<Vec<Pair>, NoMemory>
-        requires { index < length (accesses_in self.now.ordered.now.disciplined.now.events.now self.now.variable) }
-        ensures { IfOk result (λ v. map ends v.items ≡ races_with self.now.ordered.now.disciplined.now.events.now
-            (slice_index_or (accesses_in self.now.ordered.now.disciplined.now.events.now self.now.variable) index 0)) }
+    pub fn races_of(&self, alloc: Global, second: u32) -> Result<Vec<Pair>, NoMemory>
+        requires { variable_at self.now.ordered.now.disciplined.now.events.now second ≡ Some self.now.variable }
+        ensures { IfOk result (λ v. map ends v.items ≡ races_with self.now.ordered.now.disciplined.now.events.now second) }
     {
-        let races = races_in(alloc, self, index, index + 1)?;
+        let mut races = RaceRanges::new(alloc);
+        add_races(alloc, &mut races, self, second)?;
         races.expanded(alloc)
     }
 }

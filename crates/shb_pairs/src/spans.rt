@@ -1,16 +1,14 @@
 //! The accesses that race with a later one, as spans of the accesses by thread, found thread by thread.
 
-ghost use Rattle.std.specs.Prelude.{◌≡◌, ◌++◌, ◌<◌, ◌≤◌, ℕ, List, true, Some, All, AllPairs, IfOk, OnOk, length, slice_range};
+ghost use Rattle.std.specs.Prelude.{◌≡◌, ◌++◌, ◌≤◌, ℕ, List, true, Some, All, IfOk, OnOk, length, slice_range};
 ghost use Rattle.shb_lines.specs.events.Race.{variable_at};
 ghost use Rattle.shb_lines.specs.events.Reach.{is_race, numbers_where};
-ghost use Rattle.shb_pairs.specs.Accesses.{IsBeforeByThread};
 ghost use Rattle.shb_pairs.specs.Ranges.{in_ranges, sorted};
-ghost use Rattle.shb_pairs.specs.Search.{AreRivals, racing};
 ghost use Rattle.shb_pairs.specs.Spans.{AreComparedWith, IsSpanOf, in_spans};
 
 use crate::buckets::part;
 use crate::ranges::Range;
-use crate::rivals::{Cursor, Cursors, reach, tail_of, thread_end};
+use crate::rivals::{tail_of, thread_end};
 use crate::search::Search;
 use shb_clocks::{Order, Ordered};
 use shb_io::NoMemory;
@@ -40,50 +38,12 @@ fn add_span(found: &mut Vec<Span>, span: Span) -> Result<(), NoMemory>
     Ok(())
 }
 
-/// The spans of those positions, by thread, that race with a later access. What `found` had is lost.
-fn spans_of<O: Order>(
-    ordered: &Ordered<'_, O>,
-    positions: &[u32],
-    cursors: &mut Vec<Cursor>,
-    second: u32,
-    found: &mut Vec<Span>,
-) -> Result<(), NoMemory>
-    requires in_range { second < length ordered.now.disciplined.now.events.now }
-    requires asked { O.asks ordered.now.order.now second ≡ true }
-    requires rivals { AreRivals ordered.now.disciplined.now.events.now second positions.now }
-    requires each_in_range { All (λ k. k < length ordered.now.disciplined.now.events.now) positions.now }
-    requires sorted { AllPairs (IsBeforeByThread ordered.now.disciplined.now.events.now) positions.now }
-    ensures races { OnOk result (in_spans positions.now found.new.items
-        ≡ racing ordered.now.disciplined.now.events.now second positions.now) }
-    ensures within { OnOk result (All (IsSpanOf (length positions.now)) found.new.items) }
-{
-    found.clear();
-    let mut start = 0;
-    let mut number = 0;
-    while start < positions.len() {
-        reach(cursors, number)?;
-        let cursor = &mut cursors[number];
-        let end = thread_end(ordered.disciplined.events, positions, start, cursor.end);
-        cursor.end = end;
-        let tail = tail_of(ordered, part(positions, start, end), cursor, second);
-        let span = Span {
-            from: start + tail.from,
-            to: start + tail.to,
-        };
-        add_span(found, span)?;
-        start = end;
-        number += 1;
-    }
-    Ok(())
-}
-
 /// The accesses that race with a later access, as spans of the list of all that it can conflict with: of
 /// its variable's writes by thread, or of all accesses by thread where it writes itself. A span for each
 /// thread in the list that has such accesses. What `found` had is lost; after `NoMemory` nothing is known
 /// of it. The order can be asked about the later access.
 ///
-/// The cursors are those of earlier searches for this variable. Where later accesses are asked about in
-/// trace order, a thread costs a few steps.
+/// A thread costs a look-up of the order and three searches by halving.
 ///
 /// # Errors
 ///
@@ -91,7 +51,6 @@ fn spans_of<O: Order>(
 pub fn racing_spans<O: Order>(
     ordered: &Ordered<'_, O>,
     positions: &[u32],
-    cursors: &mut Cursors,
     second: u32,
     found: &mut Vec<Span>,
 ) -> Result<(), NoMemory>
@@ -101,11 +60,19 @@ pub fn racing_spans<O: Order>(
         ≡ numbers_where (λ i. is_race ordered.now.disciplined.now.events.now i second) second) }
     ensures within { OnOk result (All (IsSpanOf (length positions.now)) found.new.items) }
 {
-    if ordered.disciplined.events.op(second).is_write() {
-        spans_of(ordered, positions, &mut cursors.both, second, found)
-    } else {
-        spans_of(ordered, positions, &mut cursors.writes, second, found)
+    found.clear();
+    let mut start = 0;
+    while start < positions.len() {
+        let end = thread_end(ordered.disciplined.events, positions, start);
+        let tail = tail_of(ordered, part(positions, start, end), second);
+        let span = Span {
+            from: start + tail.from,
+            to: start + tail.to,
+        };
+        add_span(found, span)?;
+        start = end;
     }
+    Ok(())
 }
 
 /// The accesses by thread that an access of the variable of a search can conflict with.
@@ -136,11 +103,10 @@ fn parts_of<'p>(alloc: Global, list: &'p [u32], spans: &[Span]) -> Result<Vec<Ra
 }
 
 /// The accesses that race with a later access of the variable of a search, as ranges: one for each thread
-/// that has any. The cursors are those of earlier searches for this variable.
+/// that has any.
 pub(crate) fn rivals_of<'a, O: Order>(
     alloc: Global,
     search: &Search<'_, 'a, O>,
-    cursors: &mut Cursors,
     second: u32,
 ) -> Result<Vec<Range<'a>>, NoMemory>
     requires accessed { variable_at search.now.ordered.now.disciplined.now.events.now second ≡ Some search.now.variable }
@@ -149,6 +115,6 @@ pub(crate) fn rivals_of<'a, O: Order>(
 {
     let accesses = compared_with(search, second);
     let mut spans = Vec::new(alloc);
-    racing_spans(search.ordered, accesses, cursors, second, &mut spans)?;
+    racing_spans(search.ordered, accesses, second, &mut spans)?;
     parts_of(alloc, accesses, &spans)
 }

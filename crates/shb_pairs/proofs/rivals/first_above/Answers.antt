@@ -1,6 +1,6 @@
 use Rattle.std.proofs.Common.{◌+◌, ◌-◌, ◌/◌, ℕ, arith}
 use Rattle.shb_pairs.proofs.Tails.{later_above}
-use Rattle.shb_pairs.proofs.rivals.halved_start.Goals as goal
+use Rattle.shb_pairs.proofs.rivals.first_above.Goals as goal
 
 pub loop-start-preserved : goal.loop-start-preserved
 loop-start-preserved c =
