@@ -30,8 +30,7 @@ pub take_push : {A : Type 0} (xs : List A) (k : ℕ) (x : A) → slice_get xs k 
 take_push xs k x at = take_more xs k x (slice_get_within xs k x at) ∙ ap (λ y. take k xs ++ y ∷ []) (get_or_from_slice_get xs k x x at)
 
 pub take_mapped : (f : ℕ → ℕ) (most m index : ℕ) (numbers first items : List ℕ) → m ≡ min most (length numbers) → first ≡ take m numbers → items ≡ map f (take index first) → length first ≤ index → items ≡ take most (map f numbers)
-take_mapped f most m index numbers first items m_is first_is items_are whole =
-    items_are ∙ ap (map f) (take_all index first whole ∙ first_is ∙ ap (λ n. take n numbers) m_is ∙ take_min most numbers) ∙ sym (take-map f most numbers)
+take_mapped f most m index numbers first items m_is first_is items_are whole = items_are ∙ ap (map f) (take_all index first whole ∙ first_is ∙ ap (λ n. take n numbers) m_is ∙ take_min most numbers) ∙ sym (take-map f most numbers)
 
 pub in_range : (n : ℕ) (s : List ℕ) → ((a : ℕ) → Contains s a → a < n) → AllByRecursion (λ a. a < n) s
 in_range n s h = each_of (λ a. a < n) s (λ k a at. h a (contains_at s k a at))
@@ -59,8 +58,7 @@ position_back count a low =
 
 numbers_forth : (count : ℕ) (s : List ℕ) → AllByRecursion (λ a. a < count) s → map (position_of count) (map (λ e. e + 1) s) ≡ s
 numbers_forth count [] h = refl
-numbers_forth count (a ∷ s) h =
-    ap (λ b. b ∷ map (position_of count) (map (λ e. e + 1) s)) (position_back count a h.0) ∙ ap (λ rest. a ∷ rest) (numbers_forth count s h.1)
+numbers_forth count (a ∷ s) h = ap (λ b. b ∷ map (position_of count) (map (λ e. e + 1) s)) (position_back count a h.0) ∙ ap (λ rest. a ∷ rest) (numbers_forth count s h.1)
 
 -- a block whose pair is good, with a schedule of the pair
 pub good_by : (trace : TraceData) (block : Block) (events : List Event) (s : List ℕ) (pair : Pair) → events ≡ trace.events → s ≡ first_positions trace block.schedule → pair ≡ pair_in block
@@ -88,10 +86,6 @@ good_by trace block events s pair events_are s_is pair_is good schedule =
       numbers = numbers_back (length trace.events) block.schedule (in_range (length trace.events) (positions_of trace block.schedule) of_pair.reordering.positions.in_range);
       schedule = of_pair;
     }
-
--- one good block more
-pub good_more : (trace : TraceData) (blocks : List Block) (k : ℕ) (block : Block) → slice_get blocks k ≡ Some block → AllByRecursion (IsGoodBlock trace) (take k blocks) → IsGoodBlock trace block → AllByRecursion (IsGoodBlock trace) (take (k + 1) blocks)
-good_more trace blocks k block at before good = subst (AllByRecursion (IsGoodBlock trace)) (sym (take_push blocks k block at)) (each-push (IsGoodBlock trace) (take k blocks) block before good)
 
 -- a block whose pair is good has no lower fault than that of its schedule
 pub broken_lowest : (trace : TraceData) (block : Block) (events : List Event) (s : List ℕ) (pair : Pair) (broken : Broken) → events ≡ trace.events → s ≡ first_positions trace block.schedule → pair ≡ pair_in block

@@ -70,13 +70,3 @@ module _ (trace : TraceData) (blocks : List Block) (block : Block) where
         pairs_in = subst (All (IsPairOf trace)) (sym same) h.pairs_in;
         found = subst (AreFound trace (blocks ++ block ∷ []) new.pairs.items) (sym is) first;
       }
-
-  -- a good block
-  pub one_good : (old new : JudgedBlocks) (pair : Pair) → old.bad ≡ None → new.bad ≡ old.bad → new.pairs.items ≡ old.pairs.items ++ pair ∷ [] → pair ≡ pair_in block
-      → IsGoodBlock trace block → AreJudged trace blocks old → AreJudged trace (blocks ++ block ∷ []) new
-  one_good old new pair none kept pushed pair_is good h =
-      let found : AreFound trace blocks old.pairs.items None = subst (AreFound trace blocks old.pairs.items) none h.found in record {
-        pairs_in = subst (All (IsPairOf trace)) (sym pushed) (All-push (IsPairOf trace) old.pairs.items pair h.pairs_in (good_pair trace block pair pair_is good));
-        found = subst (AreFound trace (blocks ++ block ∷ []) new.pairs.items) (sym (kept ∙ none))
-            (each-push (IsGoodBlock trace) blocks block found.0 good, pushed ∙ ap (λ l. l ++ pair ∷ []) found.1 ∙ ap (λ p. map pair_in blocks ++ p ∷ []) pair_is ∙ sym (map_push pair_in blocks block));
-      }

@@ -1,4 +1,3 @@
-mod Increasing
 mod LongSchedules
 pub mod GoodBlocks
 mod GoodRaces

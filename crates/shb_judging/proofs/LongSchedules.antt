@@ -60,8 +60,7 @@ reason_same trace s r n alike p e le whys.NoSuchEvent h = h
 reason_same trace s r n alike p e le whys.Repeated h = stands_same s r n alike p e le h
 reason_same trace s r n alike p e le whys.ThreadOrder (a, before, absent) = (a, before, λ stands. absent (stands_same r s n (turned s r n alike) p a le stands))
 reason_same trace s r n alike p e le whys.ForkMissing (f, fork, absent) = (f, fork, λ stands. absent (stands_same r s n (turned s r n alike) p f le stands))
-reason_same trace s r n alike p e le whys.JoinEarly (inl (a, h)) =
-    inl (a, record { thread = h.thread; joins = h.joins; of = h.of; absent = λ stands. h.absent (stands_same r s n (turned s r n alike) p a le stands) })
+reason_same trace s r n alike p e le whys.JoinEarly (inl (a, h)) = inl (a, record { thread = h.thread; joins = h.joins; of = h.of; absent = λ stands. h.absent (stands_same r s n (turned s r n alike) p a le stands) })
 reason_same trace s r n alike p e le whys.JoinEarly (inr (j, h)) = inr (j, record { thread = h.thread; forks = h.forks; joins = h.joins; stands = stands_same s r n alike p j le h.stands })
 reason_same trace s r n alike p e le whys.LockOrder (b, h) =
     (b, record { lock = h.lock; acquires = h.acquires; releases = h.releases; earlier = h.earlier; absent = λ stands. h.absent (stands_same r s n (turned s r n alike) p b le stands) })
@@ -101,7 +100,7 @@ distinct_by (x ∷ s) once = (
   distinct_by s (λ p q a lt at_p at_q. once (suc p) (suc q) a (omega (arith, lt)) at_p at_q),
 )
 
-few_different : (n : ℕ) (s : List ℕ) → ((a : ℕ) → Contains s a → a < n) → ((p q a : ℕ) → p < q → slice_get s p ≡ Some a → slice_get s q ≡ Some a → ⊥) → length s ≤ n
+pub few_different : (n : ℕ) (s : List ℕ) → ((a : ℕ) → Contains s a → a < n) → ((p q a : ℕ) → p < q → slice_get s p ≡ Some a → slice_get s q ≡ Some a → ⊥) → length s ≤ n
 few_different n s low once = length-le_from_distinct_below s n (distinct_by s once) (λ q any. low q (Contains-from_any (λ x y same. eqb-true x y same) q s any))
 
 -- so a list without a reason is no longer than the trace

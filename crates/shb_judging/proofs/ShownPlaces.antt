@@ -15,8 +15,7 @@ use Rattle.shb_judging.specs.Verdicts.{IsGoodBlock, pair_in}
 -- a list of values of a list
 module _ {A B : Type 0} (f : A → B) (xs : List A) (q : ℕ) (d : A) (within : q < length xs) where
   next_mapped : take (q + 1) (map f xs) ≡ take q (map f xs) ++ f (get_or xs q d) ∷ []
-  next_mapped =
-      take-map f (q + 1) xs ∙ ap (map f) (take_more xs q d within) ∙ map_push f (take q xs) (get_or xs q d) ∙ ap (λ front. front ++ f (get_or xs q d) ∷ []) (sym (take-map f q xs))
+  next_mapped = take-map f (q + 1) xs ∙ ap (map f) (take_more xs q d within) ∙ map_push f (take q xs) (get_or xs q d) ∙ ap (λ front. front ++ f (get_or xs q d) ∷ []) (sym (take-map f q xs))
 
   at_mapped : slice_get (map f xs) q ≡ Some (f (get_or xs q d))
   at_mapped = slice_get-map f xs q ∙ ap (option_map f) (slice_get-get_or xs q d within)
@@ -34,8 +33,7 @@ module _ (trace : TraceData) (text : List ℕ) (entries : List PlaceEntry) (coun
 
   -- where all are, each is
   pub each_place : listed ≡ shown_places trace counts → place_in_text text (get_or entries q e) ≡ shown_place trace (get_or counts q d)
-  each_place same =
-      one_of_some _ _ (sym (at_mapped (place_in_text text) entries q e low) ∙ ap (λ (l : List Place). slice_get l q) (sym listed_is ∙ same) ∙ at_mapped (shown_place trace) counts q d within)
+  each_place same = one_of_some _ _ (sym (at_mapped (place_in_text text) entries q e low) ∙ ap (λ (l : List Place). slice_get l q) (sym listed_is ∙ same) ∙ at_mapped (shown_place trace) counts q d within)
 
 pub good_pair : (trace : TraceData) (block : Block) (pair : Pair) → pair ≡ pair_in block → IsGoodBlock trace block → IsPairOf trace pair
 good_pair trace block pair is good =

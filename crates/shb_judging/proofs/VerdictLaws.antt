@@ -77,8 +77,7 @@ in_front (y ∷ xs) (suc n) (suc k) x low at = in_front xs n k x (omega (arith, 
 module _ (trace : TraceData) (disciplined : IsDisciplined trace.events) (report : ReportValue) where
   -- no first bad block stands before another
   not_before : (race other : ℕ) (why whyOther : RaceFault) (h : IsFirstBadBlock trace report.blocks race why) (g : IsFirstBadBlock trace report.blocks other whyOther) → h.before < g.before → ⊥
-  not_before race other why whyOther h g low =
-      good_has_none trace disciplined h.block (each_at _ (take g.before report.blocks) h.before h.block (in_front report.blocks g.before h.before h.block low h.there) g.good) why h.fault.0
+  not_before race other why whyOther h g low = good_has_none trace disciplined h.block (each_at _ (take g.before report.blocks) h.before h.block (in_front report.blocks g.before h.before h.block low h.there) g.good) why h.fault.0
 
   one_bad_block : (race other : ℕ) (why whyOther : RaceFault) → IsFirstBadBlock trace report.blocks race why → IsFirstBadBlock trace report.blocks other whyOther → BadRace race why ≡ BadRace other whyOther
   one_bad_block race other why whyOther h g =

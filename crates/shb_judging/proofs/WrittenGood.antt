@@ -23,7 +23,7 @@ use Rattle.shb_judging.specs.Verdicts.{IsGoodBlock, IsGoodReport, IsVerdict, pai
 use Rattle.shb_report.specs.Written.{IsShowable, block_of, written_report}
 use Rattle.shb_report.proofs.EachLemmas.{each_at}
 use Rattle.shb_judging.proofs.GoodBlocks.{in_range}
-use Rattle.shb_judging.proofs.Increasing.{increasing_few}
+use Rattle.shb_judging.proofs.LongSchedules.{few_different}
 use Rattle.shb_report.proofs.PlaceLemmas.{with_pair_few}
 use Rattle.shb_report.proofs.WrittenText.{written_is}
 
@@ -36,8 +36,7 @@ IsRace trace race = Race trace.events race.pair.0 race.pair.1
 -- each race that is shown is a race
 are_races : (trace : TraceData) (shown : List ShownRace) → ((i j : ℕ) → Contains (pairs_of shown) (i, j) → Race trace.events i j) → AllByRecursion (IsRace trace) shown
 are_races trace [] all = tt
-are_races trace (race ∷ shown) all =
-    (all race.pair.0 race.pair.1 (zero, omega arith, refl), are_races trace shown (λ i j c. all i j (suc c.0, (let lt = c.1 in omega arith), c.2)))
+are_races trace (race ∷ shown) all = (all race.pair.0 race.pair.1 (zero, omega arith, refl), are_races trace shown (λ i j c. all i j (suc c.0, (let lt = c.1 in omega arith), c.2)))
 
 race_within : (trace : TraceData) (i j : ℕ) → Race trace.events i j → j < length trace.events
 race_within trace i j race =
@@ -76,8 +75,7 @@ good_block trace race disciplined is h =
 good_blocks : (trace : TraceData) (shown : List ShownRace) → IsDisciplined trace.events → AllByRecursion (IsRace trace) shown → All (HasSchedule true trace) shown
     → AllByRecursion (IsGoodBlock trace) (map (block_of trace) shown)
 good_blocks trace [] disciplined are h = tt
-good_blocks trace (race ∷ shown) disciplined are h =
-    (good_block trace race disciplined are.0 (All-head (HasSchedule true trace) race shown h), good_blocks trace shown disciplined are.1 (All-tail (HasSchedule true trace) race shown h))
+good_blocks trace (race ∷ shown) disciplined are h = (good_block trace race disciplined are.0 (All-head (HasSchedule true trace) race shown h), good_blocks trace shown disciplined are.1 (All-tail (HasSchedule true trace) race shown h))
 
 -- the pairs of the blocks are those of the races
 same_pairs : (trace : TraceData) (shown : List ShownRace) → map pair_of (pairs_of shown) ≡ map pair_in (map (block_of trace) shown)
@@ -130,7 +128,7 @@ block_in_grammar trace race disciplined showable is h =
     let second = race_within trace race.pair.0 race.pair.1 is in
     let members = shown.3.reordering.positions.in_range in
     let numbers : map (λ event. event + 1) (unwrap_or race.schedule []) ≡ map (λ event. event + 1) s = ap (λ schedule. map (λ event. event + 1) (unwrap_or schedule [])) shown.1 in
-    let most : length s ≤ n = increasing_few s n shown.2.in_order members in
+    let most : length s ≤ n = few_different n s members (λ p q a lt first second. shown.3.reordering.positions.distinct a (record { index = p; later_index = q; before = lt; first = first; second = second })) in
     record {
       first = omega (arith, second, earlier, few);
       second = omega (arith, second, few);

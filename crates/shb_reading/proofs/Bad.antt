@@ -25,8 +25,7 @@ takes_less (form ∷ forms) bytes (suc k) (suc n) left rest h few =
 takes_past : (forms : List Form) (bytes : List ℕ) (n : ℕ) (left l : List Form) (rest r : List ℕ) → Takes forms bytes n left rest → Takes forms bytes (suc n) l r → Takes left rest (suc zero) l r
 takes_past forms bytes zero left l rest r h g = subst (λ f. Takes f rest (suc zero) l r) h.0 (subst (λ b. Takes forms b (suc zero) l r) h.1 g)
 takes_past [] bytes (suc n) left l rest r h g = absurd h
-takes_past (form ∷ forms) bytes (suc n) left l rest r h g =
-    takes_past (h.1 ++ forms) h.2 n left l rest r h.4 (after form forms bytes h.0 h.1 h.2 (suc n) l r h.3 g)
+takes_past (form ∷ forms) bytes (suc n) left l rest r h g = takes_past (h.1 ++ forms) h.2 n left l rest r h.4 (after form forms bytes h.0 h.1 h.2 (suc n) l r h.3 g)
 
 abbrev all_forms : List Form
 all_forms = Version ∷ (End ∷ [])
@@ -89,8 +88,7 @@ pub bad_long : (limit : ℕ) (text seen : List ℕ) (n : ℕ) → seen ≡ take 
 bad_long limit text seen n same b = bad_line limit text n (subst (λ s. IsBadFrom all_forms 0 s n) same b)
 
 pub bad_end : (limit : ℕ) (text seen : List ℕ) (report : ReportValue) (lines : ℕ) → limit < length text → seen ≡ take limit text → IsTextOf seen report lines → IsBadLine limit text (lines + 1)
-bad_end limit text seen report lines long same h =
-    subst (λ n. IsBadLine limit text (n + 1)) (sym h.lines_are) (bad_after_limit limit text report h.in_grammar (sym same ∙ h.text_is) long)
+bad_end limit text seen report lines long same h = subst (λ n. IsBadLine limit text (n + 1)) (sym h.lines_are) (bad_after_limit limit text report h.in_grammar (sym same ∙ h.text_is) long)
 
 -- what was taken of a source has the first bad line of all that it tells
 

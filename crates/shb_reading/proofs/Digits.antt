@@ -6,12 +6,12 @@ use Rattle.std.specs.List.{list_all}
 use Rattle.std.specs.Char.{is_ascii_digit, digit_value}
 use Rattle.std.specs.Str.Parse.{digits_value, digits_value_after}
 use Rattle.std.proofs.lemmas.List.{append_cancel_left, take_more}
-use Rattle.std.proofs.lemmas.List.Folds.{list_all_at, list_all_more}
+use Rattle.std.proofs.lemmas.List.Folds.{list_all_at}
 use Rattle.std.proofs.lemmas.Str.{digit_value_digit}
 use Rattle.std.proofs.lemmas.Str.Parse.{IsDigitsTest, IsNumeralModel, digits_value-take-le, numerals_by_value}
 use Rattle.std.proofs.lemmas.Fmt.{decimal_is_IsNumeral, decimal-digits_value, first_decimal, decimal_digit}
 use Rattle.shb_reading.specs.Labels.{EndsNumber, IsLabelled}
-use Rattle.shb_reading.proofs.Fronts.{both_true, decimal_digits, digit_range, same_front}
+use Rattle.shb_reading.proofs.Fronts.{decimal_digits, digit_range, same_front}
 
 -- a digit more
 
@@ -37,9 +37,6 @@ value_more ds i h within =
 
 pub value_front : (ds : List ℕ) (i value : ℕ) → list_all is_ascii_digit ds ≡ true → i < length ds → value ≡ digits_value 10 (take i ds) → value * 10 + (get_or ds i 0 - 48) ≤ digits_value 10 ds
 value_front ds i value h within is = omega (arith, is, value_more ds i h within, digits_value-take-le 10 ds (i + 1) (omega arith))
-
-pub digits_more : (text : List ℕ) (i : ℕ) → list_all is_ascii_digit (take i text) ≡ true → i < length text → is_ascii_digit (get_or text i 0) ≡ true → list_all is_ascii_digit (take (i + 1) text) ≡ true
-digits_more text i h within digit = list_all_more is_ascii_digit text i 0 within ∙ both_true _ _ h digit
 
 -- the number at the front of a text
 
@@ -83,8 +80,7 @@ pub labelled_is : (label text after : List ℕ) (n : ℕ) (rest : List ℕ) → 
 labelled_is label text after n rest whole h = record { text_is = whole ∙ ap (λ b. label ++ b) h.text_is; ends = h.ends }
 
 pub unlabelled : (label text after : List ℕ) → text ≡ label ++ after → ((n : ℕ) (rest : List ℕ) → n < 2 ^ 64 → IsLabelled [] after n rest → ⊥) → (n : ℕ) (rest : List ℕ) → n < 2 ^ 64 → IsLabelled label text n rest → ⊥
-unlabelled label text after whole unlike n rest small h =
-    unlike n rest small (record { text_is = append_cancel_left label after (decimal n ++ rest) (sym whole ∙ h.text_is); ends = h.ends })
+unlabelled label text after whole unlike n rest small h = unlike n rest small (record { text_is = append_cancel_left label after (decimal n ++ rest) (sym whole ∙ h.text_is); ends = h.ends })
 
 pub labelled_by : (label text after : List ℕ) (found : Option (ℕ × Bor (List ℕ))) → text ≡ label ++ after
     → MatchOption found ((n : ℕ) (rest : List ℕ) → n < 2 ^ 64 → IsLabelled [] after n rest → ⊥) (λ r. (r.0 < 2 ^ 64) × IsLabelled [] after r.0 r.1.now)

@@ -48,9 +48,6 @@ pub list_all-weaker : (p q : ℕ → Bool) (xs : List ℕ) → ((x : ℕ) → p 
 list_all-weaker p q [] weaker h = refl
 list_all-weaker p q (x ∷ xs) weaker h = both_true (q x) (list_all q xs) (weaker x (first_true (p x) (list_all p xs) h)) (list_all-weaker p q xs weaker (second_true (p x) (list_all p xs) h))
 
-pub digit_test : (c : ℕ) → 48 ≤ c → c ≤ 57 → is_ascii_digit c ≡ true
-digit_test c low high = grind (arith, nat_tests)
-
 pub digit_range : (c : ℕ) → is_ascii_digit c ≡ true → (48 ≤ c) × (c ≤ 57)
 digit_range c h = (grind (arith, nat_tests), grind (arith, nat_tests))
 
@@ -82,8 +79,7 @@ same_number m n r s p q h g e =
 
 -- what stands at the front of a text as a label and a number
 pub same_labelled : (label text : List ℕ) (m n : ℕ) (r s : List ℕ) → m < 2 ^ 64 → n < 2 ^ 64 → IsLabelled label text m r → IsLabelled label text n s → (m ≡ n) × (r ≡ s)
-same_labelled label text m n r s p q h g =
-    same_number m n r s p q h.ends g.ends (append_cancel_left label (decimal m ++ r) (decimal n ++ s) (sym h.text_is ∙ g.text_is))
+same_labelled label text m n r s p q h g = same_number m n r s p q h.ends g.ends (append_cancel_left label (decimal m ++ r) (decimal n ++ s) (sym h.text_is ∙ g.text_is))
 
 -- a label and a number that are all of a text
 pub same_ending : (label : List ℕ) (m n : ℕ) → m < 2 ^ 64 → n < 2 ^ 64 → label ++ decimal m ≡ label ++ decimal n → m ≡ n

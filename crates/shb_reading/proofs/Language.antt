@@ -12,6 +12,10 @@ AreLines forms [] = forms ≡ []
 AreLines [] (line ∷ lines) = ⊥
 AreLines (form ∷ forms) (line ∷ lines) = HasNoLineFeed line × ((added : List Form) × HasForm form line added × AreLines (added ++ forms) lines)
 
+-- a line of a form before lines of the forms that are then expected
+pub line_then : (form : Form) (forms : List Form) (line : List ℕ) (added : List Form) (lines : List (List ℕ)) → HasNoLineFeed line → HasForm form line added → AreLines (added ++ forms) lines → AreLines (form ∷ forms) (line ∷ lines)
+line_then form forms line added lines free has later = (free, (added, has, later))
+
 -- from lines to what is taken
 
 pub takes_front : (forms : List Form) (lines : List (List ℕ)) (n : ℕ) (rest : List ℕ) → AreLines forms lines → n ≤ length lines → (left : List Form) × Takes forms (lines_text (take n lines) ++ rest) n left rest

@@ -44,14 +44,9 @@ feed : (line rest : List ℕ) → HasNoLineFeed (line ++ (10 ∷ rest)) → ⊥
 feed [] rest h = absurd (cc)
 feed (b ∷ line) rest h = feed line rest (second_true _ _ h)
 
--- where the bytes have no line feed, no line stands at the front
-pub lacks_whole : (form : Form) (bytes : List ℕ) → HasNoLineFeed bytes → Lacks form bytes
-lacks_whole form bytes h line added rest t = feed line rest (subst HasNoLineFeed t.bytes_are h)
-
 -- where another line stands at the front
 pub lacks_by : (form : Form) (bytes line rest : List ℕ) → BeginsWithLine bytes line rest → ((added : List Form) → HasForm form line added → ⊥) → Lacks form bytes
-lacks_by form bytes line rest b unlike l added more t =
-    unlike added (subst (λ x. HasForm form x added) (same_line l line more rest t.one_line b.one_line (sym t.bytes_are ∙ b.bytes_are)).0 t.has_form)
+lacks_by form bytes line rest b unlike l added more t = unlike added (subst (λ x. HasForm form x added) (same_line l line more rest t.one_line b.one_line (sym t.bytes_are ∙ b.bytes_are)).0 t.has_form)
 
 pub takes_by : (form : Form) (bytes line rest : List ℕ) (added : List Form) → BeginsWithLine bytes line rest → HasForm form line added → TakesForm form bytes line added rest
 takes_by form bytes line rest added b has = record { one_line = b.one_line; has_form = has; bytes_are = b.bytes_are }

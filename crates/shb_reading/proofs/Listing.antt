@@ -2,7 +2,7 @@
 use Rattle.std.proofs.Common.{◌≡◌, ◌≢◌, ℕ, zero, suc, ◌+◌, ◌==◌, Bool, true, false, MatchBool, length-append, ◌<◌, ◌^◌, List, [], ◌∷◌, ◌++◌, length, codes, map, take, refl, sym, ap, ◌∙◌, arith, append_assoc, append-nil, ◌≤◌}
 use Rattle.std.specs.Fmt.{decimal}
 use Rattle.std.proofs.lemmas.Bool.Decides.{nat_tests}
-use Rattle.std.proofs.lemmas.List.{append_cancel_left, length-map, map_push, take-append-le, take_all}
+use Rattle.std.proofs.lemmas.List.{append_cancel_left}
 use Rattle.std.specs.List.{AllByRecursion}
 use Rattle.shb_reading.specs.Labels.{AddsShown, EndsNumber, IsLabelled}
 use Rattle.shb_report.specs.Value.{IsShown, listed, numbers_line}
@@ -14,8 +14,7 @@ ends-listed (n ∷ ns) = refl
 
 pub listed-append : (ns ms : List ℕ) → listed (ns ++ ms) ≡ listed ns ++ listed ms
 listed-append [] ms = refl
-listed-append (n ∷ ns) ms =
-    ap (λ l. codes " " ++ (decimal n ++ l)) (listed-append ns ms) ∙ ap (λ l. codes " " ++ l) (sym (append_assoc (decimal n) (listed ns) (listed ms)))
+listed-append (n ∷ ns) ms = ap (λ l. codes " " ++ (decimal n ++ l)) (listed-append ns ms) ∙ ap (λ l. codes " " ++ l) (sym (append_assoc (decimal n) (listed ns) (listed ms)))
 
 shown-append : (ns ms : List ℕ) → AllByRecursion IsShown ns → AllByRecursion IsShown ms → AllByRecursion IsShown (ns ++ ms)
 shown-append [] ms h g = g
@@ -38,38 +37,15 @@ pub record HasListed {T : Type 0} (kept : ℕ → T) (most : ℕ) (text : List �
   pub text_is : text ≡ listed ns ++ rest
   pub back : (all : List ℕ) → AllByRecursion IsShown all → text ≡ listed all → (more : List ℕ) × AllByRecursion IsShown more × (rest ≡ listed more) × (length all ≡ length ns + length more)
 
-pub none_listed : {T : Type 0} (kept : ℕ → T) (most : ℕ) (text : List ℕ) (old : List T) → HasListed kept most text old old text 0
-none_listed kept most text old = record {
-  ns = [];
-  added = record { grown = sym (ap (λ l. old ++ l) (take_none kept most) ∙ append-nil old); shown = tt };
-  counted = refl;
-  text_is = refl;
-  back = λ all h e. (all, h, e, omega arith);
-}
-
 -- each number that was read has a byte of the text
 pub listed_within : {T : Type 0} (kept : ℕ → T) (most : ℕ) (text : List ℕ) (old new : List T) (rest : List ℕ) (count : ℕ) → HasListed kept most text old new rest count → count + length rest ≤ length text
 listed_within kept most text old new rest count h = omega (arith, h.counted, listed_long h.ns, ap (λ (l : List ℕ). length l) h.text_is, length-append (listed h.ns) rest)
-
--- a number more is kept where fewer than the most came before
-pub add_kept : {T : Type 0} (kept : ℕ → T) (most : ℕ) (old mid new : List T) (ns : List ℕ) (n : ℕ) → length ns < most → mid ≡ old ++ take most (map kept ns) → new ≡ mid ++ kept n ∷ [] → new ≡ old ++ take most (map kept (ns ++ n ∷ []))
-add_kept kept most old mid new ns n lt is pushed =
-    let short : length (map kept ns) < most = omega (arith, lt, length-map ns kept) in
-    let all : take most (map kept (ns ++ n ∷ [])) ≡ map kept ns ++ kept n ∷ [] =
-    ap (take most) (map_push kept ns n) ∙ take_all most (map kept ns ++ kept n ∷ []) (omega (arith, short, length-append (map kept ns) (kept n ∷ []))) in
-    let front : mid ≡ old ++ map kept ns = is ∙ ap (λ l. old ++ l) (take_all most (map kept ns) (omega (arith, short))) in
-    pushed ∙ ap (λ l. l ++ kept n ∷ []) front ∙ append_assoc old (map kept ns) (kept n ∷ []) ∙ ap (λ l. old ++ l) (sym all)
-
-pub pass_kept : {T : Type 0} (kept : ℕ → T) (most : ℕ) (old mid : List T) (ns : List ℕ) (n : ℕ) → most ≤ length ns → mid ≡ old ++ take most (map kept ns) → mid ≡ old ++ take most (map kept (ns ++ n ∷ []))
-pass_kept kept most old mid ns n le is =
-    is ∙ ap (λ l. old ++ l) (sym (ap (take most) (map_push kept ns n) ∙ take-append-le most (map kept ns) (kept n ∷ []) (omega (arith, le, length-map ns kept))))
 
 -- what stands after the first of some numbers
 after_first : (rest : List ℕ) (n : ℕ) (after more : List ℕ) → IsShown n → IsLabelled (codes " ") rest n after → AllByRecursion IsShown more → rest ≡ listed more
     → (others : List ℕ) × AllByRecursion IsShown others × (after ≡ listed others) × (length more ≡ suc (length others))
 after_first rest n after [] small h all e = let lengths : length (codes " " ++ (decimal n ++ after)) ≡ 0 = ap (λ (l : List ℕ). length l) (sym h.text_is ∙ e) in absurd (omega arith)
-after_first rest n after (m ∷ ms) small h all e =
-    (ms, all.1, sym (peel (codes " ") rest n m after (listed ms) small all.0 h (ends-listed ms) e).1, refl)
+after_first rest n after (m ∷ ms) small h all e = (ms, all.1, sym (peel (codes " ") rest n m after (listed ms) small all.0 h (ends-listed ms) e).1, refl)
 
 -- where a text with bytes left is some numbers, a number is next
 pub first_listed : {T : Type 0} (kept : ℕ → T) (most : ℕ) (text : List ℕ) (old new : List T) (rest : List ℕ) (count : ℕ) → HasListed kept most text old new rest count → 0 < length rest → ((n : ℕ) (after : List ℕ) → n < 2 ^ 64 → IsLabelled (codes " ") rest n after → ⊥) → (all : List ℕ) → AllByRecursion IsShown all → text ≢ listed all

@@ -1,5 +1,5 @@
 -- The parts of a report, one after another.
-use Rattle.std.proofs.Common.{◌≡◌, inl, inr, ℕ, zero, suc, ◌+◌, ◌-◌, ◌*◌, ◌^◌, ◌<◌, ◌≤◌, Bool, true, false, List, [], ◌∷◌, ◌++◌, length, codes, take, refl, sym, ap, subst, ◌∙◌, arith, append_assoc, append-nil, length-append, length-drop}
+use Rattle.std.proofs.Common.{◌≡◌, inl, inr, ℕ, ◌+◌, ◌-◌, ◌*◌, ◌^◌, ◌<◌, ◌≤◌, Bool, true, false, List, [], ◌∷◌, ◌++◌, length, codes, refl, sym, ap, subst, ◌∙◌, arith, append_assoc, append-nil, length-append, length-drop}
 use Rattle.std.proofs.lemmas.List.{length-map, take_all}
 use Rattle.std.specs.List.{AllByRecursion}
 use Rattle.shb_lines.specs.text.Limits.{most_bytes}
@@ -12,7 +12,7 @@ use Rattle.shb_reading.specs.Lines.{IsBadAt, Lacks, Passes, TakesLine, bytes_fro
 use Rattle.shb_reading.specs.Parts.{IsPlaceIn, IsScanned, IsTextOf, KeepsFirst, ReadsBlocks, ReadsPlaces, ReadsSection, TakesBlocks, blocks_at, places_at, places_form, races_form, section_at, version_text}
 use Rattle.shb_report.specs.Value.{AreShown, Block, IsShown, Place, block_lines, counts_line, lines_text, place_lines, places_line, places_section, races_line, version_line}
 use Rattle.shb_reading.proofs.Machine.{bad_after}
-use Rattle.shb_reading.proofs.Passing.{bad_at, passes_by, passes_races, passes_races_before}
+use Rattle.shb_reading.proofs.Passing.{bad_at, passes_by}
 use Rattle.shb_report.proofs.EachLemmas.{each-take}
 use Rattle.shb_report.proofs.LineLemmas.{joined}
 
@@ -24,23 +24,14 @@ passes_version forms text old new false taken = passes_by Version (CountsForm �
 
 pub passes_race_count : (forms : List Form) (text : List ℕ) (old new : Position) (with_places : Bool) (n : ℕ) → TakesLine text old new (races_line n) → IsShown n
     → Passes text old new (races_form with_places ∷ forms) (places_form with_places ++ (block_forms 1 n ++ forms))
-passes_race_count forms text old new true n taken shown = passes_races_before forms text old new n taken shown
-passes_race_count forms text old new false n taken shown = passes_races forms text old new n taken shown
+passes_race_count forms text old new true n taken shown = passes_by RacesBeforePlaces (Places ∷ block_forms 1 n) forms text old new _ taken (n, shown, refl, refl)
+passes_race_count forms text old new false n taken shown = passes_by Races (block_forms 1 n) forms text old new _ taken (n, shown, refl, refl)
 
 pub bad_race_count : (forms : List Form) (text : List ℕ) (old new : Position) (with_places : Bool) → new ≡ old → Lacks Races (bytes_from text old) → Lacks RacesBeforePlaces (bytes_from text old) → IsBadAt text old (races_form with_places ∷ forms) (new.lines + 1)
 bad_race_count forms text old new true same races before = bad_at RacesBeforePlaces forms text old new same before
 bad_race_count forms text old new false same races before = bad_at Races forms text old new same races
 
 -- the places, or none
-
-none_of_none : {A : Type 0} (most : ℕ) (kept : List A) → kept ≡ [] → kept ≡ take most []
-none_of_none zero kept none = none
-none_of_none (suc most) kept none = none
-
-pub none_read : (most : ℕ) (text : List ℕ) (at : Position) (with_places : Bool) (kept : List PlaceEntry) → with_places ≡ false → kept ≡ [] → KeepsFirst most (ReadsSection text at at with_places) kept
-none_read most text at true kept e none = absurd (cc)
-none_read most text at false kept e none =
-    record { all = []; holds = record { in_grammar = tt; few = omega arith; bytes = refl; entries_in = tt; lines = omega arith }; kept_is = none_of_none most kept none }
 
 length-place_lines : (number : ℕ) (places : List Place) → length (place_lines number places) ≡ 3 * length places
 length-place_lines number [] = refl
@@ -78,10 +69,6 @@ whole_section text old new with_places kept h =
 -- the entries that are kept lie in the text
 pub kept_in : (most : ℕ) (text : List ℕ) (old new : Position) (with_places : Bool) (kept : List PlaceEntry) → KeepsFirst most (ReadsSection text old new with_places) kept → AllByRecursion (IsPlaceIn text) kept
 kept_in most text old new with_places kept h = subst (AllByRecursion (IsPlaceIn text)) (sym h.kept_is) (each-take (IsPlaceIn text) most h.all h.holds.entries_in)
-
-pub passes_none : (text : List ℕ) (at : Position) (with_places : Bool) (forms : List Form) → with_places ≡ false → Passes text at at (places_form with_places ++ forms) forms
-passes_none text at true forms e = absurd (cc)
-passes_none text at false forms e = λ n b. b
 
 pub with_section : (text : List ℕ) (old : Position) (with_places : Bool) (forms : List Form) (n : ℕ) → with_places ≡ true → IsBadAt text old (Places ∷ forms) n → IsBadAt text old (places_form with_places ++ forms) n
 with_section text old true forms n e b = b

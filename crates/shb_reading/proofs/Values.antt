@@ -1,9 +1,9 @@
 -- The lines of the forms are those of the reports in the grammar.
 use Rattle.std.proofs.Common.{◌≡◌, inl, inr, ℕ, zero, suc, ◌+◌, List, [], ◌∷◌, ◌++◌, length, codes, refl, sym, ap, subst, ◌∙◌, Option, None, Some, IfSome}
 use Rattle.std.specs.List.{AllByRecursion}
-use Rattle.shb_report.specs.Value.{ArePlaces, Block, IsBlock, IsPlace, IsReportValue, IsShown, Place, ReportValue, block_lines, counts_line, place_lines, places_line, places_section, races_line, report_lines, version_line}
+use Rattle.shb_report.specs.Value.{ArePlaces, Block, IsBlock, IsPlace, IsReportValue, IsShown, Place, ReportValue, block_lines, counts_line, numbers_line, place_line, place_lines, places_line, places_section, race_numbers_line, races_line, report_lines, version_line}
 use Rattle.shb_reading.specs.Forms.{Form, Version, CountsForm, Races, RacesBeforePlaces, Places, PlaceForm, Race, Named, Schedule, End, First, Second, At, And, HasForm, block_forms, place_forms}
-use Rattle.shb_reading.proofs.Language.{AreLines, one_line-counts, one_line-races, one_line-places, one_line-place, one_line-race, one_line-named, one_line-numbers}
+use Rattle.shb_reading.proofs.Language.{AreLines, line_then, one_line-counts, one_line-races, one_line-places, one_line-place, one_line-race, one_line-named, one_line-numbers}
 
 -- a report's lines have the forms
 
@@ -11,114 +11,51 @@ lines_of_blocks : (number : ℕ) (blocks : List Block) (forms : List Form) (line
     → AreLines (block_forms number (length blocks) ++ forms) (block_lines number blocks ++ lines)
 lines_of_blocks number [] forms lines h l = l
 lines_of_blocks number (b ∷ blocks) forms lines h l =
-    let block = h.0 in (
-      one_line-race number b.first b.second,
-      (
-        [],
-        (b.first, b.second, block.first, block.second, refl, refl),
-        (
-          one_line-named First b.first_line block.first_line.one_line,
-          (
-            [],
-            (b.first_line, block.first_line, refl, refl),
-            (
-              one_line-named Second b.second_line block.second_line.one_line,
-              (
-                [],
-                (b.second_line, block.second_line, refl, refl),
-                (
-                  one_line-numbers b.schedule,
-                  ([], (b.schedule, block.numbers, block.few, refl, refl), lines_of_blocks (number + 1) blocks forms lines h.1 l),
-                ),
-              ),
-            ),
-          ),
-        ),
-      ),
-    )
+    let block = h.0 in
+    let rest = block_forms (number + 1) (length blocks) ++ forms in
+    let others = block_lines (number + 1) blocks ++ lines in
+    let schedule = numbers_line b.schedule ∷ others in
+    let second = (codes "second " ++ b.second_line) ∷ schedule in
+    line_then (Race number) (Named First ∷ (Named Second ∷ (Schedule ∷ rest))) (race_numbers_line number b.first b.second) [] ((codes "first " ++ b.first_line) ∷ second)
+    (one_line-race number b.first b.second) (b.first, b.second, block.first, block.second, refl, refl)
+    (line_then (Named First) (Named Second ∷ (Schedule ∷ rest)) (codes "first " ++ b.first_line) [] second (one_line-named First b.first_line block.first_line.one_line) (b.first_line, block.first_line, refl, refl)
+    (line_then (Named Second) (Schedule ∷ rest) (codes "second " ++ b.second_line) [] schedule (one_line-named Second b.second_line block.second_line.one_line) (b.second_line, block.second_line, refl, refl)
+    (line_then Schedule rest (numbers_line b.schedule) [] others (one_line-numbers b.schedule) (b.schedule, block.numbers, block.few, refl, refl) (lines_of_blocks (number + 1) blocks forms lines h.1 l))))
 
 lines_of_places : (number : ℕ) (places : List Place) (forms : List Form) (lines : List (List ℕ)) → AllByRecursion IsPlace places → AreLines forms lines
     → AreLines (place_forms number (length places) ++ forms) (place_lines number places ++ lines)
 lines_of_places number [] forms lines h l = l
 lines_of_places number (p ∷ places) forms lines h l =
-    let place = h.0 in (
-      one_line-place number p.count,
-      (
-        [],
-        (p.count, place.count, refl, refl),
-        (
-          one_line-named At p.first place.first.one_line,
-          (
-            [],
-            (p.first, place.first, refl, refl),
-            (
-              one_line-named And p.second place.second.one_line,
-              ([], (p.second, place.second, refl, refl), lines_of_places (number + 1) places forms lines h.1 l),
-            ),
-          ),
-        ),
-      ),
-    )
-
-last_line : AreLines (End ∷ []) (codes "end" ∷ [])
-last_line = (refl, ([], (refl, refl), refl))
-
-after_counts : (places : Option (List Place)) (blocks : List Block) → AllByRecursion IsBlock blocks → IsShown (length blocks) → AreLines (block_forms 1 (length blocks) ++ End ∷ []) (block_lines 1 blocks ++ codes "end" ∷ [])
-after_counts places blocks h few = lines_of_blocks 1 blocks (End ∷ []) (codes "end" ∷ []) h last_line
+    let place = h.0 in
+    let rest = place_forms (number + 1) (length places) ++ forms in
+    let others = place_lines (number + 1) places ++ lines in
+    line_then (PlaceForm number) (Named At ∷ (Named And ∷ rest)) (place_line number p.count) [] ((codes "at " ++ p.first) ∷ ((codes "and " ++ p.second) ∷ others)) (one_line-place number p.count) (p.count, place.count, refl, refl)
+    (line_then (Named At) (Named And ∷ rest) (codes "at " ++ p.first) [] ((codes "and " ++ p.second) ∷ others) (one_line-named At p.first place.first.one_line) (p.first, place.first, refl, refl)
+    (line_then (Named And) rest (codes "and " ++ p.second) [] others (one_line-named And p.second place.second.one_line) (p.second, place.second, refl, refl) (lines_of_places (number + 1) places forms lines h.1 l)))
 
 pub lines_of_value : (report : ReportValue) → IsReportValue report → AreLines (Version ∷ (End ∷ [])) (report_lines report)
 lines_of_value report h = by report.places h.places
   where
+    are_blocks : AreLines (block_forms 1 (length report.blocks) ++ End ∷ []) (block_lines 1 report.blocks ++ codes "end" ∷ [])
+    are_blocks = lines_of_blocks 1 report.blocks (End ∷ []) (codes "end" ∷ []) h.blocks (refl, ([], (refl, refl), refl))
+
     by : (places : Option (List Place)) → IfSome places ArePlaces → AreLines (Version ∷ (End ∷ []))
         (version_line places ∷ (counts_line report.counts ∷ (races_line (length report.blocks) ∷ (places_section places ++ (block_lines 1 report.blocks ++ codes "end" ∷ [])))))
-    by None p = (
-      refl,
-      (
-        CountsForm ∷ (Races ∷ []),
-        inl (refl, refl),
-        (
-          one_line-counts report.counts,
-          (
-            [],
-            (report.counts, h.counts, refl, refl),
-            (
-              one_line-races (length report.blocks),
-              (block_forms 1 (length report.blocks), (length report.blocks, h.few, refl, refl), after_counts None report.blocks h.blocks h.few),
-            ),
-          ),
-        ),
-      ),
-    )
-    by (Some places) p = (
-      refl,
-      (
-        CountsForm ∷ (RacesBeforePlaces ∷ []),
-        inr (refl, refl),
-        (
-          one_line-counts report.counts,
-          (
-            [],
-            (report.counts, h.counts, refl, refl),
-            (
-              one_line-races (length report.blocks),
-              (
-                Places ∷ block_forms 1 (length report.blocks),
-                (length report.blocks, h.few, refl, refl),
-                (
-                  one_line-places (length places),
-                  (
-                    place_forms 1 (length places),
-                    (length places, p.few, refl, refl),
-                    lines_of_places 1 places (block_forms 1 (length report.blocks) ++ End ∷ []) (block_lines 1 report.blocks ++ codes "end" ∷ []) p.each
-                        (after_counts (Some places) report.blocks h.blocks h.few),
-                  ),
-                ),
-              ),
-            ),
-          ),
-        ),
-      ),
-    )
+    by None p =
+        let n = length report.blocks in
+        let tail = block_lines 1 report.blocks ++ codes "end" ∷ [] in
+        line_then Version (End ∷ []) (codes "shb-report 1") (CountsForm ∷ (Races ∷ [])) (counts_line report.counts ∷ (races_line n ∷ tail)) refl (inl (refl, refl))
+        (line_then CountsForm (Races ∷ (End ∷ [])) (counts_line report.counts) [] (races_line n ∷ tail) (one_line-counts report.counts) (report.counts, h.counts, refl, refl)
+        (line_then Races (End ∷ []) (races_line n) (block_forms 1 n) tail (one_line-races n) (n, h.few, refl, refl) are_blocks))
+    by (Some places) p =
+        let n = length report.blocks in
+        let tail = block_lines 1 report.blocks ++ codes "end" ∷ [] in
+        let section = places_line (length places) ∷ (place_lines 1 places ++ tail) in
+        line_then Version (End ∷ []) (codes "shb-report 2") (CountsForm ∷ (RacesBeforePlaces ∷ [])) (counts_line report.counts ∷ (races_line n ∷ section)) refl (inr (refl, refl))
+        (line_then CountsForm (RacesBeforePlaces ∷ (End ∷ [])) (counts_line report.counts) [] (races_line n ∷ section) (one_line-counts report.counts) (report.counts, h.counts, refl, refl)
+        (line_then RacesBeforePlaces (End ∷ []) (races_line n) (Places ∷ block_forms 1 n) section (one_line-races n) (n, h.few, refl, refl)
+        (line_then Places (block_forms 1 n ++ End ∷ []) (places_line (length places)) (place_forms 1 (length places)) (place_lines 1 places ++ tail) (one_line-places (length places)) (length places, p.few, refl, refl)
+        (lines_of_places 1 places (block_forms 1 n ++ End ∷ []) tail p.each are_blocks))))
 
 -- lines of the forms are those of a report
 

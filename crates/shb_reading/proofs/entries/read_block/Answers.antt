@@ -1,8 +1,8 @@
 -- The first bad line of a block is the one that was not read.
-use Rattle.std.proofs.Common.{◌≡◌, ◌+◌, ◌-◌, ◌≤◌, arith, length, refl, ◌∷◌}
+use Rattle.std.proofs.Common.{◌≡◌, ◌+◌, ◌-◌, ◌≤◌, arith, length, refl, [], ◌∷◌}
 use Rattle.shb_reading.specs.Forms.{Race, Named, Schedule, First, Second}
 use Rattle.shb_reading.proofs.EntryLemmas.{block_grows, block_read}
-use Rattle.shb_reading.proofs.Passing.{bad_at, passes_named, passes_race, passes_schedule}
+use Rattle.shb_reading.proofs.Passing.{bad_at, passes_by}
 use Rattle.shb_reading.proofs.entries.read_block.Goals as goal
 
 pub returns-in_default-clause-bad : goal.returns-in_default-clause-bad
@@ -11,33 +11,33 @@ returns-in_default-clause-bad g c = λ forms. bad_at (Race c.args.number) _ _ _ 
 pub returns-in_default-read_named-clause-bad : goal.returns-in_default-read_named-clause-bad
 returns-in_default-read_named-clause-bad g c = λ forms.
     let race = c.in-Some.ensures in
-    passes_race (Named First ∷ (Named Second ∷ (Schedule ∷ forms))) _ _ _ c.args.number _ _ race.0 race.1 race.2 _
+    passes_by (Race c.args.number) [] (Named First ∷ (Named Second ∷ (Schedule ∷ forms))) _ _ _ _ race.0 (_, _, race.1, race.2, refl, refl) _
     (bad_at (Named First) (Named Second ∷ (Schedule ∷ forms)) _ _ _ c.in_default-read_named.ensures.0 (c.in_default-read_named.ensures.1 First refl refl))
 
 pub returns-in_default-read_named-2-clause-bad : goal.returns-in_default-read_named-2-clause-bad
 returns-in_default-read_named-2-clause-bad g c = λ forms.
     let race = c.in-Some.ensures in
-    passes_race (Named First ∷ (Named Second ∷ (Schedule ∷ forms))) _ _ _ c.args.number _ _ race.0 race.1 race.2 _
-    (passes_named (Named Second ∷ (Schedule ∷ forms)) _ _ _ First _ c.in-Some-read_named.ensures.0 c.in-Some-read_named.ensures.1 _
+    passes_by (Race c.args.number) [] (Named First ∷ (Named Second ∷ (Schedule ∷ forms))) _ _ _ _ race.0 (_, _, race.1, race.2, refl, refl) _
+    (passes_by (Named First) [] (Named Second ∷ (Schedule ∷ forms)) _ _ _ _ c.in-Some-read_named.ensures.0 (_, c.in-Some-read_named.ensures.1, refl, refl) _
     (bad_at (Named Second) (Schedule ∷ forms) _ _ _ c.in_default-read_named-2.ensures.0 (c.in_default-read_named-2.ensures.1 Second refl refl)))
 
 pub returns-then-not-branch-clause-bad : goal.returns-then-not-branch-clause-bad
 returns-then-not-branch-clause-bad g c = λ forms.
     let race = c.in-Some.ensures in
     let schedule = rw c.if-not-branch.true at c.in_ok-read_schedule.ensures in
-    passes_race (Named First ∷ (Named Second ∷ (Schedule ∷ forms))) _ _ _ c.args.number _ _ race.0 race.1 race.2 _
-    (passes_named (Named Second ∷ (Schedule ∷ forms)) _ _ _ First _ c.in-Some-read_named.ensures.0 c.in-Some-read_named.ensures.1 _
-    (passes_named (Schedule ∷ forms) _ _ _ Second _ c.in-Some-read_named-2.ensures.0 c.in-Some-read_named-2.ensures.1 _
+    passes_by (Race c.args.number) [] (Named First ∷ (Named Second ∷ (Schedule ∷ forms))) _ _ _ _ race.0 (_, _, race.1, race.2, refl, refl) _
+    (passes_by (Named First) [] (Named Second ∷ (Schedule ∷ forms)) _ _ _ _ c.in-Some-read_named.ensures.0 (_, c.in-Some-read_named.ensures.1, refl, refl) _
+    (passes_by (Named Second) [] (Schedule ∷ forms) _ _ _ _ c.in-Some-read_named-2.ensures.0 (_, c.in-Some-read_named-2.ensures.1, refl, refl) _
     (bad_at Schedule forms _ _ _ schedule.0 schedule.1)))
 
 pub returns-clause-passes : goal.returns-clause-passes
 returns-clause-passes g c = λ forms n b.
     let race = c.in-Some.ensures in
     let schedule = rw c.if-not-branch.false at c.in_ok-read_schedule.ensures in
-    passes_race (Named First ∷ (Named Second ∷ (Schedule ∷ forms))) _ _ _ c.args.number _ _ race.0 race.1 race.2 _
-    (passes_named (Named Second ∷ (Schedule ∷ forms)) _ _ _ First _ c.in-Some-read_named.ensures.0 c.in-Some-read_named.ensures.1 _
-    (passes_named (Schedule ∷ forms) _ _ _ Second _ c.in-Some-read_named-2.ensures.0 c.in-Some-read_named-2.ensures.1 _
-    (passes_schedule forms _ _ _ schedule.0 schedule.3 schedule.1.shown schedule.2 n b)))
+    passes_by (Race c.args.number) [] (Named First ∷ (Named Second ∷ (Schedule ∷ forms))) _ _ _ _ race.0 (_, _, race.1, race.2, refl, refl) _
+    (passes_by (Named First) [] (Named Second ∷ (Schedule ∷ forms)) _ _ _ _ c.in-Some-read_named.ensures.0 (_, c.in-Some-read_named.ensures.1, refl, refl) _
+    (passes_by (Named Second) [] (Schedule ∷ forms) _ _ _ _ c.in-Some-read_named-2.ensures.0 (_, c.in-Some-read_named-2.ensures.1, refl, refl) _
+    (passes_by Schedule [] forms _ _ _ _ schedule.3 (schedule.0, schedule.1.shown, schedule.2, refl, refl) n b)))
 
 pub returns-clause-read : goal.returns-clause-read
 returns-clause-read g c =

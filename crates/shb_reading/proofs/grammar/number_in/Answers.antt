@@ -1,15 +1,12 @@
 -- A number that is all of a text has nothing after it.
 use Rattle.std.proofs.Common.{arith, sym, ap, length, ◌∙◌, append-nil, [], ◌++◌, ℕ, List}
 use Rattle.std.specs.Fmt.{decimal}
-use Rattle.shb_reading.proofs.Peeling.{is_none, is_some, last_is, peel_last}
+use Rattle.shb_reading.proofs.Peeling.{is_some, peel_last}
 use Rattle.shb_reading.proofs.grammar.number_in.Goals as goal
 
 pub returns-in_err-number : goal.returns-in_err-number
 returns-in_err-number c = rw c.from_residual.ensures (λ n small e.
     c.in_err-number.ensures n [] small (record { text_is = e ∙ ap (λ d. c.args.label.now ++ d) (sym (append-nil (decimal n))); ends = tt }))
-
-pub returns-then-is_empty : goal.returns-then-is_empty
-returns-then-is_empty c = (c.in_ok-number.ensures.0, last_is _ _ _ _ c.in_ok-number.ensures.1 (is_none _ _ c.is_empty.ensures c.if-is_empty.true))
 
 pub returns-else-is_empty : goal.returns-else-is_empty
 returns-else-is_empty c = λ n small e.

@@ -1,7 +1,5 @@
 -- A digit more is ten times the number so far and that digit.
-use Rattle.std.proofs.Common.{arith, ap, ◌∙◌, ◌≡◌, take}
-use Rattle.std.specs.Str.Parse.{digits_value}
-use Rattle.std.proofs.lemmas.List.{take_all}
+use Rattle.std.proofs.Common.{arith}
 use Rattle.shb_reading.proofs.Digits.{value_front, value_more}
 use Rattle.shb_reading.proofs.labels.value_of.Goals as goal
 
@@ -18,8 +16,3 @@ loop-digit-preserved c =
       small = omega (arith, c.in_ok-next.ensures);
       value = omega (arith, c.in_ok-next.ensures, c.in_ok-more.ensures, c.from.ensures, more, c.loop-digit.invariant.value);
     }
-
-pub returns : goal.returns
-returns c =
-    let all : take c.loop-digit.digit-index c.args.digits.now ≡ c.args.digits.now = take_all c.loop-digit.digit-index c.args.digits.now (omega (arith, c.loop-digit-test.false)) in
-    (c.loop-digit.invariant.small, c.loop-digit.invariant.value ∙ ap (digits_value 10) all)

@@ -3,8 +3,7 @@ use Rattle.shb_reading.proofs.Listing.{no_colon, no_numbers, schedule_by}
 use Rattle.shb_reading.proofs.schedule.add_schedule.Goals as goal
 
 pub returns-in_default-after_label : goal.returns-in_default-after_label
-returns-in_default-after_label g c =
-    no_colon c.args.line.now c.in-Some.count c.in-Some.after_count.now c.in-Some.ensures.0 c.in-Some.ensures.1 c.in_default-after_label.ensures
+returns-in_default-after_label g c = no_colon c.args.line.now c.in-Some.count c.in-Some.after_count.now c.in-Some.ensures.0 c.in-Some.ensures.1 c.in_default-after_label.ensures
 
 pub returns-in_default-2 : goal.returns-in_default-2
 returns-in_default-2 g c =

@@ -1,8 +1,8 @@
 -- The first bad line of the head is the one that was not read.
-use Rattle.std.proofs.Common.{◌∷◌}
+use Rattle.std.proofs.Common.{refl, [], ◌∷◌}
 use Rattle.shb_reading.specs.Forms.{CountsForm, Version}
 use Rattle.shb_reading.specs.Parts.{races_form}
-use Rattle.shb_reading.proofs.Passing.{bad_at, passes_counts}
+use Rattle.shb_reading.proofs.Passing.{bad_at, passes_by}
 use Rattle.shb_reading.proofs.ScanLemmas.{bad_race_count, passes_race_count, passes_version}
 use Rattle.shb_reading.proofs.whole.read_head.Goals as goal
 
@@ -18,12 +18,12 @@ pub returns-in_default-read_race_count-clause-bad : goal.returns-in_default-read
 returns-in_default-read_race_count-clause-bad c = λ forms.
     let count = c.in_default-read_race_count.ensures in
     passes_version forms _ _ _ c.in-Some.with_places c.in-Some.ensures _
-    (passes_counts (races_form c.in-Some.with_places ∷ forms) _ _ _ _ c.in-Some-read_counts.ensures.0 c.in-Some-read_counts.ensures.1 _
+    (passes_by CountsForm [] (races_form c.in-Some.with_places ∷ forms) _ _ _ _ c.in-Some-read_counts.ensures.0 (_, c.in-Some-read_counts.ensures.1, refl, refl) _
     (bad_race_count forms _ _ _ c.in-Some.with_places count.0 count.1 count.2))
 
 pub returns-clause-passes : goal.returns-clause-passes
 returns-clause-passes c = λ forms n b.
     let count = c.in-Some-read_race_count.ensures in
     passes_version forms _ _ _ c.in-Some.with_places c.in-Some.ensures _
-    (passes_counts (races_form c.in-Some.with_places ∷ forms) _ _ _ _ c.in-Some-read_counts.ensures.0 c.in-Some-read_counts.ensures.1 _
+    (passes_by CountsForm [] (races_form c.in-Some.with_places ∷ forms) _ _ _ _ c.in-Some-read_counts.ensures.0 (_, c.in-Some-read_counts.ensures.1, refl, refl) _
     (passes_race_count forms _ _ _ c.in-Some.with_places _ count.0 count.1 n b))
