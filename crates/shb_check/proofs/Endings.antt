@@ -95,14 +95,6 @@ not_judged {T} error (Err e) P is = subst (λ (e : RunError). OnJudged {T = T} (
     told reading.Source = tt
     told (reading.Memory _) = tt
 
--- a source of which nothing was taken
-pub Takes-none : (n : ℕ) (a : Option (List ℕ)) → TakesAtMost n a a
-Takes-none n a = ([], omega arith, none a)
-  where
-    none : (a : Option (List ℕ)) → Consumes a a []
-    none None = tt
-    none (Some x) = refl
-
 -- known bytes that nothing was done to
 pub Grows-same : (a : Option (List ℕ)) → Grows a a
 Grows-same a = ([], Appends-nil a)
@@ -138,10 +130,6 @@ of_no_trace (Err (Memory _)) P p = tt
 pub of_any_fault : (known : Option (List ℕ)) (P : Type 0) → P → IfSome known (λ text. (line : ℕ) (fault : Fault) → IsFirstFault standard_limits text line fault → P)
 of_any_fault None P p = tt
 of_any_fault (Some text) P p = λ line fault first. p
-
--- a source that gave no byte
-pub given_none : (a n : ℕ) → a ≤ a + n
-given_none a n = omega arith
 
 -- a trace that was judged, whose report was not read: no source failed
 pub counted_judged : {T : Type 0} (read : TraceData) (stop : Option LineFault) (error : RunError) (r : Result T RunError) (old new old_report new_report : ℕ)

@@ -2,8 +2,7 @@ use Rattle.shb_check.proofs.Endings.{accepted_of, refused_of, stopped_of}
 use Rattle.shb_check.proofs.judging.judge.Goals as goal
 
 pub returns-in_err-trace-clause-refused : goal.returns-in_err-trace-clause-refused
-returns-in_err-trace-clause-refused c =
-    refused_of c.args.parsed.now.trace c.args.parsed.now.stop _ c.from_residual.result c.from_residual.ensures.1 c.in_err-trace.ensures.refused
+returns-in_err-trace-clause-refused c = refused_of c.args.parsed.now.trace c.args.parsed.now.stop _ c.from_residual.result c.from_residual.ensures.1 c.in_err-trace.ensures.refused
 
 pub returns-in-Some-clause-refused : goal.returns-in-Some-clause-refused
 returns-in-Some-clause-refused c =

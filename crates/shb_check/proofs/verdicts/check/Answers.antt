@@ -49,64 +49,49 @@ returns-clause-unread g c =
     none_found c.in_ok-parsed.parsed.trace c.in_ok-parsed.parsed.stop c.in_ok-trace.trace.trace.now (g.S.Source.remaining c.args.trace_source.now) _ c.in_ok-trace.ensures.accepted (reads_told most_read (g.S.Source.remaining c.args.trace_source.now) (g.S.Source.remaining c.read_trace.new.source) _ _ _ c.in_ok-parsed.ensures.reading)
 
 pub returns-in_err-parsed-clause-trace_left : goal.returns-in_err-parsed-clause-trace_left
-returns-in_err-parsed-clause-trace_left g c =
-    not_judged _ c.from_residual.result _ c.from_residual.ensures.1
+returns-in_err-parsed-clause-trace_left g c = not_judged _ c.from_residual.result _ c.from_residual.ensures.1
 
 pub returns-in_err-trace-clause-trace_left : goal.returns-in_err-trace-clause-trace_left
-returns-in_err-trace-clause-trace_left g c =
-    judged _ _ (reads_left most_read (g.S.Source.remaining c.args.trace_source.now) (g.S.Source.remaining c.read_trace.new.source) _ _ _ c.in_ok-parsed.ensures.reading)
+returns-in_err-trace-clause-trace_left g c = judged _ _ (reads_left most_read (g.S.Source.remaining c.args.trace_source.now) (g.S.Source.remaining c.read_trace.new.source) _ _ _ c.in_ok-parsed.ensures.reading)
 
 pub returns-in_err-verdict-clause-trace_left : goal.returns-in_err-verdict-clause-trace_left
-returns-in_err-verdict-clause-trace_left g c =
-    judged _ _ (reads_left most_read (g.S.Source.remaining c.args.trace_source.now) (g.S.Source.remaining c.read_trace.new.source) _ _ _ c.in_ok-parsed.ensures.reading)
+returns-in_err-verdict-clause-trace_left g c = judged _ _ (reads_left most_read (g.S.Source.remaining c.args.trace_source.now) (g.S.Source.remaining c.read_trace.new.source) _ _ _ c.in_ok-parsed.ensures.reading)
 
 pub returns-in_default-clause-trace_left : goal.returns-in_default-clause-trace_left
-returns-in_default-clause-trace_left g c =
-    reads_left most_read (g.S.Source.remaining c.args.trace_source.now) (g.S.Source.remaining c.read_trace.new.source) _ _ _ c.in_ok-parsed.ensures.reading
+returns-in_default-clause-trace_left g c = reads_left most_read (g.S.Source.remaining c.args.trace_source.now) (g.S.Source.remaining c.read_trace.new.source) _ _ _ c.in_ok-parsed.ensures.reading
 
 pub returns-clause-trace_left : goal.returns-clause-trace_left
-returns-clause-trace_left g c =
-    reads_left most_read (g.S.Source.remaining c.args.trace_source.now) (g.S.Source.remaining c.read_trace.new.source) _ _ _ c.in_ok-parsed.ensures.reading
+returns-clause-trace_left g c = reads_left most_read (g.S.Source.remaining c.args.trace_source.now) (g.S.Source.remaining c.read_trace.new.source) _ _ _ c.in_ok-parsed.ensures.reading
 
 pub returns-in_default-clause-report_left : goal.returns-in_default-clause-report_left
-returns-in_default-clause-report_left g c =
-    reads_left most_read (g.Q.Source.remaining c.args.report_source.now) (g.Q.Source.remaining c.judge_report.new.source) _ _ _ c.in_ok-verdict.ensures.verdict
+returns-in_default-clause-report_left g c = reads_left most_read (g.Q.Source.remaining c.args.report_source.now) (g.Q.Source.remaining c.judge_report.new.source) _ _ _ c.in_ok-verdict.ensures.verdict
 
 pub returns-clause-report_left : goal.returns-clause-report_left
-returns-clause-report_left g c =
-    reads_left most_read (g.Q.Source.remaining c.args.report_source.now) (g.Q.Source.remaining c.judge_report.new.source) _ _ _ c.in_ok-verdict.ensures.verdict
+returns-clause-report_left g c = reads_left most_read (g.Q.Source.remaining c.args.report_source.now) (g.Q.Source.remaining c.judge_report.new.source) _ _ _ c.in_ok-verdict.ensures.verdict
 
 pub returns-in_err-parsed-clause-unwritten : goal.returns-in_err-parsed-clause-unwritten
-returns-in_err-parsed-clause-unwritten g c =
-    of_no_trace c.from_residual.result _ refl
+returns-in_err-parsed-clause-unwritten g c = of_no_trace c.from_residual.result _ refl
 
 pub returns-in_err-parsed-clause-silent : goal.returns-in_err-parsed-clause-silent
-returns-in_err-parsed-clause-silent g c =
-    of_any_fault (g.S.Source.remaining c.args.trace_source.now) _ refl
+returns-in_err-parsed-clause-silent g c = of_any_fault (g.S.Source.remaining c.args.trace_source.now) _ refl
 
 pub returns-in_err-parsed-clause-unread : goal.returns-in_err-parsed-clause-unread
-returns-in_err-parsed-clause-unread g c =
-    of_any_fault (g.S.Source.remaining c.args.trace_source.now) _ refl
+returns-in_err-parsed-clause-unread g c = of_any_fault (g.S.Source.remaining c.args.trace_source.now) _ refl
 
 pub returns-in_err-parsed-clause-unread_after : goal.returns-in_err-parsed-clause-unread_after
-returns-in_err-parsed-clause-unread_after g c =
-    of_any_trace c.from_residual.result _ refl
+returns-in_err-parsed-clause-unread_after g c = of_any_trace c.from_residual.result _ refl
 
 pub returns-in_err-trace-clause-unwritten : goal.returns-in_err-trace-clause-unwritten
-returns-in_err-trace-clause-unwritten g c =
-    of_no_trace c.from_residual-in_err-trace.result _ refl
+returns-in_err-trace-clause-unwritten g c = of_no_trace c.from_residual-in_err-trace.result _ refl
 
 pub returns-in_err-trace-clause-silent : goal.returns-in_err-trace-clause-silent
-returns-in_err-trace-clause-silent g c =
-    of_any_fault (g.S.Source.remaining c.args.trace_source.now) _ refl
+returns-in_err-trace-clause-silent g c = of_any_fault (g.S.Source.remaining c.args.trace_source.now) _ refl
 
 pub returns-in_err-trace-clause-unread : goal.returns-in_err-trace-clause-unread
-returns-in_err-trace-clause-unread g c =
-    of_any_fault (g.S.Source.remaining c.args.trace_source.now) _ refl
+returns-in_err-trace-clause-unread g c = of_any_fault (g.S.Source.remaining c.args.trace_source.now) _ refl
 
 pub returns-in_err-trace-clause-unread_after : goal.returns-in_err-trace-clause-unread_after
-returns-in_err-trace-clause-unread_after g c =
-    of_any_trace c.from_residual-in_err-trace.result _ refl
+returns-in_err-trace-clause-unread_after g c = of_any_trace c.from_residual-in_err-trace.result _ refl
 
 pub returns-in_err-trace-clause-sources : goal.returns-in_err-trace-clause-sources
 returns-in_err-trace-clause-sources g c =
