@@ -22,10 +22,6 @@ all_listed P (suc n) all =
     let on : n + 1 ≡ suc n = omega arith in
     subst (λ (m : ℕ). IsListed P m (range_with_len 0 m)) on (subst (λ (l : List ℕ). IsListed P (n + 1) l) (sym (range_more 0 n (n + 1) n (omega arith) refl)) more)
 
--- no event comes before the first position
-pub reach_none : (trace : List Event) (times : List ℕ) → Reach trace 0 times
-reach_none trace times = λ k t lt of. absurd (omega (arith, lt))
-
 some_is : (a b : ℕ) → Some a ≡ Some b → a ≡ b
 some_is a b e = cc
 

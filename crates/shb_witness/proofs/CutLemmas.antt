@@ -33,9 +33,6 @@ cut_is trace ordered i j t n m same first second k of_k = (below, within)
     within (inl h) = let le = local_from_below trace t i n first_count k of_k h in omega (arith, le)
     within (inr h) = let le = local_from_below trace t j m second_count k of_k h in omega (arith, le)
 
-pub cuts_none : (trace : List Event) (i j : ℕ) (cuts : List ℕ) → cuts ≡ [] → HasCuts trace i j 0 cuts
-cuts_none trace i j cuts none = record { as_long = ap length none; each = λ t lt. absurd (omega (arith, lt)) }
-
 pub cuts_more : (trace : List Event) (i j n cut : ℕ) (cuts : List ℕ) → IsCut trace i j n cut → HasCuts trace i j n cuts → HasCuts trace i j (n + 1) (cuts ++ cut ∷ [])
 cuts_more trace i j n cut cuts is old = record {
   as_long = length_push cuts cut ∙ ap (λ m. m + 1) old.as_long;
