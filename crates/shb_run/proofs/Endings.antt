@@ -1,11 +1,10 @@
 -- From what the parts of a run answer to what the run says of the text.
-use Rattle.std.proofs.Common.{◌≡◌, ◌⊎◌, ℕ, inl, inr, Bool, List, length, map, Option, Result, Ok, Err, IsErrAnd, sym, ap, subst, ◌∙◌}
-use Rattle.std.proofs.lemmas.List.{length-map}
+use Rattle.std.proofs.Common.{◌≡◌, ◌⊎◌, ℕ, inl, inr, Bool, List, length, map, Option, Result, Ok, Err, IsErrAnd, refl, sym, ap, subst, ◌∙◌}
+use Rattle.shb_io.specs.declared.no_memory.NoMemory.{NoMemory}
 use Rattle.shb_lines.specs.declared.event.Event.{Event}
 use Rattle.shb_lines.specs.declared.fault.LineFault.{LineFault}
-use Rattle.shb_lines.specs.declared.event.Pair.{Pair}
 use Rattle.shb_lines.specs.events.Discipline.{IsDisciplined}
-use Rattle.shb_lines.specs.events.Race.{IsRaceList, ends}
+use Rattle.shb_lines.specs.events.Race.{IsRaceList}
 use Rattle.shb_lines.specs.text.Text.{lines_of}
 use Rattle.shb_lines.specs.text.TraceData.{IsReadingOf, IsTraceOf, TraceData}
 use Rattle.shb_lines.proofs.events.Decide.{decide_below_pred, printed_exists}
@@ -23,7 +22,8 @@ use Rattle.shb_run.specs.declared.settings.Summary.{Summary}
 use Rattle.shb_check.specs.Judged.{IsAccepted}
 use Rattle.shb_check.specs.Outcomes.{Grows}
 use Rattle.shb_run.specs.Runs.{FitsU64, HasTrace, IsReportedBy, ListsPlaces, ListsSchedulable}
-use Rattle.shb_write.specs.Written.{CutsBlocksOn, CutsReportOn, OnFailedSink, OnNoMemory, These, WritesReport}
+use Rattle.shb_write.specs.Written.{CutsBlocksOn, HasReported, These}
+use Rattle.shb_run.specs.Outcomes.{HasSummed}
 use Rattle.shb_run.specs.Written.{ListedBy, ReportsTrace, summary_of}
 use Rattle.shb_check.proofs.Endings.{Grows-same}
 use Rattle.shb_run.proofs.Reports.{known_blocks, known_cut, known_written}
@@ -91,39 +91,43 @@ has_trace text read stop trace P accepted holds reading = record {
   holds = holds;
 }
 
--- the summary of the report that was written
-pub reports_of : (Lists : TraceData → List (ℕ × ℕ) → Type 0) (ws : Bool) (trace : TraceData) (races : List Pair) (count : ℕ) (summary : Summary) (old new : Option (List ℕ))
-    → summary ≡ summary_of trace count → count ≡ length races → Lists trace (map ends races) → WritesReport (These (map ends races)) ws trace old new → ReportsTrace Lists ws trace summary old new
-reports_of Lists ws trace races count summary old new is counted lists written = record {
-  bytes = written.bytes;
-  report = (known_written Lists ws trace (map ends races) lists old new written).report;
-  written = written.written;
-  summary_is = is ∙ ap (summary_of trace) (counted ∙ sym (length-map races ends) ∙ sym (ap length written.report.races_are));
-}
-
 pub or_then : {A B C : Type 0} → A ⊎ B → (B → C) → A ⊎ C
 or_then (inl a) then = inl a
 or_then (inr b) then = inr (then b)
 
--- what was written of the report where the sink failed, and where memory was refused
-module _ (choice : Choice) (ws : Bool) (trace : TraceData) (races : List (ℕ × ℕ)) (lists : ListedBy choice trace races) where
-  pub cut_known : {T : Type 0} (U : Type 0) (old new : Option (List ℕ)) (error : WriteError) (r : Result T WriteError) → IsErrAnd r (λ e. e ≡ error)
-      → OnFailedSink {T = U} (Err error) (CutsReportOn (These races) ws trace old new) → OnFailedSink r (CutsReportOn (ListedBy choice) ws trace old new)
-  cut_known U old new error (Ok x) is cut = absurd is
-  cut_known {T} U old new error (Err e) is cut = subst (λ (e : WriteError). OnFailedSink {T = T} (Err e) (CutsReportOn (ListedBy choice) ws trace old new)) (sym is) (by error cut)
-    where
-      by : (error : WriteError) → OnFailedSink {T = U} (Err error) (CutsReportOn (These races) ws trace old new) → OnFailedSink {T = T} (Err error) (CutsReportOn (ListedBy choice) ws trace old new)
-      by writing.Sink cut = known_cut (ListedBy choice) ws trace races lists old new cut
-      by (writing.Memory _) cut = tt
+-- a report on these races is one of this choice
+module _ {K : Type 0} (choice : Choice) (ws : Bool) (trace : TraceData) (races : List (ℕ × ℕ)) (lists : ListedBy choice trace races) (taken : K → Option (List ℕ)) (failures : K → ℕ) (old new : K) where
+  pub summed : (U : Type 0) (x : U) (summary : Summary) (count : ℕ) → summary ≡ summary_of trace count → FitsU64 summary → count ≡ length races
+      → HasReported {T = U} (These races) ws trace taken failures old new (Ok x) → HasSummed choice ws trace taken failures old new (Ok summary)
+  summed U x summary count is fits counted has =
+      let written = has.report in record {
+        report = record {
+          bytes = written.bytes;
+          report = (known_written (ListedBy choice) ws trace races lists (taken old) (taken new) written).report;
+          written = written.written;
+          summary_is = is ∙ ap (summary_of trace) (counted ∙ sym (ap length written.report.races_are));
+        };
+        fits = fits;
+        cut = tt;
+        memory = tt;
+        counted = has.counted;
+      }
 
-  pub memory_known : {T : Type 0} (U : Type 0) (same : Type 0) (old new : Option (List ℕ)) (error : WriteError) (r : Result T WriteError) → IsErrAnd r (λ e. e ≡ error)
-      → OnNoMemory {T = U} (Err error) (same ⊎ CutsBlocksOn (These races) ws trace old new) → OnNoMemory r (same ⊎ CutsBlocksOn (ListedBy choice) ws trace old new)
-  memory_known U same old new error (Ok x) is cut = absurd is
-  memory_known {T} U same old new error (Err e) is cut = subst (λ (e : WriteError). OnNoMemory {T = T} (Err e) (same ⊎ CutsBlocksOn (ListedBy choice) ws trace old new)) (sym is) (by error cut)
+  pub summed_error : (U : Type 0) (error : WriteError) (r : Result Summary WriteError) → IsErrAnd r (λ e. e ≡ error) → HasReported {T = U} (These races) ws trace taken failures old new (Err error)
+      → HasSummed choice ws trace taken failures old new r
+  summed_error U error (Ok x) is has = absurd is
+  summed_error U error (Err e) is has = subst (λ (e : WriteError). HasSummed choice ws trace taken failures old new (Err e)) (sym is) (by error has)
     where
-      by : (error : WriteError) → OnNoMemory {T = U} (Err error) (same ⊎ CutsBlocksOn (These races) ws trace old new) → OnNoMemory {T = T} (Err error) (same ⊎ CutsBlocksOn (ListedBy choice) ws trace old new)
-      by writing.Sink cut = tt
-      by (writing.Memory _) cut = or_then cut (known_blocks (ListedBy choice) ws trace races lists old new)
+      by : (error : WriteError) → HasReported {T = U} (These races) ws trace taken failures old new (Err error) → HasSummed choice ws trace taken failures old new (Err error)
+      by writing.Sink has = record { report = tt; fits = tt; cut = known_cut (ListedBy choice) ws trace races lists (taken old) (taken new) has.cut; memory = tt; counted = has.counted }
+      by (writing.Memory _) has = record { report = tt; fits = tt; cut = tt; memory = or_then has.memory (known_blocks (ListedBy choice) ws trace races lists (taken old) (taken new)); counted = has.counted }
+
+-- memory was refused before anything was written
+pub unsummed : {K : Type 0} (choice : Choice) (ws : Bool) (trace : TraceData) (taken : K → Option (List ℕ)) (failures : K → ℕ) (sink : K) (refused : NoMemory) (r : Result Summary WriteError) → IsErrAnd r (λ e. e ≡ writing.Memory refused)
+    → HasSummed choice ws trace taken failures sink sink r
+unsummed choice ws trace taken failures sink refused (Ok x) is = absurd is
+unsummed choice ws trace taken failures sink refused (Err e) is = subst (λ (e : WriteError). HasSummed choice ws trace taken failures sink sink (Err e)) (sym is)
+    (record { report = tt; fits = tt; cut = tt; memory = inl refl; counted = refl })
 
 -- known bytes that grew by the front of a report, or by nothing
 pub grown_of_refused : {K : Type 0} (taken : K → Option (List ℕ)) (Lists : TraceData → List (ℕ × ℕ) → Type 0) (ws : Bool) (trace : TraceData) (before after : K)

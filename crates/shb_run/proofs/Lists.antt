@@ -33,13 +33,3 @@ found_asked events flags asks races open_ones asked lists =
     (All-from_get_or (λ (r : ℕ × ℕ). (asks r.0 ≡ true) × (asks r.1 ≡ true)) races (0, 0)
     (λ i lt. asks_race events flags asks (get_or races i (0, 0)).0 (get_or races i (0, 0)).1 open_ones asked
     ((lists.all (get_or races i (0, 0)).0 (get_or races i (0, 0)).1).0 (Contains-get_or races i (0, 0) lt))))
-
--- the summary of the report that was written
-pub list_reported : (ws : Bool) (trace : TraceData) (races : List (ℕ × ℕ)) (count : ℕ) (summary : Summary) (old new : Option (List ℕ)) → summary ≡ summary_of trace count → count ≡ length races
-    → AllRaces trace races → WritesReport (These races) ws trace old new → ReportsTrace AllRaces ws trace summary old new
-list_reported ws trace races count summary old new is counted lists written = record {
-  bytes = written.bytes;
-  report = (known_written AllRaces ws trace races lists old new written).report;
-  written = written.written;
-  summary_is = is ∙ ap (summary_of trace) (counted ∙ sym (ap length written.report.races_are));
-}

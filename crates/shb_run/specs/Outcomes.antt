@@ -7,11 +7,21 @@ use Rattle.shb_lines.specs.text.Taking.{ReadsText, TakesAtMost}
 use Rattle.shb_discipline.specs.FirstFault.{IsFirstFault}
 use Rattle.shb_check.specs.declared.errors.RunError.{RunError}
 use Rattle.shb_check.specs.Outcomes.{Grows, OnJudged, OnMemory, OnNoTrace, OnSink, OnTrace, sink_failed, source_failed}
-use Rattle.shb_write.specs.Written.{CutsBlocksOn, CutsReportOn}
+use Rattle.shb_lines.specs.text.TraceData.{TraceData}
+use Rattle.shb_write.specs.declared.errors.WriteError.{WriteError}
+use Rattle.shb_write.specs.Written.{CutsBlocksOn, CutsReportOn, OnFailedSink, OnNoMemory, write_failed}
 use Rattle.shb_run.specs.declared.settings.Choice.{Choice}
 use Rattle.shb_run.specs.declared.settings.Summary.{Summary}
-use Rattle.shb_run.specs.Runs.{HasTrace, IsReportedBy}
-use Rattle.shb_run.specs.Written.{ListedBy}
+use Rattle.shb_run.specs.Runs.{FitsU64, HasTrace, IsReportedBy}
+use Rattle.shb_run.specs.Written.{ListedBy, ReportsTrace}
+
+-- what the writing of the report of a trace leaves, and what it answers: all of the report and its summary; the front of it where the sink failed; and where memory was refused nothing or all lines before the first block
+pub record HasSummed {K : Type 0} (choice : Choice) (with_schedules : Bool) (trace : TraceData) (taken : K → Option (List ℕ)) (failures : K → ℕ) (old new : K) (answer : Result Summary WriteError) : Type 0 where
+  pub report : IfOk answer (λ summary. ReportsTrace (ListedBy choice) with_schedules trace summary (taken old) (taken new))
+  pub fits : IfOk answer FitsU64
+  pub cut : OnFailedSink answer (CutsReportOn (ListedBy choice) with_schedules trace (taken old) (taken new))
+  pub memory : OnNoMemory answer ((new ≡ old) ⊎ CutsBlocksOn (ListedBy choice) with_schedules trace (taken old) (taken new))
+  pub counted : CountsFailure write_failed (failures old) (failures new) answer
 
 -- of a source: the bytes still to come, how many bytes it has given, and how many reads have failed, at the start and at the end; of a sink: the bytes that it took, and how many writes have failed
 module _ {A B : Type 0} (choice : Choice) (with_schedules : Bool) (remaining : A → Option (List ℕ)) (given failed_reads : A → ℕ) (source left : A)

@@ -3,7 +3,6 @@ use Rattle.std.specs.Prelude.{◌≡◌, ℕ, Bool, List, length, Option}
 use Rattle.std.specs.Io.KnownBytes.{Appends}
 use Rattle.shb_lines.specs.text.TraceData.{TraceData}
 use Rattle.shb_report.specs.Report.{AllRaces, IsReportOn, LeadingRaces}
-use Rattle.shb_write.specs.Written.{CutsBlocksOn, CutsReportOn}
 use Rattle.shb_run.specs.declared.settings.Choice.{Choice}
 use Rattle.shb_run.specs.declared.settings.Choice.TheVariants.{All, Leading}
 use Rattle.shb_run.specs.declared.settings.Summary.{Summary}
@@ -12,13 +11,6 @@ use Rattle.shb_run.specs.declared.settings.Summary.{Summary}
 abbrev pub ListedBy : Choice → TraceData → List (ℕ × ℕ) → Type 0
 ListedBy All = AllRaces
 ListedBy Leading = LeadingRaces
-
--- the same of the report of a trace, on all races
-abbrev pub CutsReport : Bool → TraceData → Option (List ℕ) → Option (List ℕ) → Type 0
-CutsReport with_schedules trace old new = CutsReportOn AllRaces with_schedules trace old new
-
-abbrev pub CutsBlocks : Bool → TraceData → Option (List ℕ) → Option (List ℕ) → Type 0
-CutsBlocks with_schedules trace old new = CutsBlocksOn AllRaces with_schedules trace old new
 
 -- what a run says of a trace with so many races
 abbrev pub summary_of : TraceData → ℕ → Summary

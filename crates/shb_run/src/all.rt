@@ -1,10 +1,7 @@
 //! The report of all races of a trace.
-ghost use Rattle.std.specs.Prelude.{◌≡◌, ◌⊎◌, ◌-◌, ◌^◌, ◌<◌, IfOk};
-ghost use Rattle.shb_io.specs.Devices.{CountsFailure};
-ghost use Rattle.shb_report.specs.Report.{AllRaces};
-ghost use Rattle.shb_run.specs.Runs.{FitsU64};
-ghost use Rattle.shb_run.specs.Written.{CutsBlocks, CutsReport, ReportsTrace};
-ghost use Rattle.shb_write.specs.Written.{OnFailedSink, OnNoMemory, write_failed};
+ghost use Rattle.std.specs.Prelude.{◌-◌, ◌^◌, ◌<◌};
+ghost use Rattle.shb_run.specs.declared.settings.Choice.TheVariants.{All};
+ghost use Rattle.shb_run.specs.Outcomes.{HasSummed};
 
 use crate::pipeline::summary_of;
 use crate::screened::Screened;
@@ -36,16 +33,7 @@ pub(crate) fn report_found<
     gates: &Gates<'_, '_, P, W>,
 ) -> Result<Summary, WriteError>
     requires countable { K.failure_count sink.old < 2 ^ 64 - 1 }
-    ensures report { IfOk result (λ summary.
-        ReportsTrace AllRaces settings.schedules screened.now.ordered.now.disciplined.now.trace.now summary
-        (K.taken sink.old) (K.taken sink.new)) }
-    ensures fits { IfOk result FitsU64 }
-    ensures cut { OnFailedSink result (CutsReport settings.schedules screened.now.ordered.now.disciplined.now.trace.now
-        (K.taken sink.old) (K.taken sink.new)) }
-    ensures memory { OnNoMemory result ((sink.new ≡ sink.old)
-        ⊎ CutsBlocks settings.schedules screened.now.ordered.now.disciplined.now.trace.now
-        (K.taken sink.old) (K.taken sink.new)) }
-    ensures counted { CountsFailure write_failed (K.failure_count sink.old) (K.failure_count sink.new) result }
+    ensures { HasSummed All settings.schedules screened.now.ordered.now.disciplined.now.trace.now K.taken K.failure_count sink.old sink.new result }
 {
     let ordered = screened.ordered;
     let accesses = accesses_of_open(alloc, ordered.disciplined, screened.flags)?;

@@ -1,12 +1,10 @@
 //! The report of the leading races of a trace: of each place the first race.
-ghost use Rattle.std.specs.Prelude.{◌≡◌, ◌⊎◌, ◌-◌, ◌^◌, ◌<◌, IfOk, false, map, true};
-ghost use Rattle.shb_io.specs.Devices.{CountsFailure};
+ghost use Rattle.std.specs.Prelude.{◌-◌, ◌^◌, ◌<◌, false, map, true};
 ghost use Rattle.shb_lines.specs.events.Race.{ends};
 ghost use Rattle.shb_report.specs.Report.{LeadingRaces};
-ghost use Rattle.shb_run.specs.Runs.{FitsU64};
-ghost use Rattle.shb_run.specs.Written.{ReportsTrace};
+ghost use Rattle.shb_run.specs.declared.settings.Choice.TheVariants.{Leading};
+ghost use Rattle.shb_run.specs.Outcomes.{HasSummed};
 ghost use Rattle.shb_witness.specs.Schedules.{AsksEach};
-ghost use Rattle.shb_write.specs.Written.{CutsBlocksOn, CutsReportOn, OnFailedSink, OnNoMemory, write_failed};
 
 use crate::pipeline::summary_of;
 use crate::settings::{Settings, Summary};
@@ -35,12 +33,7 @@ fn list_leading<K: Sink>(
 ) -> Result<Summary, WriteError>
     requires countable { K.failure_count sink.old < 2 ^ 64 - 1 }
     requires listed { LeadingRaces trace.now.trace.now (map ends races.now) }
-    ensures report { IfOk result (λ summary. ReportsTrace LeadingRaces false trace.now.trace.now summary (K.taken sink.old) (K.taken sink.new)) }
-    ensures fits { IfOk result FitsU64 }
-    ensures cut { OnFailedSink result (CutsReportOn LeadingRaces false trace.now.trace.now (K.taken sink.old) (K.taken sink.new)) }
-    ensures memory { OnNoMemory result ((sink.new ≡ sink.old)
-        ⊎ CutsBlocksOn LeadingRaces false trace.now.trace.now (K.taken sink.old) (K.taken sink.new)) }
-    ensures counted { CountsFailure write_failed (K.failure_count sink.old) (K.failure_count sink.new) result }
+    ensures { HasSummed Leading false trace.now.trace.now K.taken K.failure_count sink.old sink.new result }
 {
     let places = Places::of_leading(alloc, races)?;
     write_list(sink, trace.trace, races, &places)?;
@@ -59,15 +52,7 @@ fn write_leading<R: Threads + Wait + Sync + RandomSource, K: Sink, O: Order + Sy
     requires countable { K.failure_count sink.old < 2 ^ 64 - 1 }
     requires listed { LeadingRaces ordered.now.disciplined.now.trace.now (map ends races.now) }
     requires asked { AsksEach (O.asks ordered.now.order.now) races.now }
-    ensures report { IfOk result (λ summary. ReportsTrace LeadingRaces true ordered.now.disciplined.now.trace.now summary
-        (K.taken sink.old) (K.taken sink.new)) }
-    ensures fits { IfOk result FitsU64 }
-    ensures cut { OnFailedSink result (CutsReportOn LeadingRaces true ordered.now.disciplined.now.trace.now
-        (K.taken sink.old) (K.taken sink.new)) }
-    ensures memory { OnNoMemory result ((sink.new ≡ sink.old)
-        ⊎ CutsBlocksOn LeadingRaces true ordered.now.disciplined.now.trace.now
-        (K.taken sink.old) (K.taken sink.new)) }
-    ensures counted { CountsFailure write_failed (K.failure_count sink.old) (K.failure_count sink.new) result }
+    ensures { HasSummed Leading true ordered.now.disciplined.now.trace.now K.taken K.failure_count sink.old sink.new result }
 {
     write_report(rt, alloc, sink, ordered, races, plan)?;
     Ok(summary_of(ordered.disciplined.trace, races.len() as u64))
@@ -84,15 +69,7 @@ pub(crate) fn report_leading<R: Threads + Wait + Sync + RandomSource, K: Sink, W
     gate: &W,
 ) -> Result<Summary, WriteError>
     requires countable { K.failure_count sink.old < 2 ^ 64 - 1 }
-    ensures report { IfOk result (λ summary. ReportsTrace LeadingRaces settings.schedules trace.now.trace.now summary
-        (K.taken sink.old) (K.taken sink.new)) }
-    ensures fits { IfOk result FitsU64 }
-    ensures cut { OnFailedSink result (CutsReportOn LeadingRaces settings.schedules trace.now.trace.now
-        (K.taken sink.old) (K.taken sink.new)) }
-    ensures memory { OnNoMemory result ((sink.new ≡ sink.old)
-        ⊎ CutsBlocksOn LeadingRaces settings.schedules trace.now.trace.now
-        (K.taken sink.old) (K.taken sink.new)) }
-    ensures counted { CountsFailure write_failed (K.failure_count sink.old) (K.failure_count sink.new) result }
+    ensures { HasSummed Leading settings.schedules trace.now.trace.now K.taken K.failure_count sink.old sink.new result }
 {
     let links = links_of(alloc, &*trace)?;
     let flags = open_variables(alloc, &*trace, &links)?;

@@ -1,12 +1,9 @@
 //! The whole run: read, judge, find the races, write.
-ghost use Rattle.std.specs.Prelude.{◌≡◌, ◌⊎◌, ◌-◌, ◌^◌, ◌<◌, IfOk};
-ghost use Rattle.shb_io.specs.Devices.{CountsFailure};
-ghost use Rattle.shb_report.specs.Report.{AllRaces};
+ghost use Rattle.std.specs.Prelude.{◌≡◌, ◌-◌, ◌^◌, ◌<◌};
 ghost use Rattle.shb_run.specs.declared.settings.Choice.TheVariants.{All};
-ghost use Rattle.shb_run.specs.Outcomes.{IsOutcome};
+ghost use Rattle.shb_run.specs.Outcomes.{HasSummed, IsOutcome};
 ghost use Rattle.shb_run.specs.Runs.{FitsU64};
-ghost use Rattle.shb_write.specs.Written.{CutsBlocksOn, CutsReportOn, OnFailedSink, OnNoMemory, write_failed};
-ghost use Rattle.shb_run.specs.Written.{CutsBlocks, CutsReport, ListedBy, ReportsTrace, summary_of};
+ghost use Rattle.shb_run.specs.Written.{summary_of};
 
 use crate::all::report_found;
 use crate::leading::report_leading;
@@ -50,15 +47,7 @@ fn report_all<R: Threads + Wait + Sync + RandomSource, K: Sink, P: Gate + Sync, 
     gates: &Gates<'_, '_, P, W>,
 ) -> Result<Summary, WriteError>
     requires countable { K.failure_count sink.old < 2 ^ 64 - 1 }
-    ensures report { IfOk result (λ summary. ReportsTrace AllRaces settings.schedules trace.now.trace.now summary
-        (K.taken sink.old) (K.taken sink.new)) }
-    ensures fits { IfOk result FitsU64 }
-    ensures cut { OnFailedSink result (CutsReport settings.schedules trace.now.trace.now
-        (K.taken sink.old) (K.taken sink.new)) }
-    ensures memory { OnNoMemory result ((sink.new ≡ sink.old)
-        ⊎ CutsBlocks settings.schedules trace.now.trace.now
-        (K.taken sink.old) (K.taken sink.new)) }
-    ensures counted { CountsFailure write_failed (K.failure_count sink.old) (K.failure_count sink.new) result }
+    ensures { HasSummed All settings.schedules trace.now.trace.now K.taken K.failure_count sink.old sink.new result }
 {
     let links = links_of(alloc, &*trace)?;
     let flags = open_variables(alloc, &*trace, &links)?;
@@ -78,15 +67,7 @@ fn report_asked<R: Threads + Wait + Sync + RandomSource, K: Sink, P: Gate + Sync
     gates: &Gates<'_, '_, P, W>,
 ) -> Result<Summary, WriteError>
     requires countable { K.failure_count sink.old < 2 ^ 64 - 1 }
-    ensures report { IfOk result (λ summary. ReportsTrace (ListedBy task.choice) task.settings.schedules trace.now.trace.now summary
-        (K.taken sink.old) (K.taken sink.new)) }
-    ensures fits { IfOk result FitsU64 }
-    ensures cut { OnFailedSink result (CutsReportOn (ListedBy task.choice) task.settings.schedules trace.now.trace.now
-        (K.taken sink.old) (K.taken sink.new)) }
-    ensures memory { OnNoMemory result ((sink.new ≡ sink.old)
-        ⊎ CutsBlocksOn (ListedBy task.choice) task.settings.schedules trace.now.trace.now
-        (K.taken sink.old) (K.taken sink.new)) }
-    ensures counted { CountsFailure write_failed (K.failure_count sink.old) (K.failure_count sink.new) result }
+    ensures { HasSummed task.choice task.settings.schedules trace.now.trace.now K.taken K.failure_count sink.old sink.new result }
 {
     match task.choice {
         Choice::All => report_all(rt, alloc, sink, trace, task.settings, gates),

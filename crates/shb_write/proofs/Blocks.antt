@@ -1,101 +1,183 @@
--- The blocks of some races, one race more at a time.
-use Rattle.std.proofs.Common.{◌≡◌, ◌⊎◌, inl, inr, ℕ, ◌+◌, ◌<◌, ◌≤◌, Bool, true, false, List, [], ◌∷◌, ◌++◌, length, map, take, drop, get_or, Option, None, Some, Result, Ok, Err, IsErrAnd, refl, sym, ap, subst, ◌∙◌, append_assoc, append-nil, arith}
-use Rattle.std.specs.Prelude.{MatchResult}
+-- The blocks of some races after those of others.
+use Rattle.std.proofs.Common.{◌≡◌, ◌⊎◌, inl, inr, ℕ, ◌+◌, ◌<◌, ◌≤◌, Bool, true, false, List, [], ◌∷◌, ◌++◌, length, map, take, drop, get_or, All, Option, None, Some, Result, Ok, Err, refl, sym, ap, subst, ◌∙◌, append_assoc, append-nil, arith}
+use Rattle.std.specs.Prelude.{IfErr, IfOk, OnErr, OnOk}
 use Rattle.std.proofs.lemmas.Bool.{cases_lt}
-use Rattle.std.proofs.lemmas.List.{map-append, length-map, take_all, take_more, take-append-drop, length-take-le}
-use Rattle.std.proofs.lemmas.List.Elements.{All-nil, All-push}
+use Rattle.std.proofs.lemmas.List.{length-append, map-append, map_more, map_push, take_all, take-append-drop}
+use Rattle.std.proofs.lemmas.List.Elements.{All-map}
+use Rattle.std.proofs.Math.Seq.{take-append-add, take-append_seam}
 use Rattle.std.specs.Io.KnownBytes.{Appends}
 use Rattle.shb_io.specs.Devices.{AppendsPrefix}
-use Rattle.shb_io.proofs.Growth.{Appends-nil, Appends-trans, AppendsPrefix-after, AppendsPrefix-front, AppendsPrefix-whole}
-use Rattle.shb_lines.specs.declared.event.Event.{Event}
+use Rattle.shb_io.specs.declared.no_memory.NoMemory.{NoMemory}
+use Rattle.shb_io.proofs.Growth.{Appends-trans, AppendsPrefix-front, AppendsPrefix-whole}
 use Rattle.shb_lines.specs.declared.event.Pair.{Pair}
-use Rattle.shb_lines.specs.events.Discipline.{IsDisciplined}
-use Rattle.shb_lines.specs.events.Schedule.{IsPrintedSchedule}
-use Rattle.shb_lines.specs.text.TraceData.{TraceData}
-use Rattle.shb_lines.proofs.events.Decide.{printed_exists}
-use Rattle.shb_report.specs.Report.{AreBlocks, HasSchedule, ShownRace, block_bytes, blocks_from}
-use Rattle.shb_write.specs.declared.errors.WriteError.{WriteError}
-use Rattle.shb_write.specs.Written.{AppendsFront, WritesBlocks}
 use Rattle.shb_lines.specs.events.Race.{ends}
+use Rattle.shb_lines.specs.text.TraceData.{TraceData}
+use Rattle.shb_report.specs.Report.{AreBlocks, HasSchedule, ShownRace, block_bytes, blocks_from, pair_of}
+use Rattle.shb_witness.proofs.Printed.{computed_is_printed}
+use Rattle.shb_write.specs.declared.block_writer.BlockWriter.{BlockWriter}
+use Rattle.shb_write.specs.declared.errors.WriteError.{WriteError}
+use Rattle.shb_write.specs.declared.errors.WriteError.TheVariants as errors
+use Rattle.shb_write.specs.Blocks.{HasStopped, HasWritten, WritesBlocks, alone, blocks_of, failures_after, scheduled}
+use Rattle.shb_write.specs.Written.{AppendsFront}
 
--- the block of the last race stands last
-pub blocks_from-push : (trace : TraceData) (number place : ℕ) (shown : List ShownRace) (race : ShownRace) → place ≡ number + length shown
-    → blocks_from trace number (shown ++ race ∷ []) ≡ blocks_from trace number shown ++ block_bytes trace place race.pair race.schedule
-blocks_from-push trace number place [] race is =
-    let same : place ≡ number = omega arith in
-    append-nil (block_bytes trace number race.pair race.schedule) ∙ ap (λ n. block_bytes trace n race.pair race.schedule) (sym same)
-blocks_from-push trace number place (first ∷ shown) race is =
-    let later = blocks_from-push trace (number + 1) place shown race (omega arith) in
-    ap (λ l. block_bytes trace number first.pair first.schedule ++ l) later
-    ∙ sym (append_assoc (block_bytes trace number first.pair first.schedule) (blocks_from trace (number + 1) shown) (block_bytes trace place race.pair race.schedule))
+blocks-append : (trace : TraceData) (n m : ℕ) (xs ys : List ShownRace) → m ≡ length xs + n → blocks_from trace n (xs ++ ys) ≡ blocks_from trace n xs ++ blocks_from trace m ys
+blocks-append trace n m [] ys is = ap (λ k. blocks_from trace k ys) (let e : n ≡ m = omega (arith, is) in e)
+blocks-append trace n m (x ∷ xs) ys is =
+    ap (λ l. block_bytes trace n x.pair x.schedule ++ l) (blocks-append trace (n + 1) m xs ys (omega (arith, is)))
+    ∙ sym (append_assoc (block_bytes trace n x.pair x.schedule) (blocks_from trace (n + 1) xs) (blocks_from trace m ys))
 
--- no races have no blocks
-pub AreBlocks-nil : (ws : Bool) (trace : TraceData) → AreBlocks ws trace [] []
-AreBlocks-nil ws trace = record { shown = []; races_are = refl; schedules_are = All-nil (HasSchedule ws trace); bytes_are = refl }
+-- the computed blocks are those of the races
+module _ (f : ℕ × ℕ → ShownRace) (same : (race : ℕ × ℕ) → (f race).pair ≡ race) where
+  pairs_of : (races : List (ℕ × ℕ)) → map (λ (race : ShownRace). race.pair) (map f races) ≡ races
+  pairs_of [] = refl
+  pairs_of (race ∷ races) = ap (λ (r : ℕ × ℕ). r ∷ map (λ (race : ShownRace). race.pair) (map f races)) (same race) ∙ ap (λ l. race ∷ l) (pairs_of races)
 
--- the block of one race more
-pub AreBlocks-push : (ws : Bool) (trace : TraceData) (races : List (ℕ × ℕ)) (bytes : List ℕ) (race : ShownRace) → AreBlocks ws trace races bytes → HasSchedule ws trace race
-    → AreBlocks ws trace (races ++ race.pair ∷ []) (bytes ++ block_bytes trace (1 + length races) race.pair race.schedule)
-AreBlocks-push ws trace races bytes race blocks has =
-    let shown = blocks.shown in
-    let block = block_bytes trace (1 + length races) race.pair race.schedule in
-    let as_many : length shown ≡ length races = sym (length-map shown (λ r. r.pair)) ∙ ap length blocks.races_are in
-    record {
-      shown = shown ++ race ∷ [];
-      races_are = map-append (λ r. r.pair) shown (race ∷ []) ∙ ap (λ l. l ++ race.pair ∷ []) blocks.races_are;
-      schedules_are = All-push (HasSchedule ws trace) shown race blocks.schedules_are has;
-      bytes_are = ap (λ l. l ++ block) blocks.bytes_are ∙ sym (blocks_from-push trace 1 (1 + length races) shown race (omega arith));
-    }
+pub are_blocks : (with_schedules : Bool) (trace : TraceData) (races : List (ℕ × ℕ)) → AreBlocks with_schedules trace races (blocks_of with_schedules trace races)
+are_blocks true trace races = record {
+  shown = map (scheduled trace) races;
+  races_are = pairs_of (scheduled trace) (λ race. refl) races;
+  schedules_are = All-map (HasSchedule true trace) (scheduled trace) races (λ k d lt. computed_is_printed trace.events (pair_of (get_or races k d)));
+  bytes_are = refl;
+}
+are_blocks false trace races = record {
+  shown = map alone races;
+  races_are = pairs_of alone (λ race. refl) races;
+  schedules_are = All-map (HasSchedule false trace) alone races (λ k d lt. refl);
+  bytes_are = refl;
+}
 
--- each pair can be shown
-pub shown_exists : (ws : Bool) (trace : TraceData) (pair : ℕ × ℕ) → IsDisciplined trace.events → (schedule : Option (List ℕ)) × HasSchedule ws trace (record { pair = pair; schedule = schedule })
-shown_exists true trace pair disciplined = let printed = printed_exists trace.events disciplined pair.0 pair.1 in (Some printed.0, printed.1)
-shown_exists false trace pair disciplined = (None, refl)
-
--- blocks go on with those of further races
-pub AreBlocks-more : (ws : Bool) (trace : TraceData) (races others : List (ℕ × ℕ)) (bytes : List ℕ) → IsDisciplined trace.events → AreBlocks ws trace races bytes
-    → (rest : List ℕ) × AreBlocks ws trace (races ++ others) (bytes ++ rest)
-AreBlocks-more ws trace races [] bytes disciplined blocks =
-    ([], subst (λ r. AreBlocks ws trace r (bytes ++ [])) (sym (append-nil races)) (subst (λ b. AreBlocks ws trace races b) (sym (append-nil bytes)) blocks))
-AreBlocks-more ws trace races (pair ∷ others) bytes disciplined blocks =
-    let next = shown_exists ws trace pair disciplined in
-    let block = block_bytes trace (1 + length races) pair next.0 in
-    let one = AreBlocks-push ws trace races bytes (record { pair = pair; schedule = next.0 }) blocks next.1 in
-    let more = AreBlocks-more ws trace (races ++ pair ∷ []) others (bytes ++ block) disciplined one in
-    (block ++ more.0, subst (λ r. AreBlocks ws trace r (bytes ++ (block ++ more.0))) (append_assoc races (pair ∷ []) others) (subst (λ b. AreBlocks ws trace ((races ++ pair ∷ []) ++ others) b) (append_assoc bytes block more.0) more.1))
-
--- the printed schedule is shown where schedules are wanted, whatever the events are called
-pub shows_printed : (ws : Bool) (trace : TraceData) (events : List Event) (pair : ℕ × ℕ) (s : List ℕ) → ws ≡ true → events ≡ trace.events → IsPrintedSchedule events s pair.0 pair.1
-    → HasSchedule ws trace (record { pair = pair; schedule = Some s })
-shows_printed true trace events pair s wanted same printed = subst (λ e. IsPrintedSchedule e s pair.0 pair.1) same printed
-shows_printed false trace events pair s wanted same printed = absurd (let f : ⊥ = cc in f)
-
--- the races up to an index, and the one there
-pub ends-take : (races : List Pair) (i : ℕ) (d : Pair) → i < length races → map ends (take (i + 1) races) ≡ map ends (take i races) ++ ends (get_or races i d) ∷ []
-ends-take races i d lt = ap (map ends) (take_more races i d lt) ∙ map-append ends (take i races) (get_or races i d ∷ [])
+-- ---- fronts of what is to be written
 
 -- less than all bytes are the front of them
 pub front_of : (old new : Option (List ℕ)) (bs : List ℕ) → AppendsPrefix old new bs → AppendsFront old new bs
 front_of old new bs p = (p.0, p.2)
 
-front_written : {U : Type 0} (Q : WriteError → Type 0) (r : Result U WriteError) (old new : Option (List ℕ)) (bs : List ℕ) → IsErrAnd r Q → AppendsFront old new bs
-    → MatchResult r (λ _. Appends old new bs) (λ _. AppendsFront old new bs)
-front_written Q (Ok x) old new bs failed front = absurd failed
-front_written Q (Err e) old new bs failed front = front
+pub whole_front : (old new : Option (List ℕ)) (xs : List ℕ) → Appends old new xs → AppendsFront old new xs
+whole_front old new xs has = (length xs, subst (Appends old new) (sym (take_all (length xs) xs (omega arith))) has)
+
+front_more : (old new : Option (List ℕ)) (xs ys : List ℕ) → AppendsFront old new xs → AppendsFront old new (xs ++ ys)
+front_more old new xs ys front = cases (cases_lt front.0 (length xs))
+  where
+    cases : (front.0 < length xs) ⊎ (length xs ≤ front.0) → AppendsFront old new (xs ++ ys)
+    cases (inl lt) = front_of old new (xs ++ ys) (AppendsPrefix-front old new xs ys (front.0, lt, front.1))
+    cases (inr le) = (length xs, subst (Appends old new) (take_all front.0 xs le ∙ sym (take-append_seam xs ys)) front.1)
+
+front_after : (old now new : Option (List ℕ)) (xs ys : List ℕ) → Appends old now xs → AppendsFront now new ys → AppendsFront old new (xs ++ ys)
+front_after old now new xs ys before front = (length xs + front.0, subst (Appends old new) (sym (take-append-add xs ys front.0)) (Appends-trans old now new xs (take front.0 ys) before front.1))
 
 -- what was written of the blocks lacks what comes after them
-pub AppendsFront-then : (old new : Option (List ℕ)) (xs ys : List ℕ) → 0 < length ys → AppendsFront old new xs → AppendsPrefix old new (xs ++ ys)
-AppendsFront-then old new xs ys some front = cases (cases_lt front.0 (length xs))
+pub front_lacks : (old new : Option (List ℕ)) (xs ys : List ℕ) → 0 < length ys → AppendsFront old new xs → AppendsPrefix old new (xs ++ ys)
+front_lacks old new xs ys some front = cases (cases_lt front.0 (length xs))
   where
     cases : (front.0 < length xs) ⊎ (length xs ≤ front.0) → AppendsPrefix old new (xs ++ ys)
     cases (inl lt) = AppendsPrefix-front old new xs ys (front.0, lt, front.1)
     cases (inr le) = AppendsPrefix-whole old new xs ys some (subst (Appends old new) (take_all front.0 xs le) front.1)
 
--- nothing was written
-pub WritesBlocks-none : {U : Type 0} (ws : Bool) (trace : TraceData) (races : List (ℕ × ℕ)) (old : Option (List ℕ)) (Q : WriteError → Type 0) (r : Result U WriteError) → IsDisciplined trace.events → IsErrAnd r Q → WritesBlocks ws trace races old old r
-WritesBlocks-none ws trace races old Q r disciplined failed =
-    let all = AreBlocks-more ws trace [] races [] disciplined (AreBlocks-nil ws trace) in record {
-      bytes = all.0;
-      blocks = all.1;
-      written = front_written Q r old old all.0 failed (0, Appends-nil old);
+-- the front of the blocks of the first races
+pub blocks_front : (trace : TraceData) (n : ℕ) (xs rest all : List ShownRace) (old new : Option (List ℕ)) → all ≡ xs ++ rest → AppendsFront old new (blocks_from trace n xs) → AppendsFront old new (blocks_from trace n all)
+blocks_front trace n xs rest all old new is front =
+    subst (AppendsFront old new) (sym (ap (blocks_from trace n) is ∙ blocks-append trace n (length xs + n) xs rest refl)) (front_more old new (blocks_from trace n xs) (blocks_from trace (length xs + n) rest) front)
+
+-- the same of races without schedules
+pub found_front : (trace : TraceData) (all xs rest : List (ℕ × ℕ)) (old new : Option (List ℕ)) → all ≡ xs ++ rest → AppendsFront old new (blocks_from trace 1 (map alone xs)) → AppendsFront old new (blocks_of false trace all)
+found_front trace all xs rest old new is front = blocks_front trace 1 (map alone xs) (map alone rest) (map alone all) old new (ap (map alone) is ∙ map-append alone xs rest) front
+
+-- ---- blocks one after the other
+
+module _ {K : Type 0} (taken : K → Option (List ℕ)) (failures : K → ℕ) where
+  next_blocks : (start middle : BlockWriter K) (xs ys all : List ShownRace) → all ≡ xs ++ ys → HasWritten taken failures start xs middle
+      → blocks_from start.trace.now (start.written + 1) all ≡ blocks_from start.trace.now (start.written + 1) xs ++ blocks_from middle.trace.now (middle.written + 1) ys
+  next_blocks start middle xs ys all is has =
+      ap (blocks_from start.trace.now (start.written + 1)) is
+      ∙ blocks-append start.trace.now (start.written + 1) (middle.written + 1) xs ys (omega (arith, has.as_many))
+      ∙ ap (λ (t : TraceData). blocks_from start.trace.now (start.written + 1) xs ++ blocks_from t (middle.written + 1) ys) (sym has.same_trace)
+
+  pub written_then : (start middle end : BlockWriter K) (xs ys all : List ShownRace) → all ≡ xs ++ ys → HasWritten taken failures start xs middle → HasWritten taken failures middle ys end → HasWritten taken failures start all end
+  written_then start middle end xs ys all is a b = record {
+    same_sink = b.same_sink ∙ a.same_sink;
+    same_trace = b.same_trace ∙ a.same_trace;
+    as_many = omega (arith, a.as_many, b.as_many, ap length is, length-append xs ys);
+    appended = subst (Appends (taken start.sink.now) (taken end.sink.now)) (sym (next_blocks start middle xs ys all is a)) (Appends-trans _ _ _ _ _ a.appended b.appended);
+    counted = b.counted ∙ a.counted;
+  }
+
+  pub stopped_then : (start middle end : BlockWriter K) (xs ys rest all : List ShownRace) (e : WriteError) → all ≡ (xs ++ ys) ++ rest → HasWritten taken failures start xs middle → HasStopped taken failures middle ys e end
+      → HasStopped taken failures start all e end
+  stopped_then start middle end xs ys rest all e is a b = record {
+    same_sink = b.same_sink ∙ a.same_sink;
+    front = blocks_front start.trace.now (start.written + 1) (xs ++ ys) rest all _ _ is
+        (subst (AppendsFront (taken start.sink.now) (taken end.sink.now)) (sym (next_blocks start middle xs ys (xs ++ ys) refl a)) (front_after _ _ _ _ _ a.appended b.front));
+    counted = b.counted ∙ ap (failures_after e) a.counted;
+  }
+
+  -- memory was refused after these
+  pub stopped_after : (start end : BlockWriter K) (xs rest all : List ShownRace) (refused : NoMemory) → all ≡ xs ++ rest → HasWritten taken failures start xs end → HasStopped taken failures start all (errors.Memory refused) end
+  stopped_after start end xs rest all refused is has = record {
+    same_sink = has.same_sink;
+    front = blocks_front start.trace.now (start.written + 1) xs rest all _ _ is (whole_front _ _ _ has.appended);
+    counted = has.counted;
+  }
+
+  -- the block of one race
+  module _ (start end : BlockWriter K) (race : ShownRace) (sink : end.sink.ghost_name ≡ start.sink.ghost_name) where
+    pub one_written : end.trace.now ≡ start.trace.now → end.written ≡ start.written + 1 → Appends (taken start.sink.now) (taken end.sink.now) (block_bytes start.trace.now (start.written + 1) race.pair race.schedule)
+        → failures end.sink.now ≡ failures start.sink.now → HasWritten taken failures start (race ∷ []) end
+    one_written trace many written counted = record {
+      same_sink = sink;
+      same_trace = trace;
+      as_many = omega (arith, many);
+      appended = subst (Appends (taken start.sink.now) (taken end.sink.now)) (sym (append-nil (block_bytes start.trace.now (start.written + 1) race.pair race.schedule))) written;
+      counted = counted;
     }
+
+    pub one_stopped : AppendsPrefix (taken start.sink.now) (taken end.sink.now) (block_bytes start.trace.now (start.written + 1) race.pair race.schedule) → failures end.sink.now ≡ failures start.sink.now + 1
+        → HasStopped taken failures start (race ∷ []) errors.Sink end
+    one_stopped cut counted = record {
+      same_sink = sink;
+      front = front_of _ _ _ (subst (AppendsPrefix (taken start.sink.now) (taken end.sink.now)) (sym (append-nil (block_bytes start.trace.now (start.written + 1) race.pair race.schedule))) cut);
+      counted = counted;
+    }
+
+-- ---- a list of pairs, one pair after the other
+
+module _ (pairs : List Pair) (k : ℕ) (d : Pair) (lt : k < length pairs) where
+  pub alone_more : map alone (map ends (take (k + 1) pairs)) ≡ map alone (map ends (take k pairs)) ++ alone (ends (get_or pairs k d)) ∷ []
+  alone_more = ap (map alone) (map_more ends pairs k d lt) ∙ map_push alone (map ends (take k pairs)) (ends (get_or pairs k d))
+
+  pub alone_split : map alone (map ends pairs) ≡ (map alone (map ends (take k pairs)) ++ alone (ends (get_or pairs k d)) ∷ []) ++ map alone (map ends (drop (k + 1) pairs))
+  alone_split =
+      ap (λ l. map alone (map ends l)) (sym (take-append-drop (k + 1) pairs))
+      ∙ ap (map alone) (map-append ends (take (k + 1) pairs) (drop (k + 1) pairs))
+      ∙ map-append alone (map ends (take (k + 1) pairs)) (map ends (drop (k + 1) pairs))
+      ∙ ap (λ l. l ++ map alone (map ends (drop (k + 1) pairs))) alone_more
+
+-- what holds of what was found there holds of what was left after
+pub left_after : {K : Type 0} (P : K → Type 0) (left found : K) → P found → left ≡ found → P left
+left_after P left found holds same = subst P (sym same) holds
+
+pub on_err : {T E : Type 0} (r : Result T E) (P : Type 0) → P → OnErr r P
+on_err (Ok x) P p = tt
+on_err (Err e) P p = p
+
+-- one piece more
+module _ {K : Type 0} (taken : K → Option (List ℕ)) (failures : K → ℕ) where
+  pub written_piece : {T E : Type 0} (r : Result T E) (start before after : BlockWriter K) (xs ys all : List ShownRace) → all ≡ xs ++ ys → HasWritten taken failures start xs before → OnOk r (HasWritten taken failures before ys after)
+      → IfOk r (λ _. HasWritten taken failures start all after)
+  written_piece (Ok x) start before after xs ys all is has more = written_then taken failures start before after xs ys all is has more
+  written_piece (Err e) start before after xs ys all is has more = tt
+
+  pub stopped_piece : {T : Type 0} (r : Result T WriteError) (start before after : BlockWriter K) (xs ys all : List ShownRace) → all ≡ xs ++ ys → HasWritten taken failures start xs before
+      → IfErr r (λ e. HasStopped taken failures before ys e after) → IfErr r (λ e. HasStopped taken failures start all e after)
+  stopped_piece (Ok x) start before after xs ys all is has more = tt
+  stopped_piece (Err e) start before after xs ys all is has more = stopped_then taken failures start before after xs ys [] all e (is ∙ sym (append-nil (xs ++ ys))) has more
+
+-- a list from the first block on
+module _ {K T E : Type 0} (taken : K → Option (List ℕ)) (failures : K → ℕ) where
+  pub list_written : (r : Result T E) (start end : BlockWriter K) (races : List (ℕ × ℕ)) → start.written ≡ 0 → OnOk r (HasWritten taken failures start (map alone races) end)
+      → OnErr r (HasStopped taken failures start (map alone races) errors.Sink end) → WritesBlocks false start.trace.now races (taken start.sink.now) (taken end.sink.now) r
+  list_written (Ok x) start end races first written stopped = subst (λ (n : ℕ). Appends (taken start.sink.now) (taken end.sink.now) (blocks_from start.trace.now (n + 1) (map alone races))) first written.appended
+  list_written (Err e) start end races first written stopped = subst (λ (n : ℕ). AppendsFront (taken start.sink.now) (taken end.sink.now) (blocks_from start.trace.now (n + 1) (map alone races))) first stopped.front
+
+  pub list_sink : (r : Result T E) (start end : BlockWriter K) (shown : List ShownRace) → OnOk r (HasWritten taken failures start shown end) → OnErr r (HasStopped taken failures start shown errors.Sink end) → end.sink.ghost_name ≡ start.sink.ghost_name
+  list_sink (Ok x) start end shown written stopped = written.same_sink
+  list_sink (Err e) start end shown written stopped = stopped.same_sink

@@ -1,5 +1,5 @@
 pub mod Blocks
-pub mod Listing
-pub mod Ranges
+pub mod Counting
+pub mod Pieces
 pub mod Reports
-pub mod Streamed
+pub mod Scheduling

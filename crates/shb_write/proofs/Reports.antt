@@ -1,38 +1,22 @@
 -- A report from its parts.
-use Rattle.std.proofs.Common.{◌≡◌, ℕ, ◌+◌, Bool, List, [], ◌∷◌, ◌++◌, length, map, take, get_or, All, Option, Result, Ok, Err, IsErrAnd, refl, sym, ap, subst, ◌∙◌, arith, length-append}
+use Rattle.std.proofs.Common.{◌≡◌, inl, inr, ℕ, ◌+◌, ◌<◌, Bool, List, ◌++◌, length, map, take, Option, Result, Ok, Err, IsErrAnd, refl, sym, ap, subst, ◌∙◌, arith, length-append}
 use Rattle.std.specs.Io.KnownBytes.{Appends}
 use Rattle.std.proofs.Math.Seq.{take-append-add}
-use Rattle.shb_io.specs.Devices.{AppendsPrefix}
-use Rattle.shb_io.proofs.Growth.{Appends-trans}
-use Rattle.shb_lines.specs.declared.event.Event.{Event}
+use Rattle.shb_io.specs.Devices.{AppendsPrefix, CountsFailure}
+use Rattle.shb_io.specs.declared.no_memory.NoMemory.{NoMemory}
+use Rattle.shb_io.proofs.Growth.{Appends-trans, AppendsPrefix-after}
 use Rattle.shb_lines.specs.declared.event.Pair.{Pair}
-use Rattle.shb_lines.specs.events.Discipline.{IsDisciplined}
-use Rattle.shb_lines.specs.events.Race.{Race, ends}
+use Rattle.shb_lines.specs.events.Race.{ends}
 use Rattle.shb_lines.specs.text.TraceData.{TraceData}
 use Rattle.shb_report.specs.declared.places.PlaceCount.{PlaceCount}
-use Rattle.shb_report.specs.Places.{IsPairOf, counts_in, places_of_pairs, section_bytes}
-use Rattle.shb_report.specs.Report.{AreBlocks, IsReportOn, counts_of, front_bytes, head_bytes, pair_of, tail_bytes}
+use Rattle.shb_report.specs.Places.{counts_in, places_of_pairs, section_bytes}
+use Rattle.shb_report.specs.Report.{IsReportOn, counts_of, front_bytes, head_bytes, pair_of, tail_bytes}
 use Rattle.shb_write.specs.declared.errors.WriteError.{WriteError}
 use Rattle.shb_write.specs.declared.errors.WriteError.TheVariants.{Sink, Memory}
-use Rattle.shb_write.specs.Written.{CutsBlocksOn, CutsReportOn, OnFailedSink, OnNoMemory, These, WritesReport}
-use Rattle.shb_write.proofs.Blocks.{AreBlocks-more, AreBlocks-nil}
-use Rattle.shb_write.proofs.Ranges.{first_in_range, second_in_range}
-
--- the pairs of events are those of the races
-pub pairs_back : (races : List Pair) → map pair_of (map ends races) ≡ races
-pairs_back [] = refl
-pairs_back (race ∷ races) = ap (λ l. race ∷ l) (pairs_back races)
-
--- the blocks that would have been written
-pub blocks_of : (ws : Bool) (trace : TraceData) (races : List (ℕ × ℕ)) → IsDisciplined trace.events → (blocks : List ℕ) × AreBlocks ws trace races blocks
-blocks_of ws trace races disciplined = AreBlocks-more ws trace [] races [] disciplined (AreBlocks-nil ws trace)
-
--- the events of each race are events of the trace
-pub pairs_in_range : (trace : TraceData) (events : List Event) (races : List Pair) → events ≡ trace.events → All (λ pair. Race events pair.first pair.second) races → All (IsPairOf trace) races
-pairs_in_range trace events races same are = λ k d lt.
-    let pair = get_or races k d in
-    let race : Race trace.events pair.first pair.second = subst (λ e. Race e pair.first pair.second) same (are k d lt) in
-    record { first = first_in_range trace.events trace.events pair.first pair.second refl race; second = second_in_range trace.events trace.events pair.first pair.second refl race }
+use Rattle.shb_write.specs.Blocks.{blocks_of}
+use Rattle.shb_write.specs.Written.{AppendsFront, CutsBlocksOn, CutsReportOn, HasReported, These, WritesReport, write_failed}
+use Rattle.shb_write.proofs.Blocks.{are_blocks, front_lacks}
+use Rattle.shb_write.proofs.Counting.{pairs_back}
 
 -- the head and the places
 pub front_is : (trace : TraceData) (races : List (ℕ × ℕ)) (count : ℕ) (places : List PlaceCount) → count ≡ length races → places ≡ counts_in (places_of_pairs trace (map pair_of races))
@@ -45,30 +29,25 @@ front_is trace races count places counted are =
 pub places_of_ends : (trace : TraceData) (races : List Pair) (places : List PlaceCount) → places ≡ counts_in (places_of_pairs trace races) → places ≡ counts_in (places_of_pairs trace (map pair_of (map ends races)))
 places_of_ends trace races places are = are ∙ ap (λ l. counts_in (places_of_pairs trace l)) (sym (pairs_back races))
 
--- the lines before the blocks, the blocks and the tail
-abbrev pub bytes_with : TraceData → List (ℕ × ℕ) → List ℕ → List ℕ
-bytes_with trace races blocks = front_bytes trace races ++ (blocks ++ tail_bytes)
+module _ (ws : Bool) (trace : TraceData) (races : List (ℕ × ℕ)) where
+  abbrev report : IsReportOn (These races) ws trace (front_bytes trace races ++ (blocks_of ws trace races ++ tail_bytes))
+  report = record { races = races; blocks = blocks_of ws trace races; races_are = refl; blocks_are = are_blocks ws trace races; bytes_are = refl }
 
-module _ (ws : Bool) (trace : TraceData) (races : List (ℕ × ℕ)) (blocks : List ℕ) (are : AreBlocks ws trace races blocks) where
-  abbrev report_of : IsReportOn (These races) ws trace (bytes_with trace races blocks)
-  report_of = record { races = races; blocks = blocks; races_are = refl; blocks_are = are; bytes_are = refl }
+  pub report_written : (old new : Option (List ℕ)) → Appends old new (front_bytes trace races ++ (blocks_of ws trace races ++ tail_bytes)) → WritesReport (These races) ws trace old new
+  report_written old new written = record { bytes = front_bytes trace races ++ (blocks_of ws trace races ++ tail_bytes); report = report; written = written }
 
-  pub report_written : (old new : Option (List ℕ)) → Appends old new (bytes_with trace races blocks) → WritesReport (These races) ws trace old new
-  report_written old new written = record { bytes = bytes_with trace races blocks; report = report_of; written = written }
-
-  -- the front of them was written
-  pub report_cut : (old new : Option (List ℕ)) → AppendsPrefix old new (bytes_with trace races blocks) → CutsReportOn (These races) ws trace old new
-  report_cut old new front = record { bytes = bytes_with trace races blocks; report = report_of; count = front.0; some_missing = front.1; written = front.2 }
+  pub report_cut : (old new : Option (List ℕ)) → AppendsPrefix old new (front_bytes trace races ++ (blocks_of ws trace races ++ tail_bytes)) → CutsReportOn (These races) ws trace old new
+  report_cut old new front = record { bytes = front_bytes trace races ++ (blocks_of ws trace races ++ tail_bytes); report = report; count = front.0; some_missing = front.1; written = front.2 }
 
   -- the lines before the blocks were written, and the front of what comes after
-  pub blocks_cut : (old now new : Option (List ℕ)) → Appends old now (front_bytes trace races) → AppendsPrefix now new (blocks ++ tail_bytes) → CutsBlocksOn (These races) ws trace old new
+  blocks_cut : (old now new : Option (List ℕ)) → Appends old now (front_bytes trace races) → AppendsPrefix now new (blocks_of ws trace races ++ tail_bytes) → CutsBlocksOn (These races) ws trace old new
   blocks_cut old now new before front =
       let lines = front_bytes trace races in
-      let left = blocks ++ tail_bytes in
+      let left = blocks_of ws trace races ++ tail_bytes in
       record {
         cut = record {
-          bytes = bytes_with trace races blocks;
-          report = report_of;
+          bytes = lines ++ left;
+          report = report;
           count = length lines + front.0;
           some_missing = omega (arith, length-append lines left, front.1);
           written = subst (Appends old new) (sym (take-append-add lines left front.0)) (Appends-trans old now new lines (take front.0 left) before front.2);
@@ -76,30 +55,43 @@ module _ (ws : Bool) (trace : TraceData) (races : List (ℕ × ℕ)) (blocks : L
         front = omega arith;
       }
 
--- what holds where the sink failed, and where memory was refused
-pub on_sink : {T : Type 0} (r : Result T WriteError) (P : Type 0) → P → OnFailedSink r P
-on_sink (Ok x) P p = tt
-on_sink (Err Sink) P p = p
-on_sink (Err (Memory _)) P p = tt
+  module _ {K T : Type 0} (taken : K → Option (List ℕ)) (failures : K → ℕ) (old new : K) where
+    -- the whole report was written
+    pub reported : (x : T) → Appends (taken old) (taken new) (front_bytes trace races ++ (blocks_of ws trace races ++ tail_bytes)) → failures new ≡ failures old → HasReported (These races) ws trace taken failures old new (Ok x)
+    reported x written counted = record { report = report_written _ _ written; cut = tt; memory = tt; counted = counted }
 
-pub on_memory : {T : Type 0} (r : Result T WriteError) (P : Type 0) → P → OnNoMemory r P
-on_memory (Ok x) P p = tt
-on_memory (Err Sink) P p = tt
-on_memory (Err (Memory _)) P p = p
+    -- memory was refused before anything was written
+    pub unreported : (r : Result T WriteError) (refused : NoMemory) → IsErrAnd r (λ e. e ≡ Memory refused) → new ≡ old → HasReported (These races) ws trace taken failures old new r
+    unreported (Ok x) refused is same = absurd is
+    unreported (Err e) refused is same = subst (λ (e : WriteError). HasReported {T = T} (These races) ws trace taken failures old new (Err e)) (sym is)
+        (record { report = tt; cut = tt; memory = inl same; counted = ap failures same })
 
--- the same of another result with that error
-pub cut_as : {T : Type 0} (U : Type 0) (P Q : Type 0) → (P → Q) → (error : WriteError) (r : Result T WriteError) → IsErrAnd r (λ e. e ≡ error) → OnFailedSink {T = U} (Err error) P → OnFailedSink r Q
-cut_as U P Q then error (Ok x) is cut = absurd is
-cut_as {T} U P Q then error (Err e) is cut = subst (λ (e : WriteError). OnFailedSink {T = T} (Err e) Q) (sym is) (by error cut)
+    -- the sink failed
+    pub report_failed : (r : Result T WriteError) → IsErrAnd r (λ e. e ≡ Sink) → AppendsPrefix (taken old) (taken new) (front_bytes trace races ++ (blocks_of ws trace races ++ tail_bytes)) → failures new ≡ failures old + 1
+        → HasReported (These races) ws trace taken failures old new r
+    report_failed (Ok x) is front counted = absurd is
+    report_failed (Err e) is front counted = subst (λ (e : WriteError). HasReported {T = T} (These races) ws trace taken failures old new (Err e)) (sym is)
+        (record { report = tt; cut = report_cut _ _ front; memory = tt; counted = counted })
+
+    -- the blocks were not all written, for this error
+    pub report_stopped : (r : Result T WriteError) (error : WriteError) (now : Option (List ℕ)) → IsErrAnd r (λ e. e ≡ error) → Appends (taken old) now (front_bytes trace races) → AppendsFront now (taken new) (blocks_of ws trace races)
+        → CountsFailure {T = T} write_failed (failures old) (failures new) (Err error) → HasReported (These races) ws trace taken failures old new r
+    report_stopped (Ok x) error now is before front counted = absurd is
+    report_stopped (Err e) error now is before front counted = subst (λ (e : WriteError). HasReported {T = T} (These races) ws trace taken failures old new (Err e)) (sym is) (by error counted)
+      where
+        less : AppendsPrefix now (taken new) (blocks_of ws trace races ++ tail_bytes)
+        less = front_lacks now (taken new) (blocks_of ws trace races) tail_bytes (omega arith) front
+
+        by : (error : WriteError) → CountsFailure {T = T} write_failed (failures old) (failures new) (Err error) → HasReported {T = T} (These races) ws trace taken failures old new (Err error)
+        by Sink counted = record { report = tt; cut = report_cut _ _ (AppendsPrefix-after _ _ _ _ _ before less); memory = tt; counted = counted }
+        by (Memory refused) counted = record { report = tt; cut = tt; memory = inr (blocks_cut _ _ _ before less); counted = counted }
+
+-- the same of another answer with that error
+pub reported_error : {K T : Type 0} (U : Type 0) (Lists : TraceData → List (ℕ × ℕ) → Type 0) (ws : Bool) (trace : TraceData) (taken : K → Option (List ℕ)) (failures : K → ℕ) (old new : K) (error : WriteError) (r : Result T WriteError) → IsErrAnd r (λ e. e ≡ error)
+    → HasReported {T = U} Lists ws trace taken failures old new (Err error) → HasReported Lists ws trace taken failures old new r
+reported_error U Lists ws trace taken failures old new error (Ok x) is has = absurd is
+reported_error {K} {T} U Lists ws trace taken failures old new error (Err e) is has = subst (λ (e : WriteError). HasReported {T = T} Lists ws trace taken failures old new (Err e)) (sym is) (by error has)
   where
-    by : (error : WriteError) → OnFailedSink {T = U} (Err error) P → OnFailedSink {T = T} (Err error) Q
-    by Sink cut = then cut
-    by (Memory _) cut = tt
-
-pub memory_as : {T : Type 0} (U : Type 0) (P Q : Type 0) → (P → Q) → (error : WriteError) (r : Result T WriteError) → IsErrAnd r (λ e. e ≡ error) → OnNoMemory {T = U} (Err error) P → OnNoMemory r Q
-memory_as U P Q then error (Ok x) is cut = absurd is
-memory_as {T} U P Q then error (Err e) is cut = subst (λ (e : WriteError). OnNoMemory {T = T} (Err e) Q) (sym is) (by error cut)
-  where
-    by : (error : WriteError) → OnNoMemory {T = U} (Err error) P → OnNoMemory {T = T} (Err error) Q
-    by Sink cut = tt
-    by (Memory _) cut = then cut
+    by : (error : WriteError) → HasReported {T = U} Lists ws trace taken failures old new (Err error) → HasReported {T = T} Lists ws trace taken failures old new (Err error)
+    by Sink has = record { report = tt; cut = has.cut; memory = tt; counted = has.counted }
+    by (Memory refused) has = record { report = tt; cut = tt; memory = has.memory; counted = has.counted }

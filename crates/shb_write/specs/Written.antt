@@ -1,8 +1,9 @@
 -- What the writing of a report leaves in a sink.
-use Rattle.std.specs.Prelude.{◌≡◌, ℕ, ◌<◌, ◌≤◌, Bool, true, false, List, length, take, Option, Result, Err, MatchResult, ⊤}
+use Rattle.std.specs.Prelude.{◌≡◌, ◌⊎◌, ℕ, ◌<◌, ◌≤◌, Bool, true, false, List, length, take, Option, Result, Err, IfOk, ⊤}
 use Rattle.std.specs.Io.KnownBytes.{Appends}
+use Rattle.shb_io.specs.Devices.{CountsFailure}
 use Rattle.shb_lines.specs.text.TraceData.{TraceData}
-use Rattle.shb_report.specs.Report.{AreBlocks, IsReportOn, front_bytes}
+use Rattle.shb_report.specs.Report.{IsReportOn, front_bytes}
 use Rattle.shb_write.specs.declared.errors.WriteError.{WriteError}
 use Rattle.shb_write.specs.declared.errors.WriteError.TheVariants.{Sink, Memory}
 
@@ -24,12 +25,6 @@ OnNoMemory _ P = ⊤
 -- known bytes grow by the first bytes of bs, perhaps by all of them
 abbrev pub AppendsFront : Option (List ℕ) → Option (List ℕ) → List ℕ → Type 0
 AppendsFront old new bs = (n : ℕ) × Appends old new (take n bs)
-
--- the blocks of some races were written or, on an error, the front of them, perhaps all
-pub record WritesBlocks {T : Type 0} (with_schedules : Bool) (trace : TraceData) (races : List (ℕ × ℕ)) (old new : Option (List ℕ)) (r : Result T WriteError) : Type 0 where
-  pub bytes : List ℕ
-  pub blocks : AreBlocks with_schedules trace races bytes
-  pub written : MatchResult r (λ _. Appends old new bytes) (λ _. AppendsFront old new bytes)
 
 -- these races and no others are listed
 abbrev pub These : List (ℕ × ℕ) → TraceData → List (ℕ × ℕ) → Type 0
@@ -53,3 +48,10 @@ pub record CutsReportOn (Lists : TraceData → List (ℕ × ℕ) → Type 0) (wi
 pub record CutsBlocksOn (Lists : TraceData → List (ℕ × ℕ) → Type 0) (with_schedules : Bool) (trace : TraceData) (old new : Option (List ℕ)) : Type 0 where
   pub cut : CutsReportOn Lists with_schedules trace old new
   pub front : length (front_bytes trace cut.report.races) ≤ cut.count
+
+-- what the writing of a report on such races leaves: all of it on success, the front of it where the sink failed, and where memory was refused nothing or all lines before the first block
+pub record HasReported {K T : Type 0} (Lists : TraceData → List (ℕ × ℕ) → Type 0) (with_schedules : Bool) (trace : TraceData) (taken : K → Option (List ℕ)) (failures : K → ℕ) (old new : K) (answer : Result T WriteError) : Type 0 where
+  pub report : IfOk answer (λ _. WritesReport Lists with_schedules trace (taken old) (taken new))
+  pub cut : OnFailedSink answer (CutsReportOn Lists with_schedules trace (taken old) (taken new))
+  pub memory : OnNoMemory answer ((new ≡ old) ⊎ CutsBlocksOn Lists with_schedules trace (taken old) (taken new))
+  pub counted : CountsFailure write_failed (failures old) (failures new) answer

@@ -1,54 +1,59 @@
-//! The blocks of races, each written when its schedule comes.
-ghost use Rattle.std.specs.Prelude.{◌<◌, All, length};
+//! Writes the blocks of races, one after the other.
+ghost use Rattle.std.specs.Prelude.{◌≡◌, ◌+◌, ◌-◌, ◌^◌, ◌<◌, ◌∷◌, [], All, OnErr, OnOk, length, map};
+ghost use Rattle.shb_lines.specs.events.Race.{ends};
+ghost use Rattle.shb_report.specs.Places.{IsPairOf};
+ghost use Rattle.shb_write.specs.Blocks.{HasStopped, HasWritten, alone, with_schedule};
+ghost use Rattle.shb_write.specs.declared.errors.WriteError.TheVariants.{Sink as SinkFailed};
 
-use shb_fan::Taker;
 use shb_io::{Failed, Sink};
 use shb_lines::{Pair, Trace};
 use shb_positions::Positions;
-use shb_report::{NumberTexts, scheduled_block};
+use shb_report::{NumberTexts, block, scheduled_block};
 
-/// Writes the blocks of races, numbered from 1, each when its schedule comes.
+/// Writes the blocks of races, numbered from 1.
 #[derive(Drop)]
-pub(crate) struct BlockWriter<'s, 't, 'r, 'n, K> {
+pub(crate) struct BlockWriter<'s, 't, K> {
     /// Where the blocks go.
     pub(crate) sink: &'s mut K,
     /// The trace of the races.
     pub(crate) trace: &'t Trace,
-    /// The races, in the order of their blocks.
-    pub(crate) races: &'r [Pair],
-    /// The numbers of events, from which runs of schedules are copied.
-    pub(crate) numbers: &'n NumberTexts,
     /// How many blocks are written.
-    pub(crate) written: usize,
-    pub(crate) ghost in_range: { All (λ race. (race.first < length trace.now.events) × (race.second < length trace.now.events)) races.now },
+    pub(crate) written: u64,
 }
 
-impl<'s, 't, 'r, 'n, K: Sink> Taker<Positions> for BlockWriter<'s, 't, 'r, 'n, K> {
-    ghost use Rattle.shb_write.specs.Scheduled.{HasStopped, HasWritten, MayWrite};
-    ghost use Rattle.std.proofs.Common.{refl};
-    ghost use Rattle.shb_io.proofs.Growth.{Appends-nil};
+impl<'s, 't, K: Sink> BlockWriter<'s, 't, K> {
+    /// Writes the blocks of some races more, without schedules.
+    pub(crate) fn list(&mut self, pairs: &[Pair]) -> Result<(), Failed>
+        requires countable { K.failure_count self.old.sink.now < 2 ^ 64 - 1 }
+        requires room { length pairs.now + self.old.written < 2 ^ 64 }
+        requires in_range { All (IsPairOf self.old.trace.now) pairs.now }
+        ensures written { OnOk result (HasWritten K.taken K.failure_count self.old (map alone (map ends pairs.now)) self.new) }
+        ensures failed { OnErr result (HasStopped K.taken K.failure_count self.old (map alone (map ends pairs.now)) SinkFailed self.new) }
+    {
+        for pair in pairs {
+            let number = self.written + 1;
+            block(self.sink, self.trace, number, *pair, None)?;
+            self.written = number;
+        }
+        Ok(())
+    }
 
-    type Error = Failed;
-
-    ghost takes = { λ start given end. HasWritten K.taken K.failure_count start given end };
-
-    ghost may_take = { λ start given schedule. MayWrite K.failure_count start given schedule };
-
-    ghost refuses = { λ start given schedule _ end. HasStopped K.taken K.failure_count start given schedule end };
-
-    ghost nothing = { λ s. record {
-      same_sink = refl;
-      same_trace = refl;
-      same_races = refl;
-      as_many = refl;
-      appended = Appends-nil (K.taken s.sink.now);
-      counted = refl;
-    } };
-
-    fn take(&mut self, _k: u64, schedule: Positions) -> Result<(), Failed> {
-        let race = self.races[self.written];
-        self.written += 1;
-        let number = self.written as u64;
-        scheduled_block(self.sink, self.trace, number, race, self.numbers, &schedule)
+    /// Writes the block of one race more, with its schedule.
+    pub(crate) fn schedule(
+        &mut self,
+        race: Pair,
+        numbers: &NumberTexts,
+        schedule: &Positions,
+    ) -> Result<(), Failed>
+        requires countable { K.failure_count self.old.sink.now < 2 ^ 64 - 1 }
+        requires room { self.old.written < 2 ^ 64 - 1 }
+        requires in_range { IsPairOf self.old.trace.now race }
+        ensures written { OnOk result (HasWritten K.taken K.failure_count self.old (with_schedule race schedule.now ∷ []) self.new) }
+        ensures failed { OnErr result (HasStopped K.taken K.failure_count self.old (with_schedule race schedule.now ∷ []) SinkFailed self.new) }
+    {
+        let number = self.written + 1;
+        scheduled_block(self.sink, self.trace, number, race, numbers, schedule)?;
+        self.written = number;
+        Ok(())
     }
 }

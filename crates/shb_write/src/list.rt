@@ -3,13 +3,15 @@ ghost use Rattle.std.specs.Prelude.{◌≡◌, ◌-◌, ◌^◌, ◌<◌, All, I
 ghost use Rattle.shb_io.specs.Devices.{CountsFailure};
 ghost use Rattle.shb_lines.specs.events.Race.{ends};
 ghost use Rattle.shb_report.specs.Places.{IsPairOf};
+ghost use Rattle.shb_write.specs.Blocks.{WritesBlocks};
 ghost use Rattle.shb_write.specs.Listed.{IsCountOf, IsRaceOf, races_found};
-ghost use Rattle.shb_write.specs.Written.{WritesBlocks, write_failed};
+ghost use Rattle.shb_write.specs.Written.{write_failed};
 
+use crate::block_writer::BlockWriter;
 use crate::counted::Counted;
 use crate::errors::WriteError;
+use crate::piece_lister::PieceLister;
 use crate::race_keeper::{KeepError, keep_races};
-use crate::race_lister::{PieceLister, RaceLister};
 use crate::race_search::RaceSearch;
 use shb_clocks::Order;
 use shb_counts::{RaceCount, counted_races};
@@ -81,7 +83,7 @@ pub(crate) fn count_races<R: Threads + Wait + Sync + RandomSource, O: Order + Sy
     ensures { IfOk result (IsCountOf trace.now (races_found search.now.job.now)) }
 {
     let most = u64::from(trace.len());
-    match keep_races(rt, alloc, search, most) {
+    match keep_races(rt, alloc, search, Some(most)) {
         Ok(kept) => counted_of_kept(rt, alloc, trace, kept),
         Err(KeepError::Many) => count_many(rt, alloc, trace, search.job),
         Err(KeepError::Memory(refused)) => Err(refused),
@@ -104,13 +106,13 @@ fn write_found_in<R: Threads + Wait + Sync, K: Sink, O: Order + Sync, G: Gate + 
     ensures blocks { WritesBlocks false trace.now (races_found search.now.job.now) (K.taken sink.old) (K.taken sink.new) result }
     ensures counted { CountsFailure write_failed (K.failure_count sink.old) (K.failure_count sink.new) result }
 {
-    let lister = RaceLister {
+    let writer = BlockWriter {
         sink: &mut *sink,
         trace,
         written: 0,
     };
     let mut taker = PieceLister {
-        lister,
+        writer,
         room: &mut *room,
         alloc,
     };

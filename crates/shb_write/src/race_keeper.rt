@@ -1,8 +1,8 @@
-//! The races of a search, kept where there are few.
-ghost use Rattle.std.specs.Prelude.{◌≡◌, IfOk, OnOk, map};
+//! The races of a search, kept.
+ghost use Rattle.std.specs.Prelude.{◌≡◌, IfErr, IfOk, IsTrue, None, OnOk, map};
 ghost use Rattle.shb_lines.specs.events.Race.{ends};
 ghost use Rattle.shb_pairs.specs.Races.{joined};
-ghost use Rattle.shb_write.specs.Listed.{HasKept, races_found};
+ghost use Rattle.shb_write.specs.Listed.{HasKept, IsRefusal, races_found};
 
 use crate::race_search::RaceSearch;
 use shb_clocks::Order;
@@ -23,9 +23,13 @@ pub(crate) enum KeepError {
     Many,
 }
 
-impl From<NoMemory> for KeepError {
-    fn from(refused: NoMemory) -> KeepError {
-        KeepError::Memory(refused)
+/// Whether so many races more can be kept beside those that are: any number, or not more than `most`.
+fn has_room(most: Option<u64>, kept: usize, more: u64) -> bool
+    ensures { most ≡ None → IsTrue result }
+{
+    match most {
+        Some(most) => more <= most.saturating_sub(kept as u64),
+        None => true,
     }
 }
 
@@ -39,92 +43,57 @@ fn keep_piece(alloc: Global, kept: &mut Vec<Pair>, piece: &RaceRanges<'_>) -> Re
     Ok(())
 }
 
-/// Keeps the races of a piece, where there are not more than `most` with them.
-fn keep_few(
-    alloc: Global,
-    kept: &mut Vec<Pair>,
-    most: u64,
-    piece: &RaceRanges<'_>,
-) -> Result<(), KeepError>
-    ensures { OnOk result (HasKept kept.old.items (joined piece.now) kept.new.items) }
-{
-    if piece.len() > most.saturating_sub(kept.len() as u64) {
-        return Err(KeepError::Many);
-    }
-    keep_piece(alloc, kept, piece)?;
-    Ok(())
-}
-
-/// Keeps the races of pieces as they come.
+/// Keeps the races of pieces as they come: all; or, where there is a number of them that is the most, no piece
+/// with which there are more.
 #[derive(Drop)]
 struct PieceKeeper {
     kept: Vec<Pair>,
+    most: Option<u64>,
     alloc: Global,
 }
 
 impl<'a> Taker<RaceRanges<'a>> for PieceKeeper {
-    ghost use Rattle.std.specs.Prelude.{flat_map, map};
-    ghost use Rattle.std.proofs.Common.{append-nil, sym};
+    ghost use Rattle.std.specs.Prelude.{flat_map, map, None};
+    ghost use Rattle.std.proofs.Common.{append-nil, refl, sym};
     ghost use Rattle.shb_lines.specs.events.Race.{ends};
     ghost use Rattle.shb_pairs.specs.Races.{joined};
-    ghost use Rattle.shb_write.specs.Listed.{HasKept};
-
-    type Error = NoMemory;
-
-    ghost takes = { λ start given end. HasKept start.kept.items (flat_map joined given) end.kept.items };
-
-    ghost may_take = { λ _ _ _. Unit {0} };
-
-    ghost refuses = { λ _ _ _ _ _. Unit {0} };
-
-    ghost nothing = { λ s. sym (append-nil (map ends s.kept.items)) };
-
-    fn take(&mut self, _k: u64, out: RaceRanges<'a>) -> Result<(), NoMemory> {
-        keep_piece(self.alloc, &mut self.kept, &out)
-    }
-}
-
-/// Keeps the races of pieces as they come, and refuses those of a piece where there are more than `most` with
-/// them.
-#[derive(Drop)]
-struct FewKeeper {
-    kept: Vec<Pair>,
-    most: u64,
-    alloc: Global,
-}
-
-impl<'a> Taker<RaceRanges<'a>> for FewKeeper {
-    ghost use Rattle.std.specs.Prelude.{flat_map, map};
-    ghost use Rattle.std.proofs.Common.{append-nil, sym};
-    ghost use Rattle.shb_lines.specs.events.Race.{ends};
-    ghost use Rattle.shb_pairs.specs.Races.{joined};
-    ghost use Rattle.shb_write.specs.Listed.{HasKept};
+    ghost use Rattle.shb_write.specs.Listed.{HasKept, IsRefusal};
 
     type Error = KeepError;
 
-    ghost takes = { λ start given end. HasKept start.kept.items (flat_map joined given) end.kept.items };
+    ghost takes = { λ start given end. HasKept start.kept.items (flat_map joined given) end.kept.items × (end.most ≡ start.most) };
 
     ghost may_take = { λ _ _ _. Unit {0} };
 
-    ghost refuses = { λ _ _ _ _ _. Unit {0} };
+    ghost refuses = { λ start _ _ e _. start.most ≡ None → IsRefusal e };
 
-    ghost nothing = { λ s. sym (append-nil (map ends s.kept.items)) };
+    ghost nothing = { λ s. (sym (append-nil (map ends s.kept.items)), refl) };
 
     fn take(&mut self, _k: u64, out: RaceRanges<'a>) -> Result<(), KeepError> {
-        keep_few(self.alloc, &mut self.kept, self.most, &out)
+        if !has_room(self.most, self.kept.len(), out.len()) {
+            return Err(KeepError::Many);
+        }
+        match keep_piece(self.alloc, &mut self.kept, &out) {
+            Ok(()) => Ok(()),
+            Err(refused) => Err(KeepError::Memory(refused)),
+        }
     }
 }
 
-/// The races that a search finds.
-pub(crate) fn keep_all<R: Threads + Wait + Sync, O: Order + Sync, G: Gate + Sync>(
+/// The races that a search finds: all, or those of a search that has not more than `most`. Where there are more,
+/// the search goes no further than to the piece that shows it.
+pub(crate) fn keep_races<R: Threads + Wait + Sync, O: Order + Sync, G: Gate + Sync>(
     rt: &R,
     alloc: Global,
     search: &RaceSearch<'_, '_, '_, '_, '_, O, G>,
-) -> Result<Vec<Pair>, NoMemory>
-    ensures { IfOk result (λ kept. map ends kept.items ≡ races_found search.now.job.now) }
+    most: Option<u64>,
+) -> Result<Vec<Pair>, KeepError>
+    ensures kept { IfOk result (λ kept. map ends kept.items ≡ races_found search.now.job.now) }
+    ensures all { most ≡ None → IfErr result IsRefusal }
 {
     let mut taker = PieceKeeper {
         kept: Vec::new(alloc),
+        most,
         alloc,
     };
     match stream(
@@ -139,38 +108,22 @@ pub(crate) fn keep_all<R: Threads + Wait + Sync, O: Order + Sync, G: Gate + Sync
             let PieceKeeper { kept, .. } = taker;
             Ok(kept)
         }
-        Err(StreamError::Taker(refused) | StreamError::Memory(refused)) => Err(refused),
+        Err(StreamError::Taker(error)) => Err(error),
+        Err(StreamError::Memory(refused)) => Err(KeepError::Memory(refused)),
     }
 }
 
-/// The races that a search finds, where there are not more than `most`. Where there are more, the search goes
-/// no further than to the piece that shows it.
-pub(crate) fn keep_races<R: Threads + Wait + Sync, O: Order + Sync, G: Gate + Sync>(
+/// All races that a search finds.
+pub(crate) fn keep_all<R: Threads + Wait + Sync, O: Order + Sync, G: Gate + Sync>(
     rt: &R,
     alloc: Global,
     search: &RaceSearch<'_, '_, '_, '_, '_, O, G>,
-    most: u64,
-) -> Result<Vec<Pair>, KeepError>
+) -> Result<Vec<Pair>, NoMemory>
     ensures { IfOk result (λ kept. map ends kept.items ≡ races_found search.now.job.now) }
 {
-    let mut taker = FewKeeper {
-        kept: Vec::new(alloc),
-        most,
-        alloc,
-    };
-    match stream(
-        rt,
-        alloc,
-        search.job,
-        search.gate,
-        search.workers,
-        &mut taker,
-    ) {
-        Ok(_) => {
-            let FewKeeper { kept, .. } = taker;
-            Ok(kept)
-        }
-        Err(StreamError::Taker(error)) => Err(error),
-        Err(StreamError::Memory(refused)) => Err(KeepError::Memory(refused)),
+    match keep_races(rt, alloc, search, None) {
+        Ok(kept) => Ok(kept),
+        Err(KeepError::Memory(refused)) => Err(refused),
+        Err(KeepError::Many) => unreachable!(),
     }
 }

@@ -1,43 +1,27 @@
 //! The report of a trace that lists the races which a search finds.
-ghost use Rattle.std.specs.Prelude.{◌≡◌, ◌⊎◌, ◌-◌, ◌^◌, ◌<◌, All, IfOk, false, length, map, true};
+ghost use Rattle.std.specs.Prelude.{◌≡◌, ◌-◌, ◌^◌, ◌<◌, All, IfOk, false, length};
 ghost use Rattle.shb_io.specs.Devices.{CountsFailure};
-ghost use Rattle.shb_lines.specs.events.Race.{ends};
-ghost use Rattle.shb_report.specs.Places.{IsPairOf};
 ghost use Rattle.shb_witness.specs.Schedules.{AreRaces, AsksEach};
+ghost use Rattle.shb_write.specs.Blocks.{WritesBlocks};
 ghost use Rattle.shb_write.specs.Listed.{IsCountOf, IsRaceOf, pairs_found, races_found};
-ghost use Rattle.shb_write.specs.Written.{CutsBlocksOn, CutsReportOn, OnFailedSink, OnNoMemory, These, WritesBlocks, WritesReport, write_failed};
+ghost use Rattle.shb_write.specs.Written.{HasReported, These, write_failed};
 
 use crate::counted::Counted;
 use crate::errors::WriteError;
 use crate::list::{count_races, write_found};
 use crate::plan::BlockPlan;
 use crate::race_keeper::keep_all;
-use crate::race_lister::write_listed;
 use crate::race_search::RaceSearch;
-use crate::write::{write_front, write_report};
+use crate::write::{write_front, write_listed, write_report};
 use shb_clocks::Order;
 use shb_fan::Gate;
 use shb_io::Sink;
-use shb_lines::{Pair, Trace};
+use shb_lines::Trace;
 use shb_report::tail;
 use std::alloc::Global;
 use std::random::RandomSource;
 use std::sync::Wait;
 use std::thread::Threads;
-
-/// Writes the blocks of races that were kept, numbered from 1, without schedules.
-fn list_kept<K: Sink>(sink: &mut K, trace: &Trace, races: &[Pair]) -> Result<(), WriteError>
-    requires countable { K.failure_count sink.old < 2 ^ 64 - 1 }
-    requires in_range { All (IsPairOf trace.now) races.now }
-    requires room { length races.now < 2 ^ 64 }
-    ensures blocks { WritesBlocks false trace.now (map ends races.now) (K.taken sink.old) (K.taken sink.new) result }
-    ensures counted { CountsFailure write_failed (K.failure_count sink.old) (K.failure_count sink.new) result }
-{
-    match write_listed(sink, trace, 0, races) {
-        Ok(()) => Ok(()),
-        Err(_) => Err(WriteError::Sink),
-    }
-}
 
 /// Writes the blocks of the races that a search found, without schedules: those that were kept, or those that it
 /// finds again.
@@ -56,7 +40,10 @@ fn list_blocks<R: Threads + Wait + Sync, K: Sink, O: Order + Sync, G: Gate + Syn
     ensures counted { CountsFailure write_failed (K.failure_count sink.old) (K.failure_count sink.new) result }
 {
     match &counted.kept {
-        Some(races) => list_kept(sink, trace, races),
+        Some(races) => match write_listed(sink, trace, races) {
+            Ok(()) => Ok(()),
+            Err(_) => Err(WriteError::Sink),
+        },
         None => write_found(rt, alloc, sink, trace, search),
     }
 }
@@ -72,13 +59,8 @@ fn list_search<R: Threads + Wait + Sync + RandomSource, K: Sink, O: Order + Sync
     requires countable { K.failure_count sink.old < 2 ^ 64 - 1 }
     requires races { AreRaces search.now.ordered.now.disciplined.now.events.now (pairs_found search.now.job.now) }
     ensures count { IfOk result (λ count. count ≡ length (races_found search.now.job.now)) }
-    ensures report { IfOk result (λ _. WritesReport (These (races_found search.now.job.now)) false
-        search.now.ordered.now.disciplined.now.trace.now (K.taken sink.old) (K.taken sink.new)) }
-    ensures cut { OnFailedSink result (CutsReportOn (These (races_found search.now.job.now)) false
-        search.now.ordered.now.disciplined.now.trace.now (K.taken sink.old) (K.taken sink.new)) }
-    ensures memory { OnNoMemory result ((sink.new ≡ sink.old) ⊎ CutsBlocksOn (These (races_found search.now.job.now)) false
-        search.now.ordered.now.disciplined.now.trace.now (K.taken sink.old) (K.taken sink.new)) }
-    ensures counted { CountsFailure write_failed (K.failure_count sink.old) (K.failure_count sink.new) result }
+    ensures written { HasReported (These (races_found search.now.job.now)) false search.now.ordered.now.disciplined.now.trace.now
+        K.taken K.failure_count sink.old sink.new result }
 {
     let trace = search.ordered.disciplined.trace;
     let counted = count_races(rt, alloc, trace, search)?;
@@ -88,42 +70,11 @@ fn list_search<R: Threads + Wait + Sync + RandomSource, K: Sink, O: Order + Sync
     Ok(counted.races)
 }
 
-/// Writes the report with schedules of a trace that lists the races which a search finds. They are all kept, as
-/// pairs: each has a block that takes far more in the report.
-fn schedule_search<
-    R: Threads + Wait + Sync + RandomSource,
-    K: Sink,
-    O: Order + Sync,
-    P: Gate + Sync,
-    W: Gate + Sync,
->(
-    rt: &R,
-    alloc: Global,
-    sink: &mut K,
-    search: &RaceSearch<'_, '_, '_, '_, '_, O, P>,
-    plan: &BlockPlan<'_, W>,
-) -> Result<u64, WriteError>
-    requires countable { K.failure_count sink.old < 2 ^ 64 - 1 }
-    requires races { AreRaces search.now.ordered.now.disciplined.now.events.now (pairs_found search.now.job.now) }
-    requires asked { AsksEach (O.asks search.now.ordered.now.order.now) (pairs_found search.now.job.now) }
-    ensures count { IfOk result (λ count. count ≡ length (races_found search.now.job.now)) }
-    ensures report { IfOk result (λ _. WritesReport (These (races_found search.now.job.now)) true
-        search.now.ordered.now.disciplined.now.trace.now (K.taken sink.old) (K.taken sink.new)) }
-    ensures cut { OnFailedSink result (CutsReportOn (These (races_found search.now.job.now)) true
-        search.now.ordered.now.disciplined.now.trace.now (K.taken sink.old) (K.taken sink.new)) }
-    ensures memory { OnNoMemory result ((sink.new ≡ sink.old) ⊎ CutsBlocksOn (These (races_found search.now.job.now)) true
-        search.now.ordered.now.disciplined.now.trace.now (K.taken sink.old) (K.taken sink.new)) }
-    ensures counted { CountsFailure write_failed (K.failure_count sink.old) (K.failure_count sink.new) result }
-{
-    let races = keep_all(rt, alloc, search)?;
-    write_report(rt, alloc, sink, search.ordered, &races, plan)?;
-    Ok(races.len() as u64)
-}
-
 /// Writes the report of a trace that lists the races which a search finds, with schedules or without. Says how
 /// many there are. The order of the trace can be asked about their events.
 ///
-/// With schedules the search is made once, and its races are kept. Without them it is made first to keep the
+/// With schedules the search is made once, and its races are kept, as pairs: each has a block that takes far
+/// more in the report. Without them it is made first to keep the
 /// races, as long as there are not more of them than events. Where there are more, it stops there; it is made
 /// again to count the races and those of each place, and again to write the blocks, so the memory that is taken
 /// doesn't grow with the races. The places are made before anything is written.
@@ -154,16 +105,13 @@ pub fn write_search<
     requires races { AreRaces search.now.ordered.now.disciplined.now.events.now (pairs_found search.now.job.now) }
     requires asked { AsksEach (O.asks search.now.ordered.now.order.now) (pairs_found search.now.job.now) }
     ensures count { IfOk result (λ count. count ≡ length (races_found search.now.job.now)) }
-    ensures report { IfOk result (λ _. WritesReport (These (races_found search.now.job.now)) schedules
-        search.now.ordered.now.disciplined.now.trace.now (K.taken sink.old) (K.taken sink.new)) }
-    ensures cut { OnFailedSink result (CutsReportOn (These (races_found search.now.job.now)) schedules
-        search.now.ordered.now.disciplined.now.trace.now (K.taken sink.old) (K.taken sink.new)) }
-    ensures memory { OnNoMemory result ((sink.new ≡ sink.old) ⊎ CutsBlocksOn (These (races_found search.now.job.now)) schedules
-        search.now.ordered.now.disciplined.now.trace.now (K.taken sink.old) (K.taken sink.new)) }
-    ensures counted { CountsFailure write_failed (K.failure_count sink.old) (K.failure_count sink.new) result }
+    ensures written { HasReported (These (races_found search.now.job.now)) schedules search.now.ordered.now.disciplined.now.trace.now
+        K.taken K.failure_count sink.old sink.new result }
 {
-    if schedules {
-        return schedule_search(rt, alloc, sink, search, plan);
+    if !schedules {
+        return list_search(rt, alloc, sink, search);
     }
-    list_search(rt, alloc, sink, search)
+    let races = keep_all(rt, alloc, search)?;
+    write_report(rt, alloc, sink, search.ordered, &races, plan)?;
+    Ok(races.len() as u64)
 }

@@ -1,18 +1,19 @@
 //! The report of a trace that lists races which are known.
-ghost use Rattle.std.specs.Prelude.{◌≡◌, ◌⊎◌, ◌-◌, ◌^◌, ◌<◌, ℕ, All, IfOk, List, length, map, true};
+ghost use Rattle.std.specs.Prelude.{◌≡◌, ◌-◌, ◌^◌, ◌<◌, ℕ, All, List, false, length, map, true};
 ghost use Rattle.shb_io.specs.Devices.{CountsFailure, IsCounted, Writes};
 ghost use Rattle.shb_report.specs.Places.{IsPairOf, IsPlaceOf, counts_in, places_of_pairs};
 ghost use Rattle.shb_report.specs.Report.{counts_of, front_bytes, pair_of};
 ghost use Rattle.shb_witness.specs.Schedules.{AreRaces, AsksEach};
+ghost use Rattle.shb_write.specs.Blocks.{WritesBlocks};
 ghost use Rattle.shb_write.specs.Listed.{list_bytes};
-ghost use Rattle.shb_write.specs.Written.{CutsBlocksOn, CutsReportOn, OnFailedSink, OnNoMemory, These, WritesBlocks, WritesReport, write_failed};
+ghost use Rattle.shb_write.specs.Written.{HasReported, These, write_failed};
 ghost use Rattle.shb_lines.specs.events.Race.{ends};
 
 use crate::block_writer::BlockWriter;
 use crate::errors::WriteError;
 use crate::plan::BlockPlan;
 use crate::prepared::prepared_for;
-use crate::race_lister::write_listed;
+use crate::schedule_writer::ScheduleWriter;
 use shb_clocks::{Order, Ordered};
 use shb_fan::{Gate, StreamError, stream};
 use shb_io::{Failed, Sink};
@@ -23,6 +24,25 @@ use std::alloc::Global;
 use std::random::RandomSource;
 use std::sync::Wait;
 use std::thread::Threads;
+
+/// Writes the blocks of some races, numbered from 1, without schedules.
+pub(crate) fn write_listed<K: Sink>(
+    sink: &mut K,
+    trace: &Trace,
+    races: &[Pair],
+) -> Result<(), Failed>
+    requires countable { K.failure_count sink.old < 2 ^ 64 - 1 }
+    requires in_range { All (IsPairOf trace.now) races.now }
+    ensures blocks { WritesBlocks false trace.now (map ends races.now) (K.taken sink.old) (K.taken sink.new) result }
+    ensures counted { IsCounted (K.failure_count sink.old) (K.failure_count sink.new) result }
+{
+    let mut writer = BlockWriter {
+        sink: &mut *sink,
+        trace,
+        written: 0,
+    };
+    writer.list(races)
+}
 
 /// Writes the blocks of some races, numbered from 1, each as soon as workers have made its schedule.
 fn write_schedules<R: Threads + Wait + Sync, K: Sink, O: Order + Sync, G: Gate + Sync>(
@@ -47,16 +67,19 @@ fn write_schedules<R: Threads + Wait + Sync, K: Sink, O: Order + Sync, G: Gate +
         ordered.links,
         races,
     ).with_checkpoints(&prepared.points);
-    let mut writer = BlockWriter {
+    let writer = BlockWriter {
         sink: &mut *sink,
         trace: ordered.disciplined.trace,
-        races,
-        numbers: &prepared.numbers,
         written: 0,
     };
-    match stream(rt, alloc, &job, plan.gate, plan.workers, &mut writer) {
+    let mut taker = ScheduleWriter {
+        writer,
+        races,
+        numbers: &prepared.numbers,
+    };
+    match stream(rt, alloc, &job, plan.gate, plan.workers, &mut taker) {
         Ok(_) => Ok(()),
-        Err(StreamError::Taker(_)) => Err(WriteError::Sink),
+        Err(StreamError::Taker(error)) => Err(error),
         Err(StreamError::Memory(refused)) => Err(WriteError::Memory(refused)),
     }
 }
@@ -110,7 +133,7 @@ pub fn write_list<K: Sink>(
     ensures counted { IsCounted (K.failure_count sink.old) (K.failure_count sink.new) result }
 {
     write_front(sink, trace, races.len() as u64, places)?;
-    write_listed(sink, trace, 0, races)?;
+    write_listed(sink, trace, races)?;
     tail(sink)
 }
 
@@ -141,13 +164,8 @@ pub fn write_report<
     requires countable { K.failure_count sink.old < 2 ^ 64 - 1 }
     requires races { AreRaces ordered.now.disciplined.now.events.now races.now }
     requires asked { AsksEach (O.asks ordered.now.order.now) races.now }
-    ensures report { IfOk result (λ _. WritesReport (These (map ends races.now)) true ordered.now.disciplined.now.trace.now
-        (K.taken sink.old) (K.taken sink.new)) }
-    ensures cut { OnFailedSink result (CutsReportOn (These (map ends races.now)) true ordered.now.disciplined.now.trace.now
-        (K.taken sink.old) (K.taken sink.new)) }
-    ensures memory { OnNoMemory result ((sink.new ≡ sink.old) ⊎ CutsBlocksOn (These (map ends races.now)) true
-        ordered.now.disciplined.now.trace.now (K.taken sink.old) (K.taken sink.new)) }
-    ensures counted { CountsFailure write_failed (K.failure_count sink.old) (K.failure_count sink.new) result }
+    ensures { HasReported (These (map ends races.now)) true ordered.now.disciplined.now.trace.now K.taken K.failure_count
+        sink.old sink.new result }
 {
     let trace = ordered.disciplined.trace;
     let places = places_of(rt, alloc, trace, races)?;

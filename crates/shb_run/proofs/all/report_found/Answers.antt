@@ -5,8 +5,8 @@ use Rattle.shb_clocks.specs.Open.{OpenTrace}
 use Rattle.shb_pairs.specs.Open.{AreOpen}
 use Rattle.shb_write.specs.Listed.{races_found}
 use Rattle.shb_run.specs.declared.settings.Choice.TheVariants as choices
-use Rattle.shb_run.proofs.Endings.{cut_known, memory_known}
-use Rattle.shb_run.proofs.Lists.{found_asked, found_listed, found_races, list_reported}
+use Rattle.shb_run.proofs.Endings.{summed, summed_error, unsummed}
+use Rattle.shb_run.proofs.Lists.{found_asked, found_listed, found_races}
 use Rattle.shb_run.proofs.all.report_found.Goals as goal
 
 pub write_search-requires-clause-races : goal.write_search-requires-clause-races
@@ -27,32 +27,28 @@ write_search-requires-clause-asked g c κs alive =
     (subst (λ (a : OpenTrace). AreOpen a.trace a.flags) is c.args.screened.now.settled) in
     rw c.new-search.ensures.ordered (found_asked trace.events.now c.args.screened.now.flags.now (g.O.Order.asks c.args.screened.now.ordered.now.order.now) _ c.args.screened.now.settled c.args.screened.now.asked listed)
 
-pub returns-in_err-races-clause-cut : goal.returns-in_err-races-clause-cut
-returns-in_err-races-clause-cut g c =
+pub returns-in_err-races : goal.returns-in_err-races
+returns-in_err-races g c =
     let trace = c.args.screened.now.ordered.now.disciplined.now in
     let is = sym (c.new-search.ensures.job ∙ c.new-job.ensures ∙ c.in_ok-accesses.ensures) in
     let listed = found_listed c.new-search.result.job.now trace.events.now (ap (λ (a : OpenTrace). a.trace) (sym is))
     (subst (λ (a : OpenTrace). IsNumberedByAccess a.trace) is trace.numbered)
     (subst (λ (a : OpenTrace). AreOpen a.trace a.flags) is c.args.screened.now.settled) in
     let lists = subst (λ e. IsRaceList e (races_found c.new-search.result.job.now)) trace.of_trace listed in
-    cut_known choices.All _ trace.trace.now (races_found c.new-search.result.job.now) lists ℕ _ _ _ c.from_residual-in_err-races.result c.from_residual-in_err-races.ensures.1 (rw c.new-search.ensures.ordered at c.in_err-races.ensures.cut)
+    summed_error choices.All _ trace.trace.now (races_found c.new-search.result.job.now) lists g.K.Sink.taken g.K.Sink.failure_count _ _ ℕ _ c.from_residual-in_err-races.result c.from_residual-in_err-races.ensures.1 (rw c.new-search.ensures.ordered at c.in_err-races.ensures.written)
 
-pub returns-in_err-races-clause-memory : goal.returns-in_err-races-clause-memory
-returns-in_err-races-clause-memory g c =
+pub returns : goal.returns
+returns g c =
     let trace = c.args.screened.now.ordered.now.disciplined.now in
     let is = sym (c.new-search.ensures.job ∙ c.new-job.ensures ∙ c.in_ok-accesses.ensures) in
     let listed = found_listed c.new-search.result.job.now trace.events.now (ap (λ (a : OpenTrace). a.trace) (sym is))
     (subst (λ (a : OpenTrace). IsNumberedByAccess a.trace) is trace.numbered)
     (subst (λ (a : OpenTrace). AreOpen a.trace a.flags) is c.args.screened.now.settled) in
     let lists = subst (λ e. IsRaceList e (races_found c.new-search.result.job.now)) trace.of_trace listed in
-    memory_known choices.All _ trace.trace.now (races_found c.new-search.result.job.now) lists ℕ _ _ _ _ c.from_residual-in_err-races.result c.from_residual-in_err-races.ensures.1 (rw c.new-search.ensures.ordered at c.in_err-races.ensures.memory)
+    summed choices.All _ trace.trace.now (races_found c.new-search.result.job.now) lists g.K.Sink.taken g.K.Sink.failure_count _ _ ℕ _ _ _ c.summary_of.ensures.summary c.summary_of.ensures.fits c.in_ok-races.ensures.count (rw c.new-search.ensures.ordered at c.in_ok-races.ensures.written)
 
-pub returns-clause-report : goal.returns-clause-report
-returns-clause-report g c =
-    let trace = c.args.screened.now.ordered.now.disciplined.now in
-    let is = sym (c.new-search.ensures.job ∙ c.new-job.ensures ∙ c.in_ok-accesses.ensures) in
-    let listed = found_listed c.new-search.result.job.now trace.events.now (ap (λ (a : OpenTrace). a.trace) (sym is))
-    (subst (λ (a : OpenTrace). IsNumberedByAccess a.trace) is trace.numbered)
-    (subst (λ (a : OpenTrace). AreOpen a.trace a.flags) is c.args.screened.now.settled) in
-    let lists = subst (λ e. IsRaceList e (races_found c.new-search.result.job.now)) trace.of_trace listed in
-    list_reported c.args.settings.schedules trace.trace.now (races_found c.new-search.result.job.now) _ c.summary_of.result _ _ c.summary_of.ensures.summary c.in_ok-races.ensures.count lists (rw c.new-search.ensures.ordered at c.in_ok-races.ensures.report)
+pub returns-in_err-accesses : goal.returns-in_err-accesses
+returns-in_err-accesses g c = unsummed choices.All _ _ g.K.Sink.taken g.K.Sink.failure_count _ _ c.from_residual.result c.from_residual.ensures.1
+
+pub returns-in_err-pieces : goal.returns-in_err-pieces
+returns-in_err-pieces g c = unsummed choices.All _ _ g.K.Sink.taken g.K.Sink.failure_count _ _ c.from_residual-in_err-pieces.result c.from_residual-in_err-pieces.ensures.1

@@ -1,11 +1,12 @@
-use Rattle.std.proofs.Common.{◌∙◌, ap, false, length, map, refl, sym}
+use Rattle.std.proofs.Common.{Err, Ok, false, map, refl, sym}
+use Rattle.std.proofs.lemmas.List.{length-map}
 use Rattle.shb_lines.specs.events.Race.{ends}
-use Rattle.shb_report.specs.Report.{LeadingRaces}
 use Rattle.shb_run.specs.declared.settings.Choice.TheVariants as choices
-use Rattle.shb_run.proofs.Endings.{reports_of}
-use Rattle.shb_run.proofs.Reports.{known_cut, races_listed}
-use Rattle.shb_write.proofs.Listing.{list_cut, list_written}
-use Rattle.shb_write.proofs.Reports.{on_sink, pairs_in_range}
+use Rattle.shb_run.proofs.Endings.{summed, summed_error, unsummed}
+use Rattle.shb_run.proofs.Reports.{races_listed}
+use Rattle.shb_write.specs.declared.errors.WriteError.TheVariants as writing
+use Rattle.shb_write.proofs.Counting.{pairs_in_range}
+use Rattle.shb_write.proofs.Reports.{report_failed, reported}
 use Rattle.shb_run.proofs.leading.list_leading.Goals as goal
 
 pub write_list-requires-clause-in_range : goal.write_list-requires-clause-in_range
@@ -16,15 +17,17 @@ write_list-requires-clause-in_range g c =
 pub write_list-requires-clause-places : goal.write_list-requires-clause-places
 write_list-requires-clause-places g c = c.in_ok-places.ensures c.args.trace.now.trace.now c.requires.listed
 
-pub returns-in_err-write_list-clause-cut : goal.returns-in_err-write_list-clause-cut
-returns-in_err-write_list-clause-cut g c =
-    let trace = c.args.trace.now.trace.now in
-    on_sink c.from_residual-in_err-write_list.result _
-    (known_cut LeadingRaces false trace (map ends c.args.races.now) c.requires.listed _ _ (list_cut trace (map ends c.args.races.now) _ _ c.in_err-write_list.ensures.written))
+pub returns-in_err-places : goal.returns-in_err-places
+returns-in_err-places g c = unsummed choices.Leading _ _ g.K.Sink.taken g.K.Sink.failure_count _ _ c.from_residual.result c.from_residual.ensures.1
 
-pub returns-clause-report : goal.returns-clause-report
-returns-clause-report g c =
+pub returns-in_err-write_list : goal.returns-in_err-write_list
+returns-in_err-write_list g c =
     let trace = c.args.trace.now.trace.now in
-    reports_of LeadingRaces false trace c.args.races.now (length c.args.races.now) c.summary_of.result
-    (g.K.Sink.taken c.args.sink.now) (g.K.Sink.taken c.write_list.new.sink) c.summary_of.ensures.summary refl c.requires.listed
-    (list_written trace (map ends c.args.races.now) _ _ c.in_ok-write_list.ensures.written)
+    summed_error choices.Leading false trace (map ends c.args.races.now) c.requires.listed g.K.Sink.taken g.K.Sink.failure_count _ _ (Unit {0}) writing.Sink c.from_residual-in_err-write_list.result c.from_residual-in_err-write_list.ensures.1
+    (report_failed false trace _ g.K.Sink.taken g.K.Sink.failure_count _ _ (Err writing.Sink) refl c.in_err-write_list.ensures.written c.in_err-write_list.ensures.counted)
+
+pub returns : goal.returns
+returns g c =
+    let trace = c.args.trace.now.trace.now in
+    summed choices.Leading false trace (map ends c.args.races.now) c.requires.listed g.K.Sink.taken g.K.Sink.failure_count _ _ (Unit {0}) tt _ _ c.summary_of.ensures.summary c.summary_of.ensures.fits (sym (length-map c.args.races.now ends))
+    (reported false trace _ g.K.Sink.taken g.K.Sink.failure_count _ _ tt c.in_ok-write_list.ensures.written c.in_ok-write_list.ensures.counted)

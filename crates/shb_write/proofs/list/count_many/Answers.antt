@@ -1,7 +1,7 @@
 -- What was counted of a search.
 use Rattle.std.proofs.Common.{◌∙◌}
 use Rattle.shb_write.specs.Listed.{races_found}
-use Rattle.shb_write.proofs.Listing.{many_counted}
+use Rattle.shb_write.proofs.Counting.{many_counted}
 use Rattle.shb_write.proofs.list.count_many.Goals as goal
 
 pub returns : goal.returns

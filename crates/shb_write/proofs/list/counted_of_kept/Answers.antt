@@ -2,7 +2,7 @@
 use Rattle.std.proofs.Common.{◌≡◌, List, ◌∙◌, ap, arith, length, refl, sym}
 use Rattle.shb_lines.specs.declared.event.Pair.{Pair}
 use Rattle.shb_report.specs.Places.{counts_in, places_of_pairs}
-use Rattle.shb_write.proofs.Listing.{kept_counted}
+use Rattle.shb_write.proofs.Counting.{kept_counted}
 use Rattle.shb_write.proofs.list.counted_of_kept.Goals as goal
 
 pub returns : goal.returns

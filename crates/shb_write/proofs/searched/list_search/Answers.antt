@@ -1,11 +1,8 @@
-use Rattle.std.proofs.Common.{false, arith, inr, subst}
+use Rattle.std.proofs.Common.{◌+◌, arith, false, refl, sym}
 use Rattle.shb_io.proofs.Growth.{Appends-trans, AppendsPrefix-after, AppendsPrefix-front}
-use Rattle.shb_lines.specs.events.Discipline.{IsDisciplined}
-use Rattle.shb_report.specs.Report.{tail_bytes}
 use Rattle.shb_write.specs.Listed.{races_found}
-use Rattle.shb_write.proofs.Blocks.{AppendsFront-then}
-use Rattle.shb_write.proofs.Listing.{of_trace_found}
-use Rattle.shb_write.proofs.Reports.{blocks_cut, blocks_of, on_memory, on_sink, report_cut, report_written}
+use Rattle.shb_write.proofs.Counting.{of_trace_found}
+use Rattle.shb_write.proofs.Reports.{report_failed, report_stopped, reported, unreported}
 use Rattle.shb_write.proofs.searched.list_search.Goals as goal
 
 pub count_races-requires-after_bounds : goal.count_races-requires-after_bounds
@@ -18,50 +15,39 @@ list_blocks-requires-clause-races g c κs within =
     let trace = c.args.search.now.ordered.now.disciplined.now in
     of_trace_found trace.trace.now trace.events.now (races_found c.args.search.now.job.now) trace.of_trace c.requires.races
 
-pub returns-in_err-write_front-clause-cut : goal.returns-in_err-write_front-clause-cut
-returns-in_err-write_front-clause-cut g c =
-    let found = c.in_ok-counted.ensures in
-    let races = races_found c.args.search.now.job.now in
-    let trace = c.args.search.now.ordered.now.disciplined.now in
-    let all = blocks_of false trace.trace.now races (subst IsDisciplined trace.of_trace trace.meets) in
-    on_sink c.from_residual-in_err-write_front.result _
-    (report_cut false c.args.search.now.ordered.now.disciplined.now.trace.now races all.0 all.1 _ _
-    (AppendsPrefix-front _ _ _ _ (c.in_err-write_front.ensures.written races found.count found.places_are)))
+pub returns-in_err-counted-clause-written : goal.returns-in_err-counted-clause-written
+returns-in_err-counted-clause-written g c = unreported false _ _ g.K.Sink.taken g.K.Sink.failure_count _ _ c.from_residual.result _ c.from_residual.ensures.1 refl
 
-pub returns-in_err-list_blocks-clause-cut : goal.returns-in_err-list_blocks-clause-cut
-returns-in_err-list_blocks-clause-cut g c =
+pub returns-in_err-write_front-clause-written : goal.returns-in_err-write_front-clause-written
+returns-in_err-write_front-clause-written g c =
     let found = c.in_ok-counted.ensures in
     let races = races_found c.args.search.now.job.now in
-    let blocks = c.in_err-list_blocks.ensures.blocks in
-    on_sink c.from_residual-in_err-list_blocks.result _
-    (report_cut false c.args.search.now.ordered.now.disciplined.now.trace.now races blocks.bytes blocks.blocks _ _
-    (AppendsPrefix-after _ _ _ _ _ (c.in_ok-write_front.ensures.written races found.count found.places_are) (AppendsFront-then _ _ blocks.bytes tail_bytes (omega arith) blocks.written)))
+    report_failed false _ races g.K.Sink.taken g.K.Sink.failure_count _ _ c.from_residual-in_err-write_front.result c.from_residual-in_err-write_front.ensures.1
+    (AppendsPrefix-front _ _ _ _ (c.in_err-write_front.ensures.written races found.count found.places_are)) c.in_err-write_front.ensures.counted
 
-pub returns-in_err-list_blocks-clause-memory : goal.returns-in_err-list_blocks-clause-memory
-returns-in_err-list_blocks-clause-memory g c =
+pub returns-in_err-list_blocks-clause-written : goal.returns-in_err-list_blocks-clause-written
+returns-in_err-list_blocks-clause-written g c =
     let found = c.in_ok-counted.ensures in
     let races = races_found c.args.search.now.job.now in
-    let blocks = c.in_err-list_blocks.ensures.blocks in
-    on_memory c.from_residual-in_err-list_blocks.result _
-    (inr (blocks_cut false c.args.search.now.ordered.now.disciplined.now.trace.now races blocks.bytes blocks.blocks _ _ _
-    (c.in_ok-write_front.ensures.written races found.count found.places_are) (AppendsFront-then _ _ blocks.bytes tail_bytes (omega arith) blocks.written)))
+    report_stopped false _ races g.K.Sink.taken g.K.Sink.failure_count _ _ c.from_residual-in_err-list_blocks.result _ _ c.from_residual-in_err-list_blocks.ensures.1
+    (c.in_ok-write_front.ensures.written races found.count found.places_are) c.in_err-list_blocks.ensures.blocks
+    (rw (sym c.in_ok-write_front.ensures.counted) c.in_err-list_blocks.ensures.counted)
 
-pub returns-in_err-tail-clause-cut : goal.returns-in_err-tail-clause-cut
-returns-in_err-tail-clause-cut g c =
+pub returns-in_err-tail-clause-written : goal.returns-in_err-tail-clause-written
+returns-in_err-tail-clause-written g c =
     let found = c.in_ok-counted.ensures in
     let races = races_found c.args.search.now.job.now in
-    let blocks = c.in_ok-list_blocks.ensures.blocks in
-    on_sink c.from_residual-in_err-tail.result _
-    (report_cut false c.args.search.now.ordered.now.disciplined.now.trace.now races blocks.bytes blocks.blocks _ _
-    (AppendsPrefix-after _ _ _ _ _ (c.in_ok-write_front.ensures.written races found.count found.places_are) (AppendsPrefix-after _ _ _ _ _ blocks.written c.in_err-tail.ensures.written)))
+    report_failed false _ races g.K.Sink.taken g.K.Sink.failure_count _ _ c.from_residual-in_err-tail.result c.from_residual-in_err-tail.ensures.1
+    (AppendsPrefix-after _ _ _ _ _ (c.in_ok-write_front.ensures.written races found.count found.places_are) (AppendsPrefix-after _ _ _ _ _ c.in_ok-list_blocks.ensures.blocks c.in_err-tail.ensures.written))
+    (omega (arith, c.in_ok-write_front.ensures.counted, c.in_ok-list_blocks.ensures.counted, c.in_err-tail.ensures.counted))
 
-pub returns-clause-report : goal.returns-clause-report
-returns-clause-report g c =
+pub returns-clause-written : goal.returns-clause-written
+returns-clause-written g c =
     let found = c.in_ok-counted.ensures in
     let races = races_found c.args.search.now.job.now in
-    let blocks = c.in_ok-list_blocks.ensures.blocks in
-    report_written false c.args.search.now.ordered.now.disciplined.now.trace.now races blocks.bytes blocks.blocks _ _
-    (Appends-trans _ _ _ _ _ (c.in_ok-write_front.ensures.written races found.count found.places_are) (Appends-trans _ _ _ _ _ blocks.written c.in_ok-tail.ensures.written))
+    reported false _ races g.K.Sink.taken g.K.Sink.failure_count _ _ _
+    (Appends-trans _ _ _ _ _ (c.in_ok-write_front.ensures.written races found.count found.places_are) (Appends-trans _ _ _ _ _ c.in_ok-list_blocks.ensures.blocks c.in_ok-tail.ensures.written))
+    (omega (arith, c.in_ok-write_front.ensures.counted, c.in_ok-list_blocks.ensures.counted, c.in_ok-tail.ensures.counted))
 
 -- An edit that makes this false is refused at once.
 pub returns-clause-count : goal.returns-clause-count

@@ -4,6 +4,8 @@ use Rattle.shb_io.proofs.Growth.{AppendsPrefix-after, AppendsPrefix-front, Write
 use Rattle.shb_lines.specs.events.Race.{ends}
 use Rattle.shb_report.specs.Places.{IsPlaceOf}
 use Rattle.shb_report.proofs.PlaceLemmas.{places_in_range}
+use Rattle.shb_report.specs.Report.{tail_bytes}
+use Rattle.shb_write.proofs.Blocks.{front_lacks}
 use Rattle.shb_write.proofs.Reports.{places_of_ends}
 use Rattle.shb_write.proofs.write.write_list.Goals as goal
 
@@ -23,11 +25,11 @@ returns-in_err-write_listed-clause-written g c =
     let races = c.args.races.now in
     Writes-err _ _ _ _ _ c.from_residual-in_err-write_listed.ensures.1
     (AppendsPrefix-after _ _ _ _ _ (c.in_ok-write_front.ensures.written (map ends races) (sym (length-map races ends)) (places_of_ends trace races _ c.requires.places))
-    (AppendsPrefix-front _ _ _ _ c.in_err-write_listed.ensures.written))
+    (front_lacks _ _ _ tail_bytes (omega arith) c.in_err-write_listed.ensures.blocks))
 
 pub returns-clause-written : goal.returns-clause-written
 returns-clause-written g c =
     let trace = c.args.trace.now in
     let races = c.args.races.now in
     Writes-then _ _ _ _ _ _ (c.in_ok-write_front.ensures.written (map ends races) (sym (length-map races ends)) (places_of_ends trace races _ c.requires.places))
-    (Writes-then _ _ _ _ _ _ c.in_ok-write_listed.ensures.written c.tail.ensures.written)
+    (Writes-then _ _ _ _ _ _ c.in_ok-write_listed.ensures.blocks c.tail.ensures.written)

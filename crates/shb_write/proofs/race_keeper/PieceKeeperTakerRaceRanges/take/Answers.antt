@@ -1,6 +1,7 @@
 -- One piece more.
-use Rattle.shb_write.proofs.Listing.{kept_piece}
+use Rattle.shb_write.proofs.Counting.{kept_then}
+use Rattle.shb_write.proofs.Pieces.{pieces_more}
 use Rattle.shb_write.proofs.race_keeper.PieceKeeperTakerRaceRanges.take.Goals as goal
 
-pub returns-clause-taken : goal.returns-clause-taken
-returns-clause-taken c start given long has may = kept_piece c.keep_piece.result start.kept.items c.args.self.now.kept.items c.keep_piece.new.kept.items given c.args.out has c.keep_piece.ensures
+pub returns-in-Ok-clause-taken : goal.returns-in-Ok-clause-taken
+returns-in-Ok-clause-taken c start given long has may = (kept_then start.kept.items c.args.self.now.kept.items _ _ _ _ (pieces_more given c.args.out) has.0 c.in-Ok.ensures, has.1)

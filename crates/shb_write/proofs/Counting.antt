@@ -1,0 +1,73 @@
+-- Races that are kept and counted.
+use Rattle.std.proofs.Common.{◌≡◌, ℕ, zero, suc, ◌+◌, ◌^◌, ◌<◌, List, [], ◌∷◌, ◌++◌, length, map, All, Option, None, Some, refl, sym, ap, subst, ◌∙◌, arith, append_assoc, Vec, Global}
+use Rattle.std.specs.Prelude.{IfSome}
+use Rattle.std.proofs.lemmas.List.{length-map}
+use Rattle.shb_lines.specs.declared.event.Event.{Event}
+use Rattle.shb_lines.specs.declared.event.Pair.{Pair}
+use Rattle.shb_lines.specs.events.Race.{Race, ends}
+use Rattle.shb_lines.specs.text.TraceData.{TraceData}
+use Rattle.shb_lines.proofs.events.Reach.{event_at_access}
+use Rattle.std.proofs.lemmas.Option.{slice_get_within}
+use Rattle.std.proofs.lemmas.List.Elements.{All-nil}
+use Rattle.shb_report.specs.Places.{IsPairOf, IsPlaceOf, counts_in, places_of_pairs}
+use Rattle.shb_report.specs.Report.{pair_of}
+use Rattle.shb_report.proofs.PlaceLemmas.{places_in_range}
+use Rattle.shb_witness.specs.Schedules.{AreRaces}
+use Rattle.shb_write.specs.declared.counted.Counted.{Counted}
+use Rattle.shb_write.specs.Listed.{HasKept, IsCountOf, IsRaceOf}
+use Rattle.shb_write.proofs.Pieces.{pairs_of_trace}
+
+-- the pairs of events are those of the races
+pub pairs_back : (races : List Pair) → map pair_of (map ends races) ≡ races
+pairs_back [] = refl
+pairs_back (race ∷ races) = ap (λ l. race ∷ l) (pairs_back races)
+
+pub ends_back : (races : List (ℕ × ℕ)) → map ends (map pair_of races) ≡ races
+ends_back [] = refl
+ends_back (race ∷ races) = ap (λ (l : List (ℕ × ℕ)). race ∷ l) (ends_back races)
+
+-- the events of a race are events of the trace, which may be seen under another name
+pub race_of_trace : (trace : TraceData) (events : List Event) (i j : ℕ) → events ≡ trace.events → Race events i j → IsRaceOf trace (i, j)
+race_of_trace trace events i j same race =
+    let first = event_at_access events i race.conflict.variable race.conflict.first_accesses in
+    let second = event_at_access events j race.conflict.variable race.conflict.second_accesses in
+    (subst (λ t. i < length t) same (slice_get_within events i first.0 first.1), subst (λ t. j < length t) same (slice_get_within events j second.0 second.1))
+
+pub pairs_in_range : (trace : TraceData) (events : List Event) (races : List Pair) → events ≡ trace.events → AreRaces events races → All (IsPairOf trace) races
+pairs_in_range trace events races same are k d lt = let both = race_of_trace trace events _ _ same (are k d lt) in record { first = both.0; second = both.1 }
+
+pub of_trace_found : (trace : TraceData) (events : List Event) (races : List (ℕ × ℕ)) → events ≡ trace.events → AreRaces events (map pair_of races) → All (IsRaceOf trace) races
+of_trace_found trace events [] same are k d lt = All-nil (IsRaceOf trace) k d lt
+of_trace_found trace events (race ∷ races) same are zero d lt = race_of_trace trace events race.0 race.1 same (are 0 (pair_of d) (omega arith))
+of_trace_found trace events (race ∷ races) same are (suc k) d lt = of_trace_found trace events races same (λ j e l. are (suc j) e (omega arith)) k d (omega arith)
+
+-- races that were kept
+pub kept_there : (kept : Option (Vec Pair Global)) (v : Vec Pair Global) (races : List (ℕ × ℕ)) → kept ≡ Some v → IfSome kept (λ k. map ends k.items ≡ races) → map ends v.items ≡ races
+kept_there kept v races is h = let there = subst (λ (o : Option (Vec Pair Global)). IfSome o (λ k. map ends k.items ≡ races)) is h in there
+
+-- what was counted of a search, of which nothing was kept
+pub many_counted : (trace : TraceData) (races : List (ℕ × ℕ)) (c : Counted) → All (IsRaceOf trace) races → c.races < 2 ^ 64 → c.races ≡ length races → c.places ≡ counts_in (places_of_pairs trace (map pair_of races)) → c.kept ≡ None
+    → IsCountOf trace races c
+many_counted trace races c of_trace few many places none = record {
+  count = many;
+  few = omega (arith, few, many);
+  places_are = places;
+  in_range = subst (All (IsPlaceOf trace)) (sym places) (places_in_range trace (map pair_of races) (pairs_of_trace trace (map pair_of races) (subst (All (IsRaceOf trace)) (sym (ends_back races)) of_trace)));
+  kept_are = subst (λ (o : Option (Vec Pair Global)). IfSome o (λ k. map ends k.items ≡ races)) (sym none) tt;
+}
+
+-- what was counted of races that were kept
+pub kept_counted : (trace : TraceData) (kept : Vec Pair Global) (c : Counted) → length kept.items < 2 ^ 64 → All (IsPairOf trace) kept.items → c.races ≡ length kept.items
+    → c.places ≡ counts_in (places_of_pairs trace kept.items) → c.kept ≡ Some kept → IsCountOf trace (map ends kept.items) c
+kept_counted trace kept c few of_trace many places same = record {
+  count = many ∙ sym (length-map kept.items ends);
+  few = omega (arith, few, length-map kept.items ends);
+  places_are = places ∙ ap (λ (l : List Pair). counts_in (places_of_pairs trace l)) (sym (pairs_back kept.items));
+  in_range = subst (All (IsPlaceOf trace)) (sym places) (places_in_range trace kept.items of_trace);
+  kept_are = subst (λ (o : Option (Vec Pair Global)). IfSome o (λ k. map ends k.items ≡ map ends kept.items)) (sym same) refl;
+}
+
+-- ---- races that are kept as they come
+
+pub kept_then : (before now after : List Pair) (xs ys all : List (ℕ × ℕ)) → all ≡ xs ++ ys → HasKept before xs now → HasKept now ys after → HasKept before all after
+kept_then before now after xs ys all is has more = more ∙ ap (λ (l : List (ℕ × ℕ)). l ++ ys) has ∙ append_assoc (map ends before) xs ys ∙ ap (λ (l : List (ℕ × ℕ)). map ends before ++ l) (sym is)

@@ -1,0 +1,92 @@
+-- Blocks that are written as their schedules come.
+use Rattle.std.proofs.Common.{◌≡◌, ℕ, zero, suc, ◌+◌, ◌-◌, ◌^◌, ◌<◌, ◌≤◌, List, [], ◌∷◌, ◌++◌, length, map, take, drop, get_or, All, Option, Some, true, refl, sym, ap, subst, ◌∙◌, arith}
+use Rattle.std.proofs.lemmas.List.{map-append, map-id, map_more, map_push, take_all, take-append-drop}
+use Rattle.std.specs.Io.KnownBytes.{Appends}
+use Rattle.shb_fan.specs.Values.{values_of}
+use Rattle.shb_fan.proofs.Values.{length-values}
+use Rattle.shb_lines.specs.declared.event.Event.{Event}
+use Rattle.shb_lines.specs.declared.event.Pair.{Pair}
+use Rattle.shb_lines.specs.events.Race.{ends}
+use Rattle.shb_lines.specs.text.TraceData.{TraceData}
+use Rattle.shb_witness.specs.Schedules.{Asked, schedule_at}
+use Rattle.shb_report.specs.Places.{IsPairOf}
+use Rattle.shb_write.specs.declared.schedule_writer.ScheduleWriter.{ScheduleWriter}
+use Rattle.shb_write.specs.Blocks.{blocks_of, scheduled, shown_from, with_schedule}
+use Rattle.shb_report.specs.Report.{blocks_from}
+use Rattle.shb_write.specs.Written.{AppendsFront}
+use Rattle.shb_write.proofs.Blocks.{blocks_front}
+use Rattle.shb_write.specs.Scheduled.{HasScheduled, MaySchedule}
+
+abbrev pub none : Pair
+none = record { first = 0; second = 0 }
+
+-- as many races are shown as there are schedules
+pub length-shown : (n : ℕ) (races : List Pair) (schedules : List (List ℕ)) → length (shown_from n races schedules) ≡ length schedules
+length-shown n races [] = refl
+length-shown n races (s ∷ schedules) = omega (arith, length-shown (n + 1) races schedules)
+
+-- one schedule more shows the next race
+pub shown-push : (n : ℕ) (races : List Pair) (schedules : List (List ℕ)) (s : List ℕ) (place : ℕ) → place ≡ length schedules + n
+    → shown_from n races (schedules ++ s ∷ []) ≡ shown_from n races schedules ++ with_schedule (get_or races place none) s ∷ []
+shown-push n races [] s place is = ap (λ k. with_schedule (get_or races k none) s ∷ []) (let same : n ≡ place = omega (arith, is) in same)
+shown-push n races (first ∷ schedules) s place is = ap (λ l. with_schedule (get_or races n none) first ∷ l) (shown-push (n + 1) races schedules s place (omega (arith, is)))
+
+-- the first k schedules show the first k races as they are to be shown
+pub first_shown : (trace : TraceData) (races : List Pair) (k : ℕ) → k ≤ length races → shown_from 0 races (values_of (schedule_at trace.events races) k) ≡ map (scheduled trace) (map ends (take k races))
+first_shown trace races zero le = refl
+first_shown trace races (suc k) le =
+    let lt : k < length races = omega (arith, le) in
+    let up : k + 1 ≡ suc k = omega arith in
+    shown-push 0 races (values_of (schedule_at trace.events races) k) (schedule_at trace.events races k) k (omega (arith, length-values (schedule_at trace.events races) k))
+    ∙ ap (λ l. l ++ scheduled trace (ends (get_or races k none)) ∷ []) (first_shown trace races k (omega (arith, le)))
+    ∙ sym (ap (map (scheduled trace)) (map_more ends races k none lt) ∙ map_push (scheduled trace) (map ends (take k races)) (ends (get_or races k none)))
+    ∙ ap (λ n. map (scheduled trace) (map ends (take n races))) up
+
+-- the schedules that came, of a trace whose events may have another name
+pub came_shown : (trace : TraceData) (events : List Event) (races : List Pair) (asked : Asked) → events ≡ trace.events → asked ≡ record { trace = events; races = races } → (k : ℕ) (given : List (List ℕ)) → k ≤ length asked.races
+    → map (λ s. s) given ≡ values_of (schedule_at asked.trace asked.races) k → shown_from 0 races given ≡ map (scheduled trace) (map ends (take k races))
+came_shown trace events races asked same is k given le first =
+    ap (shown_from 0 races) (sym (map-id given) ∙ first ∙ ap (λ (a : Asked). values_of (schedule_at a.trace a.races) k) is ∙ ap (λ (e : List Event). values_of (schedule_at e races) k) same)
+    ∙ first_shown trace races k (omega (arith, le, ap (λ (a : Asked). length a.races) is))
+
+-- of all, the first k
+pub scheduled_split : (trace : TraceData) (races : List Pair) (k : ℕ) → map (scheduled trace) (map ends races) ≡ map (scheduled trace) (map ends (take k races)) ++ map (scheduled trace) (map ends (drop k races))
+scheduled_split trace races k =
+    ap (λ l. map (scheduled trace) (map ends l)) (sym (take-append-drop k races))
+    ∙ ap (map (scheduled trace)) (map-append ends (take k races) (drop k races))
+    ∙ map-append (scheduled trace) (map ends (take k races)) (map ends (drop k races))
+
+module _ {K : Type 0} (taken : K → Option (List ℕ)) (failures : K → ℕ) (start before : ScheduleWriter K) (given : List (List ℕ)) (has : HasScheduled taken failures start given before) where
+  -- how many are written
+  many : before.writer.written ≡ length given + start.writer.written
+  many = omega (arith, has.written.as_many, length-shown start.writer.written start.races.now given)
+
+  -- the next race is one of those
+  pub next_there : MaySchedule failures start given → before.writer.written < length before.races.now
+  next_there may = omega (arith, may.room, many, ap length has.same_races)
+
+  pub next_countable : MaySchedule failures start given → failures before.writer.sink.now < 2 ^ 64 - 1
+  next_countable may = omega (arith, may.countable, has.written.counted)
+
+  pub next_in_range : MaySchedule failures start given → IsPairOf before.writer.trace.now (get_or before.races.now before.writer.written none)
+  next_in_range may =
+      subst (λ (t : TraceData). IsPairOf t (get_or before.races.now before.writer.written none)) (sym has.written.same_trace)
+      (subst (λ (l : List Pair). All (IsPairOf start.writer.trace.now) l) (sym has.same_races) may.in_range before.writer.written none (next_there may))
+
+  pub next_shown : (s : List ℕ) → shown_from start.writer.written start.races.now (given ++ s ∷ []) ≡ shown_from start.writer.written start.races.now given ++ with_schedule (get_or before.races.now before.writer.written none) s ∷ []
+  next_shown s =
+      shown-push start.writer.written start.races.now given s before.writer.written many
+      ∙ ap (λ (l : List Pair). shown_from start.writer.written start.races.now given ++ with_schedule (get_or l before.writer.written none) s ∷ []) (sym has.same_races)
+
+-- what was written of the blocks of all races, where the first k schedules came
+pub came_front : (trace : TraceData) (events : List Event) (races : List Pair) (asked : Asked) → events ≡ trace.events → asked ≡ record { trace = events; races = races } → (k : ℕ) (given : List (List ℕ)) (old new : Option (List ℕ)) → k ≤ length asked.races
+    → map (λ s. s) given ≡ values_of (schedule_at asked.trace asked.races) k → AppendsFront old new (blocks_from trace 1 (shown_from 0 races given)) → AppendsFront old new (blocks_of true trace (map ends races))
+came_front trace events races asked same is k given old new le first front =
+    blocks_front trace 1 (map (scheduled trace) (map ends (take k races))) (map (scheduled trace) (map ends (drop k races))) (map (scheduled trace) (map ends races)) old new (scheduled_split trace races k)
+    (subst (λ l. AppendsFront old new (blocks_from trace 1 l)) (came_shown trace events races asked same is k given le first) front)
+
+pub came_all : (trace : TraceData) (events : List Event) (races : List Pair) (asked : Asked) → events ≡ trace.events → asked ≡ record { trace = events; races = races } → (given : List (List ℕ)) (old new : Option (List ℕ))
+    → map (λ s. s) given ≡ values_of (schedule_at asked.trace asked.races) (length asked.races) → Appends old new (blocks_from trace 1 (shown_from 0 races given)) → Appends old new (blocks_of true trace (map ends races))
+came_all trace events races asked same is given old new first written =
+    subst (λ l. Appends old new (blocks_from trace 1 (map (scheduled trace) (map ends l)))) (take_all (length asked.races) races (omega (arith, ap (λ (a : Asked). length a.races) is)))
+    (subst (λ l. Appends old new (blocks_from trace 1 l)) (came_shown trace events races asked same is (length asked.races) given (omega arith) first) written)

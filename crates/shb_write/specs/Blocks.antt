@@ -1,0 +1,59 @@
+-- The blocks of races, written one after the other.
+use Rattle.std.specs.Prelude.{◌≡◌, ℕ, ◌+◌, Bool, List, [], ◌∷◌, length, map, Option, None, Some, Result, MatchResult, if◌then◌else◌, slice_index_or}
+use Rattle.std.specs.Io.KnownBytes.{Appends}
+use Rattle.shb_lines.specs.declared.event.Pair.{Pair}
+use Rattle.shb_lines.specs.events.Race.{ends}
+use Rattle.shb_lines.specs.text.TraceData.{TraceData}
+use Rattle.shb_report.specs.Report.{ShownRace, blocks_from, pair_of}
+use Rattle.shb_witness.specs.Schedules.{printed_schedule}
+use Rattle.shb_write.specs.declared.block_writer.BlockWriter.{BlockWriter}
+use Rattle.shb_write.specs.declared.errors.WriteError.{WriteError}
+use Rattle.shb_write.specs.Written.{AppendsFront, write_failed}
+
+-- a race without a schedule, and with its printed schedule
+abbrev pub alone : ℕ × ℕ → ShownRace
+alone race = record { pair = race; schedule = None }
+
+abbrev pub scheduled : TraceData → ℕ × ℕ → ShownRace
+scheduled trace race = record { pair = race; schedule = Some (printed_schedule trace.events (pair_of race)) }
+
+-- a race with this schedule
+abbrev pub with_schedule : Pair → List ℕ → ShownRace
+with_schedule race schedule = record { pair = ends race; schedule = Some schedule }
+
+-- these races, in one of the two forms
+abbrev pub shown : Bool → TraceData → List (ℕ × ℕ) → List ShownRace
+shown with_schedules trace races = if with_schedules then map (scheduled trace) races else map alone races
+
+-- race n with the first schedule, race n + 1 with the second, and so on
+abbrev pub shown_from : ℕ → List Pair → List (List ℕ) → List ShownRace
+shown_from n races [] = []
+shown_from n races (schedule ∷ schedules) = with_schedule (slice_index_or races n (record { first = 0; second = 0 })) schedule ∷ shown_from (n + 1) races schedules
+
+-- the blocks of these races, numbered from 1
+abbrev pub blocks_of : Bool → TraceData → List (ℕ × ℕ) → List ℕ
+blocks_of with_schedules trace races = blocks_from trace 1 (shown with_schedules trace races)
+
+-- the blocks of some races were written or, on an error, the front of them, perhaps all
+abbrev pub WritesBlocks : {T E : Type 0} → Bool → TraceData → List (ℕ × ℕ) → Option (List ℕ) → Option (List ℕ) → Result T E → Type 0
+WritesBlocks with_schedules trace races old new r =
+    MatchResult r (λ _. Appends old new (blocks_of with_schedules trace races)) (λ _. AppendsFront old new (blocks_of with_schedules trace races))
+
+-- how often the sink failed, after an error
+abbrev pub failures_after : WriteError → ℕ → ℕ
+failures_after error n = if write_failed error then n + 1 else n
+
+module _ {K : Type 0} (taken : K → Option (List ℕ)) (failures : K → ℕ) where
+  -- the blocks of these races were written, and nothing else changed
+  pub record HasWritten (start : BlockWriter K) (races : List ShownRace) (end : BlockWriter K) : Type 0 where
+    pub same_sink : end.sink.ghost_name ≡ start.sink.ghost_name
+    pub same_trace : end.trace.now ≡ start.trace.now
+    pub as_many : end.written ≡ length races + start.written
+    pub appended : Appends (taken start.sink.now) (taken end.sink.now) (blocks_from start.trace.now (start.written + 1) races)
+    pub counted : failures end.sink.now ≡ failures start.sink.now
+
+  -- the front of the blocks of these races was written
+  pub record HasStopped (start : BlockWriter K) (races : List ShownRace) (error : WriteError) (end : BlockWriter K) : Type 0 where
+    pub same_sink : end.sink.ghost_name ≡ start.sink.ghost_name
+    pub front : AppendsFront (taken start.sink.now) (taken end.sink.now) (blocks_from start.trace.now (start.written + 1) races)
+    pub counted : failures end.sink.now ≡ failures_after error (failures start.sink.now)
