@@ -79,7 +79,6 @@ def uninstall(place):
     old = read_list(place)
     remove_files(place, old.files - {LISTED})
     remove_compiled(place, old.files)
-    remove(place / (LISTED + NEW))
     remove_files(place, {LISTED} & old.files)
     remove_folders(place, old.folders)
     return old != NOTHING
@@ -98,7 +97,7 @@ def undo(place, names, old, folders):
 
 def refuse_strangers(place, names, old):
     """A file that is in the way and that no installation has put there is somebody's."""
-    wanted = [name for plain in names if plain not in old.files for name in (plain, plain + NEW) if name != LISTED + NEW]
+    wanted = [name for plain in names if plain not in old.files for name in (plain, plain + NEW)]
     found = [name for name in wanted if os.path.lexists(place / name)]
     if found:
         more = f" and {len(found) - MOST_NAMES} more" if len(found) > MOST_NAMES else ""
@@ -144,8 +143,8 @@ def remove(path):
 def remove_files(place, names):
     """Deletes these files, and what an installation that was stopped has left beside their places."""
     for name in names:
-        remove(place / name)
         remove(place / (name + NEW))
+        remove(place / name)
 
 
 def remove_compiled(place, names):
