@@ -424,6 +424,20 @@ class Command(recorder.Case):
             status, _, said = self.record(self.program(), "0", "race", SHB=str(fake))
             self.assertEqual((status, "`shb places --list` wrote no whole report: line " in said), (125, True), said)
 
+    def test_a_converter_that_is_killed(self):
+        """It has written a row, and nobody reads the answer."""
+        home = self.folder / "recorder"
+        home.mkdir()
+        shutil.copy(recorder.BUILT / "shb-record", home)
+        (home / "lib").symlink_to(recorder.BUILT / "lib")
+        for name in ("view", "common"):
+            (self.folder / name).symlink_to(recorder.SOURCES.parent / name)
+        (home / "shb-std").write_text("#!/bin/sh\nexec 0<&-\nprintf 'window-0001.std\\t1\\t2\\t0\\n'\nkill -KILL $$\n")
+        (home / "shb-std").chmod(0o755)
+        status, _, said = self.record(self.program(), "0", "race", command=home / "shb-record")
+        self.assertEqual(status, 125, said)
+        self.assertRegex(said, r"(?m)^shb-record: run 1, process \d+: shb-std ended with signal 9$")
+
     def test_what_earlier_runs_recorded_is_shown(self):
         """The third run leaves no record, for it can't begin one."""
         program = self.program()
