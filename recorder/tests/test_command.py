@@ -140,6 +140,20 @@ class Command(recorder.Case):
         self.assertGreater(len(numbers), 8)
         self.assertLessEqual(max(numbers), 5)
 
+    def test_a_disk_without_room_for_windows(self):
+        """Of 16 events each, so three and a half have 56 events, of 64 bytes."""
+        command, program = self.folder / "command", self.program()
+        for free, wanted in ((3583, 125), (3584, 66)):
+            command.write_text("#!/usr/bin/env python3\nimport runpy, shutil\nuse = shutil.disk_usage('/')\n"
+                               f"shutil.disk_usage = lambda path: use._replace(free={free})\n"
+                               f"runpy.run_path({str(recorder.BUILT / 'shb-record')!r}, run_name='__main__')\n")
+            command.chmod(0o755)
+            status, _, said = self.record("--window", "16", program, "0", "race", command=command)
+            self.assertEqual(status, wanted, said)
+            sentence = f"process N: its windows may take about 3,584 bytes of the disk, and {free:,} are free; --window makes smaller ones\n"
+            self.assertEqual(sentence in re.sub(r"process \d+", "process N", said), wanted == 125, said)
+            self.assertEqual(any(name.endswith(".std") for name in self.names()), wanted == 66)
+
     def test_a_publication_without_release(self):
         """The trace doesn't have the atomic, which orders nothing; the text names it."""
         status, _, said = self.record(self.program("publication.c"))
