@@ -75,14 +75,11 @@ cases_option (Some v) (Some w) = go (cases_eq v w)
 
 -- two answers agree where the facts that they answer do
 module _ (A B : ℕ → Type 0) (one_a : (v w : ℕ) → A v → A w → v ≡ w) (one_b : (v w : ℕ) → B v → B w → v ≡ w) where
-  agree_on : (o : Option ℕ) → Exactly A o → Exactly B o → (w : ℕ) → A w ↔ B w
-  agree_on (Some v) a b w = ((λ h. subst B (one_a v w a h) b), (λ h. subst A (one_b v w b h) a))
-  agree_on None a b w = ((λ h. absurd (a w h)), (λ h. absurd (b w h)))
+  agree : (o p : Option ℕ) → Exactly A o → Exactly B p → o ≡ p → (w : ℕ) → A w ↔ B w
+  agree (Some v) p a b same w = let known : B v = subst (λ (q : Option ℕ). Exactly B q) (sym same) b in ((λ h. subst B (one_a v w a h) known), (λ h. subst A (one_b v w known h) a))
+  agree None p a b same w = ((λ h. absurd (a w h)), (λ h. absurd (subst (λ (q : Option ℕ). Exactly B q) (sym same) b w h)))
 
-  pub agree : (o p : Option ℕ) → Exactly A o → Exactly B p → o ≡ p → (w : ℕ) → A w ↔ B w
-  agree o p a b same = agree_on o a (subst (λ (q : Option ℕ). Exactly B q) (sym same) b)
-
-  pub differ : (o p : Option ℕ) → Exactly A o → Exactly B p → (o ≡ p → ⊥) → ((w : ℕ) → A w ↔ B w) → ⊥
+  differ : (o p : Option ℕ) → Exactly A o → Exactly B p → (o ≡ p → ⊥) → ((w : ℕ) → A w ↔ B w) → ⊥
   differ (Some v) (Some w) a b ne same = ne (ap (λ (n : ℕ). Some n) (one_b v w ((same v).0 a) b))
   differ (Some v) None a b ne same = b v ((same v).0 a)
   differ None (Some w) a b ne same = a w ((same w).1 b)
@@ -97,14 +94,13 @@ module _ (trace : List Event) (s : List ℕ) (p x e : ℕ) where
   writes_differ = differ (IsLatestWrite trace s p x) (λ w. LastWrite trace w e) (latest_unique trace s p x) (λ v w. last_write_unique trace v w e)
 
   pub decide_agree : Decided ((w : ℕ) → IsLatestWrite trace s p x w ↔ LastWrite trace w e)
-  decide_agree = go (find_latest trace s p x) (found_last_write trace e)
-    where
-      by : (o l : Option ℕ) → Exactly (IsLatestWrite trace s p x) o → Exactly (λ w. LastWrite trace w e) l → (o ≡ l) ⊎ (o ≡ l → ⊥) → Decided ((w : ℕ) → IsLatestWrite trace s p x w ↔ LastWrite trace w e)
-      by o l a b (inl same) = inl (writes_agree o l a b same)
-      by o l a b (inr ne) = inr (writes_differ o l a b ne)
-
-      go : (o : Option ℕ) × Exactly (IsLatestWrite trace s p x) o → (l : Option ℕ) × Exactly (λ w. LastWrite trace w e) l → Decided ((w : ℕ) → IsLatestWrite trace s p x w ↔ LastWrite trace w e)
-      go (o, a) (l, b) = by o l a b (cases_option o l)
+  decide_agree =
+      let latest = find_latest trace s p x in
+      let last = found_last_write trace e in
+      elim (cases_option latest.0 last.0) [
+        | inl same ↦ inl (writes_agree latest.0 last.0 latest.1 last.1 same)
+        | inr ne ↦ inr (writes_differ latest.0 last.0 latest.1 last.1 ne)
+      ]
 
 -- in a list of different positions the latest write before the index of a read is the last write in the list
 module _ (trace : List Event) (s : List ℕ) (distinct : (a : ℕ) → ¬ StandsBefore s a a) (q x r : ℕ) (at : slice_get s q ≡ Some r) where

@@ -89,8 +89,9 @@ module _ (trace : List Event) (s : List ℕ) where
   broken_here i j at whys.LockOrder h = h
   broken_here i j at whys.LastWrite h = h
 
-  refuse : (at : ℕ) (why : Why) → IsFirstReason trace s at why → IsUnbroken trace s (length s) → ⊥
-  refuse at why h all = all at h.event why (slice_get_within s at h.event h.there) h.there h.lowest.0
+  -- an index with a reason isn't among those without one
+  pub not_before : (p n : ℕ) (why : Why) → IsFirstReason trace s p why → IsUnbroken trace s n → p < n → ⊥
+  not_before p n why h unbroken lt = unbroken p h.event why lt h.there h.lowest.0
 
   -- an answer is the first reason of an index, or that an access isn't next
   pub two_ways : (i j at : ℕ) (why : Why) → IsBroken trace s i j at why → ((why ≡ whys.NotNext) × IsNotNext trace s i j at) ⊎ IsFirstReason trace s at why
@@ -107,7 +108,7 @@ module _ (trace : List Event) (s : List ℕ) where
   pub broken_no_schedule : (i j at : ℕ) (why : Why) → IsBroken trace s i j at why → IsUnbroken trace s (length s) × IsNext trace s i × IsNext trace s j → ⊥
   broken_no_schedule i j at why h all = elim (two_ways i j at why h) [
     | inl end ↦ elim end.1.not_next [ inl not ↦ not all.1 | inr not ↦ not all.2 ]
-    | inr first ↦ refuse at why first all.0
+    | inr first ↦ not_before at (length s) why first all.0 (slice_get_within s at first.event first.there)
   ]
 
 -- None is answered exactly for schedules

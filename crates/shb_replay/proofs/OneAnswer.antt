@@ -5,23 +5,19 @@ use Rattle.std.proofs.lemmas.Option.{slice_get_within}
 use Rattle.shb_lines.specs.declared.event.Event.{Event}
 use Rattle.shb_replay.specs.declared.broken.Why.{Why}
 use Rattle.shb_replay.specs.declared.broken.Why.TheVariants as whys
-use Rattle.shb_replay.specs.Reasons.{number_of, HasReason, IsBroken, IsFirstReason, IsNotNext, IsUnbroken}
-use Rattle.shb_replay.proofs.Lowest.{same_why, two_ways}
+use Rattle.shb_replay.specs.Reasons.{number_of, HasReason, IsBroken, IsFirstReason, IsNotNext}
+use Rattle.shb_replay.proofs.Lowest.{not_before, same_why, two_ways}
 use Rattle.shb_replay.proofs.Standing.{one_value}
 use Rattle.shb_lines.specs.Lowest.{IsLowest}
 
 module _ (trace : List Event) (s : List ℕ) (i j : ℕ) where
-  -- an index with a reason isn't among those before another answer's index
-  not_before : (p n : ℕ) (why : Why) → IsFirstReason trace s p why → IsUnbroken trace s n → p < n → ⊥
-  not_before p n why h unbroken lt = unbroken p h.event why lt h.there h.lowest.0
-
   at_end : (p q : ℕ) (why : Why) → IsFirstReason trace s p why → IsNotNext trace s i j q → ⊥
-  at_end p q why h end = not_before p q why h end.earlier (let lt = slice_get_within s p h.event h.there in let e = end.at_end in omega (arith, lt, e))
+  at_end p q why h end = not_before trace s p q why h end.earlier (let lt = slice_get_within s p h.event h.there in let e = end.at_end in omega (arith, lt, e))
 
   same_index : (p q : ℕ) (why other : Why) → IsFirstReason trace s p why → IsFirstReason trace s q other → (p ≡ q) ⊎ ((p < q) ⊎ (q < p)) → p ≡ q
   same_index p q why other h g (inl same) = same
-  same_index p q why other h g (inr (inl lt)) = absurd (not_before p q why h g.earlier lt)
-  same_index p q why other h g (inr (inr gt)) = absurd (not_before q p other g h.earlier gt)
+  same_index p q why other h g (inr (inl lt)) = absurd (not_before trace s p q why h g.earlier lt)
+  same_index p q why other h g (inr (inr gt)) = absurd (not_before trace s q p other g h.earlier gt)
 
   same_reason : (p : ℕ) (why other : Why) → IsFirstReason trace s p why → IsFirstReason trace s p other → why ≡ other
   same_reason p why other h g =

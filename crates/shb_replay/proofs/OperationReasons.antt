@@ -1,5 +1,5 @@
 -- The reasons of an event by its operation, where no index before it has a reason.
-use Rattle.std.proofs.Common.{◌≡◌, ◌≢◌, ℕ, ◌<◌, ◌≤◌, ◌⊎◌, inl, inr, Bool, true, false, List, Option, Some, None, length, take, get_or, refl, sym, ◌∙◌, ap, arith, subst}
+use Rattle.std.proofs.Common.{◌≡◌, ℕ, ◌<◌, ◌≤◌, ◌⊎◌, inl, inr, Bool, true, false, List, Option, Some, None, length, take, get_or, refl, sym, ◌∙◌, ap, arith, subst}
 use Rattle.std.specs.Prelude.{slice_get, ◌==◌, ◌↔◌, IfSome}
 use Rattle.std.specs.Bool.{then_some}
 use Rattle.std.specs.Option.{option_eq}
@@ -24,8 +24,23 @@ use Rattle.shb_replay.specs.Walks.{AreLatestWrites, IsLowestIn, JoinStands, Tell
 use Rattle.shb_replay.proofs.Standing.{widen}
 use Rattle.shb_replay.proofs.Closed.{thread_stands, release_stands}
 use Rattle.shb_links.proofs.Balance.{HasHolder, IsPassing, balanced, disciplined_below, holder_after, some_counted}
-use Rattle.shb_replay.proofs.Lowest.{above}
+use Rattle.shb_replay.proofs.Lowest.{same_why}
 use Rattle.shb_replay.proofs.LastWrites.{writes_agree, writes_differ}
+
+-- the number of the only reason that an operation can have, and 9 for one that can have none
+abbrev number_for : Op → ℕ
+number_for (Join t) = 5
+number_for (Fork t) = 5
+number_for (Acquire l) = 6
+number_for (Read y) = 7
+number_for _ = 9
+
+other_number : (op : Op) → ((t : ℕ) → op ≡ Join t → ⊥) → ((t : ℕ) → op ≡ Fork t → ⊥) → ((l : ℕ) → op ≡ Acquire l → ⊥) → ((y : ℕ) → op ≡ Read y → ⊥) → number_for op ≡ 9
+other_number (Join t) no_join no_fork no_acquire no_read = absurd (no_join t refl)
+other_number (Fork t) no_join no_fork no_acquire no_read = absurd (no_fork t refl)
+other_number (Acquire l) no_join no_fork no_acquire no_read = absurd (no_acquire l refl)
+other_number (Read y) no_join no_fork no_acquire no_read = absurd (no_read y refl)
+other_number _ no_join no_fork no_acquire no_read = refl
 
 module _ (trace : List Event) (disciplined : IsDisciplined trace) (s : List ℕ) (p : ℕ) (unbroken : IsUnbroken trace s p) where
   -- the last event of a thread stands only where all of them do
@@ -105,55 +120,40 @@ module _ (trace : List Event) (disciplined : IsDisciplined trace) (s : List ℕ)
     is_op : (other : Op) → op_at trace x ≡ Some other → op ≡ other
     is_op other is = let both : Some op ≡ Some other = sym does ∙ is in cc
 
-    -- the reasons with higher numbers than those that don't hold
-    past_five : (HasReason trace s p x whys.JoinEarly → ⊥) → (other : Why) → 5 ≤ number_of other → HasReason trace s p x other → 6 ≤ number_of other
-    past_five five other = above (HasReason trace s p x) whys.JoinEarly other five
+    -- a reason that an operation has is that of its kind
+    own_number : (other : Why) → 5 ≤ number_of other → HasReason trace s p x other → number_for op ≡ number_of other
+    own_number whys.JoinEarly low (inl (a, h)) = ap number_for (is_op (Join h.thread) h.joins)
+    own_number whys.JoinEarly low (inr (j, h)) = ap number_for (is_op (Fork h.thread) h.forks)
+    own_number whys.LockOrder low (r, h) = ap number_for (is_op (Acquire h.lock) h.acquires)
+    own_number whys.LastWrite low (y, h) = ap number_for (is_op (Read y) h.reads)
+    own_number whys.NotNext low h = absurd h
+    own_number whys.NoSuchEvent low h = absurd (omega (arith, low))
+    own_number whys.Repeated low h = absurd (omega (arith, low))
+    own_number whys.ThreadOrder low h = absurd (omega (arith, low))
+    own_number whys.ForkMissing low h = absurd (omega (arith, low))
 
-    past_six : (HasReason trace s p x whys.JoinEarly → ⊥) → (HasReason trace s p x whys.LockOrder → ⊥) → (other : Why) → 5 ≤ number_of other → HasReason trace s p x other → 7 ≤ number_of other
-    past_six five six other low has = above (HasReason trace s p x) whys.LockOrder other six (past_five five other low has) has
+    has_own : (why : Why) → 5 ≤ number_of why → HasReason trace s p x why → IsLowestIn 5 8 (HasReason trace s p x) (Some why)
+    has_own why low h = (h, low, λ other more has. let own = own_number why low h in let same = own_number other more has in omega (arith, own, same))
 
-    none_of : (HasReason trace s p x whys.JoinEarly → ⊥) → (HasReason trace s p x whys.LockOrder → ⊥) → (HasReason trace s p x whys.LastWrite → ⊥) → IsLowestIn 5 8 (HasReason trace s p x) None
-    none_of five six seven other low high has =
-        let eight = above (HasReason trace s p x) whys.LastWrite other seven (past_six five six other low has) has in
-        let past = above (HasReason trace s p x) whys.NotNext other (λ h. h) eight has in
-        omega (arith, past, high)
-
-    first_five : HasReason trace s p x whys.JoinEarly → IsLowestIn 5 8 (HasReason trace s p x) (Some whys.JoinEarly)
-    first_five h = (h, omega arith, λ other low has. low)
-
-    first_six : HasReason trace s p x whys.LockOrder → (HasReason trace s p x whys.JoinEarly → ⊥) → IsLowestIn 5 8 (HasReason trace s p x) (Some whys.LockOrder)
-    first_six h five = (h, omega arith, past_five five)
-
-    first_seven : HasReason trace s p x whys.LastWrite → (HasReason trace s p x whys.JoinEarly → ⊥) → (HasReason trace s p x whys.LockOrder → ⊥) → IsLowestIn 5 8 (HasReason trace s p x) (Some whys.LastWrite)
-    first_seven h five six = (h, omega arith, past_six five six)
-
-    -- an operation of one kind has none of the reasons of the others
-    no_five : ((t : ℕ) → op ≢ Join t) → ((t : ℕ) → op ≢ Fork t) → HasReason trace s p x whys.JoinEarly → ⊥
-    no_five no_join no_fork (inl (a, h)) = no_join h.thread (is_op (Join h.thread) h.joins)
-    no_five no_join no_fork (inr (j, h)) = no_fork h.thread (is_op (Fork h.thread) h.forks)
-
-    no_six : ((l : ℕ) → op ≢ Acquire l) → HasReason trace s p x whys.LockOrder → ⊥
-    no_six no_acquire (r, h) = no_acquire h.lock (is_op (Acquire h.lock) h.acquires)
-
-    no_seven : ((y : ℕ) → op ≢ Read y) → HasReason trace s p x whys.LastWrite → ⊥
-    no_seven no_read (y, h) = no_read y (is_op (Read y) h.reads)
+    lacks_own : (why : Why) → number_for op ≡ number_of why → (HasReason trace s p x why → ⊥) → IsLowestIn 5 8 (HasReason trace s p x) None
+    lacks_own why own none = λ other low high has. none (subst (HasReason trace s p x) (same_why other why (sym (own_number other low has) ∙ own)) has)
 
     pub other_operation : ((t : ℕ) → op ≡ Join t → ⊥) → ((t : ℕ) → op ≡ Fork t → ⊥) → ((l : ℕ) → op ≡ Acquire l → ⊥) → ((y : ℕ) → op ≡ Read y → ⊥) → IsLowestIn 5 8 (HasReason trace s p x) None
-    other_operation no_join no_fork no_acquire no_read = none_of (no_five no_join no_fork) (no_six no_acquire) (no_seven no_read)
+    other_operation no_join no_fork no_acquire no_read = λ other low high has. let own = own_number other low has in let past = other_number op no_join no_fork no_acquire no_read in omega (arith, own, past, high)
 
   module _ (x : ℕ) where
     pub join_told : (t : ℕ) (o : Option ℕ) (b : Bool) → op_at trace x ≡ Some (Join t) → Latest (OfThread trace t) (length trace) o → TellsLack s p o b → IsLowestIn 5 8 (HasReason trace s p x) (then_some b whys.JoinEarly)
-    join_told t (Some b) true joins latest (a, is, absent) = first_five x (Join t) joins (inl (a, record { thread = t; joins = joins; of = (let same : b ≡ a = cc in subst (λ (k : ℕ). thread_at trace k ≡ Some t) same latest.holds); absent = absent }))
+    join_told t (Some b) true joins latest (a, is, absent) = has_own x (Join t) joins whys.JoinEarly (omega arith) (inl (a, record { thread = t; joins = joins; of = (let same : b ≡ a = cc in subst (λ (k : ℕ). thread_at trace k ≡ Some t) same latest.holds); absent = absent }))
     join_told t None true joins latest (a, is, absent) = absurd (let f : ⊥ = cc in f)
-    join_told t o false joins latest all = none_of x (Join t) joins five (no_six x (Join t) joins (λ l is. (let f : ⊥ = cc in f))) (no_seven x (Join t) joins (λ y is. (let f : ⊥ = cc in f)))
+    join_told t o false joins latest all = lacks_own x (Join t) joins whys.JoinEarly refl five
       where
         five : HasReason trace s p x whys.JoinEarly → ⊥
         five (inl (a, h)) = h.absent (thread_ended t o latest all a (h.of ∙ ap (λ (n : ℕ). Some n) (let same = is_op x (Join t) joins (Join h.thread) h.joins in let g : h.thread ≡ t = cc in g)))
         five (inr (j, h)) = let same = is_op x (Join t) joins (Fork h.thread) h.forks in (let f : ⊥ = cc in f)
 
     pub fork_told : (t : ℕ) (b : Bool) → op_at trace x ≡ Some (Fork t) → Tells b (JoinStands trace s p t) → IsLowestIn 5 8 (HasReason trace s p x) (then_some b whys.JoinEarly)
-    fork_told t true forks h = first_five x (Fork t) forks (inr (h.event, record { thread = t; forks = forks; joins = h.joins; stands = h.stands }))
-    fork_told t false forks none = none_of x (Fork t) forks five (no_six x (Fork t) forks (λ l is. (let f : ⊥ = cc in f))) (no_seven x (Fork t) forks (λ y is. (let f : ⊥ = cc in f)))
+    fork_told t true forks h = has_own x (Fork t) forks whys.JoinEarly (omega arith) (inr (h.event, record { thread = t; forks = forks; joins = h.joins; stands = h.stands }))
+    fork_told t false forks none = lacks_own x (Fork t) forks whys.JoinEarly refl five
       where
         five : HasReason trace s p x whys.JoinEarly → ⊥
         five (inl (a, h)) = let same = is_op x (Fork t) forks (Join h.thread) h.joins in (let f : ⊥ = cc in f)
@@ -162,9 +162,9 @@ module _ (trace : List Event) (disciplined : IsDisciplined trace) (s : List ℕ)
     pub lock_told : (l : ℕ) (o : Option ℕ) (b : Bool) → op_at trace x ≡ Some (Acquire l) → Latest (ReleasesLock trace l) x o → TellsLack s p o b → IsLowestIn 5 8 (HasReason trace s p x) (then_some b whys.LockOrder)
     lock_told l (Some b) true takes latest (a, is, absent) =
         let same : b ≡ a = cc in
-        first_six x (Acquire l) takes (b, record { lock = l; acquires = takes; releases = latest.holds; earlier = latest.earlier; absent = subst (λ (k : ℕ). ¬ StandsEarlier s p k) (sym same) absent }) (no_five x (Acquire l) takes (λ t h. (let f : ⊥ = cc in f)) (λ t h. (let f : ⊥ = cc in f)))
+        has_own x (Acquire l) takes whys.LockOrder (omega arith) (b, record { lock = l; acquires = takes; releases = latest.holds; earlier = latest.earlier; absent = subst (λ (k : ℕ). ¬ StandsEarlier s p k) (sym same) absent })
     lock_told l None true takes latest (a, is, absent) = absurd (let f : ⊥ = cc in f)
-    lock_told l o false takes latest all = none_of x (Acquire l) takes (no_five x (Acquire l) takes (λ t h. (let f : ⊥ = cc in f)) (λ t h. (let f : ⊥ = cc in f))) six (no_seven x (Acquire l) takes (λ y is. (let f : ⊥ = cc in f)))
+    lock_told l o false takes latest all = lacks_own x (Acquire l) takes whys.LockOrder refl six
       where
         six : HasReason trace s p x whys.LockOrder → ⊥
         six (r, h) =
@@ -173,10 +173,10 @@ module _ (trace : List Event) (disciplined : IsDisciplined trace) (s : List ℕ)
             h.absent (released_before l x o latest all r h.earlier (subst (λ (m : ℕ). op_at trace r ≡ Some (Release m)) g h.releases))
 
     pub read_reason : (y : ℕ) (o last : Option ℕ) → op_at trace x ≡ Some (Read y) → Exactly (IsLatestWrite trace s p y) o → Exactly (λ w. LastWrite trace w x) last → (o ≡ last → ⊥) → IsLowestIn 5 8 (HasReason trace s p x) (Some whys.LastWrite)
-    read_reason y o last reads latest known ne = first_seven x (Read y) reads (y, record { reads = reads; differ = writes_differ trace s p y x o last latest known ne }) (no_five x (Read y) reads (λ t h. (let f : ⊥ = cc in f)) (λ t h. (let f : ⊥ = cc in f))) (no_six x (Read y) reads (λ l h. (let f : ⊥ = cc in f)))
+    read_reason y o last reads latest known ne = has_own x (Read y) reads whys.LastWrite (omega arith) (y, record { reads = reads; differ = writes_differ trace s p y x o last latest known ne })
 
     pub read_no_reason : (y : ℕ) (o last : Option ℕ) → op_at trace x ≡ Some (Read y) → Exactly (IsLatestWrite trace s p y) o → Exactly (λ w. LastWrite trace w x) last → o ≡ last → IsLowestIn 5 8 (HasReason trace s p x) None
-    read_no_reason y o last reads latest known same = none_of x (Read y) reads (no_five x (Read y) reads (λ t h. (let f : ⊥ = cc in f)) (λ t h. (let f : ⊥ = cc in f))) (no_six x (Read y) reads (λ l h. (let f : ⊥ = cc in f))) seven
+    read_no_reason y o last reads latest known same = lacks_own x (Read y) reads whys.LastWrite refl seven
       where
         seven : HasReason trace s p x whys.LastWrite → ⊥
         seven (z, h) =
