@@ -17,7 +17,7 @@ use Rattle.shb_lines.proofs.events.Increasing.{same_in_order}
 use Rattle.shb_report.specs.Leading.{AreLeading, Leads, place_at}
 use Rattle.shb_report.specs.Places.{places_of_pairs}
 use Rattle.shb_report.specs.Report.{LeadingRaces, pair_of}
-use Rattle.shb_report.proofs.LeadingLemmas.{firsts, firsts_lead, led_once}
+use Rattle.shb_report.proofs.LeadingLemmas.{firsts, firsts_lead, led_once, pairs_back}
 use Rattle.shb_pairs.proofs.FlatMaps.{map_contains, map_parts}
 use Rattle.shb_pairs.proofs.Listing.{all_is_race_list, all_races}
 use Rattle.shb_places.specs.declared.found.ListedRace.{ListedRace}
@@ -174,10 +174,6 @@ module _ (trace : TraceData) (found : List FoundRace) (sorted : List Pair) (cove
 
   sorted_same : sorted ≡ first_ones
   sorted_same = same_in_order (IsBefore trace.events) sorted first_ones strict sorted_before first_before (λ p. (sorted_is_first p, first_is_sorted p))
-
-  pairs_back : (races : List Pair) → map pair_of (map ends races) ≡ races
-  pairs_back [] = refl
-  pairs_back (race ∷ races) = ap (λ (l : List Pair). race ∷ l) (pairs_back races)
 
   sorted_lead : IsNumberedByAccess trace.events → LeadingRaces trace (map ends sorted)
   sorted_lead numbered = record {

@@ -85,13 +85,6 @@ firsts_none trace known firsts no_text no_event = record {
     apart : {x : ℕ} → None ≡ Some x → ⊥
     apart e = cc
 
--- an event more among the first ones
-pub firsts_last : (firsts : List ℕ) (e : ℕ) → Contains (firsts ++ e ∷ []) e
-firsts_last firsts e = get_contains (firsts ++ e ∷ []) (length firsts) e (get_last firsts e (length firsts) refl)
-
-pub firsts_stay : (firsts : List ℕ) (e l : ℕ) → Contains firsts l → Contains (firsts ++ e ∷ []) l
-firsts_stay firsts e l there = get_contains (firsts ++ e ∷ []) there.0 l (get_more firsts (e ∷ []) there.0 l (contains_get firsts l there))
-
 -- first accesses with one location are one
 firsts_exact : (trace : TraceData) (known : List (List ℕ)) (firsts : List ℕ) (l m : ℕ) → AreFirsts trace known firsts → IsDistinct bytes_eq known → Contains firsts l → Contains firsts m → location_at trace l ≡ location_at trace m → l ≡ m
 firsts_exact trace known firsts l m are differ in_l in_m same =

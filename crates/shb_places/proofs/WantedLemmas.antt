@@ -167,15 +167,6 @@ told_offered trace sites notes access s earliest site old new own kept at least 
       known_is = λ yes other at_other. offered_known trace access earliest other.location new own offered.covered (h.location_is ∙ ap (λ (k : Site). location_at trace k.location) (same_entry sites s h.site other h.at_site at_other));
     }
 
--- a list of which nothing is asked yet
-pub told_start : (trace : TraceData) (sites : List Site) (notes : Tables) (access : Access) (k : ℕ) (list : List ℕ) (races : List FoundRace) → length list ≤ k → AreFound trace (access.event + 1) races → AreToldFrom trace sites notes access k list list races races
-told_start trace sites notes access k list races past found = record {
-  found = found;
-  improves = improves_self trace races;
-  told = λ j s i site le at. absurd (let low = slice_get_within list j s at in omega (arith, low, le, past));
-  stays = λ s site in_list at. inl in_list;
-}
-
 -- one entry more
 pub told_next : (trace : TraceData) (sites : List Site) (notes : Tables) (access : Access) (k s : ℕ) (known : Bool) (before list after : List ℕ) (old races new : List FoundRace) → slice_get list k ≡ Some s
     → ((r t : ℕ) → slice_get list k ≡ Some r → Contains list t → Contains after t ⊎ ((r ≡ t) × (known ≡ true)))

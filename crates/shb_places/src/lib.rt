@@ -45,15 +45,15 @@ use std::random::RandomSource;
 pub fn leading_races<'a, R: RandomSource>(
     rt: &R,
     alloc: Global,
-    trace: &'a Disciplined<'a>,
+    disciplined: &'a Disciplined<'a>,
     links: &'a Links<'a>,
     flags: &[bool],
 ) -> Result<Vec<Pair>, NoMemory>
-    requires of_trace { links.now ≡ trace.now.events.now }
-    requires settled { AreOpen trace.now.events.now flags.now }
-    ensures { IfOk result (λ leading. LeadingRaces trace.now.trace.now (map ends leading.items)) }
+    requires of_trace { links.now ≡ disciplined.now.events.now }
+    requires settled { AreOpen disciplined.now.events.now flags.now }
+    ensures { IfOk result (λ leading. LeadingRaces disciplined.now.trace.now (map ends leading.items)) }
 {
-    let found = covering_races(rt, alloc, &*trace, &*links, flags)?;
+    let found = covering_races(rt, alloc, &*disciplined, &*links, flags)?;
     let leading = leading_of_found(alloc, &found)?;
     Ok(leading)
 }

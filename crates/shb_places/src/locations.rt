@@ -14,7 +14,7 @@ use std::random::RandomSource;
 /// The locations of the accesses so far, and the first access that has each.
 #[derive(Drop)]
 pub struct FirstAccesses<'t> {
-    pub trace: &'t Disciplined<'t>,
+    pub disciplined: &'t Disciplined<'t>,
     pub known: Locations<'t>,
     pub firsts: Vec<u32>,
 }
@@ -28,14 +28,14 @@ impl<'t> FirstAccesses<'t> {
     pub fn new<R: RandomSource>(
         rt: &R,
         alloc: Global,
-        trace: &'t Disciplined<'t>,
+        disciplined: &'t Disciplined<'t>,
     ) -> Result<FirstAccesses<'t>, NoMemory>
-        ensures of_trace { IfOk result (λ accesses. accesses.trace.now ≡ trace.now) }
-        ensures firsts { IfOk result (λ accesses. AreFirsts trace.now.trace.now accesses.known accesses.firsts.items) }
+        ensures of_trace { IfOk result (λ accesses. accesses.disciplined.now ≡ disciplined.now) }
+        ensures firsts { IfOk result (λ accesses. AreFirsts disciplined.now.trace.now accesses.known accesses.firsts.items) }
     {
         let known = Locations::new(rt, alloc)?;
         Ok(FirstAccesses {
-            trace,
+            disciplined,
             known,
             firsts: Vec::new(alloc),
         })
@@ -47,15 +47,15 @@ impl<'t> FirstAccesses<'t> {
     ///
     /// `NoMemory` where a growth was refused.
     pub fn number_of(&mut self, e: u32) -> Result<u32, NoMemory>
-        requires in_range { e < length self.old.trace.now.trace.now.events }
-        requires firsts { AreFirsts self.old.trace.now.trace.now self.old.known self.old.firsts.items }
-        ensures of_trace { self.new.trace ≡ self.old.trace }
-        ensures located { IfOk result (λ l. IsLocatedAt self.old.trace.now.trace.now l (location_at self.old.trace.now.trace.now e)) }
-        ensures firsts { OnOk result (AreFirsts self.old.trace.now.trace.now self.new.known self.new.firsts.items) }
+        requires in_range { e < length self.old.disciplined.now.trace.now.events }
+        requires firsts { AreFirsts self.old.disciplined.now.trace.now self.old.known self.old.firsts.items }
+        ensures of_trace { self.new.disciplined ≡ self.old.disciplined }
+        ensures located { IfOk result (λ l. IsLocatedAt self.old.disciplined.now.trace.now l (location_at self.old.disciplined.now.trace.now e)) }
+        ensures firsts { OnOk result (AreFirsts self.old.disciplined.now.trace.now self.new.known self.new.firsts.items) }
         ensures there { IfOk result (Contains self.new.firsts.items) }
         ensures stay { OnOk result ((l : ℕ) → Contains self.old.firsts.items l → Contains self.new.firsts.items l) }
     {
-        let number = self.known.number_of(self.trace.trace.location(e))?;
+        let number = self.known.number_of(self.disciplined.trace.location(e))?;
         if number == self.firsts.len() {
             self.firsts.push(e)?;
             return Ok(e);

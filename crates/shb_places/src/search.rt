@@ -197,13 +197,13 @@ impl Search {
         requires asked { O.asks ordered.now.order.now e ≡ true }
         requires settled { AreOpen ordered.now.disciplined.now.trace.now.events flags.now }
         requires searched { AreSearched ordered.now.disciplined.now.trace.now flags.now self.old.sites self.old.notes self.old.wanted.items self.old.found e }
-        requires of_trace { locations.old.trace.now ≡ ordered.now.disciplined.now }
-        requires firsts { AreFirsts locations.old.trace.now.trace.now locations.old.known locations.old.firsts.items }
+        requires of_trace { locations.old.disciplined.now ≡ ordered.now.disciplined.now }
+        requires firsts { AreFirsts locations.old.disciplined.now.trace.now locations.old.known locations.old.firsts.items }
         ensures searched { OnOk result (AreSearched ordered.now.disciplined.now.trace.now flags.now self.new.sites self.new.notes self.new.wanted.items self.new.found (e + 1)) }
         ensures numbered { AreNumbered locations.old.firsts.items self.old.sites.sites.items self.old.found.races.entries
             → OnOk result (AreNumbered locations.new.firsts.items self.new.sites.sites.items self.new.found.races.entries) }
-        ensures of_trace { locations.new.trace ≡ locations.old.trace }
-        ensures firsts { OnOk result (AreFirsts locations.old.trace.now.trace.now locations.new.known locations.new.firsts.items) }
+        ensures of_trace { locations.new.disciplined ≡ locations.old.disciplined }
+        ensures firsts { OnOk result (AreFirsts locations.old.disciplined.now.trace.now locations.new.known locations.new.firsts.items) }
     {
         let op = ordered.disciplined.events.op(e);
         let Some(variable) = op.variable() else {
@@ -235,23 +235,23 @@ impl Search {
 pub fn covering_races<'a, R: RandomSource>(
     rt: &R,
     alloc: Global,
-    trace: &'a Disciplined<'a>,
+    disciplined: &'a Disciplined<'a>,
     links: &'a Links<'a>,
     flags: &[bool],
 ) -> Result<Found, NoMemory>
-    requires of_trace { links.now ≡ trace.now.events.now }
-    requires settled { AreOpen trace.now.events.now flags.now }
-    ensures { IfOk result (λ found. Covers trace.now.trace.now found.races.entries) }
+    requires of_trace { links.now ≡ disciplined.now.events.now }
+    requires settled { AreOpen disciplined.now.events.now flags.now }
+    ensures { IfOk result (λ found. Covers disciplined.now.trace.now found.races.entries) }
 {
-    if !any_open(flags, trace.sizes.variables) {
+    if !any_open(flags, disciplined.sizes.variables) {
         let none = Found::new(rt, alloc)?;
         return Ok(none);
     }
-    let mut locations = FirstAccesses::new(rt, alloc, &*trace)?;
-    let mut search = Search::new(rt, alloc, trace.sizes.variables)?;
-    let mut sweep = Sweep::new(alloc, Linked::new(&*trace, &*links))?;
-    for e in 0..trace.events.len() as u32 {
-        let ordered = Ordered::new(&sweep, &*trace, &*links);
+    let mut locations = FirstAccesses::new(rt, alloc, &*disciplined)?;
+    let mut search = Search::new(rt, alloc, disciplined.sizes.variables)?;
+    let mut sweep = Sweep::new(alloc, Linked::new(&*disciplined, &*links))?;
+    for e in 0..disciplined.events.len() as u32 {
+        let ordered = Ordered::new(&sweep, &*disciplined, &*links);
         search.step(alloc, &ordered, &mut locations, flags, e)?;
         sweep.pass(alloc)?;
     }

@@ -17,7 +17,7 @@ use Rattle.shb_places.proofs.search.covering_races.Goals as goal
 
 pub loop-e-init : goal.loop-e-init
 loop-e-init g c =
-    let trace = c.args.trace.now in
+    let trace = c.args.disciplined.now in
     record {
       of_trace = ap (λ (s : SweepData). s.trace) c.in_ok-sweep.ensures ∙ c.new-4.ensures.events;
       next = ap (λ (s : SweepData). s.next) c.in_ok-sweep.ensures;
@@ -42,7 +42,7 @@ loop-e-preserved g c =
 
 pub returns-then-not-any_open : goal.returns-then-not-any_open
 returns-then-not-any_open g c =
-    let trace = c.args.trace.now in
+    let trace = c.args.disciplined.now in
     let back = sym trace.of_trace in
     subst (λ (l : List FoundRace). Covers trace.trace.now l) (sym c.in_ok-none.ensures) (record {
       races = λ e there. absurd (contains_none e there);
@@ -54,7 +54,7 @@ returns-then-not-any_open g c =
     })
 
 pub step-requires-clause-settled : goal.step-requires-clause-settled
-step-requires-clause-settled g c = rw c.new-ordered.ensures.disciplined (subst (λ (l : List Event). AreOpen l c.args.flags.now) c.args.trace.now.of_trace c.requires.settled)
+step-requires-clause-settled g c = rw c.new-ordered.ensures.disciplined (subst (λ (l : List Event). AreOpen l c.args.flags.now) c.args.disciplined.now.of_trace c.requires.settled)
 
 pub step-requires-clause-of_trace : goal.step-requires-clause-of_trace
 step-requires-clause-of_trace g c = c.loop-e.invariant.located ∙ sym c.new-ordered.ensures.disciplined
@@ -64,7 +64,7 @@ step-requires-clause-firsts g c = subst (λ (t : TraceData). AreFirsts t c.loop-
 
 pub returns : goal.returns
 returns g c =
-    let trace = c.args.trace.now in
+    let trace = c.args.disciplined.now in
     let kept = c.loop-e.search in
     let all : c.loop-e.e ≡ length trace.events.now = omega arith in
     let same = ap length trace.of_trace in
