@@ -16,7 +16,7 @@ use Rattle.shb_lines.specs.text.TraceData.{TraceData}
 use Rattle.shb_lines.proofs.events.Increasing.{same_in_order}
 use Rattle.shb_report.specs.Leading.{AreLeading, Leads, place_at}
 use Rattle.shb_report.specs.Places.{places_of_pairs}
-use Rattle.shb_report.specs.Report.{LeadingRaces, pair_of}
+use Rattle.shb_report.specs.Report.{LeadingRaces}
 use Rattle.shb_report.proofs.LeadingLemmas.{firsts, firsts_lead, led_once, pairs_back}
 use Rattle.shb_pairs.proofs.FlatMaps.{map_contains, map_parts}
 use Rattle.shb_pairs.proofs.Listing.{all_is_race_list, all_races}

@@ -25,7 +25,7 @@ use Rattle.shb_places.specs.Covering.{FoundRace}
 use Rattle.shb_places.specs.Firsts.{AreFirsts, AreNumbered, HaveFirsts}
 use Rattle.shb_places.specs.Found.{AreFound, same_key}
 use Rattle.shb_places.proofs.FoundLemmas.{key_same}
-use Rattle.shb_places.proofs.Lists.{contains_get, get_cases, get_contains, get_last, get_more, same_entry}
+use Rattle.shb_places.proofs.Lists.{contains_get, get_cases, get_contains, same_entry}
 
 -- the location that a line has
 pub located_at : (line : Option (List ℕ)) (text : List ℕ) → option_map location_of line ≡ Some text → location_of (unwrap_or line []) ≡ text
