@@ -1,8 +1,8 @@
 -- How growths of known bytes join: for callers that write in several calls.
-use Rattle.std.proofs.Common.{◌≡◌, ℕ, ◌+◌, ◌<◌, List, [], ◌++◌, length, take, drop, ◌-◌, length-drop, Option, None, Some, Result, Ok, Err, IsErrAnd, OnOk, OnErr, refl, sym, ap, subst, ◌∙◌, append_assoc, append-nil, arith, length-append}
+use Rattle.std.proofs.Common.{◌≡◌, ℕ, ◌+◌, ◌<◌, List, [], ◌++◌, length, take, drop, ◌-◌, length-drop, Option, None, Some, Result, Ok, Err, IsErrAnd, OnOk, OnErr, sym, ap, subst, ◌∙◌, append_assoc, append-nil, arith, length-append}
 use Rattle.std.proofs.lemmas.List.{take_all, take-append-le}
 use Rattle.std.proofs.Math.Seq.{take-add, take-append-add, take-append_seam}
-use Rattle.std.specs.Io.KnownBytes.{Appends, Keeps}
+use Rattle.std.specs.Io.KnownBytes.{Appends}
 use Rattle.shb_io.specs.Devices.{AppendsPrefix, Writes, HoldsBack}
 
 -- ---- all of the bytes
@@ -11,12 +11,6 @@ use Rattle.shb_io.specs.Devices.{AppendsPrefix, Writes, HoldsBack}
 pub Appends-nil : (a : Option (List ℕ)) → Appends a a []
 Appends-nil None = tt
 Appends-nil (Some x) = sym (append-nil x)
-
--- known bytes stayed as they were
-pub Appends-kept : (a b : Option (List ℕ)) → Keeps a b → Appends a b []
-Appends-kept None b p = tt
-Appends-kept (Some x) None p = absurd p
-Appends-kept (Some x) (Some y) p = p ∙ sym (append-nil x)
 
 -- xs, and then ys
 pub Appends-trans : (a b c : Option (List ℕ)) (xs ys : List ℕ) → Appends a b xs → Appends b c ys → Appends a c (xs ++ ys)
@@ -32,10 +26,6 @@ Appends-next a b c i n xs p q =
     subst (Appends a c) (ap (λ l. take i xs ++ take n l) rest ∙ sym (take-add i n xs)) (Appends-trans a b c _ _ p q)
 
 -- ---- the first of the bytes
-
--- nothing was appended, where there was something to append
-pub AppendsPrefix-nil : (a : Option (List ℕ)) (xs : List ℕ) → 0 < length xs → AppendsPrefix a a xs
-AppendsPrefix-nil a xs some = (0, some, Appends-nil a)
 
 -- the first bytes of xs are the first bytes of what begins with xs
 pub AppendsPrefix-front : (a b : Option (List ℕ)) (xs ys : List ℕ) → AppendsPrefix a b xs → AppendsPrefix a b (xs ++ ys)
@@ -67,25 +57,12 @@ pub Writes-then : {T E : Type 0} (r : Result T E) (a b c : Option (List ℕ)) (x
 Writes-then (Ok _) a b c xs ys p q = Appends-trans a b c xs ys p q
 Writes-then (Err _) a b c xs ys p q = AppendsPrefix-after a b c xs ys p q
 
--- the same of clauses for each outcome
-pub OnOk-then : {T E : Type 0} (r : Result T E) (a b c : Option (List ℕ)) (xs ys : List ℕ) → Appends a b xs → OnOk r (Appends b c ys) → OnOk r (Appends a c (xs ++ ys))
-OnOk-then (Ok _) a b c xs ys p q = Appends-trans a b c xs ys p q
-OnOk-then (Err _) a b c xs ys p q = tt
-
-pub OnErr-then : {T E : Type 0} (r : Result T E) (a b c : Option (List ℕ)) (xs ys : List ℕ) → Appends a b xs → OnErr r (AppendsPrefix b c ys) → OnErr r (AppendsPrefix a c (xs ++ ys))
-OnErr-then (Ok _) a b c xs ys p q = tt
-OnErr-then (Err _) a b c xs ys p q = AppendsPrefix-after a b c xs ys p q
-
 -- at the exit of a `?`
 pub Writes-err : {T E : Type 0} (Q : E → Type 0) (r : Result T E) (a b : Option (List ℕ)) (xs : List ℕ) → IsErrAnd r Q → AppendsPrefix a b xs → Writes a b r xs
 Writes-err Q (Ok _) a b xs is p = absurd is
 Writes-err Q (Err _) a b xs is p = p
 
 -- ---- some bytes written, and the rest held back
-
--- nothing is written yet
-pub HoldsBack-start : (a : Option (List ℕ)) (all : List ℕ) → HoldsBack a a all all
-HoldsBack-start a all = record { sent = []; appended = Appends-nil a; joined = refl }
 
 -- more is to be written after what is held back
 pub HoldsBack-push : (a b : Option (List ℕ)) (rest all more : List ℕ) → HoldsBack a b rest all → HoldsBack a b (rest ++ more) (all ++ more)
@@ -95,22 +72,6 @@ HoldsBack-push a b rest all more p = record {
   joined = sym (append_assoc p.sent rest more) ∙ ap (λ l. l ++ more) p.joined;
 }
 
--- the front of what was held back is written
-pub HoldsBack-next : (a b c : Option (List ℕ)) (part rest all : List ℕ) → HoldsBack a b (part ++ rest) all → Appends b c part → HoldsBack a c rest all
-HoldsBack-next a b c part rest all p q = record {
-  sent = p.sent ++ part;
-  appended = Appends-trans a b c p.sent part p.appended q;
-  joined = append_assoc p.sent part rest ∙ p.joined;
-}
-
--- all that was held back is written
-pub HoldsBack-flush : (a b c : Option (List ℕ)) (rest all : List ℕ) → HoldsBack a b rest all → Appends b c rest → HoldsBack a c [] all
-HoldsBack-flush a b c rest all p q = record {
-  sent = p.sent ++ rest;
-  appended = Appends-trans a b c p.sent rest p.appended q;
-  joined = append-nil (p.sent ++ rest) ∙ p.joined;
-}
-
 -- of what was held back, only `less` still is
 pub HoldsBack-trans : (a b c : Option (List ℕ)) (rest less all : List ℕ) → HoldsBack a b rest all → HoldsBack b c less rest → HoldsBack a c less all
 HoldsBack-trans a b c rest less all p q = record {
@@ -118,20 +79,6 @@ HoldsBack-trans a b c rest less all p q = record {
   appended = Appends-trans a b c p.sent q.sent p.appended q.appended;
   joined = append_assoc p.sent q.sent less ∙ ap (λ l. p.sent ++ l) q.joined ∙ p.joined;
 }
-
--- nothing is held back any more
-pub HoldsBack-all : (a b : Option (List ℕ)) (all : List ℕ) → HoldsBack a b [] all → Appends a b all
-HoldsBack-all a b all p = subst (Appends a b) (sym (append-nil p.sent) ∙ p.joined) p.appended
-
--- of the front of what was held back only the first bytes are written
-pub HoldsBack-stop : (a b c : Option (List ℕ)) (part rest all : List ℕ) → HoldsBack a b (part ++ rest) all → AppendsPrefix b c part → AppendsPrefix a c all
-HoldsBack-stop a b c part rest all p q =
-    subst (AppendsPrefix a c) p.joined (AppendsPrefix-after a b c p.sent (part ++ rest) p.appended (AppendsPrefix-front b c part rest q))
-
--- of what was held back only the first bytes are written, where `more` was still to come after it
-pub HoldsBack-fail : (a b c : Option (List ℕ)) (rest all more : List ℕ) → HoldsBack a b rest all → AppendsPrefix b c rest → AppendsPrefix a c (all ++ more)
-HoldsBack-fail a b c rest all more p q =
-    AppendsPrefix-front a c all more (subst (AppendsPrefix a c) p.joined (AppendsPrefix-after a b c p.sent rest p.appended q))
 
 -- the last call writes what was held back, or the first of it
 pub HoldsBack-end : {T E : Type 0} (r : Result T E) (a b c : Option (List ℕ)) (rest all : List ℕ) → HoldsBack a b rest all → Writes b c r rest → Writes a c r all
