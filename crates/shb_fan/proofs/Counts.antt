@@ -1,6 +1,7 @@
 -- Sums over the views, and how often a number stands in a list.
 use Rattle.std.proofs.Common.{◌≡◌, ◌≢◌, ℕ, zero, suc, ◌+◌, ◌<◌, ◌≤◌, Bool, true, false, ltb, eqb, List, [], ◌∷◌, ◌++◌, length, get_or, set, sym, refl, ap, subst, ⊎_elim, arith, min, All}
 use Rattle.std.specs.List.Sorted.{IsStrictlyIncreasing}
+use Rattle.std.proofs.lemmas.Bool.{le-ltb}
 use Rattle.std.proofs.lemmas.Bool.Decides.{nat_tests}
 use mathlib.Core.Logic.{dite}
 use mathlib.Core.Option.{some, some-injective, some-ne-none}
@@ -104,19 +105,16 @@ get_or-within (x ∷ xs) (suc k) d e h = get_or-within xs k d e (omega arith)
 pub all-below : (xs : List ℕ) (n : ℕ) → ((x : ℕ) → times x xs ≤ once_below x n) → All (λ x. x < n) xs
 all-below xs n h k d l = let x : ℕ = get_or xs k d in let here : 1 ≤ times x xs = times-here x xs k l (get_or-within xs k d x l) in let most = h x in once-within x n (omega arith)
 
-ltb-not : (x n : ℕ) → n ≤ x → ltb x n ≡ false
-ltb-not x n h = grind (arith, nat_tests)
-
 at_most_once : (x n k : ℕ) → 1 ≤ k → once_below x n ≤ k
 at_most_once x n k h = dite (dec_lt x n) (λ l. let b = weight-true (ltb x n) (grind (arith, nat_tests)) in omega arith) (λ l. let b = weight-false (ltb x n) (grind (arith, nat_tests)) in omega arith)
 
 pub once_below-min : (x m n : ℕ) → once_below x (min m n) ≤ once_below x n
 once_below-min x m n = dite (dec_lt x n)
     (λ l. let b = weight-true (ltb x n) (grind (arith, nat_tests)) in at_most_once x (min m n) (once_below x n) (omega arith))
-    (λ l. let b = weight-false (ltb x (min m n)) (ltb-not x (min m n) (omega arith)) in omega arith)
+    (λ l. let b = weight-false (ltb x (min m n)) (le-ltb x (min m n) (omega arith)) in omega arith)
 
 pub once_below-nothing : (x n : ℕ) → n ≡ 0 → once_below x n ≡ 0
-once_below-nothing x n e = weight-false (ltb x n) (ltb-not x n (omega arith))
+once_below-nothing x n e = weight-false (ltb x n) (le-ltb x n (omega arith))
 
 -- a number above all the others goes after them
 next_after : (i : ℕ) → suc i + 1 ≡ suc (i + 1)

@@ -1,13 +1,12 @@
 -- What a claim that is refused and one that is allowed leave of the machine: s is what the fields hold, t what a caller sees.
 use Rattle.std.proofs.Common.{◌≡◌, ℕ, ◌-◌, ◌<◌, ◌≤◌, true, false, List, length, get_or, sym, refl, ap, ◌∙◌, subst, eqb, Contains}
-use Rattle.std.proofs.lemmas.Bool.{false≢true}
+use Rattle.std.proofs.lemmas.Bool.{eqb-true, false≢true}
 use Rattle.std.proofs.lemmas.List.{get_or_read}
 use Rattle.shb_fan.specs.declared.step.PieceState.{PieceState}
 use Rattle.shb_fan.specs.declared.step.PieceState.TheVariants.{Empty, Claimed, Freed}
 use Rattle.shb_fan.specs.declared.step.Step.{Step}
 use Rattle.shb_fan.specs.declared.step.Step.TheVariants.{Claim}
 use Rattle.shb_fan.specs.Machine.{ActorState, State, Allowed, HasAdvanced, actor_of, new_actor, with_piece}
-use Rattle.shb_fan.proofs.SeatSteps.{equal_when}
 
 refused : (s : State) (x : Step) → ¬ (Allowed s x) → HasAdvanced s x false s
 refused s x denied = ((λ h. absurd (false≢true h)), λ _. (denied, refl))
@@ -29,6 +28,6 @@ module _ (s t : State) (same : s ≡ t) (a k : ℕ) where
       → eqb (get_or numbers found k) k ≡ true → k < length s.pieces → item ≡ get_or s.pieces k item → item ≡ Empty → (64 ≤ k → get_or s.pieces (k - 64) Empty ≡ Freed) → HasAdvanced t (Claim a k) true (with_piece s k (Claimed a))
   claim_done actor numbers item found here is drawn within equal inside at empty freed =
       let who : actor ≡ actor_of s a = get_or_read s.actors a actor here is new_actor in
-      let has : Contains numbers k = (found, within, equal_when (get_or numbers found k) k equal) in
+      let has : Contains numbers k = (found, within, eqb-true (get_or numbers found k) k equal) in
       let allowed : Allowed s (Claim a k) = (here, inside, subst (λ (l : List ℕ). Contains l k) (drawn ∙ ap (λ (b : ActorState). b.drawn) who) has, sym (get_or_read s.pieces k item inside at Empty) ∙ empty, freed) in
       subst (λ (u : State). HasAdvanced u (Claim a k) true (with_piece s k (Claimed a))) same ((λ _. (allowed, refl)), λ h. absurd (false≢true (sym h)))

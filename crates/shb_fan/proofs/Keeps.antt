@@ -1,17 +1,17 @@
 -- Each step of a pass keeps the rule of the ticket table.
 use Rattle.std.proofs.Common.{◌≡◌, ℕ, eqb, ◌+◌, ◌%◌, ◌^◌, ◌<◌, ◌≤◌, List, [], ◌∷◌, ◌++◌, length, get_or, set, sym, refl, ◌∙◌, subst, arith, min, All, length-set, get_or-set_same, get_or-set_other}
 use mathlib.Core.Logic.{dite}
-use mathlib.Core.Option.{none, some, some-ne-none}
+use mathlib.Core.Option.{none, some}
 use native.Mathlib.Decide.{ℕ_discrete, dec_lt}
 use prog.Atomic.{either}
 use lib.ListN.{get_elem?}
-use Rattle.atomic_table.specs.Table.{State, Me, Act, step, keeps, stepped, carried_after, Valid, opening, Allows, Splits, Joins}
+use Rattle.atomic_table.specs.Table.{State, Me, Act, step, keeps, stepped, carried_after, Valid, Allows, Splits, Joins}
 use Rattle.shb_fan.specs.declared.ticket_table.Plan.{Plan}
 use Rattle.shb_fan.specs.declared.ticket_table.PassView.{PassView}
 use Rattle.shb_fan.specs.Numbers.{once_below, total}
 use Rattle.shb_fan.specs.Drawing.{pass_view, parts_of, spent_of, halted_of, seen_of, times_of, Sound, Holds, KeepsDrawing, gained, used_up, warned, drew, drew_this, saw, looked, stopped, left_over, one_part, joined, spent_pass_view}
 use Rattle.atomic_table.proofs.Lists.{set_again, set_else, exchanged}
-use Rattle.shb_fan.proofs.Counts.{total-set, total-snoc, total-at, total-le, sound-set, sound-snoc, times-append, times-snoc, once_below-more, once_below-min, once_below-nothing, all-below}
+use Rattle.shb_fan.proofs.Counts.{total-set, total-snoc, total-at, total-le, sound-set, sound-snoc, times-append, times-snoc, once_below-more, once_below-min, all-below}
 
 abbrev St : Type 0
 St = State (Unit {0}) PassView
@@ -201,20 +201,3 @@ module _ (plan : Plan) where
 
   pub merges : (id : ℕ) (v : PassView) (other : ℕ) (w : PassView) → Joins (KeepsDrawing plan) id v other w (joined v w) spent_pass_view
   merges id v other w s r at apart there = (r.0, merge_views (get_or s.words 0 0) (get_or s.words 1 0) s.views r.1 id v at other w apart there)
-
-  -- the table as it opens
-  pub opens : plan.limit ≤ 2 ^ 60 → plan.passes ≤ 65 → 0 < plan.passes → KeepsDrawing plan (opening (0 ∷ 0 ∷ []) [] (pass_view plan.passes plan [] 0 0 0))
-  opens low few some_pass = (
-    refl,
-    record {
-      small = (low, few);
-      parts = omega arith;
-      each = λ x. let b = once_below-nothing x (min plan.limit 0) (omega arith) in omega arith;
-      low = omega arith;
-      running = λ _. refl;
-      halted = λ h. absurd (omega arith);
-      seen = λ _. refl;
-      ended = λ h. absurd (omega arith);
-      sound = sound-snoc [] (pass_view plan.passes plan [] 0 0 0) (record { once = omega arith; nothing = λ empty. absurd (omega arith) }) (λ i v e. absurd (some-ne-none v (sym e)));
-    },
-  )

@@ -1,5 +1,6 @@
 -- Each allowed step keeps what holds of the machine.
 use Rattle.std.proofs.Common.{◌≡◌, ◌≢◌, ℕ, zero, suc, ◌+◌, ◌-◌, ◌<◌, ◌≤◌, Bool, true, false, ltb, eqb, List, [], ◌∷◌, ◌++◌, length, get_or, min, cond, sum_by, replicate, sym, refl, ap, ◌∙◌, subst, arith, length-set, get_or-set_other}
+use Rattle.std.proofs.lemmas.Bool.{lt-ltb, le-ltb, ltb-true}
 use Rattle.std.proofs.lemmas.Bool.Decides.{nat_tests}
 use Rattle.std.proofs.lemmas.List.Sums.{sum_by-cons, sum_by-set}
 use Rattle.std.proofs.lemmas.Grind.{get_or-set_at}
@@ -21,23 +22,14 @@ record MachineInvariant (s : State) : Type 0 where
   -- a piece is claimed once the piece 64 before it is freed
   freed_first : (k : ℕ) → piece_of s (k + 64) ≢ Empty → piece_of s k ≡ Freed
 
-ltb-true : (a b : ℕ) → a < b → ltb a b ≡ true
-ltb-true a b h = grind (arith, nat_tests)
-
-ltb-false : (a b : ℕ) → b ≤ a → ltb a b ≡ false
-ltb-false a b h = grind (arith, nat_tests)
-
-below : (a b : ℕ) → ltb a b ≡ true → a < b
-below a b h = grind (arith, nat_tests)
-
 true-apart : (b : Bool) → b ≡ true → b ≡ false → ⊥
 true-apart b t f = grind arith
 
 drew : (x next n : ℕ) (a : ActorState) → next < n → times x (after_draw next n a).drawn ≡ times x a.drawn + weight (eqb x next)
-drew x next n a h = ap (λ (b : Bool). times x (cond b (record a { drawn = a.drawn ++ next ∷ [] }) (record a { spent = true })).drawn) (ltb-true next n h) ∙ times-snoc x a.drawn next
+drew x next n a h = ap (λ (b : Bool). times x (cond b (record a { drawn = a.drawn ++ next ∷ [] }) (record a { spent = true })).drawn) (lt-ltb next n h) ∙ times-snoc x a.drawn next
 
 drew_none : (x next n : ℕ) (a : ActorState) → n ≤ next → times x (after_draw next n a).drawn ≡ times x a.drawn
-drew_none x next n a h = ap (λ (b : Bool). times x (cond b (record a { drawn = a.drawn ++ next ∷ [] }) (record a { spent = true })).drawn) (ltb-false next n h)
+drew_none x next n a h = ap (λ (b : Bool). times x (cond b (record a { drawn = a.drawn ++ next ∷ [] }) (record a { spent = true })).drawn) (le-ltb next n h)
 
 module _ (s : State) (r : MachineInvariant s) where
   draws : (a : ℕ) → a < length s.actors → MachineInvariant (after s (Draw a))
@@ -85,8 +77,8 @@ steps_keep s (Place a k) r h = moves s r k Placed s.taken h.1
 steps_keep s (Lift k) r h = moves s r k Lifted (s.taken + 1) h.0
     (λ f. absurd (true-apart (is_taken (piece_of s k)) (ap is_taken f) (ap is_taken h.1)))
     (followed s r k (λ e. absurd (true-apart (is_busy (piece_of s k)) (ap is_busy h.1) (ap is_busy e))))
-    (sym (ltb-true k (s.taken + 1) (let e = h.2 in omega arith)))
-    (λ j ne. let e = h.2 in dite (dec_lt j s.taken) (λ l. ltb-true j s.taken l ∙ sym (ltb-true j (s.taken + 1) (omega arith))) (λ l. ltb-false j s.taken (omega arith) ∙ sym (ltb-false j (s.taken + 1) (omega arith))))
+    (sym (lt-ltb k (s.taken + 1) (let e = h.2 in omega arith)))
+    (λ j ne. let e = h.2 in dite (dec_lt j s.taken) (λ l. lt-ltb j s.taken l ∙ sym (lt-ltb j (s.taken + 1) (omega arith))) (λ l. le-ltb j s.taken (omega arith) ∙ sym (le-ltb j (s.taken + 1) (omega arith))))
 steps_keep s (Free k) r h = moves s r k Freed s.taken h.0
     (λ f. absurd (true-apart (is_busy (piece_of s k)) (ap is_busy h.1) (ap is_busy f)))
     (followed s r k (λ e. absurd (true-apart (is_busy (piece_of s k)) (ap is_busy h.1) (ap is_busy e))))
@@ -109,7 +101,7 @@ all_empty (suc n) (suc k) = all_empty n k
 starts : (actors pieces : ℕ) → MachineInvariant (start actors pieces)
 starts actors pieces = record {
   each_once = λ x. let z = once_below-nothing x (min 0 (length (replicate pieces Empty))) (omega arith) in let n = none_drawn x actors in omega arith;
-  in_order = λ k. ap is_taken (all_empty pieces k) ∙ sym (ltb-false k 0 (omega arith));
+  in_order = λ k. ap is_taken (all_empty pieces k) ∙ sym (le-ltb k 0 (omega arith));
   freed_first = λ k some_piece. absurd (some_piece (all_empty pieces (k + 64)));
 }
 
@@ -132,12 +124,12 @@ module _ (s : State) (r : MachineInvariant s) where
   one_of_two k = let a = most k in let b = most (k + 64) in dite (ℕ_discrete (busy (k + 64)) 0) (λ e. omega arith) (λ ne. let z = idle k Freed (r.freed_first k (not_empty (k + 64) ne)) refl in omega arith)
 
   idle_low : (k : ℕ) → k < s.taken - 64 → busy k ≡ 0
-  idle_low k h = idle k Freed (r.freed_first k (λ e. true-apart (is_taken (piece_of s (k + 64))) (r.in_order (k + 64) ∙ ltb-true (k + 64) s.taken (omega arith)) (ap is_taken e))) refl
+  idle_low k h = idle k Freed (r.freed_first k (λ e. true-apart (is_taken (piece_of s (k + 64))) (r.in_order (k + 64) ∙ lt-ltb (k + 64) s.taken (omega arith)) (ap is_taken e))) refl
 
   idle_high : (k : ℕ) → s.taken - 64 + 128 ≤ k → busy k ≡ 0
   idle_high k h = dite (ℕ_discrete (busy k) 0) (λ e. e) (λ ne.
       let back : k ≡ k - 64 + 64 = omega arith in let f = followed s r k (not_empty k ne) (k - 64) (sym back) in
-      let l = below (k - 64) s.taken (sym (r.in_order (k - 64)) ∙ ap is_taken f) in absurd (omega arith))
+      let l = ltb-true (k - 64) s.taken (sym (r.in_order (k - 64)) ∙ ap is_taken f) in absurd (omega arith))
 
   few_busy : sum_by (λ p. weight (is_busy p)) s.pieces ≤ 64
   unfolding busy

@@ -1,6 +1,6 @@
 -- What one try to claim leaves of a seat.
 use Rattle.std.proofs.Common.{◌≡◌, ◌≢◌, ℕ, ◌*◌, ◌/◌, ◌%◌, true, false, List, [], ◌∷◌, length, Option, ap, sym, ◌∙◌, arith, eqb}
-use Rattle.std.proofs.lemmas.Bool.Decides.{nat_tests}
+use Rattle.std.proofs.lemmas.Bool.{eqb-true, eqb-false}
 use mathlib.Core.Logic.{dite}
 use native.Mathlib.Decide.{ℕ_discrete}
 use Rattle.atomic_table.specs.Table.{Me}
@@ -28,12 +28,6 @@ one_is a b e = ap (first_of a) e
 none_is : (a : ℕ) → a ∷ [] ≡ [] → ⊥
 none_is a e = let long = ap length e in omega (arith, long)
 
-pub equal_when : (a b : ℕ) → eqb a b ≡ true → a ≡ b
-equal_when a b h = grind (arith, nat_tests)
-
-unequal_when : (a b : ℕ) → eqb a b ≡ false → a ≢ b
-unequal_when a b h = grind (arith, nat_tests)
-
 -- where the word was found empty the seat has claimed the piece, and else it is as before
 module _ {T M : Type 0} (old : RingSeat T M) (place : TableSeat T M) (k r : ℕ)
     (won : r ≡ 4 * k → (x : Option T) × (place.me ≡ (claiming old.place.me.0 (4 * k / 4), (k % 64, x) ∷ old.place.me.1)))
@@ -42,10 +36,10 @@ module _ {T M : Type 0} (old : RingSeat T M) (place : TableSeat T M) (k r : ℕ)
   piece = omega arith
 
   pub claim_won : eqb r (4 * k) ≡ true → place.me.0.claimed ≡ k ∷ []
-  claim_won found = ap (λ (m : Seated T M). m.0.claimed) (won (equal_when r (4 * k) found)).1 ∙ ap (λ (n : ℕ). n ∷ []) piece
+  claim_won found = ap (λ (m : Seated T M). m.0.claimed) (won (eqb-true r (4 * k) found)).1 ∙ ap (λ (n : ℕ). n ∷ []) piece
 
   pub claim_lost : claimed_of old ≡ [] → eqb r (4 * k) ≡ false → place.me.0.claimed ≡ []
-  claim_lost free found = ap (λ (m : Seated T M). m.0.claimed) (lost (unequal_when r (4 * k) found)) ∙ free
+  claim_lost free found = ap (λ (m : Seated T M). m.0.claimed) (lost (eqb-false r (4 * k) found)) ∙ free
 
   pub claim_placed : place.me.0.placed ≡ placed_of old
   claim_placed = dite (ℕ_discrete r (4 * k)) (λ is. ap (λ (m : Seated T M). m.0.placed) (won is).1) (λ ne. ap (λ (m : Seated T M). m.0.placed) (lost ne))
