@@ -102,29 +102,33 @@ module _ {M : Type 0} where
           (recount lifting_by is_lifting s.words s.views id v v k found at r.wide r.lifts refl (λ x ne. refl) (λ x ne e. refl))
           (recount lifted_by is_lifted s.words s.views id v v k found at r.wide r.each_lifted refl (λ x ne. refl) (λ x ne e. refl))
 
+      -- a list changes by the piece k alone, as its word does
+      abbrev Changes : (SeatView M → List ℕ) → (ℕ → ℕ → Bool) → ℕ → SeatView M → Type 0
+      Changes f is new w = (times k (f w) + weight (is found k) ≡ times k (f v) + weight (is new k)) × ((x : ℕ) → x ≢ k → times x (f w) ≡ times x (f v))
+
+      -- the same, where each list changes by the piece k alone, as that word does
+      recounted : (new : ℕ) (w : SeatView M) (homes' : Homes) → length homes' ≡ 64 → ((j : ℕ) → j ≢ k % 64 → get_elem? homes' j ≡ get_elem? s.homes j) → Fits homes' (k % 64) new → w.parts ≡ v.parts → w.wanted ≡ v.wanted → HasNothing w
+          → found / 4 ≡ k → (new % 4 ≢ 0 → new / 4 ≡ k) → 4 * k ≤ new → new ≤ 4 * k + 256
+          → Changes claimed_by is_claimed new w → Changes placed_by is_placed new w → Changes lifting_by is_lifting new w → Changes lifted_by is_lifted new w
+          → KeepsSlots meaning wanted (record { words = set s.words (k % 64) new; homes = homes'; views = set s.views id w })
+      recounted new w homes' deep others mine parts values empty was is low high claims places_ lifts lifted = moved new w homes' deep others mine parts values empty
+          (recount claimed_by is_claimed s.words s.views id v w k new at r.wide r.claims claims.0 claims.1 (λ x ne same. claim_apart x k found new ne was is))
+          (recount placed_by is_placed s.words s.views id v w k new at r.wide r.each_placed places_.0 places_.1 (λ x ne same. placed_apart x k found new ne same (omega arith) (omega arith) low high))
+          (recount lifting_by is_lifting s.words s.views id v w k new at r.wide r.lifts lifts.0 lifts.1 (λ x ne same. lift_apart x k found new ne was is))
+          (recount lifted_by is_lifted s.words s.views id v w k new at r.wide r.each_lifted lifted.0 lifted.1 (λ x ne same. lifted_apart x k found new ne same (omega arith) (omega arith) low high))
+
       others_set : (h : maybe.Option (Option T)) (j : ℕ) → j ≢ k % 64 → get_elem? (set s.homes (k % 64) h) j ≡ get_elem? s.homes j
       others_set h j ne = set_else s.homes (k % 64) j h ne
 
       gets_claimed : found ≡ 4 * k → v.claimed ≡ [] → KeepsSlots meaning wanted (record { words = set s.words (k % 64) (4 * k + 1); homes = set s.homes (k % 64) none; views = set s.views id (claiming v k) })
       gets_claimed is free = let none_here : times k v.claimed ≡ 0 = ap (times k) free in let one = times_one k in
-          moved (4 * k + 1) (claiming v k) (set s.homes (k % 64) none) (length-set s.homes (k % 64) none ∙ r.deep) (others_set none)
+          recounted (4 * k + 1) (claiming v k) (set s.homes (k % 64) none) (length-set s.homes (k % 64) none ∙ r.deep) (others_set none)
           (record { here = ap (λ (n : ℕ). n % 64) (let q : (4 * k + 1) / 4 ≡ k = omega arith in q); empty = λ z. absurd (omega arith); full = λ z. absurd (omega arith) }) refl refl (r.nothing id v at)
-          (recount claimed_by is_claimed s.words s.views id v (claiming v k) k (4 * k + 1) at r.wide r.claims
-          (let a = unequal_none found (4 * k + 1) (omega arith) in let b = equal_one (4 * k + 1) (4 * k + 1) refl in omega arith)
-          (λ x ne. let t = times_other x k ne in let e : times x v.claimed ≡ 0 = ap (times x) free in omega arith)
-          (λ x ne same. claim_apart x k found (4 * k + 1) ne (omega arith) (λ _. omega arith)))
-          (recount placed_by is_placed s.words s.views id v (claiming v k) k (4 * k + 1) at r.wide r.each_placed
-          (let a = unreached_none (4 * k + 2) found (omega arith) in let b = unreached_none (4 * k + 2) (4 * k + 1) (omega arith) in omega arith)
-          (λ x ne. refl)
-          (λ x ne same. placed_apart x k found (4 * k + 1) ne same (omega arith) (omega arith) (omega arith) (omega arith)))
-          (recount lifting_by is_lifting s.words s.views id v (claiming v k) k (4 * k + 1) at r.wide r.lifts
-          (let a = unequal_none found (4 * k + 3) (omega arith) in let b = unequal_none (4 * k + 1) (4 * k + 3) (omega arith) in omega arith)
-          (λ x ne. refl)
-          (λ x ne same. lift_apart x k found (4 * k + 1) ne (omega arith) (λ _. omega arith)))
-          (recount lifted_by is_lifted s.words s.views id v (claiming v k) k (4 * k + 1) at r.wide r.each_lifted
-          (let a = unreached_none (4 * k + 3) found (omega arith) in let b = unreached_none (4 * k + 3) (4 * k + 1) (omega arith) in omega arith)
-          (λ x ne. refl)
-          (λ x ne same. lifted_apart x k found (4 * k + 1) ne same (omega arith) (omega arith) (omega arith) (omega arith)))
+          (omega arith) (λ _. omega arith) (omega arith) (omega arith)
+          ((let a = unequal_none found (4 * k + 1) (omega arith) in let b = equal_one (4 * k + 1) (4 * k + 1) refl in omega arith), λ x ne. let t = times_other x k ne in let e : times x v.claimed ≡ 0 = ap (times x) free in omega arith)
+          ((let a = unreached_none (4 * k + 2) found (omega arith) in let b = unreached_none (4 * k + 2) (4 * k + 1) (omega arith) in omega arith), λ x ne. refl)
+          ((let a = unequal_none found (4 * k + 3) (omega arith) in let b = unequal_none (4 * k + 1) (4 * k + 3) (omega arith) in omega arith), λ x ne. refl)
+          ((let a = unreached_none (4 * k + 3) found (omega arith) in let b = unreached_none (4 * k + 3) (4 * k + 1) (omega arith) in omega arith), λ x ne. refl)
 
       -- a seat that has claimed k finds its word so
       finds_claimed : v.claimed ≡ k ∷ [] → found ≡ 4 * k + 1
@@ -134,49 +138,27 @@ module _ {M : Type 0} where
       gets_placed : 0 < v.parts → v.claimed ≡ k ∷ [] → (x : T) → slice_get wanted k ≡ Some (meaning x)
           → KeepsSlots meaning wanted (record { words = set s.words (k % 64) (4 * k + 2); homes = set s.homes (k % 64) (some (Some x)); views = set s.views id (placing v) })
       gets_placed some_part mine x right = let is : found ≡ 4 * k + 1 = finds_claimed mine in let piece : (4 * k + 2) / 4 ≡ k = omega arith in let d = r.deep in
-          moved (4 * k + 2) (placing v) (set s.homes (k % 64) (some (Some x))) (length-set s.homes (k % 64) (some (Some x)) ∙ r.deep) (others_set (some (Some x)))
+          recounted (4 * k + 2) (placing v) (set s.homes (k % 64) (some (Some x))) (length-set s.homes (k % 64) (some (Some x)) ∙ r.deep) (others_set (some (Some x)))
           (record {
             here = ap (λ (n : ℕ). n % 64) piece;
             empty = λ z. absurd (omega arith);
             full = λ z. (x, set_here s.homes (k % 64) (some (Some x)) (omega arith), ap (λ (n : ℕ). slice_get wanted n) piece ∙ right);
           }) refl refl (λ e. absurd (omega (arith, e, some_part)))
-          (recount claimed_by is_claimed s.words s.views id v (placing v) k (4 * k + 2) at r.wide r.claims
-          (let here : times k v.claimed ≡ 1 = ap (times k) mine ∙ times_one k in let a = equal_one found (4 * k + 1) is in let b = unequal_none (4 * k + 2) (4 * k + 1) (omega arith) in omega arith)
-          (λ x ne. let t : times x v.claimed ≡ 0 = ap (times x) mine ∙ times_other x k ne in omega arith)
-          (λ x ne same. claim_apart x k found (4 * k + 2) ne (omega arith) (λ _. omega arith)))
-          (recount placed_by is_placed s.words s.views id v (placing v) k (4 * k + 2) at r.wide r.each_placed
-          (let more = times-append k v.placed v.claimed in let one : times k v.claimed ≡ 1 = ap (times k) mine ∙ times_one k in let a = unreached_none (4 * k + 2) found (omega arith) in let b = reached_one (4 * k + 2) (4 * k + 2) (omega arith) in omega arith)
-          (λ x ne. let more = times-append x v.placed v.claimed in let t : times x v.claimed ≡ 0 = ap (times x) mine ∙ times_other x k ne in omega arith)
-          (λ x ne same. placed_apart x k found (4 * k + 2) ne same (omega arith) (omega arith) (omega arith) (omega arith)))
-          (recount lifting_by is_lifting s.words s.views id v (placing v) k (4 * k + 2) at r.wide r.lifts
-          (let a = unequal_none found (4 * k + 3) (omega arith) in let b = unequal_none (4 * k + 2) (4 * k + 3) (omega arith) in omega arith)
-          (λ x ne. refl)
-          (λ x ne same. lift_apart x k found (4 * k + 2) ne (omega arith) (λ _. omega arith)))
-          (recount lifted_by is_lifted s.words s.views id v (placing v) k (4 * k + 2) at r.wide r.each_lifted
-          (let a = unreached_none (4 * k + 3) found (omega arith) in let b = unreached_none (4 * k + 3) (4 * k + 2) (omega arith) in omega arith)
-          (λ x ne. refl)
-          (λ x ne same. lifted_apart x k found (4 * k + 2) ne same (omega arith) (omega arith) (omega arith) (omega arith)))
+          (omega arith) (λ _. omega arith) (omega arith) (omega arith)
+          ((let here : times k v.claimed ≡ 1 = ap (times k) mine ∙ times_one k in let a = equal_one found (4 * k + 1) is in let b = unequal_none (4 * k + 2) (4 * k + 1) (omega arith) in omega arith), λ x ne. let t : times x v.claimed ≡ 0 = ap (times x) mine ∙ times_other x k ne in omega arith)
+          ((let more = times-append k v.placed v.claimed in let one : times k v.claimed ≡ 1 = ap (times k) mine ∙ times_one k in let a = unreached_none (4 * k + 2) found (omega arith) in let b = reached_one (4 * k + 2) (4 * k + 2) (omega arith) in omega arith), λ x ne. let more = times-append x v.placed v.claimed in let t : times x v.claimed ≡ 0 = ap (times x) mine ∙ times_other x k ne in omega arith)
+          ((let a = unequal_none found (4 * k + 3) (omega arith) in let b = unequal_none (4 * k + 2) (4 * k + 3) (omega arith) in omega arith), λ x ne. refl)
+          ((let a = unreached_none (4 * k + 3) found (omega arith) in let b = unreached_none (4 * k + 3) (4 * k + 2) (omega arith) in omega arith), λ x ne. refl)
 
       gets_raised : 0 < v.parts → found ≡ 4 * k + 2 → v.lifting ≡ [] → KeepsSlots meaning wanted (record { words = set s.words (k % 64) (4 * k + 3); homes = set s.homes (k % 64) none; views = set s.views id (raising v k) })
       gets_raised some_part is free = let none_here : times k v.lifting ≡ 0 = ap (times k) free in let one = times_one k in
-          moved (4 * k + 3) (raising v k) (set s.homes (k % 64) none) (length-set s.homes (k % 64) none ∙ r.deep) (others_set none)
+          recounted (4 * k + 3) (raising v k) (set s.homes (k % 64) none) (length-set s.homes (k % 64) none ∙ r.deep) (others_set none)
           (record { here = ap (λ (n : ℕ). n % 64) (let q : (4 * k + 3) / 4 ≡ k = omega arith in q); empty = λ z. absurd (omega arith); full = λ z. absurd (omega arith) }) refl refl (λ e. absurd (omega (arith, e, some_part)))
-          (recount claimed_by is_claimed s.words s.views id v (raising v k) k (4 * k + 3) at r.wide r.claims
-          (let a = unequal_none found (4 * k + 1) (omega arith) in let b = unequal_none (4 * k + 3) (4 * k + 1) (omega arith) in omega arith)
-          (λ x ne. refl)
-          (λ x ne same. claim_apart x k found (4 * k + 3) ne (omega arith) (λ _. omega arith)))
-          (recount placed_by is_placed s.words s.views id v (raising v k) k (4 * k + 3) at r.wide r.each_placed
-          (let a = reached_one (4 * k + 2) found (omega arith) in let b = reached_one (4 * k + 2) (4 * k + 3) (omega arith) in omega arith)
-          (λ x ne. refl)
-          (λ x ne same. placed_apart x k found (4 * k + 3) ne same (omega arith) (omega arith) (omega arith) (omega arith)))
-          (recount lifting_by is_lifting s.words s.views id v (raising v k) k (4 * k + 3) at r.wide r.lifts
-          (let a = unequal_none found (4 * k + 3) (omega arith) in let b = equal_one (4 * k + 3) (4 * k + 3) refl in omega arith)
-          (λ x ne. let t = times_other x k ne in let e : times x v.lifting ≡ 0 = ap (times x) free in omega arith)
-          (λ x ne same. lift_apart x k found (4 * k + 3) ne (omega arith) (λ _. omega arith)))
-          (recount lifted_by is_lifted s.words s.views id v (raising v k) k (4 * k + 3) at r.wide r.each_lifted
-          (let more = times-snoc k v.lifted k in let e = equal_one k k refl in let a = unreached_none (4 * k + 3) found (omega arith) in let b = reached_one (4 * k + 3) (4 * k + 3) (omega arith) in omega arith)
-          (λ x ne. let more = times-snoc x v.lifted k in let e = unequal_none x k ne in omega arith)
-          (λ x ne same. lifted_apart x k found (4 * k + 3) ne same (omega arith) (omega arith) (omega arith) (omega arith)))
+          (omega arith) (λ _. omega arith) (omega arith) (omega arith)
+          ((let a = unequal_none found (4 * k + 1) (omega arith) in let b = unequal_none (4 * k + 3) (4 * k + 1) (omega arith) in omega arith), λ x ne. refl)
+          ((let a = reached_one (4 * k + 2) found (omega arith) in let b = reached_one (4 * k + 2) (4 * k + 3) (omega arith) in omega arith), λ x ne. refl)
+          ((let a = unequal_none found (4 * k + 3) (omega arith) in let b = equal_one (4 * k + 3) (4 * k + 3) refl in omega arith), λ x ne. let t = times_other x k ne in let e : times x v.lifting ≡ 0 = ap (times x) free in omega arith)
+          ((let more = times-snoc k v.lifted k in let e = equal_one k k refl in let a = unreached_none (4 * k + 3) found (omega arith) in let b = reached_one (4 * k + 3) (4 * k + 3) (omega arith) in omega arith), λ x ne. let more = times-snoc x v.lifted k in let e = unequal_none x k ne in omega arith)
 
       -- a piece whose word isn't that of a lifted one is in no seat's list
       not_lifted : found ≡ 4 * k + 2 → times k v.lifted ≡ 0
@@ -188,28 +170,17 @@ module _ {M : Type 0} where
 
       gets_freed : v.lifting ≡ k ∷ [] → (x : Option T) → KeepsSlots meaning wanted (record { words = set s.words (k % 64) (4 * (k + 64)); homes = set s.homes (k % 64) (some x); views = set s.views id (freeing v) })
       gets_freed mine x = let is : found ≡ 4 * k + 3 = finds_raised mine in let piece : 4 * (k + 64) / 4 ≡ k + 64 = omega arith in let d = r.deep in
-          moved (4 * (k + 64)) (freeing v) (set s.homes (k % 64) (some x)) (length-set s.homes (k % 64) (some x) ∙ r.deep) (others_set (some x))
+          recounted (4 * (k + 64)) (freeing v) (set s.homes (k % 64) (some x)) (length-set s.homes (k % 64) (some x) ∙ r.deep) (others_set (some x))
           (record {
             here = ap (λ (n : ℕ). n % 64) piece ∙ (let turn : (k + 64) % 64 ≡ k % 64 = omega arith in turn);
             empty = λ z. (x, set_here s.homes (k % 64) (some x) (omega arith));
             full = λ z. absurd (omega arith);
           }) refl refl (r.nothing id v at)
-          (recount claimed_by is_claimed s.words s.views id v (freeing v) k (4 * (k + 64)) at r.wide r.claims
-          (let a = unequal_none found (4 * k + 1) (omega arith) in let b = unequal_none (4 * (k + 64)) (4 * k + 1) (omega arith) in omega arith)
-          (λ x ne. refl)
-          (λ x ne same. claim_apart x k found (4 * (k + 64)) ne (omega arith) (λ h. absurd (h (omega arith)))))
-          (recount placed_by is_placed s.words s.views id v (freeing v) k (4 * (k + 64)) at r.wide r.each_placed
-          (let a = reached_one (4 * k + 2) found (omega arith) in let b = reached_one (4 * k + 2) (4 * (k + 64)) (omega arith) in omega arith)
-          (λ x ne. refl)
-          (λ x ne same. placed_apart x k found (4 * (k + 64)) ne same (omega arith) (omega arith) (omega arith) (omega arith)))
-          (recount lifting_by is_lifting s.words s.views id v (freeing v) k (4 * (k + 64)) at r.wide r.lifts
-          (let here : times k v.lifting ≡ 1 = ap (times k) mine ∙ times_one k in let a = equal_one found (4 * k + 3) is in let b = unequal_none (4 * (k + 64)) (4 * k + 3) (omega arith) in omega arith)
-          (λ x ne. let t : times x v.lifting ≡ 0 = ap (times x) mine ∙ times_other x k ne in omega arith)
-          (λ x ne same. lift_apart x k found (4 * (k + 64)) ne (omega arith) (λ h. absurd (h (omega arith)))))
-          (recount lifted_by is_lifted s.words s.views id v (freeing v) k (4 * (k + 64)) at r.wide r.each_lifted
-          (let a = reached_one (4 * k + 3) found (omega arith) in let b = reached_one (4 * k + 3) (4 * (k + 64)) (omega arith) in omega arith)
-          (λ x ne. refl)
-          (λ x ne same. lifted_apart x k found (4 * (k + 64)) ne same (omega arith) (omega arith) (omega arith) (omega arith)))
+          (omega arith) (λ h. absurd (h (omega arith))) (omega arith) (omega arith)
+          ((let a = unequal_none found (4 * k + 1) (omega arith) in let b = unequal_none (4 * (k + 64)) (4 * k + 1) (omega arith) in omega arith), λ x ne. refl)
+          ((let a = reached_one (4 * k + 2) found (omega arith) in let b = reached_one (4 * k + 2) (4 * (k + 64)) (omega arith) in omega arith), λ x ne. refl)
+          ((let here : times k v.lifting ≡ 1 = ap (times k) mine ∙ times_one k in let a = equal_one found (4 * k + 3) is in let b = unequal_none (4 * (k + 64)) (4 * k + 3) (omega arith) in omega arith), λ x ne. let t : times x v.lifting ≡ 0 = ap (times x) mine ∙ times_other x k ne in omega arith)
+          ((let a = reached_one (4 * k + 3) found (omega arith) in let b = reached_one (4 * k + 3) (4 * (k + 64)) (omega arith) in omega arith), λ x ne. refl)
 
     abbrev Holds : St → Type 0
     Holds = KeepsSlots meaning wanted
