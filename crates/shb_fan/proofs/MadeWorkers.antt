@@ -1,6 +1,7 @@
 -- Workers of passes and seats.
-use Rattle.std.proofs.Common.{◌≡◌, ℕ, zero, suc, ◌+◌, ◌<◌, ◌≤◌, take, refl, List, [], ◌∷◌, ◌++◌, All, Some, Bool, false, ap, ◌∙◌, arith, length, length-append, replicate}
+use Rattle.std.proofs.Common.{◌≡◌, ℕ, ◌+◌, ◌<◌, ◌≤◌, take, refl, sym, List, [], ◌∷◌, ◌++◌, All, Some, Bool, false, ap, ◌∙◌, arith, length, length-append, replicate}
 use Rattle.std.proofs.lemmas.List.{length-replicate}
+use Rattle.std.proofs.Math.Seq.{take-append_seam}
 use Rattle.std.proofs.lemmas.List.Elements.{All-push, All-pop, All-same, All-replicate}
 use Rattle.shb_fan.specs.declared.shares.Ring.{Ring}
 use Rattle.shb_fan.specs.declared.shares.RingSeat.{RingSeat}
@@ -11,20 +12,11 @@ use Rattle.shb_fan.specs.Seated.{IsNewSeat, IsSeatOf, claimed_of}
 use Rattle.shb_fan.specs.Streamed.{AreBack, HasAccounts, HasLifted, HasWorked, CanBegin, IsIdle, IsNew}
 use Rattle.shb_fan.proofs.Accounts.{accounts_none, balanced_none, balanced_more}
 
-pub last_pass : (z : TicketSource) (passes rest : List PassState) (pass : PassState) → passes ≡ rest ++ pass ∷ [] → All (λ p. p ≡ fresh z) passes → All (λ p. p ≡ fresh z) rest × (pass ≡ fresh z)
-last_pass z passes rest pass cut all = All-pop (λ (p : PassState). p ≡ fresh z) passes rest (Some pass) cut all
-
 -- what is written back to a list of that length
 pub take_written : (A : Type 0) (n : ℕ) (written rest : List A) → length written ≡ n → take n (written ++ rest) ≡ written
-take_written A zero [] rest long = refl
-take_written A zero (x ∷ xs) rest long = absurd (omega (arith, long))
-take_written A (suc n) [] rest long = absurd (omega (arith, long))
-take_written A (suc n) (x ∷ xs) rest long = ap (λ (l : List A). x ∷ l) (take_written A n xs rest (omega (arith, long)))
+take_written A n written rest long = ap (λ (m : ℕ). take m (written ++ rest)) (sym long) ∙ take-append_seam written rest
 
 module _ {T M J : Type 0} (value : J → ℕ → M) (count : J → ℕ) (z : TicketSource) (ring : Ring T M J) where
-  pub last_seat : (seats rest : List (RingSeat T M)) (seat : RingSeat T M) → seats ≡ rest ++ seat ∷ [] → All (IsNewSeat value count ring) seats → All (IsNewSeat value count ring) rest × IsNewSeat value count ring seat
-  last_seat seats rest seat cut all = All-pop (IsNewSeat value count ring) seats rest (Some seat) cut all
-
   pub one_made : (workers longer : List (Worker T M)) (worker : Worker T M) → longer ≡ workers ++ worker ∷ [] → worker.pass ≡ fresh z → IsNewSeat value count ring worker.seat
       → All (IsNew value count z ring) workers → All (IsNew value count z ring) longer
   one_made workers longer worker is pass seat all = All-same (IsNew value count z ring) longer (workers ++ worker ∷ []) is (All-push (IsNew value count z ring) workers worker all (pass, seat))
@@ -50,10 +42,6 @@ module _ {T M J : Type 0} (value : J → ℕ → M) (count : J → ℕ) (z : Tic
   abbrev IsHome : RingSeat T M → Type 0
   IsHome s = IsSeatOf value count ring s × (claimed_of s ≡ [])
 
-  pub worked_last : (workers rest : List (Worker T M)) (worker : Worker T M) → workers ≡ rest ++ worker ∷ [] → All (HasWorked value count z ring) workers
-      → All (HasWorked value count z ring) rest × HasWorked value count z ring worker
-  worked_last workers rest worker cut all = All-pop (HasWorked value count z ring) workers rest (Some worker) cut all
-
   pub back_none : (passes : List PassState) (seats : List (RingSeat T M)) → passes ≡ [] → All (IsNewSeat value count ring) seats → AreBack value count z ring passes seats
   back_none passes seats empty all = record {
     our_passes = λ k d inside. absurd (let long = ap length empty in omega (arith, long, inside));
@@ -61,17 +49,11 @@ module _ {T M J : Type 0} (value : J → ℕ → M) (count : J → ℕ) (z : Tic
     balanced = balanced_none passes seats empty (λ k d inside. (all k d inside).2);
   }
 
-  pub passes_more : (passes more : List PassState) (p : PassState) → more ≡ passes ++ p ∷ [] → All (λ q. q.source ≡ z) passes → p.source ≡ z → All (λ q. q.source ≡ z) more
-  passes_more passes more p longer all one = All-same (λ (q : PassState). q.source ≡ z) more (passes ++ p ∷ []) longer (All-push (λ (q : PassState). q.source ≡ z) passes p all one)
-
-  pub seats_more : (seats others : List (RingSeat T M)) (s : RingSeat T M) → others ≡ seats ++ s ∷ [] → All IsHome seats → IsHome s → All (λ u. IsSeatOf value count ring u × (claimed_of u ≡ [])) others
-  seats_more seats others s wider all one = All-same IsHome others (seats ++ s ∷ []) wider (All-push IsHome seats s all one)
-
   pub back_more : (passes more : List PassState) (seats others : List (RingSeat T M)) (worker : Worker T M) → AreBack value count z ring passes seats → HasWorked value count z ring worker
       → more ≡ passes ++ worker.pass ∷ [] → others ≡ seats ++ worker.seat ∷ [] → AreBack value count z ring more others
   back_more passes more seats others worker back worked longer wider = record {
-    our_passes = passes_more passes more worker.pass longer back.our_passes worked.0.0;
-    our_seats = seats_more seats others worker.seat wider back.our_seats (worked.0.1, worked.0.2);
+    our_passes = All-same (λ (q : PassState). q.source ≡ z) more (passes ++ worker.pass ∷ []) longer (All-push (λ (q : PassState). q.source ≡ z) passes worker.pass back.our_passes worked.0.0);
+    our_seats = All-same IsHome others (seats ++ worker.seat ∷ []) wider (All-push IsHome seats worker.seat back.our_seats (worked.0.1, worked.0.2));
     balanced = balanced_more passes more seats others worker.pass worker.seat back.balanced worked.1 longer wider;
   }
 

@@ -1,5 +1,7 @@
-use Rattle.std.proofs.Common.{◌≡◌, ◌++◌, arith, rules, ap, ◌∙◌, length, length-append, ◌∷◌, []}
-use Rattle.shb_fan.proofs.MadeWorkers.{back_more, back_none, worked_last}
+use Rattle.std.proofs.Common.{◌≡◌, ◌++◌, arith, rules, ap, ◌∙◌, length, length-append, ◌∷◌, [], Some}
+use Rattle.std.proofs.lemmas.List.Elements.{All-pop}
+use Rattle.shb_fan.specs.Streamed.{HasWorked}
+use Rattle.shb_fan.proofs.MadeWorkers.{back_more, back_none}
 use Rattle.shb_fan.proofs.crew.Desk.take_back.Goals as goal
 
 pub loop-worker-init : goal.loop-worker-init
@@ -18,7 +20,7 @@ pub loop-worker-preserved : goal.loop-worker-preserved
 loop-worker-preserved g c =
     let i = c.loop-worker.invariant in
     let tickets = c.args.self.now.tickets in let ring = c.args.self.now.ring in
-    let cut = worked_last g.J.Job.value g.J.Job.count tickets ring _ _ _ c.in-Some.ensures.items i.left in
+    let cut = All-pop (HasWorked g.J.Job.value g.J.Job.count tickets ring) _ _ (Some c.in-Some.worker) c.in-Some.ensures.items i.left in
     let longer : c.push.new.self.items ≡ c.loop-worker.passes.items ++ c.in-Some.worker.pass ∷ [] = search rules in
     let wider : c.push-in-Some.new.self.items ≡ c.loop-worker.seats.items ++ c.in-Some.worker.seat ∷ [] = search rules in
     let fewer = ap length c.in-Some.ensures.items ∙ length-append c.pop.new.self.items (c.in-Some.worker ∷ []) in
