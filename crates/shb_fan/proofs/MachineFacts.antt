@@ -1,7 +1,6 @@
 -- Each allowed step keeps what holds of the machine.
 use Rattle.std.proofs.Common.{◌≡◌, ◌≢◌, ℕ, zero, suc, ◌+◌, ◌-◌, ◌<◌, ◌≤◌, Bool, true, false, ltb, eqb, List, [], ◌∷◌, ◌++◌, length, get_or, min, cond, sum_by, replicate, sym, refl, ap, ◌∙◌, subst, arith, length-set, get_or-set_other}
 use Rattle.std.proofs.lemmas.Bool.{lt-ltb, le-ltb, ltb-true}
-use Rattle.std.proofs.lemmas.Bool.Decides.{nat_tests}
 use Rattle.std.proofs.lemmas.List.Sums.{sum_by-cons, sum_by-set}
 use Rattle.std.proofs.lemmas.Grind.{get_or-set_at}
 use mathlib.Core.Logic.{dite}
