@@ -1,5 +1,5 @@
 -- Numbers of locations, one event more.
-use Rattle.std.proofs.Common.{◌≡◌, ℕ, ◌+◌, ◌<◌, ◌≤◌, inl, inr, Bool, true, false, cond, List, [], ◌∷◌, ◌++◌, Some, length, get_or, slice_get, refl, arith, ap, sym, ◌∙◌}
+use Rattle.std.proofs.Common.{◌≡◌, ℕ, ◌+◌, ◌<◌, ◌≤◌, inl, inr, Bool, true, false, cond, List, [], ◌∷◌, ◌++◌, Some, length, get_or, slice_get, arith, ap, sym, ◌∙◌}
 use Rattle.std.specs.List.{list_any}
 use Rattle.std.specs.Str.{bytes_eq}
 use Rattle.std.proofs.lemmas.Bool.{cases_lt}
@@ -10,9 +10,6 @@ use Rattle.shb_lines.specs.text.TraceData.{TraceData}
 use Rattle.shb_report.specs.Places.{location_at}
 use Rattle.shb_report.proofs.KeyedLemmas.{number_stays}
 use Rattle.shb_counts.specs.Numbering.{AreNumbered}
-
-pub none_numbered : (trace : TraceData) → AreNumbered trace 0 [] []
-none_numbered trace = record { as_many = refl; few = omega arith; numbered = λ e lt. absurd (omega arith); located = λ e lt. absurd (omega arith) }
 
 pub one_more_location : (locations : List (List ℕ)) (text : List ℕ) → length (insert_key bytes_eq locations text) ≤ length locations + 1
 one_more_location locations text = by (list_any (bytes_eq text) locations)

@@ -1,29 +1,15 @@
 -- Counts of the numbers of a span, from the counts before its two ends.
-use Rattle.std.proofs.Common.{◌≡◌, ℕ, ◌+◌, ◌-◌, ◌<◌, ◌≤◌, ◌++◌, inl, inr, List, [], ◌∷◌, length, get_or, set, take, drop, refl, arith, ap, sym, ◌∙◌}
+use Rattle.std.proofs.Common.{◌≡◌, ℕ, ◌+◌, ◌-◌, ◌<◌, ◌≤◌, ◌++◌, List, [], ◌∷◌, length, get_or, take, drop, refl, arith, ap, sym, ◌∙◌}
 use Rattle.std.specs.Prelude.{◌==◌, All}
 use Rattle.std.proofs.Math.Seq.{take-add}
-use Rattle.std.proofs.lemmas.Bool.{cases_eq}
 use Rattle.std.proofs.lemmas.Grind.{flat_map-append}
-use Rattle.std.proofs.lemmas.List.{append-nil, get_or-set_other, get_or-set_same, length-append, length-set, length-take-le, length-drop, take-append-drop, take_more}
+use Rattle.std.proofs.lemmas.List.{append-nil, length-append, length-take-le, length-drop, take-append-drop, take_more}
 use Rattle.std.proofs.lemmas.List.Elements.{filter-append}
 use Rattle.std.proofs.lemmas.List.Sums.{count_by-le-length, length-filter}
 use Rattle.shb_pairs.specs.Buckets.{with_key}
 use Rattle.shb_pairs.specs.Spans.{IsSpanOf, in_spans}
 use Rattle.shb_pairs.specs.declared.spans.Span.{Span}
 use Rattle.shb_counts.specs.Counts.{AreCountsBefore, AreCountsOf, HaveGrown, MayGrow}
-
-pub none_grown : (before after old : List ℕ) → HaveGrown before after old 0 old
-none_grown before after old = record { as_many = refl; grown = λ n lt. absurd (omega arith); same = λ n le. refl }
-
-pub one_grown : (before after old new : List ℕ) (k v : ℕ) → k < length old → v ≡ get_or old k 0 + (get_or after k 0 - get_or before k 0) → HaveGrown before after old k new → HaveGrown before after old (k + 1) (set new k v)
-one_grown before after old new k v lt is h = record {
-  as_many = length-set new k v ∙ h.as_many;
-  grown = λ n below. elim (cases_eq n k) [
-    | inl e ↦ rw e (get_or-set_same new k v 0 (let long = h.as_many in omega (arith, long, lt)) ∙ is)
-    | inr ne ↦ get_or-set_other new k n v 0 ne ∙ h.grown n (omega (arith, below, ne))
-  ];
-  same = λ n past. get_or-set_other new k n v 0 (λ e. omega (arith, e, past)) ∙ h.same n (omega (arith, past));
-}
 
 -- how often n stands in the two parts of a list
 times_append : (n : ℕ) (xs ys : List ℕ) → length (with_key (λ k. k) (xs ++ ys) n) ≡ length (with_key (λ k. k) xs n) + length (with_key (λ k. k) ys n)
