@@ -21,10 +21,6 @@ use Rattle.shb_clocks.proofs.Stamping.{more_push}
 pub row_further : (old new more : List (List ℕ)) → AreMore new more → (a b : ℕ) → IsMovedRow old new a b → IsMovedRow old more a b
 row_further old new more grown a b h = record { in_range = (let long = grown.as_long in let low = h.in_range in omega (arith, long, low)); same = grown.same b h.in_range ∙ h.same }
 
-pub stamp_further : (old new more : List (List ℕ)) → AreMore new more → (a b : Stamp) → IsMovedStamp old new a b → IsMovedStamp old more a b
-stamp_further old new more grown a b (of_row thread time row) = of_row thread time (row_further old new more grown a.row b.row row)
-stamp_further old new more grown a b (of_no_event none same) = of_no_event none same
-
 -- nothing moved
 pub moved_start : (old new : RowsData) (moved : List ℕ) → new.width ≡ old.width → new.rows ≡ [] → moved ≡ replicate (length old.rows) 0 → AreMoved old new moved
 unfolding unmoved
@@ -87,10 +83,6 @@ pub record PartAlike {A : Type 0} (default : A) (IsAlike : A → A → Type 0) (
   pub as_many : length after ≡ length before
   pub done : (y : ℕ) → y < x → IsAlike (get_or before y default) (get_or after y default)
   pub rest : (y : ℕ) → x ≤ y → get_or after y default ≡ get_or before y default
-
-module _ {A : Type 0} (default : A) where
-  pub part_item : (IsAlike : A → A → Type 0) (before after : List A) (x : ℕ) (item : A) → PartAlike default IsAlike before after x → x < length before → item ≡ get_or after x item → item ≡ get_or before x default
-  part_item IsAlike before after x item part lt is = get_or_read after x item (let many = part.as_many in omega (arith, many, lt)) is default ∙ part.rest x (omega arith)
 
 -- what the tables name is the same among the new rows
 module _ (trace : List Event) (old new : List (List ℕ)) where

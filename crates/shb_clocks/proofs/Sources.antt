@@ -1,5 +1,5 @@
 -- What is below an event comes from itself, from its predecessor, or from what the event learns of other threads.
-use Rattle.std.proofs.Common.{◌≡◌, ◌≢◌, ℕ, ◌<◌, ◌≤◌, ◌⊎◌, inl, inr, List, Some, length, arith, subst, sym, ◌∙◌, refl}
+use Rattle.std.proofs.Common.{◌≡◌, ℕ, ◌<◌, ◌≤◌, ◌⊎◌, inl, inr, List, Some, length, arith, subst, sym, ◌∙◌, refl}
 use Rattle.std.specs.Prelude.{◌↔◌}
 use Rattle.std.proofs.lemmas.Bool.{cases_lt}
 use Rattle.shb_lines.specs.declared.event.Event.{Event}
@@ -103,9 +103,6 @@ module _ (trace : List Event) (disciplined : IsDisciplined trace) (e : ℕ) wher
           last : (c : ℕ) → thread_at trace c ≡ Some u → c < e → b ≤ c → (b < c) ⊎ (c ≤ b) → ShbBelow trace c b
           last c of_c lt le (inl above) = absurd (latest.last c above lt of_c)
           last c of_c lt le (inr ge) = subst (λ (x : ℕ). ShbBelow trace x b) (let g : b ≡ c = omega arith in g) here
-
-  pub join_learns_nothing : (u k : ℕ) → op_at trace e ≡ Some (Join u) → ((m : ℕ) → m < e → thread_at trace m ≢ Some u) → Learns trace e k → ⊥
-  join_learns_nothing u k joins none learns = let from = learns_join u k joins learns in none from.event from.earlier from.of_thread
 
   pub read_learns : (x w k : ℕ) → op_at trace e ≡ Some (Read x) → LastWrite trace w e → ShbBelow trace k w ↔ Learns trace e k
   read_learns x w k reads last = (
