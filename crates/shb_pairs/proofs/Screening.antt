@@ -1,10 +1,9 @@
 -- What is kept of a variable, an access at a time.
-use Rattle.std.proofs.Common.{◌≡◌, ◌≢◌, ℕ, zero, suc, ◌+◌, ◌<◌, ◌≤◌, ◌⊎◌, inl, inr, Bool, true, false, List, [], ◌∷◌, ◌++◌, Option, Some, length, get_or, slice_get, arith, refl, subst, ap, sym, ◌∙◌, get_or-set_same, get_or-set_other}
-use Rattle.std.specs.Prelude.{◌==◌, map, replicate, option_and_then}
-use Rattle.std.proofs.Math.ListN.{set, length-set, length-replicate}
+use Rattle.std.proofs.Common.{◌≡◌, ◌≢◌, ℕ, ◌+◌, ◌<◌, ◌≤◌, ◌⊎◌, inl, inr, Bool, true, false, List, Option, Some, length, get_or, arith, subst, ap, sym, ◌∙◌, get_or-set_same, get_or-set_other}
+use Rattle.std.specs.Prelude.{◌==◌, map, option_and_then}
+use Rattle.std.proofs.Math.ListN.{set, length-set}
 use Rattle.std.proofs.lemmas.Bool.{cases_eq, eq-eqb}
 use Rattle.std.proofs.lemmas.List.{get_or-map}
-use Rattle.std.proofs.lemmas.Option.{get_or_from_slice_get, slice_get_within}
 use Rattle.shb_lines.specs.declared.event.Event.{Event}
 use Rattle.shb_lines.specs.declared.event.Op.{Op}
 use Rattle.shb_lines.specs.declared.event.Op.TheVariants.{Write}
@@ -50,17 +49,6 @@ mark_below trace mark e j own lt past = elim past.below [
 
 write_accesses : (trace : List Event) (k x : ℕ) → op_at trace k ≡ Some (Write x) → variable_at trace k ≡ Some x
 write_accesses trace k x writes = ap (λ (o : Option Op). option_and_then variable_of o) writes
-
-write_alone : (trace : List Event) (k x y : ℕ) → op_at trace k ≡ Some (Write x) → op_at trace k ≡ Some (Write y) → y ≡ x
-write_alone trace k x y h g = let s : Some (Write x) ≡ Some (Write y) = sym h ∙ g in cc
-
--- before the first event
-pub screened_none : (trace : List Event) (x : ℕ) (latest : Latest) → IsScreened trace 0 x latest
-screened_none trace x latest = record {
-  writes = λ k e lt le writes past. absurd (omega (arith, lt));
-  accesses = λ k e lt le access past also. absurd (omega (arith, lt));
-  free = λ i j lt access known race. absurd (omega (arith, lt));
-}
 
 -- an open variable
 pub screened_open : (trace : List Event) (n x : ℕ) (latest : Latest) → latest.write.time ≡ no_time → IsScreened trace n x latest
@@ -143,13 +131,6 @@ module _ (trace : List Event) (disciplined : IsDisciplined trace) (n x : ℕ) (l
     accesses = λ k e lt le of_k later read. absurd (read.known none);
     free = λ i j lt of_j known race. read_free i j lt of_j race;
   }
-
--- the table
-pub table_start : (trace : List Event) (size : ℕ) (latest : Latest) (table : List Latest) → table ≡ replicate size latest → AreScreened trace 0 size table
-table_start trace size latest table is = record {
-  as_many = ap length is ∙ length-replicate size latest;
-  each = λ x d lt shared. screened_none trace x (get_or table x d);
-}
 
 pub table_other : (trace : List Event) (n size : ℕ) (table : List Latest) → ((x : ℕ) → IsShared trace x → variable_at trace n ≢ Some x) → AreScreened trace n size table → AreScreened trace (n + 1) size table
 table_other trace n size table other h = record {
