@@ -43,7 +43,7 @@ def arguments(words, program):
     parser.add_argument("--all", action="store_true", help="in the text, add a race of each group and what comes before it")
     parser.add_argument("--note", metavar="TEXT", action="append", default=[],
                         help="say this of the trace below the title, as that it isn't the whole run; may be given again")
-    parser.add_argument("--stacks", metavar="FILE", help="show call stacks, as `shb-std --stacks` wrote them")
+    parser.add_argument("--stacks", metavar="FILE", help="show call stacks and names of locals, as `shb-std --stacks` wrote them")
     parser.add_argument("--recorded-source", action="store_true", help="show lines of the source files that the file of --stacks names")
     parser.add_argument("--shift", metavar="N", type=int, default=0,
                         help="the trace is a window of a run: its event E is event E + N of the file of stacks")
