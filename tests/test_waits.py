@@ -1,5 +1,6 @@
 """Threads that wait for one another: how they wait changes no byte, so it is seen from outside."""
 
+import contextlib
 import pathlib
 import re
 import threading
@@ -15,9 +16,11 @@ SLEEPS = 200
 
 def sleeps_of(process, thread="*"):
     """How often each thread of a process has slept, the most first."""
-    threads = pathlib.Path(f"/proc/{process.pid}/task").glob(f"{thread}/status")
-    counted = (re.search(r"^voluntary_ctxt_switches:\s*(\d+)", thread.read_text(), re.M) for thread in threads)
-    return sorted((int(found.group(1)) for found in counted), reverse=True)
+    counted = []
+    for status in pathlib.Path(f"/proc/{process.pid}/task").glob(f"{thread}/status"):
+        with contextlib.suppress(FileNotFoundError, ProcessLookupError):  # a thread that has ended meanwhile
+            counted.append(int(re.search(r"^voluntary_ctxt_switches:\s*(\d+)", status.read_text(), re.M).group(1)))
+    return sorted(counted, reverse=True)
 
 
 class Waits(test_refusals.Refusing):
