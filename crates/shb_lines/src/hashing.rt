@@ -46,20 +46,6 @@ fn with_words(bytes: &[u8], key: u64, state: u64, at: usize) -> u64
     folded_product(state ^ word_at(bytes, at), key ^ word_at(bytes, at + 8))
 }
 
-/// The state after the length of what is hashed.
-fn seeded(state: u64, key: u64, len: u64) -> u64
-    ensures { result ≡ spec.seeded state key len }
-{
-    folded_product(state ^ len, key)
-}
-
-/// The state after a number of so many bytes, 4 or 8, which is hashed as they are.
-fn number_hash(state: u64, key: u64, len: u64, number: u64) -> u64
-    ensures { result ≡ spec.number_hash state key len number }
-{
-    folded_product(seeded(state, key, len) ^ number, key ^ number)
-}
-
 /// The state after at most 16 bytes: their ends have them all.
 #[tactic(auto, unfolding(crate::specs::text::Hashing::short_hash))]
 fn short_hash(state: u64, key: u64, bytes: &[u8]) -> u64
@@ -91,11 +77,11 @@ fn hash(state: u64, key: u64, bytes: &[u8]) -> u64
     ensures { result ≡ spec.hash state key bytes.now }
 {
     let len = bytes.len();
-    let begun = seeded(state, key, len as u64);
+    let seeded = folded_product(state ^ len as u64, key);
     if len <= MOST_TOLD {
-        short_hash(begun, key, bytes)
+        short_hash(seeded, key, bytes)
     } else {
-        long_hash(begun, key, bytes)
+        long_hash(seeded, key, bytes)
     }
 }
 
@@ -118,16 +104,6 @@ impl Hasher for KeyedHasher {
 
     fn write(&mut self, bytes: &[u8]) {
         self.state = hash(self.state, self.key, bytes);
-    }
-
-    #[tactic(auto, using(crate::proofs::text::NumberHash::hash_4))]
-    fn write_u32(&mut self, i: u32) {
-        self.state = number_hash(self.state, self.key, 4, u64::from(i));
-    }
-
-    #[tactic(auto, using(crate::proofs::text::NumberHash::hash_8))]
-    fn write_usize(&mut self, i: usize) {
-        self.state = number_hash(self.state, self.key, 8, i as u64);
     }
 }
 

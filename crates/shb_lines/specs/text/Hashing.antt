@@ -45,19 +45,12 @@ long_hash state key bytes =
     let n = length bytes in
     with_words bytes key (with_blocks bytes key state ((n - 1) / 16)) (n - 16)
 
--- the state after the length of what is hashed
-abbrev pub seeded : ℕ → ℕ → ℕ → ℕ
-seeded state key len = folded_product (bit_xor state len) key
-
 -- the state after some bytes: their length is mixed in first
 unfoldable pub hash : ℕ → ℕ → List ℕ → ℕ
 hash state key bytes =
     let n = length bytes in
-    if nat_le n 16 then short_hash (seeded state key n) key bytes else long_hash (seeded state key n) key bytes
-
--- the same of a number's bytes, so many
-abbrev pub number_hash : ℕ → ℕ → ℕ → ℕ → ℕ
-number_hash state key len number = folded_product (bit_xor (seeded state key len) number) (bit_xor key number)
+    let seeded = folded_product (bit_xor state n) key in
+    if nat_le n 16 then short_hash seeded key bytes else long_hash seeded key bytes
 
 -- the hasher after bytes were written
 abbrev pub written : KeyedHasher → List ℕ → KeyedHasher
