@@ -278,8 +278,9 @@ fn work_and_take<
 ///
 /// The caller's thread takes; each worker runs in a thread of its own where the system has one for it. A piece
 /// that nobody has drawn when its turn comes the caller runs itself, so all of them where no worker has a
-/// thread. `Memory` where memory was refused, here or to a piece; `Taker` where the taker refused a value. After an error the taker was given the values of the
-/// first pieces, no call follows one that it refused, and values that it wasn't given are dropped.
+/// thread. `Memory` where memory was refused, here or to a piece; `Taker` where the taker refused a value.
+/// After an error the taker was given the values of the first pieces, no call follows one that it refused, and
+/// values that it wasn't given are dropped.
 ///
 /// On Ok the answer is how the draw ended: `drawn` is the number of the pieces, and nobody stopped. Of how
 /// far the draw came before an error no clause speaks.

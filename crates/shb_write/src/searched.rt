@@ -74,10 +74,10 @@ fn list_search<R: Threads + Wait + Sync + RandomSource, K: Sink, O: Order + Sync
 /// many there are. The order of the trace can be asked about their events.
 ///
 /// With schedules the search is made once, and its races are kept, as pairs: each has a block that takes far
-/// more in the report. Without them it is made first to keep the
-/// races, as long as there are not more of them than events. Where there are more, it stops there; it is made
-/// again to count the races and those of each place, and again to write the blocks, so the memory that is taken
-/// doesn't grow with the races. The places are made before anything is written.
+/// more in the report. Without them it is made first to keep the races, as long as there are not more of them
+/// than events. Where there are more, it stops there; it is made again to count the races and those of each
+/// place, and again to write the blocks, so the memory that is taken doesn't grow with the races. The places
+/// are made before anything is written.
 ///
 /// A gate of the search is passed each time that a piece is searched. A gate of the schedules is told the number
 /// of the race, from 0.
