@@ -14,9 +14,6 @@ returns-in-Some-clause-within c =
     let names = names_in entries in
     omega (arith, slice_get_within names c.in-Some.number c.args.name.now (c.in-Some.ensures.number names c.args.name.now c.args.self.now.remembered c.ends_of-ends.ensures.ends), length-map entries (λ e. e.0.bytes.now))
 
-pub returns-in-Some-clause-number : goal.returns-in-Some-clause-number
-returns-in-Some-clause-number c = c.in-Some.ensures.number (names_in c.args.self.now.table.entries) c.args.name.now c.args.self.now.remembered c.ends_of-ends.ensures.ends
-
 pub returns-in-Some-clause-names : goal.returns-in-Some-clause-names
 returns-in-Some-clause-names c =
     let names = names_in c.args.self.now.table.entries in

@@ -1,5 +1,5 @@
 -- Two names more than there are threads are within the limit, or the new ones are counted.
-use Rattle.std.proofs.Common.{◌≡◌, ◌+◌, ◌∙◌, ◌≤◌, ap, arith, false, nat_lt, sym, ℕ}
+use Rattle.std.proofs.Common.{◌≡◌, ◌≤◌, arith, false, nat_lt, ℕ}
 use Rattle.std.proofs.lemmas.Bool.Decides.{nat_tests}
 use Rattle.std.proofs.lemmas.List.{length-map}
 use Rattle.shb_lines.proofs.text.LineLemmas.{length-threads_le}
@@ -14,6 +14,3 @@ returns-then-known-most c =
     let found = c.args.found.now in
     let entries = c.args.self.now.threads.table.entries in
     not_less _ _ (omega (arith, length-threads_le found.kind found.thread.now found.operand.now (names_in entries), length-map entries (λ e. e.0.bytes.now), c.len-known.ensures.len, c.if-known-most.true))
-
-pub returns : goal.returns
-returns c = ap (nat_lt c.args.limits.now.threads) (ap (λ n. n + c.new_threads.result) c.len-known.ensures.len ∙ sym c.new_threads.ensures.count)

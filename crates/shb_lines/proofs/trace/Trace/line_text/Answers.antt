@@ -3,14 +3,7 @@ use Rattle.std.proofs.Common.{ap, arith, length, subst, sym}
 use Rattle.shb_lines.specs.text.Spans.{line_from}
 use Rattle.shb_lines.specs.text.Text.{IsLineText}
 use Rattle.shb_lines.proofs.text.LineTexts.{start_text}
-use Rattle.shb_lines.proofs.text.Named.{line_at}
 use Rattle.shb_lines.proofs.trace.Trace.line_text.Goals as goal
-
-pub returns-clause-line : goal.returns-clause-line
-returns-clause-line c =
-    let inside = c.self.inside in
-    line_at inside.text.items inside.parts.starts.items c.args.self.now.lines c.args.e c.index.result.now c.as_slice.result.now c.line_from.result.now
-    (ap (λ trace. trace.lines) c.self.view_is) (omega (arith, c.requires, ap (λ t. length t.events) c.self.view_is, c.self.invariant.a_line_each)) c.index.ensures c.as_slice.ensures.value c.line_from.ensures
 
 pub returns-clause-bytes : goal.returns-clause-bytes
 returns-clause-bytes c =

@@ -1,13 +1,7 @@
 -- Different numbers are different names.
 use Rattle.std.proofs.Common.{ap}
-use Rattle.shb_lines.proofs.text.Named.{alone, name_at}
+use Rattle.shb_lines.proofs.text.Named.{alone}
 use Rattle.shb_lines.proofs.trace.Trace.lock_name.Goals as goal
-
-pub returns-clause-name : goal.returns-clause-name
-returns-clause-name c =
-    let inside = c.self.inside in
-    name_at inside.text.items inside.parts.locks.items c.args.self.now.locks c.args.l c.index.result.now c.as_slice.result.now c.bytes_in.result.now
-    (ap (λ trace. trace.locks) c.self.view_is) c.requires c.index.ensures c.as_slice.ensures.value c.bytes_in.ensures
 
 pub returns-clause-alone : goal.returns-clause-alone
 returns-clause-alone c =
