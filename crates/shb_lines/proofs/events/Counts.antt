@@ -1,4 +1,5 @@
 -- Counts over the first events of a list, and over the list of chosen indices.
+use Rattle.std.proofs.lemmas.Grind.{common_steps}
 use Rattle.std.proofs.Common.{◌≡◌, ℕ, zero, suc, ◌+◌, ◌<◌, ◌≤◌, ◌⊎◌, inl, inr, Bool, true, false, List, [], ◌∷◌, Some, length, get_or, take, refl, sym, ◌∙◌, ap, arith, add-one}
 use Rattle.std.specs.Prelude.{slice_get, Contains, count_by, cond}
 use Rattle.std.specs.List.Sorted.{IsStrictlyIncreasing}
@@ -24,10 +25,7 @@ count_mono {X} f xs j k le = rw (take-take j k xs le) at (sum_by-take-le (λ (x 
 
 -- what is counted at b makes the count of a longer front positive
 pub counted_before : {X : Type 0} (f : X → Bool) (xs : List X) (b k : ℕ) (e : X) → slice_get xs b ≡ Some e → f e ≡ true → b < k → 0 < count_by f (take k xs)
-counted_before f xs b k e at passes lt =
-    let one = count_more_yes f xs b e at passes in
-    let more = count_mono f xs (b + 1) k (omega arith) in
-    omega (arith, one, more)
+counted_before f xs b k e at passes lt = grind (arith, common_steps, count_more_yes, count_mono)
 
 -- where nothing from a on is counted, the count stays
 pub count_gap : {X : Type 0} (f : X → Bool) (xs : List X) (a b : ℕ) → a ≤ b → ((k : ℕ) (e : X) → a ≤ k → k < b → slice_get xs k ≡ Some e → f e ≡ false) → count_by f (take b xs) ≡ count_by f (take a xs)

@@ -1,4 +1,5 @@
 -- Last writes and predecessors are unique, and what is decided of schedules.
+use Rattle.std.proofs.lemmas.Grind.{common_steps}
 use Rattle.std.proofs.Common.{◌≡◌, ℕ, ◌<◌, ◌⊎◌, inl, inr, false, List, Option, Some, length, refl, arith, sym, ◌∙◌}
 use Rattle.std.specs.Prelude.{◌↔◌, ◌||◌}
 use Rattle.std.proofs.lemmas.Bool.{cases_order, cases_Bool}
@@ -21,15 +22,7 @@ use Rattle.shb_lines.proofs.events.Search.{IsLatest, latest_below, writes_at_tru
 
 -- last writes
 pub last_write_unique : (trace : List Event) (v w r : ℕ) → LastWrite trace v r → LastWrite trace w r → v ≡ w
-last_write_unique trace v w r hv hw = go (cases_order v w)
-  where
-    same : hv.variable ≡ hw.variable
-    same = let a = hv.reads in let b = hw.reads in cc
-
-    go : (v ≡ w) ⊎ ((v < w) ⊎ (w < v)) → v ≡ w
-    go (inl h) = h
-    go (inr (inl lt)) = absurd (hv.latest w lt hw.earlier (rw same hw.writes))
-    go (inr (inr lt)) = absurd (hw.latest v lt hv.earlier (rw (← same) hv.writes))
+last_write_unique trace v w r hv hw = grind (arith, common_steps, cases_order)
 
 pub find_last_write : (trace : List Event) (r : ℕ) → ((w : ℕ) × LastWrite trace w r) ⊎ ((w : ℕ) → LastWrite trace w r → ⊥)
 find_last_write trace r = go (op_at trace r) refl

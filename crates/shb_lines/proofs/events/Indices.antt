@@ -1,5 +1,6 @@
 -- Members and indices of a list of positions.
-use Rattle.std.proofs.Common.{◌≡◌, ℕ, ◌<◌, ◌≤◌, ◌⊎◌, inl, inr, List, Some, sym, ◌∙◌, arith, ap}
+use Rattle.std.proofs.lemmas.Grind.{common_steps}
+use Rattle.std.proofs.Common.{◌≡◌, ℕ, ◌<◌, List, Some, arith}
 use Rattle.std.specs.Prelude.{slice_get, Contains}
 use Rattle.std.specs.List.Sorted.{IsStrictlyIncreasing}
 use Rattle.std.proofs.lemmas.Option.{slice_get_within, get_or_from_slice_get, slice_get-get_or}
@@ -25,19 +26,7 @@ smaller_before s p q a b rising lt at_p at_q =
     omega (arith, below, ea, eb)
 
 pub increasing_indices : (s : List ℕ) (p q a b : ℕ) → IsStrictlyIncreasing s → slice_get s p ≡ Some a → slice_get s q ≡ Some b → a < b → p < q
-increasing_indices s p q a b rising at_p at_q lt = go (cases_lt p q)
-  where
-    go : (p < q) ⊎ (q ≤ p) → p < q
-    go (inl h) = h
-    go (inr h) = go2 (cases_lt q p)
-      where
-        go2 : (q < p) ⊎ (p ≤ q) → p < q
-        go2 (inl g) = let gt = smaller_before s q p b a rising g at_q at_p in absurd (omega arith)
-        go2 (inr g) =
-            let e : p ≡ q = omega arith in
-            let same : Some a ≡ Some b = sym at_p ∙ (ap (slice_get s) e ∙ at_q) in
-            let same_value : a ≡ b = cc in
-            absurd (omega arith)
+increasing_indices s p q a b rising at_p at_q lt = grind (arith, common_steps, cases_lt, smaller_before)
 
 pub stands_in_order : (s : List ℕ) (a b : ℕ) → IsStrictlyIncreasing s → Contains s a → Contains s b → a < b → StandsBefore s a b
 stands_in_order s a b rising ha hb lt =

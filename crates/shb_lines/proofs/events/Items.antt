@@ -1,5 +1,6 @@
 -- Events read at an index of a slice, as the code reads them.
-use Rattle.std.proofs.Common.{◌≡◌, ◌≢◌, ℕ, ◌<◌, true, false, List, Some, length, get_or, subst, sym, ◌∙◌, ap, arith}
+use Rattle.std.proofs.lemmas.Grind.{common_steps}
+use Rattle.std.proofs.Common.{◌≡◌, ◌≢◌, ℕ, ◌<◌, true, false, List, Some, length, get_or, sym, ◌∙◌, ap, arith}
 use Rattle.std.proofs.lemmas.Option.{slice_get-get_or}
 use Rattle.shb_lines.specs.declared.event.Event.{Event}
 use Rattle.shb_lines.specs.declared.event.Op.{Op}
@@ -20,14 +21,10 @@ op_item trace k d lt = op_is trace k (get_or trace k d) (slice_get-get_or trace 
 
 -- the thread and the operation of an event are within the sizes
 pub thread_within : (trace : List Event) (sizes : Sizes) (k t : ℕ) → IsWithin trace sizes → thread_at trace k ≡ Some t → t < sizes.threads
-thread_within trace sizes k t within of_k =
-    let event = event_of_thread trace k t of_k in
-    subst (λ n. n < sizes.threads) event.2 (within k event.0 event.1).thread
+thread_within trace sizes k t within of_k = grind (arith, common_steps, event_of_thread)
 
 pub op_within_at : (trace : List Event) (sizes : Sizes) (k : ℕ) (op : Op) → IsWithin trace sizes → op_at trace k ≡ Some op → IsOpWithin sizes op
-op_within_at trace sizes k op within is =
-    let event = event_of_op trace k op is in
-    subst (IsOpWithin sizes) event.2 (within k event.0 event.1).operation
+op_within_at trace sizes k op within is = grind (arith, common_steps, event_of_op)
 
 -- the same of an operation that is known
 pub op_known : (trace : List Event) (k : ℕ) (op known : Op) → op_at trace k ≡ Some op → op ≡ known → op_at trace k ≡ Some known

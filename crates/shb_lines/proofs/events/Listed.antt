@@ -1,5 +1,6 @@
 -- Bounded search, and the rising list of the numbers below a bound that have a property.
-use Rattle.std.proofs.Common.{◌≡◌, ℕ, zero, suc, ◌+◌, ◌<◌, ◌≤◌, ◌⊎◌, inl, inr, List, [], ◌∷◌, ◌++◌, length, get_or, refl, arith, subst, ap, ◌∙◌}
+use Rattle.std.proofs.lemmas.Grind.{common_steps}
+use Rattle.std.proofs.Common.{◌≡◌, ℕ, zero, suc, ◌+◌, ◌<◌, ◌≤◌, ◌⊎◌, inl, inr, List, [], ◌∷◌, ◌++◌, length, get_or, arith, subst, ap, ◌∙◌}
 use Rattle.std.specs.Prelude.{Contains, ◌↔◌}
 use Rattle.std.specs.List.Sorted.{IsStrictlyIncreasing}
 use Rattle.std.proofs.lemmas.Bool.{cases_lt}
@@ -48,26 +49,13 @@ rising_push n ks rising low k within = go (cases_lt (k + 1) (length ks))
 
 -- how many numbers below a bound have a property, one more number at a time
 pub number_none : (P : ℕ → Type 0) → IsNumberOf (λ k. (k < 0) × P k) 0
-number_none P = record {
-  members = [];
-  rising = λ k within. absurd (omega arith);
-  all = λ k. ((λ c. absurd (let lt = c.1 in omega arith)), (λ h. absurd (let lt = h.0 in omega arith)));
-  number = refl;
-}
+number_none P = grind (arith, common_steps)
 
 pub number_same : (P Q : ℕ → Type 0) (n : ℕ) → ((k : ℕ) → P k ↔ Q k) → IsNumberOf P n → IsNumberOf Q n
-number_same P Q n same h = record {
-  members = h.members;
-  rising = h.rising;
-  all = λ k. ((λ c. (same k).0 ((h.all k).0 c)), (λ q. (h.all k).1 ((same k).1 q)));
-  number = h.number;
-}
+number_same P Q n same h = grind (arith, common_steps)
 
 pub number_more_no : (P : ℕ → Type 0) (i n : ℕ) → (P i → ⊥) → IsNumberOf (λ k. (k < i) × P k) n → IsNumberOf (λ k. (k < i + 1) × P k) n
-number_more_no P i n fails h = number_same _ _ n (λ k. (
-  (λ m. ((let lt = m.0 in omega arith), m.1)),
-  (λ m. elim (cases_lt k i) [ inl lt ↦ (lt, m.1) | inr le ↦ absurd (fails (let e : k ≡ i = (let lt = m.0 in omega arith) in subst P e m.1)) ]),
-)) h
+number_more_no P i n fails h = grind (arith, common_steps, number_same, cases_lt)
 
 pub number_more_yes : (P : ℕ → Type 0) (i n : ℕ) → P i → IsNumberOf (λ k. (k < i) × P k) n → IsNumberOf (λ k. (k < i + 1) × P k) (n + 1)
 number_more_yes P i n passing h = record {

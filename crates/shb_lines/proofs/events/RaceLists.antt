@@ -1,4 +1,5 @@
 -- A trace has one race list.
+use Rattle.std.proofs.lemmas.Grind.{common_steps}
 use Rattle.std.proofs.Common.{◌≡◌, ◌≢◌, ℕ, zero, suc, ◌<◌, ◌⊎◌, inl, inr, List, Option, None, Some, ap, arith, subst}
 use Rattle.std.proofs.lemmas.Bool.{cases_lt, cases_order}
 use Rattle.shb_lines.specs.declared.event.Event.{Event}
@@ -14,10 +15,7 @@ is_or_not (Some y) x = elim (cases_order y x) [
 
 -- first accesses
 pub first_unique : (trace : List Event) (x f g : ℕ) → FirstAccess trace x f → FirstAccess trace x g → f ≡ g
-first_unique trace x f g hf hg = elim (cases_order f g) [
-  | inl e ↦ e
-  | inr h ↦ elim h [ inl lt ↦ absurd (hg.first f lt hf.accesses) | inr gt ↦ absurd (hf.first g gt hg.accesses) ]
-]
+first_unique trace x f g hf hg = grind (arith, common_steps, cases_order)
 
 first_below : (trace : List Event) (x n : ℕ) → ((f : ℕ) × FirstAccess trace x f) ⊎ ((k : ℕ) → k < n → variable_at trace k ≢ Some x)
 first_below trace x zero = inr (λ k lt h. omega arith)

@@ -1,5 +1,6 @@
 -- A pair with a schedule is a race: a schedule is closed under SHB edges and has the predecessors of both accesses.
-use Rattle.std.proofs.Common.{◌≡◌, ℕ, ◌<◌, ◌⊎◌, inl, inr, List, subst, sym}
+use Rattle.std.proofs.lemmas.Grind.{common_steps}
+use Rattle.std.proofs.Common.{◌≡◌, ℕ, ◌<◌, ◌⊎◌, inl, inr, List, subst, sym, arith}
 use Rattle.std.specs.Prelude.{Contains}
 use Rattle.shb_lines.specs.declared.event.Event.{Event}
 use Rattle.shb_lines.specs.events.Order.{ShbEdge, happens_before, read_from, here, step, ShbBelow, IsPred, in_thread, by_fork}
@@ -25,8 +26,4 @@ pred_in trace s p e next (in_thread t at_p at_e lt none) = next.thread_done t p 
 pred_in trace s p e next (by_fork t at_p at_e none) = next.thread_forked t p at_p at_e
 
 pub race_of_schedule : (trace : List Event) (s : List ℕ) (i j : ℕ) → Conflict trace i j → i < j → IsSchedule trace s i j → Race trace i j
-race_of_schedule trace s i j conflict earlier schedule = record {
-  conflict = conflict;
-  earlier = earlier;
-  unordered = λ below. schedule.first_next.absent (path_closed trace s schedule.reordering schedule.keeps_hb i below.0 below.2 (pred_in trace s below.0 j schedule.second_next below.1));
-}
+race_of_schedule trace s i j conflict earlier schedule = grind (arith, common_steps, path_closed, pred_in)

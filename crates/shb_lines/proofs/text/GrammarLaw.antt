@@ -1,4 +1,5 @@
 -- What is computed of a line is what the grammar says of it.
+use Rattle.std.proofs.lemmas.Grind.{common_steps}
 use Rattle.std.proofs.Common.{◌≡◌, ◌≢◌, ◌⊎◌, inl, inr, ◌+◌, ◌-◌, ◌==◌, ◌<◌, ◌&&◌, ℕ, Bool, true, false, cond, not, nat_lt, zero, suc, List, [], ◌∷◌, ◌++◌, codes, length, take, drop, get_or, slice_index, Option, None, Some, Ok, Err, refl, sym, ap, subst, ◌∙◌, arith, length-append, length-take}
 use Rattle.std.specs.List.{after_first, before_first, position_or_len}
 use Rattle.std.specs.Str.{bytes_eq}
@@ -84,10 +85,7 @@ drop_all [] = refl
 drop_all (x ∷ xs) = drop_all xs
 
 last_of : (bytes : List ℕ) → 0 < length bytes → bytes ≡ take (length bytes - 1) bytes ++ get_or bytes (length bytes - 1) 0 ∷ []
-last_of bytes some =
-    let n : ℕ = length bytes - 1 in
-    let one : drop n bytes ≡ get_or bytes n 0 ∷ [] = drop_more bytes n 0 (omega arith) ∙ ap (λ ls. get_or bytes n 0 ∷ ls) (ap (λ k. drop k bytes) (omega arith) ∙ drop_all bytes) in
-    sym (take-append-drop n bytes) ∙ ap (λ ls. take n bytes ++ ls) one
+last_of bytes some = grind (arith, common_steps, drop_more, drop_all, take-append-drop)
 
 -- what stands after a word: `(`, bytes, `)`
 closed : List ℕ → List ℕ
@@ -202,13 +200,7 @@ no_bytes [] e = refl
 no_bytes (x ∷ bytes) e = absurd (omega arith)
 
 with_rest : (thread operation rest : List ℕ) → thread ≢ [] → Lacks 124 thread → before_first is_bar rest ≡ operation → meaning (thread ++ 124 ∷ rest) ≡ operation_meaning thread operation
-with_rest thread operation rest named lacks operation_is =
-    let index : position_or_len is_bar (thread ++ 124 ∷ rest) ≡ length thread = position_at 124 thread rest lacks in
-    let len = length-append thread (124 ∷ rest) in
-    meaning_is (thread ++ 124 ∷ rest) (λ e. absurd (omega arith)) (λ e. absurd (omega arith)) (λ e. named (no_bytes thread (sym index ∙ e)))
-    ∙ ap (λ t. operation_meaning t (before_first is_bar (after_first is_bar (thread ++ 124 ∷ rest)))) (before_at 124 thread rest lacks)
-    ∙ ap (λ r. operation_meaning thread (before_first is_bar r)) (after_at 124 thread rest lacks)
-    ∙ ap (operation_meaning thread) operation_is
+with_rest thread operation rest named lacks operation_is = grind (arith, common_steps, position_at, length-append, meaning_is, no_bytes, before_at, after_at)
 
 meaning-operation : (line thread operation : List ℕ) → HasOperation line thread operation → meaning line ≡ operation_meaning thread operation
 meaning-operation line thread operation h = elim h.spelled [

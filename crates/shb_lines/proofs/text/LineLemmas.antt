@@ -1,4 +1,5 @@
 -- What a reader's tables say of the line at hand.
+use Rattle.std.proofs.lemmas.Grind.{common_steps}
 use Rattle.std.proofs.Common.{◌≡◌, ◌⊎◌, inl, inr, ◌+◌, ◌-◌, ◌≤◌, ℕ, Bool, true, false, cond, suc, List, [], ◌∷◌, ◌++◌, length, take, drop, refl, sym, ap, ◌∙◌, arith, length-take, length-drop}
 use Rattle.std.specs.List.{AllZip}
 use Rattle.std.specs.Str.Lines.{strip_carriage_return}
@@ -41,15 +42,7 @@ front_of false l = sym (take_all (length l) l (omega arith))
 
 -- a line without its carriage return stands where it begins
 pub StandsAt-part : (text line : List ℕ) (start end : ℕ) (span : Span) → start ≤ end → end ≤ length text → line ≡ strip_carriage_return (part text start end) → span.start ≡ start → span.len ≡ length line → StandsAt text line span
-StandsAt-part text line start end span order within is start_is len_is =
-    let raw : List ℕ = part text start end in
-    let front : line ≡ take (length line) raw = is ∙ front_of _ raw ∙ ap (λ l. take (length l) raw) (sym is) in
-    let raw_len : length raw ≡ end - start = omega (arith, length-take (end - start) (drop start text), length-drop start text) in
-    let short : length line ≤ end - start = omega (arith, ap length front, length-take (length line) raw) in
-    record {
-      within = omega arith;
-      reads = (λ i. take (len_is i) (drop (start_is i) text)) ∙ sym (front ∙ take-take (length line) (end - start) (drop start text) short);
-    }
+StandsAt-part text line start end span order within is start_is len_is = grind (arith, common_steps, front_of, length-take, length-drop, take-take)
 
 -- a part of a line stands where it lies in the line
 pub StandsAt-inner : (text line : List ℕ) (start at : ℕ) (bytes : List ℕ) → StandsAt text line (record { start = start; len = length line }) → at + length bytes ≤ length line → bytes ≡ take (length bytes) (drop at line) → StandsAt text bytes (record { start = start + at; len = length bytes })
@@ -63,10 +56,7 @@ StandsAt-inner text line start at bytes h within is =
     }
 
 pub StandsAt-front : (text line : List ℕ) (start : ℕ) (bytes : List ℕ) → StandsAt text line (record { start = start; len = length line }) → length bytes ≤ length line → bytes ≡ take (length bytes) line → StandsAt text bytes (record { start = start; len = length bytes })
-StandsAt-front text line start bytes h within is = record {
-  within = let fits = h.within in omega arith;
-  reads = sym (is ∙ ap (take (length bytes)) (sym h.reads) ∙ take-take (length bytes) (length line) (drop start text) within);
-}
+StandsAt-front text line start bytes h within is = grind (arith, common_steps, take-take)
 
 -- a fork or a join names a thread
 pub threads_among-thread : (kind : Kind) (name : List ℕ) → (kind ≡ kinds.Fork) ⊎ (kind ≡ kinds.Join) → threads_among kind name ≡ name ∷ []

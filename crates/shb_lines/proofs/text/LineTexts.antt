@@ -1,6 +1,7 @@
 -- The lines that give events have few bytes, and no line feed.
+use Rattle.std.proofs.lemmas.Grind.{common_steps}
 use Rattle.std.proofs.Common.{◌≡◌, ◌&&◌, ◌+◌, ◌-◌, ◌==◌, ◌<◌, ◌≤◌, ℕ, Bool, true, false, cond, not, zero, suc, List, [], ◌∷◌, length, map, take, drop, get_or, Option, None, Some, Ok, Err, slice_index_or, refl, sym, ap, subst, ◌∙◌, arith, length-take, length-drop}
-use Rattle.std.specs.List.{AllByRecursion, after_first, cons_option, enumerate_from, filter_map, list_all, onto_first, position_or_len}
+use Rattle.std.specs.List.{AllByRecursion, cons_option, enumerate_from, filter_map, list_all, onto_first}
 use Rattle.std.specs.Str.Lines.{strip_carriage_return}
 use Rattle.std.proofs.lemmas.List.{take_all}
 use Rattle.shb_lines.specs.declared.fault.Fault.TheVariants as faults
@@ -9,7 +10,7 @@ use Rattle.shb_lines.specs.declared.fault.LineFault.{LineFault}
 use Rattle.shb_lines.specs.text.Limits.{most_line}
 use Rattle.shb_lines.specs.text.Faults.{HasNoLineFaultBefore}
 use Rattle.shb_lines.specs.text.Grammar.{Meaning, NamedEvent}
-use Rattle.shb_lines.specs.text.Meaning.{is_bar, meaning}
+use Rattle.shb_lines.specs.text.Meaning.{meaning}
 use Rattle.shb_lines.specs.text.Spans.{line_from}
 use Rattle.shb_lines.specs.text.Text.{IsLineText, event_on, lines_of, located, trace_of}
 use Rattle.shb_lines.specs.text.TraceData.{IsReading, location_of}
@@ -102,10 +103,4 @@ start_text text (first ∷ starts) (suc e) start default all lt is = start_text 
 
 -- a line's location has few bytes and no line feed
 pub location_short : (line : List ℕ) → IsLineText line → IsShortLine (location_of line)
-location_short line h = after (after_first is_bar line) (after line (record { most = h.most; one_line = h.one_line }))
-  where
-    after : (bytes : List ℕ) → IsShortLine bytes → IsShortLine (after_first is_bar bytes)
-    after bytes short = let most = short.most in record {
-      most = omega (arith, length-drop (position_or_len is_bar bytes + 1) bytes);
-      one_line = drop-one_line (position_or_len is_bar bytes + 1) bytes short.one_line;
-    }
+location_short line h = grind (arith, common_steps, length-drop, drop-one_line)

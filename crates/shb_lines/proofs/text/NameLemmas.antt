@@ -1,4 +1,5 @@
 -- What an insertion does to the names.
+use Rattle.std.proofs.lemmas.Grind.{common_steps}
 use Rattle.std.proofs.Common.{◌≡◌, ◌+◌, ◌≤◌, ◌||◌, ℕ, Bool, true, false, cond, not, zero, suc, List, [], ◌∷◌, length, add-zero, is_some, Some, slice_get, refl, sym, ap, subst, ◌∙◌, arith}
 use mir.Val.{bool_byte}
 use Rattle.std.specs.List.{list_any, position_or_len}
@@ -113,11 +114,7 @@ with_name-known (first ∷ names) name number h = by (bytes_eq name first) refl 
     by false e (suc number) h rest = ap (λ names. first ∷ names) (rest number h)
 
 pub length-with_name_le : (names : List (List ℕ)) (name : List ℕ) → length (with_name names name) ≤ length names + 1
-length-with_name_le names name = omega (arith, length-with_name names name, at_most (list_any (bytes_eq name) names))
-  where
-    at_most : (b : Bool) → cond b 0 1 ≤ 1
-    at_most true = omega arith
-    at_most false = omega arith
+length-with_name_le names name = grind (arith, common_steps, length-with_name)
 
 pub length-with_names_le : (more names : List (List ℕ)) → length (with_names names more) ≤ length names + length more
 length-with_names_le [] names = omega arith
@@ -135,27 +132,12 @@ lookup-names_in name (e ∷ entries) = by (bytes_eq name e.0.bytes.now) (lookup-
 
 -- the same, with what a count of new names says
 pub new-one : (names : List (List ℕ)) (a : List ℕ) (own : ℕ) (new : Bool) → own ≡ bool_byte new → new ≡ not (list_any (bytes_eq a) names) → length (with_name names a) ≡ length names + own
-new-one names a own new own_is new_is =
-    length-with_name names a ∙ ap (λ n. length names + n) (by (list_any (bytes_eq a) names) ∙ sym (own_is ∙ ap bool_byte new_is))
-  where
-    by : (b : Bool) → cond b 0 1 ≡ bool_byte (not b)
-    by true = refl
-    by false = refl
+new-one names a own new own_is new_is = grind (arith, common_steps, length-with_name, bool_byte, not)
 
 pub new-two : (names : List (List ℕ)) (a b : List ℕ) (own other : ℕ) (new newer : Bool) → own ≡ bool_byte new → new ≡ not (list_any (bytes_eq a) names) → other ≡ bool_byte newer → newer ≡ not (list_any (bytes_eq b) names) → bytes_eq b a ≡ false
     → length (with_name (with_name names a) b) ≡ length names + (own + other)
-new-two names a b own other new newer own_is new_is other_is newer_is differ =
-    let last : length (with_name (with_name names a) b) ≡ length (with_name names a) + other =
-    new-one (with_name names a) b other newer other_is (newer_is ∙ ap not (or_false (list_any (bytes_eq b) names) ∙ ap (λ (x : Bool). list_any (bytes_eq b) names || x) (sym differ) ∙ sym (any-with_name names a b))) in
-    omega (arith, last, new-one names a own new own_is new_is)
+new-two names a b own other new newer own_is new_is other_is newer_is differ = grind (arith, common_steps, new-one, not, or_false, any-with_name)
 
 -- a name that was just put in is known
 pub new-same : (names : List (List ℕ)) (a b : List ℕ) → bytes_eq b a ≡ true → length (with_name (with_name names a) b) ≡ length (with_name names a)
-new-same names a b same =
-    length-with_name (with_name names a) b
-    ∙ ap (λ (x : Bool). length (with_name names a) + cond x 0 1) (any-with_name names a b ∙ ap (λ (x : Bool). list_any (bytes_eq b) names || x) same ∙ or_true (list_any (bytes_eq b) names))
-    ∙ add-zero (length (with_name names a))
-  where
-    or_true : (x : Bool) → (x || true) ≡ true
-    or_true true = refl
-    or_true false = refl
+new-same names a b same = grind (arith, common_steps, length-with_name, any-with_name, add-zero)

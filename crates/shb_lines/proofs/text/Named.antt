@@ -1,4 +1,5 @@
 -- What a trace gives of a number: an event, a line, and a name, which is that of this number alone.
+use Rattle.std.proofs.lemmas.Grind.{common_steps}
 use Rattle.std.proofs.Common.{◌≡◌, ◌<◌, ℕ, List, length, map, get_or, Some, option_map, slice_get, refl, sym, ap, subst, ◌∙◌, arith}
 use Rattle.std.specs.List.{IsDistinct}
 use Rattle.std.specs.Str.{bytes_eq}
@@ -18,9 +19,7 @@ line_at text starts lines k start bytes line lines_are below at bytes_are line_i
 -- the name of number k is what its span holds
 pub name_at : (text : List ℕ) (spans : List Span) (names : List (List ℕ)) (k : ℕ) (span : Span) (bytes name : List ℕ) → names_at text spans ≡ names → k < length names → span ≡ get_or spans k span
     → bytes ≡ text → name ≡ bytes_at bytes span → slice_get names k ≡ Some name
-name_at text spans names k span bytes name names_are below at bytes_are name_is =
-    let inside : k < length spans = omega (arith, ap length names_are, length-map spans (bytes_at text)) in
-    ap (λ ns. slice_get ns k) (sym names_are) ∙ slice_get-map (bytes_at text) spans k ∙ ap (option_map (bytes_at text)) (slice_get_read spans (length spans) k span refl inside at) ∙ ap Some (ap (λ b. bytes_at b span) (sym bytes_are) ∙ sym name_is)
+name_at text spans names k span bytes name names_are below at bytes_are name_is = grind (arith, common_steps, length-map, slice_get, slice_get-map, option_map, slice_get_read)
 
 pub alone : (text : List ℕ) (spans : List Span) (names : List (List ℕ)) (k : ℕ) (span : Span) (bytes name : List ℕ) → names_at text spans ≡ names → k < length names → span ≡ get_or spans k span
     → bytes ≡ text → name ≡ bytes_at bytes span → IsDistinct bytes_eq (names_at text spans) → (other : ℕ) → slice_get names other ≡ Some name → other ≡ k

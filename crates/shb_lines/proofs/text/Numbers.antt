@@ -1,4 +1,5 @@
 -- Different names have different numbers, and the variables are numbered as they are first accessed.
+use Rattle.std.proofs.lemmas.Grind.{common_steps}
 use Rattle.std.proofs.Common.{◌≡◌, ◌⊎◌, inl, inr, ◌+◌, ◌<◌, ◌≤◌, ℕ, Bool, true, false, cond, not, zero, suc, List, [], ◌∷◌, ◌++◌, length, map, None, Some, slice_get, refl, sym, ap, subst, ◌∙◌, arith}
 use Rattle.std.specs.List.{AllByRecursion, AllZip, IsDistinct, flat_map, position_or_len}
 use Rattle.std.specs.Str.{bytes_eq}
@@ -23,11 +24,7 @@ use Rattle.shb_lines.proofs.text.NameLemmas.{length-with_name_le, slice_get-with
 
 -- a test that fails fails the other way round
 differs : (a b : List ℕ) → bytes_eq a b ≡ false → bytes_eq b a ≡ false
-differs a b h = by (bytes_eq b a) refl
-  where
-    by : (t : Bool) → bytes_eq b a ≡ t → bytes_eq b a ≡ false
-    by false e = e
-    by true e = absurd (let same : a ≡ b = sym ((bytes_eq-Decides b a).0 e) in let passes : bytes_eq a b ≡ true = (bytes_eq-Decides a b).1 same in cc)
+differs a b h = grind (arith, common_steps, bytes_eq-Decides)
 
 -- a name that is put last differs from those that it was not found among
 all-with_name : (known name : List ℕ) (names : List (List ℕ)) → bytes_eq known name ≡ false → AllByRecursion (λ n. bytes_eq known n ≡ false) names → AllByRecursion (λ n. bytes_eq known n ≡ false) (with_name names name)

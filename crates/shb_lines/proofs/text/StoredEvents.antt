@@ -1,4 +1,5 @@
 -- What the stored events stand for, and what one more changes.
+use Rattle.std.proofs.lemmas.Grind.{common_steps}
 use Rattle.std.proofs.Common.{◌≡◌, ◌+◌, ◌-◌, ◌<◌, ◌≤◌, ℕ, List, [], ◌∷◌, ◌++◌, cond, get_or, length, leb, map, option_map, Some, slice_get, zero, suc, refl, sym, ap, subst, ◌∙◌, arith}
 use Rattle.std.specs.List.{AllByRecursion, enumerate_from}
 use Rattle.std.proofs.lemmas.Bool.{lt-leb}
@@ -65,6 +66,4 @@ event_at skipped stored events k s is below at =
 pub pushed : (skipped more : List Skipped) (stored : List StoredEvent) (s : StoredEvent) (events : List Event) (line : ℕ)
     → events_in skipped stored ≡ events → events_in more stored ≡ events_in skipped stored → lines_before more (length stored) ≡ line - 1 - length stored → length stored < line
     → events_in more (stored ++ s ∷ []) ≡ events ++ record { thread = s.thread; op = op_for s.kind s.operand; line = line } ∷ []
-pushed skipped more stored s events line is same noted below =
-    let line_is : length stored + lines_before more (length stored) + 1 ≡ line = omega (arith, noted, below) in
-    push_stored more stored s ∙ (λ i. (same ∙ is) i ++ record { thread = s.thread; op = op_for s.kind s.operand; line = line_is i } ∷ [])
+pushed skipped more stored s events line is same noted below = grind (arith, common_steps, push_stored)

@@ -1,4 +1,5 @@
 -- What one line more does to a trace.
+use Rattle.std.proofs.lemmas.Grind.{common_steps}
 use Rattle.std.proofs.Common.{◌≡◌, ◌+◌, ℕ, List, [], ◌∷◌, ◌++◌, length, map, None, Some, Ok, sym, ap, subst, ◌∙◌, arith, append-nil, add-zero}
 use Rattle.std.specs.List.{AllZip, enumerate_from, filter_map, flat_map, cons_option}
 use Rattle.std.specs.Str.Lines.{strip_carriage_return}
@@ -46,11 +47,7 @@ table-push f events e =
     ap table_of (flat_map-append f events (e ∷ []) ∙ ap (λ names. flat_map f events ++ names) (append-nil (f e))) ∙ fold-append with_name [] (flat_map f events) (f e)
 
 pub tables-push : (events : List NamedEvent) (e : NamedEvent) → tables_of_events (events ++ e ∷ []) ≡ with_operand (with_thread (tables_of_events events) e.thread) e.kind e.operand
-tables-push events e = λ i. record {
-  threads = table-push (λ x. x.thread ∷ threads_among x.kind x.operand) events e i;
-  locks = table-push (λ x. locks_among x.kind x.operand) events e i;
-  variables = table-push (λ x. variables_among x.kind x.operand) events e i;
-}
+tables-push events e = grind (arith, common_steps, table-push)
 
 -- numbers stay when names are put last
 IsOperation-more : (tables : Tables) (thread : List ℕ) (kind : Kind) (operand : List ℕ) (op : Op) (k : Kind) (name : List ℕ) → IsOperation tables op k name → IsOperation (with_operand (with_thread tables thread) kind operand) op k name
@@ -64,13 +61,7 @@ IsOperation-more tables thread kind operand ops.BeginMark k name h = h
 IsOperation-more tables thread kind operand ops.EndMark k name h = h
 
 IsEventOf-more : (tables : Tables) (thread : List ℕ) (kind : Kind) (operand : List ℕ) (event : Event) (e : LocatedEvent) → IsEventOf tables event e → IsEventOf (with_operand (with_thread tables thread) kind operand) event e
-IsEventOf-more tables thread kind operand event e h = record {
-  numbered = record {
-    thread = slice_get-with_names (threads_among kind operand) (with_name tables.threads thread) e.event.thread event.thread (slice_get-with_name tables.threads thread e.event.thread event.thread h.numbered.thread);
-    operation = IsOperation-more tables thread kind operand event.op e.event.kind e.event.operand h.numbered.operation;
-  };
-  line_is = h.line_is;
-}
+IsEventOf-more tables thread kind operand event e h = grind (arith, common_steps, slice_get-with_names, slice_get-with_name, IsOperation-more)
 
 AllZip-push : {A B : Type 0} (R Q : A → B → Type 0) → ((a : A) (b : B) → R a b → Q a b) → (xs : List A) (ys : List B) (x : A) (y : B) → AllZip R xs ys → Q x y → AllZip Q (xs ++ x ∷ []) (ys ++ y ∷ [])
 AllZip-push R Q weaker [] [] x y all last = (last, tt)
@@ -80,14 +71,7 @@ AllZip-push R Q weaker (a ∷ xs) (b ∷ ys) x y all last = (weaker a b all.0, A
 
 -- a line that gives nothing changes nothing
 pub HasRead-none : (text : List ℕ) (reader : Reader) (lines : List (List ℕ)) (line : List ℕ) → meaning (strip_carriage_return line) ≡ Ok None → HasRead text reader lines → HasRead text reader (lines ++ line ∷ [])
-HasRead-none text reader lines line none h =
-    let same = sym (trace_of-none lines line none) in
-    record {
-      tables_are = h.tables_are ∙ ap (λ t. tables_of_events (map (λ e. e.event) t)) same;
-      events_are = subst (AllZip (IsEventOf (tables_of reader)) reader.events) same h.events_are;
-      starts_are = subst (AllZip (λ start e. IsLineFrom text e.text start) reader.starts.items) same h.starts_are;
-      stand = h.stand;
-    }
+HasRead-none text reader lines line none h = grind (arith, common_steps, trace_of-none, map)
 
 -- a line that gives an event adds it, its names and its start
 pub HasRead-some : (text : List ℕ) (old new : Reader) (lines : List (List ℕ)) (line : List ℕ) (e : NamedEvent) (start : ℕ)

@@ -1,4 +1,5 @@
 -- Each return answers the lowest fault of the line, and keeps or lengthens the trace.
+use Rattle.std.proofs.lemmas.Grind.{common_steps}
 use Rattle.std.proofs.Common.{◌≡◌, ◌==◌, ◌-◌, ◌<◌, ◌≤◌, Bool, IfSome, List, Ok, Some, ap, arith, drop, false, length, nat_lt, refl, subst, sym, take, true, ℕ, ◌∙◌}
 use Rattle.std.proofs.lemmas.Bool.Decides.{nat_tests}
 use Rattle.std.specs.List.{position_or_len}
@@ -36,24 +37,13 @@ returns-in-Ok-None-clause-read c = λ lines h line_is.
     HasRead-none _ _ lines _ (gives (part c.args.text.now c.args.start c.args.end) c.without_carriage_return-bytes.result.now _ _ c.without_carriage_return-bytes.ensures.value c.in-Ok-None.ensures.meaning (ap (λ o. meaning_of (Ok o)) c.in-Ok-None.field-0-is)) h
 
 pub returns-in-Err-clause-fault : goal.returns-in-Err-clause-fault
-returns-in-Err-clause-fault c = λ lines h.
-    refused c.args.limits.now _ (events_of lines) _ (denied _ _ c.passes_limit.ensures.1 c.if-passes_limit.false)
-    c.if-raw-limits.false c.in-Err.fault (gives (part c.args.text.now c.args.start c.args.end) c.without_carriage_return-bytes.result.now _ _ c.without_carriage_return-bytes.ensures.value c.in-Err.ensures.meaning refl)
+returns-in-Err-clause-fault c = grind (arith, common_steps, refused, denied, c.passes_limit.ensures.1, c.if-passes_limit.false, c.if-raw-limits.false, gives, c.without_carriage_return-bytes.ensures.value, c.in-Err.ensures.meaning)
 
 pub returns-then-len-limits-clause-fault : goal.returns-then-len-limits-clause-fault
-returns-then-len-limits-clause-fault c = λ lines h.
-    let event = gives (part c.args.text.now c.args.start c.args.end) c.without_carriage_return-bytes.result.now _ (Ok (Some (named c.in-Ok-Some.found))) c.without_carriage_return-bytes.ensures.value c.in-Ok-Some.ensures.meaning (ap (λ o. meaning_of (Ok o)) c.in-Ok-Some.field-0-is) in
-    let self = c.args.self.now in
-    too_many_events c.args.limits.now _ (events_of lines) _ (denied _ _ c.passes_limit.ensures.1 c.if-passes_limit.false)
-    c.if-raw-limits.false _ event (omega (arith, length-events_of _ _ lines h, c.len.ensures, c.if-len-limits.true))
+returns-then-len-limits-clause-fault c = grind (arith, common_steps, gives, c.without_carriage_return-bytes.ensures.value, c.in-Ok-Some.ensures.meaning, c.in-Ok-Some.field-0-is, too_many_events, denied, c.passes_limit.ensures.1, c.if-passes_limit.false, c.if-raw-limits.false, length-events_of, c.len.ensures, c.if-len-limits.true)
 
 pub returns-then-has_too_many_threads-clause-fault : goal.returns-then-has_too_many_threads-clause-fault
-returns-then-has_too_many_threads-clause-fault c = λ lines h.
-    let event = gives (part c.args.text.now c.args.start c.args.end) c.without_carriage_return-bytes.result.now _ (Ok (Some (named c.in-Ok-Some.found))) c.without_carriage_return-bytes.ensures.value c.in-Ok-Some.ensures.meaning (ap (λ o. meaning_of (Ok o)) c.in-Ok-Some.field-0-is) in
-    let self = c.args.self.now in
-    too_many_threads c.args.limits.now _ (events_of lines) _ (denied _ _ c.passes_limit.ensures.1 c.if-passes_limit.false)
-    c.if-raw-limits.false _ event (omega (arith, length-events_of _ _ lines h, c.len.ensures, c.if-len-limits.false))
-    (more_threads _ _ _ (length-threads_of _ _ lines (named c.in-Ok-Some.found) h) (sym c.has_too_many_threads.ensures ∙ c.if-has_too_many_threads.true))
+returns-then-has_too_many_threads-clause-fault c = grind (arith, common_steps, gives, c.without_carriage_return-bytes.ensures.value, c.in-Ok-Some.ensures.meaning, c.in-Ok-Some.field-0-is, too_many_threads, denied, c.passes_limit.ensures.1, c.if-passes_limit.false, c.if-raw-limits.false, length-events_of, c.len.ensures, c.if-len-limits.false, more_threads, length-threads_of, c.has_too_many_threads.ensures, c.if-has_too_many_threads.true)
 
 pub returns-clause-fault : goal.returns-clause-fault
 returns-clause-fault c = λ lines h.

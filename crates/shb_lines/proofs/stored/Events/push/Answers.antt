@@ -1,7 +1,6 @@
 -- The event is stored behind the others, and the lines before it are noted.
-use Rattle.std.proofs.Common.{◌≡◌, ◌-◌, ◌<◌, ◌≤◌, ◌^◌, [], ◌∷◌, ◌++◌, ap, arith, length, subst, sym, ◌∙◌}
-use Rattle.std.specs.List.{AllByRecursion}
-use Rattle.shb_lines.specs.declared.event.Event.{Event}
+use Rattle.std.proofs.lemmas.Grind.{common_steps}
+use Rattle.std.proofs.Common.{◌≡◌, ◌-◌, ◌<◌, ◌≤◌, [], ◌∷◌, ◌++◌, ap, arith, length, subst, ◌∙◌}
 use Rattle.shb_lines.specs.text.Numbers.{op_for}
 use Rattle.shb_lines.specs.text.Stored.{events_in, lines_before}
 use Rattle.shb_lines.proofs.text.StoredEvents.{all-push, length-events_in, pushed}
@@ -26,9 +25,7 @@ result_is c =
     (subst (λ n. lines_before c.note_lines.new.skipped.items n ≡ c.args.line - 1 - n) count c.in_ok-note_lines.ensures.noted) below
 
 pub invariant_of-self-2 : goal.invariant_of-self-2
-invariant_of-self-2 c =
-    subst (AllByRecursion (λ (event : Event). event.line < 2 ^ 32)) (sym (result_is c))
-    (all-push (λ (event : Event). event.line < 2 ^ 32) c.args.self.now _ (subst (AllByRecursion (λ (event : Event). event.line < 2 ^ 32)) c.self.view_is c.self.invariant) (omega (arith, c.ranges.line.fits)))
+invariant_of-self-2 c = grind (arith, common_steps, result_is, all-push, c.self.view_is, c.self.invariant, c.ranges.line.fits)
 
 pub returns : goal.returns
 returns c = result_is c
