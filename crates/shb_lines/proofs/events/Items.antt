@@ -33,10 +33,6 @@ op_known trace k op known at is = at ∙ ap (λ o. Some o) is
 pub op_other_at : (trace : List Event) (k : ℕ) (op other : Op) → op_at trace k ≡ Some op → (op ≡ other → ⊥) → op_at trace k ≢ Some other
 op_other_at trace k op other at differs is = differs (let s : Some op ≡ Some other = sym at ∙ is in cc)
 
--- what the event at an index does, and its thread
-pub op_of_item : (trace : List Event) (k : ℕ) (d : Event) (op : Op) → k < length trace → op_at trace k ≡ Some op → (get_or trace k d).op ≡ op
-op_of_item trace k d op lt h = let s : Some (get_or trace k d).op ≡ Some op = sym (op_item trace k d lt) ∙ h in cc
-
 -- the test of an edge
 pub edge_by_rule : (trace : List Event) (a b : ℕ) (d : Event) → a < b → b < length trace → is_hb_rule (get_or trace a d) (get_or trace b d) ≡ true → ShbEdge trace a b
 edge_by_rule trace a b d lt within h = happens_before (record { earlier = lt; rule = rule_from_test trace a b _ _ (slice_get-get_or trace a d (omega arith)) (slice_get-get_or trace b d within) h })

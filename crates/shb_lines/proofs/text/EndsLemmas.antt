@@ -1,5 +1,5 @@
 -- A name of up to 16 bytes is told by its ends.
-use Rattle.std.proofs.Common.{◌≡◌, ◌⊎◌, inl, inr, ◌%◌, ◌-◌, ◌<◌, ◌≤◌, ℕ, zero, suc, List, [], ◌∷◌, length, take, drop, get_or, Some, slice_get, refl, sym, ap, subst, ◌∙◌, arith}
+use Rattle.std.proofs.Common.{◌≡◌, ◌⊎◌, inl, inr, ◌-◌, ◌≤◌, ℕ, zero, suc, List, [], ◌∷◌, take, drop, Some, slice_get, refl, sym, ap, subst, ◌∙◌, arith}
 use Rattle.std.proofs.lemmas.Bool.Decides.{nat_tests}
 use Rattle.std.proofs.lemmas.List.{take-take}
 use Rattle.std.specs.Prelude.{slice_set}
@@ -28,22 +28,6 @@ covers n few = grind (arith, nat_tests)
 pub one_name : (first last len : ℕ) (a b : List ℕ) → HasEnds first last len a → HasEnds first last len b → a ≡ b
 one_name first last len a b h g =
     ends_tell (end_len len) (len - end_len len) a b (covers len h.few) (sym h.first_is ∙ g.first_is) (sym h.last_is ∙ g.last_is)
-
--- a name of one byte, and one of none
-pub one_byte : (name : List ℕ) (b : ℕ) → length name ≡ 1 → b ≡ get_or name 0 0 → b < 256 → HasEnds b b 1 name
-one_byte [] b len is small = absurd (omega arith)
-one_byte (x ∷ y ∷ name) b len is small = absurd (omega arith)
-one_byte (x ∷ []) b len is small =
-    let byte : b % 256 ≡ x = omega arith in
-    record { few = omega arith; len_is = refl; first_is = ap (λ n. n ∷ []) byte; last_is = ap (λ n. n ∷ []) byte }
-
-pub no_byte : (name : List ℕ) → length name ≡ 0 → HasEnds 0 0 0 name
-no_byte [] len = record { few = omega arith; len_is = refl; first_is = refl; last_is = refl }
-no_byte (x ∷ name) len = absurd (omega arith)
-
-pub no_byte_read : (name : List ℕ) → length name ≡ 0 → get_or name 0 0 ≡ 0
-no_byte_read [] len = refl
-no_byte_read (x ∷ name) len = absurd (omega arith)
 
 slice_get-set : {X : Type 0} (xs : List X) (i k : ℕ) (x y : X) → slice_get (slice_set xs i x) k ≡ Some y → (x ≡ y) ⊎ (slice_get xs k ≡ Some y)
 slice_get-set [] i k x y h = absurd cc
