@@ -1,5 +1,6 @@
 -- How growths of known bytes join: for callers that write in several calls.
-use Rattle.std.proofs.Common.{◌≡◌, ℕ, ◌+◌, ◌<◌, List, [], ◌++◌, length, take, drop, ◌-◌, length-drop, Option, None, Some, Result, Ok, Err, IsErrAnd, OnOk, OnErr, sym, ap, subst, ◌∙◌, append_assoc, append-nil, arith, length-append}
+use Rattle.std.proofs.lemmas.Grind.{common_steps}
+use Rattle.std.proofs.Common.{ℕ, ◌+◌, ◌<◌, List, [], ◌++◌, length, take, drop, ◌-◌, length-drop, Option, None, Some, Result, Ok, Err, IsErrAnd, OnOk, OnErr, sym, ap, subst, ◌∙◌, append_assoc, append-nil, arith, length-append}
 use Rattle.std.proofs.lemmas.List.{take_all, take-append-le}
 use Rattle.std.proofs.Math.Seq.{take-add, take-append-add, take-append_seam}
 use Rattle.std.specs.Io.KnownBytes.{Appends}
@@ -21,9 +22,7 @@ Appends-trans (Some x) (Some y) (Some z) xs ys p q = q ∙ ap (λ l. l ++ ys) p 
 
 -- the first i bytes of xs, and then n bytes of `&xs[i..]`
 pub Appends-next : (a b c : Option (List ℕ)) (i n : ℕ) (xs : List ℕ) → Appends a b (take i xs) → Appends b c (take n (take (length xs - i) (drop i xs))) → Appends a c (take (i + n) xs)
-Appends-next a b c i n xs p q =
-    let rest : take (length xs - i) (drop i xs) ≡ drop i xs = take_all (length xs - i) (drop i xs) (omega (arith, length-drop i xs)) in
-    subst (Appends a c) (ap (λ l. take i xs ++ take n l) rest ∙ sym (take-add i n xs)) (Appends-trans a b c _ _ p q)
+Appends-next a b c i n xs p q = grind (arith, common_steps, take_all, length-drop, take-add, Appends-trans)
 
 -- ---- the first of the bytes
 
@@ -66,19 +65,11 @@ Writes-err Q (Err _) a b xs is p = p
 
 -- more is to be written after what is held back
 pub HoldsBack-push : (a b : Option (List ℕ)) (rest all more : List ℕ) → HoldsBack a b rest all → HoldsBack a b (rest ++ more) (all ++ more)
-HoldsBack-push a b rest all more p = record {
-  sent = p.sent;
-  appended = p.appended;
-  joined = sym (append_assoc p.sent rest more) ∙ ap (λ l. l ++ more) p.joined;
-}
+HoldsBack-push a b rest all more p = grind (arith, common_steps, append_assoc)
 
 -- of what was held back, only `less` still is
 pub HoldsBack-trans : (a b c : Option (List ℕ)) (rest less all : List ℕ) → HoldsBack a b rest all → HoldsBack b c less rest → HoldsBack a c less all
-HoldsBack-trans a b c rest less all p q = record {
-  sent = p.sent ++ q.sent;
-  appended = Appends-trans a b c p.sent q.sent p.appended q.appended;
-  joined = append_assoc p.sent q.sent less ∙ ap (λ l. p.sent ++ l) q.joined ∙ p.joined;
-}
+HoldsBack-trans a b c rest less all p q = grind (arith, common_steps, Appends-trans, append_assoc)
 
 -- the last call writes what was held back, or the first of it
 pub HoldsBack-end : {T E : Type 0} (r : Result T E) (a b c : Option (List ℕ)) (rest all : List ℕ) → HoldsBack a b rest all → Writes b c r rest → Writes a c r all

@@ -1,5 +1,6 @@
 -- Runs that grow by one position.
-use Rattle.std.proofs.Common.{◌≡◌, ◌≢◌, ℕ, zero, suc, ◌+◌, ◌<◌, List, [], ◌∷◌, ◌++◌, length, sym, ap, ◌∙◌, arith, append_assoc, append-nil, get_or, set, All, ◌^◌, subst, take, drop}
+use Rattle.std.proofs.lemmas.Grind.{common_steps}
+use Rattle.std.proofs.Common.{◌≡◌, ◌≢◌, ℕ, zero, suc, ◌+◌, ◌<◌, List, [], ◌∷◌, ◌++◌, length, sym, ap, ◌∙◌, arith, append_assoc, append-nil, get_or, set, All, ◌^◌, take, drop}
 use Rattle.std.specs.List.{range_with_len}
 use Rattle.std.proofs.lemmas.List.Elements.{All-cons, All-nil}
 use Rattle.std.proofs.Math.Seq.{take-length}
@@ -40,11 +41,7 @@ longer_last (run ∷ next ∷ runs) (suc n) position old new long is follows fro
 
 -- one run from the first position on
 pub one_run : (count n : ℕ) (runs : List Run) → runs ≡ record { first = 0; len = count } ∷ [] → n ≡ count → count < 2 ^ 32 → (n ≡ length (positions_in runs)) × All EndsInRange runs × AreApart runs
-one_run count n runs is same small = (
-  same ∙ sym (length-range_with_len 0 count) ∙ ap length (sym (append-nil (range_with_len 0 count))) ∙ ap (λ (l : List Run). length (positions_in l)) (sym is),
-  subst (λ (l : List Run). All EndsInRange l) (sym is) (All-cons EndsInRange (record { first = 0; len = count }) [] (omega (arith, small)) (All-nil EndsInRange)),
-  subst (λ (l : List Run). AreApart l) (sym is) tt,
-)
+one_run count n runs is same small = grind (arith, common_steps, length-range_with_len, append-nil, All, All-cons, All-nil)
 
 -- the last run grows: where runs begin is as before
 pub longer_apart : (runs : List Run) (n : ℕ) (old new : Run) → length runs ≡ n + 1 → old ≡ get_or runs n old → new.first ≡ old.first → AreApart runs → AreApart (set runs n new)
