@@ -293,7 +293,7 @@ class Sizes(program.Case):
         self.expect(program.run(["races"], text), 0, without_races(MOST_EVENTS, 1, 0, MOST_EVENTS))
 
     def test_the_most_locks(self):
-        """Their names are longer than those that are told by their ends."""
+        """Their names are longer than those that are hashed at once."""
         text = b"".join(b"T|acq(a lock that has number %d)\n" % k for k in range(MOST_EVENTS))
         self.expect(program.run(["races"], text), 0, without_races(MOST_EVENTS, 1, MOST_EVENTS, 0))
 

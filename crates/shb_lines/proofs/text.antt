@@ -2,7 +2,6 @@
 pub mod Bytes
 pub mod Meanings
 pub mod NameLemmas
-pub mod EndsLemmas
 pub mod TraceLemmas
 pub mod FaultLemmas
 pub mod LineLemmas

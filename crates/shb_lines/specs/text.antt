@@ -11,7 +11,6 @@ pub mod Messages
 pub mod TraceData
 pub mod Taking
 -- what the reader and the trace hold
-pub mod Ends
 pub mod Hashing
 pub mod Spans
 pub mod Reader

@@ -11,14 +11,17 @@ ghost use Rattle.std.specs.Prelude.{◌≡◌, ◌+◌, ◌<◌, ◌≤◌, [], 
 ghost use Rattle.std.specs.Cmp.{on_equiv, on_per, partial_equiv_from_equiv};
 ghost use Rattle.std.specs.Cmp.Lexicographic.{nat_list_eq_equiv};
 ghost use Rattle.std.specs.Hash.{same_Alike};
+ghost use Rattle.std.specs.Int.{w16, w32, w64, from_le_bytes};
 ghost use Rattle.std.specs.Str.{bytes_eq};
 ghost use Rattle.std.proofs.lemmas.Slice.Eq.{bytes_eq-Decides};
 ghost use Rattle.shb_lines.specs.text.Hashing as spec;
 
-use crate::recent::{MOST_TOLD, eight, ends_of};
 use shb_io::{NoMemory, random_keys};
 use std::hash::{BuildHasher, Hash, Hasher};
 use std::random::RandomSource;
+
+/// The longest text that is hashed at once, by its ends.
+pub const MOST_AT_ONCE: usize = 16;
 
 /// Both halves of the 128 bits of a product, joined by xor.
 #[tactic(auto, unfolding(crate::specs::text::Hashing::folded_product))]
@@ -27,6 +30,32 @@ fn folded_product(a: u64, b: u64) -> u64
 {
     let product = u128::from(a) * u128::from(b);
     (product & 0xFFFF_FFFF_FFFF_FFFF) as u64 ^ (product >> 64) as u64
+}
+
+/// Eight bytes as a word.
+fn eight(bytes: &[u8]) -> u64
+    requires { length bytes.now ≡ 8 }
+    ensures { result ≡ from_le_bytes w64 bytes.now }
+{
+    u64::from_le_bytes([
+        bytes[0], bytes[1], bytes[2], bytes[3], bytes[4], bytes[5], bytes[6], bytes[7],
+    ])
+}
+
+/// Four bytes as a word.
+fn four(bytes: &[u8]) -> u64
+    requires { length bytes.now ≡ 4 }
+    ensures { result ≡ from_le_bytes w32 bytes.now }
+{
+    u64::from(u32::from_le_bytes([bytes[0], bytes[1], bytes[2], bytes[3]]))
+}
+
+/// Two bytes as a word.
+fn two(bytes: &[u8]) -> u64
+    requires { length bytes.now ≡ 2 }
+    ensures { result ≡ from_le_bytes w16 bytes.now }
+{
+    u64::from(u16::from_le_bytes([bytes[0], bytes[1]]))
 }
 
 /// The eight bytes from an offset on, as a word.
@@ -46,14 +75,34 @@ fn with_words(bytes: &[u8], key: u64, state: u64, at: usize) -> u64
     folded_product(state ^ word_at(bytes, at), key ^ word_at(bytes, at + 8))
 }
 
+/// The first and the last bytes of a text of at most 16, as two words: together they have all of them.
+#[tactic(auto, unfolding(crate::specs::text::Hashing::first_word, crate::specs::text::Hashing::last_word))]
+fn ends_of(bytes: &[u8]) -> (u64, u64)
+    requires { length bytes.now ≤ 16 }
+    ensures first { result.0 ≡ spec.first_word bytes.now }
+    ensures last { result.1 ≡ spec.last_word bytes.now }
+{
+    let n = bytes.len();
+    if n >= 8 {
+        (eight(&bytes[..8]), eight(&bytes[n - 8..]))
+    } else if n >= 4 {
+        (four(&bytes[..4]), four(&bytes[n - 4..]))
+    } else if n >= 2 {
+        (two(&bytes[..2]), two(&bytes[n - 2..]))
+    } else {
+        let byte = if n == 1 { u64::from(bytes[0]) } else { 0 };
+        (byte, byte)
+    }
+}
+
 /// The state after at most 16 bytes: their ends have them all.
 #[tactic(auto, unfolding(crate::specs::text::Hashing::short_hash))]
 fn short_hash(state: u64, key: u64, bytes: &[u8]) -> u64
     requires { length bytes.now ≤ 16 }
     ensures { result ≡ spec.short_hash state key bytes.now }
 {
-    let ends = ends_of(bytes);
-    folded_product(state ^ ends.first, key ^ ends.last)
+    let (first, last) = ends_of(bytes);
+    folded_product(state ^ first, key ^ last)
 }
 
 /// The state after more than 16 bytes: 16 at a time, and the last 16 once more.
@@ -78,7 +127,7 @@ fn hash(state: u64, key: u64, bytes: &[u8]) -> u64
 {
     let len = bytes.len();
     let seeded = folded_product(state ^ len as u64, key);
-    if len <= MOST_TOLD {
+    if len <= MOST_AT_ONCE {
         short_hash(seeded, key, bytes)
     } else {
         long_hash(seeded, key, bytes)
