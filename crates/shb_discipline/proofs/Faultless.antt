@@ -1,4 +1,5 @@
 -- An event may come after others exactly where it has no fault.
+use Rattle.std.proofs.lemmas.Grind.{common_steps}
 use Rattle.std.proofs.Common.{◌≡◌, ℕ, ◌+◌, ◌<◌, ◌≤◌, ◌⊎◌, inl, inr, List, length, take, get_or, refl, ◌∙◌, ap, arith, subst}
 use Rattle.std.proofs.lemmas.Bool.{cases_eq, cases_lt}
 use Rattle.std.proofs.lemmas.Option.{get_or_from_slice_get}
@@ -12,11 +13,7 @@ use Rattle.shb_lines.proofs.events.Locks.{DisciplinedBelow}
 use Rattle.shb_discipline.specs.Faults.{HasDisciplineFault}
 
 none_of : (n : ℕ) → (0 < n → ⊥) → n ≡ 0
-none_of n h = go (cases_lt 0 n)
-  where
-    go : (0 < n) ⊎ (n ≤ 0) → n ≡ 0
-    go (inl some) = absurd (h some)
-    go (inr none) = omega arith
+none_of n h = grind (arith, common_steps, cases_lt)
 
 module _ (past : List Event) (e : Event) where
   module _ (clean : (f : Fault) → HasDisciplineFault past e f → ⊥) where

@@ -1,4 +1,5 @@
 -- What one event more does to what is known of locks and threads.
+use Rattle.std.proofs.lemmas.Grind.{common_steps}
 use Rattle.std.proofs.Common.{◌≡◌, ◌≢◌, ℕ, ◌+◌, ◌-◌, ◌^◌, ◌<◌, ◌≤◌, ◌⊎◌, inl, inr, Bool, true, false, List, Some, length, get_or, take, refl, sym, ◌∙◌, ap, arith, subst, get_or-set_same, get_or-set_other}
 use Rattle.std.specs.Prelude.{slice_get, count_by, cond, not, ◌==◌, ◌&&◌}
 use Rattle.std.proofs.Math.ListN.{set, length-set}
@@ -169,11 +170,7 @@ depth_few past l lock known =
 
 -- who may release a lock has it acquired
 pub depth_some : (past : List Event) (t l : ℕ) (lock : LockState) → IsLockAfter past l lock → releases (only t) l past < acquires (only t) l past → 1 ≤ lock.depth
-depth_some past t l lock known may = go (t == lock.holder) (let h = known (only t) in omega (arith, h, may))
-  where
-    go : (s : Bool) → 0 < cond s lock.depth 0 → 1 ≤ lock.depth
-    go true h = omega arith
-    go false h = absurd (omega arith)
+depth_some past t l lock known may = grind (arith, common_steps)
 
 -- operations of other kinds
 pub no_acquire : (op : Op) → ((m : ℕ) → op ≡ Acquire m → ⊥) → (l : ℕ) → op_is_acquire l op ≡ false
