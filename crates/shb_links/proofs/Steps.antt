@@ -1,4 +1,5 @@
 -- What the pass finds of one event.
+use Rattle.std.proofs.lemmas.Grind.{common_steps}
 use Rattle.std.proofs.Common.{◌≡◌, ◌≢◌, ℕ, ◌+◌, ◌<◌, ◌≤◌, ◌⊎◌, inl, inr, true, false, List, Option, Some, None, length, get_or, take, arith, subst, ap, sym, ◌∙◌}
 use Rattle.std.specs.Prelude.{count_by, slice_get}
 use Rattle.std.specs.Option.{option_or}
@@ -22,10 +23,7 @@ use Rattle.shb_lines.specs.events.Sizes.{IsWithin}
 use Rattle.shb_lines.specs.declared.event.Sizes.{Sizes}
 
 pub time_bound : (trace : List Event) (t e : ℕ) → local_time trace t e ≤ e + 1
-time_bound trace t e =
-    let all = count_by-le-length (is_of t) (take (e + 1) trace) in
-    let front = length-take {A = Event} (e + 1) trace in
-    omega (arith, all, front)
+time_bound trace t e = grind (arith, common_steps, count_by-le-length, length-take)
 
 -- the local time of an event, from the last event of its thread
 module _ (trace : List Event) (e t : ℕ) (of_e : thread_at trace e ≡ Some t) where

@@ -1,4 +1,5 @@
 -- Tables of latest positions, an event at a time.
+use Rattle.std.proofs.lemmas.Grind.{common_steps}
 use Rattle.std.proofs.Common.{◌≡◌, ℕ, ◌+◌, ◌<◌, ◌≤◌, ◌⊎◌, inl, inr, List, Option, Some, None, length, get_or, arith, subst, sym, ◌∙◌, get_or-set_same, get_or-set_other}
 use Rattle.std.proofs.Math.ListN.{set, length-set}
 use Rattle.std.proofs.lemmas.Bool.{cases_lt, cases_eq}
@@ -29,20 +30,10 @@ latest_skip P n (Some p) fails latest = record {
 
 -- the position n is the latest of t, and of no other number
 pub table_mark : (P : ℕ → ℕ → Type 0) (n size t : ℕ) (table : List (Option ℕ)) → t < size → P t n → ((u : ℕ) → P u n → u ≡ t) → IsLatestTable P n size table → IsLatestTable P (n + 1) size (set table t (Some n))
-table_mark P n size t table lt holds alone old = record {
-  as_long = length-set table t (Some n) ∙ old.as_long;
-  each = λ u within. go u within (cases_eq u t);
-}
-  where
-    go : (u : ℕ) → u < size → (u ≡ t) ⊎ (u ≡ t → ⊥) → Latest (P u) (n + 1) (get_or (set table t (Some n)) u None)
-    go u within (inl is) = rw is (rw (get_or-set_same table t (Some n) None (let long = old.as_long in omega (arith, long, lt))) (latest_here (P t) n holds))
-    go u within (inr ne) = rw (get_or-set_other table t u (Some n) None ne) (latest_skip (P u) n (get_or table u None) (λ h. ne (alone u h)) (old.each u within))
+table_mark P n size t table lt holds alone old = grind (arith, common_steps, length-set, cases_eq, set, get_or-set_same, latest_here, get_or-set_other, latest_skip)
 
 pub table_skip : (P : ℕ → ℕ → Type 0) (n size : ℕ) (table : List (Option ℕ)) → ((u : ℕ) → P u n → ⊥) → IsLatestTable P n size table → IsLatestTable P (n + 1) size table
-table_skip P n size table none old = record {
-  as_long = old.as_long;
-  each = λ u within. latest_skip (P u) n (get_or table u None) (none u) (old.each u within);
-}
+table_skip P n size table none old = grind (arith, common_steps, latest_skip)
 
 -- the thread and the operation of one event
 pub thread_alone : (trace : List Event) (e t u : ℕ) → OfThread trace t e → OfThread trace u e → u ≡ t
