@@ -1,4 +1,5 @@
 -- What the search finds, sorted, are the numbers below j that race with j.
+use Rattle.std.proofs.lemmas.Grind.{common_steps}
 use Rattle.std.proofs.Common.{◌≡◌, ◌≢◌, ℕ, ◌<◌, ◌≤◌, ◌⊎◌, inl, inr, Bool, true, false, List, Some, length, get_or, refl, arith, ap, sym, ◌∙◌}
 use Rattle.std.specs.Prelude.{◌&&◌, cond, All}
 use Rattle.std.specs.List.Sorted.{IsNonDecreasing}
@@ -54,11 +55,7 @@ pub write_at : (trace : List Event) (k x : ℕ) (op : Op) → op_at trace k ≡ 
 write_at trace k x op is_op h is = is_op ∙ ap (λ (o : Op). Some o) (write_is op x h (sym (variable_known trace k op is_op) ∙ is))
 
 pub not_write_at : (trace : List Event) (k x : ℕ) (op : Op) → op_at trace k ≡ Some op → is_write op ≡ false → op_at trace k ≢ Some (Write x)
-not_write_at trace k x op is_op reading writes =
-    let s : Some op ≡ Some (Write x) = sym is_op ∙ writes in
-    let p : op ≡ Write x = cc in
-    let g : is_write op ≡ true = rw p refl in
-    (let f : ⊥ = cc in f)
+not_write_at trace k x op is_op reading writes = grind (arith, common_steps)
 
 selected_write : (op : Op) → is_selected Writes op ≡ true → is_write op ≡ true
 selected_write (Write y) h = refl

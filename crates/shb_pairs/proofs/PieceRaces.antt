@@ -1,4 +1,5 @@
 -- Runs of accesses, and the races of a run one access at a time.
+use Rattle.std.proofs.lemmas.Grind.{common_steps}
 use Rattle.std.proofs.Common.{◌≡◌, ℕ, zero, suc, ◌+◌, ◌-◌, ◌*◌, ◌<◌, ◌≤◌, ◌⊎◌, inl, inr, Bool, true, false, List, [], ◌∷◌, ◌++◌, Some, length, get_or, take, drop, refl, arith, subst, ap, sym, ◌∙◌, add-one}
 use Rattle.std.specs.Prelude.{All, flat_map, map, min, cond, slice_range}
 use Rattle.std.specs.Int.{div_ceil}
@@ -17,7 +18,7 @@ use Rattle.shb_clocks.specs.Open.{OpenTrace, is_open}
 use Rattle.shb_pairs.specs.Pieces.{numbered_piece, first_pieces, pieces_below, pieces_in}
 use Rattle.shb_pairs.specs.Races.{piece_at, races_with, races_of, races_at}
 use Rattle.shb_pairs.proofs.ByThread.{listed_closed, listed_open}
-use Rattle.shb_pairs.proofs.Counting.{numbers_few, access_from_test, test_from_access}
+use Rattle.shb_pairs.proofs.Counting.{access_from_test, test_from_access}
 
 -- a run lies within the accesses of its variable, which is open
 pub record IsPieceOf (trace : List Event) (flags : List Bool) (p : Piece) : Type 0 where
@@ -48,10 +49,7 @@ pub no_pieces : (x : ℕ) → pieces_on x [] ≡ []
 no_pieces x = zero_pieces x 0 (div_ceil 0 64) (omega arith)
 
 pieces_of_variable : (a : OpenTrace) (x : ℕ) → x < variables_in a.trace → All (IsPieceOf a.trace a.flags) (pieces_on x (listed_accesses a x))
-pieces_of_variable a x below = elim (cases_Bool (is_open a.flags x)) [
-  | inl h ↦ subst (λ (ks : List ℕ). All (IsPieceOf a.trace a.flags) (pieces_on x ks)) (sym (listed_open a x h)) (first_within a x _ below h (omega arith))
-  | inr h ↦ subst (λ (ks : List ℕ). All (IsPieceOf a.trace a.flags) (pieces_on x ks)) (sym (listed_closed a x h)) (rw (no_pieces x) (All-nil (IsPieceOf a.trace a.flags)))
-]
+pieces_of_variable a x below = grind (arith, common_steps, cases_Bool, listed_open, first_within, listed_closed, no_pieces, All-nil)
 
 pieces_within : (a : OpenTrace) (n : ℕ) → n ≤ variables_in a.trace → All (IsPieceOf a.trace a.flags) (pieces_below a n)
 unfolding pieces_below
@@ -88,20 +86,11 @@ numbers_front f (suc n) q lt = go (cases_Bool (f n)) (cases_lt q (length (number
     go (inr e) (inr past) ih within = absurd (let size : length (numbers_where f n ++ cond (f n) (n ∷ []) []) ≡ length (numbers_where f n) = rw (e, append-nil) refl in omega (arith, size))
 
 pub race_accesses : (trace : List Event) (x i j : ℕ) → variable_at trace j ≡ Some x → is_race trace i j ≡ true → accesses_at trace x i ≡ true
-race_accesses trace x i j of_j h =
-    let race = (reflect_race trace i j).0 h in
-    let second = race.conflict.second_accesses in
-    let first = race.conflict.first_accesses in
-    test_from_access trace x i (let same : race.conflict.variable ≡ x = cc in rw (← same) first)
+race_accesses trace x i j of_j h = grind (arith, common_steps, reflect_race, test_from_access)
 
 -- one pair more
 pub pairs_pushed : (old : List (ℕ × ℕ)) (pairs : List Pair) (xs : List ℕ) (k j : ℕ) → k < length xs → map ends pairs ≡ old ++ map (λ i. (i, j)) (take k xs) → map ends (pairs ++ record { first = get_or xs k 0; second = j } ∷ []) ≡ old ++ map (λ i. (i, j)) (take (k + 1) xs)
-pairs_pushed old pairs xs k j lt so =
-    map_push ends pairs (record { first = get_or xs k 0; second = j })
-    ∙ (ap (λ (ps : List (ℕ × ℕ)). ps ++ (get_or xs k 0, j) ∷ []) so
-    ∙ (append_assoc old (map (λ i. (i, j)) (take k xs)) ((get_or xs k 0, j) ∷ [])
-    ∙ (ap (λ (ps : List (ℕ × ℕ)). old ++ ps) (sym (map_push (λ i. (i, j)) (take k xs) (get_or xs k 0)))
-    ∙ ap (λ (ns : List ℕ). old ++ map (λ i. (i, j)) ns) (sym (take_more xs k 0 lt)))))
+pairs_pushed old pairs xs k j lt so = grind (arith, common_steps, map_push, append_assoc, take_more)
 
 -- the races of a run, one access more
 pub races_more : (trace : List Event) (xs : List ℕ) (from q : ℕ) → from ≤ q → q < length xs → flat_map (races_with trace) (take ((q + 1) - from) (drop from xs)) ≡ flat_map (races_with trace) (take (q - from) (drop from xs)) ++ races_with trace (get_or xs q 0)
@@ -121,9 +110,7 @@ access_front trace x q lt =
 
 -- a run is pushed
 pub piece_pushed : (old pieces new : List Piece) (x n k m : ℕ) → new ≡ pieces ++ record { variable = x; from = 64 * k; to = 64 * k + m } ∷ [] → m ≡ min (n - 64 * k) 64 → pieces ≡ old ++ first_pieces x n k → new ≡ old ++ first_pieces x n (k + 1)
-piece_pushed old pieces new x n k m is least so =
-    let last : pieces ++ record { variable = x; from = 64 * k; to = 64 * k + m } ∷ [] ≡ pieces ++ numbered_piece x n k ∷ [] = ap (λ (l : ℕ). pieces ++ record { variable = x; from = 64 * k; to = 64 * k + l } ∷ []) least in
-    is ∙ (last ∙ (ap (λ (ps : List Piece). ps ++ numbered_piece x n k ∷ []) so ∙ (append_assoc old (first_pieces x n k) (numbered_piece x n k ∷ []) ∙ ap (λ (ps : List Piece). old ++ ps) (sym (first_more x n k)))))
+piece_pushed old pieces new x n k m is least so = grind (arith, common_steps, append_assoc, first_more)
 
 pub races_first : (trace : List Event) (xs : List ℕ) (pairs : List (ℕ × ℕ)) (from : ℕ) → pairs ≡ [] → pairs ≡ flat_map (races_with trace) (take (from - from) (drop from xs))
 races_first trace xs pairs from none = let e : from - from ≡ 0 = omega arith in none ∙ rw e refl

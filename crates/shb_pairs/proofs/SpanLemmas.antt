@@ -1,4 +1,5 @@
 -- Spans of a list of accesses by thread.
+use Rattle.std.proofs.lemmas.Grind.{common_steps}
 use Rattle.std.proofs.Common.{◌≡◌, ℕ, zero, suc, ◌<◌, ◌≤◌, ◌+◌, ◌-◌, List, [], ◌∷◌, ◌++◌, Some, Result, Ok, Err, IfOk, true, false, length, get_or, refl, arith, ap, sym, subst, ◌∙◌}
 use Rattle.std.specs.Prelude.{All, take, drop, slice_range}
 use Rattle.std.proofs.lemmas.Grind.{flat_map-append}
@@ -66,27 +67,17 @@ read_compared trace j x op list accesses does reads h = record { variable = x; a
 
 -- a span more, which may be empty
 pub span_empty : (list : List ℕ) (found : List Span) (from to : ℕ) → from ≡ to → in_spans list found ≡ in_spans list found ++ slice_range list from to
-span_empty list found from to same =
-    let none : to - from ≡ 0 = omega (arith, same) in
-    rw none (sym (append-nil (in_spans list found)))
+span_empty list found from to same = grind (arith, common_steps, append-nil)
 
 pub span_pushed : (list : List ℕ) (found new : List Span) (span : Span) → new ≡ found ++ span ∷ [] → in_spans list new ≡ in_spans list found ++ slice_range list span.from span.to
-span_pushed list found new span pushed =
-    ap (λ (ss : List Span). in_spans list ss) pushed
-    ∙ (flat_map-append (λ (s : Span). slice_range list s.from s.to) found (span ∷ [])
-    ∙ ap (λ (ys : List ℕ). in_spans list found ++ ys) (append-nil (slice_range list span.from span.to)))
+span_pushed list found new span pushed = grind (arith, common_steps, flat_map-append, append-nil)
 
 pub spans_within : (count : ℕ) (found new : List Span) (span : Span) → new ≡ found ++ span ∷ [] → span.from ≤ span.to → span.to ≤ count → All (IsSpanOf count) found → All (IsSpanOf count) new
 spans_within count found new span pushed le within each = subst (λ (ss : List Span). All (IsSpanOf count) ss) (sym pushed) (All-append (IsSpanOf count) found (span ∷ []) each (one_holds (IsSpanOf count) span (record { ordered = le; within = within })))
 
 -- the parts of the first spans, and of one more
 pub part_more : (list : List ℕ) (spans : List Span) (k : ℕ) (parts new : List Range) (firsts : List ℕ) (range : Range) (d : Span) → k < length spans → in_ranges parts ≡ in_spans list (take k spans) → firsts ≡ slice_range list (get_or spans k d).from (get_or spans k d).to → range.firsts.now ≡ firsts → new ≡ parts ++ range ∷ [] → in_ranges new ≡ in_spans list (take (k + 1) spans)
-part_more list spans k parts new firsts range d lt before is of_range pushed =
-    ap (λ (rs : List Range). in_ranges rs) pushed
-    ∙ (flat_map-append (λ (r : Range). r.firsts.now) parts (range ∷ [])
-    ∙ (ap (λ (ys : List ℕ). in_ranges parts ++ ys) (append-nil range.firsts.now ∙ (of_range ∙ is))
-    ∙ (ap (λ (ys : List ℕ). ys ++ slice_range list (get_or spans k d).from (get_or spans k d).to) before
-    ∙ sym (span_pushed list (take k spans) (take (k + 1) spans) (get_or spans k d) (take_more spans k d lt)))))
+part_more list spans k parts new firsts range d lt before is of_range pushed = grind (arith, common_steps, flat_map-append, append-nil, span_pushed, take_more)
 
 pub parts_found : {V E : Type 0} (items : V → List Range) (r : Result V E) (found target : List ℕ) → IfOk r (λ v. in_ranges (items v) ≡ found) → sorted found ≡ target → IfOk r (λ v. sorted (in_ranges (items v)) ≡ target)
 parts_found items (Ok v) found target is same = ap sorted is ∙ same

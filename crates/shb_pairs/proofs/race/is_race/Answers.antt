@@ -11,18 +11,8 @@ unordered_is_race : (trace : List Event) (i j : ℕ) (below : Bool) → i < j �
 unordered_is_race trace i j true earlier conflict is = ((λ no. absurd (let f : ⊥ = cc in f)), (λ race. absurd (race.unordered (is.0 refl))))
 unordered_is_race trace i j false earlier conflict is = ((λ yes. record { conflict = conflict; earlier = earlier; unordered = λ below. let passes = is.1 below in (let f : ⊥ = cc in f) }), (λ race. refl))
 
-below_where_no_race : (trace : List Event) (i j : ℕ) (below : Bool) → IsTrue below ↔ BelowPred trace i j → (IsTrue (not below) → ⊥) → BelowPred trace i j
-below_where_no_race trace i j true is no_race = is.0 refl
-below_where_no_race trace i j false is no_race = absurd (no_race refl)
-
 through : {A B C : Type 0} → A ↔ B → B ↔ C → A ↔ C
 through ab bc = ((λ a. bc.0 (ab.0 a)), (λ c. ab.1 (bc.1 c)))
 
-pub returns-then-conflicting-clause-race : goal.returns-then-conflicting-clause-race
-returns-then-conflicting-clause-race g c = unordered_is_race c.args.trace.now.events.now c.args.first c.args.second c.is_below_pred.result c.requires.earlier (c.events_conflict_at-conflicting.ensures.0 c.if-conflicting.true) c.is_below_pred.ensures
-
 pub returns-then-conflicting-clause-schedulable : goal.returns-then-conflicting-clause-schedulable
 returns-then-conflicting-clause-schedulable g c = through (unordered_is_race c.args.trace.now.events.now c.args.first c.args.second c.is_below_pred.result c.requires.earlier (c.events_conflict_at-conflicting.ensures.0 c.if-conflicting.true) c.is_below_pred.ensures) (race_iff_schedulable c.args.trace.now.events.now c.args.trace.now.meets c.args.first c.args.second c.requires.earlier)
-
-pub returns-then-conflicting-clause-below : goal.returns-then-conflicting-clause-below
-returns-then-conflicting-clause-below g c no_race conflict = below_where_no_race c.args.trace.now.events.now c.args.first c.args.second c.is_below_pred.result c.is_below_pred.ensures no_race
