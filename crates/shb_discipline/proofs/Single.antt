@@ -1,6 +1,6 @@
 -- A trace and a text have at most one first fault.
 use Rattle.std.proofs.lemmas.Grind.{common_steps}
-use Rattle.std.proofs.Common.{◌≡◌, ◌+◌, ◌<◌, inl, inr, ℕ, List, [], ◌∷◌, Some, get_or, take, refl, sym, ap, subst, ◌∙◌, arith}
+use Rattle.std.proofs.Common.{◌≡◌, ◌+◌, ◌<◌, inl, inr, ℕ, List, [], ◌∷◌, Some, get_or, take, sym, ap, subst, ◌∙◌, arith}
 use Rattle.std.specs.Prelude.{slice_get}
 use Rattle.std.proofs.lemmas.Bool.{cases_order}
 use Rattle.shb_lines.specs.declared.event.Event.{Event}
@@ -21,22 +21,7 @@ by_number =
     ∷ faults.AfterJoin ∷ faults.LockHeld ∷ faults.TextTooLong ∷ faults.NotHeld ∷ faults.ForkSelf ∷ faults.ForkStarted ∷ faults.ForkTwice ∷ faults.ForkJoined ∷ faults.JoinSelf ∷ []
 
 found : (f : Fault) → get_or by_number (number_of f) faults.TextTooLong ≡ f
-found faults.TextTooLong = refl
-found faults.LineTooLong = refl
-found faults.MissingField = refl
-found faults.EmptyThread = refl
-found faults.UnknownOperation = refl
-found faults.BadOperand = refl
-found faults.TooManyEvents = refl
-found faults.TooManyThreads = refl
-found faults.AfterJoin = refl
-found faults.LockHeld = refl
-found faults.NotHeld = refl
-found faults.ForkSelf = refl
-found faults.ForkStarted = refl
-found faults.ForkTwice = refl
-found faults.ForkJoined = refl
-found faults.JoinSelf = refl
+found x0 = grind (arith, common_steps)
 
 one_lowest : (Has : Fault → Type 0) (f g : Fault) → IsLowest number_of Has (Some f) → IsLowest number_of Has (Some g) → f ≡ g
 one_lowest Has f g low_f low_g = grind (arith, common_steps, found)
