@@ -48,7 +48,7 @@ module _ (past : List Event) (e : Event) where
   fork_allowed may u is = allowed may (Fork u) is
 
   pub no_fault : MayCome past e → (f : Fault) → HasDisciplineFault past e f → ⊥
-  no_fault x0 x1 x2 = grind (arith, common_steps, allowed, fork_allowed)
+  no_fault h f also = grind (arith, common_steps, allowed, fork_allowed)
 
 -- one more event that may come
 pub disciplined_more : (trace : List Event) (k : ℕ) (d : Event) → k < length trace → DisciplinedBelow trace k → MayCome (take k trace) (get_or trace k d) → DisciplinedBelow trace (k + 1)

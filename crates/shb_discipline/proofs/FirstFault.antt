@@ -47,10 +47,10 @@ past_append (z ∷ xs) ys (suc k) x le at = past_append xs ys k x (omega arith) 
 
 -- a line's faults have the lower numbers
 discipline_number : (past : List Event) (e : Event) (f : Fault) → HasDisciplineFault past e f → 9 ≤ number_of f
-discipline_number x0 x1 x2 x3 = grind (arith, common_steps)
+discipline_number past e f h = grind (arith, common_steps)
 
 line_number : (limits : Limits) (passes : Type 0) (before : List NamedEvent) (line : List ℕ) (f : Fault) → HasLineFault limits passes before line f → number_of f ≤ 8
-line_number x0 x1 x2 x3 x4 x5 = grind (arith, common_steps)
+line_number limits passes before line f h = grind (arith, common_steps)
 
 -- the trace of the first m lines
 module _ (text : List ℕ) (m : ℕ) (trace : TraceData) (h : IsTraceOf (take m (lines_of text)) trace) where

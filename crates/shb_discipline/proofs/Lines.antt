@@ -24,7 +24,7 @@ pub trace_of-split : (n : ℕ) (lines : List (List ℕ)) → trace_of lines ≡ 
 trace_of-split n lines = ap trace_of (sym (take-append-drop n lines)) ∙ located_from-append 1 (take n lines) (drop n lines)
 
 line_of_event : (n : ℕ) (text : List ℕ) (m : Meaning) (x : LocatedEvent) → located n text m ≡ Some x → x.line ≡ n
-line_of_event x0 x1 x2 x3 x4 = grind (arith, common_steps)
+line_of_event n text m x h = grind (arith, common_steps)
 
 -- the line of an event is one of these
 pub line_bounds : (n : ℕ) (lines : List (List ℕ)) (k : ℕ) (x : LocatedEvent) → slice_get (located_from n lines) k ≡ Some x → (n ≤ x.line) × (x.line < n + length lines)

@@ -155,7 +155,7 @@ module _ (events : List NamedEvent) where
   tables = tables_of_events events
 
   same_number : (kind : Kind) (name : List ℕ) (m n : ℕ) → IsNumberFor tables kind name m → IsNumberFor tables kind name n → op_for kind m ≡ op_for kind n
-  same_number x0 x1 x2 x3 x4 x5 = grind (arith, common_steps, one_number, IsDistinct-table_of)
+  same_number kind name m n h also = grind (arith, common_steps, one_number, IsDistinct-table_of)
 
   same_event : (a b : Event) (l : LocatedEvent) → IsEventOf tables a l → IsEventOf tables b l → a ≡ b
   same_event a b l of_a of_b = grind (arith, common_steps, one_number, IsDistinct-table_of, op_number, same_number)

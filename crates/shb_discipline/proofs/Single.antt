@@ -21,7 +21,7 @@ by_number =
     ∷ faults.AfterJoin ∷ faults.LockHeld ∷ faults.TextTooLong ∷ faults.NotHeld ∷ faults.ForkSelf ∷ faults.ForkStarted ∷ faults.ForkTwice ∷ faults.ForkJoined ∷ faults.JoinSelf ∷ []
 
 found : (f : Fault) → get_or by_number (number_of f) faults.TextTooLong ≡ f
-found x0 = grind (arith, common_steps)
+found f = grind (arith, common_steps)
 
 one_lowest : (Has : Fault → Type 0) (f g : Fault) → IsLowest number_of Has (Some f) → IsLowest number_of Has (Some g) → f ≡ g
 one_lowest Has f g low_f low_g = grind (arith, common_steps, found)

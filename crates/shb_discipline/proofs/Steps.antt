@@ -51,10 +51,10 @@ is_join_test u e b is = is
 
 -- w and v say whether the thread and the holder are of a set, s whether they are one
 acquire_cases : (w v s : Bool) (d : ℕ) → (s ≡ true → v ≡ w) → cond (not s) d 0 ≡ 0 → cond w 1 0 + cond v d 0 ≡ 0 + cond w (d + 1) 0
-acquire_cases x0 x1 x2 x3 x4 x5 = grind (arith, common_steps)
+acquire_cases w v s d h also = grind (arith, common_steps)
 
 release_cases : (w v s : Bool) (d : ℕ) → (s ≡ true → v ≡ w) → 0 < cond s d 0 → 0 + cond v d 0 ≡ cond w 1 0 + cond v (d - 1) 0
-release_cases x0 x1 x2 x3 x4 x5 = grind (arith, common_steps)
+release_cases w v s d h also = grind (arith, common_steps)
 
 module _ (trace : List Event) (k : ℕ) (e : Event) (at : slice_get trace k ≡ Some e) where
   pub count_more : (f : Event → Bool) → count_by f (take (k + 1) trace) ≡ count_by f (take k trace) + cond (f e) 1 0
@@ -153,16 +153,16 @@ depth_some past t l lock known may = grind (arith, common_steps)
 
 -- operations of other kinds
 pub no_acquire : (op : Op) → ((m : ℕ) → op ≡ Acquire m → ⊥) → (l : ℕ) → op_is_acquire l op ≡ false
-no_acquire x0 x1 x2 = grind (arith, common_steps)
+no_acquire op h l = grind (arith, common_steps)
 
 pub no_release : (op : Op) → ((m : ℕ) → op ≡ Release m → ⊥) → (l : ℕ) → op_is_release l op ≡ false
-no_release x0 x1 x2 = grind (arith, common_steps)
+no_release op h l = grind (arith, common_steps)
 
 pub no_fork : (op : Op) → ((m : ℕ) → op ≡ Fork m → ⊥) → (u : ℕ) → op_is_fork u op ≡ false
-no_fork x0 x1 x2 = grind (arith, common_steps)
+no_fork op h u = grind (arith, common_steps)
 
 pub no_join : (op : Op) → ((m : ℕ) → op ≡ Join m → ⊥) → (u : ℕ) → op_is_join u op ≡ false
-no_join x0 x1 x2 = grind (arith, common_steps)
+no_join op h u = grind (arith, common_steps)
 
 -- all that is known, after the event
 module _ (trace : List Event) (k : ℕ) (e : Event) (at : slice_get trace k ≡ Some e) (state : State) (covers : Covers state e) (may : MayCome (take k trace) e) (known : IsStateAfter (take k trace) state) where

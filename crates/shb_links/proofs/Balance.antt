@@ -21,8 +21,7 @@ pub record HasHolder (past : List Event) (l : ℕ) : Type 0 where
   pub balance : (who : ℕ → Bool) → acquires who l past ≡ releases who l past + cond (who holder) depth 0
 
 cond_zero : (b : Bool) → ◌≡◌ {A = ℕ} (cond b 0 0) 0
-cond_zero true = refl
-cond_zero false = refl
+cond_zero b = grind (arith, common_steps)
 
 module _ (trace : List Event) (k : ℕ) (e : Event) (at : slice_get trace k ≡ Some e) where
   -- how the counts of a lock's acquires and releases go on

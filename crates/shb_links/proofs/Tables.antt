@@ -6,11 +6,8 @@ use Rattle.std.proofs.lemmas.Bool.{cases_lt, cases_eq}
 use Rattle.std.proofs.lemmas.List.{get_or_past}
 use Rattle.std.proofs.lemmas.Option.{slice_get_within}
 use Rattle.shb_lines.specs.declared.event.Event.{Event}
-use Rattle.shb_lines.specs.declared.event.Op.{Op}
 use Rattle.shb_lines.specs.declared.event.Op.TheVariants.{Fork}
-use Rattle.shb_lines.specs.events.Events.{op_at, thread_at}
 use Rattle.shb_lines.proofs.events.Events.{event_of_op, event_of_thread}
-use Rattle.shb_lines.proofs.events.Items.{op_other_at, op_within_at, thread_within}
 use Rattle.shb_links.specs.Latest.{Latest, IsLatestTable, OfThread, ForksThread}
 use Rattle.shb_links.specs.Links.{Exactly, HasForks, HasLastEvents}
 use Rattle.shb_lines.specs.events.Sizes.{IsOpWithin, IsWithin}
@@ -38,22 +35,6 @@ table_skip P n size table none old = grind (arith, common_steps, latest_skip)
 -- the thread and the operation of one event
 pub thread_alone : (trace : List Event) (e t u : ℕ) → OfThread trace t e → OfThread trace u e → u ≡ t
 thread_alone trace e t u h g = let s : Some t ≡ Some u = sym h ∙ g in cc
-
-pub fork_alone : (trace : List Event) (e t u : ℕ) → op_at trace e ≡ Some (Fork t) → op_at trace e ≡ Some (Fork u) → u ≡ t
-fork_alone trace e t u h g = let s : Some (Fork t) ≡ Some (Fork u) = sym h ∙ g in cc
-
--- the event at e is noted as the last of its thread, and as the fork of a thread
-module _ (trace : List Event) (sizes : Sizes) (e : ℕ) (within : IsWithin trace sizes) where
-  pub thread_noted : (t : ℕ) (table : List (Option ℕ)) → thread_at trace e ≡ Some t → IsLatestTable (OfThread trace) e sizes.threads table → IsLatestTable (OfThread trace) (e + 1) sizes.threads (set table t (Some e))
-  thread_noted t table of_e old = table_mark (OfThread trace) e sizes.threads t table (thread_within trace sizes e t within of_e) of_e (λ u. thread_alone trace e t u of_e) old
-
-  pub fork_noted : (table : List (Option ℕ)) (t : ℕ) → op_at trace e ≡ Some (Fork t) → IsLatestTable (ForksThread trace) e sizes.threads table → IsLatestTable (ForksThread trace) (e + 1) sizes.threads (set table t (Some e))
-  fork_noted table t forks old =
-      let low : t < sizes.threads = op_within_at trace sizes e (Fork t) within forks in
-      table_mark (ForksThread trace) e sizes.threads t table low forks (λ u. fork_alone trace e t u forks) old
-
-  pub no_fork_noted : (table : List (Option ℕ)) (op : Op) → op_at trace e ≡ Some op → ((t : ℕ) → op ≡ Fork t → ⊥) → IsLatestTable (ForksThread trace) e sizes.threads table → IsLatestTable (ForksThread trace) (e + 1) sizes.threads table
-  no_fork_noted table op does other old = table_skip (ForksThread trace) e sizes.threads table (λ t. op_other_at trace e op (Fork t) does (other t)) old
 
 -- a table of forks over the whole trace
 pub forks_whole : (trace : List Event) (sizes : Sizes) (table : List (Option ℕ)) → IsWithin trace sizes → IsLatestTable (ForksThread trace) (length trace) sizes.threads table → HasForks trace table
