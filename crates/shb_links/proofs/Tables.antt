@@ -9,7 +9,7 @@ use Rattle.shb_lines.specs.declared.event.Event.{Event}
 use Rattle.shb_lines.specs.declared.event.Op.TheVariants.{Fork}
 use Rattle.shb_lines.proofs.events.Events.{event_of_op, event_of_thread}
 use Rattle.shb_links.specs.Latest.{Latest, IsLatestTable, OfThread, ForksThread}
-use Rattle.shb_links.specs.Links.{Exactly, HasForks, HasLastEvents}
+use Rattle.shb_links.specs.Links.{Exactly}
 use Rattle.shb_lines.specs.events.Sizes.{IsOpWithin, IsWithin}
 use Rattle.shb_lines.specs.declared.event.Sizes.{Sizes}
 
@@ -37,8 +37,8 @@ pub thread_alone : (trace : List Event) (e t u : ℕ) → OfThread trace t e →
 thread_alone trace e t u h g = let s : Some t ≡ Some u = sym h ∙ g in cc
 
 -- a table of forks over the whole trace
-pub forks_whole : (trace : List Event) (sizes : Sizes) (table : List (Option ℕ)) → IsWithin trace sizes → IsLatestTable (ForksThread trace) (length trace) sizes.threads table → HasForks trace table
-forks_whole trace sizes table within has = record { each = λ t. go t (cases_lt t sizes.threads) }
+pub forks_whole : (trace : List Event) (sizes : Sizes) (table : List (Option ℕ)) → IsWithin trace sizes → IsLatestTable (ForksThread trace) (length trace) sizes.threads table → (t : ℕ) → Exactly (ForksThread trace t) (get_or table t None)
+forks_whole trace sizes table within has t = go t (cases_lt t sizes.threads)
   where
     no_later : (t : ℕ) (o : Option ℕ) → Latest (ForksThread trace t) (length trace) o → Exactly (ForksThread trace t) o
     no_later t (Some f) latest = latest.holds
@@ -52,8 +52,8 @@ forks_whole trace sizes table within has = record { each = λ t. go t (cases_lt 
     go t (inr le) = subst (λ (o : Option ℕ). Exactly (ForksThread trace t) o) (sym (get_or_past table t None (let long = has.as_long in omega (arith, long, le)))) (absent t le)
 
 -- a table of last events over the whole trace
-pub last_whole : (trace : List Event) (sizes : Sizes) (table : List (Option ℕ)) → IsWithin trace sizes → IsLatestTable (OfThread trace) (length trace) sizes.threads table → HasLastEvents trace table
-last_whole trace sizes table within has = record { each = λ t. go t (cases_lt t sizes.threads) }
+pub last_whole : (trace : List Event) (sizes : Sizes) (table : List (Option ℕ)) → IsWithin trace sizes → IsLatestTable (OfThread trace) (length trace) sizes.threads table → (t : ℕ) → Latest (OfThread trace t) (length trace) (get_or table t None)
+last_whole trace sizes table within has t = go t (cases_lt t sizes.threads)
   where
     absent : (t : ℕ) → sizes.threads ≤ t → (k : ℕ) → k < length trace → OfThread trace t k → ⊥
     absent t le k lt of_k = let e = event_of_thread trace k t of_k in let low = (within k e.0 e.1).thread in let is = e.2 in omega (arith, low, is, le)
