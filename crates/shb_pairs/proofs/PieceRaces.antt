@@ -115,15 +115,13 @@ piece_pushed old pieces new x n k m is least so = grind (arith, common_steps, ap
 pub races_first : (trace : List Event) (xs : List ℕ) (pairs : List (ℕ × ℕ)) (from : ℕ) → pairs ≡ [] → pairs ≡ flat_map (races_with trace) (take (from - from) (drop from xs))
 races_first trace xs pairs from none = let e : from - from ≡ 0 = omega arith in none ∙ rw e refl
 
--- the run and the races of piece k
-pub piece_value : (a seen : OpenTrace) (trace : List Event) (pieces : List Piece) (k : ℕ) (piece : Piece) → a ≡ seen → a.trace ≡ trace → pieces ≡ pieces_in a → k < length (pieces_in seen) → piece ≡ piece_at pieces k
-    → IsPieceOf trace a.flags piece × (races_at seen k ≡ races_of seen.trace piece)
-unfolding races_at
-piece_value a seen trace pieces k piece same of_trace is lt found =
-    let own : piece ≡ piece_at (pieces_in seen) k = found ∙ ap (λ (ps : List Piece). piece_at ps k) (is ∙ ap (λ (b : OpenTrace). pieces_in b) same) in
-    (subst (λ (tr : List Event). IsPieceOf tr a.flags piece) of_trace (subst (λ (b : OpenTrace). IsPieceOf b.trace b.flags piece) (sym same) (subst (IsPieceOf seen.trace seen.flags) (sym own) (piece_within seen k _ lt))), ap (λ (q : Piece). races_of seen.trace q) (sym own))
+-- piece k, and its races
+pub piece_known : (a : OpenTrace) (k : ℕ) (piece : Piece) → k < length (pieces_in a) → piece ≡ piece_at (pieces_in a) k → IsPieceOf a.trace a.flags piece
+piece_known a k piece lt own = subst (IsPieceOf a.trace a.flags) (sym own) (piece_within a k _ lt)
 
--- the races of a piece, by the accesses of its run
-pub piece_races : (a : OpenTrace) (k : ℕ) (p : Piece) → races_at a k ≡ races_of a.trace p → races_at a k ≡ flat_map (races_with a.trace) (slice_range (accesses_in a.trace p.variable) p.from p.to)
-unfolding races_of
-piece_races a k p is = is
+pub piece_seen : (a seen : OpenTrace) (trace : List Event) (k : ℕ) (piece : Piece) → a ≡ seen → a.trace ≡ trace → k < length (pieces_in seen) → piece ≡ piece_at (pieces_in seen) k → IsPieceOf trace a.flags piece
+piece_seen a seen trace k piece same of_trace lt own = subst (λ (tr : List Event). IsPieceOf tr a.flags piece) of_trace (subst (λ (b : OpenTrace). IsPieceOf b.trace b.flags piece) (sym same) (piece_known seen k piece lt own))
+
+pub piece_races : (a : OpenTrace) (k : ℕ) (p : Piece) → p ≡ piece_at (pieces_in a) k → races_at a k ≡ flat_map (races_with a.trace) (slice_range (accesses_in a.trace p.variable) p.from p.to)
+unfolding races_at races_of
+piece_races a k p own = ap (λ (q : Piece). flat_map (races_with a.trace) (slice_range (accesses_in a.trace q.variable) q.from q.to)) (sym own)

@@ -79,10 +79,6 @@ spans_within count found new span pushed le within each = subst (λ (ss : List S
 pub part_more : (list : List ℕ) (spans : List Span) (k : ℕ) (parts new : List Range) (firsts : List ℕ) (range : Range) (d : Span) → k < length spans → in_ranges parts ≡ in_spans list (take k spans) → firsts ≡ slice_range list (get_or spans k d).from (get_or spans k d).to → range.firsts.now ≡ firsts → new ≡ parts ++ range ∷ [] → in_ranges new ≡ in_spans list (take (k + 1) spans)
 part_more list spans k parts new firsts range d lt before is of_range pushed = grind (arith, common_steps, flat_map-append, append-nil, span_pushed, take_more)
 
-pub parts_found : {V E : Type 0} (items : V → List Range) (r : Result V E) (found target : List ℕ) → IfOk r (λ v. in_ranges (items v) ≡ found) → sorted found ≡ target → IfOk r (λ v. sorted (in_ranges (items v)) ≡ target)
-parts_found items (Ok v) found target is same = ap sorted is ∙ same
-parts_found items (Err e) found target is same = tt
-
 -- the span of the next thread
 pub span_more : (trace : List Event) (j start end a b : ℕ) (ks part : List ℕ) (found new : List Span) → start < end → end ≤ length ks → a ≤ b → b ≤ length part → part ≡ take (end - start) (drop start ks) → take (b - a) (drop a part) ≡ racing trace j part → in_spans ks found ≡ racing trace j (take start ks) → All (IsSpanOf (length ks)) found → ((list : List ℕ) → in_spans list new ≡ in_spans list found ++ slice_range list (start + a) (start + b)) → ((count : ℕ) → start + b ≤ count → All (IsSpanOf count) found → All (IsSpanOf count) new) → (in_spans ks new ≡ racing trace j (take end ks)) × All (IsSpanOf (length ks)) new
 span_more trace j start end a b ks part found new lt within le below is races before each added all = (
