@@ -1,6 +1,6 @@
 -- Spans of a list of accesses by thread.
 use Rattle.std.proofs.lemmas.Grind.{common_steps}
-use Rattle.std.proofs.Common.{◌≡◌, ℕ, zero, suc, ◌<◌, ◌≤◌, ◌+◌, ◌-◌, List, [], ◌∷◌, ◌++◌, Some, Result, Ok, Err, IfOk, true, false, length, get_or, refl, arith, ap, sym, subst, ◌∙◌}
+use Rattle.std.proofs.Common.{◌≡◌, ℕ, zero, suc, ◌<◌, ◌≤◌, ◌+◌, ◌-◌, List, [], ◌∷◌, ◌++◌, Some, true, false, length, get_or, refl, arith, ap, sym, subst, ◌∙◌}
 use Rattle.std.specs.Prelude.{All, take, drop, slice_range}
 use Rattle.std.proofs.lemmas.Grind.{flat_map-append}
 use Rattle.std.proofs.lemmas.List.{append-nil, drop-drop, drop-take, length-take, take_more, take-take}
@@ -16,7 +16,7 @@ use Rattle.shb_pairs.specs.declared.accesses.Which.TheVariants.{Both, Writes}
 use Rattle.shb_pairs.specs.declared.ranges.Range.{Range}
 use Rattle.shb_pairs.specs.declared.spans.Span.{Span}
 use Rattle.shb_pairs.specs.Accesses.{IsByThread}
-use Rattle.shb_pairs.specs.Ranges.{in_ranges, sorted}
+use Rattle.shb_pairs.specs.Ranges.{in_ranges}
 use Rattle.shb_pairs.specs.Search.{AreRivals, racing}
 use Rattle.shb_pairs.specs.Spans.{AreComparedWith, IsSpanOf, compared_with, in_spans}
 use Rattle.shb_pairs.proofs.Tails.{racing_more}
