@@ -1,17 +1,16 @@
 -- Runs of accesses, and the races of a run one access at a time.
 use Rattle.std.proofs.lemmas.Grind.{common_steps}
 use Rattle.std.proofs.Common.{◌≡◌, ℕ, zero, suc, ◌+◌, ◌-◌, ◌*◌, ◌<◌, ◌≤◌, ◌⊎◌, inl, inr, Bool, true, false, List, [], ◌∷◌, ◌++◌, Some, length, get_or, take, drop, refl, arith, subst, ap, sym, ◌∙◌, add-one}
-use Rattle.std.specs.Prelude.{All, flat_map, map, min, cond, slice_range}
+use Rattle.std.specs.Prelude.{All, flat_map, min, cond, slice_range}
 use Rattle.std.specs.Int.{div_ceil}
 use Rattle.std.proofs.lemmas.Bool.{cases_Bool, cases_lt}
 use Rattle.std.proofs.lemmas.Grind.{flat_map-append}
-use Rattle.std.proofs.lemmas.List.{append-nil, append_assoc, length_push, get_or_append_left, get_or_push, take_at, take-append-le, take_more, map_push, length-drop, get_or-drop}
+use Rattle.std.proofs.lemmas.List.{append-nil, append_assoc, length_push, get_or_append_left, get_or_push, take_at, take-append-le, take_more, length-drop, get_or-drop}
 use Rattle.std.proofs.lemmas.List.Elements.{All-append, All-push, All-nil, Contains-get_or}
 use Rattle.shb_lines.specs.declared.event.Event.{Event}
-use Rattle.shb_lines.specs.events.Race.{variable_at, ends}
+use Rattle.shb_lines.specs.events.Race.{variable_at}
 use Rattle.shb_lines.specs.events.Reach.{numbers_where, is_race}
 use Rattle.shb_lines.proofs.events.Reach.{numbers_listed, reflect_race}
-use Rattle.shb_lines.specs.declared.event.Pair.{Pair}
 use Rattle.shb_pairs.specs.declared.piece.Piece.{Piece}
 use Rattle.shb_pairs.specs.Accesses.{accesses_at, accesses_in, listed_accesses, variables_in}
 use Rattle.shb_clocks.specs.Open.{OpenTrace, is_open}
@@ -87,10 +86,6 @@ numbers_front f (suc n) q lt = go (cases_Bool (f n)) (cases_lt q (length (number
 
 pub race_accesses : (trace : List Event) (x i j : ℕ) → variable_at trace j ≡ Some x → is_race trace i j ≡ true → accesses_at trace x i ≡ true
 race_accesses trace x i j of_j h = grind (arith, common_steps, reflect_race, test_from_access)
-
--- one pair more
-pub pairs_pushed : (old : List (ℕ × ℕ)) (pairs : List Pair) (xs : List ℕ) (k j : ℕ) → k < length xs → map ends pairs ≡ old ++ map (λ i. (i, j)) (take k xs) → map ends (pairs ++ record { first = get_or xs k 0; second = j } ∷ []) ≡ old ++ map (λ i. (i, j)) (take (k + 1) xs)
-pairs_pushed old pairs xs k j lt so = grind (arith, common_steps, map_push, append_assoc, take_more)
 
 -- the races of a run, one access more
 pub races_more : (trace : List Event) (xs : List ℕ) (from q : ℕ) → from ≤ q → q < length xs → flat_map (races_with trace) (take ((q + 1) - from) (drop from xs)) ≡ flat_map (races_with trace) (take (q - from) (drop from xs)) ++ races_with trace (get_or xs q 0)
