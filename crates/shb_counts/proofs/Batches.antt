@@ -1,4 +1,5 @@
 -- Pairs that are counted by the numbers of their locations, and why that is what counts each of them.
+use Rattle.std.proofs.lemmas.Grind.{common_steps}
 use Rattle.std.proofs.Common.{◌≡◌, ◌≢◌, ℕ, zero, suc, ◌+◌, ◌<◌, ◌≤◌, ◌&&◌, ◌++◌, Bool, true, false, cond, nat_eq, List, [], ◌∷◌, length, Option, None, Some, IfSome, is_some, get_or, take, refl, sym, ap, subst, ◌∙◌, inl, inr, arith, true≢false}
 use Rattle.std.specs.List.{AllByRecursion}
 use Rattle.std.proofs.lemmas.Bool.{cases_Bool, cases_lt}
@@ -22,15 +23,7 @@ entry key pair count = (key, record { pair = pair; count = count })
 
 -- keys are told by their numbers
 one_key : (x y : Key) → same_key x y ≡ true → x ≡ y
-one_key x y is = elim (eqb_tells x.0 y.0) [
-  | inr e ↦ absurd (true≢false (sym (ap (λ (b : Bool). b && nat_eq x.1 y.1) (sym e.0) ∙ is)))
-  | inl e ↦ (
-      let second : nat_eq x.1 y.1 ≡ true = ap (λ (b : Bool). b && nat_eq x.1 y.1) (sym e.0) ∙ is in
-      elim (eqb_tells x.1 y.1) [
-        | inl f ↦ ap (λ (a : ℕ). key_of a x.1) e.1 ∙ ap (key_of y.0) f.1
-        | inr f ↦ absurd (true≢false (sym second ∙ f.0))
-      ])
-]
+one_key x y is = grind (arith, common_steps, eqb_tells, true≢false, nat_eq)
 
 pub same_number : (a : ℕ) → nat_eq a a ≡ true
 same_number a = elim (eqb_tells a a) [ inl e ↦ e.0 | inr e ↦ absurd (e.1 refl) ]
@@ -133,10 +126,7 @@ none_after (e ∷ places) last key none other = by (same_key key e.0) none (λ h
     by false h rest = rest h
 
 other_way : (x y : Key) → same_key x y ≡ false → same_key y x ≡ false
-other_way x y h = elim (cases_Bool (same_key y x)) [
-  | inr f ↦ f
-  | inl t ↦ absurd (true≢false (sym (same_self x) ∙ ap (same_key x) (sym (one_key y x t)) ∙ h))
-]
+other_way x y h = grind (arith, common_steps, cases_Bool, true≢false, same_self, one_key)
 
 differ_last : (places : List Keyed) (last : Keyed) → Differ places → counted_of places last.0 ≡ None → Differ (places ++ last ∷ [])
 differ_last [] last differ none = (refl, tt)
@@ -165,23 +155,10 @@ more_grown key n more before now differ is = by (counted_of now key) refl
 
 -- a place that is put last with all that there will be of it
 pub new_grown : (key : Key) (pair : Pair) (n : ℕ) (more : Key → ℕ) (before now : List Keyed) → now ≡ grown more before → n ≡ more key → with_new now key (record { pair = pair; count = n }) ≡ grown more (with_new before key (record { pair = pair; count = 0 }))
-new_grown key pair n more before now is many =
-    ap (λ (l : List Keyed). with_new l key (record { pair = pair; count = n })) is
-    ∙ ap (λ (b : Bool). cond b (grown more before) (grown more before ++ entry key pair n ∷ [])) (grown_has more key before)
-    ∙ by (is_some (counted_of before key))
-  where
-    by : (b : Bool) → cond b (grown more before) (grown more before ++ entry key pair n ∷ []) ≡ grown more (cond b before (before ++ entry key pair 0 ∷ []))
-    by true = refl
-    by false =
-        let same : n ≡ 0 + more key = omega (arith, many) in
-        ap (λ (m : ℕ). grown more before ++ entry key pair m ∷ []) same ∙ sym (map-append (λ (place : Keyed). (place.0, counting place.1 (more place.0))) before (entry key pair 0 ∷ []))
+new_grown key pair n more before now is many = grind (arith, common_steps, grown_has, is_some, map-append)
 
 known_pair : (key : Key) (pair : Pair) (now : List Keyed) → is_some (counted_of now key) ≡ true → with_keyed now key pair ≡ with_more now key 1
-known_pair key pair now has = go (counted_of now key) refl has
-  where
-    go : (found : Option PlaceCount) → counted_of now key ≡ found → is_some found ≡ true → with_keyed now key pair ≡ with_more now key 1
-    go None e f = absurd (true≢false (sym f))
-    go (Some d) e f = rw e refl
+known_pair key pair now has = grind (arith, common_steps, Option, is_some, true≢false)
 
 apart : (before : List Keyed) (key k : Key) (c : PlaceCount) → counted_of before key ≡ Some c → counted_of before k ≡ None → same_key key k ≡ false
 apart before key k c is none = elim (cases_Bool (same_key key k)) [ inr f ↦ f | inl t ↦ absurd (not_some (sym none ∙ ap (counted_of before) (sym (one_key key k t)) ∙ is)) ]

@@ -1,4 +1,5 @@
 -- Races that are counted, one by one or by the number of their earlier location.
+use Rattle.std.proofs.lemmas.Grind.{common_steps}
 use Rattle.std.proofs.Common.{◌≡◌, ℕ, zero, suc, ◌+◌, ◌<◌, ◌≤◌, ◌&&◌, Bool, true, false, List, [], ◌∷◌, ◌++◌, length, get_or, map, nat_eq, is_some, All, IfSome, refl, sym, ap, subst, ◌∙◌, inl, inr, arith}
 use Rattle.std.specs.Prelude.{◌==◌, cond, sum}
 use Rattle.std.specs.List.{AllByRecursion, IsDistinct}
@@ -58,25 +59,12 @@ counted_room numbers races counter counts r key has room =
 -- events of a trace have numbers
 pub pairs_inside : (trace : TraceData) (numbers found : List ℕ) (locations : List (List ℕ)) (pairs : List Pair) → found ≡ numbers → AreNumbered trace (length trace.events) numbers locations → All (IsPairOf trace) pairs
     → All (λ (pair : Pair). (pair.first < length found) × (pair.second < length found)) pairs
-pairs_inside trace numbers found locations pairs same are within k d lt =
-    let here = within k d lt in
-    let long = are.as_many in
-    let size = ap length same in
-    let first = here.first in
-    let second = here.second in
-    (omega (arith, long, size, first), omega (arith, long, size, second))
+pairs_inside trace numbers found locations pairs same are within k d lt = grind (arith, common_steps)
 
 -- further races come after those that are counted
 pub counted_more : (numbers : List ℕ) (races more : List (ℕ × ℕ)) (old new : RaceCounter) → HasCounted numbers races old → new.races ≡ old.races + length more → new.places ≡ keyed_after numbers old.places (map pair_of more)
     → HasCounted numbers (races ++ more) new
-counted_more numbers races more old new has many places =
-    let step = λ (before : List Keyed) (pair : Pair). with_keyed before (key_in numbers pair) pair in
-    record {
-      count = omega (arith, has.count, many, length-append races more);
-      places = places ∙ ap (λ (before : List Keyed). keyed_after numbers before (map pair_of more)) has.places
-          ∙ sym (fold-append step [] (map pair_of races) (map pair_of more))
-          ∙ ap (keyed_after numbers []) (sym (map-append pair_of races more));
-    }
+counted_more numbers races more old new has many places = grind (arith, common_steps, length-append, map, fold-append, map-append)
 
 pub pairs_back : (pairs : List Pair) → map pair_of (map ends pairs) ≡ pairs
 pairs_back [] = refl

@@ -1,5 +1,6 @@
 -- The counts of the numbers of racing accesses.
-use Rattle.std.proofs.Common.{◌≡◌, ℕ, ◌+◌, ◌-◌, ◌<◌, ◌≤◌, inl, inr, true, false, List, [], ◌∷◌, ◌++◌, length, ltb, refl, arith, ap, sym, subst, ◌∙◌, take, drop}
+use Rattle.std.proofs.lemmas.Grind.{common_steps}
+use Rattle.std.proofs.Common.{◌≡◌, ℕ, ◌+◌, ◌-◌, ◌≤◌, inl, inr, List, [], ◌∷◌, ◌++◌, length, refl, arith, ap, sym, subst, ◌∙◌, take, drop}
 use Rattle.std.specs.Prelude.{◌==◌, cond, All, map}
 use Rattle.std.proofs.lemmas.Bool.{cases_Bool}
 use Rattle.std.proofs.lemmas.List.{drop-map, length-map, map-append, take-map}
@@ -21,11 +22,7 @@ times_cons f n k ks = elim (cases_Bool (f k == n)) [ inl h ↦ rw h (omega arith
 
 -- sorting changes no count
 times_sorted : (f : ℕ → ℕ) (n : ℕ) (ks : List ℕ) → length (with_key f (sorted ks) n) ≡ length (with_key f ks n)
-times_sorted f n ks =
-    let same = sum_by-IsPermutation (λ k. cond (f k == n) 1 0) (sorted ks) ks (sorted_permutes ks) in
-    let a = length-filter (λ k. f k == n) (sorted ks) in
-    let b = length-filter (λ k. f k == n) ks in
-    omega (arith, same, a, b)
+times_sorted f n ks = grind (arith, common_steps, sum_by-IsPermutation, sorted_permutes, length-filter)
 
 -- the numbers of the elements
 times_map : (f : ℕ → ℕ) (n : ℕ) (ks : List ℕ) → length (with_key (λ k. k) (map f ks) n) ≡ length (with_key f ks n)

@@ -1,4 +1,5 @@
 -- Counts of the numbers of a span, from the counts before its two ends.
+use Rattle.std.proofs.lemmas.Grind.{common_steps}
 use Rattle.std.proofs.Common.{◌≡◌, ℕ, ◌+◌, ◌-◌, ◌<◌, ◌≤◌, ◌++◌, List, [], ◌∷◌, length, get_or, take, drop, refl, arith, ap, sym, ◌∙◌}
 use Rattle.std.specs.Prelude.{◌==◌, All}
 use Rattle.std.proofs.Math.Seq.{take-add}
@@ -67,10 +68,7 @@ none_counted classes numbers counts h = record { as_many = h.as_many; each = λ 
 
 -- the numbers of one span more
 pub spans_more : (numbers : List ℕ) (spans : List Span) (k : ℕ) (d : Span) → k < length spans → in_spans numbers (take (k + 1) spans) ≡ in_spans numbers (take k spans) ++ take ((get_or spans k d).to - (get_or spans k d).from) (drop (get_or spans k d).from numbers)
-spans_more numbers spans k d lt =
-    ap (λ (ss : List Span). in_spans numbers ss) (take_more spans k d lt)
-    ∙ (flat_map-append (λ (s : Span). take (s.to - s.from) (drop s.from numbers)) (take k spans) (get_or spans k d ∷ [])
-    ∙ ap (λ (ys : List ℕ). in_spans numbers (take k spans) ++ ys) (append-nil (take ((get_or spans k d).to - (get_or spans k d).from) (drop (get_or spans k d).from numbers))))
+spans_more numbers spans k d lt = grind (arith, common_steps, take_more, flat_map-append, append-nil)
 
 -- there is room for one span more
 pub spans_room : (numbers : List ℕ) (spans : List Span) (k : ℕ) (d : Span) → k < length spans → All (IsSpanOf (length numbers)) spans → length (in_spans numbers spans) < 4294967296 → length (in_spans numbers (take k spans)) + ((get_or spans k d).to - (get_or spans k d).from) < 4294967296
