@@ -97,8 +97,7 @@ grown_has more key (e ∷ places) = by (same_key key e.0) (grown_has more key pl
     by false rest = rest
 
 is_none : (found : Option PlaceCount) → is_some found ≡ false → found ≡ None
-is_none None h = refl
-is_none (Some c) h = absurd (true≢false h)
+is_none found h = grind (arith, common_steps, true≢false)
 
 pub grown_differ : (more : Key → ℕ) (places : List Keyed) → Differ places → Differ (grown more places)
 grown_differ more [] differ = tt
@@ -217,20 +216,11 @@ module _ (numbers : List ℕ) where
   -- the next pair
   pub next_after : (start : List Keyed) (pairs : List Pair) (k : ℕ) (d : Pair) (now new : List Keyed) (key : Key) → k < length pairs → now ≡ keyed_after numbers start (take k pairs) → key ≡ key_in numbers (get_or pairs k d)
       → new ≡ with_keyed now key (get_or pairs k d) → new ≡ keyed_after numbers start (take (k + 1) pairs)
-  next_after start pairs k d now new key within stands is added =
-      let pair = get_or pairs k d in
-      added ∙ ap (λ (x : Key). with_keyed now x pair) is ∙ ap (λ (l : List Keyed). with_keyed l (key_in numbers pair) pair) stands
-      ∙ sym (fold-append (λ (places : List Keyed) (p : Pair). with_keyed places (key_in numbers p) p) start (take k pairs) (pair ∷ []))
-      ∙ ap (keyed_after numbers start) (sym (take_more pairs k d within))
+  next_after start pairs k d now new key within stands is added = grind (arith, common_steps, fold-append, take_more)
 
   pub next_new : (more : Key → ℕ) (pairs : List Pair) (k : ℕ) (d : Pair) (before now new : List Keyed) (key : Key) (count : ℕ) → k < length pairs → now ≡ grown more (with_places numbers before (take k pairs)) → key ≡ key_in numbers (get_or pairs k d)
       → count ≡ more (key_in numbers (get_or pairs k d)) → new ≡ with_new now key (record { pair = get_or pairs k d; count = count }) → new ≡ grown more (with_places numbers before (take (k + 1) pairs))
-  next_new more pairs k d before now new key count within stands is many added =
-      let pair = get_or pairs k d in
-      added ∙ ap (λ (x : Key). with_new now x (record { pair = pair; count = count })) is
-      ∙ new_grown (key_in numbers pair) pair count more (with_places numbers before (take k pairs)) now stands many
-      ∙ ap (grown more) (sym (fold-append (λ (places : List Keyed) (p : Pair). with_new places (key_in numbers p) (record { pair = p; count = 0 })) before (take k pairs) (pair ∷ []))
-      ∙ ap (with_places numbers before) (sym (take_more pairs k d within)))
+  next_new more pairs k d before now new key count within stands is many added = grind (arith, common_steps, new_grown, fold-append, take_more)
 
 -- a count is not above the number of pairs
 pub each_keyed : (n : ℕ) (places : List Keyed) (key : Key) (pair : Pair) → 0 < n → AllByRecursion (λ (place : Keyed). place.1.count + 1 ≤ n) places → AllByRecursion (λ (place : Keyed). place.1.count ≤ n) (with_keyed places key pair)
@@ -299,22 +289,8 @@ module _ (second : ℕ) (counts : List ℕ) where
   pub known_next : (r : ℕ) (start now : List Keyed) (before after found : Bool) → now ≡ grown (by_number second counts r) start
       → (before ≡ true → (q : ℕ) → q < r → 0 < get_or counts q 0 → is_some (counted_of start (key_of q second)) ≡ true) → after ≡ (before && found) → found ≡ is_some (counted_of now (key_of r second))
       → after ≡ true → (q : ℕ) → q < r + 1 → 0 < get_or counts q 0 → is_some (counted_of start (key_of q second)) ≡ true
-  known_next r start now before after found is known both here all q lt some =
-      let two = split before found (sym both ∙ all) in
-      elim (cases_lt q r) [
-        | inl less ↦ known two.0 q less some
-        | inr past ↦ (
-            let same : q ≡ r = omega (arith, lt, past) in
-            ap (λ (n : ℕ). is_some (counted_of start (key_of n second))) same ∙ sym (grown_has (by_number second counts r) (key_of r second) start) ∙ ap (λ (l : List Keyed). is_some (counted_of l (key_of r second))) (sym is) ∙ sym here ∙ two.1)
-      ]
-    where
-      split : (a b : Bool) → (a && b) ≡ true → (a ≡ true) × (b ≡ true)
-      split true b h = (refl, h)
-      split false b h = absurd (true≢false (sym h))
+  known_next r start now before after found is known both here all q lt some = grind (arith, common_steps, cases_lt, is_some, grown_has, true≢false)
 
   pub known_skip : (r : ℕ) (start : List Keyed) (before : Bool) → (before ≡ true → (q : ℕ) → q < r → 0 < get_or counts q 0 → is_some (counted_of start (key_of q second)) ≡ true) → get_or counts r 0 ≡ 0
       → before ≡ true → (q : ℕ) → q < r + 1 → 0 < get_or counts q 0 → is_some (counted_of start (key_of q second)) ≡ true
-  known_skip r start before known none all q lt some = elim (cases_lt q r) [
-    | inl less ↦ known all q less some
-    | inr past ↦ (let same : q ≡ r = omega (arith, lt, past) in absurd (let zero_here : get_or counts q 0 ≡ 0 = ap (λ (n : ℕ). get_or counts n 0) same ∙ none in omega (arith, zero_here, some)))
-  ]
+  known_skip r start before known none all q lt some = grind (arith, common_steps, cases_lt)

@@ -56,11 +56,6 @@ counted_room numbers races counter counts r key has room =
     at_key (λ c. c.count + get_or counts r 0 < 18446744073709551616) key counter.places
     (each-weaker (λ (p : Keyed). p.1.count + sum counts < 18446744073709551616) (λ (p : Keyed). p.1.count + get_or counts r 0 < 18446744073709551616) counter.places (λ p l. omega (arith, one)) (counted_few numbers races counter (sum counts) has room))
 
--- further races come after those that are counted
-pub counted_more : (numbers : List ℕ) (races more : List (ℕ × ℕ)) (old new : RaceCounter) → HasCounted numbers races old → new.races ≡ old.races + length more → new.places ≡ keyed_after numbers old.places (map pair_of more)
-    → HasCounted numbers (races ++ more) new
-counted_more numbers races more old new has many places = grind (arith, common_steps, length-append, map, fold-append, map-append)
-
 -- the new places come after those that were known
 pub counted_all : (numbers : List ℕ) (races more : List (ℕ × ℕ)) (old new : RaceCounter) → HasCountedKnown numbers races more old → new.races ≡ old.races
     → new.places ≡ grown (times numbers (map pair_of more)) (with_places numbers (keyed_after numbers [] (map pair_of races)) (map pair_of more)) → HasCounted numbers (races ++ more) new
@@ -132,12 +127,10 @@ abbrev pub pairs_with : ℕ → List ℕ → List Pair
 pairs_with j firsts = map pair_of (map (λ i. (i, j)) firsts)
 
 and_true : (b : Bool) → (b && true) ≡ b
-and_true true = refl
-and_true false = refl
+and_true b = grind (arith, common_steps)
 
 and_false : (b : Bool) → (b && false) ≡ false
-and_false true = refl
-and_false false = refl
+and_false b = grind (arith, common_steps)
 
 module _ (numbers : List ℕ) (j : ℕ) where
   -- how many pairs with one later access have a place
@@ -224,11 +217,7 @@ module _ (trace : TraceData) (seen : List Event) (numbers : List ℕ) (locations
       whole ∙ sym (length-map ks (λ i. (i, j))) ∙ ap length (sym (with_map seen j))
 
   number_within : All (λ i. number_in numbers i < length counts) (numbers_where (λ i. is_race seen i j) j)
-  number_within k d lt =
-      let below = earlier k d lt in
-      let number = are.numbered (get_or (numbers_where (λ i. is_race seen i j) j) k d) (omega (arith, below, within)) in
-      let many = racing.as_many in
-      omega (arith, number, many)
+  number_within k d lt = grind (arith, common_steps, earlier)
 
   -- the counts are as many pairs of each place
   pub racing_times : (key : Key) → by_number (number_in numbers j) counts (length counts) key ≡ times numbers (map pair_of (races_with seen j)) key
@@ -239,10 +228,7 @@ module _ (trace : TraceData) (seen : List Event) (numbers : List ℕ) (locations
 
   pub numbered_left : (races : List (ℕ × ℕ)) (old new : RaceCounter) → HasCounted numbers races old → new.races ≡ old.races + sum counts → new.places ≡ grown (by_number (number_in numbers j) counts (length counts)) old.places
       → HasCountedKnown numbers races (races_with seen j) new
-  numbered_left races old new has many places = record {
-    count = (let all = sum_racing in omega (arith, has.count, many, all));
-    places = places ∙ grown_same (by_number (number_in numbers j) counts (length counts)) (times numbers (map pair_of (races_with seen j))) old.places racing_times ∙ ap (grown (times numbers (map pair_of (races_with seen j)))) has.places;
-  }
+  numbered_left races old new has many places = grind (arith, common_steps, sum_racing, grown_same, map, racing_times)
 
   pub numbered_known : (races : List (ℕ × ℕ)) (old new : RaceCounter) → HasCounted numbers races old → new.races ≡ old.races + sum counts → new.places ≡ grown (by_number (number_in numbers j) counts (length counts)) old.places
       → ((r : ℕ) → r < length counts → 0 < get_or counts r 0 → is_some (counted_of old.places (key_of r (number_in numbers j))) ≡ true) → HasCounted numbers (races ++ races_with seen j) new

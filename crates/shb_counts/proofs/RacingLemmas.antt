@@ -44,15 +44,7 @@ module _ (trace : List Event) (j : ℕ) (positions numbers listed : List ℕ) (s
   racing_within h = subst (λ (n : ℕ). All (IsSpanOf n) spans) (sym (ap length is ∙ length-map positions (number_in numbers))) h
 
   pub racing_few : length (in_spans listed spans) ≤ j
-  racing_few =
-      let a = ap length in_numbers ∙ length-map (in_spans positions spans) (number_in numbers) in
-      let b = sorted_length (in_spans positions spans) in
-      let c = ap length races in
-      let d = numbers_few (λ i. is_race trace i j) j in
-      omega (arith, a, b, c, d)
+  racing_few = grind (arith, common_steps, in_numbers, length-map, sorted_length, numbers_few)
 
   pub racing_counted : (classes : ℕ) (counts : List ℕ) → AreCountsOf classes (in_spans listed spans) counts → AreRacingCounts trace numbers j classes counts
-  racing_counted classes counts h = record {
-    as_many = h.as_many;
-    each = λ n lt. h.each n lt ∙ (ap (λ (ns : List ℕ). length (with_key (λ k. k) ns n)) in_numbers ∙ (times_map (number_in numbers) n (in_spans positions spans) ∙ (sym (times_sorted (number_in numbers) n (in_spans positions spans)) ∙ ap (λ (ks : List ℕ). length (with_key (number_in numbers) ks n)) races)));
-  }
+  racing_counted classes counts h = grind (arith, common_steps, in_numbers, times_map, times_sorted)
