@@ -1,4 +1,3 @@
--- An edit that makes this false is refused at once.
 use Rattle.std.proofs.Common.{count_by, subst}
 use Rattle.shb_lines.specs.events.Discipline.{is_join}
 use Rattle.shb_discipline.specs.State.{Tells}
