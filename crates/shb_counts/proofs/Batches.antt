@@ -1,4 +1,5 @@
 -- Pairs that are counted by the numbers of their locations, and why that is what counts each of them.
+use Rattle.std.proofs.lemmas.Grind.{common_steps}
 use Rattle.std.proofs.Common.{◌≡◌, ◌≢◌, ℕ, zero, suc, ◌+◌, ◌<◌, ◌≤◌, ◌&&◌, ◌++◌, Bool, true, false, cond, nat_eq, List, [], ◌∷◌, length, Option, None, Some, IfSome, is_some, get_or, take, refl, sym, ap, subst, ◌∙◌, inl, inr, arith, true≢false}
 use Rattle.std.specs.List.{AllByRecursion}
 use Rattle.std.proofs.lemmas.Bool.{cases_Bool, cases_lt}
@@ -22,15 +23,7 @@ entry key pair count = (key, record { pair = pair; count = count })
 
 -- keys are told by their numbers
 one_key : (x y : Key) → same_key x y ≡ true → x ≡ y
-one_key x y is = elim (eqb_tells x.0 y.0) [
-  | inr e ↦ absurd (true≢false (sym (ap (λ (b : Bool). b && nat_eq x.1 y.1) (sym e.0) ∙ is)))
-  | inl e ↦ (
-      let second : nat_eq x.1 y.1 ≡ true = ap (λ (b : Bool). b && nat_eq x.1 y.1) (sym e.0) ∙ is in
-      elim (eqb_tells x.1 y.1) [
-        | inl f ↦ ap (λ (a : ℕ). key_of a x.1) e.1 ∙ ap (key_of y.0) f.1
-        | inr f ↦ absurd (true≢false (sym second ∙ f.0))
-      ])
-]
+one_key x y is = grind (arith, common_steps, eqb_tells, true≢false, nat_eq)
 
 pub same_number : (a : ℕ) → nat_eq a a ≡ true
 same_number a = elim (eqb_tells a a) [ inl e ↦ e.0 | inr e ↦ absurd (e.1 refl) ]
@@ -104,8 +97,7 @@ grown_has more key (e ∷ places) = by (same_key key e.0) (grown_has more key pl
     by false rest = rest
 
 is_none : (found : Option PlaceCount) → is_some found ≡ false → found ≡ None
-is_none None h = refl
-is_none (Some c) h = absurd (true≢false h)
+is_none found h = grind (arith, common_steps, true≢false)
 
 pub grown_differ : (more : Key → ℕ) (places : List Keyed) → Differ places → Differ (grown more places)
 grown_differ more [] differ = tt
@@ -133,10 +125,7 @@ none_after (e ∷ places) last key none other = by (same_key key e.0) none (λ h
     by false h rest = rest h
 
 other_way : (x y : Key) → same_key x y ≡ false → same_key y x ≡ false
-other_way x y h = elim (cases_Bool (same_key y x)) [
-  | inr f ↦ f
-  | inl t ↦ absurd (true≢false (sym (same_self x) ∙ ap (same_key x) (sym (one_key y x t)) ∙ h))
-]
+other_way x y h = grind (arith, common_steps, cases_Bool, true≢false, same_self, one_key)
 
 differ_last : (places : List Keyed) (last : Keyed) → Differ places → counted_of places last.0 ≡ None → Differ (places ++ last ∷ [])
 differ_last [] last differ none = (refl, tt)
@@ -165,23 +154,10 @@ more_grown key n more before now differ is = by (counted_of now key) refl
 
 -- a place that is put last with all that there will be of it
 pub new_grown : (key : Key) (pair : Pair) (n : ℕ) (more : Key → ℕ) (before now : List Keyed) → now ≡ grown more before → n ≡ more key → with_new now key (record { pair = pair; count = n }) ≡ grown more (with_new before key (record { pair = pair; count = 0 }))
-new_grown key pair n more before now is many =
-    ap (λ (l : List Keyed). with_new l key (record { pair = pair; count = n })) is
-    ∙ ap (λ (b : Bool). cond b (grown more before) (grown more before ++ entry key pair n ∷ [])) (grown_has more key before)
-    ∙ by (is_some (counted_of before key))
-  where
-    by : (b : Bool) → cond b (grown more before) (grown more before ++ entry key pair n ∷ []) ≡ grown more (cond b before (before ++ entry key pair 0 ∷ []))
-    by true = refl
-    by false =
-        let same : n ≡ 0 + more key = omega (arith, many) in
-        ap (λ (m : ℕ). grown more before ++ entry key pair m ∷ []) same ∙ sym (map-append (λ (place : Keyed). (place.0, counting place.1 (more place.0))) before (entry key pair 0 ∷ []))
+new_grown key pair n more before now is many = grind (arith, common_steps, grown_has, is_some, map-append)
 
 known_pair : (key : Key) (pair : Pair) (now : List Keyed) → is_some (counted_of now key) ≡ true → with_keyed now key pair ≡ with_more now key 1
-known_pair key pair now has = go (counted_of now key) refl has
-  where
-    go : (found : Option PlaceCount) → counted_of now key ≡ found → is_some found ≡ true → with_keyed now key pair ≡ with_more now key 1
-    go None e f = absurd (true≢false (sym f))
-    go (Some d) e f = rw e refl
+known_pair key pair now has = grind (arith, common_steps, Option, is_some, true≢false)
 
 apart : (before : List Keyed) (key k : Key) (c : PlaceCount) → counted_of before key ≡ Some c → counted_of before k ≡ None → same_key key k ≡ false
 apart before key k c is none = elim (cases_Bool (same_key key k)) [ inr f ↦ f | inl t ↦ absurd (not_some (sym none ∙ ap (counted_of before) (sym (one_key key k t)) ∙ is)) ]
@@ -240,20 +216,11 @@ module _ (numbers : List ℕ) where
   -- the next pair
   pub next_after : (start : List Keyed) (pairs : List Pair) (k : ℕ) (d : Pair) (now new : List Keyed) (key : Key) → k < length pairs → now ≡ keyed_after numbers start (take k pairs) → key ≡ key_in numbers (get_or pairs k d)
       → new ≡ with_keyed now key (get_or pairs k d) → new ≡ keyed_after numbers start (take (k + 1) pairs)
-  next_after start pairs k d now new key within stands is added =
-      let pair = get_or pairs k d in
-      added ∙ ap (λ (x : Key). with_keyed now x pair) is ∙ ap (λ (l : List Keyed). with_keyed l (key_in numbers pair) pair) stands
-      ∙ sym (fold-append (λ (places : List Keyed) (p : Pair). with_keyed places (key_in numbers p) p) start (take k pairs) (pair ∷ []))
-      ∙ ap (keyed_after numbers start) (sym (take_more pairs k d within))
+  next_after start pairs k d now new key within stands is added = grind (arith, common_steps, fold-append, take_more)
 
   pub next_new : (more : Key → ℕ) (pairs : List Pair) (k : ℕ) (d : Pair) (before now new : List Keyed) (key : Key) (count : ℕ) → k < length pairs → now ≡ grown more (with_places numbers before (take k pairs)) → key ≡ key_in numbers (get_or pairs k d)
       → count ≡ more (key_in numbers (get_or pairs k d)) → new ≡ with_new now key (record { pair = get_or pairs k d; count = count }) → new ≡ grown more (with_places numbers before (take (k + 1) pairs))
-  next_new more pairs k d before now new key count within stands is many added =
-      let pair = get_or pairs k d in
-      added ∙ ap (λ (x : Key). with_new now x (record { pair = pair; count = count })) is
-      ∙ new_grown (key_in numbers pair) pair count more (with_places numbers before (take k pairs)) now stands many
-      ∙ ap (grown more) (sym (fold-append (λ (places : List Keyed) (p : Pair). with_new places (key_in numbers p) (record { pair = p; count = 0 })) before (take k pairs) (pair ∷ []))
-      ∙ ap (with_places numbers before) (sym (take_more pairs k d within)))
+  next_new more pairs k d before now new key count within stands is many added = grind (arith, common_steps, new_grown, fold-append, take_more)
 
 -- a count is not above the number of pairs
 pub each_keyed : (n : ℕ) (places : List Keyed) (key : Key) (pair : Pair) → 0 < n → AllByRecursion (λ (place : Keyed). place.1.count + 1 ≤ n) places → AllByRecursion (λ (place : Keyed). place.1.count ≤ n) (with_keyed places key pair)
@@ -322,22 +289,8 @@ module _ (second : ℕ) (counts : List ℕ) where
   pub known_next : (r : ℕ) (start now : List Keyed) (before after found : Bool) → now ≡ grown (by_number second counts r) start
       → (before ≡ true → (q : ℕ) → q < r → 0 < get_or counts q 0 → is_some (counted_of start (key_of q second)) ≡ true) → after ≡ (before && found) → found ≡ is_some (counted_of now (key_of r second))
       → after ≡ true → (q : ℕ) → q < r + 1 → 0 < get_or counts q 0 → is_some (counted_of start (key_of q second)) ≡ true
-  known_next r start now before after found is known both here all q lt some =
-      let two = split before found (sym both ∙ all) in
-      elim (cases_lt q r) [
-        | inl less ↦ known two.0 q less some
-        | inr past ↦ (
-            let same : q ≡ r = omega (arith, lt, past) in
-            ap (λ (n : ℕ). is_some (counted_of start (key_of n second))) same ∙ sym (grown_has (by_number second counts r) (key_of r second) start) ∙ ap (λ (l : List Keyed). is_some (counted_of l (key_of r second))) (sym is) ∙ sym here ∙ two.1)
-      ]
-    where
-      split : (a b : Bool) → (a && b) ≡ true → (a ≡ true) × (b ≡ true)
-      split true b h = (refl, h)
-      split false b h = absurd (true≢false (sym h))
+  known_next r start now before after found is known both here all q lt some = grind (arith, common_steps, cases_lt, is_some, grown_has, true≢false)
 
   pub known_skip : (r : ℕ) (start : List Keyed) (before : Bool) → (before ≡ true → (q : ℕ) → q < r → 0 < get_or counts q 0 → is_some (counted_of start (key_of q second)) ≡ true) → get_or counts r 0 ≡ 0
       → before ≡ true → (q : ℕ) → q < r + 1 → 0 < get_or counts q 0 → is_some (counted_of start (key_of q second)) ≡ true
-  known_skip r start before known none all q lt some = elim (cases_lt q r) [
-    | inl less ↦ known all q less some
-    | inr past ↦ (let same : q ≡ r = omega (arith, lt, past) in absurd (let zero_here : get_or counts q 0 ≡ 0 = ap (λ (n : ℕ). get_or counts n 0) same ∙ none in omega (arith, zero_here, some)))
-  ]
+  known_skip r start before known none all q lt some = grind (arith, common_steps, cases_lt)

@@ -1,4 +1,5 @@
 -- Races that are counted, one by one or by the number of their earlier location.
+use Rattle.std.proofs.lemmas.Grind.{common_steps}
 use Rattle.std.proofs.Common.{◌≡◌, ℕ, zero, suc, ◌+◌, ◌<◌, ◌≤◌, ◌&&◌, Bool, true, false, List, [], ◌∷◌, ◌++◌, length, get_or, map, nat_eq, is_some, All, IfSome, refl, sym, ap, subst, ◌∙◌, inl, inr, arith}
 use Rattle.std.specs.Prelude.{◌==◌, cond, sum}
 use Rattle.std.specs.List.{AllByRecursion, IsDistinct}
@@ -16,7 +17,6 @@ use Rattle.shb_lines.specs.text.TraceData.{TraceData}
 use Rattle.shb_pairs.specs.Buckets.{with_key}
 use Rattle.shb_pairs.specs.Races.{races_with}
 use Rattle.shb_pairs.proofs.ByThread.{numbers_all}
-use Rattle.shb_pairs.proofs.Counting.{numbers_few}
 use Rattle.shb_pairs.proofs.Sorting.{sum_whole}
 use Rattle.shb_report.specs.Keyed.{AreKeyed, Key, Keyed, counted_of, same_key, with_keyed}
 use Rattle.shb_report.specs.Places.{IsPairOf, PlaceOf, counts_in, location_at, places_after, places_of_pairs, with_pair}
@@ -24,6 +24,7 @@ use Rattle.shb_report.specs.Report.{pair_of}
 use Rattle.shb_report.proofs.EachLemmas.{each-weaker}
 use Rattle.shb_report.specs.declared.places.PlaceCount.{PlaceCount}
 use Rattle.shb_report.proofs.KeyedLemmas.{keyed_counts, keyed_pair}
+use Rattle.shb_report.proofs.LeadingLemmas.{pairs_back}
 use Rattle.shb_counts.specs.Counted.{Differ, HasCounted, HasCountedKnown, by_number, grown, key_in, keyed_after, times, with_places}
 use Rattle.shb_counts.specs.Counts.{AreRacingCounts, number_in}
 use Rattle.shb_counts.specs.Numbering.{AreNumbered}
@@ -55,55 +56,28 @@ counted_room numbers races counter counts r key has room =
     at_key (λ c. c.count + get_or counts r 0 < 18446744073709551616) key counter.places
     (each-weaker (λ (p : Keyed). p.1.count + sum counts < 18446744073709551616) (λ (p : Keyed). p.1.count + get_or counts r 0 < 18446744073709551616) counter.places (λ p l. omega (arith, one)) (counted_few numbers races counter (sum counts) has room))
 
--- events of a trace have numbers
-pub pairs_inside : (trace : TraceData) (numbers found : List ℕ) (locations : List (List ℕ)) (pairs : List Pair) → found ≡ numbers → AreNumbered trace (length trace.events) numbers locations → All (IsPairOf trace) pairs
-    → All (λ (pair : Pair). (pair.first < length found) × (pair.second < length found)) pairs
-pairs_inside trace numbers found locations pairs same are within k d lt =
-    let here = within k d lt in
-    let long = are.as_many in
-    let size = ap length same in
-    let first = here.first in
-    let second = here.second in
-    (omega (arith, long, size, first), omega (arith, long, size, second))
-
--- further races come after those that are counted
-pub counted_more : (numbers : List ℕ) (races more : List (ℕ × ℕ)) (old new : RaceCounter) → HasCounted numbers races old → new.races ≡ old.races + length more → new.places ≡ keyed_after numbers old.places (map pair_of more)
-    → HasCounted numbers (races ++ more) new
-counted_more numbers races more old new has many places =
+-- the new places come after those that were known
+pub counted_all : (numbers : List ℕ) (races more : List (ℕ × ℕ)) (old new : RaceCounter) → HasCountedKnown numbers races more old → new.races ≡ old.races
+    → new.places ≡ grown (times numbers (map pair_of more)) (with_places numbers (keyed_after numbers [] (map pair_of races)) (map pair_of more)) → HasCounted numbers (races ++ more) new
+counted_all numbers races more old new has many places =
+    let start = keyed_after numbers [] (map pair_of races) in
+    let pairs = map pair_of more in
     let step = λ (before : List Keyed) (pair : Pair). with_keyed before (key_in numbers pair) pair in
     record {
       count = omega (arith, has.count, many, length-append races more);
-      places = places ∙ ap (λ (before : List Keyed). keyed_after numbers before (map pair_of more)) has.places
-          ∙ sym (fold-append step [] (map pair_of races) (map pair_of more))
+      places = places
+          ∙ grown_same (times numbers pairs) (λ k. 0 + times numbers pairs k) (with_places numbers start pairs) (λ k. omega arith)
+          ∙ sym (counted_at_once numbers pairs start start (λ k. 0) (sym (grown_zero start)) (after_differ numbers (map pair_of races) [] tt) (λ k none. refl))
+          ∙ sym (fold-append step [] (map pair_of races) pairs)
           ∙ ap (keyed_after numbers []) (sym (map-append pair_of races more));
     }
 
-pub pairs_back : (pairs : List Pair) → map pair_of (map ends pairs) ≡ pairs
-pairs_back [] = refl
-pairs_back (pair ∷ pairs) = ap (λ (l : List Pair). pair ∷ l) (pairs_back pairs)
-
-pub counted_pairs : (numbers : List ℕ) (races : List (ℕ × ℕ)) (pairs : List Pair) (old new : RaceCounter) → HasCounted numbers races old → new.races ≡ old.races + length pairs → new.places ≡ keyed_after numbers old.places pairs
-    → HasCounted numbers (races ++ map ends pairs) new
-counted_pairs numbers races pairs old new has many places =
-    counted_more numbers races (map ends pairs) old new has (omega (arith, many, length-map pairs ends)) (places ∙ ap (keyed_after numbers old.places) (sym (pairs_back pairs)))
-
--- the new places come after those that were known
 pub counted_new : (numbers : List ℕ) (races : List (ℕ × ℕ)) (pairs : List Pair) (old new : RaceCounter) → HasCountedKnown numbers races (map ends pairs) old → new.races ≡ old.races
     → ((before : List Keyed) → old.places ≡ grown (times numbers pairs) before → new.places ≡ grown (times numbers pairs) (with_places numbers before pairs)) → HasCounted numbers (races ++ map ends pairs) new
 counted_new numbers races pairs old new has many places =
     let start = keyed_after numbers [] (map pair_of races) in
-    let back = pairs_back pairs in
-    let known : old.places ≡ grown (times numbers pairs) start = has.places ∙ ap (λ (l : List Pair). grown (times numbers l) start) back in
-    let step = λ (before : List Keyed) (pair : Pair). with_keyed before (key_in numbers pair) pair in
-    record {
-      count = omega (arith, has.count, many, length-append races (map ends pairs));
-      places = places start known
-          ∙ grown_same (times numbers pairs) (λ k. 0 + times numbers pairs k) (with_places numbers start pairs) (λ k. omega arith)
-          ∙ sym (counted_at_once numbers pairs start start (λ k. 0) (sym (grown_zero start)) (after_differ numbers (map pair_of races) [] tt) (λ k none. refl))
-          ∙ ap (keyed_after numbers start) (sym back)
-          ∙ sym (fold-append step [] (map pair_of races) (map pair_of (map ends pairs)))
-          ∙ ap (keyed_after numbers []) (sym (map-append pair_of races (map ends pairs)));
-    }
+    counted_all numbers races (map ends pairs) old new has many
+    (subst (λ (l : List Pair). new.places ≡ grown (times numbers l) (with_places numbers start l)) (sym (pairs_back pairs)) (places start (has.places ∙ ap (λ (l : List Pair). grown (times numbers l) start) (pairs_back pairs))))
 
 -- places by number are the places of the locations
 pub after_keyed : (trace : TraceData) (numbers : List ℕ) (locations : List (List ℕ)) → IsDistinct bytes_eq locations → AreNumbered trace (length trace.events) numbers locations
@@ -137,9 +111,6 @@ pairs_within trace seen j pairs within is =
     let below = numbers_all (λ i. i < j) (λ i. is_race seen i j) j (λ q less h. less) k d lt in
     record { first = omega (arith, below, within); second = within })))
 
-pub racing_as : (seen : List Event) (numbers : List ℕ) (j found classes : ℕ) (items counts : List ℕ) → found ≡ classes → counts ≡ items → AreRacingCounts seen numbers j found items → AreRacingCounts seen numbers j classes counts
-racing_as seen numbers j found classes items counts same is are = subst (AreRacingCounts seen numbers j classes) (sym is) (subst (λ (n : ℕ). AreRacingCounts seen numbers j n items) same are)
-
 -- a number that an element has stands in the list
 some_with : (key : ℕ → ℕ) (ks : List ℕ) (k d : ℕ) → k < length ks → 0 < length (with_key key ks (key (get_or ks k d)))
 some_with key [] k d lt = absurd (omega arith)
@@ -156,12 +127,10 @@ abbrev pub pairs_with : ℕ → List ℕ → List Pair
 pairs_with j firsts = map pair_of (map (λ i. (i, j)) firsts)
 
 and_true : (b : Bool) → (b && true) ≡ b
-and_true true = refl
-and_true false = refl
+and_true b = grind (arith, common_steps)
 
 and_false : (b : Bool) → (b && false) ≡ false
-and_false true = refl
-and_false false = refl
+and_false b = grind (arith, common_steps)
 
 module _ (numbers : List ℕ) (j : ℕ) where
   -- how many pairs with one later access have a place
@@ -247,19 +216,8 @@ module _ (trace : TraceData) (seen : List Event) (numbers : List ℕ) (locations
       (λ q d lt. let below = earlier q d lt in are.numbered (get_or ks q d) (omega (arith, below, within))) in
       whole ∙ sym (length-map ks (λ i. (i, j))) ∙ ap length (sym (with_map seen j))
 
-  pub sum_racing_few : j < 4294967296 → sum counts < 18446744073709551616
-  sum_racing_few small =
-      let all = sum_racing in
-      let same = ap length (with_map seen j) ∙ length-map (numbers_where (λ i. is_race seen i j) j) (λ i. (i, j)) in
-      let few = numbers_few (λ i. is_race seen i j) j in
-      omega (arith, all, same, few, small)
-
   number_within : All (λ i. number_in numbers i < length counts) (numbers_where (λ i. is_race seen i j) j)
-  number_within k d lt =
-      let below = earlier k d lt in
-      let number = are.numbered (get_or (numbers_where (λ i. is_race seen i j) j) k d) (omega (arith, below, within)) in
-      let many = racing.as_many in
-      omega (arith, number, many)
+  number_within k d lt = grind (arith, common_steps, earlier)
 
   -- the counts are as many pairs of each place
   pub racing_times : (key : Key) → by_number (number_in numbers j) counts (length counts) key ≡ times numbers (map pair_of (races_with seen j)) key
@@ -270,10 +228,7 @@ module _ (trace : TraceData) (seen : List Event) (numbers : List ℕ) (locations
 
   pub numbered_left : (races : List (ℕ × ℕ)) (old new : RaceCounter) → HasCounted numbers races old → new.races ≡ old.races + sum counts → new.places ≡ grown (by_number (number_in numbers j) counts (length counts)) old.places
       → HasCountedKnown numbers races (races_with seen j) new
-  numbered_left races old new has many places = record {
-    count = (let all = sum_racing in omega (arith, has.count, many, all));
-    places = places ∙ grown_same (by_number (number_in numbers j) counts (length counts)) (times numbers (map pair_of (races_with seen j))) old.places racing_times ∙ ap (grown (times numbers (map pair_of (races_with seen j)))) has.places;
-  }
+  numbered_left races old new has many places = grind (arith, common_steps, sum_racing, grown_same, map, racing_times)
 
   pub numbered_known : (races : List (ℕ × ℕ)) (old new : RaceCounter) → HasCounted numbers races old → new.races ≡ old.races + sum counts → new.places ≡ grown (by_number (number_in numbers j) counts (length counts)) old.places
       → ((r : ℕ) → r < length counts → 0 < get_or counts r 0 → is_some (counted_of old.places (key_of r (number_in numbers j))) ≡ true) → HasCounted numbers (races ++ races_with seen j) new
@@ -288,10 +243,8 @@ module _ (trace : TraceData) (seen : List Event) (numbers : List ℕ) (locations
       let count = racing.each (number_in numbers i) (omega (arith, inside, many)) in
       let some = some_with (number_in numbers) firsts k d lt in
       known (number_in numbers i) inside (omega (arith, count, some))) in
-      counted_more numbers races (races_with seen j) old new has (many ∙ ap (λ (n : ℕ). old.races + n) sum_racing)
-      (places ∙ grown_same (by_number (number_in numbers j) counts (length counts)) (λ k. 0 + times numbers (map pair_of (races_with seen j)) k) old.places (λ k. let same : times numbers (map pair_of (races_with seen j)) k ≡ 0 + times numbers (map pair_of (races_with seen j)) k = omega arith in racing_times k ∙ same)
-      ∙ ap (grown (λ k. 0 + times numbers (map pair_of (races_with seen j)) k)) (sym there)
-      ∙ sym (counted_at_once numbers (map pair_of (races_with seen j)) old.places old.places (λ k. 0) (sym (grown_zero old.places)) (counted_differ numbers races old has) (λ k none. refl)))
+      let left = numbered_left races old new has many places in
+      counted_all numbers races (races_with seen j) new new left refl (left.places ∙ ap (grown (times numbers (map pair_of (races_with seen j)))) (sym (subst (λ (l : List Keyed). with_places numbers l (map pair_of (races_with seen j)) ≡ l) has.places there)))
 
   -- of each race the count of its number is that of its place
   pub new_counts : (pairs : List Pair) → map ends pairs ≡ races_with seen j

@@ -1,6 +1,6 @@
 -- Numbers of locations, one event more.
-use Rattle.std.proofs.Common.{◌≡◌, ℕ, ◌+◌, ◌<◌, ◌≤◌, inl, inr, Bool, true, false, cond, List, [], ◌∷◌, ◌++◌, Some, length, get_or, slice_get, arith, ap, sym, ◌∙◌}
-use Rattle.std.specs.List.{list_any}
+use Rattle.std.proofs.lemmas.Grind.{common_steps}
+use Rattle.std.proofs.Common.{◌≡◌, ℕ, ◌+◌, ◌<◌, ◌≤◌, inl, inr, List, [], ◌∷◌, ◌++◌, Some, length, get_or, slice_get, arith, ap, sym, ◌∙◌}
 use Rattle.std.specs.Str.{bytes_eq}
 use Rattle.std.proofs.lemmas.Bool.{cases_lt}
 use Rattle.std.proofs.lemmas.List.{get_or_append_left, get_or_push, length_push}
@@ -12,11 +12,7 @@ use Rattle.shb_report.proofs.KeyedLemmas.{number_stays}
 use Rattle.shb_counts.specs.Numbering.{AreNumbered}
 
 pub one_more_location : (locations : List (List ℕ)) (text : List ℕ) → length (insert_key bytes_eq locations text) ≤ length locations + 1
-one_more_location locations text = by (list_any (bytes_eq text) locations)
-  where
-    by : (b : Bool) → length (cond b locations (locations ++ text ∷ [])) ≤ length locations + 1
-    by true = omega arith
-    by false = let long = length_push locations text in omega (arith, long)
+one_more_location locations text = grind (arith, common_steps, length_push)
 
 -- the next event has the number of its location
 pub next_numbered : (trace : TraceData) (e number : ℕ) (text : List ℕ) (numbers new_numbers : List ℕ) (locations new_locations : List (List ℕ)) → AreNumbered trace e numbers locations → text ≡ location_at trace e

@@ -2,7 +2,7 @@
 use Rattle.std.proofs.Common.{◌≡◌, ℕ, zero, suc, ◌+◌, ◌<◌, ◌≤◌, inl, inr, List, [], ◌∷◌, ◌++◌, length, map, All, ap, subst, sym, ◌∙◌, arith, append-nil, drop, take}
 use Rattle.std.specs.Prelude.{flat_map}
 use Rattle.std.proofs.lemmas.Bool.{cases_lt}
-use Rattle.std.proofs.lemmas.List.{append_assoc, length-append, take-append-drop, take-take}
+use Rattle.std.proofs.lemmas.List.{append_assoc, get_or_append_left, length-append, take-append-drop, take-take}
 use Rattle.std.proofs.lemmas.List.Concat.{flat_map-append}
 use Rattle.std.proofs.lemmas.List.Elements.{All-nil}
 use Rattle.shb_fan.specs.Values.{values_of}
@@ -14,9 +14,7 @@ use Rattle.shb_report.specs.Places.{IsPairOf}
 
 module _ {A : Type 0} (P : A → Type 0) where
   all_left : (xs ys : List A) → All P (xs ++ ys) → All P xs
-  all_left [] ys h k d lt = All-nil P k d lt
-  all_left (x ∷ xs) ys h zero d lt = h zero d (omega arith)
-  all_left (x ∷ xs) ys h (suc k) d lt = all_left xs ys (λ j e l. h (suc j) e (omega arith)) k d (omega arith)
+  all_left xs ys h k d lt = subst P (get_or_append_left xs ys d k lt) (h k d (let size = length-append xs ys in omega (arith, size, lt)))
 
   all_right : (xs ys : List A) → All P (xs ++ ys) → All P ys
   all_right [] ys h = h

@@ -1,5 +1,6 @@
 -- The counts of the numbers of racing accesses.
-use Rattle.std.proofs.Common.{◌≡◌, ℕ, ◌+◌, ◌-◌, ◌<◌, ◌≤◌, inl, inr, true, false, List, [], ◌∷◌, ◌++◌, length, ltb, refl, arith, ap, sym, subst, ◌∙◌, take, drop}
+use Rattle.std.proofs.lemmas.Grind.{common_steps}
+use Rattle.std.proofs.Common.{◌≡◌, ℕ, ◌+◌, ◌-◌, ◌≤◌, inl, inr, List, [], ◌∷◌, ◌++◌, length, refl, arith, ap, sym, subst, ◌∙◌, take, drop}
 use Rattle.std.specs.Prelude.{◌==◌, cond, All, map}
 use Rattle.std.proofs.lemmas.Bool.{cases_Bool}
 use Rattle.std.proofs.lemmas.List.{drop-map, length-map, map-append, take-map}
@@ -21,11 +22,7 @@ times_cons f n k ks = elim (cases_Bool (f k == n)) [ inl h ↦ rw h (omega arith
 
 -- sorting changes no count
 times_sorted : (f : ℕ → ℕ) (n : ℕ) (ks : List ℕ) → length (with_key f (sorted ks) n) ≡ length (with_key f ks n)
-times_sorted f n ks =
-    let same = sum_by-IsPermutation (λ k. cond (f k == n) 1 0) (sorted ks) ks (sorted_permutes ks) in
-    let a = length-filter (λ k. f k == n) (sorted ks) in
-    let b = length-filter (λ k. f k == n) ks in
-    omega (arith, same, a, b)
+times_sorted f n ks = grind (arith, common_steps, sum_by-IsPermutation, sorted_permutes, length-filter)
 
 -- the numbers of the elements
 times_map : (f : ℕ → ℕ) (n : ℕ) (ks : List ℕ) → length (with_key (λ k. k) (map f ks) n) ≡ length (with_key f ks n)
@@ -47,15 +44,7 @@ module _ (trace : List Event) (j : ℕ) (positions numbers listed : List ℕ) (s
   racing_within h = subst (λ (n : ℕ). All (IsSpanOf n) spans) (sym (ap length is ∙ length-map positions (number_in numbers))) h
 
   pub racing_few : length (in_spans listed spans) ≤ j
-  racing_few =
-      let a = ap length in_numbers ∙ length-map (in_spans positions spans) (number_in numbers) in
-      let b = sorted_length (in_spans positions spans) in
-      let c = ap length races in
-      let d = numbers_few (λ i. is_race trace i j) j in
-      omega (arith, a, b, c, d)
+  racing_few = grind (arith, common_steps, in_numbers, length-map, sorted_length, numbers_few)
 
   pub racing_counted : (classes : ℕ) (counts : List ℕ) → AreCountsOf classes (in_spans listed spans) counts → AreRacingCounts trace numbers j classes counts
-  racing_counted classes counts h = record {
-    as_many = h.as_many;
-    each = λ n lt. h.each n lt ∙ (ap (λ (ns : List ℕ). length (with_key (λ k. k) ns n)) in_numbers ∙ (times_map (number_in numbers) n (in_spans positions spans) ∙ (sym (times_sorted (number_in numbers) n (in_spans positions spans)) ∙ ap (λ (ks : List ℕ). length (with_key (number_in numbers) ks n)) races)));
-  }
+  racing_counted classes counts h = grind (arith, common_steps, in_numbers, times_map, times_sorted)

@@ -1,5 +1,6 @@
 -- Counts of the numbers of a span, from the counts before its two ends.
-use Rattle.std.proofs.Common.{◌≡◌, ℕ, ◌+◌, ◌-◌, ◌<◌, ◌≤◌, ◌++◌, List, [], ◌∷◌, length, get_or, take, drop, refl, arith, ap, sym, ◌∙◌}
+use Rattle.std.proofs.lemmas.Grind.{common_steps}
+use Rattle.std.proofs.Common.{◌≡◌, ℕ, ◌+◌, ◌-◌, ◌<◌, ◌≤◌, ◌++◌, List, [], length, get_or, take, drop, arith, ap, sym, ◌∙◌}
 use Rattle.std.specs.Prelude.{◌==◌, All}
 use Rattle.std.proofs.Math.Seq.{take-add}
 use Rattle.std.proofs.lemmas.Grind.{flat_map-append}
@@ -29,37 +30,13 @@ module _ (classes from to : ℕ) (numbers before after list old : List ℕ) (ord
   grows_by n lt = let low = is_before.each n lt in let high = is_after.each n lt in let parts = times_span n from to numbers ordered in (omega (arith, low, high, parts), omega (arith, low, high, parts))
 
   pub span_may_grow : to ≤ length numbers → length list + (to - from) < 4294967296 → MayGrow before after old
-  span_may_grow within few = record {
-    before_long = is_before.as_many ∙ sym h.as_many;
-    after_long = is_after.as_many ∙ sym h.as_many;
-    rising = λ n lt. (grows_by n (let long = h.as_many in omega (arith, lt, long))).0;
-    few = λ n lt.
-        let long = h.as_many in
-        let lt_classes : n < classes = omega (arith, lt, long) in
-        let by = (grows_by n lt_classes).1 in
-        let was = h.each n lt_classes in
-        let low = times_few n list in
-        let high = times_few n (take (to - from) (drop from numbers)) in
-        let rest = length-drop from numbers in
-        let size = length-take-le (to - from) (drop from numbers) (omega (arith, within, rest)) in
-        omega (arith, by, was, low, high, size, few);
-  }
+  span_may_grow within few = grind (arith, common_steps, grows_by, times_few, length-drop, length-take-le)
 
   pub span_counted : (new : List ℕ) → HaveGrown before after old (length old) new → AreCountsOf classes (list ++ take (to - from) (drop from numbers)) new
-  span_counted new grown = record {
-    as_many = grown.as_many ∙ h.as_many;
-    each = λ n lt.
-        let long = h.as_many in
-        let more = grown.grown n (omega (arith, lt, long)) in
-        let by = (grows_by n lt).1 in
-        let was = h.each n lt in
-        let parts = times_append n list (take (to - from) (drop from numbers)) in
-        omega (arith, more, by, was, parts);
-  }
+  span_counted new grown = grind (arith, common_steps, grows_by, times_append)
 
 take_none : (xs : List ℕ) → take 0 xs ≡ []
-take_none [] = refl
-take_none (x ∷ xs) = refl
+take_none xs = grind (arith, common_steps)
 
 -- the counts before the first number are those of no number
 pub none_counted : (classes : ℕ) (numbers counts : List ℕ) → AreCountsBefore classes numbers 0 counts → AreCountsOf classes [] counts
@@ -67,10 +44,7 @@ none_counted classes numbers counts h = record { as_many = h.as_many; each = λ 
 
 -- the numbers of one span more
 pub spans_more : (numbers : List ℕ) (spans : List Span) (k : ℕ) (d : Span) → k < length spans → in_spans numbers (take (k + 1) spans) ≡ in_spans numbers (take k spans) ++ take ((get_or spans k d).to - (get_or spans k d).from) (drop (get_or spans k d).from numbers)
-spans_more numbers spans k d lt =
-    ap (λ (ss : List Span). in_spans numbers ss) (take_more spans k d lt)
-    ∙ (flat_map-append (λ (s : Span). take (s.to - s.from) (drop s.from numbers)) (take k spans) (get_or spans k d ∷ [])
-    ∙ ap (λ (ys : List ℕ). in_spans numbers (take k spans) ++ ys) (append-nil (take ((get_or spans k d).to - (get_or spans k d).from) (drop (get_or spans k d).from numbers))))
+spans_more numbers spans k d lt = grind (arith, common_steps, take_more, flat_map-append, append-nil)
 
 -- there is room for one span more
 pub spans_room : (numbers : List ℕ) (spans : List Span) (k : ℕ) (d : Span) → k < length spans → All (IsSpanOf (length numbers)) spans → length (in_spans numbers spans) < 4294967296 → length (in_spans numbers (take k spans)) + ((get_or spans k d).to - (get_or spans k d).from) < 4294967296

@@ -1,6 +1,6 @@
 //! The number of all races of a search, and their places.
 
-ghost use Rattle.std.specs.Prelude.{◌≡◌, ◌++◌, ◌+◌, ◌<◌, ◌≤◌, ◌^◌, ℕ, List, All, IfOk, IfSome, OnOk, [], length, map, slice_index_or};
+ghost use Rattle.std.specs.Prelude.{◌≡◌, ◌++◌, ◌+◌, ◌<◌, ◌≤◌, ◌^◌, ℕ, List, All, IfOk, IfSome, OnOk, [], length, map};
 ghost use Rattle.std.specs.Bool.{IsTrue};
 ghost use Rattle.shb_fan.specs.Values.{values_of};
 ghost use Rattle.shb_pairs.specs.Pieces.{pieces_in};
@@ -10,16 +10,16 @@ ghost use Rattle.shb_report.specs.Report.{pair_of};
 ghost use Rattle.shb_counts.specs.Counted.{HasCounted};
 ghost use Rattle.shb_counts.specs.Tables.{AreTables};
 
-use crate::accesses::{Indices, count_accesses};
+use crate::accesses::count_accesses;
 use crate::counter::{Located, RaceCounter};
-use crate::numbering::{LocationNumbers, location_numbers};
+use crate::numbering::location_numbers;
 use crate::racing::Room;
 use crate::tables::{Tables, tables_of};
 use shb_clocks::Order;
 use shb_fan::Job;
 use shb_io::NoMemory;
 use shb_lines::Trace;
-use shb_pairs::{RaceRanges, RangeJob, Search};
+use shb_pairs::{RangeJob, Search};
 use shb_report::{PlaceTable, Places};
 use std::alloc::Global;
 use std::random::RandomSource;
@@ -46,115 +46,82 @@ fn has_many(located: &Located<'_, '_>, events: u32, races: u64, accesses: u32) -
     events <= located.trace.len() && races / each > u64::from(accesses)
 }
 
-/// What the races of one variable are counted by.
-#[derive(Drop)]
-struct Many<'a> {
-    tables: Tables<'a>,
-    room: Room,
-}
-
-/// What the races of the variable of a search are counted by: what is known, if it is of this variable.
-fn many_of<'a, O: Order>(
+/// The tables of the variable of a search: those that are known, if they are of this variable.
+fn tables_with<'a, O: Order>(
     alloc: Global,
-    numbers: &LocationNumbers<'_>,
+    located: &Located<'_, '_>,
     search: &Search<'_, 'a, O>,
-    known: Option<Many<'a>>,
-) -> Result<Many<'a>, NoMemory>
-    requires within { length search.now.ordered.now.disciplined.now.events.now ≤ length numbers.now.numbers.items }
-    requires numbered { (e : ℕ) → e < length numbers.now.numbers.items → slice_index_or numbers.now.numbers.items e 0 < length numbers.now.locations }
-    requires known { IfSome known (λ many. AreTables search.now.ordered.now.disciplined.now.events.now numbers.now.numbers.items
-        (length numbers.now.locations) many.tables.variable many.tables) }
-    ensures { IfOk result (λ many. AreTables search.now.ordered.now.disciplined.now.events.now numbers.now.numbers.items
-        (length numbers.now.locations) search.now.variable many.tables) }
+    known: Option<Tables<'a>>,
+) -> Result<Tables<'a>, NoMemory>
+    requires within { length search.now.ordered.now.disciplined.now.events.now ≤ length located.now.trace.now.events }
+    requires known { IfSome known (λ tables. AreTables search.now.ordered.now.disciplined.now.events.now located.now.numbers.now.numbers.items
+        (length located.now.numbers.now.locations) tables.variable tables) }
+    ensures { IfOk result (AreTables search.now.ordered.now.disciplined.now.events.now located.now.numbers.now.numbers.items
+        (length located.now.numbers.now.locations) search.now.variable) }
 {
-    if let Some(many) = known {
-        if many.tables.variable == search.variable {
-            return Ok(many);
+    if let Some(tables) = known {
+        if tables.variable == search.variable {
+            return Ok(tables);
         }
     }
-    let tables = tables_of(alloc, numbers, search)?;
-    Ok(Many {
-        tables,
-        room: Room::new(alloc),
-    })
+    tables_of(alloc, located, search)
 }
 
-/// Counts the races of a piece one by one.
-fn count_few(
-    alloc: Global,
-    counter: &mut RaceCounter,
-    located: &Located<'_, '_>,
-    races: &RaceRanges<'_>,
-) -> Result<(), NoMemory>
-    requires races { All (λ race. (race.0 < length located.now.trace.now.events) × (race.1 < length located.now.trace.now.events)) (joined races.now) }
-    requires room { counter.old.races + length (joined races.now) < 2 ^ 64 }
-    requires counted { (before : List (ℕ × ℕ)) × HasCounted located.now.numbers.now.numbers.items before counter.old }
-    ensures { OnOk result ((before : List (ℕ × ℕ)) → HasCounted located.now.numbers.now.numbers.items before counter.old
-        → HasCounted located.now.numbers.now.numbers.items (before ++ joined races.now) counter.new) }
-{
-    let pairs = races.expanded(alloc)?;
-    counter.count(located, pairs.as_slice())
-}
-
-/// Counts the races of a piece by the numbers of their locations. Gives what they were counted by.
+/// Counts the races of a piece by the numbers of their locations. Gives the tables of its variable.
 fn count_many<'a, O: Order>(
-    alloc: Global,
+    room: &mut Room,
     counter: &mut RaceCounter,
     located: &Located<'_, '_>,
     job: &RangeJob<'a, O>,
-    known: Option<Many<'a>>,
+    known: Option<Tables<'a>>,
     k: u64,
-) -> Result<Many<'a>, NoMemory>
+) -> Result<Tables<'a>, NoMemory>
     requires inside { k < length (pieces_in job.now) }
     requires within { length job.now.trace ≤ length located.now.trace.now.events }
-    requires known { IfSome known (λ many. AreTables job.now.trace located.now.numbers.now.numbers.items
-        (length located.now.numbers.now.locations) many.tables.variable many.tables) }
+    requires known { IfSome known (λ tables. AreTables job.now.trace located.now.numbers.now.numbers.items
+        (length located.now.numbers.now.locations) tables.variable tables) }
     requires room { counter.old.races + length (races_at job.now k) < 2 ^ 64 }
     requires counted { (before : List (ℕ × ℕ)) × HasCounted located.now.numbers.now.numbers.items before counter.old }
-    ensures tables { IfOk result (λ many. AreTables job.now.trace located.now.numbers.now.numbers.items
-        (length located.now.numbers.now.locations) many.tables.variable many.tables) }
+    ensures tables { IfOk result (λ tables. AreTables job.now.trace located.now.numbers.now.numbers.items
+        (length located.now.numbers.now.locations) tables.variable tables) }
     ensures counted { OnOk result ((before : List (ℕ × ℕ)) → HasCounted located.now.numbers.now.numbers.items before counter.old
         → HasCounted located.now.numbers.now.numbers.items (before ++ races_at job.now k) counter.new) }
 {
     let search = job.search(k);
     let piece = job.piece(k);
-    let many = many_of(alloc, located.numbers, &search, known)?;
-    let Many { tables, mut room } = many;
-    let indices = Indices {
-        from: piece.from as usize,
-        to: piece.to as usize,
-    };
-    count_accesses(&mut room, counter, located, &search, &tables, &indices)?;
-    Ok(Many { tables, room })
+    let tables = tables_with(room.alloc, located, &search, known)?;
+    count_accesses(room, counter, located, &search, &tables, piece)?;
+    Ok(tables)
 }
 
-/// Counts the races of a piece. Gives what those of the last piece with many were counted by.
+/// Counts the races of a piece, one by one where they are few. Gives the tables of the last piece with many.
 fn count_piece<'a, O: Order>(
-    alloc: Global,
+    room: &mut Room,
     counter: &mut RaceCounter,
     located: &Located<'_, '_>,
     job: &RangeJob<'a, O>,
-    known: Option<Many<'a>>,
+    known: Option<Tables<'a>>,
     k: u64,
-) -> Result<Option<Many<'a>>, NoMemory>
+) -> Result<Option<Tables<'a>>, NoMemory>
     requires inside { k < length (pieces_in job.now) }
     requires races { All (λ race. (race.0 < length located.now.trace.now.events) × (race.1 < length located.now.trace.now.events)) (races_at job.now k) }
-    requires known { IfSome known (λ many. AreTables job.now.trace located.now.numbers.now.numbers.items
-        (length located.now.numbers.now.locations) many.tables.variable many.tables) }
+    requires known { IfSome known (λ tables. AreTables job.now.trace located.now.numbers.now.numbers.items
+        (length located.now.numbers.now.locations) tables.variable tables) }
     requires room { counter.old.races + length (races_at job.now k) < 2 ^ 64 }
     requires counted { (before : List (ℕ × ℕ)) × HasCounted located.now.numbers.now.numbers.items before counter.old }
-    ensures tables { IfOk result (λ known. IfSome known (λ many. AreTables job.now.trace located.now.numbers.now.numbers.items
-        (length located.now.numbers.now.locations) many.tables.variable many.tables)) }
+    ensures tables { IfOk result (λ known. IfSome known (λ tables. AreTables job.now.trace located.now.numbers.now.numbers.items
+        (length located.now.numbers.now.locations) tables.variable tables)) }
     ensures counted { OnOk result ((before : List (ℕ × ℕ)) → HasCounted located.now.numbers.now.numbers.items before counter.old
         → HasCounted located.now.numbers.now.numbers.items (before ++ races_at job.now k) counter.new) }
 {
     let piece = job.piece(k);
-    let races = job.run(alloc, k)?;
+    let races = job.run(room.alloc, k)?;
     if has_many(located, job.events(), races.len(), piece.to - piece.from) {
-        let many = count_many(alloc, counter, located, job, known, k)?;
-        return Ok(Some(many));
+        let tables = count_many(room, counter, located, job, known, k)?;
+        return Ok(Some(tables));
     }
-    count_few(alloc, counter, located, &races)?;
+    let pairs = races.expanded(room.alloc)?;
+    counter.count(located, pairs.as_slice())?;
     Ok(known)
 }
 
@@ -171,10 +138,11 @@ fn count_pieces<O: Order>(
     requires counted { HasCounted located.now.numbers.now.numbers.items [] counter.old }
     ensures { OnOk result (HasCounted located.now.numbers.now.numbers.items (joined (values_of (races_at job.now) (length (pieces_in job.now)))) counter.new) }
 {
+    let mut room = Room::new(alloc);
     let mut known = None;
     let count = job.pieces();
     for k in 0..count {
-        known = count_piece(alloc, counter, located, job, known, k)?;
+        known = count_piece(&mut room, counter, located, job, known, k)?;
     }
     Ok(())
 }

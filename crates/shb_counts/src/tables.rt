@@ -6,12 +6,12 @@ ghost use Rattle.shb_pairs.specs.Spans.{compared_with};
 ghost use Rattle.shb_counts.specs.Counts.{number_in};
 ghost use Rattle.shb_counts.specs.Tables.{AreTables, IsCompared};
 
-use crate::numbering::LocationNumbers;
+use crate::counter::Located;
 use crate::prefix_counts::PrefixCounts;
 use shb_clocks::Order;
 use shb_io::NoMemory;
 use shb_lines::Op;
-use shb_pairs::Search;
+use shb_pairs::{Search, Which};
 use std::alloc::Global;
 
 /// Accesses by thread, and a table of the numbers of their locations.
@@ -59,37 +59,36 @@ fn numbers_at(alloc: Global, numbers: &[u32], positions: &[u32]) -> Result<Vec<u
     Ok(found)
 }
 
-/// Accesses with the table of their numbers.
-fn compared_of<'a>(
+/// Those accesses of the variable of a search, with the table of their numbers.
+fn compared_of<'a, O: Order>(
     alloc: Global,
-    numbers: &LocationNumbers<'_>,
-    positions: &'a [u32],
+    located: &Located<'_, '_>,
+    search: &Search<'_, 'a, O>,
+    which: Which,
 ) -> Result<Compared<'a>, NoMemory>
-    requires few { length positions.now < 2 ^ 32 }
-    requires within { All (λ k. k < length numbers.now.numbers.items) positions.now }
-    requires numbered { All (λ k. number_in numbers.now.numbers.items k < length numbers.now.locations) positions.now }
-    ensures positions { IfOk result (λ c. c.positions.now ≡ positions.now) }
-    ensures table { IfOk result (λ c. c.table ≡ (length numbers.now.locations, map (number_in numbers.now.numbers.items) positions.now)) }
+    requires { length search.now.ordered.now.disciplined.now.events.now ≤ length located.now.trace.now.events }
+    ensures { IfOk result (IsCompared search.now.ordered.now.disciplined.now.events.now located.now.numbers.now.numbers.items
+        (length located.now.numbers.now.locations) which search.now.variable) }
 {
-    let classes = numbers.locations.len();
+    let numbers = located.numbers;
+    let positions = search.by_thread(which);
     let of_positions = numbers_at(alloc, numbers.numbers.as_slice(), positions)?;
-    let table = PrefixCounts::of(alloc, of_positions, classes)?;
+    let table = PrefixCounts::of(alloc, of_positions, numbers.locations.len())?;
     Ok(Compared { positions, table })
 }
 
 /// The tables of the variable of a search.
 pub(crate) fn tables_of<'a, O: Order>(
     alloc: Global,
-    numbers: &LocationNumbers<'_>,
+    located: &Located<'_, '_>,
     search: &Search<'_, 'a, O>,
 ) -> Result<Tables<'a>, NoMemory>
-    requires within { length search.now.ordered.now.disciplined.now.events.now ≤ length numbers.now.numbers.items }
-    requires numbered { (e : ℕ) → e < length numbers.now.numbers.items → number_in numbers.now.numbers.items e < length numbers.now.locations }
-    ensures { IfOk result (λ t. AreTables search.now.ordered.now.disciplined.now.events.now numbers.now.numbers.items
-        (length numbers.now.locations) search.now.variable t) }
+    requires { length search.now.ordered.now.disciplined.now.events.now ≤ length located.now.trace.now.events }
+    ensures { IfOk result (AreTables search.now.ordered.now.disciplined.now.events.now located.now.numbers.now.numbers.items
+        (length located.now.numbers.now.locations) search.now.variable) }
 {
-    let both = compared_of(alloc, numbers, search.both_by_thread())?;
-    let writes = compared_of(alloc, numbers, search.writes_by_thread())?;
+    let both = compared_of(alloc, located, search, Which::Both)?;
+    let writes = compared_of(alloc, located, search, Which::Writes)?;
     Ok(Tables {
         variable: search.variable,
         both,

@@ -1,4 +1,5 @@
 -- An event may come after others exactly where it has no fault.
+use Rattle.std.proofs.lemmas.Grind.{common_steps}
 use Rattle.std.proofs.Common.{◌≡◌, ℕ, ◌+◌, ◌<◌, ◌≤◌, ◌⊎◌, inl, inr, List, length, take, get_or, refl, ◌∙◌, ap, arith, subst}
 use Rattle.std.proofs.lemmas.Bool.{cases_eq, cases_lt}
 use Rattle.std.proofs.lemmas.Option.{get_or_from_slice_get}
@@ -12,11 +13,7 @@ use Rattle.shb_lines.proofs.events.Locks.{DisciplinedBelow}
 use Rattle.shb_discipline.specs.Faults.{HasDisciplineFault}
 
 none_of : (n : ℕ) → (0 < n → ⊥) → n ≡ 0
-none_of n h = go (cases_lt 0 n)
-  where
-    go : (0 < n) ⊎ (n ≤ 0) → n ≡ 0
-    go (inl some) = absurd (h some)
-    go (inr none) = omega arith
+none_of n h = grind (arith, common_steps, cases_lt)
 
 module _ (past : List Event) (e : Event) where
   module _ (clean : (f : Fault) → HasDisciplineFault past e f → ⊥) where
@@ -51,15 +48,7 @@ module _ (past : List Event) (e : Event) where
   fork_allowed may u is = allowed may (Fork u) is
 
   pub no_fault : MayCome past e → (f : Fault) → HasDisciplineFault past e f → ⊥
-  no_fault may faults.AfterJoin h = let none = may.not_joined in omega arith
-  no_fault may faults.LockHeld h = h.2 (allowed may (Acquire h.0) h.1)
-  no_fault may faults.NotHeld h = let held = allowed may (Release h.0) h.1 in let free = h.2 in omega (arith, held, free)
-  no_fault may faults.ForkSelf h = (fork_allowed may e.thread h).other refl
-  no_fault may faults.ForkStarted h = let none = (fork_allowed may h.0 h.1).not_started in let some = h.2 in omega (arith, none, some)
-  no_fault may faults.ForkTwice h = let none = (fork_allowed may h.0 h.1).not_forked in let some = h.2 in omega (arith, none, some)
-  no_fault may faults.ForkJoined h = let none = (fork_allowed may h.0 h.1).not_joined in let some = h.2 in omega (arith, none, some)
-  no_fault may faults.JoinSelf h = allowed may (Join e.thread) h refl
-  no_fault may _ h = h
+  no_fault h f also = grind (arith, common_steps, allowed, fork_allowed)
 
 -- one more event that may come
 pub disciplined_more : (trace : List Event) (k : ℕ) (d : Event) → k < length trace → DisciplinedBelow trace k → MayCome (take k trace) (get_or trace k d) → DisciplinedBelow trace (k + 1)

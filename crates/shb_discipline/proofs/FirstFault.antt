@@ -1,4 +1,5 @@
 -- The first fault of a text, from the faults of its lines and the discipline of its events.
+use Rattle.std.proofs.lemmas.Grind.{common_steps}
 use Rattle.std.proofs.Common.{◌≡◌, ◌⊎◌, inl, inr, ◌+◌, ◌-◌, ◌<◌, ◌≤◌, ℕ, zero, suc, List, [], ◌∷◌, ◌++◌, length, take, drop, Option, Some, None, slice_get, refl, sym, ap, subst, ◌∙◌, arith}
 use Rattle.std.specs.List.{AllZip}
 use Rattle.std.proofs.Math.Seq.{take-length}
@@ -6,7 +7,6 @@ use Rattle.std.proofs.lemmas.Bool.{cases_lt, cases_order}
 use Rattle.std.proofs.lemmas.List.{length-take, take-take}
 use Rattle.shb_lines.specs.declared.event.Event.{Event}
 use Rattle.shb_lines.specs.declared.fault.Fault.{Fault}
-use Rattle.shb_lines.specs.declared.fault.Fault.TheVariants as faults
 use Rattle.shb_lines.specs.declared.limits.Limits.{Limits}
 use Rattle.shb_lines.specs.declared.fault.LineFault.{LineFault}
 use Rattle.shb_lines.specs.events.Discipline.{IsDisciplined}
@@ -47,26 +47,10 @@ past_append (z ∷ xs) ys (suc k) x le at = past_append xs ys k x (omega arith) 
 
 -- a line's faults have the lower numbers
 discipline_number : (past : List Event) (e : Event) (f : Fault) → HasDisciplineFault past e f → 9 ≤ number_of f
-discipline_number past e faults.AfterJoin h = omega arith
-discipline_number past e faults.LockHeld h = omega arith
-discipline_number past e faults.NotHeld h = omega arith
-discipline_number past e faults.ForkSelf h = omega arith
-discipline_number past e faults.ForkStarted h = omega arith
-discipline_number past e faults.ForkTwice h = omega arith
-discipline_number past e faults.ForkJoined h = omega arith
-discipline_number past e faults.JoinSelf h = omega arith
-discipline_number past e _ h = absurd h
+discipline_number past e f h = grind (arith, common_steps)
 
 line_number : (limits : Limits) (passes : Type 0) (before : List NamedEvent) (line : List ℕ) (f : Fault) → HasLineFault limits passes before line f → number_of f ≤ 8
-line_number limits passes before line faults.TextTooLong h = omega arith
-line_number limits passes before line faults.LineTooLong h = omega arith
-line_number limits passes before line faults.MissingField h = omega arith
-line_number limits passes before line faults.EmptyThread h = omega arith
-line_number limits passes before line faults.UnknownOperation h = omega arith
-line_number limits passes before line faults.BadOperand h = omega arith
-line_number limits passes before line faults.TooManyEvents h = omega arith
-line_number limits passes before line faults.TooManyThreads h = omega arith
-line_number limits passes before line _ h = absurd h
+line_number limits passes before line f h = grind (arith, common_steps)
 
 -- the trace of the first m lines
 module _ (text : List ℕ) (m : ℕ) (trace : TraceData) (h : IsTraceOf (take m (lines_of text)) trace) where
@@ -77,17 +61,10 @@ module _ (text : List ℕ) (m : ℕ) (trace : TraceData) (h : IsTraceOf (take m 
   located_at p e at = let found = AllZip-at (IsEventOf (tables_in trace)) trace.events (trace_of lines) p e h.events_are at in (found.0, found.1, found.2.line_is)
 
   line_within : (p : ℕ) (e : Event) → slice_get trace.events p ≡ Some e → (1 ≤ e.line) × (e.line < 1 + length lines)
-  line_within p e at =
-      let found = located_at p e at in
-      let bounds = line_bounds 1 lines p found.0 found.1 in
-      (omega (arith, found.2, bounds.0), omega (arith, found.2, bounds.1))
+  line_within p e at = grind (arith, common_steps, located_at, line_bounds)
 
   line_rises : (p q : ℕ) (e d : Event) → slice_get trace.events p ≡ Some e → slice_get trace.events q ≡ Some d → p < q → e.line < d.line
-  line_rises p q e d at_p at_q lt =
-      let a = located_at p e at_p in
-      let b = located_at q d at_q in
-      let rise = lines_rise 1 lines p q a.0 b.0 a.1 b.1 lt in
-      omega (arith, a.2, b.2, rise)
+  line_rises p q e d at_p at_q lt = grind (arith, common_steps, located_at, lines_rise)
 
   same_index : (p q : ℕ) (e d : Event) → slice_get trace.events p ≡ Some e → slice_get trace.events q ≡ Some d → e.line ≡ d.line → p ≡ q
   same_index p q e d at_p at_q same = elim (cases_order p q) [

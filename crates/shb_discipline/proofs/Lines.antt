@@ -1,5 +1,6 @@
 -- The lines of the events of a text rise, and the events of the first lines are the first events.
-use Rattle.std.proofs.Common.{◌≡◌, ◌+◌, ◌<◌, ◌≤◌, ℕ, zero, suc, List, [], ◌∷◌, ◌++◌, length, take, drop, Option, Some, None, Ok, Err, slice_get, refl, sym, ap, ◌∙◌, arith, add-zero}
+use Rattle.std.proofs.lemmas.Grind.{common_steps}
+use Rattle.std.proofs.Common.{◌≡◌, ◌+◌, ◌<◌, ◌≤◌, ℕ, zero, suc, List, [], ◌∷◌, ◌++◌, length, take, drop, Option, Some, None, slice_get, refl, sym, ap, ◌∙◌, arith, add-zero}
 use Rattle.std.specs.List.{cons_option, enumerate_from, filter_map}
 use Rattle.std.specs.Str.Lines.{strip_carriage_return}
 use Rattle.std.proofs.lemmas.List.{take-append-drop}
@@ -23,9 +24,7 @@ pub trace_of-split : (n : ℕ) (lines : List (List ℕ)) → trace_of lines ≡ 
 trace_of-split n lines = ap trace_of (sym (take-append-drop n lines)) ∙ located_from-append 1 (take n lines) (drop n lines)
 
 line_of_event : (n : ℕ) (text : List ℕ) (m : Meaning) (x : LocatedEvent) → located n text m ≡ Some x → x.line ≡ n
-line_of_event n text (Ok (Some e)) x h = (let same : record { line = n; text = text; event = e } ≡ x = cc in ap (λ l. l.line) (sym same))
-line_of_event n text (Ok None) x h = absurd cc
-line_of_event n text (Err f) x h = absurd cc
+line_of_event n text m x h = grind (arith, common_steps)
 
 -- the line of an event is one of these
 pub line_bounds : (n : ℕ) (lines : List (List ℕ)) (k : ℕ) (x : LocatedEvent) → slice_get (located_from n lines) k ≡ Some x → (n ≤ x.line) × (x.line < n + length lines)

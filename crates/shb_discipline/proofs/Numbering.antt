@@ -1,5 +1,6 @@
 -- The lines of a trace number their names in one way, and the front of a trace is the trace of the front of its lines.
-use Rattle.std.proofs.Common.{◌≡◌, ◌⊎◌, inl, inr, ℕ, List, [], ◌∷◌, ◌++◌, length, map, take, Some, slice_get, refl, sym, ap, subst, ◌∙◌}
+use Rattle.std.proofs.lemmas.Grind.{common_steps}
+use Rattle.std.proofs.Common.{◌≡◌, ◌⊎◌, inl, inr, ℕ, List, [], ◌∷◌, ◌++◌, length, map, take, Some, slice_get, refl, sym, ap, subst, ◌∙◌, arith}
 use Rattle.std.specs.List.{AllZip, flat_map, position_or_len}
 use Rattle.std.specs.Str.{bytes_eq}
 use Rattle.std.proofs.lemmas.Grind.{flat_map-append}
@@ -154,23 +155,10 @@ module _ (events : List NamedEvent) where
   tables = tables_of_events events
 
   same_number : (kind : Kind) (name : List ℕ) (m n : ℕ) → IsNumberFor tables kind name m → IsNumberFor tables kind name n → op_for kind m ≡ op_for kind n
-  same_number kinds.Read name m n at_m at_n = ap (λ k. ops.Read k) (one_number tables.variables name m n (IsDistinct-table_of (flat_map variables_in events)) at_m at_n)
-  same_number kinds.Write name m n at_m at_n = ap (λ k. ops.Write k) (one_number tables.variables name m n (IsDistinct-table_of (flat_map variables_in events)) at_m at_n)
-  same_number kinds.Acquire name m n at_m at_n = ap (λ k. ops.Acquire k) (one_number tables.locks name m n (IsDistinct-table_of (flat_map locks_in events)) at_m at_n)
-  same_number kinds.Release name m n at_m at_n = ap (λ k. ops.Release k) (one_number tables.locks name m n (IsDistinct-table_of (flat_map locks_in events)) at_m at_n)
-  same_number kinds.Fork name m n at_m at_n = ap (λ k. ops.Fork k) (one_number tables.threads name m n (IsDistinct-table_of (flat_map threads_in events)) at_m at_n)
-  same_number kinds.Join name m n at_m at_n = ap (λ k. ops.Join k) (one_number tables.threads name m n (IsDistinct-table_of (flat_map threads_in events)) at_m at_n)
-  same_number kinds.BeginMark name m n at_m at_n = refl
-  same_number kinds.EndMark name m n at_m at_n = refl
+  same_number kind name m n h also = grind (arith, common_steps, one_number, IsDistinct-table_of)
 
   same_event : (a b : Event) (l : LocatedEvent) → IsEventOf tables a l → IsEventOf tables b l → a ≡ b
-  same_event a b l of_a of_b =
-      let thread : a.thread ≡ b.thread = one_number tables.threads l.event.thread a.thread b.thread (IsDistinct-table_of (flat_map threads_in events)) of_a.numbered.thread of_b.numbered.thread in
-      let at_a = op_number tables a.op l.event.kind l.event.operand of_a.numbered.operation in
-      let at_b = op_number tables b.op l.event.kind l.event.operand of_b.numbered.operation in
-      let op : a.op ≡ b.op = at_a.1 ∙ (same_number l.event.kind l.event.operand at_a.0 at_b.0 at_a.2 at_b.2 ∙ sym at_b.1) in
-      let line : a.line ≡ b.line = of_a.line_is ∙ sym of_b.line_is in
-      λ i. record { thread = thread i; op = op i; line = line i }
+  same_event a b l of_a of_b = grind (arith, common_steps, one_number, IsDistinct-table_of, op_number, same_number)
 
   same_events : (xs ys : List Event) (located : List LocatedEvent) → AllZip (IsEventOf tables) xs located → AllZip (IsEventOf tables) ys located → xs ≡ ys
   same_events [] [] located all other = refl
@@ -182,7 +170,4 @@ module _ (events : List NamedEvent) where
 
 -- some lines have one list of events
 pub one_trace : (lines : List (List ℕ)) (a b : TraceData) → IsTraceOf lines a → IsTraceOf lines b → a.events ≡ b.events
-one_trace lines a b of_a of_b =
-    same_events (events_of lines) a.events b.events (trace_of lines)
-    (subst (λ t. AllZip (IsEventOf t) a.events (trace_of lines)) of_a.tables_are of_a.events_are)
-    (subst (λ t. AllZip (IsEventOf t) b.events (trace_of lines)) of_b.tables_are of_b.events_are)
+one_trace lines a b of_a of_b = grind (arith, common_steps, same_events)

@@ -1,5 +1,6 @@
 -- A trace and a text have at most one first fault.
-use Rattle.std.proofs.Common.{◌≡◌, ◌+◌, ◌<◌, inl, inr, ℕ, List, [], ◌∷◌, Some, get_or, take, refl, sym, ap, subst, ◌∙◌, arith}
+use Rattle.std.proofs.lemmas.Grind.{common_steps}
+use Rattle.std.proofs.Common.{◌≡◌, ◌+◌, ◌<◌, inl, inr, ℕ, List, [], ◌∷◌, Some, get_or, take, sym, ap, subst, ◌∙◌, arith}
 use Rattle.std.specs.Prelude.{slice_get}
 use Rattle.std.proofs.lemmas.Bool.{cases_order}
 use Rattle.shb_lines.specs.declared.event.Event.{Event}
@@ -20,29 +21,10 @@ by_number =
     ∷ faults.AfterJoin ∷ faults.LockHeld ∷ faults.TextTooLong ∷ faults.NotHeld ∷ faults.ForkSelf ∷ faults.ForkStarted ∷ faults.ForkTwice ∷ faults.ForkJoined ∷ faults.JoinSelf ∷ []
 
 found : (f : Fault) → get_or by_number (number_of f) faults.TextTooLong ≡ f
-found faults.TextTooLong = refl
-found faults.LineTooLong = refl
-found faults.MissingField = refl
-found faults.EmptyThread = refl
-found faults.UnknownOperation = refl
-found faults.BadOperand = refl
-found faults.TooManyEvents = refl
-found faults.TooManyThreads = refl
-found faults.AfterJoin = refl
-found faults.LockHeld = refl
-found faults.NotHeld = refl
-found faults.ForkSelf = refl
-found faults.ForkStarted = refl
-found faults.ForkTwice = refl
-found faults.ForkJoined = refl
-found faults.JoinSelf = refl
+found f = grind (arith, common_steps)
 
 one_lowest : (Has : Fault → Type 0) (f g : Fault) → IsLowest number_of Has (Some f) → IsLowest number_of Has (Some g) → f ≡ g
-one_lowest Has f g low_f low_g =
-    let le = low_f.1 g low_g.0 in
-    let ge = low_g.1 f low_f.0 in
-    let same : number_of f ≡ number_of g = omega (arith, le, ge) in
-    sym (found f) ∙ (ap (λ n. get_or by_number n faults.TextTooLong) same ∙ found g)
+one_lowest Has f g low_f low_g = grind (arith, common_steps, found)
 
 module _ (trace : List Event) where
   pub disciplined_or_not : (line : ℕ) (f : Fault) → IsDisciplined trace → IsFirstDisciplineFault trace line f → ⊥

@@ -1,4 +1,5 @@
 -- What one event more does to what is known of locks and threads.
+use Rattle.std.proofs.lemmas.Grind.{common_steps}
 use Rattle.std.proofs.Common.{◌≡◌, ◌≢◌, ℕ, ◌+◌, ◌-◌, ◌^◌, ◌<◌, ◌≤◌, ◌⊎◌, inl, inr, Bool, true, false, List, Some, length, get_or, take, refl, sym, ◌∙◌, ap, arith, subst, get_or-set_same, get_or-set_other}
 use Rattle.std.specs.Prelude.{slice_get, count_by, cond, not, ◌==◌, ◌&&◌}
 use Rattle.std.proofs.Math.ListN.{set, length-set}
@@ -50,26 +51,10 @@ is_join_test u e b is = is
 
 -- w and v say whether the thread and the holder are of a set, s whether they are one
 acquire_cases : (w v s : Bool) (d : ℕ) → (s ≡ true → v ≡ w) → cond (not s) d 0 ≡ 0 → cond w 1 0 + cond v d 0 ≡ 0 + cond w (d + 1) 0
-acquire_cases w v true d same no_other = rw (same refl) (by w)
-  where
-    by : (b : Bool) → cond b 1 0 + cond b d 0 ≡ 0 + cond b (d + 1) 0
-    by true = omega arith
-    by false = refl
-acquire_cases w v false d same no_other = by w v
-  where
-    by : (a b : Bool) → cond a 1 0 + cond b d 0 ≡ 0 + cond a (d + 1) 0
-    by true true = omega (arith, no_other)
-    by true false = omega (arith, no_other)
-    by false true = omega (arith, no_other)
-    by false false = refl
+acquire_cases w v s d h also = grind (arith, common_steps)
 
 release_cases : (w v s : Bool) (d : ℕ) → (s ≡ true → v ≡ w) → 0 < cond s d 0 → 0 + cond v d 0 ≡ cond w 1 0 + cond v (d - 1) 0
-release_cases w v true d same held = rw (same refl) (by w)
-  where
-    by : (b : Bool) → 0 + cond b d 0 ≡ cond b 1 0 + cond b (d - 1) 0
-    by true = omega (arith, held)
-    by false = refl
-release_cases w v false d same held = absurd (omega (arith, held))
+release_cases w v s d h also = grind (arith, common_steps)
 
 module _ (trace : List Event) (k : ℕ) (e : Event) (at : slice_get trace k ≡ Some e) where
   pub count_more : (f : Event → Bool) → count_by f (take (k + 1) trace) ≡ count_by f (take k trace) + cond (f e) 1 0
@@ -114,12 +99,7 @@ module _ (trace : List Event) (k : ℕ) (e : Event) (at : slice_get trace k ≡ 
 
   -- the state of a lock, before and after
   lock_more : (l : ℕ) (old new : LockState) → ((who : ℕ → Bool) → cond (is_acquire who l e) 1 0 + cond (who old.holder) old.depth 0 ≡ cond (is_release who l e) 1 0 + cond (who new.holder) new.depth 0) → IsLockAfter (take k trace) l old → IsLockAfter (take (k + 1) trace) l new
-  lock_more l old new step known who =
-      let a = count_more (is_acquire who l) in
-      let b = count_more (is_release who l) in
-      let c = known who in
-      let d = step who in
-      omega (arith, a, b, c, d)
+  lock_more l old new step known who = grind (arith, common_steps, count_more)
 
   -- a lock that the event doesn't name
   pub other_lock : (l : ℕ) (lock : LockState) → op_is_acquire l e.op ≡ false → op_is_release l e.op ≡ false → IsLockAfter (take k trace) l lock → IsLockAfter (take (k + 1) trace) l lock
@@ -169,28 +149,20 @@ depth_few past l lock known =
 
 -- who may release a lock has it acquired
 pub depth_some : (past : List Event) (t l : ℕ) (lock : LockState) → IsLockAfter past l lock → releases (only t) l past < acquires (only t) l past → 1 ≤ lock.depth
-depth_some past t l lock known may = go (t == lock.holder) (let h = known (only t) in omega (arith, h, may))
-  where
-    go : (s : Bool) → 0 < cond s lock.depth 0 → 1 ≤ lock.depth
-    go true h = omega arith
-    go false h = absurd (omega arith)
+depth_some past t l lock known may = grind (arith, common_steps)
 
 -- operations of other kinds
 pub no_acquire : (op : Op) → ((m : ℕ) → op ≡ Acquire m → ⊥) → (l : ℕ) → op_is_acquire l op ≡ false
-no_acquire (Acquire m) other l = absurd (other m refl)
-no_acquire _ other l = refl
+no_acquire op h l = grind (arith, common_steps)
 
 pub no_release : (op : Op) → ((m : ℕ) → op ≡ Release m → ⊥) → (l : ℕ) → op_is_release l op ≡ false
-no_release (Release m) other l = absurd (other m refl)
-no_release _ other l = refl
+no_release op h l = grind (arith, common_steps)
 
 pub no_fork : (op : Op) → ((m : ℕ) → op ≡ Fork m → ⊥) → (u : ℕ) → op_is_fork u op ≡ false
-no_fork (Fork m) other u = absurd (other m refl)
-no_fork _ other u = refl
+no_fork op h u = grind (arith, common_steps)
 
 pub no_join : (op : Op) → ((m : ℕ) → op ≡ Join m → ⊥) → (u : ℕ) → op_is_join u op ≡ false
-no_join (Join m) other u = absurd (other m refl)
-no_join _ other u = refl
+no_join op h u = grind (arith, common_steps)
 
 -- all that is known, after the event
 module _ (trace : List Event) (k : ℕ) (e : Event) (at : slice_get trace k ≡ Some e) (state : State) (covers : Covers state e) (may : MayCome (take k trace) e) (known : IsStateAfter (take k trace) state) where

@@ -1,4 +1,5 @@
 -- A lock after disciplined events has at most one holder, and what follows from that between two positions.
+use Rattle.std.proofs.lemmas.Grind.{common_steps}
 use Rattle.std.proofs.Common.{◌≡◌, ◌≢◌, ℕ, zero, suc, ◌+◌, ◌-◌, ◌<◌, ◌≤◌, ◌⊎◌, inl, inr, Bool, true, false, List, Some, take, refl, sym, ◌∙◌, ap, arith, subst, add-one}
 use Rattle.std.specs.Prelude.{slice_get, count_by, cond, ◌==◌}
 use Rattle.std.proofs.Math.Bool.{and-false, and-true}
@@ -20,8 +21,7 @@ pub record HasHolder (past : List Event) (l : ℕ) : Type 0 where
   pub balance : (who : ℕ → Bool) → acquires who l past ≡ releases who l past + cond (who holder) depth 0
 
 cond_zero : (b : Bool) → ◌≡◌ {A = ℕ} (cond b 0 0) 0
-cond_zero true = refl
-cond_zero false = refl
+cond_zero b = grind (arith, common_steps)
 
 module _ (trace : List Event) (k : ℕ) (e : Event) (at : slice_get trace k ≡ Some e) where
   -- how the counts of a lock's acquires and releases go on
@@ -128,15 +128,4 @@ balanced past l h held other = let b = held.balance (only h) in let none : cond 
 
 -- where the threads other than t have released what they acquired, each of them has
 pub others_balanced : (past : List Event) (l t h : ℕ) → HasHolder past l → h ≢ t → acquires (other_than t) l past ≡ releases (other_than t) l past → acquires (only h) l past ≡ releases (only h) l past
-others_balanced past l t h held ne same = go (cases_Bool (h == held.holder))
-  where
-    go : ((h == held.holder) ≡ true) ⊎ ((h == held.holder) ≡ false) → acquires (only h) l past ≡ releases (only h) l past
-    go (inr other) = balanced past l h held other
-    go (inl own) =
-        let is : h ≡ held.holder = eqb-true h held.holder own in
-        let apart : (t == held.holder) ≡ false = ne_eqb t held.holder (λ e. ne (is ∙ sym e)) in
-        let free : cond (other_than t held.holder) held.depth 0 ≡ held.depth = rw apart refl in
-        let b = held.balance (other_than t) in
-        let mine = held.balance (only h) in
-        let all : cond (only h held.holder) held.depth 0 ≡ held.depth = rw own refl in
-        omega (arith, b, free, same, mine, all)
+others_balanced past l t h held ne same = grind (arith, common_steps, cases_Bool, balanced, eqb-true, ne_eqb)

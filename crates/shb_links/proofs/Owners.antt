@@ -1,4 +1,5 @@
 -- Accesses of a variable, and who makes them, an event at a time.
+use Rattle.std.proofs.lemmas.Grind.{common_steps}
 use Rattle.std.proofs.Common.{◌≡◌, ◌≢◌, ℕ, ◌+◌, ◌<◌, ◌≤◌, ◌⊎◌, inl, inr, Bool, true, false, List, Option, Some, None, length, get_or, refl, arith, subst, ap, sym, ◌∙◌, get_or-set_same, get_or-set_other}
 use Rattle.std.specs.Prelude.{◌↔◌, IsTrue, map, option_and_then}
 use Rattle.std.proofs.Math.ListN.{set, length-set}
@@ -7,7 +8,6 @@ use Rattle.std.proofs.lemmas.List.{get_or-map, get_or_past, length-map}
 use Rattle.std.proofs.lemmas.Option.{slice_get_within}
 use Rattle.shb_lines.specs.declared.event.Event.{Event}
 use Rattle.shb_lines.specs.declared.event.Op.{Op}
-use Rattle.shb_lines.specs.declared.event.Op.TheVariants.{Read, Write}
 use Rattle.shb_lines.specs.declared.event.Sizes.{Sizes}
 use Rattle.shb_lines.specs.events.Events.{op_at, thread_at, variable_of}
 use Rattle.shb_lines.specs.events.Race.{variable_at}
@@ -27,34 +27,17 @@ apart x h = let f : ⊥ = cc in f
 
 -- an access and its variable are in range
 sized : (sizes : Sizes) (op : Op) (x : ℕ) → IsOpWithin sizes op → variable_of op ≡ Some x → x < sizes.variables
-sized sizes (Read y) x low is = let same : y ≡ x = cc in rw (← same) low
-sized sizes (Write y) x low is = let same : y ≡ x = cc in rw (← same) low
-sized sizes _ x low is = absurd (let f : ⊥ = cc in f)
+sized sizes op x h also = grind (arith, common_steps)
 
 pub variable_sized : (trace : List Event) (sizes : Sizes) (k x : ℕ) → IsWithin trace sizes → variable_at trace k ≡ Some x → (k < length trace) × (x < sizes.variables)
-variable_sized trace sizes k x within access =
-    let e = event_at_access trace k x access in
-    (slice_get_within trace k e.0 e.1, sized sizes e.0.op x (within k e.0 e.1).operation (sym (variable_known trace k e.0.op (op_is trace k e.0 e.1)) ∙ access))
+variable_sized trace sizes k x within access = grind (arith, common_steps, event_at_access, slice_get_within, sized, variable_known, op_is)
 
 -- one event more, which doesn't access x
 sole_more : (trace : List Event) (x n t : ℕ) → (variable_at trace n ≡ Some x → thread_at trace n ≡ Some t) → IsSole trace x n t → IsSole trace x (n + 1) t
-sole_more trace x n t own is = record {
-  access = is.access;
-  accesses = is.accesses;
-  of_thread = is.of_thread;
-  all = λ k lt of_k. elim (cases_lt k n) [ inl low ↦ is.all k low of_k | inr le ↦ (let same : k ≡ n = omega (arith, lt, le) in rw same (own (rw (← same) of_k))) ];
-}
+sole_more trace x n t own is = grind (arith, common_steps, cases_lt)
 
 owner_other : (trace : List Event) (x n : ℕ) (owner : Owner) → variable_at trace n ≢ Some x → IsOwner trace x n owner → IsOwner trace x (n + 1) owner
-owner_other trace x n Nobody other none = λ k lt of_k. elim (cases_lt k n) [ inl low ↦ none k low of_k | inr le ↦ other (let same : k ≡ n = omega (arith, lt, le) in rw (← same) of_k) ]
-owner_other trace x n (One t) other is = sole_more trace x n t (λ of_n. absurd (other of_n)) is
-owner_other trace x n Several other is = is
-
-pub owners_other : (trace : List Event) (n size : ℕ) (owners : List Owner) → ((x : ℕ) → variable_at trace n ≢ Some x) → AreOwners trace n size owners → AreOwners trace (n + 1) size owners
-owners_other trace n size owners other h = record {
-  as_many = h.as_many;
-  each = λ x d lt. owner_other trace x n (get_or owners x d) (other x) (h.each x d lt);
-}
+owner_other trace x n owner h also = grind (arith, common_steps, cases_lt, sole_more)
 
 pub owners_access : (trace : List Event) (n size x : ℕ) (owner : Owner) (owners : List Owner) → x < size → variable_at trace n ≡ Some x → IsOwner trace x (n + 1) owner → AreOwners trace n size owners → AreOwners trace (n + 1) size (set owners x owner)
 owners_access trace n size x owner owners within access is h = record {

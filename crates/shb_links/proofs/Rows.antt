@@ -1,5 +1,6 @@
 -- The table of local times, an event at a time, and what its getter answers.
-use Rattle.std.proofs.Common.{◌≡◌, ℕ, ◌<◌, List, Some, length, get_or, arith, subst, ap, sym, ◌∙◌}
+use Rattle.std.proofs.lemmas.Grind.{common_steps}
+use Rattle.std.proofs.Common.{◌≡◌, ℕ, ◌<◌, List, Some, length, get_or, arith, subst, sym}
 use Rattle.std.proofs.lemmas.List.{get_or_read}
 use Rattle.shb_lines.specs.declared.event.Event.{Event}
 use Rattle.shb_lines.specs.declared.event.Op.TheVariants.{Read}
@@ -11,10 +12,7 @@ use Rattle.shb_links.specs.Links.{IsLocal, HasLocals}
 
 -- what a getter answers, where the links are seen as the trace
 pub local_answer : (trace seen : List Event) (locals : List ℕ) (x e t : ℕ) → trace ≡ seen → HasLocals trace (length trace) locals → e < length seen → x ≡ get_or locals e x → thread_at seen e ≡ Some t → x ≡ local_time seen t e
-local_answer trace seen locals x e t same has lt is of_e =
-    let size = ap length same in
-    let there : x ≡ get_or locals e 0 = get_or_read locals e x (let m = has.as_long in omega (arith, size, lt, m)) is 0 in
-    there ∙ rw (← same) (has.each e t (omega (arith, size, lt)) (rw same of_e))
+local_answer trace seen locals x e t same has lt is of_e = grind (arith, common_steps, get_or_read)
 
 pub local_number : (trace seen : List Event) (locals : List ℕ) (x e : ℕ) → trace ≡ seen → HasLocals trace (length trace) locals → e < length seen → x ≡ get_or locals e x → IsLocal seen e x
 local_number trace seen locals x e same has lt is =

@@ -1,12 +1,12 @@
 -- What the pass finds of one event.
-use Rattle.std.proofs.Common.{◌≡◌, ◌≢◌, ℕ, ◌+◌, ◌<◌, ◌≤◌, ◌⊎◌, inl, inr, true, false, List, Option, Some, None, length, get_or, take, arith, subst, ap, sym, ◌∙◌}
-use Rattle.std.specs.Prelude.{count_by, slice_get}
+use Rattle.std.proofs.lemmas.Grind.{common_steps}
+use Rattle.std.proofs.Common.{◌≡◌, ◌≢◌, ℕ, ◌+◌, ◌<◌, ◌≤◌, List, Option, Some, None, length, get_or, take, arith, subst, ap, sym, ◌∙◌}
+use Rattle.std.specs.Prelude.{count_by}
 use Rattle.std.specs.Option.{option_or}
 use Rattle.std.proofs.lemmas.Bool.{cases_Bool}
 use Rattle.std.proofs.lemmas.List.{length-take}
 use Rattle.std.proofs.lemmas.List.Sums.{count_by-le-length}
 use Rattle.shb_lines.specs.declared.event.Event.{Event}
-use Rattle.shb_lines.specs.declared.event.Op.{Op}
 use Rattle.shb_lines.specs.declared.event.Op.TheVariants.{Read}
 use Rattle.shb_lines.specs.events.Events.{thread_at, op_at}
 use Rattle.shb_lines.specs.events.Discipline.{IsDisciplined, is_of, local_time}
@@ -14,7 +14,7 @@ use Rattle.shb_lines.specs.events.Order.{IsPred, in_thread, by_fork, LastWrite}
 use Rattle.shb_lines.proofs.events.Counts.{count_more_yes, count_gap, counted_before}
 use Rattle.shb_lines.proofs.events.Events.{thread_is, event_of_thread, is_of_true}
 use Rattle.shb_lines.proofs.events.Prefix.{is_of_thread}
-use Rattle.shb_lines.proofs.events.Items.{op_other_at, thread_within}
+use Rattle.shb_lines.proofs.events.Items.{thread_within}
 use Rattle.shb_links.proofs.Tables.{thread_alone}
 use Rattle.shb_links.specs.Latest.{IsLatestBefore, Latest, IsLatestTable, OfThread, WritesVariable, ForksThread}
 use Rattle.shb_links.specs.Links.{Exactly, HasLocals}
@@ -22,10 +22,7 @@ use Rattle.shb_lines.specs.events.Sizes.{IsWithin}
 use Rattle.shb_lines.specs.declared.event.Sizes.{Sizes}
 
 pub time_bound : (trace : List Event) (t e : ℕ) → local_time trace t e ≤ e + 1
-time_bound trace t e =
-    let all = count_by-le-length (is_of t) (take (e + 1) trace) in
-    let front = length-take {A = Event} (e + 1) trace in
-    omega (arith, all, front)
+time_bound trace t e = grind (arith, common_steps, count_by-le-length, length-take)
 
 -- the local time of an event, from the last event of its thread
 module _ (trace : List Event) (e t : ℕ) (of_e : thread_at trace e ≡ Some t) where
@@ -33,11 +30,7 @@ module _ (trace : List Event) (e t : ℕ) (of_e : thread_at trace e ≡ Some t) 
   time_here = let d = event_of_thread trace e t of_e in count_more_yes (is_of t) trace e d.0 d.1 (is_of_true t d.0 d.2)
 
   none_of : (a : ℕ) → ((m : ℕ) → a ≤ m → m < e → thread_at trace m ≢ Some t) → a ≤ e → count_by (is_of t) (take e trace) ≡ count_by (is_of t) (take a trace)
-  none_of a none le = count_gap (is_of t) trace a e le (λ k d low high at_k. other k d low high at_k (cases_Bool (is_of t d)))
-    where
-      other : (k : ℕ) (d : Event) → a ≤ k → k < e → slice_get trace k ≡ Some d → (is_of t d ≡ true) ⊎ (is_of t d ≡ false) → is_of t d ≡ false
-      other k d low high at_k (inr fails) = fails
-      other k d low high at_k (inl is) = absurd (none k low high (thread_is trace k d at_k ∙ ap (λ x. Some x) (is_of_thread t d is)))
+  none_of a none le = grind (arith, common_steps, count_gap, cases_Bool, thread_is, is_of_thread)
 
   pub time_first : ((m : ℕ) → m < e → thread_at trace m ≢ Some t) → local_time trace t e ≡ 1
   time_first none = let gap = none_of 0 (λ m low high. none m high) (omega arith) in let own = time_here in omega (arith, gap, own)
@@ -47,11 +40,7 @@ module _ (trace : List Event) (e t : ℕ) (of_e : thread_at trace e ≡ Some t) 
 
   -- the first event of a thread
   pub none_earlier : local_time trace t e ≡ 1 → (m : ℕ) → m < e → thread_at trace m ≢ Some t
-  none_earlier first m lt of_m =
-      let d = event_of_thread trace m t of_m in
-      let before = counted_before (is_of t) trace m e d.0 d.1 (is_of_true t d.0 d.2) lt in
-      let own = time_here in
-      omega (arith, first, before, own)
+  none_earlier first m lt of_m = grind (arith, common_steps, event_of_thread, counted_before, is_of_true, time_here)
 
   pub pred_by_fork : IsDisciplined trace → (last fork : Option ℕ) → Latest (OfThread trace t) e last → Exactly (ForksThread trace t) fork → Exactly (λ p. IsPred trace p e) (option_or last fork)
   pred_by_fork disciplined (Some p) fork latest forks = in_thread t latest.holds of_e latest.earlier latest.last
@@ -71,8 +60,7 @@ pred_first trace seen e t time fork same disciplined of_e local first forks =
 
 -- the last write of a read, and of what is no read
 pub write_link : (trace : List Event) (e x : ℕ) → op_at trace e ≡ Some (Read x) → (o : Option ℕ) → Latest (WritesVariable trace x) e o → Exactly (λ w. LastWrite trace w e) o
-write_link trace e x reads (Some w) latest = record { variable = x; reads = reads; writes = latest.holds; earlier = latest.earlier; latest = latest.last }
-write_link trace e x reads None none = λ w last. (let a = last.reads in let same : last.variable ≡ x = cc in none w last.earlier (rw (← same) last.writes))
+write_link trace e x h o also = grind (arith, common_steps)
 
 -- the entry of an event's thread in a table of latest positions
 pub thread_entry : (P : ℕ → ℕ → Type 0) (trace : List Event) (sizes : Sizes) (table : List (Option ℕ)) (e t : ℕ) → IsWithin trace sizes → IsLatestTable P e sizes.threads table → thread_at trace e ≡ Some t → Latest (P t) e (get_or table t None)
@@ -99,11 +87,4 @@ module _ (trace : List Event) (sizes : Sizes) (e t : ℕ) (within : IsWithin tra
       ∙ ap (λ v. local_time trace v e) (of_same u of_u)
 
   pub time_small : (locals : List ℕ) (last : List (Option ℕ)) (p : ℕ) → e < length trace → HasLocals trace e locals → IsLatestTable (OfThread trace) e sizes.threads last → get_or last t None ≡ Some p → get_or locals p 0 < length trace
-  time_small locals last p lt times has is =
-      let next = next_here locals last p times has is in
-      let low = time_bound trace t e in
-      omega (arith, next, low, lt)
-
--- what is no read reads from no write
-pub no_read_at : (trace : List Event) (e : ℕ) (op : Op) → op_at trace e ≡ Some op → ((x : ℕ) → op ≡ Read x → ⊥) → (w : ℕ) → LastWrite trace w e → ⊥
-no_read_at trace e op does other w last = op_other_at trace e op (Read last.variable) does (other last.variable) last.reads
+  time_small locals last p lt times has is = grind (arith, common_steps, next_here, time_bound)

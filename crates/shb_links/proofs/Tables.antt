@@ -1,17 +1,15 @@
 -- Tables of latest positions, an event at a time.
+use Rattle.std.proofs.lemmas.Grind.{common_steps}
 use Rattle.std.proofs.Common.{◌≡◌, ℕ, ◌+◌, ◌<◌, ◌≤◌, ◌⊎◌, inl, inr, List, Option, Some, None, length, get_or, arith, subst, sym, ◌∙◌, get_or-set_same, get_or-set_other}
 use Rattle.std.proofs.Math.ListN.{set, length-set}
 use Rattle.std.proofs.lemmas.Bool.{cases_lt, cases_eq}
 use Rattle.std.proofs.lemmas.List.{get_or_past}
 use Rattle.std.proofs.lemmas.Option.{slice_get_within}
 use Rattle.shb_lines.specs.declared.event.Event.{Event}
-use Rattle.shb_lines.specs.declared.event.Op.{Op}
 use Rattle.shb_lines.specs.declared.event.Op.TheVariants.{Fork}
-use Rattle.shb_lines.specs.events.Events.{op_at, thread_at}
 use Rattle.shb_lines.proofs.events.Events.{event_of_op, event_of_thread}
-use Rattle.shb_lines.proofs.events.Items.{op_other_at, op_within_at, thread_within}
 use Rattle.shb_links.specs.Latest.{Latest, IsLatestTable, OfThread, ForksThread}
-use Rattle.shb_links.specs.Links.{Exactly, HasForks, HasLastEvents}
+use Rattle.shb_links.specs.Links.{Exactly}
 use Rattle.shb_lines.specs.events.Sizes.{IsOpWithin, IsWithin}
 use Rattle.shb_lines.specs.declared.event.Sizes.{Sizes}
 
@@ -29,44 +27,18 @@ latest_skip P n (Some p) fails latest = record {
 
 -- the position n is the latest of t, and of no other number
 pub table_mark : (P : ℕ → ℕ → Type 0) (n size t : ℕ) (table : List (Option ℕ)) → t < size → P t n → ((u : ℕ) → P u n → u ≡ t) → IsLatestTable P n size table → IsLatestTable P (n + 1) size (set table t (Some n))
-table_mark P n size t table lt holds alone old = record {
-  as_long = length-set table t (Some n) ∙ old.as_long;
-  each = λ u within. go u within (cases_eq u t);
-}
-  where
-    go : (u : ℕ) → u < size → (u ≡ t) ⊎ (u ≡ t → ⊥) → Latest (P u) (n + 1) (get_or (set table t (Some n)) u None)
-    go u within (inl is) = rw is (rw (get_or-set_same table t (Some n) None (let long = old.as_long in omega (arith, long, lt))) (latest_here (P t) n holds))
-    go u within (inr ne) = rw (get_or-set_other table t u (Some n) None ne) (latest_skip (P u) n (get_or table u None) (λ h. ne (alone u h)) (old.each u within))
+table_mark P n size t table lt holds alone old = grind (arith, common_steps, length-set, cases_eq, set, get_or-set_same, latest_here, get_or-set_other, latest_skip)
 
 pub table_skip : (P : ℕ → ℕ → Type 0) (n size : ℕ) (table : List (Option ℕ)) → ((u : ℕ) → P u n → ⊥) → IsLatestTable P n size table → IsLatestTable P (n + 1) size table
-table_skip P n size table none old = record {
-  as_long = old.as_long;
-  each = λ u within. latest_skip (P u) n (get_or table u None) (none u) (old.each u within);
-}
+table_skip P n size table none old = grind (arith, common_steps, latest_skip)
 
 -- the thread and the operation of one event
 pub thread_alone : (trace : List Event) (e t u : ℕ) → OfThread trace t e → OfThread trace u e → u ≡ t
 thread_alone trace e t u h g = let s : Some t ≡ Some u = sym h ∙ g in cc
 
-pub fork_alone : (trace : List Event) (e t u : ℕ) → op_at trace e ≡ Some (Fork t) → op_at trace e ≡ Some (Fork u) → u ≡ t
-fork_alone trace e t u h g = let s : Some (Fork t) ≡ Some (Fork u) = sym h ∙ g in cc
-
--- the event at e is noted as the last of its thread, and as the fork of a thread
-module _ (trace : List Event) (sizes : Sizes) (e : ℕ) (within : IsWithin trace sizes) where
-  pub thread_noted : (t : ℕ) (table : List (Option ℕ)) → thread_at trace e ≡ Some t → IsLatestTable (OfThread trace) e sizes.threads table → IsLatestTable (OfThread trace) (e + 1) sizes.threads (set table t (Some e))
-  thread_noted t table of_e old = table_mark (OfThread trace) e sizes.threads t table (thread_within trace sizes e t within of_e) of_e (λ u. thread_alone trace e t u of_e) old
-
-  pub fork_noted : (table : List (Option ℕ)) (t : ℕ) → op_at trace e ≡ Some (Fork t) → IsLatestTable (ForksThread trace) e sizes.threads table → IsLatestTable (ForksThread trace) (e + 1) sizes.threads (set table t (Some e))
-  fork_noted table t forks old =
-      let low : t < sizes.threads = op_within_at trace sizes e (Fork t) within forks in
-      table_mark (ForksThread trace) e sizes.threads t table low forks (λ u. fork_alone trace e t u forks) old
-
-  pub no_fork_noted : (table : List (Option ℕ)) (op : Op) → op_at trace e ≡ Some op → ((t : ℕ) → op ≡ Fork t → ⊥) → IsLatestTable (ForksThread trace) e sizes.threads table → IsLatestTable (ForksThread trace) (e + 1) sizes.threads table
-  no_fork_noted table op does other old = table_skip (ForksThread trace) e sizes.threads table (λ t. op_other_at trace e op (Fork t) does (other t)) old
-
 -- a table of forks over the whole trace
-pub forks_whole : (trace : List Event) (sizes : Sizes) (table : List (Option ℕ)) → IsWithin trace sizes → IsLatestTable (ForksThread trace) (length trace) sizes.threads table → HasForks trace table
-forks_whole trace sizes table within has = record { each = λ t. go t (cases_lt t sizes.threads) }
+pub forks_whole : (trace : List Event) (sizes : Sizes) (table : List (Option ℕ)) → IsWithin trace sizes → IsLatestTable (ForksThread trace) (length trace) sizes.threads table → (t : ℕ) → Exactly (ForksThread trace t) (get_or table t None)
+forks_whole trace sizes table within has t = go t (cases_lt t sizes.threads)
   where
     no_later : (t : ℕ) (o : Option ℕ) → Latest (ForksThread trace t) (length trace) o → Exactly (ForksThread trace t) o
     no_later t (Some f) latest = latest.holds
@@ -80,8 +52,8 @@ forks_whole trace sizes table within has = record { each = λ t. go t (cases_lt 
     go t (inr le) = subst (λ (o : Option ℕ). Exactly (ForksThread trace t) o) (sym (get_or_past table t None (let long = has.as_long in omega (arith, long, le)))) (absent t le)
 
 -- a table of last events over the whole trace
-pub last_whole : (trace : List Event) (sizes : Sizes) (table : List (Option ℕ)) → IsWithin trace sizes → IsLatestTable (OfThread trace) (length trace) sizes.threads table → HasLastEvents trace table
-last_whole trace sizes table within has = record { each = λ t. go t (cases_lt t sizes.threads) }
+pub last_whole : (trace : List Event) (sizes : Sizes) (table : List (Option ℕ)) → IsWithin trace sizes → IsLatestTable (OfThread trace) (length trace) sizes.threads table → (t : ℕ) → Latest (OfThread trace t) (length trace) (get_or table t None)
+last_whole trace sizes table within has t = go t (cases_lt t sizes.threads)
   where
     absent : (t : ℕ) → sizes.threads ≤ t → (k : ℕ) → k < length trace → OfThread trace t k → ⊥
     absent t le k lt of_k = let e = event_of_thread trace k t of_k in let low = (within k e.0 e.1).thread in let is = e.2 in omega (arith, low, is, le)

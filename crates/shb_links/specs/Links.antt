@@ -21,17 +21,9 @@ pub record HasLocals (trace : List Event) (n : ℕ) (locals : List ℕ) : Type 0
   pub as_long : length locals ≡ n
   pub each : (e t : ℕ) → e < n → thread_at trace e ≡ Some t → slice_index_or locals e 0 ≡ local_time trace t e
 
--- the forks of all threads, of which those past the table's end have none
-pub record HasForks (trace : List Event) (forks : List (Option ℕ)) : Type 0 where
-  pub each : (t : ℕ) → Exactly (ForksThread trace t) (slice_index_or forks t None)
-
--- the last events of all threads, of which those past the table's end have none
-pub record HasLastEvents (trace : List Event) (last : List (Option ℕ)) : Type 0 where
-  pub each : (t : ℕ) → Latest (OfThread trace t) (length trace) (slice_index_or last t None)
-
--- the links of the whole trace that are kept, with the flags of the shared variables
+-- the links of the whole trace that are kept: the local times, the forks and the last events of all threads, of which those past a table's end have none, and the flags of the shared variables
 pub record HasLinks (trace : List Event) (locals : List ℕ) (forks last : List (Option ℕ)) (shared : List Bool) : Type 0 where
   pub times : HasLocals trace (length trace) locals
-  pub forks_of_threads : HasForks trace forks
-  pub last_events : HasLastEvents trace last
+  pub forked : (t : ℕ) → Exactly (ForksThread trace t) (slice_index_or forks t None)
+  pub ended : (t : ℕ) → Latest (OfThread trace t) (length trace) (slice_index_or last t None)
   pub sharing : HasShared trace shared

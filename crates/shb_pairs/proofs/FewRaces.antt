@@ -1,5 +1,6 @@
 -- All pieces have so few races that 64 bits count them: each access is one of a single variable, and has fewer races than there are numbers of 32 bits.
-use Rattle.std.proofs.Common.{◌≡◌, ℕ, zero, suc, ◌+◌, ◌*◌, ◌<◌, ◌≤◌, inl, inr, Bool, true, false, List, [], ◌∷◌, Option, Some, None, length, refl, arith, ap, ◌∙◌}
+use Rattle.std.proofs.lemmas.Grind.{common_steps}
+use Rattle.std.proofs.Common.{◌≡◌, ℕ, zero, suc, ◌+◌, ◌*◌, ◌<◌, ◌≤◌, inl, inr, Bool, false, List, [], ◌∷◌, Option, Some, None, length, refl, arith, ap, ◌∙◌}
 use Rattle.std.specs.Prelude.{cond, ◌==◌, flat_map}
 use Rattle.std.proofs.lemmas.Bool.{cases_Bool, eqb-true}
 use Rattle.std.proofs.lemmas.Grind.{flat_map-append}
@@ -50,8 +51,7 @@ unfolding accesses_at
 one_variable trace m n = accessed_once (variable_at trace m) n
 
 same_long : (b : Bool) (m x : ℕ) → length (cond {A = List ℕ} b (m ∷ []) []) ≡ length (cond {A = List ℕ} b (x ∷ []) [])
-same_long true m x = refl
-same_long false m x = refl
+same_long b m x = grind (arith, common_steps)
 
 -- one event more
 next_event : (trace : List Event) (n m : ℕ) → accesses_below trace n (suc m) ≡ accesses_below trace n m + length (numbers_where (λ x. accesses_at trace x m) n)

@@ -1,5 +1,6 @@
 -- What the search finds, sorted, are the numbers below j that race with j.
-use Rattle.std.proofs.Common.{◌≡◌, ◌≢◌, ℕ, ◌<◌, ◌≤◌, ◌⊎◌, inl, inr, Bool, true, false, List, Some, length, get_or, refl, arith, ap, sym, ◌∙◌}
+use Rattle.std.proofs.lemmas.Grind.{common_steps}
+use Rattle.std.proofs.Common.{◌≡◌, ◌≢◌, ℕ, ◌<◌, ◌≤◌, ◌⊎◌, inl, inr, Bool, true, false, List, Some, length, get_or, arith, ap, sym, ◌∙◌}
 use Rattle.std.specs.Prelude.{◌&&◌, cond, All}
 use Rattle.std.specs.List.Sorted.{IsNonDecreasing}
 use Rattle.std.proofs.lemmas.Bool.{cases_Bool, cases_lt}
@@ -8,7 +9,7 @@ use Rattle.std.proofs.lemmas.List.Kept.{AllPairs-from_increasing}
 use Rattle.std.proofs.lemmas.Option.{slice_get_within}
 use Rattle.shb_lines.specs.declared.event.Event.{Event}
 use Rattle.shb_lines.specs.declared.event.Op.{Op}
-use Rattle.shb_lines.specs.declared.event.Op.TheVariants.{Read, Write}
+use Rattle.shb_lines.specs.declared.event.Op.TheVariants.{Write}
 use Rattle.shb_lines.specs.events.Events.{op_at, variable_of}
 use Rattle.shb_lines.specs.events.Race.{Race, variable_at}
 use Rattle.shb_lines.specs.events.Reach.{numbers_where, is_race}
@@ -47,23 +48,16 @@ range_by_thread trace which x list h = λ k d lt. (member_by_thread trace which 
 
 -- an access that writes
 write_is : (op : Op) (x : ℕ) → is_write op ≡ true → variable_of op ≡ Some x → op ≡ Write x
-write_is (Write y) x h is = ap (λ (n : ℕ). Write n) (let e : y ≡ x = cc in e)
-write_is _ x h is = absurd (let f : ⊥ = cc in f)
+write_is op x h also = grind (arith, common_steps)
 
 pub write_at : (trace : List Event) (k x : ℕ) (op : Op) → op_at trace k ≡ Some op → is_write op ≡ true → variable_at trace k ≡ Some x → op_at trace k ≡ Some (Write x)
 write_at trace k x op is_op h is = is_op ∙ ap (λ (o : Op). Some o) (write_is op x h (sym (variable_known trace k op is_op) ∙ is))
 
 pub not_write_at : (trace : List Event) (k x : ℕ) (op : Op) → op_at trace k ≡ Some op → is_write op ≡ false → op_at trace k ≢ Some (Write x)
-not_write_at trace k x op is_op reading writes =
-    let s : Some op ≡ Some (Write x) = sym is_op ∙ writes in
-    let p : op ≡ Write x = cc in
-    let g : is_write op ≡ true = rw p refl in
-    (let f : ⊥ = cc in f)
+not_write_at trace k x op is_op reading writes = grind (arith, common_steps)
 
 selected_write : (op : Op) → is_selected Writes op ≡ true → is_write op ≡ true
-selected_write (Write y) h = refl
-selected_write (Read y) h = absurd (let f : ⊥ = cc in f)
-selected_write _ h = absurd (let f : ⊥ = cc in f)
+selected_write op h = grind (arith, common_steps)
 
 -- the accesses by thread are rivals of an access of their variable
 pub writes_are_rivals : (trace : List Event) (x j : ℕ) (list : List ℕ) → variable_at trace j ≡ Some x → IsByThread trace Writes x list → AreRivals trace j list
@@ -101,9 +95,7 @@ numbers_rise f n = λ i j d le lt. elim (cases_lt i j) [ inl less ↦ (let rise 
 
 -- what races with the later j is one of those that it is compared with
 race_selected : (trace : List Event) (j x v : ℕ) (op : Op) → op_at trace j ≡ Some op → variable_at trace v ≡ Some x → v < length trace → Race trace v j → selected_at trace (compared_with op) v ≡ true
-race_selected trace j x v (Write y) does first lt race = both_at trace v x lt first
-race_selected trace j x v (Read y) does first lt race = elim race.conflict.one_writes [ inl w ↦ selected_item trace Writes v _ w | inr w ↦ absurd (let f : ⊥ = cc in f) ]
-race_selected trace j x v _ does first lt race = elim race.conflict.one_writes [ inl w ↦ selected_item trace Writes v _ w | inr w ↦ absurd (let f : ⊥ = cc in f) ]
+race_selected trace j x v op h also third fourth = grind (arith, common_steps, both_at, selected_item)
 
 module _ (trace : List Event) (j : ℕ) (list : List ℕ) (h : AreComparedWith trace j list) where
   racing_once : (v : ℕ) → is_race trace v j ≡ true → occurs v list ≡ 1

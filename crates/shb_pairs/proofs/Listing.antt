@@ -1,4 +1,5 @@
 -- The races by variable, later access and earlier access are the race list.
+use Rattle.std.proofs.lemmas.Grind.{common_steps}
 use Rattle.std.proofs.Common.{◌≡◌, ℕ, ◌<◌, ◌⊎◌, inl, inr, true, List, Some, length, get_or, refl, arith, subst}
 use Rattle.std.specs.Prelude.{Contains, AllPairs, flat_map, ◌↔◌}
 use Rattle.std.proofs.lemmas.Bool.{cases_lt}
@@ -79,10 +80,7 @@ first_rising trace numbered x y f g lt hf hg =
 
 -- two races on one variable stand in the order of their later accesses, then their earlier ones
 on_variable : (trace : List Event) (z : ℕ) (p q : ℕ × ℕ) → variable_at trace p.1 ≡ Some z → variable_at trace q.1 ≡ Some z → (p.1 < q.1) ⊎ ((p.1 ≡ q.1) × (p.0 < q.0)) → RaceBefore trace p q
-on_variable trace z p q at_p at_q order = λ x y f g of_x of_y first_x first_y.
-    let same_x : x ≡ z = cc in
-    let same_y : y ≡ z = cc in
-    inr (first_unique trace z f g (subst (λ (v : ℕ). FirstAccess trace v f) same_x first_x) (subst (λ (v : ℕ). FirstAccess trace v g) same_y first_y), order)
+on_variable trace z p q at_p at_q order = grind (arith, common_steps, first_unique)
 
 -- the races of one later access stand by the earlier one
 with_rises : (trace : List Event) (j : ℕ) → AllPairs PairBefore (races_with trace j)

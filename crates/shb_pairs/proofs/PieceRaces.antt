@@ -1,23 +1,23 @@
 -- Runs of accesses, and the races of a run one access at a time.
+use Rattle.std.proofs.lemmas.Grind.{common_steps}
 use Rattle.std.proofs.Common.{◌≡◌, ℕ, zero, suc, ◌+◌, ◌-◌, ◌*◌, ◌<◌, ◌≤◌, ◌⊎◌, inl, inr, Bool, true, false, List, [], ◌∷◌, ◌++◌, Some, length, get_or, take, drop, refl, arith, subst, ap, sym, ◌∙◌, add-one}
-use Rattle.std.specs.Prelude.{All, flat_map, map, min, cond, slice_range}
+use Rattle.std.specs.Prelude.{All, flat_map, min, cond, slice_range}
 use Rattle.std.specs.Int.{div_ceil}
 use Rattle.std.proofs.lemmas.Bool.{cases_Bool, cases_lt}
 use Rattle.std.proofs.lemmas.Grind.{flat_map-append}
-use Rattle.std.proofs.lemmas.List.{append-nil, append_assoc, length_push, get_or_append_left, get_or_push, take_at, take-append-le, take_more, map_push, length-drop, get_or-drop}
+use Rattle.std.proofs.lemmas.List.{append-nil, append_assoc, length_push, get_or_append_left, get_or_push, take_at, take-append-le, take_more, length-drop, get_or-drop}
 use Rattle.std.proofs.lemmas.List.Elements.{All-append, All-push, All-nil, Contains-get_or}
 use Rattle.shb_lines.specs.declared.event.Event.{Event}
-use Rattle.shb_lines.specs.events.Race.{variable_at, ends}
+use Rattle.shb_lines.specs.events.Race.{variable_at}
 use Rattle.shb_lines.specs.events.Reach.{numbers_where, is_race}
 use Rattle.shb_lines.proofs.events.Reach.{numbers_listed, reflect_race}
-use Rattle.shb_lines.specs.declared.event.Pair.{Pair}
 use Rattle.shb_pairs.specs.declared.piece.Piece.{Piece}
 use Rattle.shb_pairs.specs.Accesses.{accesses_at, accesses_in, listed_accesses, variables_in}
 use Rattle.shb_clocks.specs.Open.{OpenTrace, is_open}
 use Rattle.shb_pairs.specs.Pieces.{numbered_piece, first_pieces, pieces_below, pieces_in}
 use Rattle.shb_pairs.specs.Races.{piece_at, races_with, races_of, races_at}
 use Rattle.shb_pairs.proofs.ByThread.{listed_closed, listed_open}
-use Rattle.shb_pairs.proofs.Counting.{numbers_few, access_from_test, test_from_access}
+use Rattle.shb_pairs.proofs.Counting.{access_from_test, test_from_access}
 
 -- a run lies within the accesses of its variable, which is open
 pub record IsPieceOf (trace : List Event) (flags : List Bool) (p : Piece) : Type 0 where
@@ -48,10 +48,7 @@ pub no_pieces : (x : ℕ) → pieces_on x [] ≡ []
 no_pieces x = zero_pieces x 0 (div_ceil 0 64) (omega arith)
 
 pieces_of_variable : (a : OpenTrace) (x : ℕ) → x < variables_in a.trace → All (IsPieceOf a.trace a.flags) (pieces_on x (listed_accesses a x))
-pieces_of_variable a x below = elim (cases_Bool (is_open a.flags x)) [
-  | inl h ↦ subst (λ (ks : List ℕ). All (IsPieceOf a.trace a.flags) (pieces_on x ks)) (sym (listed_open a x h)) (first_within a x _ below h (omega arith))
-  | inr h ↦ subst (λ (ks : List ℕ). All (IsPieceOf a.trace a.flags) (pieces_on x ks)) (sym (listed_closed a x h)) (rw (no_pieces x) (All-nil (IsPieceOf a.trace a.flags)))
-]
+pieces_of_variable a x below = grind (arith, common_steps, cases_Bool, listed_open, first_within, listed_closed, no_pieces, All-nil)
 
 pieces_within : (a : OpenTrace) (n : ℕ) → n ≤ variables_in a.trace → All (IsPieceOf a.trace a.flags) (pieces_below a n)
 unfolding pieces_below
@@ -88,20 +85,7 @@ numbers_front f (suc n) q lt = go (cases_Bool (f n)) (cases_lt q (length (number
     go (inr e) (inr past) ih within = absurd (let size : length (numbers_where f n ++ cond (f n) (n ∷ []) []) ≡ length (numbers_where f n) = rw (e, append-nil) refl in omega (arith, size))
 
 pub race_accesses : (trace : List Event) (x i j : ℕ) → variable_at trace j ≡ Some x → is_race trace i j ≡ true → accesses_at trace x i ≡ true
-race_accesses trace x i j of_j h =
-    let race = (reflect_race trace i j).0 h in
-    let second = race.conflict.second_accesses in
-    let first = race.conflict.first_accesses in
-    test_from_access trace x i (let same : race.conflict.variable ≡ x = cc in rw (← same) first)
-
--- one pair more
-pub pairs_pushed : (old : List (ℕ × ℕ)) (pairs : List Pair) (xs : List ℕ) (k j : ℕ) → k < length xs → map ends pairs ≡ old ++ map (λ i. (i, j)) (take k xs) → map ends (pairs ++ record { first = get_or xs k 0; second = j } ∷ []) ≡ old ++ map (λ i. (i, j)) (take (k + 1) xs)
-pairs_pushed old pairs xs k j lt so =
-    map_push ends pairs (record { first = get_or xs k 0; second = j })
-    ∙ (ap (λ (ps : List (ℕ × ℕ)). ps ++ (get_or xs k 0, j) ∷ []) so
-    ∙ (append_assoc old (map (λ i. (i, j)) (take k xs)) ((get_or xs k 0, j) ∷ [])
-    ∙ (ap (λ (ps : List (ℕ × ℕ)). old ++ ps) (sym (map_push (λ i. (i, j)) (take k xs) (get_or xs k 0)))
-    ∙ ap (λ (ns : List ℕ). old ++ map (λ i. (i, j)) ns) (sym (take_more xs k 0 lt)))))
+race_accesses trace x i j of_j h = grind (arith, common_steps, reflect_race, test_from_access)
 
 -- the races of a run, one access more
 pub races_more : (trace : List Event) (xs : List ℕ) (from q : ℕ) → from ≤ q → q < length xs → flat_map (races_with trace) (take ((q + 1) - from) (drop from xs)) ≡ flat_map (races_with trace) (take (q - from) (drop from xs)) ++ races_with trace (get_or xs q 0)
@@ -121,22 +105,18 @@ access_front trace x q lt =
 
 -- a run is pushed
 pub piece_pushed : (old pieces new : List Piece) (x n k m : ℕ) → new ≡ pieces ++ record { variable = x; from = 64 * k; to = 64 * k + m } ∷ [] → m ≡ min (n - 64 * k) 64 → pieces ≡ old ++ first_pieces x n k → new ≡ old ++ first_pieces x n (k + 1)
-piece_pushed old pieces new x n k m is least so =
-    let last : pieces ++ record { variable = x; from = 64 * k; to = 64 * k + m } ∷ [] ≡ pieces ++ numbered_piece x n k ∷ [] = ap (λ (l : ℕ). pieces ++ record { variable = x; from = 64 * k; to = 64 * k + l } ∷ []) least in
-    is ∙ (last ∙ (ap (λ (ps : List Piece). ps ++ numbered_piece x n k ∷ []) so ∙ (append_assoc old (first_pieces x n k) (numbered_piece x n k ∷ []) ∙ ap (λ (ps : List Piece). old ++ ps) (sym (first_more x n k)))))
+piece_pushed old pieces new x n k m is least so = grind (arith, common_steps, append_assoc, first_more)
 
 pub races_first : (trace : List Event) (xs : List ℕ) (pairs : List (ℕ × ℕ)) (from : ℕ) → pairs ≡ [] → pairs ≡ flat_map (races_with trace) (take (from - from) (drop from xs))
 races_first trace xs pairs from none = let e : from - from ≡ 0 = omega arith in none ∙ rw e refl
 
--- the run and the races of piece k
-pub piece_value : (a seen : OpenTrace) (trace : List Event) (pieces : List Piece) (k : ℕ) (piece : Piece) → a ≡ seen → a.trace ≡ trace → pieces ≡ pieces_in a → k < length (pieces_in seen) → piece ≡ piece_at pieces k
-    → IsPieceOf trace a.flags piece × (races_at seen k ≡ races_of seen.trace piece)
-unfolding races_at
-piece_value a seen trace pieces k piece same of_trace is lt found =
-    let own : piece ≡ piece_at (pieces_in seen) k = found ∙ ap (λ (ps : List Piece). piece_at ps k) (is ∙ ap (λ (b : OpenTrace). pieces_in b) same) in
-    (subst (λ (tr : List Event). IsPieceOf tr a.flags piece) of_trace (subst (λ (b : OpenTrace). IsPieceOf b.trace b.flags piece) (sym same) (subst (IsPieceOf seen.trace seen.flags) (sym own) (piece_within seen k _ lt))), ap (λ (q : Piece). races_of seen.trace q) (sym own))
+-- piece k, and its races
+pub piece_known : (a : OpenTrace) (k : ℕ) (piece : Piece) → k < length (pieces_in a) → piece ≡ piece_at (pieces_in a) k → IsPieceOf a.trace a.flags piece
+piece_known a k piece lt own = subst (IsPieceOf a.trace a.flags) (sym own) (piece_within a k _ lt)
 
--- the races of a piece, by the accesses of its run
-pub piece_races : (a : OpenTrace) (k : ℕ) (p : Piece) → races_at a k ≡ races_of a.trace p → races_at a k ≡ flat_map (races_with a.trace) (slice_range (accesses_in a.trace p.variable) p.from p.to)
-unfolding races_of
-piece_races a k p is = is
+pub piece_seen : (a seen : OpenTrace) (trace : List Event) (k : ℕ) (piece : Piece) → a ≡ seen → a.trace ≡ trace → k < length (pieces_in seen) → piece ≡ piece_at (pieces_in seen) k → IsPieceOf trace a.flags piece
+piece_seen a seen trace k piece same of_trace lt own = subst (λ (tr : List Event). IsPieceOf tr a.flags piece) of_trace (subst (λ (b : OpenTrace). IsPieceOf b.trace b.flags piece) (sym same) (piece_known seen k piece lt own))
+
+pub piece_races : (a : OpenTrace) (k : ℕ) (p : Piece) → p ≡ piece_at (pieces_in a) k → races_at a k ≡ flat_map (races_with a.trace) (slice_range (accesses_in a.trace p.variable) p.from p.to)
+unfolding races_at races_of
+piece_races a k p own = ap (λ (q : Piece). flat_map (races_with a.trace) (slice_range (accesses_in a.trace q.variable) q.from q.to)) (sym own)

@@ -1,4 +1,5 @@
 -- Ranges that stand for races.
+use Rattle.std.proofs.lemmas.Grind.{common_steps}
 use Rattle.std.proofs.Common.{◌≡◌, ℕ, suc, ◌+◌, ◌*◌, ◌<◌, ◌≤◌, List, [], ◌∷◌, ◌++◌, length, get_or, take, arith, ap, sym, ◌∙◌}
 use Rattle.std.specs.Prelude.{All, flat_map, map}
 use Rattle.std.proofs.lemmas.Grind.{flat_map-append}
@@ -26,12 +27,7 @@ joined_more laters later =
     ∙ ap (λ (ps : List (ℕ × ℕ)). joined (map races_of_later laters) ++ ps) (append-nil (races_of_later later)))
 
 pub added_length : (old : List (ℕ × ℕ)) (ranges : List Range) (second : ℕ) → length (old ++ map (λ i. (i, second)) (sorted (in_ranges ranges))) ≡ length old + length (in_ranges ranges)
-added_length old ranges second =
-    let a = length-append old (map (λ (i : ℕ). (i, second)) (sorted (in_ranges ranges))) in
-    let pair : ℕ → ℕ × ℕ = λ i. (i, second) in
-    let b = length-map (sorted (in_ranges ranges)) pair in
-    let c = sorted_length (in_ranges ranges) in
-    omega (arith, a, b, c)
+added_length old ranges second = grind (arith, common_steps, length-append, length-map, sorted_length)
 
 pub nothing_added : (old : List (ℕ × ℕ)) (ranges : List Range) (second : ℕ) → length ranges ≡ 0 → old ≡ old ++ map (λ i. (i, second)) (sorted (in_ranges ranges))
 unfolding sorted
@@ -51,11 +47,7 @@ later_at laters now k later d firsts is lt at so =
 
 -- the races of an access are at most as many as the events before it
 pub racing_few : (trace : List Event) (j : ℕ) (ranges : List Range) → sorted (in_ranges ranges) ≡ numbers_where (λ i. is_race trace i j) j → length (in_ranges ranges) ≤ j
-racing_few trace j ranges is =
-    let size = sorted_length (in_ranges ranges) in
-    let same = ap length is in
-    let few = numbers_few (λ i. is_race trace i j) j in
-    omega (arith, size, same, few)
+racing_few trace j ranges is = grind (arith, common_steps, sorted_length, numbers_few)
 
 with_few : (trace : List Event) (j : ℕ) → length (races_with trace j) ≤ j
 unfolding races_with

@@ -1,4 +1,5 @@
 -- What is kept of a variable, an access at a time.
+use Rattle.std.proofs.lemmas.Grind.{common_steps}
 use Rattle.std.proofs.Common.{◌≡◌, ◌≢◌, ℕ, ◌+◌, ◌<◌, ◌≤◌, ◌⊎◌, inl, inr, Bool, true, false, List, Option, Some, length, get_or, arith, subst, ap, sym, ◌∙◌, get_or-set_same, get_or-set_other}
 use Rattle.std.specs.Prelude.{◌==◌, map, option_and_then}
 use Rattle.std.proofs.Math.ListN.{set, length-set}
@@ -52,11 +53,7 @@ write_accesses trace k x writes = ap (λ (o : Option Op). option_and_then variab
 
 -- an open variable
 pub screened_open : (trace : List Event) (n x : ℕ) (latest : Latest) → latest.write.time ≡ no_time → IsScreened trace n x latest
-screened_open trace n x latest is = record {
-  writes = λ k e lt le writes past. absurd (past.known is);
-  accesses = λ k e lt le access past also. absurd (past.known is);
-  free = λ i j lt access known race. known is;
-}
+screened_open trace n x latest is = grind (arith, common_steps)
 
 -- an event that doesn't access the variable
 pub screened_other : (trace : List Event) (n x : ℕ) (latest : Latest) → variable_at trace n ≢ Some x → IsScreened trace n x latest → IsScreened trace (n + 1) x latest
@@ -133,10 +130,7 @@ module _ (trace : List Event) (disciplined : IsDisciplined trace) (n x : ℕ) (l
   }
 
 pub table_other : (trace : List Event) (n size : ℕ) (table : List Latest) → ((x : ℕ) → IsShared trace x → variable_at trace n ≢ Some x) → AreScreened trace n size table → AreScreened trace (n + 1) size table
-table_other trace n size table other h = record {
-  as_many = h.as_many;
-  each = λ x d lt shared. screened_other trace n x (get_or table x d) (other x shared) (h.each x d lt shared);
-}
+table_other trace n size table other h = grind (arith, common_steps, screened_other)
 
 pub table_access : (trace : List Event) (n size x : ℕ) (next : Latest) (table : List Latest) → x < size → variable_at trace n ≡ Some x → IsScreened trace (n + 1) x next → AreScreened trace n size table → AreScreened trace (n + 1) size (set table x next)
 table_access trace n size x next table within access screened h = record {
@@ -150,10 +144,7 @@ table_access trace n size x next table within access screened h = record {
 
 -- a variable that has a race is shared
 race_shared : (trace : List Event) (i j x : ℕ) → variable_at trace j ≡ Some x → Race trace i j → IsShared trace x
-race_shared trace i j x of_j race =
-    let conflict = race.conflict in
-    let same : conflict.variable ≡ x = (let s : Some conflict.variable ≡ Some x = sym conflict.second_accesses ∙ of_j in cc) in
-    record { first = i; second = j; first_accesses = conflict.first_accesses ∙ ap (λ (n : ℕ). Some n) same; second_accesses = of_j; other_thread = conflict.other_thread }
+race_shared trace i j x of_j race = grind (arith, common_steps)
 
 -- the flags
 pub flags_open : (trace : List Event) (size : ℕ) (table : List Latest) (flags : List Bool) → ((k x : ℕ) → variable_at trace k ≡ Some x → (k < length trace) × (x < size)) → flags ≡ map (λ (latest : Latest). latest.write.time == no_time) table → AreScreened trace (length trace) size table → AreOpen trace flags

@@ -1,4 +1,5 @@
 -- Positions by thread, and the races of j with the accesses of one other thread: a tail of those before j.
+use Rattle.std.proofs.lemmas.Grind.{common_steps}
 use Rattle.std.proofs.Common.{◌≡◌, ◌≢◌, ℕ, zero, suc, ◌+◌, ◌-◌, ◌<◌, ◌≤◌, inl, inr, Bool, true, false, List, [], ◌∷◌, ◌++◌, Some, length, get_or, drop, take, ltb, refl, arith, ap, subst, sym, ◌∙◌}
 use Rattle.std.specs.Prelude.{filter, ◌↔◌, All, AllPairs}
 use Rattle.std.proofs.Math.Seq.{take-add}
@@ -8,11 +9,10 @@ use Rattle.std.proofs.lemmas.List.{append-nil, append_assoc, drop-take, get_or-d
 use Rattle.std.proofs.lemmas.List.Sorted.{IsPartitionedBy-ltb}
 use Rattle.std.proofs.lemmas.List.Elements.{All-drop, All-take, filter-append}
 use Rattle.shb_lines.specs.declared.event.Event.{Event}
-use Rattle.shb_lines.specs.declared.event.Op.TheVariants.{Read, Write}
-use Rattle.shb_lines.specs.events.Events.{op_at, thread_at}
+use Rattle.shb_lines.specs.events.Events.{thread_at}
 use Rattle.shb_lines.specs.events.Discipline.{is_of, local_time}
 use Rattle.shb_lines.specs.events.Order.{IsBelowPredCount}
-use Rattle.shb_lines.specs.events.Race.{Conflict, Race, variable_at}
+use Rattle.shb_lines.specs.events.Race.{Conflict, Race}
 use Rattle.shb_lines.specs.events.Reach.{is_race}
 use Rattle.shb_lines.proofs.events.Counts.{count_more_yes, count_mono}
 use Rattle.shb_lines.proofs.events.Events.{event_of_thread, is_of_true}
@@ -78,10 +78,7 @@ filter_between {X} f xs from to le within low middle high =
 
 -- the thread of a position
 pub thread_key : (trace : List Event) (k : ℕ) → k < length trace → thread_at trace k ≡ Some (key_at trace Thread k)
-thread_key trace k lt =
-    let d : Event = record { thread = 0; op = Read 0; line = 0 } in
-    let of_k = thread_item trace k d lt in
-    of_k ∙ ap (λ (n : ℕ). Some n) (sym (thread_read trace k _ of_k))
+thread_key trace k lt = grind (arith, common_steps, thread_item, thread_read)
 
 -- positions between two of one thread are of that thread
 thread_rises : (trace : List Event) (ks : List ℕ) (a b : ℕ) → AllPairs (IsBeforeByThread trace) ks → a ≤ b → b < length ks → key_at trace Thread (get_or ks a 0) ≤ key_at trace Thread (get_or ks b 0)
@@ -91,10 +88,7 @@ thread_rises trace ks a b sorted le within = elim (cases_lt a b) [
 ]
 
 pub thread_between : (trace : List Event) (ks : List ℕ) (a k b : ℕ) → AllPairs (IsBeforeByThread trace) ks → a ≤ k → k ≤ b → b < length ks → key_at trace Thread (get_or ks b 0) ≡ key_at trace Thread (get_or ks a 0) → key_at trace Thread (get_or ks k 0) ≡ key_at trace Thread (get_or ks a 0)
-thread_between trace ks a k b sorted low high within same =
-    let below = thread_rises trace ks a k sorted low (omega arith) in
-    let above = thread_rises trace ks k b sorted high within in
-    omega (arith, below, above, same)
+thread_between trace ks a k b sorted low high within same = grind (arith, common_steps, thread_rises)
 
 -- the part of one thread of positions by thread
 pub part_of_thread : (trace : List Event) (ks : List ℕ) (from to : ℕ) → All (λ k. k < length trace) ks → AllPairs (IsBeforeByThread trace) ks → from < to → to ≤ length ks → ((k : ℕ) → from ≤ k → k < to → key_at trace Thread (get_or ks k 0) ≡ key_at trace Thread (get_or ks from 0)) → IsOfOneThread trace (take (to - from) (drop from ks)) × (0 < length (take (to - from) (drop from ks)))
@@ -122,12 +116,7 @@ part_of_thread trace ks from to range sorted lt within same = (
         elim (sorted a b 0 before (omega arith)) [ inl below ↦ absurd (omega (arith, below, same_a, same_b)) | inr after ↦ (let lt = after.1 in omega (arith, lt, zero_a, zero_b)) ]
 
 pub part_of_rivals : (trace : List Event) (j from to : ℕ) (ks : List ℕ) → AreRivals trace j ks → AreRivals trace j (take (to - from) (drop from ks))
-part_of_rivals trace j from to ks h = record {
-  variable = h.variable;
-  later_accesses = h.later_accesses;
-  each_accesses = (let P : ℕ → Type 0 = λ k. variable_at trace k ≡ Some h.variable in All-take P (to - from) (drop from ks) (All-drop P from ks h.each_accesses));
-  one_writes = elim h.one_writes [ inl w ↦ inl w | inr all ↦ inr (let P : ℕ → Type 0 = λ k. op_at trace k ≡ Some (Write h.variable) in All-take P (to - from) (drop from ks) (All-drop P from ks all)) ];
-}
+part_of_rivals trace j from to ks h = grind (arith, common_steps, All-take, All-drop)
 
 -- one part more
 pub racing_more : (trace : List Event) (j from to : ℕ) (ks old found : List ℕ) → from ≤ to → found ≡ old ++ racing trace j (take from ks) → found ++ racing trace j (take (to - from) (drop from ks)) ≡ old ++ racing trace j (take to ks)
@@ -140,13 +129,7 @@ racing_more trace j from to ks old found le so =
 
 -- a rival of another thread conflicts
 rival_conflicts : (trace : List Event) (j k : ℕ) (ks : List ℕ) → AreRivals trace j ks → k < length ks → thread_at trace (get_or ks k 0) ≢ thread_at trace j → Conflict trace (get_or ks k 0) j
-rival_conflicts trace j k ks h lt other = record {
-  variable = h.variable;
-  first_accesses = h.each_accesses k 0 lt;
-  second_accesses = h.later_accesses;
-  one_writes = elim h.one_writes [ inl w ↦ inr w | inr all ↦ inl (all k 0 lt) ];
-  other_thread = other;
-}
+rival_conflicts trace j k ks h lt other = grind (arith, common_steps)
 
 pub not_racing : (trace : List Event) (i j : ℕ) → (Race trace i j → ⊥) → is_race trace i j ≡ false
 not_racing trace i j fails = elim (cases_Bool (is_race trace i j)) [ inl h ↦ absurd (fails ((reflect_race trace i j).0 h)) | inr h ↦ h ]

@@ -1,17 +1,16 @@
 -- The value of a piece is its own races.
-use Rattle.std.proofs.Common.{◌≡◌, ℕ, ◌+◌, ◌-◌, ◌<◌, ◌≤◌, inl, inr, List, length, get_or, drop, refl, arith, subst, ap, sym, ◌∙◌}
+use Rattle.std.proofs.Common.{◌≡◌, ℕ, ◌+◌, ◌-◌, ◌<◌, ◌≤◌, List, length, get_or, drop, arith, subst, ap, sym, ◌∙◌}
 use Rattle.std.specs.Prelude.{Contains, AllPairs, flat_map, slice_range}
 use Rattle.std.proofs.lemmas.List.{get_or-drop, get_or-take, length-drop, length-take-le}
 use Rattle.std.proofs.lemmas.List.Kept.{AllPairs-from_increasing}
 use Rattle.shb_lines.specs.declared.event.Event.{Event}
 use Rattle.shb_lines.specs.events.Race.{Race}
-use Rattle.shb_lines.specs.events.Reach.{numbers_where, is_race}
 use Rattle.shb_lines.proofs.events.Reach.{numbers_listed}
 use Rattle.shb_pairs.specs.declared.piece.Piece.{Piece}
-use Rattle.shb_pairs.specs.Accesses.{accesses_at, accesses_in}
+use Rattle.shb_pairs.specs.Accesses.{accesses_at, accesses_in, listed_accesses}
 use Rattle.shb_clocks.specs.Open.{OpenTrace}
 use Rattle.shb_pairs.specs.Pieces.{pieces_in}
-use Rattle.shb_pairs.specs.Races.{AreRacesOfPiece, PairBefore, accesses_of_piece, piece_at, races_at, races_of, races_with}
+use Rattle.shb_pairs.specs.Races.{AreRacesOfPiece, piece_at, races_at, races_of, races_with}
 use Rattle.shb_pairs.proofs.ByThread.{listed_open}
 use Rattle.shb_pairs.proofs.Listing.{piece_rises, race_contained, race_parts}
 use Rattle.shb_pairs.proofs.FlatMaps.{flat_map_contains, flat_map_parts}
@@ -48,7 +47,7 @@ races_of_value a p run = record {
   in_order = piece_rises a.trace _ (part_rises (accesses_in a.trace p.variable) p.from p.to run.forward run.within (AllPairs-from_increasing _ (numbers_listed (accesses_at a.trace p.variable) (length a.trace)).rising));
 }
   where
-    same : accesses_of_piece a p ≡ slice_range (accesses_in a.trace p.variable) p.from p.to
+    same : slice_range (listed_accesses a p.variable) p.from p.to ≡ slice_range (accesses_in a.trace p.variable) p.from p.to
     same = ap (λ (ks : List ℕ). slice_range ks p.from p.to) (listed_open a p.variable run.listed)
 
 pub value_of_piece : (a : OpenTrace) (k : ℕ) → k < length (pieces_in a) → AreRacesOfPiece a (piece_at (pieces_in a) k) (races_at a k)

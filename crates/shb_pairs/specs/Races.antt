@@ -24,17 +24,13 @@ piece_at pieces k = slice_index_or pieces k (record { variable = 0; from = 0; to
 unfoldable pub races_at : OpenTrace → ℕ → List (ℕ × ℕ)
 races_at a k = races_of a.trace (piece_at (pieces_in a) k)
 
--- the accesses of a piece
-abbrev pub accesses_of_piece : OpenTrace → Piece → List ℕ
-accesses_of_piece a p = slice_range (listed_accesses a p.variable) p.from p.to
-
 -- p stands before q: by the later access, then by the earlier
 abbrev pub PairBefore : ℕ × ℕ → ℕ × ℕ → Type 0
 PairBefore p q = (p.1 < q.1) ⊎ ((p.1 ≡ q.1) × (p.0 < q.0))
 
 -- all races whose later access is among those of the piece, each once, by the later access, then by the earlier
 pub record AreRacesOfPiece (a : OpenTrace) (p : Piece) (races : List (ℕ × ℕ)) : Type 0 where
-  pub all : (i j : ℕ) → Contains races (i, j) ↔ (Race a.trace i j × Contains (accesses_of_piece a p) j)
+  pub all : (i j : ℕ) → Contains races (i, j) ↔ (Race a.trace i j × Contains (slice_range (listed_accesses a p.variable) p.from p.to) j)
   pub in_order : AllPairs PairBefore races
 
 -- lists one after the other

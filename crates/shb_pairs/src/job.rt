@@ -87,7 +87,8 @@ impl<'a, O: Order> RangeJob<'a, O> {
         ensures races { races_at self.now k ≡ flat_map (races_with self.now.trace)
             (slice_range (accesses_in self.now.trace result.variable) result.from result.to) }
     {
-        piece_with(self.pieces, k)
+        let pieces = self.pieces;
+        pieces[k as usize]
     }
 
     /// What the search for the races of the piece with this number goes by.
@@ -96,7 +97,7 @@ impl<'a, O: Order> RangeJob<'a, O> {
         ensures variable { result.variable ≡ (piece_at (pieces_in self.now) k).variable }
         ensures of_trace { result.ordered.now.disciplined.now.events.now ≡ self.now.trace }
     {
-        let piece = piece_with(self.pieces, k);
+        let piece = self.piece(k);
         Search {
             ordered: &self.ordered,
             accesses: self.accesses,
@@ -117,14 +118,6 @@ impl<'a, O: Order> RangeJob<'a, O> {
     {
         let _events = self.events();
     }
-}
-
-/// The piece with this number.
-fn piece_with(pieces: &[Piece], k: u64) -> Piece
-    requires { k < length pieces.now }
-    ensures { result ≡ piece_at pieces.now k }
-{
-    pieces[k as usize]
 }
 
 impl<'a, O: Order> Job for RangeJob<'a, O> {

@@ -7,7 +7,7 @@ ghost use Rattle.shb_pairs.specs.Races.{joined, races_with};
 
 use crate::ranges::RaceRanges;
 use crate::search::Search;
-use crate::spans::rivals_of;
+use crate::spans::{compared_with, parts_of, racing_spans};
 use shb_clocks::Order;
 use shb_io::NoMemory;
 use std::alloc::Global;
@@ -24,7 +24,10 @@ pub(crate) fn add_races<'a, O: Order>(
     ensures { IfOk result (λ _. joined races.new ≡ joined races.old
         ++ races_with search.now.ordered.now.disciplined.now.events.now second) }
 {
-    let ranges = rivals_of(alloc, search, second)?;
+    let accesses = compared_with(search, second);
+    let mut spans = Vec::new(alloc);
+    racing_spans(search.ordered, accesses, second, &mut spans)?;
+    let ranges = parts_of(alloc, accesses, &spans)?;
     races.add(second, ranges)
 }
 

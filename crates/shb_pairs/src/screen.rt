@@ -1,8 +1,6 @@
 //! The variables that may have a race, by one pass over a trace.
 
-ghost use Rattle.std.specs.Prelude.{◌≡◌, ◌≢◌, ◌==◌, ℕ, ◌+◌, ◌<◌, true, Some, IfOk, IsTrue, length, map};
-ghost use Rattle.shb_lines.specs.declared.event.Op.TheVariants.{Write};
-ghost use Rattle.shb_lines.specs.events.Events.{op_at};
+ghost use Rattle.std.specs.Prelude.{◌≡◌, ◌==◌, ◌⊎◌, ℕ, ◌+◌, ◌<◌, true, Some, IfOk, IsTrue, length, map};
 ghost use Rattle.shb_lines.specs.events.Race.{variable_at};
 ghost use Rattle.shb_pairs.specs.Open.{AreOpen};
 ghost use Rattle.shb_pairs.specs.Screen.{AreScreened, IsMarkOf, IsPast, IsScreened, no_time};
@@ -49,17 +47,6 @@ fn unordered() -> Mark
     }
 }
 
-/// The mark of an event.
-fn mark_of<O: Order>(ordered: &Ordered<'_, O>, e: u32) -> Mark
-    requires in_range { e < length ordered.now.disciplined.now.events.now }
-    ensures { IsMarkOf ordered.now.disciplined.now.events.now result e }
-{
-    Mark {
-        time: ordered.links.local(e),
-        thread: ordered.disciplined.events.thread(e),
-    }
-}
-
 /// Whether what a mark stands for is SHB-below the predecessor of an event.
 fn is_past<O: Order>(ordered: &Ordered<'_, O>, mark: Mark, e: u32) -> bool
     requires in_range { e < length ordered.now.disciplined.now.events.now }
@@ -76,52 +63,20 @@ fn is_past<O: Order>(ordered: &Ordered<'_, O>, mark: Mark, e: u32) -> bool
     }
 }
 
-/// What is kept of an open variable.
-fn opened() -> Latest
-    ensures { result.write.time ≡ no_time }
-{
-    Latest {
-        write: unordered(),
-        read: nothing(),
-    }
-}
-
-/// What is kept of a variable after a read of it that is ordered after its last write.
-fn after_read<O: Order>(ordered: &Ordered<'_, O>, latest: Latest, e: u32) -> Latest
+/// The mark of an event that is after what a mark stands for; another event isn't known any more.
+fn mark_after<O: Order>(ordered: &Ordered<'_, O>, kept: Mark, e: u32) -> Mark
     requires in_range { e < length ordered.now.disciplined.now.events.now }
     requires asked { O.asks ordered.now.order.now e ≡ true }
-    ensures { (x : ℕ) → variable_at ordered.now.disciplined.now.events.now e ≡ Some x
-        → op_at ordered.now.disciplined.now.events.now e ≢ Some (Write x)
-        → IsPast ordered.now.disciplined.now.events.now latest.write e
-        → IsScreened ordered.now.disciplined.now.events.now e x latest
-        → IsScreened ordered.now.disciplined.now.events.now (e + 1) x result }
+    ensures { (result.time ≡ no_time) ⊎ (IsPast ordered.now.disciplined.now.events.now kept e
+        × IsMarkOf ordered.now.disciplined.now.events.now result e) }
 {
-    let write = latest.write;
-    if is_past(ordered, latest.read, e) {
-        let read = mark_of(ordered, e);
-        Latest { write, read }
-    } else {
-        let read = unordered();
-        Latest { write, read }
-    }
-}
-
-/// What is kept of a variable after a write of it that is ordered after its last write.
-fn after_write<O: Order>(ordered: &Ordered<'_, O>, latest: Latest, e: u32) -> Latest
-    requires in_range { e < length ordered.now.disciplined.now.events.now }
-    requires asked { O.asks ordered.now.order.now e ≡ true }
-    ensures { (x : ℕ) → variable_at ordered.now.disciplined.now.events.now e ≡ Some x
-        → IsPast ordered.now.disciplined.now.events.now latest.write e
-        → IsScreened ordered.now.disciplined.now.events.now e x latest
-        → IsScreened ordered.now.disciplined.now.events.now (e + 1) x result }
-{
-    if is_past(ordered, latest.read, e) {
-        Latest {
-            write: mark_of(ordered, e),
-            read: nothing(),
+    if is_past(ordered, kept, e) {
+        Mark {
+            time: ordered.links.local(e),
+            thread: ordered.disciplined.events.thread(e),
         }
     } else {
-        opened()
+        unordered()
     }
 }
 
@@ -133,12 +88,22 @@ fn after_access<O: Order>(ordered: &Ordered<'_, O>, latest: Latest, e: u32) -> L
         → IsScreened ordered.now.disciplined.now.events.now e x latest
         → IsScreened ordered.now.disciplined.now.events.now (e + 1) x result }
 {
+    let read = nothing();
     if !is_past(ordered, latest.write, e) {
-        opened()
-    } else if ordered.disciplined.events.op(e).is_write() {
-        after_write(ordered, latest, e)
+        let write = unordered();
+        return Latest { write, read };
+    }
+    let newest = mark_after(ordered, latest.read, e);
+    if ordered.disciplined.events.op(e).is_write() {
+        Latest {
+            write: newest,
+            read,
+        }
     } else {
-        after_read(ordered, latest, e)
+        Latest {
+            write: latest.write,
+            read: newest,
+        }
     }
 }
 

@@ -6,9 +6,8 @@ ghost use Rattle.shb_pairs.specs.Accesses.{IsByThread, accesses_in, variables_in
 ghost use Rattle.shb_clocks.specs.Open.{is_open};
 ghost use Rattle.shb_pairs.specs.Open.{AsksOpen};
 ghost use Rattle.shb_pairs.specs.Races.{races_with};
-ghost use Rattle.shb_pairs.specs.declared.accesses.Which.TheVariants.{Both, Writes};
 
-use crate::accesses::Accesses;
+use crate::accesses::{Accesses, Which};
 use crate::races::add_races;
 use crate::ranges::RaceRanges;
 use shb_clocks::{Order, Ordered};
@@ -41,18 +40,11 @@ impl<'s, 'a, O: Order> Search<'s, 'a, O> {
         self.accesses.of(self.variable)
     }
 
-    /// The accesses of the variable by thread: their positions from 0, those of one thread in trace order.
-    pub fn both_by_thread(&self) -> &'a [u32]
-        ensures { IsByThread self.now.ordered.now.disciplined.now.events.now Both self.now.variable result.now }
+    /// Those accesses of the variable by thread: their positions from 0, those of one thread in trace order.
+    pub fn by_thread(&self, which: Which) -> &'a [u32]
+        ensures { IsByThread self.now.ordered.now.disciplined.now.events.now which self.now.variable result.now }
     {
-        self.accesses.both_by_thread(self.variable)
-    }
-
-    /// The writes of the variable by thread: their positions from 0, those of one thread in trace order.
-    pub fn writes_by_thread(&self) -> &'a [u32]
-        ensures { IsByThread self.now.ordered.now.disciplined.now.events.now Writes self.now.variable result.now }
-    {
-        self.accesses.writes_by_thread(self.variable)
+        self.accesses.by_thread(which, self.variable)
     }
 
     /// The races of a later access of the variable, by the earlier access.

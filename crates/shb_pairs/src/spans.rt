@@ -6,6 +6,7 @@ ghost use Rattle.shb_lines.specs.events.Reach.{is_race, numbers_where};
 ghost use Rattle.shb_pairs.specs.Ranges.{in_ranges, sorted};
 ghost use Rattle.shb_pairs.specs.Spans.{AreComparedWith, IsSpanOf, in_spans};
 
+use crate::accesses::Which;
 use crate::buckets::part;
 use crate::ranges::Range;
 use crate::rivals::{tail_of, thread_end};
@@ -76,20 +77,24 @@ pub fn racing_spans<O: Order>(
 }
 
 /// The accesses by thread that an access of the variable of a search can conflict with.
-fn compared_with<'a, O: Order>(search: &Search<'_, 'a, O>, second: u32) -> &'a [u32]
+pub(crate) fn compared_with<'a, O: Order>(search: &Search<'_, 'a, O>, second: u32) -> &'a [u32]
     requires accessed { variable_at search.now.ordered.now.disciplined.now.events.now second ≡ Some search.now.variable }
     ensures { AreComparedWith search.now.ordered.now.disciplined.now.events.now second result.now }
 {
     // A read conflicts with writes alone.
     if search.ordered.disciplined.events.op(second).is_write() {
-        search.both_by_thread()
+        search.by_thread(Which::Both)
     } else {
-        search.writes_by_thread()
+        search.by_thread(Which::Writes)
     }
 }
 
 /// The parts of a list that some spans name.
-fn parts_of<'p>(alloc: Global, list: &'p [u32], spans: &[Span]) -> Result<Vec<Range<'p>>, NoMemory>
+pub(crate) fn parts_of<'p>(
+    alloc: Global,
+    list: &'p [u32],
+    spans: &[Span],
+) -> Result<Vec<Range<'p>>, NoMemory>
     requires { All (IsSpanOf (length list.now)) spans.now }
     ensures { IfOk result (λ v. in_ranges v.items ≡ in_spans list.now spans.now) }
 {
@@ -100,21 +105,4 @@ fn parts_of<'p>(alloc: Global, list: &'p [u32], spans: &[Span]) -> Result<Vec<Ra
         })?;
     }
     Ok(parts)
-}
-
-/// The accesses that race with a later access of the variable of a search, as ranges: one for each thread
-/// that has any.
-pub(crate) fn rivals_of<'a, O: Order>(
-    alloc: Global,
-    search: &Search<'_, 'a, O>,
-    second: u32,
-) -> Result<Vec<Range<'a>>, NoMemory>
-    requires accessed { variable_at search.now.ordered.now.disciplined.now.events.now second ≡ Some search.now.variable }
-    ensures { IfOk result (λ v. sorted (in_ranges v.items)
-        ≡ numbers_where (λ i. is_race search.now.ordered.now.disciplined.now.events.now i second) second) }
-{
-    let accesses = compared_with(search, second);
-    let mut spans = Vec::new(alloc);
-    racing_spans(search.ordered, accesses, second, &mut spans)?;
-    parts_of(alloc, accesses, &spans)
 }

@@ -1,5 +1,7 @@
-use Rattle.std.proofs.Common.{ap, arith, length}
+use Rattle.std.proofs.lemmas.Grind.{common_steps}
+use Rattle.std.proofs.Common.{All, arith}
+use Rattle.shb_counts.proofs.PieceLemmas.{pairs_of_trace}
 use Rattle.shb_counts.proofs.counted.count_piece.Goals as goal
 
-pub count_few-requires-clause-room : goal.count_few-requires-clause-room
-count_few-requires-clause-room g c = let is = ap length c.in_ok-races.ensures in omega (arith, is, c.requires.room)
+pub count-requires-clause-pairs : goal.count-requires-clause-pairs
+count-requires-clause-pairs g c = grind (arith, common_steps, All, c.as_slice.ensures.value, pairs_of_trace, c.in_ok-pairs.ensures, c.in_ok-races.ensures, c.requires.races)

@@ -10,6 +10,6 @@ use Rattle.shb_counts.proofs.counted.count_pieces.Given as goal
 abbrev pub invariant-loop-k : goal.invariant-loop-k
 invariant-loop-k g l = record {
   within : l.k ≤ length (pieces_in l.job);
-  known : IfSome l.known (λ many. AreTables l.job.trace l.located.numbers.now.numbers.items (length l.located.numbers.now.locations) many.tables.variable many.tables);
+  known : IfSome l.known (λ tables. AreTables l.job.trace l.located.numbers.now.numbers.items (length l.located.numbers.now.locations) tables.variable tables);
   counted : HasCounted l.located.numbers.now.numbers.items (joined (values_of (races_at l.job) l.k)) l.counter;
 }

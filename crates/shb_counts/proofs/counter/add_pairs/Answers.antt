@@ -1,4 +1,5 @@
 -- Each pair is counted in its turn.
+use Rattle.std.proofs.lemmas.Grind.{common_steps}
 use Rattle.std.proofs.Common.{◌≡◌, ◌+◌, ◌-◌, ◌<◌, ◌≤◌, ◌^◌, arith, get_or, length, subst, sym, List}
 use Rattle.std.specs.List.{AllByRecursion}
 use Rattle.shb_lines.specs.declared.event.Pair.{Pair}
@@ -8,10 +9,7 @@ use Rattle.shb_counts.proofs.Batches.{each_keyed, few_at, next_after}
 use Rattle.shb_counts.proofs.counter.add_pairs.Goals as goal
 
 pub add-requires : goal.add-requires
-add-requires c =
-    let pairs : List Pair = c.args.pairs.now in
-    few_at (2 ^ 64 - 1) c.key_of.result c.loop-pair.places
-    (each-weaker (λ (p : Keyed). p.1.count + (length pairs - c.loop-pair.pair-index) < 2 ^ 64) (λ (p : Keyed). p.1.count < 2 ^ 64 - 1) c.loop-pair.places (λ p l. omega (arith, c.loop-pair-test.true)) c.loop-pair.invariant.few)
+add-requires c = grind (arith, common_steps, few_at, each-weaker, c.loop-pair-test.true, c.loop-pair.invariant.few)
 
 pub loop-pair-preserved : goal.loop-pair-preserved
 loop-pair-preserved c =

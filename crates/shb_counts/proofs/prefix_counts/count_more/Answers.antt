@@ -1,4 +1,5 @@
-use Rattle.std.proofs.Common.{◌<◌, length, get_or, refl, arith}
+use Rattle.std.proofs.lemmas.Grind.{common_steps}
+use Rattle.std.proofs.Common.{◌<◌, length, get_or, arith}
 use Rattle.std.proofs.lemmas.List.{get_or_read}
 use Rattle.shb_pairs.proofs.Sorting.{count_room, counts_more}
 use Rattle.shb_counts.proofs.prefix_counts.count_more.Goals as goal
@@ -15,11 +16,4 @@ overflow_add-index_mut c =
     omega (arith, room, few)
 
 pub loop-k-preserved : goal.loop-k-preserved
-loop-k-preserved c =
-    let to = c.requires.within in
-    let low = c.loop-k.invariant.0 in
-    let inside : c.loop-k.k < length c.args.numbers.now = omega (arith, to) in
-    let below = c.requires.numbered c.loop-k.k 0 inside in
-    let many = c.loop-k.invariant.2.as_many in
-    let at = get_or_read c.loop-k.counts.items (get_or c.args.numbers.now c.loop-k.k 0) c.index_mut.result.now (omega (arith, below, many)) c.index_mut.ensures.value 0 in
-    (omega (arith, low), omega arith, counts_more (λ n. n) (length c.args.counts.now.items) c.args.numbers.now c.loop-k.k _ _ c.loop-k.counts.items inside refl below at c.loop-k.invariant.2)
+loop-k-preserved c = grind (arith, common_steps, c.requires.within, c.loop-k.invariant.0, c.requires.numbered, c.loop-k.invariant.2.as_many, get_or_read, c.index_mut.ensures.value, counts_more, c.loop-k.invariant.2)

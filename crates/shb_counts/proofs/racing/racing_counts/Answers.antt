@@ -1,4 +1,4 @@
-use Rattle.std.proofs.Common.{◌<◌, ℕ, ap, arith, List, length, map, subst, sym}
+use Rattle.std.proofs.Common.{◌<◌, ℕ, ap, arith, List, length, subst, sym}
 use Rattle.std.specs.Prelude.{All}
 use Rattle.std.proofs.lemmas.Result.{on_ok_weaker}
 use Rattle.shb_pairs.proofs.Found.{accessed_within}
@@ -10,9 +10,6 @@ use Rattle.shb_counts.proofs.racing.racing_counts.Goals as goal
 
 pub op-op-requires : goal.op-op-requires
 op-op-requires g c = accessed_within c.args.search.now.ordered.now.disciplined.now.events.now c.args.second c.args.search.now.variable c.requires.accessed
-
-pub racing_spans-requires-clause-asked : goal.racing_spans-requires-clause-asked
-racing_spans-requires-clause-asked g c = c.args.search.now.asked c.args.second c.args.search.now.variable c.requires.accessed c.args.search.now.listed
 
 pub racing_spans-requires-clause-compared : goal.racing_spans-requires-clause-compared
 racing_spans-requires-clause-compared g c = record {

@@ -1,5 +1,5 @@
 use Rattle.std.proofs.Common.{ℕ, List, subst, sym, take}
-use Rattle.shb_counts.proofs.SpanCounts.{none_counted, spans_more, spans_room}
+use Rattle.shb_counts.proofs.SpanCounts.{spans_more, spans_room}
 use Rattle.shb_counts.specs.Counts.{AreCountsOf}
 use Rattle.shb_pairs.specs.Spans.{in_spans}
 use Rattle.shb_counts.proofs.span_counts.counts_in_spans.Goals as goal
@@ -9,6 +9,3 @@ add_span-requires-clause-counted c = (in_spans c.args.table.now.1 (take c.loop-s
 
 pub loop-span-preserved : goal.loop-span-preserved
 loop-span-preserved c = subst (λ (list : List ℕ). AreCountsOf c.args.table.now.0 list c.add_span.new.rows.counts.items) (sym (spans_more c.args.table.now.1 c.args.spans.now c.loop-span.span-index _ c.loop-span-test.true)) (c.in_ok-add_span.ensures (in_spans c.args.table.now.1 (take c.loop-span.span-index c.args.spans.now)) c.loop-span.invariant)
-
-pub loop-span-init : goal.loop-span-init
-loop-span-init c = none_counted c.args.table.now.0 c.args.table.now.1 c.counts_before.new.counts.items c.in_ok-counts_before.ensures

@@ -5,13 +5,6 @@ use Rattle.shb_discipline.proofs.Covered.{covered, no_event}
 use Rattle.shb_discipline.proofs.Faultless.{disciplined_more, may_come}
 use Rattle.shb_discipline.proofs.checking.first_fault.Goals as goal
 
-pub loop-e-init : goal.loop-e-init
-loop-e-init c = record {
-  covers = c.in_ok-state.ensures.covers c.args.events.now c.requires.within;
-  state = c.in_ok-state.ensures.state;
-  disciplined = λ k e before at. absurd (omega (arith, before));
-}
-
 pub fault-requires : goal.fault-requires
 fault-requires c =
     let entries = covered c.args.events.now c.loop-e.e _ _ c.thread.ensures c.op.ensures c.loop-e.state (omega (arith, c.loop-e-test.true, c.len-e-end.ensures)) c.loop-e.invariant.covers in

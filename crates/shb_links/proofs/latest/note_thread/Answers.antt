@@ -1,10 +1,6 @@
 use Rattle.std.proofs.Common.{arith}
 use Rattle.shb_lines.proofs.events.Items.{thread_within}
-use Rattle.shb_links.proofs.Tables.{thread_noted}
 use Rattle.shb_links.proofs.latest.note_thread.Goals as goal
 
 pub index_mut-requires : goal.index_mut-requires
 index_mut-requires c = let low = thread_within c.args.events.now c.args.sizes c.args.e c.thread.result c.requires.within c.thread.ensures in let long = c.requires.last.as_long in omega (arith, low, long, c.args.last.now.ok.0)
-
-pub returns : goal.returns
-returns c = thread_noted c.args.events.now c.args.sizes c.args.e c.requires.within c.thread.result c.args.last.now.items c.thread.ensures c.requires.last

@@ -12,7 +12,7 @@ invariant_of-result c =
     let found = c.loop-e.found in
     record {
       times = subst (λ (n : ℕ). HasLocals trace.events.now n found.locals.items) all c.loop-e.invariant.locals;
-      forks_of_threads = forks_whole trace.events.now trace.sizes found.forks.items trace.within (subst (λ (n : ℕ). IsLatestTable (ForksThread trace.events.now) n trace.sizes.threads found.forks.items) all c.loop-e.invariant.forks);
-      last_events = last_whole trace.events.now trace.sizes found.last.items trace.within (subst (λ (n : ℕ). IsLatestTable (OfThread trace.events.now) n trace.sizes.threads found.last.items) all c.loop-e.invariant.last);
+      forked = forks_whole trace.events.now trace.sizes found.forks.items trace.within (subst (λ (n : ℕ). IsLatestTable (ForksThread trace.events.now) n trace.sizes.threads found.forks.items) all c.loop-e.invariant.forks);
+      ended = last_whole trace.events.now trace.sizes found.last.items trace.within (subst (λ (n : ℕ). IsLatestTable (OfThread trace.events.now) n trace.sizes.threads found.last.items) all c.loop-e.invariant.last);
       sharing = c.in_ok-shared_variables.ensures;
     }

@@ -1,7 +1,6 @@
 use Rattle.shb_lines.specs.declared.event.Op.TheVariants.{Fork}
 use Rattle.std.proofs.Common.{◌<◌, arith}
 use Rattle.shb_lines.proofs.events.Items.{op_known, op_within_at}
-use Rattle.shb_links.proofs.Tables.{fork_noted, no_fork_noted}
 use Rattle.shb_links.proofs.pass.note_fork.Goals as goal
 
 pub index_mut-requires : goal.index_mut-requires
@@ -9,9 +8,3 @@ index_mut-requires c =
     let trace = c.args.disciplined.now in
     let low : c.in-Fork.thread < trace.sizes.threads = op_within_at trace.events.now trace.sizes c.args.e (Fork c.in-Fork.thread) trace.within (op_known trace.events.now c.args.e c.op.result (Fork c.in-Fork.thread) c.op.ensures c.in-Fork.is) in
     omega (arith, low, c.requires.forks.as_long, c.args.forks.now.ok.0)
-
-pub returns-in-Fork : goal.returns-in-Fork
-returns-in-Fork c = fork_noted c.args.disciplined.now.events.now c.args.disciplined.now.sizes c.args.e c.args.disciplined.now.within c.args.forks.now.items c.in-Fork.thread (op_known _ _ _ _ c.op.ensures c.in-Fork.is) c.requires.forks
-
-pub returns-in_default : goal.returns-in_default
-returns-in_default c = no_fork_noted c.args.disciplined.now.events.now c.args.disciplined.now.sizes c.args.e c.args.disciplined.now.within c.args.forks.now.items c.op.result c.op.ensures c.in_default.not-Fork c.requires.forks

@@ -1,6 +1,6 @@
 use Rattle.std.proofs.Common.{arith, subst, sym, ◌∙◌}
 use Rattle.shb_links.specs.Sharing.{IsOwner}
-use Rattle.shb_links.proofs.Owners.{apart, owners_access, owners_other, variable_known, variable_sized}
+use Rattle.shb_links.proofs.Owners.{owners_access, variable_known, variable_sized}
 use Rattle.shb_links.proofs.sharing.note_access.Goals as goal
 
 pub index-owner-requires : goal.index-owner-requires
@@ -25,12 +25,4 @@ returns-in-Some c =
     let low = variable_sized events trace.sizes e x trace.within access in
     owners_access events e trace.sizes.variables x _ c.args.owners.now.items low.1 access
     (c.with.ensures events x e access c.thread.ensures (subst (IsOwner events x e) (sym c.index-owner.ensures) (c.requires.owners.each x _ low.1)))
-    c.requires.owners
-
-pub returns-in_default : goal.returns-in_default
-returns-in_default c =
-    let trace = c.args.disciplined.now in
-    let events = trace.events.now in
-    owners_other events c.args.e trace.sizes.variables c.args.owners.now.items
-    (λ x access. apart x (sym access ∙ (variable_known events c.args.e c.op.result c.op.ensures ∙ (sym c.variable.ensures ∙ c.in_default.is))))
     c.requires.owners

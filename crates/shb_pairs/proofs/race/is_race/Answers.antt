@@ -1,5 +1,6 @@
 -- An edit that makes these false is refused at once.
-use Rattle.std.proofs.Common.{ℕ, ◌<◌, Bool, true, false, List, refl}
+use Rattle.std.proofs.lemmas.Grind.{common_steps}
+use Rattle.std.proofs.Common.{ℕ, ◌<◌, Bool, List, arith}
 use Rattle.std.specs.Prelude.{◌↔◌, IsTrue, not}
 use Rattle.shb_lines.specs.declared.event.Event.{Event}
 use Rattle.shb_lines.specs.events.Order.{BelowPred}
@@ -8,21 +9,10 @@ use Rattle.shb_lines.proofs.events.Decide.{race_iff_schedulable}
 use Rattle.shb_pairs.proofs.race.is_race.Goals as goal
 
 unordered_is_race : (trace : List Event) (i j : ℕ) (below : Bool) → i < j → Conflict trace i j → IsTrue below ↔ BelowPred trace i j → IsTrue (not below) ↔ Race trace i j
-unordered_is_race trace i j true earlier conflict is = ((λ no. absurd (let f : ⊥ = cc in f)), (λ race. absurd (race.unordered (is.0 refl))))
-unordered_is_race trace i j false earlier conflict is = ((λ yes. record { conflict = conflict; earlier = earlier; unordered = λ below. let passes = is.1 below in (let f : ⊥ = cc in f) }), (λ race. refl))
-
-below_where_no_race : (trace : List Event) (i j : ℕ) (below : Bool) → IsTrue below ↔ BelowPred trace i j → (IsTrue (not below) → ⊥) → BelowPred trace i j
-below_where_no_race trace i j true is no_race = is.0 refl
-below_where_no_race trace i j false is no_race = absurd (no_race refl)
+unordered_is_race trace i j below h also third = grind (arith, common_steps)
 
 through : {A B C : Type 0} → A ↔ B → B ↔ C → A ↔ C
 through ab bc = ((λ a. bc.0 (ab.0 a)), (λ c. ab.1 (bc.1 c)))
 
-pub returns-then-conflicting-clause-race : goal.returns-then-conflicting-clause-race
-returns-then-conflicting-clause-race g c = unordered_is_race c.args.trace.now.events.now c.args.first c.args.second c.is_below_pred.result c.requires.earlier (c.events_conflict_at-conflicting.ensures.0 c.if-conflicting.true) c.is_below_pred.ensures
-
 pub returns-then-conflicting-clause-schedulable : goal.returns-then-conflicting-clause-schedulable
 returns-then-conflicting-clause-schedulable g c = through (unordered_is_race c.args.trace.now.events.now c.args.first c.args.second c.is_below_pred.result c.requires.earlier (c.events_conflict_at-conflicting.ensures.0 c.if-conflicting.true) c.is_below_pred.ensures) (race_iff_schedulable c.args.trace.now.events.now c.args.trace.now.meets c.args.first c.args.second c.requires.earlier)
-
-pub returns-then-conflicting-clause-below : goal.returns-then-conflicting-clause-below
-returns-then-conflicting-clause-below g c no_race conflict = below_where_no_race c.args.trace.now.events.now c.args.first c.args.second c.is_below_pred.result c.is_below_pred.ensures no_race

@@ -1,8 +1,9 @@
-use Rattle.std.proofs.Common.{◌≡◌, ◌+◌, ◌-◌, ◌<◌, ◌≤◌, ◌++◌, ℕ, List, length, get_or, ap, sym, ◌∙◌, arith}
+use Rattle.std.proofs.lemmas.Grind.{common_steps}
+use Rattle.std.proofs.Common.{◌≡◌, ◌+◌, ◌-◌, ◌<◌, ◌≤◌, ℕ, List, length, ap, arith}
 use Rattle.std.specs.Prelude.{flat_map, take, drop}
 use Rattle.shb_pairs.specs.Accesses.{accesses_at, accesses_in}
 use Rattle.shb_pairs.specs.Races.{joined, races_with}
-use Rattle.shb_pairs.proofs.PieceRaces.{access_front, races_first, races_more}
+use Rattle.shb_pairs.proofs.PieceRaces.{access_front, races_more}
 use Rattle.std.proofs.lemmas.List.{length-take}
 use Rattle.std.proofs.lemmas.List.Elements.{All-drop, All-take}
 use Rattle.shb_lines.specs.declared.event.Event.{Event}
@@ -11,23 +12,8 @@ use Rattle.shb_pairs.proofs.Counting.{numbers_few}
 use Rattle.shb_pairs.proofs.Ranged.{races_few}
 use Rattle.shb_pairs.proofs.races.races_in.Goals as goal
 
-pub loop-index-init : goal.loop-index-init
-loop-index-init g c = record {
-  low = omega arith;
-  high = (let le = c.requires.forward in omega (arith, le));
-  found = races_first c.args.search.now.ordered.now.disciplined.now.events.now (accesses_in c.args.search.now.ordered.now.disciplined.now.events.now c.args.search.now.variable) _ c.args.from (ap (λ (ls : List (List (ℕ × ℕ))). joined ls) c.new-races.ensures);
-}
-
 pub loop-index-preserved : goal.loop-index-preserved
-loop-index-preserved g c = record {
-  low = (let le = c.loop-index.invariant.low in omega (arith, le));
-  high = omega arith;
-  found = (let le = c.requires.within in
-      c.in_ok-add_races.ensures
-      ∙ (ap (λ (ks : List ℕ). joined c.loop-index.races ++ races_with c.args.search.now.ordered.now.disciplined.now.events.now (get_or ks c.loop-index.index 0)) c.in_order-accesses.ensures
-      ∙ (ap (λ (ps : List (ℕ × ℕ)). ps ++ races_with c.args.search.now.ordered.now.disciplined.now.events.now (get_or (accesses_in c.args.search.now.ordered.now.disciplined.now.events.now c.args.search.now.variable) c.loop-index.index 0)) c.loop-index.invariant.found
-      ∙ sym (races_more c.args.search.now.ordered.now.disciplined.now.events.now (accesses_in c.args.search.now.ordered.now.disciplined.now.events.now c.args.search.now.variable) c.args.from c.loop-index.index c.loop-index.invariant.low (omega (arith, le))))));
-}
+loop-index-preserved g c = grind (arith, common_steps, c.loop-index.invariant.low, c.requires.within, c.in_ok-add_races.ensures, c.in_order-accesses.ensures, c.loop-index.invariant.found, races_more)
 
 -- there is room for the races of one access more
 races_room : (trace : List Event) (x from to index : ℕ) (races : List (ℕ × ℕ)) → length trace ≤ 4194304 → index < to → to ≤ length (accesses_in trace x) → races ≡ flat_map (races_with trace) (take (index - from) (drop from (accesses_in trace x))) → length races + 4294967296 < 18446744073709551616
@@ -43,9 +29,3 @@ add_races-requires-clause-room g c = races_room c.args.search.now.ordered.now.di
 
 pub add_races-requires-clause-accessed : goal.add_races-requires-clause-accessed
 add_races-requires-clause-accessed g c = rw c.in_order-accesses.ensures (access_front c.args.search.now.ordered.now.disciplined.now.events.now c.args.search.now.variable c.loop-index.index (let lt = c.loop-index-test.true in let le = c.requires.within in omega (arith, lt, le))).0
-
-pub returns : goal.returns
-returns g c =
-    let high = c.loop-index.invariant.high in
-    let e : c.loop-index.index ≡ c.args.to = omega (arith, high) in
-    c.loop-index.invariant.found ∙ ap (λ (n : ℕ). flat_map (races_with c.args.search.now.ordered.now.disciplined.now.events.now) (take (n - c.args.from) (drop c.args.from (accesses_in c.args.search.now.ordered.now.disciplined.now.events.now c.args.search.now.variable)))) e

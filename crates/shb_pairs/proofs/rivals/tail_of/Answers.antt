@@ -1,4 +1,5 @@
-use Rattle.std.proofs.Common.{◌≡◌, ◌+◌, ◌<◌, ◌≤◌, ℕ, List, Some, get_or, ltb, rules, subst, sym, ◌∙◌}
+use Rattle.std.proofs.lemmas.Grind.{common_steps}
+use Rattle.std.proofs.Common.{◌≡◌, ◌+◌, ◌<◌, ◌≤◌, ℕ, List, Some, get_or, ltb, rules, subst, sym, ◌∙◌, arith}
 use Rattle.std.proofs.lemmas.List.Sorted.{IsPartitionPoint-from_clause}
 use Rattle.shb_lines.specs.declared.event.Event.{Event}
 use Rattle.shb_lines.specs.events.Discipline.{local_time}
@@ -8,10 +9,7 @@ use Rattle.shb_pairs.proofs.Sorting.{thread_read}
 use Rattle.shb_pairs.proofs.rivals.tail_of.Goals as goal
 
 pub returns-then-thread-clause-races : goal.returns-then-thread-clause-races
-returns-then-thread-clause-races g c =
-    let head = thread_read c.args.ordered.now.disciplined.now.events.now (get_or c.args.positions.now 0 0) _ c.thread-thread.ensures in
-    let own = thread_read c.args.ordered.now.disciplined.now.events.now c.args.second _ c.thread.ensures in
-    sym (own_thread_races c.args.ordered.now.disciplined.now.events.now c.args.second c.args.positions.now c.requires.in_range c.requires.one_thread c.requires.some (head ∙ (c.if-thread.true ∙ sym own)))
+returns-then-thread-clause-races g c = grind (arith, common_steps, thread_read, c.thread-thread.ensures, c.thread.ensures, own_thread_races, c.requires.in_range, c.requires.one_thread, c.requires.some, c.if-thread.true)
 
 pub returns-clause-races : goal.returns-clause-races
 returns-clause-races g c =

@@ -1,4 +1,4 @@
-use Rattle.std.proofs.Common.{ap, arith, ◌∙◌}
+use Rattle.std.proofs.Common.{ap, ◌∙◌}
 use Rattle.std.proofs.lemmas.List.{take_all}
 use Rattle.shb_pairs.specs.Search.{racing}
 use Rattle.shb_pairs.specs.Spans.{in_spans}
@@ -10,14 +10,8 @@ use Rattle.shb_pairs.proofs.spans.racing_spans.Goals as goal
 pub thread_end-end-requires-clause-in_range : goal.thread_end-end-requires-clause-in_range
 thread_end-end-requires-clause-in_range g c = compared_range c.args.ordered.now.disciplined.now.events.now c.args.second c.args.positions.now c.requires.compared
 
-pub thread_end-end-requires-clause-sorted : goal.thread_end-end-requires-clause-sorted
-thread_end-end-requires-clause-sorted g c = c.requires.compared.by_thread.sorted
-
 pub tail_of-tail-requires-clause-in_range : goal.tail_of-tail-requires-clause-in_range
 tail_of-tail-requires-clause-in_range g c = accessed_within c.args.ordered.now.disciplined.now.events.now c.args.second c.requires.compared.variable c.requires.compared.accesses
-
-pub tail_of-tail-requires-clause-some : goal.tail_of-tail-requires-clause-some
-tail_of-tail-requires-clause-some g c = rw c.part.ensures (part_of_thread c.args.ordered.now.disciplined.now.events.now c.args.positions.now c.loop-start.start c.thread_end-end.result (compared_range c.args.ordered.now.disciplined.now.events.now c.args.second c.args.positions.now c.requires.compared) c.requires.compared.by_thread.sorted c.thread_end-end.ensures.more c.thread_end-end.ensures.within c.thread_end-end.ensures.same_thread).1
 
 pub tail_of-tail-requires-clause-rivals : goal.tail_of-tail-requires-clause-rivals
 tail_of-tail-requires-clause-rivals g c = rw c.part.ensures (part_of_rivals c.args.ordered.now.disciplined.now.events.now c.args.second c.loop-start.start c.thread_end-end.result c.args.positions.now (compared_rivals c.args.ordered.now.disciplined.now.events.now c.args.second c.args.positions.now c.requires.compared))

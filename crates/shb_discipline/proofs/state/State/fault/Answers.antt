@@ -1,11 +1,7 @@
--- An edit that makes this false is refused at once.
-use Rattle.std.proofs.Common.{rules, count_by, subst}
+use Rattle.std.proofs.Common.{count_by, subst}
 use Rattle.shb_lines.specs.events.Discipline.{is_join}
 use Rattle.shb_discipline.specs.State.{Tells}
 use Rattle.shb_discipline.proofs.state.State.fault.Goals as goal
-
-pub returns-then-is_joined : goal.returns-then-is_joined
-returns-then-is_joined c = search rules
 
 pub returns-else-is_joined : goal.returns-else-is_joined
 returns-else-is_joined c = λ past e of_thread of_op state.

@@ -1,10 +1,11 @@
+use Rattle.std.proofs.lemmas.Grind.{common_steps}
 use Rattle.std.proofs.Common.{◌≡◌, ◌+◌, ◌++◌, ◌∷◌, [], ℕ, List, length, ap, arith, sym, ◌∙◌}
 use Rattle.std.specs.Prelude.{map}
 use Rattle.std.proofs.lemmas.Bool.{eqb-true}
 use Rattle.shb_pairs.specs.declared.ranges.LaterAccess.{LaterAccess}
 use Rattle.shb_pairs.specs.declared.ranges.Range.{Range}
 use Rattle.shb_pairs.specs.Races.{joined}
-use Rattle.shb_pairs.specs.Ranges.{in_ranges, races_of_later, sorted}
+use Rattle.shb_pairs.specs.Ranges.{in_ranges, races_of_later}
 use Rattle.shb_pairs.proofs.Ranged.{added_length, joined_more, nothing_added}
 use Rattle.shb_pairs.proofs.ranges.RaceRanges.add.Goals as goal
 
@@ -27,7 +28,4 @@ pub invariant_of-self-2 : goal.invariant_of-self-2
 invariant_of-self-2 c = count_more c.self.inside.later.items c.push.new.self.items _ c.as_slice.result.now c.self.inside.count c.count_in-count.result c.in_ok-push.ensures.items c.self.invariant c.as_slice.ensures.value c.count_in-count.ensures
 
 pub returns : goal.returns
-returns c =
-    ap (λ (ls : List LaterAccess). joined (map races_of_later ls)) c.in_ok-push.ensures.items
-    ∙ (joined_more c.self.inside.later.items _
-    ∙ ap (λ (old : List (List (ℕ × ℕ))). joined old ++ map (λ i. (i, c.args.second)) (sorted (in_ranges c.args.ranges.items))) c.self.view_is)
+returns c = grind (arith, common_steps, c.in_ok-push.ensures.items, joined_more, c.args.ranges.items, c.self.view_is)

@@ -1,6 +1,0 @@
--- An edit that makes this false is refused at once.
-use Rattle.std.proofs.Common.{rules}
-use Rattle.shb_links.proofs.links.Links.forked_by.Goals as goal
-
-pub returns-in-Some : goal.returns-in-Some
-returns-in-Some c = search rules
