@@ -100,9 +100,6 @@ any_to f xs a = let le = get_or-le-sum_by (λ (p : PassState). weight (f p)) xs 
 pub ours_before : (z : TicketSource) (xs ys : List PassState) (p : PassState) → xs ≡ ys ++ p ∷ [] → All (λ q. q.source ≡ z) xs → All (λ q. q.source ≡ z) ys × (p.source ≡ z)
 ours_before z xs ys p longer all = All-pop (λ (q : PassState). q.source ≡ z) xs ys (Some p) longer all
 
-pub low : (drawn ticket planned limit : ℕ) → drawn ≡ min ticket planned → planned ≡ limit → drawn ≤ limit
-low drawn ticket planned limit is same = omega (arith, is, same)
-
 pub sum_nothing : (f : PassState → ℕ) (xs : List PassState) → length xs ≡ 0 → sum_by f xs ≡ 0
 sum_nothing f [] e = refl
 sum_nothing f (x ∷ xs) e = absurd (omega arith)

@@ -6,7 +6,7 @@ use Rattle.shb_fan.specs.Numbers.{times, once_below}
 use Rattle.shb_fan.specs.Passes.{TicketSource, PassState, times_in, halted_in, seen_in, spent_in}
 use Rattle.shb_fan.proofs.Counts.{times-append}
 use Rattle.shb_fan.proofs.Keeps.{merges}
-use Rattle.shb_fan.proofs.Ends.{counted, first_counted, times-shown, halted-shown, seen-shown, spent-shown, rising-shown, all_rising, none_rising, Told, closes, ours_before, low, sum_nothing, each_once, stop_seen, stop_set, seen_set, all_drawn}
+use Rattle.shb_fan.proofs.Ends.{counted, first_counted, times-shown, halted-shown, seen-shown, spent-shown, rising-shown, all_rising, none_rising, Told, closes, ours_before, sum_nothing, each_once, stop_seen, stop_set, seen_set, all_drawn}
 use Rattle.shb_fan.proofs.MachineRuns.{machine_run}
 use Rattle.shb_fan.proofs.tickets.Tickets.close.Goals as goal
 
@@ -60,9 +60,6 @@ told c = let e = left_none c in let p = c.loop-pass.invariant.parts in
 
 all_in : (c : goal.After-drop-passes) (f : PassState → ℕ) (n : ℕ) → n + sum_by f c.loop-pass.passes.items ≡ sum_by f c.args.passes.items → n ≡ sum_by f c.args.passes.items
 all_in c f n h = let z = sum_nothing f c.loop-pass.passes.items (left_none c) in omega arith
-
-pub returns-clause-few : goal.returns-clause-few
-returns-clause-few c = low _ _ _ _ c.min.ensures (ap (λ (z : TicketSource). z.limit) c.self.view_is)
 
 pub returns-clause-rising : goal.returns-clause-rising
 returns-clause-rising c = none_rising _ _ (left_none c) c.loop-pass.invariant.rising
