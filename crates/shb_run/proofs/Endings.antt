@@ -1,5 +1,5 @@
 -- From what the parts of a run answer to what the run says of the text.
-use Rattle.std.proofs.Common.{◌≡◌, ◌⊎◌, ℕ, inl, inr, Bool, List, length, map, Option, Result, Ok, Err, IsErrAnd, refl, sym, ap, subst, ◌∙◌}
+use Rattle.std.proofs.Common.{◌≡◌, ◌⊎◌, ℕ, inl, inr, Bool, List, length, Option, Result, Ok, Err, IsErrAnd, refl, sym, ap, subst, ◌∙◌}
 use Rattle.shb_io.specs.declared.no_memory.NoMemory.{NoMemory}
 use Rattle.shb_lines.specs.declared.event.Event.{Event}
 use Rattle.shb_lines.specs.declared.fault.LineFault.{LineFault}
