@@ -7,9 +7,9 @@ use native.Mathlib.Decide.{ℕ_discrete, dec_lt}
 use Rattle.shb_fan.specs.Numbers.{weight, times, once_below}
 use Rattle.shb_fan.specs.declared.shares.RingSeat.{RingSeat}
 use Rattle.shb_fan.specs.declared.crew.Worker.{Worker}
-use Rattle.shb_fan.specs.Passes.{PassState, times_in}
+use Rattle.shb_fan.specs.Passes.{PassState}
 use Rattle.shb_fan.specs.Seated.{placed_of, lifted_of}
-use Rattle.shb_fan.specs.Streamed.{Accounts, Balanced, HasAccounts, HasLifted, HasPlacedAllBut, IsOwed, Owes}
+use Rattle.shb_fan.specs.Streamed.{Accounts, Balanced, HasAccounts, HasLifted, HasPlacedAllBut, IsOwed}
 use Rattle.shb_fan.proofs.Counts.{times-snoc, times-below, weight-false, weight-most, once-within}
 use Rattle.shb_fan.proofs.Words.{equal_one, unequal_none}
 
@@ -53,12 +53,12 @@ accounts_placed drawn placed more k halted new accounts here is running = record
 -- ---- the same of a worker, before and after a step
 
 module _ {T M : Type 0} (old new : Worker T M) (accounts : HasAccounts old) where
-  pub drawn_at : (k : ℕ) → placed_of new.seat ≡ placed_of old.seat → new.pass.drawn ≡ old.pass.drawn ++ k ∷ [] → new.pass.halted ≡ false → All (λ x. x < k) old.pass.drawn → HasAccounts new × Owes new k
+  pub drawn_at : (k : ℕ) → placed_of new.seat ≡ placed_of old.seat → new.pass.drawn ≡ old.pass.drawn ++ k ∷ [] → new.pass.halted ≡ false → All (λ x. x < k) old.pass.drawn → HasAccounts new × IsOwed new.pass.drawn (placed_of new.seat) k
   drawn_at k placed drawn running above =
       subst (λ (l : List ℕ). Accounts new.pass.drawn l new.pass.halted × IsOwed new.pass.drawn l k) (sym placed)
       (accounts_drawn old.pass.drawn (placed_of old.seat) new.pass.drawn k old.pass.halted new.pass.halted accounts drawn running above)
 
-  module _ (k : ℕ) (owes : Owes old k) where
+  module _ (k : ℕ) (owes : IsOwed old.pass.drawn (placed_of old.seat) k) where
     pub placed_at : old.pass.halted ≡ false → new.pass.drawn ≡ old.pass.drawn → new.pass.halted ≡ old.pass.halted → placed_of new.seat ≡ placed_of old.seat ++ k ∷ [] → HasAccounts new
     placed_at running drawn halted placed =
         subst (λ (l : List ℕ). Accounts l (placed_of new.seat) new.pass.halted) (sym drawn)
@@ -118,8 +118,8 @@ module _ {T M : Type 0} where
   balanced_more passes more seats others p s balanced accounts longer wider =
       let placed : (k : ℕ) → sum_by (λ u. times k (placed_of u)) others ≡ sum_by (λ u. times k (placed_of u)) seats + times k (placed_of s) =
       (λ k. ap (sum_by (λ (u : RingSeat T M). times k (placed_of u))) wider ∙ sum_by_push (λ (u : RingSeat T M). times k (placed_of u)) seats s) in
-      let drawn : (k : ℕ) → sum_by (times_in k) more ≡ sum_by (times_in k) passes + times k p.drawn =
-      (λ k. ap (sum_by (times_in k)) longer ∙ sum_by_push (times_in k) passes p) in record {
+      let drawn : (k : ℕ) → sum_by (λ (q : PassState). times k q.drawn) more ≡ sum_by (λ (q : PassState). times k q.drawn) passes + times k p.drawn =
+      (λ k. ap (sum_by (λ (q : PassState). times k q.drawn)) longer ∙ sum_by_push (λ (q : PassState). times k q.drawn) passes p) in record {
         within = λ k. let a = placed k in let b = drawn k in let c = balanced.within k in let d = accounts.within k in omega (arith, a, b, c, d);
         owed = λ some_halted. ⊎_elim
             (λ (t : Any (λ (q : PassState). IsTrue q.halted) passes). let old = balanced.owed t in let a = placed old.0 in let b = drawn old.0 in let c = old.1 in let d = accounts.within old.0 in (old.0, omega (arith, a, b, c, d)))
@@ -129,7 +129,7 @@ module _ {T M : Type 0} where
 
 -- ---- all pieces were lifted by one seat
 
-module _ {T M : Type 0} (passes : List PassState) (seats rest : List (RingSeat T M)) (own : RingSeat T M) (cut : seats ≡ rest ++ own ∷ []) (balanced : Balanced passes seats) (drawn limit : ℕ) (once : (x : ℕ) → sum_by (times_in x) passes ≡ once_below x drawn) (few : drawn ≤ limit)
+module _ {T M : Type 0} (passes : List PassState) (seats rest : List (RingSeat T M)) (own : RingSeat T M) (cut : seats ≡ rest ++ own ∷ []) (balanced : Balanced passes seats) (drawn limit : ℕ) (once : (x : ℕ) → sum_by (λ (q : PassState). times x q.drawn) passes ≡ once_below x drawn) (few : drawn ≤ limit)
     (before : (k : ℕ) → sum_by (λ s. times k (lifted_of s)) seats ≤ sum_by (λ s. times k (placed_of s)) seats) (lifted : (k : ℕ) → k < limit → 0 < times k (lifted_of own)) where
   placed_one : (k : ℕ) → k < limit → 0 < sum_by (λ s. times k (placed_of s)) seats
   placed_one k lt =

@@ -14,6 +14,7 @@ use Rattle.shb_fan.specs.declared.step.Step.TheVariants.{Draw, Stop}
 use Rattle.shb_fan.specs.Turns.{AreDrawn, AreDraws, IsDrawer, drawn_state}
 use Rattle.shb_fan.specs.Machine.{ActorState, State, Allowed, Runs, after, after_draw, new_actor, start}
 use Rattle.shb_fan.specs.Numbers.{weight, times, once_below}
+use Rattle.shb_fan.proofs.Counts.{rising_tail}
 use Rattle.shb_fan.proofs.Starts.{first_more}
 
 lt-true : (a b : ℕ) → a < b → ltb a b ≡ true
@@ -80,9 +81,6 @@ below-same m (x ∷ xs) none = go (cases_order x m) (below-same m xs (omega (ari
     go (inr (inl lt)) rest = rw (lt-true x m lt, lt-true x (m + 1) (omega (arith, lt))) (ap (λ (ys : List ℕ). x ∷ ys) rest)
     go (inr (inr gt)) rest = rw (lt-false x m (omega (arith, gt)), lt-false x (m + 1) (omega (arith, gt))) rest
 
-rising-rest : (x : ℕ) (xs : List ℕ) → IsStrictlyIncreasing (x ∷ xs) → IsStrictlyIncreasing xs
-rising-rest x xs rising = λ k lt. subst (λ (n : ℕ). get_or xs k 0 < get_or (x ∷ xs) n 0) (let e : suc k + 1 ≡ suc (k + 1) = omega arith in e) (rising (suc k) (omega (arith, lt)))
-
 rising-first : (x : ℕ) (xs : List ℕ) → IsStrictlyIncreasing (x ∷ xs) → (k : ℕ) → k < length xs → x < get_or xs k 0
 rising-first x xs rising zero lt = rising 0 (omega (arith, lt))
 rising-first x xs rising (suc k) lt =
@@ -92,7 +90,7 @@ rising-first x xs rising (suc k) lt =
 
 below-next : (m : ℕ) (xs : List ℕ) → IsStrictlyIncreasing xs → 0 < times m xs → below (m + 1) xs ≡ below m xs ++ m ∷ []
 below-next m [] rising some = absurd (omega (arith, some))
-below-next m (x ∷ xs) rising some = go (cases_order x m) (below-next m xs (rising-rest x xs rising))
+below-next m (x ∷ xs) rising some = go (cases_order x m) (below-next m xs (rising_tail x xs rising))
   where
     above : (k : ℕ) → k < length xs → x < get_or xs k 0
     above = rising-first x xs rising

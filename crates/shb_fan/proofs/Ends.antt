@@ -1,5 +1,5 @@
 -- What is known when every pass has come back.
-use Rattle.std.proofs.Common.{◌≡◌, ℕ, zero, suc, ◌+◌, ◌<◌, ◌≤◌, Bool, true, false, List, [], ◌∷◌, ◌++◌, length, get_or, min, IsTrue, All, Any, sum_by, sym, refl, ap, ◌∙◌, subst, arith, not, eqb, Some}
+use Rattle.std.proofs.Common.{◌≡◌, ℕ, zero, suc, ◌+◌, ◌<◌, ◌≤◌, Bool, true, false, ltb, List, [], ◌∷◌, ◌++◌, length, get_or, min, IsTrue, All, Any, sum_by, sym, refl, ap, ◌∙◌, subst, arith, not, eqb, Some}
 use Rattle.std.specs.List.Sorted.{IsStrictlyIncreasing}
 use Rattle.std.proofs.lemmas.Bool.Decides.{nat_tests}
 use Rattle.std.proofs.lemmas.List.Elements.{All-pop, All-push, All-same}
@@ -13,8 +13,8 @@ use Rattle.atomic_table.specs.declared.shared.Seat.{Seat}
 use Rattle.shb_fan.specs.declared.ticket_table.Plan.{Plan}
 use Rattle.shb_fan.specs.declared.ticket_table.PassView.{PassView}
 use Rattle.shb_fan.specs.Numbers.{weight, times, once_below, total}
-use Rattle.shb_fan.specs.Drawing.{parts_of, spent_of, halted_of, seen_of, times_of, Holds, KeepsDrawing}
-use Rattle.shb_fan.specs.Passes.{TicketSource, PassState, is_positive, state_of, times_in, halted_in, seen_in, spent_in, IsPass}
+use Rattle.shb_fan.specs.Drawing.{Holds, KeepsDrawing}
+use Rattle.shb_fan.specs.Passes.{TicketSource, PassState, state_of, IsPass}
 use Rattle.shb_fan.proofs.Counts.{total-whole}
 
 pub counted : (f : PassState → ℕ) (rest ys : List PassState) (p : PassState) (n m k : ℕ) → rest ≡ ys ++ p ∷ [] → n + sum_by f rest ≡ m → f p ≡ k → (n + k) + sum_by f ys ≡ m
@@ -23,23 +23,23 @@ counted f rest ys p n m k longer was is = let a : sum_by f rest ≡ sum_by f ys 
 pub first_counted : (f : PassState → ℕ) (all ys : List PassState) (p : PassState) (k : ℕ) → all ≡ ys ++ p ∷ [] → f p ≡ k → k + sum_by f ys ≡ sum_by f all
 first_counted f all ys p k longer is = let a : sum_by f all ≡ sum_by f ys + f p = ap (sum_by f) longer ∙ sum_by_push f ys p in omega arith
 
-weight-positive : (n : ℕ) → n ≤ 1 → weight (is_positive n) ≡ n
+weight-positive : (n : ℕ) → n ≤ 1 → weight (ltb 0 n) ≡ n
 weight-positive zero h = refl
 weight-positive (suc zero) h = refl
 weight-positive (suc (suc n)) h = absurd (omega arith)
 
 module _ (seat : Seat (Unit {0}) PassView) (spent : Bool) (p : PassState) (is : IsPass seat spent) (shown : state_of seat spent ≡ p) where
-  pub times-shown : (x : ℕ) → times_in x p ≡ times x seat.me.0.drawn
-  times-shown x = ap (times_in x) (sym shown)
+  pub times-shown : (x : ℕ) → times x p.drawn ≡ times x seat.me.0.drawn
+  times-shown x = ap (λ (q : PassState). times x q.drawn) (sym shown)
 
-  pub halted-shown : halted_in p ≡ seat.me.0.halted
-  halted-shown = ap halted_in (sym shown) ∙ weight-positive seat.me.0.halted is.marked.0
+  pub halted-shown : weight p.halted ≡ seat.me.0.halted
+  halted-shown = ap (λ (q : PassState). weight q.halted) (sym shown) ∙ weight-positive seat.me.0.halted is.marked.0
 
-  pub seen-shown : seen_in p ≡ seat.me.0.seen
-  seen-shown = ap seen_in (sym shown) ∙ weight-positive seat.me.0.seen is.marked.1
+  pub seen-shown : weight p.seen ≡ seat.me.0.seen
+  seen-shown = ap (λ (q : PassState). weight q.seen) (sym shown) ∙ weight-positive seat.me.0.seen is.marked.1
 
-  pub spent-shown : spent_in p ≡ seat.me.0.spent
-  spent-shown = ap spent_in (sym shown) ∙ sym is.flag
+  pub spent-shown : weight p.spent ≡ seat.me.0.spent
+  spent-shown = ap (λ (q : PassState). weight q.spent) (sym shown) ∙ sym is.flag
 
   pub rising-shown : IsStrictlyIncreasing p.drawn
   rising-shown = subst (λ (q : PassState). IsStrictlyIncreasing q.drawn) shown is.rising
@@ -67,11 +67,11 @@ pub record Told (plan : Plan) (v : PassView) (ticket stop : ℕ) : Type 0 where
 
 told : (plan : Plan) (t z : ℕ) (views : List PassView) → Holds plan t z views → (id : ℕ) (v : PassView) → get_elem? views id ≡ some v → v.parts ≡ plan.passes → Told plan v t z
 told plan t z views r id v at whole =
-    let all : total parts_of views ≡ v.parts = r.parts ∙ sym whole in
-    let h = total-whole parts_of halted_of views id v at all (λ i w e empty. ((r.sound i w e).nothing empty).1) in
-    let n = total-whole parts_of seen_of views id v at all (λ i w e empty. ((r.sound i w e).nothing empty).2) in
-    let s = total-whole parts_of spent_of views id v at all (λ i w e empty. let o = (r.sound i w e).once in omega arith) in record {
-      each = λ x. sym (total-whole parts_of (times_of x) views id v at all (λ i w e empty. ap (times x) ((r.sound i w e).nothing empty).0)) ∙ r.each x;
+    let all : total (λ (u : PassView). u.parts) views ≡ v.parts = r.parts ∙ sym whole in
+    let h = total-whole (λ (u : PassView). u.parts) (λ (u : PassView). u.halted) views id v at all (λ i w e empty. ((r.sound i w e).nothing empty).1) in
+    let n = total-whole (λ (u : PassView). u.parts) (λ (u : PassView). u.seen) views id v at all (λ i w e empty. ((r.sound i w e).nothing empty).2) in
+    let s = total-whole (λ (u : PassView). u.parts) (λ (u : PassView). u.spent) views id v at all (λ i w e empty. let o = (r.sound i w e).once in omega arith) in record {
+      each = λ x. sym (total-whole (λ (u : PassView). u.parts) (λ (u : PassView). times x u.drawn) views id v at all (λ i w e empty. ap (times x) ((r.sound i w e).nothing empty).0)) ∙ r.each x;
       running = (let f = r.running in omega arith);
       halted = (let f = r.halted in omega arith);
       seen = (let f = r.seen in omega arith);
@@ -100,9 +100,6 @@ any_to f xs a = let le = get_or-le-sum_by (λ (p : PassState). weight (f p)) xs 
 pub ours_before : (z : TicketSource) (xs ys : List PassState) (p : PassState) → xs ≡ ys ++ p ∷ [] → All (λ q. q.source ≡ z) xs → All (λ q. q.source ≡ z) ys × (p.source ≡ z)
 ours_before z xs ys p longer all = All-pop (λ (q : PassState). q.source ≡ z) xs ys (Some p) longer all
 
-pub low : (drawn ticket planned limit : ℕ) → drawn ≡ min ticket planned → planned ≡ limit → drawn ≤ limit
-low drawn ticket planned limit is same = omega (arith, is, same)
-
 pub sum_nothing : (f : PassState → ℕ) (xs : List PassState) → length xs ≡ 0 → sum_by f xs ≡ 0
 sum_nothing f [] e = refl
 sum_nothing f (x ∷ xs) e = absurd (omega arith)
@@ -118,19 +115,19 @@ is_set z h = grind (arith, nat_tests, h)
 
 -- the words against all passes: of a seat whose view stands for all of them
 module _ (plan : Plan) (v : PassView) (t z : ℕ) (passes : List PassState) (r : Told plan v t z) where
-  pub each_once : (x : ℕ) → times x v.drawn ≡ sum_by (times_in x) passes → sum_by (times_in x) passes ≡ once_below x (min t plan.limit)
+  pub each_once : (x : ℕ) → times x v.drawn ≡ sum_by (λ (q : PassState). times x q.drawn) passes → sum_by (λ (q : PassState). times x q.drawn) passes ≡ once_below x (min t plan.limit)
   each_once x e = sym e ∙ (r.each x ∙ ap (once_below x) (omega arith))
 
-  pub stop_seen : v.halted ≡ sum_by halted_in passes → not (eqb z 0) ≡ true → Any (λ p. IsTrue p.halted) passes
+  pub stop_seen : v.halted ≡ sum_by (λ (q : PassState). weight q.halted) passes → not (eqb z 0) ≡ true → Any (λ p. IsTrue p.halted) passes
   stop_seen e set = dite (ℕ_discrete v.halted 0)
       (λ h. let a : z ≡ 0 = r.running h in absurd (unset_set z a set))
       (λ h. any_from (λ (p : PassState). p.halted) passes (omega arith))
 
-  pub stop_set : v.halted ≡ sum_by halted_in passes → Any (λ p. IsTrue p.halted) passes → not (eqb z 0) ≡ true
+  pub stop_set : v.halted ≡ sum_by (λ (q : PassState). weight q.halted) passes → Any (λ p. IsTrue p.halted) passes → not (eqb z 0) ≡ true
   stop_set e a = let more = any_to (λ (p : PassState). p.halted) passes a in let one = r.halted (omega arith) in ap (λ (n : ℕ). not (eqb n 0)) one
 
-  pub seen_set : v.seen ≡ sum_by seen_in passes → Any (λ p. IsTrue p.seen) passes → not (eqb z 0) ≡ true
+  pub seen_set : v.seen ≡ sum_by (λ (q : PassState). weight q.seen) passes → Any (λ p. IsTrue p.seen) passes → not (eqb z 0) ≡ true
   seen_set e a = let more = any_to (λ (p : PassState). p.seen) passes a in is_set z (λ unset. let none_seen = r.seen unset in omega arith)
 
-  pub all_drawn : v.spent ≡ sum_by spent_in passes → not (eqb z 0) ≡ false → Any (λ p. IsTrue p.spent) passes → min t plan.limit ≡ plan.limit
+  pub all_drawn : v.spent ≡ sum_by (λ (q : PassState). weight q.spent) passes → not (eqb z 0) ≡ false → Any (λ p. IsTrue p.spent) passes → min t plan.limit ≡ plan.limit
   all_drawn e unset a = let more = any_to (λ (p : PassState). p.spent) passes a in let over = r.ended (omega arith) (unset_is z unset) in omega arith

@@ -8,8 +8,8 @@ use lib.ListN.{get_elem?}
 use Rattle.atomic_table.specs.Table.{State, Me, Act, step, keeps, stepped, carried_after, Valid, Allows, Splits, Joins}
 use Rattle.shb_fan.specs.declared.ticket_table.Plan.{Plan}
 use Rattle.shb_fan.specs.declared.ticket_table.PassView.{PassView}
-use Rattle.shb_fan.specs.Numbers.{once_below, total}
-use Rattle.shb_fan.specs.Drawing.{pass_view, parts_of, spent_of, halted_of, seen_of, times_of, Sound, Holds, KeepsDrawing, gained, used_up, warned, drew, drew_this, saw, looked, stopped, left_over, one_part, joined, spent_pass_view}
+use Rattle.shb_fan.specs.Numbers.{once_below, total, times}
+use Rattle.shb_fan.specs.Drawing.{Sound, Holds, KeepsDrawing, gained, used_up, drew, drew_this, saw, looked, stopped, left_over, one_part, joined, spent_pass_view}
 use Rattle.atomic_table.proofs.Lists.{set_again, set_else, exchanged}
 use Rattle.shb_fan.proofs.Counts.{total-set, total-snoc, total-at, total-le, sound-set, sound-snoc, times-append, times-snoc, once_below-more, once_below-min, all-below}
 
@@ -35,25 +35,25 @@ module _ (plan : Plan) where
 
   module _ (t z : ℕ) (views : List PassView) (r : Holds plan t z views) (id : ℕ) (v : PassView) (at : get_elem? views id ≡ some v) where
     -- no more views are spent than there are parts
-    spent_few : total spent_of views ≤ plan.passes
-    spent_few = let le = total-le spent_of parts_of views (λ i w e. (r.sound i w e).once) in let p = r.parts in omega arith
+    spent_few : total (λ (u : PassView). u.spent) views ≤ plan.passes
+    spent_few = let le = total-le (λ (u : PassView). u.spent) (λ (u : PassView). u.parts) views (λ i w e. (r.sound i w e).once) in let p = r.parts in omega arith
 
     -- what a view drew is below the ticket
     drawn_below : All (λ x. x < t) v.drawn
-    drawn_below = all-below v.drawn t (λ x. let here = total-at (times_of x) views id v at in let e = r.each x in let less = once_below-min x plan.limit t in omega arith)
+    drawn_below = all-below v.drawn t (λ x. let here = total-at (λ (u : PassView). times x u.drawn) views id v at in let e = r.each x in let less = once_below-min x plan.limit t in omega arith)
 
     gains : t < plan.limit → 0 < v.parts → Holds plan (t + 1) z (set views id (gained v t))
     gains room one = let w : PassView = gained v t in record {
       small = r.small;
-      parts = (let s = total-set parts_of views id v w at in let p = r.parts in omega arith);
-      each = λ x. let s = total-set (times_of x) views id v w at in let e = r.each x in let more = times-snoc x v.drawn t in let up = once_below-more x t in
+      parts = (let s = total-set (λ (u : PassView). u.parts) views id v w at in let p = r.parts in omega arith);
+      each = λ x. let s = total-set (λ (u : PassView). times x u.drawn) views id v w at in let e = r.each x in let more = times-snoc x v.drawn t in let up = once_below-more x t in
           let was : min plan.limit t ≡ t = omega arith in let now : min plan.limit (t + 1) ≡ t + 1 = omega arith in
-          let e' = rw was at e in subst (λ (k : ℕ). total (times_of x) (set views id w) ≡ once_below x k) (sym now) (omega arith);
-      low = (let s = total-set spent_of views id v w at in let l = r.low in omega arith);
-      running = (let s = total-set halted_of views id v w at in let h = r.running in omega arith);
-      halted = (let s = total-set halted_of views id v w at in let h = r.halted in omega arith);
-      seen = (let s = total-set seen_of views id v w at in let h = r.seen in omega arith);
-      ended = (let s = total-set spent_of views id v w at in let h = r.ended in omega arith);
+          let e' = rw was at e in subst (λ (k : ℕ). total (λ (u : PassView). times x u.drawn) (set views id w) ≡ once_below x k) (sym now) (omega arith);
+      low = (let s = total-set (λ (u : PassView). u.spent) views id v w at in let l = r.low in omega arith);
+      running = (let s = total-set (λ (u : PassView). u.halted) views id v w at in let h = r.running in omega arith);
+      halted = (let s = total-set (λ (u : PassView). u.halted) views id v w at in let h = r.halted in omega arith);
+      seen = (let s = total-set (λ (u : PassView). u.seen) views id v w at in let h = r.seen in omega arith);
+      ended = (let s = total-set (λ (u : PassView). u.spent) views id v w at in let h = r.ended in omega arith);
       sound = sound-set views id w (record { once = (r.sound id v at).once; nothing = λ empty. absurd (omega arith) }) r.sound;
     }
 
@@ -61,37 +61,37 @@ module _ (plan : Plan) where
     ends : (t' : ℕ) → 0 < v.parts → v.spent ≡ 0 → min plan.limit t' ≡ min plan.limit t → t' ≤ t + 1 → t ≤ t' → (z ≡ 0 → plan.limit ≤ t') → Holds plan t' z (set views id (used_up v))
     ends t' one unspent same most least over = let w : PassView = used_up v in record {
       small = r.small;
-      parts = (let s = total-set parts_of views id v w at in let p = r.parts in omega arith);
-      each = λ x. let s = total-set (times_of x) views id v w at in let e = r.each x in subst (λ (k : ℕ). total (times_of x) (set views id w) ≡ once_below x k) (sym same) (omega arith);
-      low = (let s = total-set spent_of views id v w at in let l = r.low in omega arith);
-      running = (let s = total-set halted_of views id v w at in let h = r.running in omega arith);
-      halted = (let s = total-set halted_of views id v w at in let h = r.halted in omega arith);
-      seen = (let s = total-set seen_of views id v w at in let h = r.seen in omega arith);
+      parts = (let s = total-set (λ (u : PassView). u.parts) views id v w at in let p = r.parts in omega arith);
+      each = λ x. let s = total-set (λ (u : PassView). times x u.drawn) views id v w at in let e = r.each x in subst (λ (k : ℕ). total (λ (u : PassView). times x u.drawn) (set views id w) ≡ once_below x k) (sym same) (omega arith);
+      low = (let s = total-set (λ (u : PassView). u.spent) views id v w at in let l = r.low in omega arith);
+      running = (let s = total-set (λ (u : PassView). u.halted) views id v w at in let h = r.running in omega arith);
+      halted = (let s = total-set (λ (u : PassView). u.halted) views id v w at in let h = r.halted in omega arith);
+      seen = (let s = total-set (λ (u : PassView). u.seen) views id v w at in let h = r.seen in omega arith);
       ended = λ _. over;
       sound = sound-set views id w (record { once = omega arith; nothing = λ empty. absurd (omega arith) }) r.sound;
     }
 
-    halts : 0 < v.parts → Holds plan t 1 (set views id (pass_view v.parts v.plan v.drawn v.spent 1 v.seen))
-    halts one = let w : PassView = pass_view v.parts v.plan v.drawn v.spent 1 v.seen in let up = total-set halted_of views id v w at in record {
+    halts : 0 < v.parts → Holds plan t 1 (set views id (record v { halted = 1 }))
+    halts one = let w : PassView = record v { halted = 1 } in let up = total-set (λ (u : PassView). u.halted) views id v w at in record {
       small = r.small;
-      parts = (let s = total-set parts_of views id v w at in let p = r.parts in omega arith);
-      each = λ x. let s = total-set (times_of x) views id v w at in let e = r.each x in omega arith;
-      low = (let s = total-set spent_of views id v w at in let l = r.low in omega arith);
-      running = λ empty. let least = total-at halted_of views id v at in absurd (omega arith);
+      parts = (let s = total-set (λ (u : PassView). u.parts) views id v w at in let p = r.parts in omega arith);
+      each = λ x. let s = total-set (λ (u : PassView). times x u.drawn) views id v w at in let e = r.each x in omega arith;
+      low = (let s = total-set (λ (u : PassView). u.spent) views id v w at in let l = r.low in omega arith);
+      running = λ empty. let least = total-at (λ (u : PassView). u.halted) views id v at in absurd (omega arith);
       halted = λ _. refl;
       seen = λ e. absurd (omega arith);
       ended = λ _ e. absurd (omega arith);
       sound = sound-set views id w (record { once = (r.sound id v at).once; nothing = λ empty. absurd (omega arith) }) r.sound;
     }
 
-    warns : 0 < v.parts → ¬ (z ≡ 0) → Holds plan t z (set views id (warned v))
-    warns one set_now = let w : PassView = warned v in record {
+    warns : 0 < v.parts → ¬ (z ≡ 0) → Holds plan t z (set views id (record v { seen = 1 }))
+    warns one set_now = let w : PassView = record v { seen = 1 } in record {
       small = r.small;
-      parts = (let s = total-set parts_of views id v w at in let p = r.parts in omega arith);
-      each = λ x. let s = total-set (times_of x) views id v w at in let e = r.each x in omega arith;
-      low = (let s = total-set spent_of views id v w at in let l = r.low in omega arith);
-      running = (let s = total-set halted_of views id v w at in let h = r.running in omega arith);
-      halted = (let s = total-set halted_of views id v w at in let h = r.halted in omega arith);
+      parts = (let s = total-set (λ (u : PassView). u.parts) views id v w at in let p = r.parts in omega arith);
+      each = λ x. let s = total-set (λ (u : PassView). times x u.drawn) views id v w at in let e = r.each x in omega arith;
+      low = (let s = total-set (λ (u : PassView). u.spent) views id v w at in let l = r.low in omega arith);
+      running = (let s = total-set (λ (u : PassView). u.halted) views id v w at in let h = r.running in omega arith);
+      halted = (let s = total-set (λ (u : PassView). u.halted) views id v w at in let h = r.halted in omega arith);
       seen = λ e. absurd (set_now e);
       ended = λ _ e. absurd (set_now e);
       sound = sound-set views id w (record { once = (r.sound id v at).once; nothing = λ empty. absurd (omega arith) }) r.sound;
@@ -107,7 +107,7 @@ module _ (plan : Plan) where
   pub draws : (slots id : ℕ) (me : M) → 0 < me.0.parts → me.0.spent ≡ 0 → me.0.plan.limit ≡ plan.limit
       → Allows (KeepsDrawing plan) slots id me 0 (λ n. (n + 1) % 2 ^ 64) (drew (step slots 0 1 0 none) me)
   draws slots id me one unspent same s r _ at _ = let v : PassView = me.0 in let t : ℕ = get_or s.words 0 0 in let z : ℕ = get_or s.words 1 0 in let h = r.1 in
-      let few = spent_few t z s.views h id v at in let low : t ≤ plan.limit + total spent_of s.views = h.low in let small = h.small in
+      let few = spent_few t z s.views h id v at in let low : t ≤ plan.limit + total (λ (u : PassView). u.spent) s.views = h.low in let small = h.small in
       let up : t + 1 ≡ (t + 1) % 18446744073709551616 = omega arith in dite (dec_lt t plan.limit)
       (λ room. (
         gained v t,
@@ -139,11 +139,11 @@ module _ (plan : Plan) where
 
   -- what a view that is halted knows of the stop word
   seen_halted : (t z : ℕ) (views : List PassView) → Holds plan t z views → (id : ℕ) (v : PassView) → get_elem? views id ≡ some v → z ≡ 0 → v.halted ≡ 0
-  seen_halted t z views r id v at unset = dite (ℕ_discrete v.halted 0) (λ e. e) (λ e. let least = total-at halted_of views id v at in let h = r.halted (omega arith) in absurd (omega arith))
+  seen_halted t z views r id v at unset = dite (ℕ_discrete v.halted 0) (λ e. e) (λ e. let least = total-at (λ (u : PassView). u.halted) views id v at in let h = r.halted (omega arith) in absurd (omega arith))
 
   -- what a view that has seen a stop knows of the stop word
   seen_before : (t z : ℕ) (views : List PassView) → Holds plan t z views → (id : ℕ) (v : PassView) → get_elem? views id ≡ some v → z ≡ 0 → v.seen ≡ 0
-  seen_before t z views r id v at unset = let least = total-at seen_of views id v at in let h = r.seen unset in omega arith
+  seen_before t z views r id v at unset = let least = total-at (λ (u : PassView). u.seen) views id v at in let h = r.seen unset in omega arith
 
   pub sees : (slots id : ℕ) (me : M) → 0 < me.0.parts → me.0.spent ≡ 0 → Allows (KeepsDrawing plan) slots id me 1 (λ n. n) (saw (step slots 1 0 0 none) me)
   sees slots id me one unspent s r _ at _ = let v : PassView = me.0 in let t : ℕ = get_or s.words 0 0 in let z : ℕ = get_or s.words 1 0 in let h = r.1 in dite (ℕ_discrete z 0)
@@ -159,23 +159,23 @@ module _ (plan : Plan) where
   pub looks : (slots id : ℕ) (me : M) → 0 < me.0.parts → Allows (KeepsDrawing plan) slots id me 1 (λ n. n) (looked (step slots 1 0 0 none) me)
   looks slots id me one s r _ at _ = let v : PassView = me.0 in let t : ℕ = get_or s.words 0 0 in let z : ℕ = get_or s.words 1 0 in let h = r.1 in dite (ℕ_discrete z 0)
       (λ unset. (v, keeps, tt, on_stop s r.0 z id me v (stays t z s.views h id v at), ((λ _. (seen_halted t z s.views h id v at unset, seen_before t z s.views h id v at unset, refl)), λ more. absurd (omega arith))))
-      (λ more. (warned v, keeps, tt, on_stop s r.0 z id me (warned v) (warns t z s.views h id v at one more), ((λ e. absurd (more e)), λ _. refl)))
+      (λ more. (record v { seen = 1 }, keeps, tt, on_stop s r.0 z id me (record v { seen = 1 }) (warns t z s.views h id v at one more), ((λ e. absurd (more e)), λ _. refl)))
 
   pub stops : (slots id : ℕ) (me : M) → 0 < me.0.parts → Allows (KeepsDrawing plan) slots id me 1 (λ _. 1) (λ _. stopped (step slots 1 1 0 none) me 1)
   stops slots id me one s r _ at _ = let v : PassView = me.0 in let t : ℕ = get_or s.words 0 0 in let z : ℕ = get_or s.words 1 0 in
-      (pass_view v.parts v.plan v.drawn v.spent 1 v.seen, keeps, tt, on_stop s r.0 1 id me (pass_view v.parts v.plan v.drawn v.spent 1 v.seen) (halts t z s.views r.1 id v at one), refl)
+      (record v { halted = 1 }, keeps, tt, on_stop s r.0 1 id me (record v { halted = 1 }) (halts t z s.views r.1 id v at one), refl)
 
   cut_views : (t z : ℕ) (views : List PassView) → Holds plan t z views → (id : ℕ) (v : PassView) → get_elem? views id ≡ some v → 1 < v.parts → v.spent ≡ 0
       → Holds plan t z (set views id (left_over v) ++ one_part v ∷ [])
   cut_views t z views r id v at more unspent = let w : PassView = left_over v in let u : PassView = one_part v in let cut = set views id w in record {
     small = r.small;
-    parts = (let a = total-set parts_of views id v w at in let b = total-snoc parts_of cut u in let p = r.parts in omega arith);
-    each = λ x. let a = total-set (times_of x) views id v w at in let b = total-snoc (times_of x) cut u in let e = r.each x in omega arith;
-    low = (let a = total-set spent_of views id v w at in let b = total-snoc spent_of cut u in let l = r.low in omega arith);
-    running = (let a = total-set halted_of views id v w at in let b = total-snoc halted_of cut u in let h = r.running in omega arith);
-    halted = (let a = total-set halted_of views id v w at in let b = total-snoc halted_of cut u in let h = r.halted in omega arith);
-    seen = (let a = total-set seen_of views id v w at in let b = total-snoc seen_of cut u in let h = r.seen in omega arith);
-    ended = (let a = total-set spent_of views id v w at in let b = total-snoc spent_of cut u in let h = r.ended in omega arith);
+    parts = (let a = total-set (λ (u : PassView). u.parts) views id v w at in let b = total-snoc (λ (u : PassView). u.parts) cut u in let p = r.parts in omega arith);
+    each = λ x. let a = total-set (λ (u : PassView). times x u.drawn) views id v w at in let b = total-snoc (λ (u : PassView). times x u.drawn) cut u in let e = r.each x in omega arith;
+    low = (let a = total-set (λ (u : PassView). u.spent) views id v w at in let b = total-snoc (λ (u : PassView). u.spent) cut u in let l = r.low in omega arith);
+    running = (let a = total-set (λ (u : PassView). u.halted) views id v w at in let b = total-snoc (λ (u : PassView). u.halted) cut u in let h = r.running in omega arith);
+    halted = (let a = total-set (λ (u : PassView). u.halted) views id v w at in let b = total-snoc (λ (u : PassView). u.halted) cut u in let h = r.halted in omega arith);
+    seen = (let a = total-set (λ (u : PassView). u.seen) views id v w at in let b = total-snoc (λ (u : PassView). u.seen) cut u in let h = r.seen in omega arith);
+    ended = (let a = total-set (λ (u : PassView). u.spent) views id v w at in let b = total-snoc (λ (u : PassView). u.spent) cut u in let h = r.ended in omega arith);
     sound = sound-snoc cut u (record { once = omega arith; nothing = λ empty. absurd (omega arith) })
         (sound-set views id w (record { once = omega arith; nothing = λ empty. absurd (omega arith) }) r.sound);
   }
@@ -186,13 +186,13 @@ module _ (plan : Plan) where
       let mine = r.sound id v at in let theirs = r.sound other w (sym (set_else views id other u apart) ∙ there) in
       let both : Sound u = record { once = (let a = mine.once in let b = theirs.once in omega arith); nothing = λ empty. nothing_joined v w mine theirs empty } in record {
         small = r.small;
-        parts = (let a = total-set parts_of views id v u at in let b = total-set parts_of made other w spent_pass_view there in let p = r.parts in omega arith);
-        each = λ x. let a = total-set (times_of x) views id v u at in let b = total-set (times_of x) made other w spent_pass_view there in let d = times-append x v.drawn w.drawn in let e = r.each x in omega arith;
-        low = (let a = total-set spent_of views id v u at in let b = total-set spent_of made other w spent_pass_view there in let l = r.low in omega arith);
-        running = (let a = total-set halted_of views id v u at in let b = total-set halted_of made other w spent_pass_view there in let h = r.running in omega arith);
-        halted = (let a = total-set halted_of views id v u at in let b = total-set halted_of made other w spent_pass_view there in let h = r.halted in omega arith);
-        seen = (let a = total-set seen_of views id v u at in let b = total-set seen_of made other w spent_pass_view there in let h = r.seen in omega arith);
-        ended = (let a = total-set spent_of views id v u at in let b = total-set spent_of made other w spent_pass_view there in let h = r.ended in omega arith);
+        parts = (let a = total-set (λ (u : PassView). u.parts) views id v u at in let b = total-set (λ (u : PassView). u.parts) made other w spent_pass_view there in let p = r.parts in omega arith);
+        each = λ x. let a = total-set (λ (u : PassView). times x u.drawn) views id v u at in let b = total-set (λ (u : PassView). times x u.drawn) made other w spent_pass_view there in let d = times-append x v.drawn w.drawn in let e = r.each x in omega arith;
+        low = (let a = total-set (λ (u : PassView). u.spent) views id v u at in let b = total-set (λ (u : PassView). u.spent) made other w spent_pass_view there in let l = r.low in omega arith);
+        running = (let a = total-set (λ (u : PassView). u.halted) views id v u at in let b = total-set (λ (u : PassView). u.halted) made other w spent_pass_view there in let h = r.running in omega arith);
+        halted = (let a = total-set (λ (u : PassView). u.halted) views id v u at in let b = total-set (λ (u : PassView). u.halted) made other w spent_pass_view there in let h = r.halted in omega arith);
+        seen = (let a = total-set (λ (u : PassView). u.seen) views id v u at in let b = total-set (λ (u : PassView). u.seen) made other w spent_pass_view there in let h = r.seen in omega arith);
+        ended = (let a = total-set (λ (u : PassView). u.spent) views id v u at in let b = total-set (λ (u : PassView). u.spent) made other w spent_pass_view there in let h = r.ended in omega arith);
         sound = sound-set made other spent_pass_view (record { once = omega arith; nothing = λ _. (refl, refl, refl) }) (sound-set views id u both r.sound);
       }
 

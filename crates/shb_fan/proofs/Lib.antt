@@ -14,5 +14,3 @@ pub mod Starts
 pub mod Drawn
 pub mod MachineRuns
 pub mod Accounts
-pub mod SeatSteps
-pub mod FanSteps

@@ -8,17 +8,17 @@ use Rattle.shb_fan.specs.declared.step.Step.{Step}
 use Rattle.shb_fan.specs.declared.step.Step.TheVariants.{Draw, Stop}
 use Rattle.shb_fan.specs.declared.step.PieceState.TheVariants.{Empty}
 use Rattle.shb_fan.specs.Numbers.{weight, times, once_below}
-use Rattle.shb_fan.specs.Passes.{PassState, times_in, spent_in}
+use Rattle.shb_fan.specs.Passes.{PassState}
 use Rattle.shb_fan.specs.Machine.{ActorState, State, Runs, after, after_draw, new_actor, start}
 use Rattle.shb_fan.specs.Turns.{AreDrawn, AreDraws, IsMachineRun, drawn_state, lists_of, spent_draws, spent_state}
 use Rattle.shb_fan.proofs.Drawn.{exist, lead, stop, lt-false}
 use Rattle.shb_fan.proofs.Ends.{any_from}
 
-sum_lists : (x : ℕ) (passes : List PassState) → sum_by (times x) (lists_of passes) ≡ sum_by (times_in x) passes
+sum_lists : (x : ℕ) (passes : List PassState) → sum_by (times x) (lists_of passes) ≡ sum_by (λ (q : PassState). times x q.drawn) passes
 sum_lists x [] = refl
 sum_lists x (p ∷ ps) =
     let a = sum_by-cons (times x) p.drawn (lists_of ps) in
-    let b = sum_by-cons (times_in x) p ps in
+    let b = sum_by-cons (λ (q : PassState). times x q.drawn) p ps in
     let rest = sum_lists x ps in
     omega (arith, a, b, rest)
 
@@ -63,7 +63,7 @@ runs_append (x ∷ xs) ys s t u h more = (h.0, runs_append xs ys (after s x) t u
 
 -- with one draw more for each of these that is spent
 abbrev Spends : ℕ → List PassState → Type 0
-Spends limit ps = (front : List ActorState) (a next : ℕ) → length front ≡ a → (0 < sum_by spent_in ps → limit ≤ next) → Runs (state_of next (front ++ map unspent ps) limit) (spent_draws a ps) (state_of (next + sum_by spent_in ps) (front ++ map flagged ps) limit)
+Spends limit ps = (front : List ActorState) (a next : ℕ) → length front ≡ a → (0 < sum_by (λ (q : PassState). weight q.spent) ps → limit ≤ next) → Runs (state_of next (front ++ map unspent ps) limit) (spent_draws a ps) (state_of (next + sum_by (λ (q : PassState). weight q.spent) ps) (front ++ map flagged ps) limit)
 
 module _ (limit : ℕ) where
   -- the draw of an actor where there is no more
@@ -75,37 +75,37 @@ module _ (limit : ℕ) where
       let step : after_draw next (length (replicate limit Empty)) (get_or (front ++ actor drawn false ∷ rest) a new_actor) ≡ actor drawn true = rw (here, last) refl in
       ap (λ (actors : List ActorState). state_of (next + 1) actors limit) (ap (λ (x : ActorState). set (front ++ actor drawn false ∷ rest) a x) step ∙ set_between front rest (actor drawn false) (actor drawn true) a long)
 
-  spend : (front : List ActorState) (ps : List PassState) (a next : ℕ) → length front ≡ a → (0 < sum_by spent_in ps → limit ≤ next)
-      → Runs (state_of next (front ++ map unspent ps) limit) (spent_draws a ps) (state_of (next + sum_by spent_in ps) (front ++ map flagged ps) limit)
+  spend : (front : List ActorState) (ps : List PassState) (a next : ℕ) → length front ≡ a → (0 < sum_by (λ (q : PassState). weight q.spent) ps → limit ≤ next)
+      → Runs (state_of next (front ++ map unspent ps) limit) (spent_draws a ps) (state_of (next + sum_by (λ (q : PassState). weight q.spent) ps) (front ++ map flagged ps) limit)
   spend front [] a next long over = ap (λ (n : ℕ). state_of n (front ++ []) limit) (let e : next + 0 ≡ next = omega arith in e)
   spend front (p ∷ ps) a next long over =
-      let c = sum_by-cons spent_in p ps in
+      let c = sum_by-cons (λ (q : PassState). weight q.spent) p ps in
       subst (λ (n : ℕ). Runs (state_of next (front ++ unspent p ∷ map unspent ps) limit) (spent_draws a (p ∷ ps)) (state_of (next + n) (front ++ flagged p ∷ map flagged ps) limit)) (sym c)
       (by_spent (λ later_front b n. spend later_front ps b n) p.spent (λ some_spent. over (omega (arith, c, some_spent))))
     where
       later : (b : Bool) → length (front ++ actor p.drawn b ∷ []) ≡ a + 1
       later b = let l = length-append front (actor p.drawn b ∷ []) in omega (arith, l, long)
 
-      rest_runs : Spends limit ps → (b : Bool) (n : ℕ) → (0 < sum_by spent_in ps → limit ≤ n) → Runs (state_of n (front ++ actor p.drawn b ∷ map unspent ps) limit) (spent_draws (a + 1) ps) (state_of (n + sum_by spent_in ps) (front ++ actor p.drawn b ∷ map flagged ps) limit)
+      rest_runs : Spends limit ps → (b : Bool) (n : ℕ) → (0 < sum_by (λ (q : PassState). weight q.spent) ps → limit ≤ n) → Runs (state_of n (front ++ actor p.drawn b ∷ map unspent ps) limit) (spent_draws (a + 1) ps) (state_of (n + sum_by (λ (q : PassState). weight q.spent) ps) (front ++ actor p.drawn b ∷ map flagged ps) limit)
       rest_runs again b n enough =
-          subst (λ (l : List ActorState × List ActorState). Runs (state_of n l.0 limit) (spent_draws (a + 1) ps) (state_of (n + sum_by spent_in ps) l.1 limit))
+          subst (λ (l : List ActorState × List ActorState). Runs (state_of n l.0 limit) (spent_draws (a + 1) ps) (state_of (n + sum_by (λ (q : PassState). weight q.spent) ps) l.1 limit))
           (λ i. (append_one front (map unspent ps) (actor p.drawn b) i, append_one front (map flagged ps) (actor p.drawn b) i))
           (again (front ++ actor p.drawn b ∷ []) (a + 1) n (later b) enough)
 
-      by_spent : Spends limit ps → (b : Bool) → (0 < weight b + sum_by spent_in ps → limit ≤ next)
-          → Runs (state_of next (front ++ unspent p ∷ map unspent ps) limit) (cond b (Draw a ∷ spent_draws (a + 1) ps) (spent_draws (a + 1) ps)) (state_of (next + (weight b + sum_by spent_in ps)) (front ++ actor p.drawn b ∷ map flagged ps) limit)
+      by_spent : Spends limit ps → (b : Bool) → (0 < weight b + sum_by (λ (q : PassState). weight q.spent) ps → limit ≤ next)
+          → Runs (state_of next (front ++ unspent p ∷ map unspent ps) limit) (cond b (Draw a ∷ spent_draws (a + 1) ps) (spent_draws (a + 1) ps)) (state_of (next + (weight b + sum_by (λ (q : PassState). weight q.spent) ps)) (front ++ actor p.drawn b ∷ map flagged ps) limit)
       by_spent again false enough =
           subst (λ (n : ℕ). Runs (state_of next (front ++ unspent p ∷ map unspent ps) limit) (spent_draws (a + 1) ps) (state_of n (front ++ actor p.drawn false ∷ map flagged ps) limit))
-          (let e : next + sum_by spent_in ps ≡ next + (weight false + sum_by spent_in ps) = omega arith in e)
+          (let e : next + sum_by (λ (q : PassState). weight q.spent) ps ≡ next + (weight false + sum_by (λ (q : PassState). weight q.spent) ps) = omega arith in e)
           (rest_runs again false next (λ some_spent. enough (omega (arith, some_spent))))
       by_spent again true enough =
           let full : limit ≤ next = enough (omega arith) in
           let l = length-append front (unspent p ∷ map unspent ps) in
           let there = get_between front (map unspent ps) (unspent p) new_actor a long in (
             (omega (arith, l, long), ap (λ (x : ActorState). x.spent) there),
-            subst (λ (s : State). Runs s (spent_draws (a + 1) ps) (state_of (next + (weight true + sum_by spent_in ps)) (front ++ actor p.drawn true ∷ map flagged ps) limit)) (sym (draw_none front (map unspent ps) p.drawn a next long full))
+            subst (λ (s : State). Runs s (spent_draws (a + 1) ps) (state_of (next + (weight true + sum_by (λ (q : PassState). weight q.spent) ps)) (front ++ actor p.drawn true ∷ map flagged ps) limit)) (sym (draw_none front (map unspent ps) p.drawn a next long full))
                 (subst (λ (n : ℕ). Runs (state_of (next + 1) (front ++ actor p.drawn true ∷ map unspent ps) limit) (spent_draws (a + 1) ps) (state_of n (front ++ actor p.drawn true ∷ map flagged ps) limit))
-                (let e : next + 1 + sum_by spent_in ps ≡ next + (weight true + sum_by spent_in ps) = omega arith in e)
+                (let e : next + 1 + sum_by (λ (q : PassState). weight q.spent) ps ≡ next + (weight true + sum_by (λ (q : PassState). weight q.spent) ps) = omega arith in e)
                 (rest_runs again true (next + 1) (λ some_spent. omega (arith, full)))),
           )
 
@@ -113,7 +113,7 @@ map_lists : (passes : List PassState) → map (λ (xs : List ℕ). actor xs fals
 map_lists [] = refl
 map_lists (p ∷ ps) = ap (λ (l : List ActorState). unspent p ∷ l) (map_lists ps)
 
-module _ (passes : List PassState) (drawn limit : ℕ) (once : (x : ℕ) → sum_by (times_in x) passes ≡ once_below x drawn) (rising : All (λ p. IsStrictlyIncreasing p.drawn) passes) (low : drawn ≤ limit) where
+module _ (passes : List PassState) (drawn limit : ℕ) (once : (x : ℕ) → sum_by (λ (q : PassState). times x q.drawn) passes ≡ once_below x drawn) (rising : All (λ p. IsStrictlyIncreasing p.drawn) passes) (low : drawn ≤ limit) where
   are_drawn : AreDrawn (lists_of passes) drawn
   are_drawn = record { rising = λ a. rises_in passes a rising; each_once = λ x. sum_lists x passes ∙ once x }
 
@@ -127,12 +127,12 @@ module _ (passes : List PassState) (drawn limit : ℕ) (once : (x : ℕ) → sum
   begun steps s runs = subst (λ (n : ℕ). Runs (start n limit) steps s) long runs
 
   -- one draw more for each spent pass leads on
-  spent_run : (0 < sum_by spent_in passes → drawn ≡ limit) → Runs (start (length passes) limit) (draws.0 ++ spent_draws 0 passes) (spent_state passes (drawn + sum_by spent_in passes) limit)
+  spent_run : (0 < sum_by (λ (q : PassState). weight q.spent) passes → drawn ≡ limit) → Runs (start (length passes) limit) (draws.0 ++ spent_draws 0 passes) (spent_state passes (drawn + sum_by (λ (q : PassState). weight q.spent) passes) limit)
   spent_run ended =
       let led = begun draws.0 (drawn_state (lists_of passes) drawn limit false) (lead (lists_of passes) drawn are_drawn limit low draws.0 draws.1) in
       let onward = spend limit [] passes 0 drawn refl (λ some_spent. let e = ended some_spent in omega (arith, e)) in
-      runs_append draws.0 (spent_draws 0 passes) (start (length passes) limit) (drawn_state (lists_of passes) drawn limit false) (spent_state passes (drawn + sum_by spent_in passes) limit) led
-      (subst (λ (actors : List ActorState). Runs (state_of drawn actors limit) (spent_draws 0 passes) (spent_state passes (drawn + sum_by spent_in passes) limit)) (sym (map_lists passes)) onward)
+      runs_append draws.0 (spent_draws 0 passes) (start (length passes) limit) (drawn_state (lists_of passes) drawn limit false) (spent_state passes (drawn + sum_by (λ (q : PassState). weight q.spent) passes) limit) led
+      (subst (λ (actors : List ActorState). Runs (state_of drawn actors limit) (spent_draws 0 passes) (spent_state passes (drawn + sum_by (λ (q : PassState). weight q.spent) passes) limit)) (sym (map_lists passes)) onward)
 
   pub machine_run : (stopped : Bool) → (IsTrue stopped → Any (λ p. IsTrue p.halted) passes) → (IsFalse stopped → Any (λ p. IsTrue p.spent) passes → drawn ≡ limit) → IsMachineRun limit passes drawn stopped
   machine_run false halted ended =

@@ -1,15 +1,15 @@
 -- Workers of passes and seats.
-use Rattle.std.proofs.Common.{◌≡◌, ℕ, ◌+◌, ◌<◌, ◌≤◌, take, refl, sym, List, [], ◌∷◌, ◌++◌, All, Some, Bool, false, ap, ◌∙◌, arith, length, length-append, replicate}
+use Rattle.std.proofs.Common.{◌≡◌, ℕ, ◌+◌, take, sym, List, [], ◌∷◌, ◌++◌, All, Some, false, ap, ◌∙◌, arith, length, length-append, replicate}
 use Rattle.std.proofs.lemmas.List.{length-replicate}
 use Rattle.std.proofs.Math.Seq.{take-append_seam}
-use Rattle.std.proofs.lemmas.List.Elements.{All-push, All-pop, All-same, All-replicate}
+use Rattle.std.proofs.lemmas.List.Elements.{All-push, All-pop, All-same}
 use Rattle.shb_fan.specs.declared.shares.Ring.{Ring}
 use Rattle.shb_fan.specs.declared.shares.RingSeat.{RingSeat}
 use Rattle.shb_fan.specs.declared.crew.Worker.{Worker}
 use Rattle.shb_fan.specs.Numbers.{times}
 use Rattle.shb_fan.specs.Passes.{TicketSource, PassState, fresh}
 use Rattle.shb_fan.specs.Seated.{IsNewSeat, IsSeatOf, claimed_of}
-use Rattle.shb_fan.specs.Streamed.{AreBack, HasAccounts, HasLifted, HasWorked, CanBegin, IsIdle, IsNew}
+use Rattle.shb_fan.specs.Streamed.{AreBack, HasWorked, CanBegin, IsIdle, IsNew}
 use Rattle.shb_fan.proofs.Accounts.{accounts_none, balanced_none, balanced_more}
 
 -- what is written back to a list of that length
@@ -61,14 +61,8 @@ module _ {T M J : Type 0} (value : J → ℕ → M) (count : J → ℕ) (z : Tic
 
 -- the passes that the tickets made, of so many threads
 module _ (z : TicketSource) (threads : ℕ) (passes : List PassState) (made : passes ≡ replicate threads (fresh z)) where
-  pub all_fresh : All (λ p. p ≡ fresh z) passes
-  all_fresh = All-same (λ (p : PassState). p ≡ fresh z) passes (replicate threads (fresh z)) made (All-replicate (λ (p : PassState). p ≡ fresh z) threads (fresh z) refl)
-
   pub one_each : length passes ≡ threads
   one_each = ap length made ∙ length-replicate threads (fresh z)
-
-  pub seats_enough : (n seats : ℕ) → threads ≡ n + 1 → n ≤ 64 → seats ≡ 65 → length passes ≤ seats
-  seats_enough n seats is few all = let one = one_each in omega (arith, one, is, few, all)
 
   -- the workers but the caller's own
   pub but_one : {A : Type 0} (workers rest : List A) (own : A) → workers ≡ rest ++ own ∷ [] → length workers ≡ length passes → length rest + 1 ≡ threads
@@ -82,20 +76,5 @@ module _ (A : Type 0) (n : ℕ) (lent rest written more : List A) (long : n ≡ 
   pub as_many : length (take n (written ++ more)) ≡ length rest
   as_many = let back = ap length is in let count = ap length comes_back in omega (arith, count, back, same)
 
-module _ (threads taken rest : ℕ) (back : taken ≡ rest) (cut : rest + 1 ≡ threads) where
-  pub pass_room : (room was : ℕ) → threads ≤ was → room ≡ was → taken < room
-  pass_room room was enough same = omega (arith, back, cut, enough, same)
-
-  pub seat_room : (left passes seats room was : ℕ) → passes ≡ threads → left + passes ≡ seats → seats ≡ 65 → 65 ≤ was → room ≡ was → left + taken < room
-  seat_room left passes seats room was one used all enough same = omega (arith, back, cut, one, used, all, enough, same)
-
-  pub passes_whole : (passes end : ℕ) → passes ≡ threads → end ≡ taken → end + 1 ≡ passes
-  passes_whole passes end is came = omega (arith, back, cut, is, came)
-
-  pub seats_whole : (left passes seats end : ℕ) → passes ≡ threads → left + passes ≡ seats → seats ≡ 65 → end ≡ left + taken → end + 1 ≡ 65
-  seats_whole left passes seats end one used all came = omega (arith, back, cut, one, used, all, came)
-
--- what the end of the draw comes to, where the limit is the number of the job's pieces
-pub closed_whole : {T M : Type 0} (own : Worker T M) (limit count drawn : ℕ) (stopped : Bool) → limit ≡ count → (HasAccounts own → HasLifted own limit → (drawn ≡ limit) × (stopped ≡ false))
-    → HasAccounts own × HasLifted own count → (drawn ≡ count) × (stopped ≡ false)
-closed_whole own limit count drawn stopped is told all = let t = told all.0 (λ k lt. all.1 k (omega (arith, lt, is))) in (t.0 ∙ is, t.1)
+pub passes_whole : (threads taken rest passes end : ℕ) → taken ≡ rest → rest + 1 ≡ threads → passes ≡ threads → end ≡ taken → end + 1 ≡ passes
+passes_whole threads taken rest passes end back cut is came = omega (arith, back, cut, is, came)

@@ -13,7 +13,7 @@ use Rattle.atomic_table.specs.Table.{State, Me, Act, step, keeps, takes, gives, 
 use Rattle.atomic_table.proofs.Lists.{at_set, at_snoc, some_there, set_here, set_else, exchanged}
 use Rattle.shb_fan.specs.declared.ring_table.SeatView.{SeatView}
 use Rattle.shb_fan.specs.Numbers.{weight, times, total}
-use Rattle.shb_fan.specs.Slots.{is_claimed, is_placed, is_lifting, is_lifted, seat_view, parts_of, claimed_by, placed_by, lifting_by, lifted_by, Counts, HasNothing, SlotKept, KeepsSlots, claiming, placing, raising, freeing, left_over, one_part, joined, spent_seat_view, claimed, placed, raised, freed}
+use Rattle.shb_fan.specs.Slots.{is_claimed, is_placed, is_lifting, is_lifted, seat_view, Counts, HasNothing, SlotKept, KeepsSlots, left_over, one_part, joined, spent_seat_view, claimed, placed, raised, freed}
 use Rattle.shb_fan.proofs.Counts.{weight-most, total-set, total-snoc, total-at, total-whole, times-append, times-snoc}
 use Rattle.shb_fan.proofs.Words.{equal_one, unequal_none, equal_from, reached_one, unreached_none, claim_apart, lift_apart, lifted_apart, placed_apart}
 
@@ -73,13 +73,13 @@ module _ {M : Type 0} where
 
       -- the seat's view changes by a step on the word of piece k and its slot
       moved : (new : ℕ) (w : SeatView M) (homes' : Homes) → length homes' ≡ 64 → ((j : ℕ) → j ≢ k % 64 → get_elem? homes' j ≡ get_elem? s.homes j) → Fits homes' (k % 64) new → w.parts ≡ v.parts → w.wanted ≡ v.wanted → HasNothing w
-          → Counts claimed_by is_claimed (set s.words (k % 64) new) (set s.views id w) → Counts placed_by is_placed (set s.words (k % 64) new) (set s.views id w) → Counts lifting_by is_lifting (set s.words (k % 64) new) (set s.views id w) → Counts lifted_by is_lifted (set s.words (k % 64) new) (set s.views id w)
+          → Counts (λ (u : SeatView M). u.claimed) is_claimed (set s.words (k % 64) new) (set s.views id w) → Counts (λ (u : SeatView M). u.placed) is_placed (set s.words (k % 64) new) (set s.views id w) → Counts (λ (u : SeatView M). u.lifting) is_lifting (set s.words (k % 64) new) (set s.views id w) → Counts (λ (u : SeatView M). u.lifted) is_lifted (set s.words (k % 64) new) (set s.views id w)
           → KeepsSlots meaning wanted (record { words = set s.words (k % 64) new; homes = homes'; views = set s.views id w })
       moved new w homes' deep others mine parts values empty claims places_ lifts lifted = record {
         wide = length-set s.words (k % 64) new ∙ r.wide;
         deep = deep;
         slots = reslot s.words s.homes homes' (k % 64) new (omega arith) r.wide r.slots others mine;
-        parts = (let t = total-set parts_of s.views id v w at in let p = r.parts in omega arith);
+        parts = (let t = total-set (λ (u : SeatView M). u.parts) s.views id v w at in let p = r.parts in omega arith);
         claims = claims;
         each_placed = places_;
         lifts = lifts;
@@ -97,10 +97,10 @@ module _ {M : Type 0} where
       -- nothing changes
       stays : KeepsSlots meaning wanted (record { words = set s.words (k % 64) found; homes = s.homes; views = set s.views id v })
       stays = let w = r.wide in moved found v s.homes r.deep (λ j ne. refl) (r.slots (k % 64) (omega arith)) refl refl (r.nothing id v at)
-          (recount claimed_by is_claimed s.words s.views id v v k found at r.wide r.claims refl (λ x ne. refl) (λ x ne e. refl))
-          (recount placed_by is_placed s.words s.views id v v k found at r.wide r.each_placed refl (λ x ne. refl) (λ x ne e. refl))
-          (recount lifting_by is_lifting s.words s.views id v v k found at r.wide r.lifts refl (λ x ne. refl) (λ x ne e. refl))
-          (recount lifted_by is_lifted s.words s.views id v v k found at r.wide r.each_lifted refl (λ x ne. refl) (λ x ne e. refl))
+          (recount (λ (u : SeatView M). u.claimed) is_claimed s.words s.views id v v k found at r.wide r.claims refl (λ x ne. refl) (λ x ne e. refl))
+          (recount (λ (u : SeatView M). u.placed) is_placed s.words s.views id v v k found at r.wide r.each_placed refl (λ x ne. refl) (λ x ne e. refl))
+          (recount (λ (u : SeatView M). u.lifting) is_lifting s.words s.views id v v k found at r.wide r.lifts refl (λ x ne. refl) (λ x ne e. refl))
+          (recount (λ (u : SeatView M). u.lifted) is_lifted s.words s.views id v v k found at r.wide r.each_lifted refl (λ x ne. refl) (λ x ne e. refl))
 
       -- a list changes by the piece k alone, as its word does
       abbrev Changes : (SeatView M → List ℕ) → (ℕ → ℕ → Bool) → ℕ → SeatView M → Type 0
@@ -109,20 +109,20 @@ module _ {M : Type 0} where
       -- the same, where each list changes by the piece k alone, as that word does
       recounted : (new : ℕ) (w : SeatView M) (homes' : Homes) → length homes' ≡ 64 → ((j : ℕ) → j ≢ k % 64 → get_elem? homes' j ≡ get_elem? s.homes j) → Fits homes' (k % 64) new → w.parts ≡ v.parts → w.wanted ≡ v.wanted → HasNothing w
           → found / 4 ≡ k → (new % 4 ≢ 0 → new / 4 ≡ k) → 4 * k ≤ new → new ≤ 4 * k + 256
-          → Changes claimed_by is_claimed new w → Changes placed_by is_placed new w → Changes lifting_by is_lifting new w → Changes lifted_by is_lifted new w
+          → Changes (λ (u : SeatView M). u.claimed) is_claimed new w → Changes (λ (u : SeatView M). u.placed) is_placed new w → Changes (λ (u : SeatView M). u.lifting) is_lifting new w → Changes (λ (u : SeatView M). u.lifted) is_lifted new w
           → KeepsSlots meaning wanted (record { words = set s.words (k % 64) new; homes = homes'; views = set s.views id w })
       recounted new w homes' deep others mine parts values empty was is low high claims places_ lifts lifted = moved new w homes' deep others mine parts values empty
-          (recount claimed_by is_claimed s.words s.views id v w k new at r.wide r.claims claims.0 claims.1 (λ x ne same. claim_apart x k found new ne was is))
-          (recount placed_by is_placed s.words s.views id v w k new at r.wide r.each_placed places_.0 places_.1 (λ x ne same. placed_apart x k found new ne same (omega arith) (omega arith) low high))
-          (recount lifting_by is_lifting s.words s.views id v w k new at r.wide r.lifts lifts.0 lifts.1 (λ x ne same. lift_apart x k found new ne was is))
-          (recount lifted_by is_lifted s.words s.views id v w k new at r.wide r.each_lifted lifted.0 lifted.1 (λ x ne same. lifted_apart x k found new ne same (omega arith) (omega arith) low high))
+          (recount (λ (u : SeatView M). u.claimed) is_claimed s.words s.views id v w k new at r.wide r.claims claims.0 claims.1 (λ x ne same. claim_apart x k found new ne was is))
+          (recount (λ (u : SeatView M). u.placed) is_placed s.words s.views id v w k new at r.wide r.each_placed places_.0 places_.1 (λ x ne same. placed_apart x k found new ne same (omega arith) (omega arith) low high))
+          (recount (λ (u : SeatView M). u.lifting) is_lifting s.words s.views id v w k new at r.wide r.lifts lifts.0 lifts.1 (λ x ne same. lift_apart x k found new ne was is))
+          (recount (λ (u : SeatView M). u.lifted) is_lifted s.words s.views id v w k new at r.wide r.each_lifted lifted.0 lifted.1 (λ x ne same. lifted_apart x k found new ne same (omega arith) (omega arith) low high))
 
       others_set : (h : maybe.Option (Option T)) (j : ℕ) → j ≢ k % 64 → get_elem? (set s.homes (k % 64) h) j ≡ get_elem? s.homes j
       others_set h j ne = set_else s.homes (k % 64) j h ne
 
-      gets_claimed : found ≡ 4 * k → v.claimed ≡ [] → KeepsSlots meaning wanted (record { words = set s.words (k % 64) (4 * k + 1); homes = set s.homes (k % 64) none; views = set s.views id (claiming v k) })
+      gets_claimed : found ≡ 4 * k → v.claimed ≡ [] → KeepsSlots meaning wanted (record { words = set s.words (k % 64) (4 * k + 1); homes = set s.homes (k % 64) none; views = set s.views id (record v { claimed = k ∷ [] }) })
       gets_claimed is free = let none_here : times k v.claimed ≡ 0 = ap (times k) free in let one = times_one k in
-          recounted (4 * k + 1) (claiming v k) (set s.homes (k % 64) none) (length-set s.homes (k % 64) none ∙ r.deep) (others_set none)
+          recounted (4 * k + 1) (record v { claimed = k ∷ [] }) (set s.homes (k % 64) none) (length-set s.homes (k % 64) none ∙ r.deep) (others_set none)
           (record { here = ap (λ (n : ℕ). n % 64) (let q : (4 * k + 1) / 4 ≡ k = omega arith in q); empty = λ z. absurd (omega arith); full = λ z. absurd (omega arith) }) refl refl (r.nothing id v at)
           (omega arith) (λ _. omega arith) (omega arith) (omega arith)
           ((let a = unequal_none found (4 * k + 1) (omega arith) in let b = equal_one (4 * k + 1) (4 * k + 1) refl in omega arith), λ x ne. let t = times_other x k ne in let e : times x v.claimed ≡ 0 = ap (times x) free in omega arith)
@@ -132,13 +132,13 @@ module _ {M : Type 0} where
 
       -- a seat that has claimed k finds its word so
       finds_claimed : v.claimed ≡ k ∷ [] → found ≡ 4 * k + 1
-      finds_claimed mine = let here : times k v.claimed ≡ 1 = ap (times k) mine ∙ times_one k in let c = r.claims k in let least = total-at (λ u. times k (claimed_by u)) s.views id v at in
+      finds_claimed mine = let here : times k v.claimed ≡ 1 = ap (times k) mine ∙ times_one k in let c = r.claims k in let least = total-at (λ u. times k u.claimed) s.views id v at in
           equal_from found (4 * k + 1) (omega arith)
 
       gets_placed : 0 < v.parts → v.claimed ≡ k ∷ [] → (x : T) → slice_get wanted k ≡ Some (meaning x)
-          → KeepsSlots meaning wanted (record { words = set s.words (k % 64) (4 * k + 2); homes = set s.homes (k % 64) (some (Some x)); views = set s.views id (placing v) })
+          → KeepsSlots meaning wanted (record { words = set s.words (k % 64) (4 * k + 2); homes = set s.homes (k % 64) (some (Some x)); views = set s.views id (record v { claimed = []; placed = v.placed ++ v.claimed }) })
       gets_placed some_part mine x right = let is : found ≡ 4 * k + 1 = finds_claimed mine in let piece : (4 * k + 2) / 4 ≡ k = omega arith in let d = r.deep in
-          recounted (4 * k + 2) (placing v) (set s.homes (k % 64) (some (Some x))) (length-set s.homes (k % 64) (some (Some x)) ∙ r.deep) (others_set (some (Some x)))
+          recounted (4 * k + 2) (record v { claimed = []; placed = v.placed ++ v.claimed }) (set s.homes (k % 64) (some (Some x))) (length-set s.homes (k % 64) (some (Some x)) ∙ r.deep) (others_set (some (Some x)))
           (record {
             here = ap (λ (n : ℕ). n % 64) piece;
             empty = λ z. absurd (omega arith);
@@ -150,9 +150,9 @@ module _ {M : Type 0} where
           ((let a = unequal_none found (4 * k + 3) (omega arith) in let b = unequal_none (4 * k + 2) (4 * k + 3) (omega arith) in omega arith), λ x ne. refl)
           ((let a = unreached_none (4 * k + 3) found (omega arith) in let b = unreached_none (4 * k + 3) (4 * k + 2) (omega arith) in omega arith), λ x ne. refl)
 
-      gets_raised : 0 < v.parts → found ≡ 4 * k + 2 → v.lifting ≡ [] → KeepsSlots meaning wanted (record { words = set s.words (k % 64) (4 * k + 3); homes = set s.homes (k % 64) none; views = set s.views id (raising v k) })
+      gets_raised : 0 < v.parts → found ≡ 4 * k + 2 → v.lifting ≡ [] → KeepsSlots meaning wanted (record { words = set s.words (k % 64) (4 * k + 3); homes = set s.homes (k % 64) none; views = set s.views id (record v { lifting = k ∷ []; lifted = v.lifted ++ k ∷ [] }) })
       gets_raised some_part is free = let none_here : times k v.lifting ≡ 0 = ap (times k) free in let one = times_one k in
-          recounted (4 * k + 3) (raising v k) (set s.homes (k % 64) none) (length-set s.homes (k % 64) none ∙ r.deep) (others_set none)
+          recounted (4 * k + 3) (record v { lifting = k ∷ []; lifted = v.lifted ++ k ∷ [] }) (set s.homes (k % 64) none) (length-set s.homes (k % 64) none ∙ r.deep) (others_set none)
           (record { here = ap (λ (n : ℕ). n % 64) (let q : (4 * k + 3) / 4 ≡ k = omega arith in q); empty = λ z. absurd (omega arith); full = λ z. absurd (omega arith) }) refl refl (λ e. absurd (omega (arith, e, some_part)))
           (omega arith) (λ _. omega arith) (omega arith) (omega arith)
           ((let a = unequal_none found (4 * k + 1) (omega arith) in let b = unequal_none (4 * k + 3) (4 * k + 1) (omega arith) in omega arith), λ x ne. refl)
@@ -162,15 +162,15 @@ module _ {M : Type 0} where
 
       -- a piece whose word isn't that of a lifted one is in no seat's list
       not_lifted : found ≡ 4 * k + 2 → times k v.lifted ≡ 0
-      not_lifted is = let c = r.each_lifted k in let least = total-at (λ u. times k (lifted_by u)) s.views id v at in let a = unreached_none (4 * k + 3) found (omega arith) in omega arith
+      not_lifted is = let c = r.each_lifted k in let least = total-at (λ u. times k u.lifted) s.views id v at in let a = unreached_none (4 * k + 3) found (omega arith) in omega arith
 
       finds_raised : v.lifting ≡ k ∷ [] → found ≡ 4 * k + 3
-      finds_raised mine = let here : times k v.lifting ≡ 1 = ap (times k) mine ∙ times_one k in let c = r.lifts k in let least = total-at (λ u. times k (lifting_by u)) s.views id v at in
+      finds_raised mine = let here : times k v.lifting ≡ 1 = ap (times k) mine ∙ times_one k in let c = r.lifts k in let least = total-at (λ u. times k u.lifting) s.views id v at in
           equal_from found (4 * k + 3) (omega arith)
 
-      gets_freed : v.lifting ≡ k ∷ [] → (x : Option T) → KeepsSlots meaning wanted (record { words = set s.words (k % 64) (4 * (k + 64)); homes = set s.homes (k % 64) (some x); views = set s.views id (freeing v) })
+      gets_freed : v.lifting ≡ k ∷ [] → (x : Option T) → KeepsSlots meaning wanted (record { words = set s.words (k % 64) (4 * (k + 64)); homes = set s.homes (k % 64) (some x); views = set s.views id (record v { lifting = [] }) })
       gets_freed mine x = let is : found ≡ 4 * k + 3 = finds_raised mine in let piece : 4 * (k + 64) / 4 ≡ k + 64 = omega arith in let d = r.deep in
-          recounted (4 * (k + 64)) (freeing v) (set s.homes (k % 64) (some x)) (length-set s.homes (k % 64) (some x) ∙ r.deep) (others_set (some x))
+          recounted (4 * (k + 64)) (record v { lifting = [] }) (set s.homes (k % 64) (some x)) (length-set s.homes (k % 64) (some x) ∙ r.deep) (others_set (some x))
           (record {
             here = ap (λ (n : ℕ). n % 64) piece ∙ (let turn : (k + 64) % 64 ≡ k % 64 = omega arith in turn);
             empty = λ z. (x, set_here s.homes (k % 64) (some x) (omega arith));
@@ -193,21 +193,21 @@ module _ {M : Type 0} where
     claims slots id me k free s r _ at _ = let n = get_or s.words (k % 64) 0 in let piece : k ≡ 4 * k / 4 = omega arith in
         exchanged n (4 * k) (4 * k + 1) (λ (m : ℕ). Stepped s (k % 64) m id me (claimed (step slots (k % 64) (4 * k) (4 * k + 1) none) me n))
         (λ is. let home = (r.slots (k % 64) (omega arith)).empty (omega arith) in (
-          claiming me.0 k,
+          record me.0 { claimed = k ∷ [] },
           takes (k % 64) home.0,
           home.1,
           gets_claimed s r id me.0 at k is free,
-          ((λ _. (home.0, λ i. (claiming me.0 (piece i), (k % 64, home.0) ∷ me.1))), λ ne. absurd (ne is)),
+          ((λ _. (home.0, λ i. (record me.0 { claimed = piece i ∷ [] }, (k % 64, home.0) ∷ me.1))), λ ne. absurd (ne is)),
         ))
         (λ ne. (me.0, keeps, tt, stays s r id me.0 at k, ((λ is. absurd (ne is)), λ _. refl)))
 
     pub places : (slots id : ℕ) (me : Seated) (k : ℕ) (x : T) (others : List (ℕ × Option T)) → 0 < me.0.parts → me.0.claimed ≡ k ∷ [] → me.1 ≡ (k % 64, Some x) ∷ others → slice_get wanted k ≡ Some (meaning x)
         → Allows Holds slots id me (k % 64) (λ _. 4 * k + 2) (λ _. placed (step slots (k % 64) (4 * k + 2) 0 none) me (4 * k + 2))
     places slots id me k x others some_part mine carried right s r _ at _ = (
-      placing me.0,
+      record me.0 { claimed = []; placed = me.0.placed ++ me.0.claimed },
       gives,
       tt,
-      subst (λ (c : List (ℕ × Option T)). Holds (stepped s (k % 64) (4 * k + 2) id c (placing me.0) gives)) (sym carried) (gets_placed s r id me.0 at k some_part mine x right),
+      subst (λ (c : List (ℕ × Option T)). Holds (stepped s (k % 64) (4 * k + 2) id c (record me.0 { claimed = []; placed = me.0.placed ++ me.0.claimed }) gives)) (sym carried) (gets_placed s r id me.0 at k some_part mine x right),
       refl,
     )
 
@@ -215,14 +215,14 @@ module _ {M : Type 0} where
     raises slots id me k some_part free s r _ at _ = let n = get_or s.words (k % 64) 0 in let piece : k ≡ (4 * k + 2) / 4 = omega arith in
         exchanged n (4 * k + 2) (4 * k + 2 + 1) (λ (m : ℕ). Stepped s (k % 64) m id me (raised meaning (step slots (k % 64) (4 * k + 2) (4 * k + 2 + 1) none) me n))
         (λ is. let home = (r.slots (k % 64) (omega arith)).full (omega arith) in let here : n / 4 ≡ (4 * k + 2) / 4 = ap (λ (m : ℕ). m / 4) is in (
-          raising me.0 k,
+          record me.0 { lifting = k ∷ []; lifted = me.0.lifted ++ k ∷ [] },
           takes (k % 64) (Some home.0),
           home.1,
-          subst (λ (m : ℕ). Holds (stepped s (k % 64) m id me.1 (raising me.0 k) (takes (k % 64) (Some home.0)))) (let up : 4 * k + 3 ≡ 4 * k + 2 + 1 = omega arith in up) (gets_raised s r id me.0 at k some_part is free),
+          subst (λ (m : ℕ). Holds (stepped s (k % 64) m id me.1 (record me.0 { lifting = k ∷ []; lifted = me.0.lifted ++ k ∷ [] }) (takes (k % 64) (Some home.0)))) (let up : 4 * k + 3 ≡ 4 * k + 2 + 1 = omega arith in up) (gets_raised s r id me.0 at k some_part is free),
           (
             (λ _. (
               home.0,
-              (λ i. (raising me.0 (piece i), (k % 64, Some home.0) ∷ me.1)),
+              (λ i. (record me.0 { lifting = piece i ∷ []; lifted = me.0.lifted ++ piece i ∷ [] }, (k % 64, Some home.0) ∷ me.1)),
               ap (λ (l : List M). slice_get l ((4 * k + 2) / 4)) (r.same id me.0 at some_part) ∙ (ap (λ (m : ℕ). slice_get wanted m) (sym here) ∙ home.2),
               ap (λ (m : ℕ). times m me.0.lifted) (sym piece) ∙ not_lifted s r id me.0 at k is,
             )),
@@ -234,10 +234,10 @@ module _ {M : Type 0} where
     pub frees : (slots id : ℕ) (me : Seated) (k : ℕ) (x : Option T) (others : List (ℕ × Option T)) → me.0.lifting ≡ k ∷ [] → me.1 ≡ (k % 64, x) ∷ others
         → Allows Holds slots id me (k % 64) (λ _. 4 * (k + 64)) (λ _. freed (step slots (k % 64) (4 * (k + 64)) 0 none) me (4 * (k + 64)))
     frees slots id me k x others mine carried s r _ at _ = (
-      freeing me.0,
+      record me.0 { lifting = [] },
       gives,
       tt,
-      subst (λ (c : List (ℕ × Option T)). Holds (stepped s (k % 64) (4 * (k + 64)) id c (freeing me.0) gives)) (sym carried) (gets_freed s r id me.0 at k mine x),
+      subst (λ (c : List (ℕ × Option T)). Holds (stepped s (k % 64) (4 * (k + 64)) id c (record me.0 { lifting = [] }) gives)) (sym carried) (gets_freed s r id me.0 at k mine x),
       refl,
     )
 
@@ -248,11 +248,11 @@ module _ {M : Type 0} where
           wide = r.wide;
           deep = r.deep;
           slots = r.slots;
-          parts = (let b = both parts_of in let p = r.parts in omega arith);
-          claims = λ k. let b = both (λ x. times k (claimed_by x)) in let c = r.claims k in omega arith;
-          each_placed = λ k. let b = both (λ x. times k (placed_by x)) in let c = r.each_placed k in omega arith;
-          lifts = λ k. let b = both (λ x. times k (lifting_by x)) in let c = r.lifts k in omega arith;
-          each_lifted = λ k. let b = both (λ x. times k (lifted_by x)) in let c = r.each_lifted k in omega arith;
+          parts = (let b = both (λ (u : SeatView M). u.parts) in let p = r.parts in omega arith);
+          claims = λ k. let b = both (λ x. times k x.claimed) in let c = r.claims k in omega arith;
+          each_placed = λ k. let b = both (λ x. times k x.placed) in let c = r.each_placed k in omega arith;
+          lifts = λ k. let b = both (λ x. times k x.lifting) in let c = r.lifts k in omega arith;
+          each_lifted = λ k. let b = both (λ x. times k x.lifted) in let c = r.each_lifted k in omega arith;
           nothing = λ i x e. ⊎_elim
               (λ (t : get_elem? cut i ≡ some x). ⊎_elim
               (λ (h : (i ≡ id) × (w ≡ x)). subst HasNothing h.1 (λ none_left. absurd (let p : v.parts - 1 ≡ 0 = none_left in omega (arith, p, more))))
@@ -276,11 +276,11 @@ module _ {M : Type 0} where
           wide = r.wide;
           deep = r.deep;
           slots = r.slots;
-          parts = (let b = both parts_of in let p = r.parts in omega arith);
-          claims = λ k. let b = both (λ x. times k (claimed_by x)) in let t = times-append k v.claimed w.claimed in let c = r.claims k in omega arith;
-          each_placed = λ k. let b = both (λ x. times k (placed_by x)) in let t = times-append k v.placed w.placed in let c = r.each_placed k in omega arith;
-          lifts = λ k. let b = both (λ x. times k (lifting_by x)) in let t = times-append k v.lifting w.lifting in let c = r.lifts k in omega arith;
-          each_lifted = λ k. let b = both (λ x. times k (lifted_by x)) in let t = times-append k v.lifted w.lifted in let c = r.each_lifted k in omega arith;
+          parts = (let b = both (λ (u : SeatView M). u.parts) in let p = r.parts in omega arith);
+          claims = λ k. let b = both (λ x. times k x.claimed) in let t = times-append k v.claimed w.claimed in let c = r.claims k in omega arith;
+          each_placed = λ k. let b = both (λ x. times k x.placed) in let t = times-append k v.placed w.placed in let c = r.each_placed k in omega arith;
+          lifts = λ k. let b = both (λ x. times k x.lifting) in let t = times-append k v.lifting w.lifting in let c = r.lifts k in omega arith;
+          each_lifted = λ k. let b = both (λ x. times k x.lifted) in let t = times-append k v.lifted w.lifted in let c = r.each_lifted k in omega arith;
           nothing = λ i x e. ⊎_elim
               (λ (t : (i ≡ other) × (spent_seat_view ≡ x)). subst HasNothing t.1 (λ _. (refl, refl)))
               (λ (t : (i ≢ other) × (get_elem? made i ≡ some x)). ⊎_elim
@@ -323,13 +323,13 @@ module _ {M : Type 0} where
 
       all_of : (g : SeatView M → ℕ) → ((u : SeatView M) → (u.placed ≡ []) × (u.lifted ≡ []) → g u ≡ 0) → total g f.0.views ≡ g v
       all_of g none_of = let s = f.0 in let kept = f.1.0 in
-          total-whole parts_of g s.views id v f.1.1 (kept.parts ∙ sym whole) (λ i w e empty. none_of w (kept.nothing i w e empty))
+          total-whole (λ (u : SeatView M). u.parts) g s.views id v f.1.1 (kept.parts ∙ sym whole) (λ i w e empty. none_of w (kept.nothing i w e empty))
 
       placed_is : (k : ℕ) → times k v.placed ≡ weight (is_placed (last k) k)
-      placed_is k = sym (all_of (λ u. times k (placed_by u)) (λ u empty. ap (times k) empty.0)) ∙ f.1.0.each_placed k
+      placed_is k = sym (all_of (λ u. times k u.placed) (λ u empty. ap (times k) empty.0)) ∙ f.1.0.each_placed k
 
       lifted_is : (k : ℕ) → times k v.lifted ≡ weight (is_lifted (last k) k)
-      lifted_is k = sym (all_of (λ u. times k (lifted_by u)) (λ u empty. ap (times k) empty.1)) ∙ f.1.0.each_lifted k
+      lifted_is k = sym (all_of (λ u. times k u.lifted) (λ u empty. ap (times k) empty.1)) ∙ f.1.0.each_lifted k
 
       -- no piece was placed twice
       pub placed_once : (k : ℕ) → times k v.placed ≤ 1

@@ -1,5 +1,5 @@
 -- What a pass shows of its seat.
-use Rattle.std.proofs.Common.{◌≡◌, ◌≢◌, ℕ, ◌+◌, ◌-◌, ◌<◌, ◌∷◌, ◌++◌, List, [], Bool, false, All, replicate, sym, ap, ◌∙◌, ap₂, subst, arith}
+use Rattle.std.proofs.Common.{◌≡◌, ◌≢◌, ℕ, ◌+◌, ◌-◌, ◌<◌, ◌∷◌, ◌++◌, List, [], Bool, false, ltb, All, replicate, sym, ap, ◌∙◌, ap₂, subst, arith}
 use Rattle.std.specs.List.Sorted.{IsStrictlyIncreasing}
 use mathlib.Core.Logic.{dite}
 use native.Mathlib.Decide.{ℕ_discrete}
@@ -10,11 +10,11 @@ use Rattle.shb_fan.specs.declared.ticket_table.Plan.{Plan}
 use Rattle.shb_fan.specs.declared.ticket_table.PassView.{PassView}
 use Rattle.shb_fan.specs.Drawing.{pass_view, gained, left_over, one_part}
 use Rattle.atomic_table.specs.Table.{Me}
-use Rattle.shb_fan.specs.Passes.{PassState, IsPass, is_positive, fresh, source_of, state_of}
+use Rattle.shb_fan.specs.Passes.{PassState, IsPass, fresh, source_of, state_of}
 use Rattle.shb_fan.proofs.Counts.{rising_more}
 
 pub seat_fresh : (seat : Seat (Unit {0}) PassView) (z : TableId) (plan : Plan) (parts : ℕ) → seat.table_id ≡ z → seat.me ≡ (pass_view parts plan [] 0 0 0, []) → state_of seat false ≡ fresh (source_of z plan)
-seat_fresh seat z plan parts a b = λ i. record { source = source_of (a i) (b i).0.plan; drawn = (b i).0.drawn; spent = false; halted = is_positive (b i).0.halted; seen = is_positive (b i).0.seen }
+seat_fresh seat z plan parts a b = λ i. record { source = source_of (a i) (b i).0.plan; drawn = (b i).0.drawn; spent = false; halted = ltb 0 (b i).0.halted; seen = ltb 0 (b i).0.seen }
 
 pub one_more : (xs ys : List PassState) (n m : ℕ) (p q : PassState) → n + 1 ≡ m → ys ≡ xs ++ q ∷ [] → xs ≡ replicate n p → q ≡ p → ys ≡ replicate m p
 one_more xs ys n m p q up longer same is = longer ∙ (ap₂ (λ (l : List PassState) (r : PassState). l ++ r ∷ []) same is ∙ (replicate-append-replicate n 1 p ∙ ap (λ (k : ℕ). replicate k p) up))

@@ -1,17 +1,16 @@
 -- The machine at its start, and one step more of a list of steps.
-use Rattle.std.proofs.Common.{◌≡◌, ℕ, ◌+◌, ◌<◌, ◌≤◌, ◌^◌, Bool, true, false, List, [], ◌∷◌, ◌++◌, length, take, get_or, sym, ap, arith, subst}
-use Rattle.std.proofs.lemmas.List.{length-replicate, take_more}
+use Rattle.std.proofs.Common.{◌≡◌, ℕ, ◌+◌, ◌<◌, ◌≤◌, ◌^◌, Bool, true, false, List, [], ◌∷◌, ◌++◌, length, take, get_or, sym, ap, arith, subst, sum_by}
+use Rattle.std.proofs.lemmas.List.{take_more}
 use Rattle.std.proofs.lemmas.Option.{slice_get-get_or}
 use Rattle.std.proofs.lemmas.List.Sums.{sum_by-cons}
-use Rattle.shb_fan.specs.declared.step.PieceState.TheVariants.{Empty}
 use Rattle.shb_fan.specs.declared.step.Step.{Step}
 use Rattle.shb_fan.specs.Numbers.{weight}
-use Rattle.shb_fan.specs.Machine.{ActorState, State, Allowed, HasAdvanced, IsInBounds, Runs, after, new_actor, spent_among, start}
+use Rattle.shb_fan.specs.Machine.{ActorState, State, Allowed, HasAdvanced, IsInBounds, Runs, after, start}
 use Rattle.shb_fan.specs.RunSteps.{IsRefusedAt}
 use Rattle.shb_fan.proofs.Counts.{weight-most}
 
 -- no more actors are spent than there are
-pub spent_few : (actors : List ActorState) → spent_among actors ≤ length actors
+pub spent_few : (actors : List ActorState) → sum_by (λ (x : ActorState). weight x.spent) actors ≤ length actors
 spent_few [] = omega arith
 spent_few (a ∷ actors) =
     let here = sum_by-cons (λ (b : ActorState). weight b.spent) a actors in

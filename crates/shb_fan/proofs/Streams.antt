@@ -1,5 +1,5 @@
 -- What a taker was given, one result more.
-use Rattle.std.proofs.Common.{◌≡◌, ℕ, suc, ◌+◌, List, [], ◌∷◌, ◌++◌, length, map, sym, ap, ap₂, ◌∙◌, arith}
+use Rattle.std.proofs.Common.{◌≡◌, ℕ, suc, ◌+◌, List, [], ◌∷◌, ◌++◌, length, sym, ap, ap₂, ◌∙◌, arith}
 use Rattle.std.proofs.lemmas.List.{length-map, map-append}
 use Rattle.shb_fan.specs.Values.{values_of}
 use Rattle.shb_fan.specs.Streamed.{AreFirst}
@@ -11,7 +11,3 @@ module _ {T M : Type 0} (meaning : T → M) (value : ℕ → M) where
 
   pub first-long : (k : ℕ) (given : List T) → AreFirst meaning value k given → length given ≡ k
   first-long k given first = sym (length-map given meaning) ∙ (ap length first ∙ length-values value k)
-
-  -- of a list that was empty and has been given all values
-  pub kept_pieces : (k : ℕ) (given start end : List T) → AreFirst meaning value k given → end ≡ start ++ given → start ≡ [] → map meaning end ≡ values_of value k
-  kept_pieces k given start end first kept none_before = ap (map meaning) (kept ∙ ap (λ (l : List T). l ++ given) none_before) ∙ first

@@ -10,21 +10,6 @@ use Rattle.shb_fan.specs.Numbers.{times, once_below, total}
 abbrev pub pass_view : ℕ → Plan → List ℕ → ℕ → ℕ → ℕ → PassView
 pass_view parts plan drawn spent halted seen = record { parts = parts; plan = plan; drawn = drawn; spent = spent; halted = halted; seen = seen }
 
-abbrev pub parts_of : PassView → ℕ
-parts_of v = v.parts
-
-abbrev pub spent_of : PassView → ℕ
-spent_of v = v.spent
-
-abbrev pub halted_of : PassView → ℕ
-halted_of v = v.halted
-
-abbrev pub seen_of : PassView → ℕ
-seen_of v = v.seen
-
-abbrev pub times_of : ℕ → PassView → ℕ
-times_of x v = times x v.drawn
-
 -- a view is spent no more often than it has parts, and with no part it has drawn nothing, stopped nothing and seen no stop
 pub record Sound (v : PassView) : Type 0 where
   pub once : v.spent ≤ v.parts
@@ -33,17 +18,17 @@ pub record Sound (v : PassView) : Type 0 where
 -- what holds between any two steps, of the ticket, the stop word and all views
 pub record Holds (plan : Plan) (ticket stop : ℕ) (views : List PassView) : Type 0 where
   pub small : (plan.limit ≤ 2 ^ 60) × (plan.passes ≤ 65)
-  pub parts : total parts_of views ≡ plan.passes
+  pub parts : total (λ v. v.parts) views ≡ plan.passes
   -- the numbers below the lesser of the ticket and the limit are drawn, each once, and no others
-  pub each : (x : ℕ) → total (times_of x) views ≡ once_below x (min plan.limit ticket)
-  pub low : ticket ≤ plan.limit + total spent_of views
+  pub each : (x : ℕ) → total (λ v. times x v.drawn) views ≡ once_below x (min plan.limit ticket)
+  pub low : ticket ≤ plan.limit + total (λ v. v.spent) views
   -- the stop word is 1 where some view is halted, else 0
-  pub running : total halted_of views ≡ 0 → stop ≡ 0
-  pub halted : 0 < total halted_of views → stop ≡ 1
+  pub running : total (λ v. v.halted) views ≡ 0 → stop ≡ 0
+  pub halted : 0 < total (λ v. v.halted) views → stop ≡ 1
   -- and where some view has seen a stop it isn't 0
-  pub seen : stop ≡ 0 → total seen_of views ≡ 0
+  pub seen : stop ≡ 0 → total (λ v. v.seen) views ≡ 0
   -- where a view is spent, the stop word isn't 0 or the ticket is at the limit or above
-  pub ended : 0 < total spent_of views → stop ≡ 0 → plan.limit ≤ ticket
+  pub ended : 0 < total (λ v. v.spent) views → stop ≡ 0 → plan.limit ≤ ticket
   pub sound : (id : ℕ) (v : PassView) → get_elem? views id ≡ some v → Sound v
 
 abbrev pub KeepsDrawing : Plan → State (Unit {0}) PassView → Type 0
@@ -53,13 +38,10 @@ abbrev M : Type 0
 M = Me (Unit {0}) PassView
 
 abbrev pub gained : PassView → ℕ → PassView
-gained v k = pass_view v.parts v.plan (v.drawn ++ k ∷ []) v.spent v.halted v.seen
+gained v k = record v { drawn = v.drawn ++ k ∷ [] }
 
 abbrev pub used_up : PassView → PassView
-used_up v = pass_view v.parts v.plan v.drawn (v.spent + 1) v.halted v.seen
-
-abbrev pub warned : PassView → PassView
-warned v = pass_view v.parts v.plan v.drawn v.spent v.halted 1
+used_up v = record v { spent = v.spent + 1 }
 
 -- the number found is the pass's, where it is below the limit, and above all that it drew; else the pass is spent
 abbrev pub drew : Step (Unit {0}) → M → ℕ → M → Type 0
@@ -75,13 +57,13 @@ saw st m r m' = (r ≡ 0 → (m.0.halted ≡ 0) × (m.0.seen ≡ 0) × (m' ≡ m
 
 -- where the word isn't 0 the pass has seen a stop, and it isn't 0 where the pass is halted or has seen one before
 abbrev pub looked : Step (Unit {0}) → M → ℕ → M → Type 0
-looked st m r m' = (r ≡ 0 → (m.0.halted ≡ 0) × (m.0.seen ≡ 0) × (m' ≡ m)) × (0 < r → m' ≡ (warned m.0, m.1))
+looked st m r m' = (r ≡ 0 → (m.0.halted ≡ 0) × (m.0.seen ≡ 0) × (m' ≡ m)) × (0 < r → m' ≡ (record m.0 { seen = 1 }, m.1))
 
 abbrev pub stopped : Step (Unit {0}) → M → ℕ → M → Type 0
-stopped st m r m' = m' ≡ (pass_view m.0.parts m.0.plan m.0.drawn m.0.spent 1 m.0.seen, m.1)
+stopped st m r m' = m' ≡ (record m.0 { halted = 1 }, m.1)
 
 abbrev pub left_over : PassView → PassView
-left_over v = pass_view (v.parts - 1) v.plan v.drawn v.spent v.halted v.seen
+left_over v = record v { parts = v.parts - 1 }
 
 abbrev pub one_part : PassView → PassView
 one_part v = pass_view 1 v.plan [] 0 0 0

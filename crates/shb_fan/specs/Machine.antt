@@ -30,19 +30,13 @@ piece_of s k = slice_index_or s.pieces k Empty
 abbrev pub start : ℕ → ℕ → State
 start actors pieces = record { next = 0; actors = replicate actors new_actor; pieces = replicate pieces Empty; taken = 0; stopped = false }
 
-abbrev pub IsActor : State → ℕ → Type 0
-IsActor s a = a < length s.actors
-
-abbrev pub IsPiece : State → ℕ → Type 0
-IsPiece s k = k < length s.pieces
-
 abbrev pub Allowed : State → Step → Type 0
-Allowed s (Draw a) = IsActor s a × ((actor_of s a).spent ≡ false)
-Allowed s (Claim a k) = IsActor s a × IsPiece s k × Contains (actor_of s a).drawn k × (piece_of s k ≡ Empty) × (64 ≤ k → piece_of s (k - 64) ≡ Freed)
-Allowed s (Place a k) = IsActor s a × IsPiece s k × (piece_of s k ≡ Claimed a)
-Allowed s (Lift k) = IsPiece s k × (piece_of s k ≡ Placed) × (k ≡ s.taken)
-Allowed s (Free k) = IsPiece s k × (piece_of s k ≡ Lifted)
-Allowed s (Stop a) = IsActor s a
+Allowed s (Draw a) = (a < length s.actors) × ((actor_of s a).spent ≡ false)
+Allowed s (Claim a k) = (a < length s.actors) × (k < length s.pieces) × Contains (actor_of s a).drawn k × (piece_of s k ≡ Empty) × (64 ≤ k → piece_of s (k - 64) ≡ Freed)
+Allowed s (Place a k) = (a < length s.actors) × (k < length s.pieces) × (piece_of s k ≡ Claimed a)
+Allowed s (Lift k) = (k < length s.pieces) × (piece_of s k ≡ Placed) × (k ≡ s.taken)
+Allowed s (Free k) = (k < length s.pieces) × (piece_of s k ≡ Lifted)
+Allowed s (Stop a) = a < length s.actors
 
 -- of the next number and how many pieces there are
 abbrev pub after_draw : ℕ → ℕ → ActorState → ActorState
@@ -69,18 +63,14 @@ Runs s [] t = t ≡ s
 Runs s (x ∷ xs) t = Allowed s x × Runs (after s x) xs t
 
 abbrev pub is_taken : PieceState → Bool
-is_taken Empty = false
-is_taken (Claimed a) = false
-is_taken Placed = false
 is_taken Lifted = true
 is_taken Freed = true
+is_taken _ = false
 
 abbrev pub is_busy : PieceState → Bool
 is_busy Empty = false
-is_busy (Claimed a) = true
-is_busy Placed = true
-is_busy Lifted = true
 is_busy Freed = false
+is_busy _ = true
 
 pub record Facts (s : State) : Type 0 where
   -- the lists together are the numbers below the lesser of `next` and the number of pieces, each once
@@ -93,12 +83,8 @@ pub record Facts (s : State) : Type 0 where
 abbrev pub state_from : ℕ → List ActorState → List PieceState → ℕ → Bool → State
 state_from next actors pieces taken stopped = record { next = next; actors = actors; pieces = pieces; taken = taken; stopped = stopped }
 
--- how many actors are spent
-abbrev pub spent_among : List ActorState → ℕ
-spent_among actors = sum_by (λ a. weight a.spent) actors
-
 -- the numbers stay small
 pub record IsInBounds (s : State) : Type 0 where
   pub few_actors : length s.actors ≤ 65
   pub few_pieces : length s.pieces ≤ 2 ^ 60
-  pub next_low : s.next ≤ length s.pieces + spent_among s.actors
+  pub next_low : s.next ≤ length s.pieces + sum_by (λ a. weight a.spent) s.actors

@@ -1,5 +1,5 @@
 -- What a caller sees of tickets and of a pass.
-use Rattle.std.specs.Prelude.{◌≡◌, ℕ, zero, suc, ◌≤◌, Bool, true, false, List, []}
+use Rattle.std.specs.Prelude.{◌≡◌, ℕ, ◌≤◌, Bool, false, ltb, List, []}
 use Rattle.std.specs.List.Sorted.{IsStrictlyIncreasing}
 use base.Stored.{Coded, coded×, coded_ℕ, coded_list, coded_via}
 use Rattle.std.specs.Coded.{coded_bool}
@@ -7,7 +7,7 @@ use Rattle.atomic_table.specs.Seated.{TableId, table_id_coded}
 use Rattle.atomic_table.specs.declared.shared.Seat.{Seat}
 use Rattle.shb_fan.specs.declared.ticket_table.Plan.{Plan}
 use Rattle.shb_fan.specs.declared.ticket_table.PassView.{PassView}
-use Rattle.shb_fan.specs.Numbers.{weight, times}
+use Rattle.shb_fan.specs.Numbers.{weight}
 
 -- which tickets these are, how many numbers they have, and how many passes draw them
 pub record TicketSource : Type 0 where
@@ -29,10 +29,6 @@ source_coded = coded_via (coded× table_id_coded (coded× coded_ℕ coded_ℕ)) 
 abbrev pub pass_coded : Coded PassState
 pass_coded = coded_via (coded× source_coded (coded× (coded_list coded_ℕ) (coded× coded_bool (coded× coded_bool coded_bool)))) (λ (z : PassState). (z.source, (z.drawn, (z.spent, (z.halted, z.seen))))) (λ x y e i. record { source = (e i).0; drawn = (e i).1.0; spent = (e i).1.1.0; halted = (e i).1.1.1.0; seen = (e i).1.1.1.1 })
 
-abbrev pub is_positive : ℕ → Bool
-is_positive zero = false
-is_positive (suc _) = true
-
 abbrev pub fresh : TicketSource → PassState
 fresh z = record { source = z; drawn = []; spent = false; halted = false; seen = false }
 
@@ -40,7 +36,7 @@ abbrev pub source_of : TableId → Plan → TicketSource
 source_of z plan = record { table = z; limit = plan.limit; passes = plan.passes }
 
 abbrev pub state_of : Seat (Unit {0}) PassView → Bool → PassState
-state_of seat spent = record { source = source_of seat.table_id seat.me.0.plan; drawn = seat.me.0.drawn; spent = spent; halted = is_positive seat.me.0.halted; seen = is_positive seat.me.0.seen }
+state_of seat spent = record { source = source_of seat.table_id seat.me.0.plan; drawn = seat.me.0.drawn; spent = spent; halted = ltb 0 seat.me.0.halted; seen = ltb 0 seat.me.0.seen }
 
 -- a pass has one part, holds no slot, its numbers rise, and its flag says whether it is spent
 pub record IsPass (seat : Seat (Unit {0}) PassView) (spent : Bool) : Type 0 where
@@ -49,15 +45,3 @@ pub record IsPass (seat : Seat (Unit {0}) PassView) (spent : Bool) : Type 0 wher
   pub marked : (seat.me.0.halted ≤ 1) × (seat.me.0.seen ≤ 1)
   pub slots : seat.me.1 ≡ []
   pub rising : IsStrictlyIncreasing seat.me.0.drawn
-
-abbrev pub times_in : ℕ → PassState → ℕ
-times_in x p = times x p.drawn
-
-abbrev pub halted_in : PassState → ℕ
-halted_in p = weight p.halted
-
-abbrev pub seen_in : PassState → ℕ
-seen_in p = weight p.seen
-
-abbrev pub spent_in : PassState → ℕ
-spent_in p = weight p.spent

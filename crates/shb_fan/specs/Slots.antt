@@ -28,21 +28,6 @@ module _ {M : Type 0} where
   abbrev pub seat_view : ℕ → List M → List ℕ → List ℕ → List ℕ → List ℕ → SeatView M
   seat_view parts wanted claimed placed lifting lifted = record { parts = parts; wanted = wanted; claimed = claimed; placed = placed; lifting = lifting; lifted = lifted }
 
-  abbrev pub parts_of : SeatView M → ℕ
-  parts_of v = v.parts
-
-  abbrev pub claimed_by : SeatView M → List ℕ
-  claimed_by v = v.claimed
-
-  abbrev pub placed_by : SeatView M → List ℕ
-  placed_by v = v.placed
-
-  abbrev pub lifting_by : SeatView M → List ℕ
-  lifting_by v = v.lifting
-
-  abbrev pub lifted_by : SeatView M → List ℕ
-  lifted_by v = v.lifted
-
   -- a piece stands once in the lists of all seats together where its slot's word is so, else nowhere
   abbrev pub Counts : (SeatView M → List ℕ) → (ℕ → ℕ → Bool) → List ℕ → List (SeatView M) → Type 0
   Counts f is words views = (k : ℕ) → total (λ v. times k (f v)) views ≡ weight (is (slice_index words (k % 64)) k)
@@ -63,28 +48,16 @@ module _ {M : Type 0} where
       pub wide : length s.words ≡ 64
       pub deep : length s.homes ≡ 64
       pub slots : (i : ℕ) → i < 64 → SlotKept wanted s.homes i (slice_index s.words i)
-      pub parts : total parts_of s.views ≡ 65
-      pub claims : Counts claimed_by is_claimed s.words s.views
-      pub each_placed : Counts placed_by is_placed s.words s.views
-      pub lifts : Counts lifting_by is_lifting s.words s.views
-      pub each_lifted : Counts lifted_by is_lifted s.words s.views
+      pub parts : total (λ v. v.parts) s.views ≡ 65
+      pub claims : Counts (λ v. v.claimed) is_claimed s.words s.views
+      pub each_placed : Counts (λ v. v.placed) is_placed s.words s.views
+      pub lifts : Counts (λ v. v.lifting) is_lifting s.words s.views
+      pub each_lifted : Counts (λ v. v.lifted) is_lifted s.words s.views
       pub nothing : (id : ℕ) (v : SeatView M) → get_elem? s.views id ≡ some v → HasNothing v
       pub same : (id : ℕ) (v : SeatView M) → get_elem? s.views id ≡ some v → 0 < v.parts → v.wanted ≡ wanted
 
-  abbrev pub claiming : SeatView M → ℕ → SeatView M
-  claiming v k = seat_view v.parts v.wanted (k ∷ []) v.placed v.lifting v.lifted
-
-  abbrev pub placing : SeatView M → SeatView M
-  placing v = seat_view v.parts v.wanted [] (v.placed ++ v.claimed) v.lifting v.lifted
-
-  abbrev pub raising : SeatView M → ℕ → SeatView M
-  raising v k = seat_view v.parts v.wanted v.claimed v.placed (k ∷ []) (v.lifted ++ k ∷ [])
-
-  abbrev pub freeing : SeatView M → SeatView M
-  freeing v = seat_view v.parts v.wanted v.claimed v.placed [] v.lifted
-
   abbrev pub left_over : SeatView M → SeatView M
-  left_over v = seat_view (v.parts - 1) v.wanted v.claimed v.placed v.lifting v.lifted
+  left_over v = record v { parts = v.parts - 1 }
 
   abbrev pub one_part : SeatView M → SeatView M
   one_part v = seat_view 1 v.wanted [] [] [] []
@@ -98,16 +71,16 @@ module _ {M : Type 0} where
   module _ {T : Type 0} where
     -- where the word was found as the caller said, the piece and its slot are the seat's; else nothing changes
     abbrev pub claimed : Told T M
-    claimed st m r m' = (r ≡ st.first → (x : Option T) × (m' ≡ (claiming m.0 (st.first / 4), (st.word, x) ∷ m.1))) × (r ≢ st.first → m' ≡ m)
+    claimed st m r m' = (r ≡ st.first → (x : Option T) × (m' ≡ (record m.0 { claimed = st.first / 4 ∷ [] }, (st.word, x) ∷ m.1))) × (r ≢ st.first → m' ≡ m)
 
     abbrev pub placed : Told T M
-    placed st m r m' = m' ≡ (placing m.0, rest m.1)
+    placed st m r m' = m' ≡ (record m.0 { claimed = []; placed = m.0.placed ++ m.0.claimed }, rest m.1)
 
     -- where the word was found as the caller said, the piece is new to the seat, and its slot, with the piece's value, is the seat's; else nothing changes
     abbrev pub raised : (T → M) → Told T M
     raised meaning st m r m' =
-        (r ≡ st.first → (x : T) × (m' ≡ (raising m.0 (st.first / 4), (st.word, Some x) ∷ m.1)) × (slice_get m.0.wanted (st.first / 4) ≡ Some (meaning x)) × (times (st.first / 4) m.0.lifted ≡ 0))
+        (r ≡ st.first → (x : T) × (m' ≡ (record m.0 { lifting = st.first / 4 ∷ []; lifted = m.0.lifted ++ st.first / 4 ∷ [] }, (st.word, Some x) ∷ m.1)) × (slice_get m.0.wanted (st.first / 4) ≡ Some (meaning x)) × (times (st.first / 4) m.0.lifted ≡ 0))
         × (r ≢ st.first → m' ≡ m)
 
     abbrev pub freed : Told T M
-    freed st m r m' = m' ≡ (freeing m.0, rest m.1)
+    freed st m r m' = m' ≡ (record m.0 { lifting = [] }, rest m.1)

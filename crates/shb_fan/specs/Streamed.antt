@@ -7,7 +7,7 @@ use Rattle.shb_fan.specs.declared.streaming.Shared.{Shared}
 use Rattle.shb_fan.specs.declared.taker.StreamError.{StreamError}
 use Rattle.shb_fan.specs.declared.taker.StreamError.TheVariants.{Memory, Taker}
 use Rattle.shb_fan.specs.Values.{values_of}
-use Rattle.shb_fan.specs.Passes.{TicketSource, PassState, fresh, times_in}
+use Rattle.shb_fan.specs.Passes.{TicketSource, PassState, fresh}
 use Rattle.shb_fan.specs.Numbers.{times}
 use Rattle.shb_fan.specs.Seated.{IsSeatOf, IsNewSeat, job_of, claimed_of, placed_of, lifted_of}
 
@@ -24,9 +24,6 @@ module _ {T M : Type 0} where
   -- of what a worker's pass drew and its seat placed
   abbrev pub HasAccounts : Worker T M → Type 0
   HasAccounts worker = Accounts worker.pass.drawn (placed_of worker.seat) worker.pass.halted
-
-  abbrev pub Owes : Worker T M → ℕ → Type 0
-  Owes worker k = IsOwed worker.pass.drawn (placed_of worker.seat) k
 
   -- what the worker drew is placed but for these pieces: each number was drawn as often as it was placed and stands among these
   abbrev pub HasPlacedAllBut : Worker T M → List ℕ → Type 0
@@ -51,8 +48,8 @@ module _ {T M : Type 0} where
 module _ {T M : Type 0} where
   -- no piece was placed more often than it was drawn, and where a pass stopped the draw some piece was placed less often
   pub record Balanced (passes : List PassState) (seats : List (RingSeat T M)) : Type 0 where
-    pub within : (k : ℕ) → sum_by (λ s. times k (placed_of s)) seats ≤ sum_by (times_in k) passes
-    pub owed : Any (λ p. IsTrue p.halted) passes → (k : ℕ) × (sum_by (λ s. times k (placed_of s)) seats < sum_by (times_in k) passes)
+    pub within : (k : ℕ) → sum_by (λ s. times k (placed_of s)) seats ≤ sum_by (λ p. times k p.drawn) passes
+    pub owed : Any (λ p. IsTrue p.halted) passes → (k : ℕ) × (sum_by (λ s. times k (placed_of s)) seats < sum_by (λ p. times k p.drawn) passes)
 
 module _ {T M J : Type 0} (value : J → ℕ → M) (count : J → ℕ) where
   -- a worker of these tickets and this ring that has claimed nothing
@@ -98,7 +95,7 @@ module _ {T M J G : Type 0} (value : J → ℕ → M) (count : J → ℕ) where
 
   -- the worker may run and place piece k, which it drew, and has placed all others that it drew
   abbrev pub CanMake : Shared T M J G → Worker T M → ℕ → Type 0
-  CanMake shared worker k = CanWork shared worker × IsRunning worker × Owes worker k × HasPlacedAllBut worker (k ∷ [])
+  CanMake shared worker k = CanWork shared worker × IsRunning worker × IsOwed worker.pass.drawn (placed_of worker.seat) k × HasPlacedAllBut worker (k ∷ [])
 
   -- the worker may lift, and draw and make what nobody has drawn
   abbrev pub CanTake : Shared T M J G → Worker T M → Type 0

@@ -5,8 +5,8 @@ use Rattle.shb_fan.specs.declared.step.PieceState.TheVariants.{Empty}
 use Rattle.shb_fan.specs.declared.step.Step.{Step}
 use Rattle.shb_fan.specs.declared.step.Step.TheVariants.{Draw, Stop}
 use Rattle.shb_fan.specs.Machine.{State, Runs, start}
-use Rattle.shb_fan.specs.Numbers.{times, once_below}
-use Rattle.shb_fan.specs.Passes.{PassState, spent_in}
+use Rattle.shb_fan.specs.Numbers.{weight, times, once_below}
+use Rattle.shb_fan.specs.Passes.{PassState}
 
 -- each list rises, and together they are the numbers below `drawn`, each once
 pub record AreDrawn (lists : List (List ℕ)) (drawn : ℕ) : Type 0 where
@@ -52,4 +52,4 @@ pub record IsMachineRun (limit : ℕ) (passes : List PassState) (drawn : ℕ) (s
   pub are_draws : AreDraws (lists_of passes) drawn draws
   pub are_stops : AreStops passes stopped stops
   pub ends : Runs (start (length passes) limit) (draws ++ stops) (drawn_state (lists_of passes) drawn limit stopped)
-  pub spends : IsFalse stopped → Runs (start (length passes) limit) (draws ++ spent_draws 0 passes) (spent_state passes (drawn + sum_by spent_in passes) limit)
+  pub spends : IsFalse stopped → Runs (start (length passes) limit) (draws ++ spent_draws 0 passes) (spent_state passes (drawn + sum_by (λ p. weight p.spent) passes) limit)

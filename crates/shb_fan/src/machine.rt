@@ -2,7 +2,6 @@
 
 ghost use Rattle.std.specs.Prelude.{◌≡◌, ◌<◌, ◌≤◌, ◌^◌, ◌++◌, ◌∷◌, [], false, true, ℕ, List, IfOk, IfErr, length, replicate};
 ghost use Rattle.shb_fan.specs.declared.step.Step.{Step};
-ghost use Rattle.shb_fan.specs.declared.step.PieceState.TheVariants.{Empty};
 ghost use Rattle.shb_fan.specs.declared.step.Step.TheVariants.{Claim, Draw, Free, Lift, Place, Stop};
 ghost use Rattle.shb_fan.specs.Machine.{Facts, HasAdvanced, IsInBounds, Runs, State, actor_of, after_draw, new_actor, piece_of, start, state_from};
 ghost use Rattle.shb_fan.specs.Turns.{AreDrawn, AreDraws, drawn_state};
@@ -260,13 +259,6 @@ fn new_actors(alloc: Global, actors: u32) -> Result<Vec<Actor>, NoMemory>
     Ok(all)
 }
 
-/// As many pieces that nobody claimed.
-fn empty_pieces(alloc: Global, pieces: u64) -> Result<Vec<PieceState>, NoMemory>
-    ensures { IfOk result (λ all. all.items ≡ replicate pieces Empty) }
-{
-    Ok(vec![in alloc; PieceState::Empty; pieces as usize]?)
-}
-
 /// The start: nothing is drawn, and all pieces are empty.
 fn new_fan(alloc: Global, actors: u32, pieces: u64) -> Result<Fan, NoMemory>
     requires actors { actors ≤ 65 }
@@ -276,7 +268,7 @@ fn new_fan(alloc: Global, actors: u32, pieces: u64) -> Result<Fan, NoMemory>
     Ok(Fan {
         next: 0,
         actors: new_actors(alloc, actors)?,
-        pieces: empty_pieces(alloc, pieces)?,
+        pieces: vec![in alloc; PieceState::Empty; pieces as usize]?,
         taken: 0,
         stopped: false,
     })

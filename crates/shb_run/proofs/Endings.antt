@@ -1,6 +1,5 @@
 -- From what the parts of a run answer to what the run says of the text.
-use Rattle.std.proofs.Common.{◌≡◌, ◌⊎◌, ℕ, inl, inr, Bool, List, length, map, Option, Result, Ok, Err, IsErrAnd, refl, sym, ap, subst, ◌∙◌}
-use Rattle.shb_io.specs.declared.no_memory.NoMemory.{NoMemory}
+use Rattle.std.proofs.Common.{◌≡◌, ◌⊎◌, ℕ, inl, inr, Bool, List, length, Option, Result, Ok, Err, IsErrAnd, sym, ap, subst, ◌∙◌}
 use Rattle.shb_lines.specs.declared.event.Event.{Event}
 use Rattle.shb_lines.specs.declared.fault.LineFault.{LineFault}
 use Rattle.shb_lines.specs.events.Discipline.{IsDisciplined}
@@ -121,13 +120,6 @@ module _ {K : Type 0} (choice : Choice) (ws : Bool) (trace : TraceData) (races :
       by : (error : WriteError) → HasReported {T = U} (These races) ws trace taken failures old new (Err error) → HasSummed choice ws trace taken failures old new (Err error)
       by writing.Sink has = record { report = tt; fits = tt; cut = known_cut (ListedBy choice) ws trace races lists (taken old) (taken new) has.cut; memory = tt; counted = has.counted }
       by (writing.Memory _) has = record { report = tt; fits = tt; cut = tt; memory = or_then has.memory (known_blocks (ListedBy choice) ws trace races lists (taken old) (taken new)); counted = has.counted }
-
--- memory was refused before anything was written
-pub unsummed : {K : Type 0} (choice : Choice) (ws : Bool) (trace : TraceData) (taken : K → Option (List ℕ)) (failures : K → ℕ) (sink : K) (refused : NoMemory) (r : Result Summary WriteError) → IsErrAnd r (λ e. e ≡ writing.Memory refused)
-    → HasSummed choice ws trace taken failures sink sink r
-unsummed choice ws trace taken failures sink refused (Ok x) is = absurd is
-unsummed choice ws trace taken failures sink refused (Err e) is = subst (λ (e : WriteError). HasSummed choice ws trace taken failures sink sink (Err e)) (sym is)
-    (record { report = tt; fits = tt; cut = tt; memory = inl refl; counted = refl })
 
 -- known bytes that grew by the front of a report, or by nothing
 pub grown_of_refused : {K : Type 0} (taken : K → Option (List ℕ)) (Lists : TraceData → List (ℕ × ℕ) → Type 0) (ws : Bool) (trace : TraceData) (before after : K)

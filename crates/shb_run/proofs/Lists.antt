@@ -1,21 +1,17 @@
 -- The races that a search of a trace finds are its race list.
-use Rattle.std.proofs.Common.{◌≡◌, ℕ, Bool, true, List, length, map, get_or, Option, sym, ap, subst, ◌∙◌}
+use Rattle.std.proofs.Common.{◌≡◌, ℕ, Bool, true, List, map, get_or, subst}
 use Rattle.std.proofs.lemmas.List.Elements.{Contains-get_or, All-from_get_or, All-map}
 use Rattle.shb_lines.specs.declared.event.Event.{Event}
 use Rattle.shb_lines.specs.declared.event.Pair.{Pair}
 use Rattle.shb_lines.specs.events.Race.{IsRaceList, Race}
 use Rattle.shb_lines.specs.events.Sizes.{IsNumberedByAccess}
-use Rattle.shb_lines.specs.text.TraceData.{TraceData}
 use Rattle.shb_clocks.specs.Open.{OpenTrace}
 use Rattle.shb_pairs.specs.Open.{AreOpen, AsksOpen}
 use Rattle.shb_pairs.proofs.Joined.{values_are_race_list}
-use Rattle.shb_report.specs.Report.{AllRaces, pair_of}
+use Rattle.shb_report.specs.Report.{pair_of}
 use Rattle.shb_witness.specs.Schedules.{AreRaces, AsksBoth, AsksEach}
 use Rattle.shb_write.specs.Listed.{races_found}
-use Rattle.shb_write.specs.Written.{These, WritesReport}
-use Rattle.shb_run.specs.declared.settings.Summary.{Summary}
-use Rattle.shb_run.specs.Written.{ReportsTrace, summary_of}
-use Rattle.shb_run.proofs.Reports.{asks_race, known_written}
+use Rattle.shb_run.proofs.Reports.{asks_race}
 
 pub found_listed : (job : OpenTrace) (events : List Event) → job.trace ≡ events → IsNumberedByAccess job.trace → AreOpen job.trace job.flags → IsRaceList events (races_found job)
 found_listed job events same numbered open_ones = subst (λ e. IsRaceList e (races_found job)) same (values_are_race_list job numbered open_ones)

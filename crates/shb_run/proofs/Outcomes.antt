@@ -1,20 +1,16 @@
 -- From what the parts of a run answer to its outcome, exit by exit.
 use Rattle.std.proofs.Common.{◌≡◌, ◌⊎◌, ◌+◌, ◌≤◌, ℕ, inl, Bool, List, Option, Result, Ok, Err, IsErrAnd, refl, sym, subst}
-use Rattle.shb_io.specs.Devices.{CountsFailure}
 use Rattle.shb_io.specs.declared.no_memory.NoMemory.{NoMemory}
 use Rattle.shb_lines.specs.declared.event.Event.{Event}
 use Rattle.shb_lines.specs.declared.fault.LineFault.{LineFault}
-use Rattle.shb_lines.specs.declared.read.ReadError.{ReadError}
-use Rattle.shb_lines.specs.declared.read.ReadError.TheVariants as reading
 use Rattle.shb_lines.specs.events.Discipline.{IsDisciplined}
 use Rattle.shb_lines.specs.text.Limits.{most_read, standard_limits}
-use Rattle.shb_lines.specs.text.Taking.{ReadsText, TakesAtMost, read_failed}
+use Rattle.shb_lines.specs.text.Taking.{ReadsText, TakesAtMost}
 use Rattle.shb_lines.specs.text.TraceData.{IsReadingOf, TraceData}
 use Rattle.shb_lines.proofs.text.TakingLemmas.{reads_left, reads_then, reads_told}
 use Rattle.shb_discipline.specs.FirstFault.{IsFirstFault}
 use Rattle.shb_check.specs.declared.errors.RunError.{RunError}
 use Rattle.shb_check.specs.declared.errors.RunError.TheVariants.{Trace, Source, Sink, Memory}
-use Rattle.shb_check.specs.Errors.{error_of_reading}
 use Rattle.shb_check.specs.Judged.{IsAccepted, IsRefusalOf}
 use Rattle.shb_check.proofs.Endings.{Grows-same, none_found, of_any_fault}
 use Rattle.shb_write.specs.Written.{CutsBlocksOn, CutsReportOn}
@@ -27,45 +23,6 @@ use Rattle.shb_run.proofs.Endings.{grown_of_refused, has_trace, or_then, reporte
 
 module _ {A B : Type 0} (choice : Choice) (ws : Bool) (remaining : A → Option (List ℕ)) (given failed_reads : A → ℕ) (source left : A) (taken : B → Option (List ℕ)) (failed_writes : B → ℕ) (sink : B)
     (lost : TakesAtMost most_read (remaining source) (remaining left)) (gave : given left ≤ given source + most_read) where
-  -- the text was not read
-  pub of_unread : (U : Type 0) (error : ReadError) (r : Result Summary RunError) → IsErrAnd r (λ e. e ≡ error_of_reading error)
-      → CountsFailure {T = U} read_failed (failed_reads source) (failed_reads left) (Err error)
-      → IsOutcome choice ws remaining given failed_reads source left taken failed_writes sink sink r
-  of_unread U error (Ok x) is counted = absurd is
-  of_unread U error (Err e) is counted =
-      subst (λ (e : RunError). IsOutcome choice ws remaining given failed_reads source left taken failed_writes sink sink (Err e)) (sym is) (by error counted)
-    where
-      by : (error : ReadError) → CountsFailure {T = U} read_failed (failed_reads source) (failed_reads left) (Err error)
-          → IsOutcome choice ws remaining given failed_reads source left taken failed_writes sink sink (Err (error_of_reading error))
-      by reading.Source counted = record {
-        read = tt;
-        refused = tt;
-        unwritten = refl;
-        silent = of_any_fault (remaining source) (sink ≡ sink) refl;
-        cut = tt;
-        memory = tt;
-        grown = Grows-same (taken sink);
-        lost = lost;
-        gave = gave;
-        judged = tt;
-        source_counted = counted;
-        sink_counted = refl;
-      }
-      by (reading.Memory _) counted = record {
-        read = tt;
-        refused = tt;
-        unwritten = tt;
-        silent = of_any_fault (remaining source) (sink ≡ sink) refl;
-        cut = tt;
-        memory = inl refl;
-        grown = Grows-same (taken sink);
-        lost = lost;
-        gave = gave;
-        judged = tt;
-        source_counted = counted;
-        sink_counted = refl;
-      }
-
   module _ (read : TraceData) (stop : Option LineFault)
       (known : ReadsText most_read (remaining source) (remaining left) (given source) (given left) (λ text. IsReadingOf standard_limits text read stop))
       (no_failure : failed_reads left ≡ failed_reads source) where

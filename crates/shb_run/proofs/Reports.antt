@@ -7,8 +7,7 @@ use Rattle.shb_lines.specs.declared.event.Event.{Event}
 use Rattle.shb_lines.specs.declared.event.Pair.{Pair}
 use Rattle.shb_lines.specs.events.Race.{Race, ends}
 use Rattle.shb_lines.specs.text.TraceData.{TraceData}
-use Rattle.shb_clocks.specs.Open.{OpenTrace, accesses_open, is_open}
-use Rattle.shb_clocks.proofs.OpenItems.{asks_open}
+use Rattle.shb_clocks.specs.Open.{is_open}
 use Rattle.shb_pairs.specs.Open.{AreOpen, AsksOpen}
 use Rattle.shb_report.specs.Report.{IsReportOn}
 use Rattle.shb_report.proofs.LeadingReports.{leading_are_races}
@@ -36,12 +35,6 @@ races_listed choice trace events races same lists =
   where
     none : Pair
     none = record { first = 0; second = 0 }
-
--- an order of the open accesses of a trace can be asked about each of them
-pub order_asks : (order : OpenTrace) (trace : List Event) (flags : List Bool) → order ≡ record { trace = trace; flags = flags } → AsksOpen (accesses_open order.flags order.trace) flags trace
-order_asks order trace flags is e x access listed =
-    subst (λ (o : OpenTrace). accesses_open o.flags o.trace e ≡ true) (sym is)
-    (asks_open trace flags e x access listed)
 
 -- an order that can be asked about each access of an open variable can be asked about both events of a race
 pub asks_race : (trace : List Event) (flags : List Bool) (asks : ℕ → Bool) (i j : ℕ) → AreOpen trace flags → AsksOpen asks flags trace → Race trace i j → (asks i ≡ true) × (asks j ≡ true)

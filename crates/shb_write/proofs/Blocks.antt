@@ -1,6 +1,6 @@
 -- The blocks of some races after those of others.
-use Rattle.std.proofs.Common.{◌≡◌, ◌⊎◌, inl, inr, ℕ, ◌+◌, ◌<◌, ◌≤◌, Bool, true, false, List, [], ◌∷◌, ◌++◌, length, map, take, drop, get_or, All, Option, None, Some, Result, Ok, Err, refl, sym, ap, subst, ◌∙◌, append_assoc, append-nil, arith}
-use Rattle.std.specs.Prelude.{IfErr, IfOk, OnErr, OnOk}
+use Rattle.std.proofs.Common.{◌≡◌, ◌⊎◌, inl, inr, ℕ, ◌+◌, ◌<◌, ◌≤◌, Bool, true, false, List, [], ◌∷◌, ◌++◌, length, map, take, drop, get_or, Option, Result, Ok, Err, refl, sym, ap, subst, ◌∙◌, append_assoc, append-nil, arith}
+use Rattle.std.specs.Prelude.{IfErr, IfOk, OnErr, OnOk, if◌then◌else◌}
 use Rattle.std.proofs.lemmas.Bool.{cases_lt}
 use Rattle.std.proofs.lemmas.List.{length-append, map-append, map_more, map_push, take_all, take-append-drop}
 use Rattle.std.proofs.lemmas.List.Elements.{All-map}
@@ -17,8 +17,8 @@ use Rattle.shb_witness.proofs.Printed.{computed_is_printed}
 use Rattle.shb_write.specs.declared.block_writer.BlockWriter.{BlockWriter}
 use Rattle.shb_write.specs.declared.errors.WriteError.{WriteError}
 use Rattle.shb_write.specs.declared.errors.WriteError.TheVariants as errors
-use Rattle.shb_write.specs.Blocks.{HasStopped, HasWritten, WritesBlocks, alone, blocks_of, failures_after, scheduled}
-use Rattle.shb_write.specs.Written.{AppendsFront}
+use Rattle.shb_write.specs.Blocks.{HasStopped, HasWritten, alone, blocks_of, scheduled}
+use Rattle.shb_write.specs.Written.{AppendsFront, write_failed}
 
 blocks-append : (trace : TraceData) (n m : ℕ) (xs ys : List ShownRace) → m ≡ length xs + n → blocks_from trace n (xs ++ ys) ≡ blocks_from trace n xs ++ blocks_from trace m ys
 blocks-append trace n m [] ys is = ap (λ k. blocks_from trace k ys) (let e : n ≡ m = omega (arith, is) in e)
@@ -107,7 +107,7 @@ module _ {K : Type 0} (taken : K → Option (List ℕ)) (failures : K → ℕ) w
     same_sink = b.same_sink ∙ a.same_sink;
     front = blocks_front start.trace.now (start.written + 1) (xs ++ ys) rest all _ _ is
         (subst (AppendsFront (taken start.sink.now) (taken end.sink.now)) (sym (next_blocks start middle xs ys (xs ++ ys) refl a)) (front_after _ _ _ _ _ a.appended b.front));
-    counted = b.counted ∙ ap (failures_after e) a.counted;
+    counted = b.counted ∙ ap (λ (n : ℕ). if write_failed e then n + 1 else n) a.counted;
   }
 
   -- memory was refused after these
@@ -170,14 +170,3 @@ module _ {K : Type 0} (taken : K → Option (List ℕ)) (failures : K → ℕ) w
       → IfErr r (λ e. HasStopped taken failures before ys e after) → IfErr r (λ e. HasStopped taken failures start all e after)
   stopped_piece (Ok x) start before after xs ys all is has more = tt
   stopped_piece (Err e) start before after xs ys all is has more = stopped_then taken failures start before after xs ys [] all e (is ∙ sym (append-nil (xs ++ ys))) has more
-
--- a list from the first block on
-module _ {K T E : Type 0} (taken : K → Option (List ℕ)) (failures : K → ℕ) where
-  pub list_written : (r : Result T E) (start end : BlockWriter K) (races : List (ℕ × ℕ)) → start.written ≡ 0 → OnOk r (HasWritten taken failures start (map alone races) end)
-      → OnErr r (HasStopped taken failures start (map alone races) errors.Sink end) → WritesBlocks false start.trace.now races (taken start.sink.now) (taken end.sink.now) r
-  list_written (Ok x) start end races first written stopped = subst (λ (n : ℕ). Appends (taken start.sink.now) (taken end.sink.now) (blocks_from start.trace.now (n + 1) (map alone races))) first written.appended
-  list_written (Err e) start end races first written stopped = subst (λ (n : ℕ). AppendsFront (taken start.sink.now) (taken end.sink.now) (blocks_from start.trace.now (n + 1) (map alone races))) first stopped.front
-
-  pub list_sink : (r : Result T E) (start end : BlockWriter K) (shown : List ShownRace) → OnOk r (HasWritten taken failures start shown end) → OnErr r (HasStopped taken failures start shown errors.Sink end) → end.sink.ghost_name ≡ start.sink.ghost_name
-  list_sink (Ok x) start end shown written stopped = written.same_sink
-  list_sink (Err e) start end shown written stopped = stopped.same_sink

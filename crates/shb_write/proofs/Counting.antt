@@ -1,7 +1,6 @@
 -- Races that are kept and counted.
-use Rattle.std.proofs.Common.{◌≡◌, ℕ, zero, suc, ◌+◌, ◌^◌, ◌<◌, List, [], ◌∷◌, ◌++◌, length, map, All, Option, None, Some, refl, sym, ap, subst, ◌∙◌, arith, append_assoc, Vec, Global}
+use Rattle.std.proofs.Common.{◌≡◌, ℕ, zero, suc, ◌^◌, ◌<◌, List, [], ◌∷◌, length, map, All, Option, None, Some, refl, sym, ap, subst, arith, Vec, Global}
 use Rattle.std.specs.Prelude.{IfSome}
-use Rattle.std.proofs.lemmas.List.{length-map}
 use Rattle.shb_lines.specs.declared.event.Event.{Event}
 use Rattle.shb_lines.specs.declared.event.Pair.{Pair}
 use Rattle.shb_lines.specs.events.Race.{Race, ends}
@@ -14,13 +13,8 @@ use Rattle.shb_report.specs.Report.{pair_of}
 use Rattle.shb_report.proofs.PlaceLemmas.{places_in_range}
 use Rattle.shb_witness.specs.Schedules.{AreRaces}
 use Rattle.shb_write.specs.declared.counted.Counted.{Counted}
-use Rattle.shb_write.specs.Listed.{HasKept, IsCountOf, IsRaceOf}
+use Rattle.shb_write.specs.Listed.{IsCountOf, IsRaceOf}
 use Rattle.shb_write.proofs.Pieces.{pairs_of_trace}
-
--- the pairs of events are those of the races
-pub pairs_back : (races : List Pair) → map pair_of (map ends races) ≡ races
-pairs_back [] = refl
-pairs_back (race ∷ races) = ap (λ l. race ∷ l) (pairs_back races)
 
 pub ends_back : (races : List (ℕ × ℕ)) → map ends (map pair_of races) ≡ races
 ends_back [] = refl
@@ -55,19 +49,3 @@ many_counted trace races c of_trace few many places none = record {
   in_range = subst (All (IsPlaceOf trace)) (sym places) (places_in_range trace (map pair_of races) (pairs_of_trace trace (map pair_of races) (subst (All (IsRaceOf trace)) (sym (ends_back races)) of_trace)));
   kept_are = subst (λ (o : Option (Vec Pair Global)). IfSome o (λ k. map ends k.items ≡ races)) (sym none) tt;
 }
-
--- what was counted of races that were kept
-pub kept_counted : (trace : TraceData) (kept : Vec Pair Global) (c : Counted) → length kept.items < 2 ^ 64 → All (IsPairOf trace) kept.items → c.races ≡ length kept.items
-    → c.places ≡ counts_in (places_of_pairs trace kept.items) → c.kept ≡ Some kept → IsCountOf trace (map ends kept.items) c
-kept_counted trace kept c few of_trace many places same = record {
-  count = many ∙ sym (length-map kept.items ends);
-  few = omega (arith, few, length-map kept.items ends);
-  places_are = places ∙ ap (λ (l : List Pair). counts_in (places_of_pairs trace l)) (sym (pairs_back kept.items));
-  in_range = subst (All (IsPlaceOf trace)) (sym places) (places_in_range trace kept.items of_trace);
-  kept_are = subst (λ (o : Option (Vec Pair Global)). IfSome o (λ k. map ends k.items ≡ map ends kept.items)) (sym same) refl;
-}
-
--- ---- races that are kept as they come
-
-pub kept_then : (before now after : List Pair) (xs ys all : List (ℕ × ℕ)) → all ≡ xs ++ ys → HasKept before xs now → HasKept now ys after → HasKept before all after
-kept_then before now after xs ys all is has more = more ∙ ap (λ (l : List (ℕ × ℕ)). l ++ ys) has ∙ append_assoc (map ends before) xs ys ∙ ap (λ (l : List (ℕ × ℕ)). map ends before ++ l) (sym is)

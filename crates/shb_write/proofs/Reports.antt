@@ -1,5 +1,5 @@
 -- A report from its parts.
-use Rattle.std.proofs.Common.{◌≡◌, inl, inr, ℕ, ◌+◌, ◌<◌, Bool, List, ◌++◌, length, map, take, Option, Result, Ok, Err, IsErrAnd, refl, sym, ap, subst, ◌∙◌, arith, length-append}
+use Rattle.std.proofs.Common.{◌≡◌, inl, inr, ℕ, ◌+◌, Bool, List, ◌++◌, length, map, take, Option, Result, Ok, Err, IsErrAnd, refl, sym, ap, subst, ◌∙◌, arith, length-append}
 use Rattle.std.specs.Io.KnownBytes.{Appends}
 use Rattle.std.proofs.Math.Seq.{take-append-add}
 use Rattle.shb_io.specs.Devices.{AppendsPrefix, CountsFailure}
@@ -16,7 +16,7 @@ use Rattle.shb_write.specs.declared.errors.WriteError.TheVariants.{Sink, Memory}
 use Rattle.shb_write.specs.Blocks.{blocks_of}
 use Rattle.shb_write.specs.Written.{AppendsFront, CutsBlocksOn, CutsReportOn, HasReported, These, WritesReport, write_failed}
 use Rattle.shb_write.proofs.Blocks.{are_blocks, front_lacks}
-use Rattle.shb_write.proofs.Counting.{pairs_back}
+use Rattle.shb_report.proofs.LeadingLemmas.{pairs_back}
 
 -- the head and the places
 pub front_is : (trace : TraceData) (races : List (ℕ × ℕ)) (count : ℕ) (places : List PlaceCount) → count ≡ length races → places ≡ counts_in (places_of_pairs trace (map pair_of races))
@@ -85,13 +85,3 @@ module _ (ws : Bool) (trace : TraceData) (races : List (ℕ × ℕ)) where
         by : (error : WriteError) → CountsFailure {T = T} write_failed (failures old) (failures new) (Err error) → HasReported {T = T} (These races) ws trace taken failures old new (Err error)
         by Sink counted = record { report = tt; cut = report_cut _ _ (AppendsPrefix-after _ _ _ _ _ before less); memory = tt; counted = counted }
         by (Memory refused) counted = record { report = tt; cut = tt; memory = inr (blocks_cut _ _ _ before less); counted = counted }
-
--- the same of another answer with that error
-pub reported_error : {K T : Type 0} (U : Type 0) (Lists : TraceData → List (ℕ × ℕ) → Type 0) (ws : Bool) (trace : TraceData) (taken : K → Option (List ℕ)) (failures : K → ℕ) (old new : K) (error : WriteError) (r : Result T WriteError) → IsErrAnd r (λ e. e ≡ error)
-    → HasReported {T = U} Lists ws trace taken failures old new (Err error) → HasReported Lists ws trace taken failures old new r
-reported_error U Lists ws trace taken failures old new error (Ok x) is has = absurd is
-reported_error {K} {T} U Lists ws trace taken failures old new error (Err e) is has = subst (λ (e : WriteError). HasReported {T = T} Lists ws trace taken failures old new (Err e)) (sym is) (by error has)
-  where
-    by : (error : WriteError) → HasReported {T = U} Lists ws trace taken failures old new (Err error) → HasReported {T = T} Lists ws trace taken failures old new (Err error)
-    by Sink has = record { report = tt; cut = has.cut; memory = tt; counted = has.counted }
-    by (Memory refused) has = record { report = tt; cut = tt; memory = has.memory; counted = has.counted }

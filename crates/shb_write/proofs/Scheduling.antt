@@ -1,5 +1,5 @@
 -- Blocks that are written as their schedules come.
-use Rattle.std.proofs.Common.{◌≡◌, ℕ, zero, suc, ◌+◌, ◌-◌, ◌^◌, ◌<◌, ◌≤◌, List, [], ◌∷◌, ◌++◌, length, map, take, drop, get_or, All, Option, Some, true, refl, sym, ap, subst, ◌∙◌, arith}
+use Rattle.std.proofs.Common.{◌≡◌, ℕ, zero, suc, ◌+◌, ◌<◌, ◌≤◌, List, [], ◌∷◌, ◌++◌, length, map, take, drop, get_or, All, Option, true, refl, sym, ap, subst, ◌∙◌, arith}
 use Rattle.std.proofs.lemmas.List.{map-append, map-id, map_more, map_push, take_all, take-append-drop}
 use Rattle.std.specs.Io.KnownBytes.{Appends}
 use Rattle.shb_fan.specs.Values.{values_of}
@@ -64,9 +64,6 @@ module _ {K : Type 0} (taken : K → Option (List ℕ)) (failures : K → ℕ) (
   -- the next race is one of those
   pub next_there : MaySchedule failures start given → before.writer.written < length before.races.now
   next_there may = omega (arith, may.room, many, ap length has.same_races)
-
-  pub next_countable : MaySchedule failures start given → failures before.writer.sink.now < 2 ^ 64 - 1
-  next_countable may = omega (arith, may.countable, has.written.counted)
 
   pub next_in_range : MaySchedule failures start given → IsPairOf before.writer.trace.now (get_or before.races.now before.writer.written none)
   next_in_range may =

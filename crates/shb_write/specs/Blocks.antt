@@ -39,10 +39,6 @@ abbrev pub WritesBlocks : {T E : Type 0} → Bool → TraceData → List (ℕ ×
 WritesBlocks with_schedules trace races old new r =
     MatchResult r (λ _. Appends old new (blocks_of with_schedules trace races)) (λ _. AppendsFront old new (blocks_of with_schedules trace races))
 
--- how often the sink failed, after an error
-abbrev pub failures_after : WriteError → ℕ → ℕ
-failures_after error n = if write_failed error then n + 1 else n
-
 module _ {K : Type 0} (taken : K → Option (List ℕ)) (failures : K → ℕ) where
   -- the blocks of these races were written, and nothing else changed
   pub record HasWritten (start : BlockWriter K) (races : List ShownRace) (end : BlockWriter K) : Type 0 where
@@ -56,4 +52,4 @@ module _ {K : Type 0} (taken : K → Option (List ℕ)) (failures : K → ℕ) w
   pub record HasStopped (start : BlockWriter K) (races : List ShownRace) (error : WriteError) (end : BlockWriter K) : Type 0 where
     pub same_sink : end.sink.ghost_name ≡ start.sink.ghost_name
     pub front : AppendsFront (taken start.sink.now) (taken end.sink.now) (blocks_from start.trace.now (start.written + 1) races)
-    pub counted : failures end.sink.now ≡ failures_after error (failures start.sink.now)
+    pub counted : failures end.sink.now ≡ (if write_failed error then failures start.sink.now + 1 else failures start.sink.now)

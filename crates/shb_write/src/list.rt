@@ -1,5 +1,5 @@
 //! The races that a search finds, counted, and listed without schedules.
-ghost use Rattle.std.specs.Prelude.{◌≡◌, ◌-◌, ◌^◌, ◌<◌, All, IfOk, None, false, length, map};
+ghost use Rattle.std.specs.Prelude.{◌≡◌, ◌-◌, ◌^◌, ◌<◌, All, IfOk, false, length, map};
 ghost use Rattle.shb_io.specs.Devices.{CountsFailure};
 ghost use Rattle.shb_lines.specs.events.Race.{ends};
 ghost use Rattle.shb_report.specs.Places.{IsPairOf};
@@ -19,7 +19,7 @@ use shb_fan::{Gate, StreamError, stream};
 use shb_io::{NoMemory, Sink};
 use shb_lines::{Pair, Trace};
 use shb_pairs::RangeJob;
-use shb_report::{Places, places_of};
+use shb_report::places_of;
 use std::alloc::Global;
 use std::random::RandomSource;
 use std::sync::Wait;
@@ -43,20 +43,6 @@ fn counted_of_kept<R: RandomSource>(
     })
 }
 
-/// What is counted of races that were not kept.
-fn counted_without(races: u64, places: Places) -> Counted
-    ensures races { result.races ≡ races }
-    ensures few { result.races < 2 ^ 64 }
-    ensures places { result.places ≡ places }
-    ensures kept { result.kept ≡ None }
-{
-    Counted {
-        races,
-        places,
-        kept: None,
-    }
-}
-
 /// Counts the races that a search finds, and those of each place, and keeps none.
 fn count_many<R: RandomSource, O: Order>(
     rt: &R,
@@ -68,7 +54,11 @@ fn count_many<R: RandomSource, O: Order>(
     ensures { IfOk result (IsCountOf trace.now (races_found job.now)) }
 {
     let RaceCount { races, places } = counted_races(rt, alloc, trace, job)?;
-    Ok(counted_without(races, places))
+    Ok(Counted {
+        races,
+        places,
+        kept: None,
+    })
 }
 
 /// Counts the races that a search finds, and keeps them where there are not more of them than events. Where

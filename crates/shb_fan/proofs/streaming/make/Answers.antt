@@ -1,4 +1,4 @@
-use Rattle.std.proofs.Common.{◌∷◌, ◌++◌, [], ℕ, List, ap, sym, ◌∙◌, rules}
+use Rattle.std.proofs.Common.{◌∷◌, ◌++◌, [], ℕ, List, ap, ◌∙◌, rules}
 use Rattle.shb_fan.specs.declared.crew.Worker.{Worker}
 use Rattle.shb_fan.proofs.Accounts.{placed_at, made_at}
 use Rattle.shb_fan.proofs.streaming.make.Goals as goal
@@ -22,9 +22,3 @@ returns-clause-made g c = λ _.
       (claim.pass.2 ∙ can.1.0, (claim.won (search rules)).1 ∙ can.1.1),
       made_at c.args.worker.now new c.args.k can.3 claim.pass.1 (place.placed ∙ ap (λ (l : List ℕ). l ++ c.args.k ∷ []) claim.placed),
     )
-
-pub place-requires-clause-value : goal.place-requires-clause-value
-place-requires-clause-value g c = c.in-Ok.ensures ∙ ap (λ (j : g.row.J.Denot). g.J.Job.value j c.args.k) (sym c.requires.ready.0.0.0.ring)
-
-pub returns-in-Err-clause-stopped : goal.returns-in-Err-clause-stopped
-returns-in-Err-clause-stopped g c = search rules

@@ -1,10 +1,7 @@
-use Rattle.std.proofs.Common.{◌<◌, [], ◌∷◌, ◌++◌, refl, arith, rules}
+use Rattle.std.proofs.Common.{◌<◌, [], ◌∷◌, ◌++◌, arith}
 use Rattle.shb_fan.proofs.Accounts.{lifted_more}
 use Rattle.shb_fan.proofs.Streams.{first-long, first-more}
 use Rattle.shb_fan.proofs.streaming.take_all.Goals as goal
-
-pub loop-k-init : goal.loop-k-init
-loop-k-init g c = record { ready = c.requires.ready; taken = ([], refl, g.met.K.Taker.nothing _); lifted = λ k lt. absurd (omega (arith, lt)) }
 
 pub take-requires : goal.take-requires
 take-requires g c =
@@ -31,11 +28,3 @@ returns-in-Err-clause-ended g c =
     let inside : c.loop-k.k < g.J.Job.count c.args.shared.now.gated.job.now = omega (arith, c.loop-k-test.true, c.requires.ready.0.0.0.0.pieces) in
     let may = c.requires.may_take _ t.0 c.in-Some.out inside t.1 got.0 in
     (c.loop-k.k, inside, (t.0, c.in-Some.out, t.1, got.0, c.in-Err.ensures.refused _ t.0 (first-long _ _ _ _ t.1) t.2 may))
-
-pub returns-in_default-clause-ended : goal.returns-in_default-clause-ended
-returns-in_default-clause-ended g c =
-    let inside : c.loop-k.k < g.J.Job.count c.args.shared.now.gated.job.now = omega (arith, c.loop-k-test.true, c.requires.ready.0.0.0.0.pieces) in
-    (c.loop-k.k, omega (arith, inside), c.loop-k.invariant.taken)
-
-pub returns-in-Err-clause-stopped : goal.returns-in-Err-clause-stopped
-returns-in-Err-clause-stopped g c = search rules

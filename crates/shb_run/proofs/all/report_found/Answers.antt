@@ -5,7 +5,7 @@ use Rattle.shb_clocks.specs.Open.{OpenTrace}
 use Rattle.shb_pairs.specs.Open.{AreOpen}
 use Rattle.shb_write.specs.Listed.{races_found}
 use Rattle.shb_run.specs.declared.settings.Choice.TheVariants as choices
-use Rattle.shb_run.proofs.Endings.{summed, summed_error, unsummed}
+use Rattle.shb_run.proofs.Endings.{summed, summed_error}
 use Rattle.shb_run.proofs.Lists.{found_asked, found_listed, found_races}
 use Rattle.shb_run.proofs.all.report_found.Goals as goal
 
@@ -46,9 +46,3 @@ returns g c =
     (subst (λ (a : OpenTrace). AreOpen a.trace a.flags) is c.args.screened.now.settled) in
     let lists = subst (λ e. IsRaceList e (races_found c.new-search.result.job.now)) trace.of_trace listed in
     summed choices.All _ trace.trace.now (races_found c.new-search.result.job.now) lists g.K.Sink.taken g.K.Sink.failure_count _ _ ℕ _ _ _ c.summary_of.ensures.summary c.summary_of.ensures.fits c.in_ok-races.ensures.count (rw c.new-search.ensures.ordered at c.in_ok-races.ensures.written)
-
-pub returns-in_err-accesses : goal.returns-in_err-accesses
-returns-in_err-accesses g c = unsummed choices.All _ _ g.K.Sink.taken g.K.Sink.failure_count _ _ c.from_residual.result c.from_residual.ensures.1
-
-pub returns-in_err-pieces : goal.returns-in_err-pieces
-returns-in_err-pieces g c = unsummed choices.All _ _ g.K.Sink.taken g.K.Sink.failure_count _ _ c.from_residual-in_err-pieces.result c.from_residual-in_err-pieces.ensures.1

@@ -1,8 +1,8 @@
-use Rattle.std.proofs.Common.{Err, Ok, false, map, refl, sym}
+use Rattle.std.proofs.Common.{Err, false, map, refl, sym}
 use Rattle.std.proofs.lemmas.List.{length-map}
 use Rattle.shb_lines.specs.events.Race.{ends}
 use Rattle.shb_run.specs.declared.settings.Choice.TheVariants as choices
-use Rattle.shb_run.proofs.Endings.{summed, summed_error, unsummed}
+use Rattle.shb_run.proofs.Endings.{summed, summed_error}
 use Rattle.shb_run.proofs.Reports.{races_listed}
 use Rattle.shb_write.specs.declared.errors.WriteError.TheVariants as writing
 use Rattle.shb_write.proofs.Counting.{pairs_in_range}
@@ -13,12 +13,6 @@ pub write_list-requires-clause-in_range : goal.write_list-requires-clause-in_ran
 write_list-requires-clause-in_range g c =
     let trace = c.args.trace.now in
     pairs_in_range trace.trace.now trace.events.now c.args.races.now trace.of_trace (races_listed choices.Leading trace.trace.now trace.events.now c.args.races.now trace.of_trace c.requires.listed)
-
-pub write_list-requires-clause-places : goal.write_list-requires-clause-places
-write_list-requires-clause-places g c = c.in_ok-places.ensures c.args.trace.now.trace.now c.requires.listed
-
-pub returns-in_err-places : goal.returns-in_err-places
-returns-in_err-places g c = unsummed choices.Leading _ _ g.K.Sink.taken g.K.Sink.failure_count _ _ c.from_residual.result c.from_residual.ensures.1
 
 pub returns-in_err-write_list : goal.returns-in_err-write_list
 returns-in_err-write_list g c =

@@ -1,14 +1,6 @@
 -- Each exit has its outcome.
-use Rattle.shb_lines.specs.declared.read.Parsed.{Parsed}
-use Rattle.shb_run.proofs.Outcomes.{of_failed_sink, of_no_memory, of_refused, of_report, of_unread}
+use Rattle.shb_run.proofs.Outcomes.{of_failed_sink, of_no_memory, of_refused, of_report}
 use Rattle.shb_run.proofs.pipeline.run_task.Goals as goal
-
-pub returns-in_err-parsed : goal.returns-in_err-parsed
-returns-in_err-parsed g c =
-    let error = c.in_err-parsed.ensures in
-    of_unread c.args.task.choice c.args.task.settings.schedules g.S.Source.remaining g.S.Source.given_count g.S.Source.failure_count c.args.source.now c.read_trace.new.source
-    g.K.Sink.taken g.K.Sink.failure_count c.args.sink.now error.taken error.given
-    Parsed _ c.from_residual.result c.from_residual.ensures.1 error.counted
 
 pub returns-in_err-trace : goal.returns-in_err-trace
 returns-in_err-trace g c =

@@ -1,11 +1,8 @@
-use Rattle.std.proofs.Common.{rules, ◌∙◌, ◌+◌, ◌++◌, ◌∷◌, [], arith, ap, false, map, flat_map, length, length-append, sym, Ok, Err, ℕ, List, subst}
-use Rattle.std.proofs.lemmas.List.{map-append}
-use Rattle.shb_io.specs.Devices.{CountsFailure}
+use Rattle.std.proofs.Common.{rules, ◌+◌, ◌++◌, ◌∷◌, [], arith, ap, false, flat_map, length, length-append, sym, Ok, Err}
 use Rattle.shb_pairs.specs.Pieces.{pieces_in}
 use Rattle.shb_pairs.specs.Races.{joined, races_at}
-use Rattle.shb_write.specs.Blocks.{WritesBlocks, alone, blocks_of}
+use Rattle.shb_write.specs.Blocks.{WritesBlocks}
 use Rattle.shb_write.specs.Listed.{IsRaceOf, races_found}
-use Rattle.shb_write.specs.Written.{write_failed}
 use Rattle.shb_write.specs.declared.errors.WriteError.{WriteError}
 use Rattle.shb_write.specs.declared.errors.WriteError.TheVariants as errors
 use Rattle.shb_write.proofs.Blocks.{found_front, left_after, whole_front}
@@ -48,9 +45,3 @@ returns-in-Err-Taker-clause-blocks g c =
     left_after (λ s. WritesBlocks {T = Unit {0}} {E = WriteError} false c.args.trace.now (races_found c.args.search.now.job.now) (g.K.Sink.taken c.args.sink.now) (g.K.Sink.taken s) (Err c.in-Err-Taker.error)) _ c.stream.new.taker.writer.sink.now
     (found_front c.args.trace.now (races_found c.args.search.now.job.now) (flat_map joined (ended.2.0 ++ ended.2.1 ∷ [])) stands.0 _ _ stands.1 ended.2.4.front)
     (search rules)
-
-pub returns-in-Err-Taker-clause-counted : goal.returns-in-Err-Taker-clause-counted
-returns-in-Err-Taker-clause-counted g c =
-    let ended = rw c.in-Err-Taker.field-0-is at c.in-Err-Taker.ensures.ended in
-    let same = ended.2.4.same_sink in
-    left_after (λ s. CountsFailure {T = Unit {0}} write_failed (g.K.Sink.failure_count c.args.sink.now) (g.K.Sink.failure_count s) (Err c.in-Err-Taker.error)) _ c.stream.new.taker.writer.sink.now ended.2.4.counted (search rules)

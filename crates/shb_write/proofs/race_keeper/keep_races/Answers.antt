@@ -10,6 +10,3 @@ pub returns-in-Ok-clause-kept : goal.returns-in-Ok-clause-kept
 returns-in-Ok-clause-kept g c =
     let ended = c.in-Ok.ensures.ended in
     ended.2.0 ∙ ap (λ (before : List Pair). map ends before ++ flat_map joined ended.0) c.new.ensures.items ∙ pieces_came _ ended.0 ended.1
-
-pub returns-in-Err-Taker-clause-all : goal.returns-in-Err-Taker-clause-all
-returns-in-Err-Taker-clause-all g c none = let ended = rw c.in-Err-Taker.field-0-is at c.in-Err-Taker.ensures.ended in ended.2.4 none

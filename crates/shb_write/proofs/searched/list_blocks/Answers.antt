@@ -1,4 +1,4 @@
-use Rattle.std.proofs.Common.{List, ℕ, All, ◌∙◌, ap, arith, false, length, map, subst, sym}
+use Rattle.std.proofs.Common.{All, ◌∙◌, ap, map, subst, sym}
 use Rattle.shb_lines.specs.events.Race.{ends}
 use Rattle.shb_write.specs.Listed.{IsRaceOf, races_found}
 use Rattle.shb_write.proofs.Counting.{kept_there}
@@ -9,6 +9,3 @@ pub write_listed-requires-clause-in_range : goal.write_listed-requires-clause-in
 write_listed-requires-clause-in_range g c =
     let there = ap (map ends) c.deref.ensures.value ∙ kept_there _ c.in-Some.races (races_found c.args.search.now.job.now) c.in-Some.is c.requires.found.kept_are in
     pairs_of_trace c.args.trace.now c.deref.result.now (subst (All (IsRaceOf c.args.trace.now)) (sym there) c.requires.races)
-
-pub write_found-requires-clause-room : goal.write_found-requires-clause-room
-write_found-requires-clause-room g c κs within = c.requires.found.few

@@ -1,8 +1,8 @@
-use Rattle.std.proofs.Common.{◌+◌, arith, false, refl, sym}
+use Rattle.std.proofs.Common.{arith, false, sym}
 use Rattle.shb_io.proofs.Growth.{Appends-trans, AppendsPrefix-after, AppendsPrefix-front}
 use Rattle.shb_write.specs.Listed.{races_found}
 use Rattle.shb_write.proofs.Counting.{of_trace_found}
-use Rattle.shb_write.proofs.Reports.{report_failed, report_stopped, reported, unreported}
+use Rattle.shb_write.proofs.Reports.{report_failed, report_stopped, reported}
 use Rattle.shb_write.proofs.searched.list_search.Goals as goal
 
 pub count_races-requires-after_bounds : goal.count_races-requires-after_bounds
@@ -14,9 +14,6 @@ pub list_blocks-requires-clause-races : goal.list_blocks-requires-clause-races
 list_blocks-requires-clause-races g c κs within =
     let trace = c.args.search.now.ordered.now.disciplined.now in
     of_trace_found trace.trace.now trace.events.now (races_found c.args.search.now.job.now) trace.of_trace c.requires.races
-
-pub returns-in_err-counted-clause-written : goal.returns-in_err-counted-clause-written
-returns-in_err-counted-clause-written g c = unreported false _ _ g.K.Sink.taken g.K.Sink.failure_count _ _ c.from_residual.result _ c.from_residual.ensures.1 refl
 
 pub returns-in_err-write_front-clause-written : goal.returns-in_err-write_front-clause-written
 returns-in_err-write_front-clause-written g c =
@@ -48,7 +45,3 @@ returns-clause-written g c =
     reported false _ races g.K.Sink.taken g.K.Sink.failure_count _ _ _
     (Appends-trans _ _ _ _ _ (c.in_ok-write_front.ensures.written races found.count found.places_are) (Appends-trans _ _ _ _ _ c.in_ok-list_blocks.ensures.blocks c.in_ok-tail.ensures.written))
     (omega (arith, c.in_ok-write_front.ensures.counted, c.in_ok-list_blocks.ensures.counted, c.in_ok-tail.ensures.counted))
-
--- An edit that makes this false is refused at once.
-pub returns-clause-count : goal.returns-clause-count
-returns-clause-count g c = c.in_ok-counted.ensures.count

@@ -1,18 +1,15 @@
-use Rattle.std.proofs.Common.{◌+◌, arith, map, refl, sym, true}
+use Rattle.std.proofs.Common.{arith, map, sym, true}
 use Rattle.std.proofs.lemmas.List.{length-map}
 use Rattle.shb_io.proofs.Growth.{Appends-trans, AppendsPrefix-after, AppendsPrefix-front}
 use Rattle.shb_lines.specs.events.Race.{ends}
 use Rattle.shb_write.proofs.Counting.{pairs_in_range}
-use Rattle.shb_write.proofs.Reports.{places_of_ends, report_failed, report_stopped, reported, unreported}
+use Rattle.shb_write.proofs.Reports.{places_of_ends, report_failed, report_stopped, reported}
 use Rattle.shb_write.proofs.write.write_report.Goals as goal
 
 pub places_of-requires : goal.places_of-requires
 places_of-requires g c =
     let trace = c.args.ordered.now.disciplined.now in
     pairs_in_range trace.trace.now trace.events.now c.args.races.now trace.of_trace c.requires.races
-
-pub returns-in_err-places : goal.returns-in_err-places
-returns-in_err-places g c = unreported true _ _ g.K.Sink.taken g.K.Sink.failure_count _ _ c.from_residual.result _ c.from_residual.ensures.1 refl
 
 pub returns-in_err-write_front : goal.returns-in_err-write_front
 returns-in_err-write_front g c =

@@ -1,12 +1,9 @@
-use Rattle.std.proofs.Common.{rules, ◌≡◌, ◌+◌, ◌∙◌, ◌++◌, ◌∷◌, [], Ok, Err, List, ap, arith, length, map, refl, subst, sym, true}
+use Rattle.std.proofs.Common.{rules, ◌+◌, ◌∙◌, ◌++◌, ◌∷◌, [], Ok, Err, ap, arith, length, map, true}
 use Rattle.std.proofs.lemmas.List.{length-map}
 use Rattle.shb_fan.proofs.Values.{length-values}
-use Rattle.shb_io.specs.Devices.{CountsFailure}
-use Rattle.shb_lines.specs.declared.event.Pair.{Pair}
 use Rattle.shb_lines.specs.events.Race.{ends}
 use Rattle.shb_witness.specs.Schedules.{Asked, schedule_at}
-use Rattle.shb_write.specs.Blocks.{WritesBlocks, scheduled}
-use Rattle.shb_write.specs.Written.{write_failed}
+use Rattle.shb_write.specs.Blocks.{WritesBlocks}
 use Rattle.shb_write.specs.declared.errors.WriteError.{WriteError}
 use Rattle.shb_write.specs.declared.errors.WriteError.TheVariants as errors
 use Rattle.shb_write.proofs.Blocks.{left_after, whole_front}
@@ -46,9 +43,3 @@ returns-in-Err-Taker-clause-blocks g c =
     let same = ended.2.4.same_sink in
     left_after (λ s. WritesBlocks {T = Unit {0}} {E = WriteError} true trace.trace.now (map ends c.args.races.now) (g.K.Sink.taken c.args.sink.now) (g.K.Sink.taken s) (Err c.in-Err-Taker.error)) _ c.stream.new.taker.writer.sink.now
     (came_front trace.trace.now trace.events.now c.args.races.now c.with_checkpoints-job.result trace.of_trace (c.with_checkpoints-job.ensures ∙ c.new.ensures) (ended.0 + 1) (ended.2.0 ++ ended.2.1 ∷ []) _ _ (omega (arith, ended.1)) (values_next (λ s. s) _ ended.0 ended.2.0 ended.2.1 ended.2.2 ended.2.3) ended.2.4.front) (search rules)
-
-pub returns-in-Err-Taker-clause-counted : goal.returns-in-Err-Taker-clause-counted
-returns-in-Err-Taker-clause-counted g c =
-    let ended = rw c.in-Err-Taker.field-0-is at c.in-Err-Taker.ensures.ended in
-    let same = ended.2.4.same_sink in
-    left_after (λ s. CountsFailure {T = Unit {0}} write_failed (g.K.Sink.failure_count c.args.sink.now) (g.K.Sink.failure_count s) (Err c.in-Err-Taker.error)) _ c.stream.new.taker.writer.sink.now ended.2.4.counted (search rules)

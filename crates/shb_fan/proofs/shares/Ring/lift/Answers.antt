@@ -25,6 +25,3 @@ returns-clause-some g c = let won = c.compare_exchange.ensures.2.0 c.if-compare_
       ap (λ (k : ℕ). times k c.args.seat.now.place.me.0.lifted) (sym piece) ∙ won.3,
       ap (λ m. m.0.lifted) c.store.ensures.2 ∙ (ap (λ m. m.0.lifted) c.exchange-out.ensures.3 ∙ (ap (λ m. m.0.lifted) won.1 ∙ ap (λ (k : ℕ). c.args.seat.now.place.me.0.lifted ++ k ∷ []) piece)),
     )
-
-pub returns-clause-none : goal.returns-clause-none
-returns-clause-none g c = search rules

@@ -1,10 +1,7 @@
 use Rattle.std.proofs.Common.{rules, arith, ap, sym, ◌∙◌, Some}
 use Rattle.shb_fan.proofs.Rings.{places}
-use Rattle.shb_fan.proofs.Values.{headed, values-at}
+use Rattle.shb_fan.proofs.Values.{values-at}
 use Rattle.shb_fan.proofs.shares.Ring.place.Goals as goal
-
-pub exchange-requires : goal.exchange-requires
-exchange-requires g c = let held = c.requires.seat.1.holding c.args.k c.requires.claimed in (c.requires.seat.1.same_table, (held.0, headed _ _ _ held.1))
 
 pub store-requires : goal.store-requires
 store-requires g c = (

@@ -2,25 +2,25 @@ use Rattle.std.proofs.Common.{◌≡◌, ℕ, ◌+◌, [], ◌∷◌, rules, ari
 use Rattle.atomic_table.specs.Table.{Me}
 use Rattle.shb_fan.specs.declared.ticket_table.PassView.{PassView}
 use Rattle.shb_fan.specs.declared.ticket_table.Plan.{Plan}
-use Rattle.shb_fan.specs.Numbers.{times, once_below}
-use Rattle.shb_fan.specs.Passes.{TicketSource, PassState, times_in, halted_in, seen_in, spent_in}
+use Rattle.shb_fan.specs.Numbers.{times, once_below, weight}
+use Rattle.shb_fan.specs.Passes.{TicketSource, PassState}
 use Rattle.shb_fan.proofs.Counts.{times-append}
 use Rattle.shb_fan.proofs.Keeps.{merges}
-use Rattle.shb_fan.proofs.Ends.{counted, first_counted, times-shown, halted-shown, seen-shown, spent-shown, rising-shown, all_rising, none_rising, Told, closes, ours_before, low, sum_nothing, each_once, stop_seen, stop_set, seen_set, all_drawn}
+use Rattle.shb_fan.proofs.Ends.{counted, first_counted, times-shown, halted-shown, seen-shown, spent-shown, rising-shown, all_rising, none_rising, Told, closes, ours_before, sum_nothing, each_once, stop_seen, stop_set, seen_set, all_drawn}
 use Rattle.shb_fan.proofs.MachineRuns.{machine_run}
 use Rattle.shb_fan.proofs.tickets.Tickets.close.Goals as goal
 
 pub loop-pass-init : goal.loop-pass-init
 loop-pass-init c = let longer = c.in-Some.ensures.items in let is = c.first.invariant in let shown = c.first.view_is in record {
-  table = search rules;
+  table = ap (λ (p : PassState). p.source.table) shown ∙ ap (λ (z : TicketSource). z.table) ((ours_before _ _ _ _ longer c.requires.ours).1 ∙ sym c.self.view_is);
   slots = is.slots;
   parts = search rules;
   ours = subst (λ (z : TicketSource). All (λ (p : PassState). p.source ≡ z) c.pop.new.self.items) (sym c.self.view_is) (ours_before _ _ _ _ longer c.requires.ours).0;
   rising = all_rising _ _ _ _ longer (rising-shown _ _ _ is shown) (λ h. h);
-  drawn = λ x. first_counted (times_in x) _ _ _ _ longer (times-shown _ _ _ is shown x);
-  halted = first_counted halted_in _ _ _ _ longer (halted-shown _ _ _ is shown);
-  seen = first_counted seen_in _ _ _ _ longer (seen-shown _ _ _ is shown);
-  spent = first_counted spent_in _ _ _ _ longer (spent-shown _ _ _ is shown);
+  drawn = λ x. first_counted (λ (q : PassState). times x q.drawn) _ _ _ _ longer (times-shown _ _ _ is shown x);
+  halted = first_counted (λ (q : PassState). weight q.halted) _ _ _ _ longer (halted-shown _ _ _ is shown);
+  seen = first_counted (λ (q : PassState). weight q.seen) _ _ _ _ longer (seen-shown _ _ _ is shown);
+  spent = first_counted (λ (q : PassState). weight q.spent) _ _ _ _ longer (spent-shown _ _ _ is shown);
 }
 
 pub join_seat-requires : goal.join_seat-requires
@@ -42,10 +42,10 @@ loop-pass-preserved c =
       ours = (ours_before _ _ _ _ longer i.ours).0;
       rising = all_rising _ _ _ _ longer (rising-shown _ _ _ is shown) i.rising;
       drawn = λ x. let e = ap (λ (m : Me (Unit {0}) PassView). times x m.0.drawn) j ∙ times-append x c.loop-pass.seat.me.0.drawn c.pass.inside.seat.me.0.drawn in
-          ap (λ (n : ℕ). n + sum_by (times_in x) c.pop-in-loop-pass.new.self.items) e ∙ counted (times_in x) _ _ _ _ _ _ longer (i.drawn x) (times-shown _ _ _ is shown x);
-      halted = ap (λ (m : Me (Unit {0}) PassView). m.0.halted + sum_by halted_in c.pop-in-loop-pass.new.self.items) j ∙ counted halted_in _ _ _ _ _ _ longer i.halted (halted-shown _ _ _ is shown);
-      seen = ap (λ (m : Me (Unit {0}) PassView). m.0.seen + sum_by seen_in c.pop-in-loop-pass.new.self.items) j ∙ counted seen_in _ _ _ _ _ _ longer i.seen (seen-shown _ _ _ is shown);
-      spent = ap (λ (m : Me (Unit {0}) PassView). m.0.spent + sum_by spent_in c.pop-in-loop-pass.new.self.items) j ∙ counted spent_in _ _ _ _ _ _ longer i.spent (spent-shown _ _ _ is shown);
+          ap (λ (n : ℕ). n + sum_by (λ (q : PassState). times x q.drawn) c.pop-in-loop-pass.new.self.items) e ∙ counted (λ (q : PassState). times x q.drawn) _ _ _ _ _ _ longer (i.drawn x) (times-shown _ _ _ is shown x);
+      halted = ap (λ (m : Me (Unit {0}) PassView). m.0.halted + sum_by (λ (q : PassState). weight q.halted) c.pop-in-loop-pass.new.self.items) j ∙ counted (λ (q : PassState). weight q.halted) _ _ _ _ _ _ longer i.halted (halted-shown _ _ _ is shown);
+      seen = ap (λ (m : Me (Unit {0}) PassView). m.0.seen + sum_by (λ (q : PassState). weight q.seen) c.pop-in-loop-pass.new.self.items) j ∙ counted (λ (q : PassState). weight q.seen) _ _ _ _ _ _ longer i.seen (seen-shown _ _ _ is shown);
+      spent = ap (λ (m : Me (Unit {0}) PassView). m.0.spent + sum_by (λ (q : PassState). weight q.spent) c.pop-in-loop-pass.new.self.items) j ∙ counted (λ (q : PassState). weight q.spent) _ _ _ _ _ _ longer i.spent (spent-shown _ _ _ is shown);
     }
 
 -- the loop has left no pass, so the seat's pass_view stands for all
@@ -61,23 +61,20 @@ told c = let e = left_none c in let p = c.loop-pass.invariant.parts in
 all_in : (c : goal.After-drop-passes) (f : PassState → ℕ) (n : ℕ) → n + sum_by f c.loop-pass.passes.items ≡ sum_by f c.args.passes.items → n ≡ sum_by f c.args.passes.items
 all_in c f n h = let z = sum_nothing f c.loop-pass.passes.items (left_none c) in omega arith
 
-pub returns-clause-few : goal.returns-clause-few
-returns-clause-few c = low _ _ _ _ c.min.ensures (ap (λ (z : TicketSource). z.limit) c.self.view_is)
-
 pub returns-clause-rising : goal.returns-clause-rising
 returns-clause-rising c = none_rising _ _ (left_none c) c.loop-pass.invariant.rising
 
 pub returns-clause-each_once : goal.returns-clause-each_once
-returns-clause-each_once c = λ x. each_once _ _ _ _ c.args.passes.items (told c) x (all_in c (times_in x) _ (c.loop-pass.invariant.drawn x)) ∙ ap (once_below x) (sym c.min.ensures)
+returns-clause-each_once c = λ x. each_once _ _ _ _ c.args.passes.items (told c) x (all_in c (λ (q : PassState). times x q.drawn) _ (c.loop-pass.invariant.drawn x)) ∙ ap (once_below x) (sym c.min.ensures)
 
 pub returns-clause-stopped : goal.returns-clause-stopped
-returns-clause-stopped c = let e = all_in c halted_in _ c.loop-pass.invariant.halted in (stop_seen _ _ _ _ c.args.passes.items (told c) e, stop_set _ _ _ _ c.args.passes.items (told c) e)
+returns-clause-stopped c = let e = all_in c (λ (q : PassState). weight q.halted) _ c.loop-pass.invariant.halted in (stop_seen _ _ _ _ c.args.passes.items (told c) e, stop_set _ _ _ _ c.args.passes.items (told c) e)
 
 pub returns-clause-seen : goal.returns-clause-seen
-returns-clause-seen c = seen_set _ _ _ _ c.args.passes.items (told c) (all_in c seen_in _ c.loop-pass.invariant.seen)
+returns-clause-seen c = seen_set _ _ _ _ c.args.passes.items (told c) (all_in c (λ (q : PassState). weight q.seen) _ c.loop-pass.invariant.seen)
 
 pub returns-clause-ended : goal.returns-clause-ended
-returns-clause-ended c = λ unset some_spent. c.min.ensures ∙ (all_drawn _ _ _ _ c.args.passes.items (told c) (all_in c spent_in _ c.loop-pass.invariant.spent) unset some_spent ∙ ap (λ (z : TicketSource). z.limit) c.self.view_is)
+returns-clause-ended c = λ unset some_spent. c.min.ensures ∙ (all_drawn _ _ _ _ c.args.passes.items (told c) (all_in c (λ (q : PassState). weight q.spent) _ c.loop-pass.invariant.spent) unset some_spent ∙ ap (λ (z : TicketSource). z.limit) c.self.view_is)
 
 pub returns-clause-machine : goal.returns-clause-machine
 returns-clause-machine c =

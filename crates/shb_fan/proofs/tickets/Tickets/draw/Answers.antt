@@ -26,17 +26,3 @@ fetch_add-number-requires c =
           ∙ (ap (λ (z : TicketSource). z.limit) c.requires
           ∙ (sym (ap (λ (z : TicketSource). z.limit) c.self.view_is) ∙ sym (ap (λ (q : Plan). q.limit) c.self.invariant.2))))),
     )
-
-pub returns-then-number-self-clause-some : goal.returns-then-number-self-clause-some
-returns-then-number-self-clause-some c =
-    let limit = ap (λ (z : TicketSource). z.limit) c.self.view_is in (
-      omega (arith, c.if-number-self.true, limit),
-      search rules,
-      search rules,
-      c.if-pass.false,
-      search rules,
-      search rules,
-    )
-
-pub invariant_of-pass : goal.invariant_of-pass
-invariant_of-pass c = search rules

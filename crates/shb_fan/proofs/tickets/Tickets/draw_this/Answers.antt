@@ -5,9 +5,6 @@ use Rattle.shb_fan.proofs.Keeps.{draws_this}
 use Rattle.shb_fan.proofs.Seats.{drew_pass}
 use Rattle.shb_fan.proofs.tickets.Tickets.draw_this.Goals as goal
 
-pub overflow_add-number : goal.overflow_add-number
-overflow_add-number c = let small = c.requires.number.1 in omega (arith, small)
-
 pub compare_exchange-requires : goal.compare_exchange-requires
 compare_exchange-requires c =
     let shown = ap (λ (z : TicketSource). z.limit) c.self.view_is in

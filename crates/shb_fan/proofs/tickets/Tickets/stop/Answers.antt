@@ -4,9 +4,3 @@ use Rattle.shb_fan.proofs.tickets.Tickets.stop.Goals as goal
 
 pub store-requires : goal.store-requires
 store-requires c = (search rules, search rules, stops _ _ _ _ (let p = c.pass.invariant.one in omega arith))
-
-pub returns : goal.returns
-returns c = search rules
-
-pub invariant_of-pass : goal.invariant_of-pass
-invariant_of-pass c = search rules

@@ -1,4 +1,4 @@
-use Rattle.std.proofs.Common.{◌+◌, arith, refl}
+use Rattle.std.proofs.Common.{refl}
 use Rattle.shb_write.proofs.Blocks.{alone_more, alone_split, on_err, one_stopped, one_written, stopped_then, written_then}
 use Rattle.shb_write.proofs.block_writer.BlockWriter.list.Goals as goal
 

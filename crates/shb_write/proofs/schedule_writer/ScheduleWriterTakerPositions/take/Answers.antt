@@ -1,6 +1,6 @@
 use Rattle.std.proofs.Common.{rules, ◌∙◌, append-nil, sym}
 use Rattle.shb_write.proofs.Blocks.{stopped_then, written_then}
-use Rattle.shb_write.proofs.Scheduling.{next_countable, next_in_range, next_shown, next_there}
+use Rattle.shb_write.proofs.Scheduling.{next_in_range, next_shown, next_there}
 use Rattle.shb_write.proofs.schedule_writer.ScheduleWriterTakerPositions.take.Goals as goal
 
 pub bounds-self-self : goal.bounds-self-self
@@ -8,9 +8,6 @@ bounds-self-self g c = next_there g.K.Sink.taken g.K.Sink.failure_count c.requir
 
 pub offset_bounds-self-self : goal.offset_bounds-self-self
 offset_bounds-self-self g c = let there = next_there g.K.Sink.taken g.K.Sink.failure_count c.requires.0 c.args.self.now c.requires.1 c.requires.3 c.requires.4 in search rules
-
-pub schedule-requires-clause-countable : goal.schedule-requires-clause-countable
-schedule-requires-clause-countable g c = next_countable g.K.Sink.taken g.K.Sink.failure_count c.requires.0 c.args.self.now c.requires.1 c.requires.3 c.requires.4
 
 pub schedule-requires-clause-room : goal.schedule-requires-clause-room
 schedule-requires-clause-room g c = let there = next_there g.K.Sink.taken g.K.Sink.failure_count c.requires.0 c.args.self.now c.requires.1 c.requires.3 c.requires.4 in search rules
