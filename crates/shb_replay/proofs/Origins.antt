@@ -1,5 +1,6 @@
 -- What must stand before each event: its predecessor, the latest release of its lock, the latest write of its variable.
-use Rattle.std.proofs.Common.{◌≡◌, ℕ, ◌+◌, ◌<◌, ◌≤◌, ◌⊎◌, inl, inr, List, [], ◌∷◌, ◌++◌, Option, Some, None, length, get_or, arith, subst, ap, sym, ◌∙◌}
+use Rattle.std.proofs.lemmas.Grind.{common_steps}
+use Rattle.std.proofs.Common.{◌≡◌, ℕ, ◌+◌, ◌<◌, ◌≤◌, ◌⊎◌, inl, inr, List, [], ◌∷◌, ◌++◌, Option, Some, None, length, get_or, arith, subst, sym, ◌∙◌}
 use Rattle.std.proofs.Math.ListN.{set, get_or-append}
 use Rattle.std.proofs.lemmas.Bool.{cases_lt}
 use Rattle.std.proofs.lemmas.List.{get_or_push, get_or_read, length_push}
@@ -62,10 +63,7 @@ module _ (trace : List Event) (sizes : Sizes) (e : ℕ) (within : IsWithin trace
 
 -- what acquires and reads nothing needs nothing
 pub none_found : (trace : List Event) (e : ℕ) (op : Op) → op_at trace e ≡ Some op → ((l : ℕ) → op ≡ Acquire l → ⊥) → ((x : ℕ) → op ≡ Read x → ⊥) → IsOrigin trace e None
-none_found trace e op does no_acquire no_read = record {
-  releases = λ l acquires. absurd (op_other_at trace e op (Acquire l) does (no_acquire l) acquires);
-  writes = λ x reads. absurd (op_other_at trace e op (Read x) does (no_read x) reads);
-}
+none_found trace e op does no_acquire no_read = grind (arith, common_steps, op_other_at)
 
 -- one more entry of a table
 entries_more : (P : ℕ → Option ℕ → Type 0) (n : ℕ) (xs : List (Option ℕ)) (x : Option ℕ) → length xs ≡ n → P n x → ((e : ℕ) → e < n → P e (get_or xs e None)) → (e : ℕ) → e < n + 1 → (e < n) ⊎ (n ≤ e) → P e (get_or (xs ++ x ∷ []) e None)
@@ -78,19 +76,13 @@ entry_read : (P : Option ℕ → Type 0) (xs : List (Option ℕ)) (x : Option �
 entry_read P xs x e lt is known = subst P (sym (get_or_read xs e x lt is None)) known
 
 pub preds_more : (trace : List Event) (n : ℕ) (xs : List (Option ℕ)) (x : Option ℕ) → Exactly (λ p. IsPred trace p n) x → HasPreds trace n xs → HasPreds trace (n + 1) (xs ++ x ∷ [])
-preds_more trace n xs x is old = record {
-  as_long = length_push xs x ∙ ap (λ m. m + 1) old.as_long;
-  each = λ e lt. entries_more (λ k o. Exactly (λ p. IsPred trace p k) o) n xs x old.as_long is old.each e lt (cases_lt e n);
-}
+preds_more trace n xs x is old = grind (arith, common_steps, length_push, entries_more, cases_lt)
 
 pub pred_is : (trace : List Event) (n e : ℕ) (xs : List (Option ℕ)) (x : Option ℕ) → HasPreds trace n xs → e < n → x ≡ get_or xs e x → Exactly (λ p. IsPred trace p e) x
 pred_is trace n e xs x has lt is = entry_read (λ o. Exactly (λ p. IsPred trace p e) o) xs x e (let long = has.as_long in omega (arith, long, lt)) is (has.each e lt)
 
 pub origins_more : (trace : List Event) (n : ℕ) (xs : List (Option ℕ)) (x : Option ℕ) → IsOrigin trace n x → HasOrigins trace n xs → HasOrigins trace (n + 1) (xs ++ x ∷ [])
-origins_more trace n xs x is old = record {
-  as_long = length_push xs x ∙ ap (λ m. m + 1) old.as_long;
-  each = λ e lt. entries_more (IsOrigin trace) n xs x old.as_long is old.each e lt (cases_lt e n);
-}
+origins_more trace n xs x is old = grind (arith, common_steps, length_push, entries_more, cases_lt)
 
 pub origin_is : (trace : List Event) (n e : ℕ) (xs : List (Option ℕ)) (x : Option ℕ) → HasOrigins trace n xs → e < n → x ≡ get_or xs e x → IsOrigin trace e x
 origin_is trace n e xs x has lt is = entry_read (IsOrigin trace e) xs x e (let long = has.as_long in omega (arith, long, lt)) is (has.each e lt)
