@@ -1,11 +1,11 @@
 //! Judges a report against a trace.
 ghost use Rattle.std.specs.Prelude.{◌≡◌, ◌↔◌, ℕ, All, IfOk, IsTrue, length};
-ghost use Rattle.shb_judging.specs.Judging.{AreJudged, HasPlacesOf, IsVerdictOnJudged};
+ghost use Rattle.shb_judging.specs.Judging.{AreJudged, IsVerdictOnJudged};
 ghost use Rattle.shb_reading.specs.Parts.{IsPlaceIn, place_in_text};
 ghost use Rattle.shb_report.specs.Places.{IsPairOf, IsPlaceOf, shown_place, shown_places};
 ghost use Rattle.shb_report.specs.Report.{counts_of};
 ghost use Rattle.shb_judging.specs.declared.verdict.Verdict.TheVariants.{Good};
-ghost use Rattle.shb_judging.specs.Verdicts.{IsGoodReport, IsVerdict};
+ghost use Rattle.shb_judging.specs.Verdicts.{HasPlacesOf, IsGoodReport, IsVerdict};
 
 use crate::judged::{JudgedBlocks, judge_block, same_bytes, set_positions};
 use crate::verdict::Verdict;
@@ -95,11 +95,9 @@ pub(crate) fn verdict_on<R: RandomSource>(
     if !has_counts(trace, counts) {
         return Ok(Verdict::BadCounts);
     }
-    if let Some(bad) = judged.bad {
-        return Ok(Verdict::BadRace {
-            race: bad.race,
-            why: bad.why,
-        });
+    if let Some(why) = judged.bad {
+        let race = judged.pairs.len() as u64 + 1;
+        return Ok(Verdict::BadRace { race, why });
     }
     if !has_places_of(rt, alloc, trace, section, judged.pairs.as_slice())? {
         return Ok(Verdict::BadPlaces);

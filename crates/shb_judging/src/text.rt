@@ -60,14 +60,7 @@ fn judge_blocks(
     Ok(judged)
 }
 
-/// The verdict on the text of a report, and how many lines it has.
-#[derive(Clone, Copy)]
-struct JudgedText {
-    verdict: Verdict,
-    lines: u64,
-}
-
-/// Reads the text of a report to its end, and judges it. Of its places the first ones are kept, at most one
+/// Reads the text of a report to its end: the verdict on it, and how many lines it has. Of its places the first ones are kept, at most one
 /// more than there are races: since the races have at most as many places as they are, these tell whether the
 /// places are theirs.
 fn judge_text<R: RandomSource>(
@@ -75,10 +68,10 @@ fn judge_text<R: RandomSource>(
     alloc: Global,
     trace: &Disciplined<'_>,
     text: &[u8],
-) -> Result<JudgedText, ReadStop>
+) -> Result<(Verdict, u64), ReadStop>
     requires short { length text.now ≤ most_bytes }
-    ensures judged { IfOk result (λ judged. IsJudgedText trace.now.trace.now text.now judged.lines judged.verdict) }
-    ensures few { IfOk result (λ judged. judged.lines ≤ most_bytes) }
+    ensures judged { IfOk result (λ judged. IsJudgedText trace.now.trace.now text.now judged.1 judged.0) }
+    ensures few { IfOk result (λ judged. judged.1 ≤ most_bytes) }
     ensures bad { IfBad result (IsBadFrom (Version ∷ (End ∷ [])) 0 text.now) }
 {
     let links = links_of(alloc, &*trace)?;
@@ -91,10 +84,7 @@ fn judge_text<R: RandomSource>(
     read_tail(text, &mut at)?;
     let section = section_of(text, head.with_places, places.as_slice());
     let verdict = verdict_on(rt, alloc, trace.trace, head.counts, section, &judged)?;
-    Ok(JudgedText {
-        verdict,
-        lines: at.lines,
-    })
+    Ok((verdict, at.lines))
 }
 
 /// Why a text that is longer than a report may be is none.
@@ -109,7 +99,7 @@ fn stop_of_long<R: RandomSource>(
 {
     let (seen, _) = text.split_at(MOST_BYTES as usize);
     match judge_text(rt, alloc, trace, seen) {
-        Ok(judged) => ReadStop::BadLine(judged.lines + 1),
+        Ok((_, lines)) => ReadStop::BadLine(lines + 1),
         Err(stop) => stop,
     }
 }
@@ -127,8 +117,8 @@ fn verdict_of<R: RandomSource>(
     if text.len() as u64 > MOST_BYTES {
         return Err(stop_of_long(rt, alloc, trace, text));
     }
-    let judged = judge_text(rt, alloc, trace, text)?;
-    Ok(judged.verdict)
+    let (verdict, _) = judge_text(rt, alloc, trace, text)?;
+    Ok(verdict)
 }
 
 /// Reads a report of at most 1,073,741,824 bytes, of version 1 or version 2, and judges it against a
