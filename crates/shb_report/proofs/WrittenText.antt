@@ -7,16 +7,11 @@ use Rattle.std.proofs.lemmas.List.Elements.{All-head, All-tail}
 use Rattle.shb_lines.specs.text.TraceData.{TraceData}
 use Rattle.shb_lines.specs.events.Race.{IsRaceList}
 use Rattle.shb_lines.specs.events.Schedule.{IsPrintedSchedule}
-use Rattle.shb_report.specs.declared.counts.Counts.{Counts}
 use Rattle.shb_report.specs.Places.{counts_in, places_of_pairs, section_bytes, shown_places}
 use Rattle.shb_report.specs.Report.{AllRaces, HasSchedule, IsReport, IsReportOn, ShownRace, block_bytes, blocks_from, pair_of}
-use Rattle.shb_report.specs.Value.{block_lines, counts_line, lines_text, places_section, races_line, report_text}
+use Rattle.shb_report.specs.Value.{block_lines, lines_text, places_section, report_text}
 use Rattle.shb_report.specs.Written.{block_of, written_report}
 use Rattle.shb_report.proofs.LineLemmas.{lines_text-append}
-
--- the lines of the head and of the places
-abbrev head_lines : Counts → ℕ → List (List ℕ)
-head_lines counts races = codes "shb-report 2" ∷ (counts_line counts ∷ (races_line races ∷ []))
 
 abbrev section_lines : TraceData → List (ℕ × ℕ) → List (List ℕ)
 section_lines trace races = places_section (Some (shown_places trace (counts_in (places_of_pairs trace (map pair_of races)))))

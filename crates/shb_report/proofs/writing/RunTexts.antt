@@ -77,7 +77,3 @@ module _ (count : ℕ) (text starts : List ℕ) (first len from to : ℕ) (has :
 -- the text and the starts with one number more
 pub numbers-pushed : (count place : ℕ) (text starts new_text new_starts : List ℕ) → HasNumbers count text starts → new_text ≡ text ++ event_number count → new_starts ≡ starts ++ place ∷ [] → place ≡ length new_text → HasNumbers (count + 1) new_text new_starts
 numbers-pushed count place text starts new_text new_starts has more pushed there = grind (arith, common_steps, numbers-more)
-
--- no numbers yet
-pub numbers-none : (text starts : List ℕ) → text ≡ [] → starts ≡ 0 ∷ [] → HasNumbers 0 text starts
-numbers-none text starts empty one = grind (arith, common_steps)
