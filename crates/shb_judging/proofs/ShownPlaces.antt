@@ -34,12 +34,3 @@ module _ (trace : TraceData) (text : List ℕ) (entries : List PlaceEntry) (coun
   -- where all are, each is
   pub each_place : listed ≡ shown_places trace counts → place_in_text text (get_or entries q e) ≡ shown_place trace (get_or counts q d)
   each_place same = one_of_some _ _ (sym (at_mapped (place_in_text text) entries q e low) ∙ ap (λ (l : List Place). slice_get l q) (sym listed_is ∙ same) ∙ at_mapped (shown_place trace) counts q d within)
-
-pub good_pair : (trace : TraceData) (block : Block) (pair : Pair) → pair ≡ pair_in block → IsGoodBlock trace block → IsPairOf trace pair
-good_pair trace block pair is good =
-    let low = good.in_range in
-    let before = good.earlier in
-    let first = good.first_is in
-    let second = good.second_is in
-    let of_block : IsPairOf trace (pair_in block) = record { first = omega (arith, low, before, first); second = omega (arith, low, second) } in
-    subst (IsPairOf trace) (sym is) of_block
