@@ -74,19 +74,19 @@ fn judge_pair(trace: &Trace, listed: BlockLines<'_>) -> Result<Pair, RaceFault>
 /// fault.
 fn judge_lines(
     judge: &mut Judge<'_>,
-    trace: &Disciplined<'_>,
+    disciplined: &Disciplined<'_>,
     listed: BlockLines<'_>,
     positions: &[u32],
 ) -> Result<Pair, RaceFault>
-    requires { judge.old ≡ trace.now.trace.now.events }
+    requires { judge.old ≡ disciplined.now.trace.now.events }
     ensures kept { judge.new ≡ judge.old }
     ensures pair { IfOk result (λ pair. pair ≡ pair_in (block_with listed.entry [])) }
-    ensures good { (numbers : List ℕ) → positions.now ≡ first_positions trace.now.trace.now numbers
-        → OnOk result (IsGoodBlock trace.now.trace.now (block_with listed.entry numbers)) }
-    ensures fault { (numbers : List ℕ) → positions.now ≡ first_positions trace.now.trace.now numbers
-        → IfErr result (IsLowestFault trace.now.trace.now (block_with listed.entry numbers)) }
+    ensures good { (numbers : List ℕ) → positions.now ≡ first_positions disciplined.now.trace.now numbers
+        → OnOk result (IsGoodBlock disciplined.now.trace.now (block_with listed.entry numbers)) }
+    ensures fault { (numbers : List ℕ) → positions.now ≡ first_positions disciplined.now.trace.now numbers
+        → IfErr result (IsLowestFault disciplined.now.trace.now (block_with listed.entry numbers)) }
 {
-    let pair = judge_pair(trace.trace, listed)?;
+    let pair = judge_pair(disciplined.trace, listed)?;
     match judge.replay(positions, pair) {
         Some(broken) => Err(RaceFault::Schedule(broken)),
         None => Ok(pair),
@@ -111,20 +111,20 @@ impl JudgedBlocks {
 pub(crate) fn judge_block(
     judged: &mut JudgedBlocks,
     judge: &mut Judge<'_>,
-    trace: &Disciplined<'_>,
+    disciplined: &Disciplined<'_>,
     listed: BlockLines<'_>,
     positions: &[u32],
 ) -> Result<(), NoMemory>
-    requires { judge.old ≡ trace.now.trace.now.events }
+    requires { judge.old ≡ disciplined.now.trace.now.events }
     ensures kept { judge.new ≡ judge.old }
-    ensures judged { (blocks : List Block) (numbers : List ℕ) → positions.now ≡ first_positions trace.now.trace.now numbers
-        → AreJudged trace.now.trace.now blocks judged.old
-        → OnOk result (AreJudged trace.now.trace.now (blocks ++ block_with listed.entry numbers ∷ []) judged.new) }
+    ensures judged { (blocks : List Block) (numbers : List ℕ) → positions.now ≡ first_positions disciplined.now.trace.now numbers
+        → AreJudged disciplined.now.trace.now blocks judged.old
+        → OnOk result (AreJudged disciplined.now.trace.now (blocks ++ block_with listed.entry numbers ∷ []) judged.new) }
 {
     if judged.bad.is_some() {
         return Ok(());
     }
-    match judge_lines(judge, trace, listed, positions) {
+    match judge_lines(judge, disciplined, listed, positions) {
         Ok(pair) => judged.pairs.push(pair)?,
         Err(why) => judged.bad = Some(why),
     }

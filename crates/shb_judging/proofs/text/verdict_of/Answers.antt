@@ -10,7 +10,7 @@ pub returns-clause-verdict : goal.returns-clause-verdict
 returns-clause-verdict g c =
     let text = c.args.text.now in
     let short : length text ≤ most_bytes = omega (arith, c.if-text-gt-MOST_BYTES.false) in
-    verdict_for c.args.trace.now.trace.now text _ _ short c.in_ok-verdict.ensures.judged
+    verdict_for c.args.disciplined.now.trace.now text _ _ short c.in_ok-verdict.ensures.judged
 
 pub returns-in_err-verdict-clause-bad : goal.returns-in_err-verdict-clause-bad
 returns-in_err-verdict-clause-bad g c =
