@@ -1,16 +1,17 @@
--- From what the parts of a check answer to what the check says of the texts.
-use Rattle.std.proofs.Common.{◌≡◌, ◌+◌, ◌≤◌, inl, ℕ, List, [], None, Some, Option, Result, Ok, Err, IfSome, IfErr, IsErrAnd, refl, sym, subst, arith}
+-- From what the parts of a check answer to what the check says of the texts and leaves of its devices, exit by exit.
+use Rattle.std.proofs.Common.{◌≡◌, ◌⊎◌, ◌+◌, ◌≤◌, inl, inr, ℕ, List, [], None, Some, Option, Result, Ok, Err, IfSome, IfErr, IsErrAnd, drop, refl, sym, subst, arith}
 use Rattle.std.proofs.lemmas.Option.{IfSome_then}
-use Rattle.std.specs.Io.KnownBytes.{Consumes}
+use Rattle.std.specs.Io.KnownBytes.{Appends}
+use Rattle.shb_io.specs.Devices.{AppendsPrefix, CountsFailure}
 use Rattle.shb_io.proofs.Growth.{Appends-nil}
 use Rattle.shb_lines.specs.declared.event.Event.{Event}
 use Rattle.shb_lines.specs.declared.fault.Fault.{Fault}
 use Rattle.shb_lines.specs.declared.fault.LineFault.{LineFault}
 use Rattle.shb_lines.specs.events.Discipline.{IsDisciplined}
-use Rattle.shb_lines.specs.text.Taking.{ReadsText, TakesAtMost}
+use Rattle.shb_lines.specs.text.Taking.{ReadsText, TakesAtMost, read_failed}
 use Rattle.shb_lines.specs.text.Text.{lines_of}
 use Rattle.shb_lines.specs.text.TraceData.{IsReadingOf, IsTraceOf, TraceData}
-use Rattle.shb_lines.proofs.text.TakingLemmas.{reads_then}
+use Rattle.shb_lines.proofs.text.TakingLemmas.{reads_left, reads_then, reads_told}
 use Rattle.shb_discipline.specs.FirstFault.{IsFirstFault, HasNoFault}
 use Rattle.shb_discipline.specs.declared.checking.CheckError.{CheckError}
 use Rattle.shb_discipline.specs.declared.checking.CheckError.TheVariants as checking
@@ -20,13 +21,14 @@ use Rattle.shb_check.specs.declared.errors.RunError.{RunError}
 use Rattle.shb_check.specs.declared.errors.RunError.TheVariants.{Trace, Source, Sink, Memory}
 use Rattle.shb_lines.specs.declared.read.ReadError.{ReadError}
 use Rattle.shb_lines.specs.declared.read.ReadError.TheVariants as reading
-use Rattle.shb_lines.specs.text.Limits.{standard_limits}
+use Rattle.shb_lines.specs.text.Limits.{most_read, standard_limits}
 use Rattle.shb_judging.specs.declared.verdict.Verdict.{Verdict}
 use Rattle.shb_judging.specs.Checks.{IsVerdictFor}
-use Rattle.shb_check.specs.Checks.{CountsSources, IsChecked}
+use Rattle.shb_judging.specs.Verdicts.{verdict_bytes}
+use Rattle.shb_check.specs.Checks.{HasChecked, IsChecked, IsLineCutShort}
 use Rattle.shb_check.specs.Errors.{error_of_checking, error_of_reading}
 use Rattle.shb_check.specs.Judged.{IsAccepted, IsRefusalOf}
-use Rattle.shb_check.specs.Outcomes.{Grows, OnJudged, OnNoTrace, OnTrace}
+use Rattle.shb_check.specs.Outcomes.{Grows, OnJudged, OnMemory, OnNoTrace, OnSink, OnTrace, OnWriting, sink_failed, source_failed}
 
 -- a text with no fault has no first one
 pub no_first_fault : (text : List ℕ) (line : ℕ) (fault : Fault) → HasNoFault standard_limits text → IsFirstFault standard_limits text line fault → ⊥
@@ -60,40 +62,10 @@ refused_of read stop error (Err e) is refusal = subst (IsRefusalOf read stop) (s
     told (checking.Undisciplined line fault) first = λ text reading. undisciplined standard_limits text read stop line fault reading first
     told (checking.Memory _) first = tt
 
--- the fault of a refusal is the first of the text that was read
-pub refusal_first : {T : Type 0} (read : TraceData) (stop : Option LineFault) (n : ℕ) (known left : Option (List ℕ)) (before given : ℕ) (error : RunError) (r : Result T RunError) → IsErrAnd r (λ e. e ≡ error)
-    → ReadsText n known left before given (λ text. IsReadingOf standard_limits text read stop) → IsRefusalOf read stop error → OnTrace r (λ line fault. ReadsText n known left before given (λ text. IsFirstFault standard_limits text line fault))
-refusal_first read stop n known left before given error (Ok x) is reading refusal = absurd is
-refusal_first {T} read stop n known left before given error (Err e) is reading refusal =
-    subst (λ (x : RunError). OnTrace {T = T} (Err x) (λ line fault. ReadsText n known left before given (λ text. IsFirstFault standard_limits text line fault))) (sym is) (told error refusal)
-  where
-    told : (error : RunError) → IsRefusalOf read stop error → OnTrace {T = T} (Err error) (λ line fault. ReadsText n known left before given (λ text. IsFirstFault standard_limits text line fault))
-    told (Trace line fault) refusal = reads_then n known left before given (λ text. IsReadingOf standard_limits text read stop) (λ text. IsFirstFault standard_limits text line fault) reading refusal
-    told Source refusal = tt
-    told Sink refusal = tt
-    told (Memory _) refusal = tt
-
 -- a text with no fault has none of which anything is to be said
 pub none_found : (read : TraceData) (stop : Option LineFault) (trace : TraceData) (known : Option (List ℕ)) (P : Type 0)
     → IsAccepted read stop trace → IfSome known (λ text. IsReadingOf standard_limits text read stop) → IfSome known (λ text. (line : ℕ) (fault : Fault) → IsFirstFault standard_limits text line fault → P)
 none_found read stop trace known P accepted reading = IfSome_then known reading (λ text one line fault first. absurd (no_first_fault text line fault (accepted.faultless text one) first))
-
--- what holds of each run that read its text
-pub judged : {T : Type 0} (r : Result T RunError) (P : Type 0) → P → OnJudged r P
-judged (Ok x) P p = p
-judged (Err (Trace line fault)) P p = p
-judged (Err Source) P p = tt
-judged (Err Sink) P p = p
-judged (Err (Memory _)) P p = tt
-
--- a text that was not read was not judged
-pub not_judged : {T : Type 0} (error : ReadError) (r : Result T RunError) (P : Type 0) → IsErrAnd r (λ e. e ≡ error_of_reading error) → OnJudged r P
-not_judged error (Ok x) P is = absurd is
-not_judged {T} error (Err e) P is = subst (λ (e : RunError). OnJudged {T = T} (Err e) P) (sym is) (told error)
-  where
-    told : (error : ReadError) → OnJudged {T = T} (Err (error_of_reading error)) P
-    told reading.Source = tt
-    told (reading.Memory _) = tt
 
 -- known bytes that nothing was done to
 pub Grows-same : (a : Option (List ℕ)) → Grows a a
@@ -112,34 +84,163 @@ checked_of text report read stop events trace verdict disciplined same accepted 
   };
 }
 
--- what holds anyway, of each trace or error of which something is to be said
-pub of_any_trace : {T : Type 0} (r : Result T RunError) (P : Type 0) → P → OnTrace r (λ _ _. P)
-of_any_trace (Ok x) P p = tt
-of_any_trace (Err (Trace line fault)) P p = p
-of_any_trace (Err Source) P p = tt
-of_any_trace (Err Sink) P p = tt
-of_any_trace (Err (Memory _)) P p = tt
-
-pub of_no_trace : {T : Type 0} (r : Result T RunError) (P : Type 0) → P → OnNoTrace r P
-of_no_trace (Ok x) P p = tt
-of_no_trace (Err (Trace line fault)) P p = p
-of_no_trace (Err Source) P p = p
-of_no_trace (Err Sink) P p = tt
-of_no_trace (Err (Memory _)) P p = tt
-
+-- what holds anyway, of any fault of which something is to be said
 pub of_any_fault : (known : Option (List ℕ)) (P : Type 0) → P → IfSome known (λ text. (line : ℕ) (fault : Fault) → IsFirstFault standard_limits text line fault → P)
 of_any_fault None P p = tt
 of_any_fault (Some text) P p = λ line fault first. p
 
--- a trace that was judged, whose report was not read: no source failed
-pub counted_judged : {T : Type 0} (read : TraceData) (stop : Option LineFault) (error : RunError) (r : Result T RunError) (old new old_report new_report : ℕ)
-    → IsErrAnd r (λ e. e ≡ error) → IsRefusalOf read stop error → new ≡ old → new_report ≡ old_report → CountsSources old new old_report new_report r
-counted_judged read stop error (Ok x) old new old_report new_report is refusal same same_report = absurd is
-counted_judged {T} read stop error (Err e) old new old_report new_report is refusal same same_report =
-    subst (λ (x : RunError). CountsSources {T = T} old new old_report new_report (Err x)) (sym is) (told error refusal)
-  where
-    told : (error : RunError) → IsRefusalOf read stop error → CountsSources {T = T} old new old_report new_report (Err error)
-    told (Trace line fault) refusal = inl (same, same_report)
-    told Source refusal = absurd refusal
-    told Sink refusal = inl (same, same_report)
-    told (Memory _) refusal = inl (same, same_report)
+-- nothing is taken of a source that stays as it is
+takes_nothing : (n : ℕ) (known : Option (List ℕ)) → TakesAtMost n known known
+takes_nothing n None = ([], omega arith, tt)
+takes_nothing n (Some text) = ([], omega arith, refl)
+
+-- where an error names no sink nothing was written
+not_written : {C : Type 0} (error : RunError) (sink : C) (failures : ℕ) (P Q : Type 0) → OnSink {T = Verdict} (Err error) ⊥
+    → OnNoTrace {T = Verdict} (Err error) (sink ≡ sink) × OnMemory {T = Verdict} (Err error) (sink ≡ sink) × OnSink {T = Verdict} (Err error) P × OnWriting {T = Verdict} (Err error) Q
+    × CountsFailure {T = Verdict} sink_failed failures failures (Err error)
+not_written (Trace line fault) sink failures P Q none = (refl, tt, tt, tt, refl)
+not_written Source sink failures P Q none = (refl, tt, tt, tt, refl)
+not_written Sink sink failures P Q none = absurd none
+not_written (Memory _) sink failures P Q none = (tt, refl, tt, tt, refl)
+
+-- the exits of a check
+module _ {A B C : Type 0} (remaining : A → Option (List ℕ)) (given failures : A → ℕ) (source left : A) (remaining_there : B → Option (List ℕ)) (given_there failures_there : B → ℕ) (reports : B)
+    (taken : C → Option (List ℕ)) (failed_writes : C → ℕ) (sink : C) (lost : TakesAtMost most_read (remaining source) (remaining left)) (gave : given left ≤ given source + most_read) where
+  -- the trace has no text of which Q is to be said
+  abbrev IfFault : Type 0 → Type 0
+  IfFault Q = IfSome (remaining source) (λ text. (line : ℕ) (fault : Fault) → IsFirstFault standard_limits text line fault → Q)
+
+  -- nothing was written
+  abbrev Unwritten : B → RunError → Type 0
+  Unwritten reports_left error = HasChecked remaining given failures source left remaining_there given_there failures_there reports reports_left taken failed_writes sink sink (Err error)
+
+  unwritten : (error : RunError) (reports_left : B) → OnSink {T = Verdict} (Err error) ⊥
+      → OnTrace {T = Verdict} (Err error) (λ line fault. ReadsText most_read (remaining source) (remaining left) (given source) (given left) (λ text. IsFirstFault standard_limits text line fault))
+      → IfFault (reports_left ≡ reports) → OnTrace {T = Verdict} (Err error) (λ _ _. reports_left ≡ reports) → (failures left ≡ failures source + 1 → reports_left ≡ reports)
+      → OnJudged {T = Verdict} (Err error) (IfSome (remaining source) (λ text. remaining left ≡ Some (drop most_read text)))
+      → TakesAtMost most_read (remaining_there reports) (remaining_there reports_left) → given_there reports_left ≤ given_there reports + most_read
+      → (CountsFailure {T = Verdict} source_failed (failures source) (failures left) (Err error) × (failures_there reports_left ≡ failures_there reports))
+      ⊎ ((failures source ≡ failures left) × CountsFailure {T = Verdict} source_failed (failures_there reports) (failures_there reports_left) (Err error))
+      → Unwritten reports_left error
+  unwritten error reports_left none refused unread unread_after unread_failed judged lost_there gave_there counted =
+      let writes = not_written error sink (failed_writes sink) _ _ none in record {
+        verdict = tt;
+        line = tt;
+        refused = refused;
+        unwritten = writes.0;
+        memory = writes.1;
+        silent = of_any_fault (remaining source) (sink ≡ sink) refl;
+        cut = writes.2;
+        grown = Grows-same (taken sink);
+        unread = unread;
+        unread_after = unread_after;
+        unread_failed = unread_failed;
+        trace_taken = lost;
+        trace_given = gave;
+        trace_left = judged;
+        report_taken = lost_there;
+        report_given = gave_there;
+        report_left = writes.3;
+        sources = counted;
+        sink_counted = writes.4;
+      }
+
+  -- the trace was not read
+  pub of_unread : (U : Type 0) (error : ReadError) (r : Result Verdict RunError) → IsErrAnd r (λ e. e ≡ error_of_reading error) → CountsFailure {T = U} read_failed (failures source) (failures left) (Err error)
+      → HasChecked remaining given failures source left remaining_there given_there failures_there reports reports taken failed_writes sink sink r
+  of_unread U error (Ok x) is counted = absurd is
+  of_unread U error (Err e) is counted = subst (Unwritten reports) (sym is) (by error counted)
+    where
+      by : (error : ReadError) → CountsFailure {T = U} read_failed (failures source) (failures left) (Err error) → Unwritten reports (error_of_reading error)
+      by reading.Source counted = unwritten Source reports tt tt (of_any_fault (remaining source) _ refl) tt (λ _. refl) tt (takes_nothing most_read _) (omega arith) (inl (counted, refl))
+      by (reading.Memory why) counted = unwritten (Memory why) reports tt tt (of_any_fault (remaining source) _ refl) tt (λ _. refl) tt (takes_nothing most_read _) (omega arith) (inl (counted, refl))
+
+  module _ (read : TraceData) (stop : Option LineFault) (known : ReadsText most_read (remaining source) (remaining left) (given source) (given left) (λ text. IsReadingOf standard_limits text read stop))
+      (no_failure : failures left ≡ failures source) where
+    -- the trace was refused, or there was no memory to judge it
+    pub of_refused : (error : RunError) (r : Result Verdict RunError) → IsErrAnd r (λ e. e ≡ error) → IsRefusalOf read stop error
+        → HasChecked remaining given failures source left remaining_there given_there failures_there reports reports taken failed_writes sink sink r
+    of_refused error (Ok x) is refusal = absurd is
+    of_refused error (Err e) is refusal = subst (Unwritten reports) (sym is) (by error refusal)
+      where
+        by : (error : RunError) → IsRefusalOf read stop error → Unwritten reports error
+        by (Trace line fault) refusal =
+            unwritten (Trace line fault) reports tt (reads_then most_read (remaining source) (remaining left) _ _ (λ text. IsReadingOf standard_limits text read stop) (λ text. IsFirstFault standard_limits text line fault) known refusal)
+            (of_any_fault (remaining source) _ refl) refl (λ _. refl) (reads_left most_read (remaining source) (remaining left) _ _ _ known) (takes_nothing most_read _) (omega arith) (inl (no_failure, refl))
+        by Source refusal = absurd refusal
+        by Sink refusal = absurd refusal
+        by (Memory why) refusal = unwritten (Memory why) reports tt tt (of_any_fault (remaining source) _ refl) tt (λ _. refl) tt (takes_nothing most_read _) (omega arith) (inl (no_failure, refl))
+
+    module _ (trace : TraceData) (accepted : IsAccepted read stop trace) (reports_left : B)
+        (lost_there : TakesAtMost most_read (remaining_there reports) (remaining_there reports_left)) (gave_there : given_there reports_left ≤ given_there reports + most_read) where
+      -- nothing is to be said of a fault, since there is none
+      faultless : (P : Type 0) → IfFault P
+      faultless P = none_found read stop trace (remaining source) P accepted (reads_told most_read (remaining source) (remaining left) _ _ _ known)
+
+      -- the report was not read to its end, or there was no memory to judge it
+      pub of_unjudged : (U : Type 0) (error : ReadError) (r : Result Verdict RunError) → IsErrAnd r (λ e. e ≡ error_of_reading error)
+          → CountsFailure {T = U} read_failed (failures_there reports) (failures_there reports_left) (Err error)
+          → HasChecked remaining given failures source left remaining_there given_there failures_there reports reports_left taken failed_writes sink sink r
+      of_unjudged U error (Ok x) is counted = absurd is
+      of_unjudged U error (Err e) is counted = subst (Unwritten reports_left) (sym is) (by error counted)
+        where
+          by : (error : ReadError) → CountsFailure {T = U} read_failed (failures_there reports) (failures_there reports_left) (Err error) → Unwritten reports_left (error_of_reading error)
+          by reading.Source counted = unwritten Source reports_left tt tt (faultless _) tt (λ failed. absurd (omega arith)) tt lost_there gave_there (inr (sym no_failure, counted))
+          by (reading.Memory why) counted = unwritten (Memory why) reports_left tt tt (faultless _) tt (λ failed. absurd (omega arith)) tt lost_there gave_there (inr (sym no_failure, counted))
+
+      module _ (events : List Event) (verdict : Verdict) (disciplined : IsDisciplined events) (same : events ≡ trace.events)
+          (there : ReadsText most_read (remaining_there reports) (remaining_there reports_left) (given_there reports) (given_there reports_left) (λ report. IsVerdictFor trace report verdict))
+          (no_failure_there : failures_there reports_left ≡ failures_there reports) (written : C) where
+        -- both texts were read, and this is their verdict
+        both : (Q : List ℕ → List ℕ → Type 0) → ((text report : List ℕ) → IsChecked text report verdict → Q text report)
+            → ReadsText most_read (remaining source) (remaining left) (given source) (given left) (λ text. ReadsText most_read (remaining_there reports) (remaining_there reports_left) (given_there reports) (given_there reports_left) (Q text))
+        both Q then = reads_then most_read (remaining source) (remaining left) _ _ _ _ known (λ text r. reads_then most_read (remaining_there reports) (remaining_there reports_left) _ _ _ _ there (λ report v.
+            then text report (checked_of text report read stop events trace verdict disciplined same accepted r v)))
+
+        pub of_line : Appends (taken sink) (taken written) (verdict_bytes verdict) → failed_writes written ≡ failed_writes sink
+            → HasChecked remaining given failures source left remaining_there given_there failures_there reports reports_left taken failed_writes sink written (Ok verdict)
+        of_line line no_failed_write = record {
+          verdict = both (λ text report. IsChecked text report verdict) (λ text report checked. checked);
+          line = line;
+          refused = tt;
+          unwritten = tt;
+          memory = tt;
+          silent = faultless _;
+          cut = tt;
+          grown = (_, line);
+          unread = faultless _;
+          unread_after = tt;
+          unread_failed = λ failed. absurd (omega arith);
+          trace_taken = lost;
+          trace_given = gave;
+          trace_left = reads_left most_read (remaining source) (remaining left) _ _ _ known;
+          report_taken = lost_there;
+          report_given = gave_there;
+          report_left = reads_left most_read (remaining_there reports) (remaining_there reports_left) _ _ _ there;
+          sources = inl (no_failure, no_failure_there);
+          sink_counted = no_failed_write;
+        }
+
+        pub of_failed_sink : AppendsPrefix (taken sink) (taken written) (verdict_bytes verdict) → failed_writes written ≡ failed_writes sink + 1
+            → HasChecked remaining given failures source left remaining_there given_there failures_there reports reports_left taken failed_writes sink written (Err Sink)
+        of_failed_sink front failed_write = record {
+          verdict = tt;
+          line = tt;
+          refused = tt;
+          unwritten = tt;
+          memory = tt;
+          silent = faultless _;
+          cut = both (λ text report. IsLineCutShort text report (taken sink) (taken written)) (λ text report checked. record { verdict = verdict; checked = checked; written = front });
+          grown = (_, front.2);
+          unread = faultless _;
+          unread_after = tt;
+          unread_failed = λ failed. absurd (omega arith);
+          trace_taken = lost;
+          trace_given = gave;
+          trace_left = reads_left most_read (remaining source) (remaining left) _ _ _ known;
+          report_taken = lost_there;
+          report_given = gave_there;
+          report_left = reads_left most_read (remaining_there reports) (remaining_there reports_left) _ _ _ there;
+          sources = inl (no_failure, no_failure_there);
+          sink_counted = failed_write;
+        }

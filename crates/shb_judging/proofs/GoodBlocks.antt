@@ -12,7 +12,6 @@ use Rattle.shb_lines.specs.events.Race.{Conflict}
 use Rattle.shb_lines.specs.events.Schedule.{IsSchedule}
 use Rattle.shb_lines.specs.text.TraceData.{TraceData}
 use Rattle.shb_lines.proofs.events.Indices.{contains_at}
-use Rattle.shb_lines.specs.text.Limits.{most_events}
 use Rattle.shb_replay.proofs.Lowest.{answer_none}
 use Rattle.shb_replay.specs.declared.broken.Broken.{Broken}
 use Rattle.shb_replay.specs.Reasons.{IsBroken}
@@ -22,7 +21,7 @@ use Rattle.shb_judging.specs.Judging.{HasGoodPair, first_positions}
 use Rattle.shb_report.specs.Report.{line_of_event}
 use Rattle.shb_report.specs.Value.{Block}
 use Rattle.shb_judging.specs.Verdicts.{HasRaceFault, IsGoodBlock, IsLowestFault, IsNoEvent, fault_number, pair_in, position_of, positions_of}
-use Rattle.shb_report.proofs.EachLemmas.{each-push, each_of}
+use Rattle.shb_report.proofs.EachLemmas.{each_of}
 use Rattle.shb_judging.proofs.LongSchedules.{broken_by_front, schedule_by_front}
 
 -- lists
@@ -107,16 +106,6 @@ broken_lowest trace block events s pair broken events_are s_is pair_is good is =
     by FirstLine differ = absurd (differ good.first_line)
     by SecondLine differ = absurd (differ good.second_line)
     by (Schedule other) h = omega arith
-
--- the numbers of its two events have 32 bits, and count from 1
-pub pair_bounds : (trace : TraceData) (events : List Event) (block : Block) → events ≡ trace.events → length events ≤ most_events → HasGoodPair trace block
-    → (block.first < 4294967296) × (block.second < 4294967296) × (1 ≤ block.first) × (1 ≤ block.second)
-pair_bounds trace events block same few good =
-    let count : length events ≡ length trace.events = ap (λ (l : List Event). length l) same in
-    let counts = good.first_counts in
-    let before = good.earlier in
-    let within = good.in_range in
-    (omega (arith, few, count, before, within), omega (arith, few, count, within), counts, omega (arith, counts, before))
 
 -- its two events are events of the trace
 pub pair_within : (trace : TraceData) (events : List Event) (block : Block) (pair : Pair) → events ≡ trace.events → pair ≡ pair_in block → HasGoodPair trace block → (pair.first < length events) × (pair.second < length events)

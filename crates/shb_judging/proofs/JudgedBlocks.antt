@@ -1,22 +1,18 @@
 -- One block more was judged.
-use Rattle.std.proofs.Common.{◌≡◌, ℕ, zero, suc, ◌+◌, List, [], ◌∷◌, ◌++◌, length, map, take, Option, None, Some, false, true, refl, sym, ap, subst, ◌∙◌, arith}
+use Rattle.std.proofs.Common.{◌≡◌, ℕ, zero, suc, ◌+◌, List, [], ◌∷◌, ◌++◌, length, take, Option, None, Some, false, true, refl, sym, ap, subst, ◌∙◌, arith}
 use Rattle.std.specs.Prelude.{All, slice_get}
 use Rattle.std.specs.List.{AllByRecursion}
 use Rattle.std.specs.Option.{is_some}
-use Rattle.std.proofs.lemmas.List.{length-map, map_push, take_all, take-append-le}
-use Rattle.std.proofs.lemmas.List.Elements.{All-push}
+use Rattle.std.proofs.lemmas.List.{length-map, take_all, take-append-le}
 use Rattle.std.proofs.lemmas.Option.{slice_get_within}
 use Rattle.shb_lines.specs.declared.event.Pair.{Pair}
 use Rattle.shb_lines.specs.text.TraceData.{TraceData}
-use Rattle.shb_judging.specs.declared.judged.BadBlock.{BadBlock}
 use Rattle.shb_judging.specs.declared.judged.JudgedBlocks.{JudgedBlocks}
 use Rattle.shb_judging.specs.declared.verdict.RaceFault.{RaceFault}
 use Rattle.shb_judging.specs.Judging.{AreFound, AreJudged}
 use Rattle.shb_report.specs.Places.{IsPairOf}
 use Rattle.shb_report.specs.Value.{Block}
 use Rattle.shb_judging.specs.Verdicts.{IsFirstBadBlock, IsGoodBlock, IsLowestFault, pair_in}
-use Rattle.shb_report.proofs.EachLemmas.{each-push}
-use Rattle.shb_judging.proofs.ShownPlaces.{good_pair}
 
 -- a list of one element more
 at_front : {A : Type 0} (xs ys : List A) (k : ℕ) (x : A) → slice_get xs k ≡ Some x → slice_get (xs ++ ys) k ≡ Some x
@@ -45,23 +41,23 @@ module _ (trace : TraceData) (blocks : List Block) (block : Block) where
         fault = h.fault;
       }
 
-  still_found : (pairs : List Pair) (bad : Option BadBlock) → is_some bad ≡ true → AreFound trace blocks pairs bad → AreFound trace (blocks ++ block ∷ []) pairs bad
+  still_found : (pairs : List Pair) (bad : Option RaceFault) → is_some bad ≡ true → AreFound trace blocks pairs bad → AreFound trace (blocks ++ block ∷ []) pairs bad
   still_found pairs None is h = absurd (let f : ⊥ = cc in f)
-  still_found pairs (Some bad) is h = still_first bad.race bad.why h
+  still_found pairs (Some why) is h = still_first (length pairs + 1) why h
 
   pub bad_before : (judged : JudgedBlocks) → is_some judged.bad ≡ true → AreJudged trace blocks judged → AreJudged trace (blocks ++ block ∷ []) judged
   bad_before judged is h = record { pairs_in = h.pairs_in; found = still_found judged.pairs.items judged.bad is h.found }
 
   -- the first bad block
-  pub first_bad : (old new : JudgedBlocks) (race : ℕ) (why : RaceFault) → old.bad ≡ None → new.pairs.items ≡ old.pairs.items → race ≡ length old.pairs.items + 1
-      → new.bad ≡ Some (record { race = race; why = why }) → IsLowestFault trace block why → AreJudged trace blocks old → AreJudged trace (blocks ++ block ∷ []) new
-  first_bad old new race why none same number is fault h =
+  pub first_bad : (old new : JudgedBlocks) (why : RaceFault) → old.bad ≡ None → new.pairs.items ≡ old.pairs.items → new.bad ≡ Some why → IsLowestFault trace block why
+      → AreJudged trace blocks old → AreJudged trace (blocks ++ block ∷ []) new
+  first_bad old new why none same is fault h =
       let found : AreFound trace blocks old.pairs.items None = subst (AreFound trace blocks old.pairs.items) none h.found in
       let as_many : length old.pairs.items ≡ length blocks = ap (λ (l : List Pair). length l) found.1 ∙ length-map blocks pair_in in
       let front : take (length blocks) (blocks ++ block ∷ []) ≡ blocks = take-append-le (length blocks) blocks (block ∷ []) (omega arith) ∙ take_all (length blocks) blocks (omega arith) in
-      let first : IsFirstBadBlock trace (blocks ++ block ∷ []) race why = record {
+      let first : IsFirstBadBlock trace (blocks ++ block ∷ []) (length new.pairs.items + 1) why = record {
         before = length blocks;
-        race_is = omega (arith, number, as_many);
+        race_is = omega (arith, as_many, ap (λ (l : List Pair). length l) same);
         good = subst (AllByRecursion (IsGoodBlock trace)) (sym front) found.0;
         block = block;
         there = at_end blocks block;

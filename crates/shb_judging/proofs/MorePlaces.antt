@@ -9,7 +9,7 @@ use Rattle.shb_reading.specs.declared.parts.PlaceEntry.{PlaceEntry}
 use Rattle.shb_reading.specs.Parts.{place_in_text, section_at}
 use Rattle.shb_report.specs.Places.{counts_in, places_of_pairs, shown_places}
 use Rattle.shb_report.specs.Value.{Block, ReportValue}
-use Rattle.shb_judging.specs.Verdicts.{HasItsPlaces, IsVerdict, pair_in}
+use Rattle.shb_judging.specs.Verdicts.{HasPlacesOf, IsVerdict, pair_in}
 use Rattle.shb_judging.proofs.WrittenGood.{length-shown, places_few}
 
 module _ {A : Type 0} (most : ℕ) (wanted : List A) (short : length wanted < most) where
@@ -43,10 +43,10 @@ module _ (trace : TraceData) (report : ReportValue) (most : ℕ) (more : length 
   short : length (shown_places trace (counts_in (places_of_pairs trace (map pair_in report.blocks)))) < most
   short = omega (arith, more, few_places trace report.blocks)
 
-  has_places : HasItsPlaces trace (with_first_places most report) → HasItsPlaces trace report
+  has_places : HasPlacesOf trace (option_map (take most) report.places) (map pair_in report.blocks) → HasPlacesOf trace report.places (map pair_in report.blocks)
   has_places = given_front most _ short report.places
 
-  lacks_places : (¬ HasItsPlaces trace (with_first_places most report)) → ¬ HasItsPlaces trace report
+  lacks_places : (¬ HasPlacesOf trace (option_map (take most) report.places) (map pair_in report.blocks)) → ¬ HasPlacesOf trace report.places (map pair_in report.blocks)
   lacks_places lacks = λ has. lacks (front_given most _ short report.places has)
 
   pub verdict_by_front : (verdict : Verdict) → IsVerdict trace (with_first_places most report) verdict → IsVerdict trace report verdict

@@ -1,16 +1,14 @@
 -- One place more is as the report shows it; the pair of a good block.
-use Rattle.std.proofs.Common.{◌≡◌, ℕ, ◌+◌, ◌<◌, List, [], ◌∷◌, ◌++◌, length, map, take, get_or, Some, option_map, sym, ap, subst, ◌∙◌, arith}
+use Rattle.std.proofs.Common.{◌≡◌, ℕ, ◌+◌, ◌<◌, List, [], ◌∷◌, ◌++◌, length, map, take, get_or, Some, option_map, sym, ap, ◌∙◌}
 use Rattle.std.specs.Prelude.{slice_get}
 use Rattle.std.proofs.lemmas.List.{map_push, take_more, take-map}
 use Rattle.std.proofs.lemmas.Option.{slice_get-get_or, slice_get-map}
-use Rattle.shb_lines.specs.declared.event.Pair.{Pair}
 use Rattle.shb_lines.specs.text.TraceData.{TraceData}
 use Rattle.shb_reading.specs.declared.parts.PlaceEntry.{PlaceEntry}
 use Rattle.shb_report.specs.declared.places.PlaceCount.{PlaceCount}
 use Rattle.shb_reading.specs.Parts.{place_in_text, places_at}
-use Rattle.shb_report.specs.Places.{IsPairOf, shown_place, shown_places}
-use Rattle.shb_report.specs.Value.{Block, Place}
-use Rattle.shb_judging.specs.Verdicts.{IsGoodBlock, pair_in}
+use Rattle.shb_report.specs.Places.{shown_place, shown_places}
+use Rattle.shb_report.specs.Value.{Place}
 
 -- a list of values of a list
 module _ {A B : Type 0} (f : A → B) (xs : List A) (q : ℕ) (d : A) (within : q < length xs) where
@@ -34,12 +32,3 @@ module _ (trace : TraceData) (text : List ℕ) (entries : List PlaceEntry) (coun
   -- where all are, each is
   pub each_place : listed ≡ shown_places trace counts → place_in_text text (get_or entries q e) ≡ shown_place trace (get_or counts q d)
   each_place same = one_of_some _ _ (sym (at_mapped (place_in_text text) entries q e low) ∙ ap (λ (l : List Place). slice_get l q) (sym listed_is ∙ same) ∙ at_mapped (shown_place trace) counts q d within)
-
-pub good_pair : (trace : TraceData) (block : Block) (pair : Pair) → pair ≡ pair_in block → IsGoodBlock trace block → IsPairOf trace pair
-good_pair trace block pair is good =
-    let low = good.in_range in
-    let before = good.earlier in
-    let first = good.first_is in
-    let second = good.second_is in
-    let of_block : IsPairOf trace (pair_in block) = record { first = omega (arith, low, before, first); second = omega (arith, low, second) } in
-    subst (IsPairOf trace) (sym is) of_block

@@ -1,17 +1,16 @@
 -- What the parts of a judgement find.
-use Rattle.std.specs.Prelude.{◌≡◌, ◌+◌, ◌-◌, ◌<◌, ◌≤◌, ℕ, All, IfSome, List, length, map, take, Option, Some, None}
+use Rattle.std.specs.Prelude.{◌≡◌, ◌+◌, ◌-◌, ◌<◌, ◌≤◌, ℕ, All, List, length, map, take, Option, Some, None, Result, Ok, Err}
 use Rattle.std.specs.List.{AllByRecursion}
 use Rattle.shb_lines.specs.events.Race.{Conflict}
 use Rattle.shb_lines.specs.text.TraceData.{TraceData}
 use Rattle.shb_lines.specs.declared.event.Pair.{Pair}
-use Rattle.shb_judging.specs.declared.judged.BadBlock.{BadBlock}
 use Rattle.shb_judging.specs.declared.judged.JudgedBlocks.{JudgedBlocks}
 use Rattle.shb_reading.specs.declared.position.Position.{Position}
 use Rattle.shb_judging.specs.declared.verdict.RaceFault.{RaceFault}
 use Rattle.shb_judging.specs.declared.verdict.Verdict.{Verdict}
 use Rattle.shb_report.specs.declared.counts.Counts.{Counts}
 use Rattle.shb_reading.specs.Parts.{IsTextOf, TakesBlocks}
-use Rattle.shb_report.specs.Places.{IsPairOf, counts_in, places_of_pairs, shown_places}
+use Rattle.shb_report.specs.Places.{IsPairOf}
 use Rattle.shb_report.specs.Report.{line_of_event}
 use Rattle.shb_report.specs.Value.{Block, Place, ReportValue}
 use Rattle.shb_judging.specs.Verdicts.{IsFirstBadBlock, IsGoodBlock, IsLowestFault, IsVerdict, pair_in, positions_of}
@@ -29,24 +28,20 @@ pub record HasGoodPair (trace : TraceData) (block : Block) : Type 0 where
 abbrev pub first_positions : TraceData → List ℕ → List ℕ
 first_positions trace numbers = take (length trace.events + 1) (positions_of trace numbers)
 
--- the lowest of the faults 1 to 4, or none of them
-abbrev pub IsPairFault : TraceData → Block → Option RaceFault → Type 0
-IsPairFault trace block None = HasGoodPair trace block
-IsPairFault trace block (Some why) = IsLowestFault trace block why
+-- the pair of a block that has none of the faults 1 to 4, or the lowest of them
+abbrev pub IsPairJudged : TraceData → Block → Result Pair RaceFault → Type 0
+IsPairJudged trace block (Ok pair) = (pair ≡ pair_in block) × HasGoodPair trace block
+IsPairJudged trace block (Err why) = IsLowestFault trace block why
 
--- all blocks are good, and these are their pairs; or this is the first that is bad
-abbrev pub AreFound : TraceData → List Block → List Pair → Option BadBlock → Type 0
+-- all blocks are good, and these are their pairs; or these are as many as stand before the first that is bad, and this is its lowest fault
+abbrev pub AreFound : TraceData → List Block → List Pair → Option RaceFault → Type 0
 AreFound trace blocks pairs None = AllByRecursion (IsGoodBlock trace) blocks × (pairs ≡ map pair_in blocks)
-AreFound trace blocks pairs (Some bad) = IsFirstBadBlock trace blocks bad.race bad.why
+AreFound trace blocks pairs (Some why) = IsFirstBadBlock trace blocks (length pairs + 1) why
 
 -- what is known of these blocks once they were judged
 pub record AreJudged (trace : TraceData) (blocks : List Block) (judged : JudgedBlocks) : Type 0 where
   pub pairs_in : All (IsPairOf trace) judged.pairs.items
   pub found : AreFound trace blocks judged.pairs.items judged.bad
-
--- the places, where there are any, are those of the pairs
-abbrev pub HasPlacesOf : TraceData → Option (List Place) → List Pair → Type 0
-HasPlacesOf trace listed pairs = IfSome listed (λ places. places ≡ shown_places trace (counts_in (places_of_pairs trace pairs)))
 
 -- this is the verdict on each report with these counts, these places and blocks that were judged so
 abbrev pub IsVerdictOnJudged : TraceData → Counts → Option (List Place) → JudgedBlocks → Verdict → Type 0

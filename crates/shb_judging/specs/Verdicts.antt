@@ -1,5 +1,5 @@
 -- When a report is good for a trace, and what is said of one that isn't: the first verdict that applies.
-use Rattle.std.specs.Prelude.{◌≡◌, ◌≢◌, ℕ, zero, suc, ◌+◌, ◌-◌, ◌<◌, ◌⊎◌, List, ◌++◌, codes, decimal, length, map, take, slice_get, Some, IfSome, min}
+use Rattle.std.specs.Prelude.{◌≡◌, ◌≢◌, ℕ, zero, suc, ◌+◌, ◌-◌, ◌<◌, ◌⊎◌, List, ◌++◌, codes, decimal, length, map, take, slice_get, Option, Some, IfSome, min}
 use Rattle.std.specs.List.{AllByRecursion}
 use Rattle.shb_lines.specs.declared.event.Pair.{Pair}
 use Rattle.shb_lines.specs.events.Race.{Conflict}
@@ -12,7 +12,7 @@ use Rattle.shb_judging.specs.declared.verdict.Verdict.{Verdict}
 use Rattle.shb_judging.specs.declared.verdict.Verdict.TheVariants.{Good, BadLine, BadCounts, BadRace, BadPlaces}
 use Rattle.shb_report.specs.Places.{counts_in, places_of_pairs, shown_places}
 use Rattle.shb_report.specs.Report.{counts_of, line_of_event}
-use Rattle.shb_report.specs.Value.{Block, ReportValue}
+use Rattle.shb_report.specs.Value.{Block, Place, ReportValue}
 use Rattle.shb_lines.specs.Lowest.{IsLowest}
 
 -- the block is about two events that conflict, the earlier one first; it has their lines; and its numbers, which count from 1, are those of a schedule of the two
@@ -34,15 +34,15 @@ pub record IsGoodBlock (trace : TraceData) (block : Block) : Type 0 where
 abbrev pub pair_in : Block → Pair
 pair_in block = record { first = block.first - 1; second = block.second - 1 }
 
--- the places, where there are any, are those of the listed pairs, in the order in which they are listed
-abbrev pub HasItsPlaces : TraceData → ReportValue → Type 0
-HasItsPlaces trace report = IfSome report.places (λ places. places ≡ shown_places trace (counts_in (places_of_pairs trace (map pair_in report.blocks))))
+-- the places, where there are any, are those of the pairs, in the order in which they are listed
+abbrev pub HasPlacesOf : TraceData → Option (List Place) → List Pair → Type 0
+HasPlacesOf trace listed pairs = IfSome listed (λ places. places ≡ shown_places trace (counts_in (places_of_pairs trace pairs)))
 
 -- the counts are those of the trace, each block is good, and so are the places
 pub record IsGoodReport (trace : TraceData) (report : ReportValue) : Type 0 where
   pub counts : report.counts ≡ counts_of trace
   pub blocks : AllByRecursion (IsGoodBlock trace) report.blocks
-  pub places : HasItsPlaces trace report
+  pub places : HasPlacesOf trace report.places (map pair_in report.blocks)
 
 -- the number is that of no event, since those count from 1
 abbrev pub IsNoEvent : TraceData → ℕ → Type 0
@@ -90,7 +90,7 @@ abbrev pub IsVerdict : TraceData → ReportValue → Verdict → Type 0
 IsVerdict trace report (Good races) = IsGoodReport trace report × (races ≡ length report.blocks)
 IsVerdict trace report BadCounts = report.counts ≢ counts_of trace
 IsVerdict trace report (BadRace race why) = (report.counts ≡ counts_of trace) × IsFirstBadBlock trace report.blocks race why
-IsVerdict trace report BadPlaces = (report.counts ≡ counts_of trace) × AllByRecursion (IsGoodBlock trace) report.blocks × (¬ HasItsPlaces trace report)
+IsVerdict trace report BadPlaces = (report.counts ≡ counts_of trace) × AllByRecursion (IsGoodBlock trace) report.blocks × (¬ HasPlacesOf trace report.places (map pair_in report.blocks))
 IsVerdict trace report (BadLine line) = ⊥
 
 -- the line of a verdict

@@ -1,11 +1,11 @@
 //! Judges a report against a trace.
 ghost use Rattle.std.specs.Prelude.{◌≡◌, ◌↔◌, ℕ, All, IfOk, IsTrue, length};
-ghost use Rattle.shb_judging.specs.Judging.{AreJudged, HasPlacesOf, IsVerdictOnJudged};
+ghost use Rattle.shb_judging.specs.Judging.{AreJudged, IsVerdictOnJudged};
 ghost use Rattle.shb_reading.specs.Parts.{IsPlaceIn, place_in_text};
 ghost use Rattle.shb_report.specs.Places.{IsPairOf, IsPlaceOf, shown_place, shown_places};
 ghost use Rattle.shb_report.specs.Report.{counts_of};
 ghost use Rattle.shb_judging.specs.declared.verdict.Verdict.TheVariants.{Good};
-ghost use Rattle.shb_judging.specs.Verdicts.{IsGoodReport, IsVerdict};
+ghost use Rattle.shb_judging.specs.Verdicts.{HasPlacesOf, IsGoodReport, IsVerdict};
 
 use crate::judged::{JudgedBlocks, judge_block, same_bytes, set_positions};
 use crate::verdict::Verdict;
@@ -95,11 +95,9 @@ pub(crate) fn verdict_on<R: RandomSource>(
     if !has_counts(trace, counts) {
         return Ok(Verdict::BadCounts);
     }
-    if let Some(bad) = judged.bad {
-        return Ok(Verdict::BadRace {
-            race: bad.race,
-            why: bad.why,
-        });
+    if let Some(why) = judged.bad {
+        let race = judged.pairs.len() as u64 + 1;
+        return Ok(Verdict::BadRace { race, why });
     }
     if !has_places_of(rt, alloc, trace, section, judged.pairs.as_slice())? {
         return Ok(Verdict::BadPlaces);
@@ -112,23 +110,23 @@ pub(crate) fn verdict_on<R: RandomSource>(
 /// Judges the blocks of a report.
 fn judge_listed(
     alloc: Global,
-    trace: &Disciplined<'_>,
+    disciplined: &Disciplined<'_>,
     links: &Links<'_>,
     report: &Report,
 ) -> Result<JudgedBlocks, NoMemory>
-    requires linked { links.now ≡ trace.now.events.now }
-    ensures { IfOk result (AreJudged trace.now.trace.now report.now.blocks) }
+    requires linked { links.now ≡ disciplined.now.events.now }
+    ensures { IfOk result (AreJudged disciplined.now.trace.now report.now.blocks) }
 {
-    let mut judge = Judge::new(alloc, Linked::new(&*trace, &*links))?;
+    let mut judge = Judge::new(alloc, Linked::new(&*disciplined, &*links))?;
     let mut positions = Vec::new(alloc);
     let mut judged = JudgedBlocks::new(alloc);
     for k in 0..report.len() {
         let listed = report.listed(k);
-        set_positions(&mut positions, trace.trace.len(), listed.schedule)?;
+        set_positions(&mut positions, disciplined.trace.len(), listed.schedule)?;
         judge_block(
             &mut judged,
             &mut judge,
-            trace,
+            disciplined,
             listed.lines,
             positions.as_slice(),
         )?;
@@ -149,20 +147,20 @@ fn judge_listed(
 pub fn check_report<R: RandomSource>(
     rt: &R,
     alloc: Global,
-    trace: &Disciplined<'_>,
+    disciplined: &Disciplined<'_>,
     links: &Links<'_>,
     report: &Report,
 ) -> Result<Verdict, NoMemory>
-    requires linked { links.now ≡ trace.now.events.now }
-    ensures verdict { IfOk result (IsVerdict trace.now.trace.now report.now) }
+    requires linked { links.now ≡ disciplined.now.events.now }
+    ensures verdict { IfOk result (IsVerdict disciplined.now.trace.now report.now) }
     ensures good { IfOk result (λ verdict. verdict ≡ Good (length report.now.blocks)
-        ↔ IsGoodReport trace.now.trace.now report.now) }
+        ↔ IsGoodReport disciplined.now.trace.now report.now) }
 {
-    let judged = judge_listed(alloc, trace, links, report)?;
+    let judged = judge_listed(alloc, disciplined, links, report)?;
     let verdict = verdict_on(
         rt,
         alloc,
-        trace.trace,
+        disciplined.trace,
         report.counts(),
         report.section(),
         &judged,

@@ -1,6 +1,6 @@
 //! Judges the blocks of a report one after another.
 ghost use Rattle.std.specs.Prelude.{◌≡◌, ◌+◌, ◌-◌, ◌<◌, ◌≤◌, ◌↔◌, ◌^◌, ◌++◌, ◌∷◌, [], ℕ, List, None, IfErr, IfOk, IsTrue, OnOk, map, take};
-ghost use Rattle.shb_judging.specs.Judging.{AreJudged, IsPairFault, first_positions};
+ghost use Rattle.shb_judging.specs.Judging.{AreJudged, IsPairJudged, first_positions};
 ghost use Rattle.shb_reading.specs.BlockLines.{block_with};
 ghost use Rattle.shb_report.specs.Value.{Block};
 ghost use Rattle.shb_judging.specs.Verdicts.{IsGoodBlock, IsLowestFault, pair_in, position_of};
@@ -14,19 +14,12 @@ use shb_reading::BlockLines;
 use shb_replay::Judge;
 use std::alloc::Global;
 
-/// The first bad block: its number, counted from 1, and its lowest fault.
-#[derive(Clone, Copy)]
-pub(crate) struct BadBlock {
-    pub race: u64,
-    pub why: RaceFault,
-}
-
-/// What is known of the blocks that were judged so far: the first bad one, and the pairs of those
-/// before it.
+/// What is known of the blocks that were judged so far: the lowest fault of the first bad one, and the
+/// pairs of those before it.
 #[derive(Drop)]
 pub(crate) struct JudgedBlocks {
     pub pairs: Vec<Pair>,
-    pub bad: Option<BadBlock>,
+    pub bad: Option<RaceFault>,
 }
 
 /// Whether two texts are the same.
@@ -53,61 +46,47 @@ pub(crate) fn set_positions(
     Ok(())
 }
 
-/// The two events of a block, whose numbers must not be 0 or above the number of events.
-fn pair_in(listed: BlockLines<'_>) -> Pair
-    requires first { listed.first < 2 ^ 32 }
-    requires second { listed.second < 2 ^ 32 }
-    requires first_counts { 1 ≤ listed.first }
-    requires second_counts { 1 ≤ listed.second }
-    ensures { result ≡ pair_in (block_with listed.entry []) }
-{
-    Pair {
-        first: (listed.first - 1) as u32,
-        second: (listed.second - 1) as u32,
-    }
-}
-
-/// The lowest fault of a block, but for that of its schedule.
-fn pair_fault(trace: &Trace, listed: BlockLines<'_>) -> Option<RaceFault>
-    ensures { (numbers : List ℕ) → IsPairFault trace.now (block_with listed.entry numbers) result }
+/// The two events of a block that has no fault, or has one in its schedule alone; else its lowest fault.
+fn judge_pair(trace: &Trace, listed: BlockLines<'_>) -> Result<Pair, RaceFault>
+    ensures { (numbers : List ℕ) → IsPairJudged trace.now (block_with listed.entry numbers) result }
 {
     let count = u64::from(trace.len());
     if listed.first == 0 || listed.first > count || listed.second == 0 || listed.second > count {
-        return Some(RaceFault::Absent);
+        return Err(RaceFault::Absent);
     }
-    let pair = pair_in(listed);
+    let pair = Pair {
+        first: (listed.first - 1) as u32,
+        second: (listed.second - 1) as u32,
+    };
     if listed.first >= listed.second || !conflicts(trace, pair.first, pair.second) {
-        return Some(RaceFault::NoConflict);
+        return Err(RaceFault::NoConflict);
     }
     if !same_bytes(listed.first_line, trace.line_text(pair.first)) {
-        return Some(RaceFault::FirstLine);
+        return Err(RaceFault::FirstLine);
     }
     if !same_bytes(listed.second_line, trace.line_text(pair.second)) {
-        return Some(RaceFault::SecondLine);
+        return Err(RaceFault::SecondLine);
     }
-    None
+    Ok(pair)
 }
 
 /// The two events of a good block with numbers of which these are the first positions; else its lowest
 /// fault.
 fn judge_lines(
     judge: &mut Judge<'_>,
-    trace: &Disciplined<'_>,
+    disciplined: &Disciplined<'_>,
     listed: BlockLines<'_>,
     positions: &[u32],
 ) -> Result<Pair, RaceFault>
-    requires { judge.old ≡ trace.now.trace.now.events }
+    requires { judge.old ≡ disciplined.now.trace.now.events }
     ensures kept { judge.new ≡ judge.old }
     ensures pair { IfOk result (λ pair. pair ≡ pair_in (block_with listed.entry [])) }
-    ensures good { (numbers : List ℕ) → positions.now ≡ first_positions trace.now.trace.now numbers
-        → OnOk result (IsGoodBlock trace.now.trace.now (block_with listed.entry numbers)) }
-    ensures fault { (numbers : List ℕ) → positions.now ≡ first_positions trace.now.trace.now numbers
-        → IfErr result (IsLowestFault trace.now.trace.now (block_with listed.entry numbers)) }
+    ensures good { (numbers : List ℕ) → positions.now ≡ first_positions disciplined.now.trace.now numbers
+        → OnOk result (IsGoodBlock disciplined.now.trace.now (block_with listed.entry numbers)) }
+    ensures fault { (numbers : List ℕ) → positions.now ≡ first_positions disciplined.now.trace.now numbers
+        → IfErr result (IsLowestFault disciplined.now.trace.now (block_with listed.entry numbers)) }
 {
-    if let Some(why) = pair_fault(trace.trace, listed) {
-        return Err(why);
-    }
-    let pair = pair_in(listed);
+    let pair = judge_pair(disciplined.trace, listed)?;
     match judge.replay(positions, pair) {
         Some(broken) => Err(RaceFault::Schedule(broken)),
         None => Ok(pair),
@@ -132,25 +111,22 @@ impl JudgedBlocks {
 pub(crate) fn judge_block(
     judged: &mut JudgedBlocks,
     judge: &mut Judge<'_>,
-    trace: &Disciplined<'_>,
+    disciplined: &Disciplined<'_>,
     listed: BlockLines<'_>,
     positions: &[u32],
 ) -> Result<(), NoMemory>
-    requires { judge.old ≡ trace.now.trace.now.events }
+    requires { judge.old ≡ disciplined.now.trace.now.events }
     ensures kept { judge.new ≡ judge.old }
-    ensures judged { (blocks : List Block) (numbers : List ℕ) → positions.now ≡ first_positions trace.now.trace.now numbers
-        → AreJudged trace.now.trace.now blocks judged.old
-        → OnOk result (AreJudged trace.now.trace.now (blocks ++ block_with listed.entry numbers ∷ []) judged.new) }
+    ensures judged { (blocks : List Block) (numbers : List ℕ) → positions.now ≡ first_positions disciplined.now.trace.now numbers
+        → AreJudged disciplined.now.trace.now blocks judged.old
+        → OnOk result (AreJudged disciplined.now.trace.now (blocks ++ block_with listed.entry numbers ∷ []) judged.new) }
 {
     if judged.bad.is_some() {
         return Ok(());
     }
-    match judge_lines(judge, trace, listed, positions) {
+    match judge_lines(judge, disciplined, listed, positions) {
         Ok(pair) => judged.pairs.push(pair)?,
-        Err(why) => {
-            let race = judged.pairs.len() as u64 + 1;
-            judged.bad = Some(BadBlock { race, why });
-        }
+        Err(why) => judged.bad = Some(why),
     }
     Ok(())
 }

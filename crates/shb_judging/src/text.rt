@@ -29,21 +29,21 @@ use std::random::RandomSource;
 fn judge_blocks(
     judge: &mut Judge<'_>,
     alloc: Global,
-    trace: &Disciplined<'_>,
+    disciplined: &Disciplined<'_>,
     text: &[u8],
     at: &mut Position,
     count: u64,
 ) -> Result<JudgedBlocks, ReadStop>
-    requires judge { judge.old ≡ trace.now.trace.now.events }
+    requires judge { judge.old ≡ disciplined.now.trace.now.events }
     requires short { length text.now ≤ most_bytes }
     requires at { IsAt text.now at.old }
     ensures at { OnOk result (IsAt text.now at.new) }
-    ensures read { IfOk result (JudgesBlocks trace.now.trace.now text.now at.old at.new count) }
+    ensures read { IfOk result (JudgesBlocks disciplined.now.trace.now text.now at.old at.new count) }
     ensures passes { OnOk result ((forms : List Form) → Passes text.now at.old at.new (block_forms 1 count ++ forms) forms) }
     ensures bad { (forms : List Form) → IfBad result (IsBadAt text.now at.old (block_forms 1 count ++ forms)) }
 {
     let keeping = AsPositions {
-        count: trace.trace.len(),
+        count: disciplined.trace.len(),
     };
     let mut positions = Vec::with_capacity(alloc, keeping.count as usize + 1).map_err(
         NoMemory::from,
@@ -55,61 +55,51 @@ fn judge_blocks(
         positions.clear();
         let entry = read_block(text, at, number, &keeping, &mut positions)?;
         let lines = lines_at(text, entry);
-        judge_block(&mut judged, judge, trace, lines, positions.as_slice())?;
+        judge_block(&mut judged, judge, disciplined, lines, positions.as_slice())?;
     }
     Ok(judged)
 }
 
-/// The verdict on the text of a report, and how many lines it has.
-#[derive(Clone, Copy)]
-struct JudgedText {
-    verdict: Verdict,
-    lines: u64,
-}
-
-/// Reads the text of a report to its end, and judges it. Of its places the first ones are kept, at most one
+/// Reads the text of a report to its end: the verdict on it, and how many lines it has. Of its places the first ones are kept, at most one
 /// more than there are races: since the races have at most as many places as they are, these tell whether the
 /// places are theirs.
 fn judge_text<R: RandomSource>(
     rt: &R,
     alloc: Global,
-    trace: &Disciplined<'_>,
+    disciplined: &Disciplined<'_>,
     text: &[u8],
-) -> Result<JudgedText, ReadStop>
+) -> Result<(Verdict, u64), ReadStop>
     requires short { length text.now ≤ most_bytes }
-    ensures judged { IfOk result (λ judged. IsJudgedText trace.now.trace.now text.now judged.lines judged.verdict) }
-    ensures few { IfOk result (λ judged. judged.lines ≤ most_bytes) }
+    ensures judged { IfOk result (λ judged. IsJudgedText disciplined.now.trace.now text.now judged.1 judged.0) }
+    ensures few { IfOk result (λ judged. judged.1 ≤ most_bytes) }
     ensures bad { IfBad result (IsBadFrom (Version ∷ (End ∷ [])) 0 text.now) }
 {
-    let links = links_of(alloc, &*trace)?;
-    let mut judge = Judge::new(alloc, Linked::new(&*trace, &links))?;
+    let links = links_of(alloc, &*disciplined)?;
+    let mut judge = Judge::new(alloc, Linked::new(&*disciplined, &links))?;
     let mut at = Position { start: 0, lines: 0 };
     let head = read_head(text, &mut at)?;
     let most = head.races.saturating_add(1);
     let places = read_places(alloc, text, &mut at, head.with_places, most)?;
-    let judged = judge_blocks(&mut judge, alloc, trace, text, &mut at, head.races)?;
+    let judged = judge_blocks(&mut judge, alloc, disciplined, text, &mut at, head.races)?;
     read_tail(text, &mut at)?;
     let section = section_of(text, head.with_places, places.as_slice());
-    let verdict = verdict_on(rt, alloc, trace.trace, head.counts, section, &judged)?;
-    Ok(JudgedText {
-        verdict,
-        lines: at.lines,
-    })
+    let verdict = verdict_on(rt, alloc, disciplined.trace, head.counts, section, &judged)?;
+    Ok((verdict, at.lines))
 }
 
 /// Why a text that is longer than a report may be is none.
 fn stop_of_long<R: RandomSource>(
     rt: &R,
     alloc: Global,
-    trace: &Disciplined<'_>,
+    disciplined: &Disciplined<'_>,
     text: &[u8],
 ) -> ReadStop
     requires long { most_bytes < length text.now }
     ensures { IfStop result (IsBadLine most_bytes text.now) }
 {
     let (seen, _) = text.split_at(MOST_BYTES as usize);
-    match judge_text(rt, alloc, trace, seen) {
-        Ok(judged) => ReadStop::BadLine(judged.lines + 1),
+    match judge_text(rt, alloc, disciplined, seen) {
+        Ok((_, lines)) => ReadStop::BadLine(lines + 1),
         Err(stop) => stop,
     }
 }
@@ -118,17 +108,17 @@ fn stop_of_long<R: RandomSource>(
 fn verdict_of<R: RandomSource>(
     rt: &R,
     alloc: Global,
-    trace: &Disciplined<'_>,
+    disciplined: &Disciplined<'_>,
     text: &[u8],
 ) -> Result<Verdict, ReadStop>
-    ensures verdict { IfOk result (IsVerdictFor trace.now.trace.now text.now) }
+    ensures verdict { IfOk result (IsVerdictFor disciplined.now.trace.now text.now) }
     ensures bad { IfBad result (IsBadLine most_bytes text.now) }
 {
     if text.len() as u64 > MOST_BYTES {
-        return Err(stop_of_long(rt, alloc, trace, text));
+        return Err(stop_of_long(rt, alloc, disciplined, text));
     }
-    let judged = judge_text(rt, alloc, trace, text)?;
-    Ok(judged.verdict)
+    let (verdict, _) = judge_text(rt, alloc, disciplined, text)?;
+    Ok(verdict)
 }
 
 /// Reads a report of at most 1,073,741,824 bytes, of version 1 or version 2, and judges it against a
@@ -156,19 +146,19 @@ fn verdict_of<R: RandomSource>(
 pub fn judge_report<S: Source, R: RandomSource>(
     rt: &R,
     alloc: Global,
-    trace: &Disciplined<'_>,
+    disciplined: &Disciplined<'_>,
     source: &mut S,
 ) -> Result<Verdict, ReadError>
     requires countable { S.failure_count source.old < 2 ^ 64 - 1 }
     ensures verdict { IfOk result (λ verdict. ReadsText most_read (S.remaining source.old) (S.remaining source.new)
         (S.given_count source.old) (S.given_count source.new) (λ text.
-        IsVerdictFor trace.now.trace.now text verdict)) }
+        IsVerdictFor disciplined.now.trace.now text verdict)) }
     ensures taken { TakesAtMost most_read (S.remaining source.old) (S.remaining source.new) }
     ensures given { S.given_count source.new ≤ S.given_count source.old + most_read }
     ensures counted { CountsFailure read_failed (S.failure_count source.old) (S.failure_count source.new) result }
 {
     let text = read_whole(alloc, source, MOST_BYTES)?;
-    match verdict_of(rt, alloc, trace, text.as_slice()) {
+    match verdict_of(rt, alloc, disciplined, text.as_slice()) {
         Ok(verdict) => Ok(verdict),
         Err(ReadStop::BadLine(line)) => Ok(Verdict::BadLine { line }),
         Err(ReadStop::Memory(refused)) => Err(ReadError::Memory(refused)),

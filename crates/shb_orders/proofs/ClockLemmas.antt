@@ -1,5 +1,6 @@
 -- The clock before an event, one thread more.
-use Rattle.std.proofs.Common.{◌≡◌, ℕ, ◌+◌, ◌<◌, ◌≤◌, ◌⊎◌, inl, inr, List, [], ◌∷◌, ◌++◌, length, get_or, ap, arith, subst, sym, refl, ◌∙◌}
+use Rattle.std.proofs.lemmas.Grind.{common_steps}
+use Rattle.std.proofs.Common.{◌≡◌, ℕ, ◌+◌, ◌<◌, ◌≤◌, inl, inr, List, [], ◌∷◌, ◌++◌, length, get_or, ap, arith, subst, sym, refl, ◌∙◌}
 use Rattle.std.proofs.Math.ListN.{get_or-append}
 use Rattle.std.proofs.lemmas.List.{get_or_default, get_or_past, get_or_push, length_push}
 use Rattle.std.proofs.lemmas.Bool.{cases_lt}
@@ -16,17 +17,7 @@ pub record HasEntries (trace : List Event) (e threads : ℕ) (clock : List ℕ) 
   pub each : (t : ℕ) → t < threads → IsBelowPredCount trace t e (get_or clock t 0)
 
 pub entries_more : (trace : List Event) (e threads count : ℕ) (clock : List ℕ) → IsBelowPredCount trace threads e count → HasEntries trace e threads clock → HasEntries trace e (threads + 1) (clock ++ count ∷ [])
-entries_more trace e threads count clock new old = record {
-  as_many = (let many = old.as_many in let long = length_push clock count in omega (arith, many, long));
-  each = λ t lt. go t lt (cases_lt t threads);
-}
-  where
-    go : (t : ℕ) → t < threads + 1 → (t < threads) ⊎ (threads ≤ t) → IsBelowPredCount trace t e (get_or (clock ++ count ∷ []) t 0)
-    go t lt (inl low) = subst (IsBelowPredCount trace t e) (sym (get_or-append clock (count ∷ []) 0 t (let many = old.as_many in omega (arith, many, low)))) (old.each t low)
-    go t lt (inr le) =
-        let same : threads ≡ t = omega (arith, lt, le) in
-        let at_end = get_or_push clock count 0 t (let many = old.as_many in omega (arith, many, same)) in
-        subst (IsBelowPredCount trace t e) (sym at_end) (subst (λ (u : ℕ). IsBelowPredCount trace u e count) same new)
+entries_more trace e threads count clock new old = grind (arith, common_steps, length_push, cases_lt, get_or-append, get_or_push)
 
 pub clock_whole : (trace : List Event) (sizes : Sizes) (e threads : ℕ) (clock : List ℕ) → IsWithin trace sizes → sizes.threads ≤ threads → HasEntries trace e threads clock → IsClockBefore trace e clock
 clock_whole trace sizes e threads clock within all has t = elim (cases_lt t threads) [

@@ -1,4 +1,5 @@
 -- The sweep that marks what is SHB-below an event.
+use Rattle.std.proofs.lemmas.Grind.{common_steps}
 use Rattle.std.proofs.Common.{◌≡◌, ◌≢◌, ℕ, ◌+◌, ◌<◌, ◌≤◌, ◌⊎◌, inl, inr, Bool, true, false, List, [], Some, length, get_or, sym, ◌∙◌, ap, arith, subst, get_or-set_same, get_or-set_other}
 use Rattle.std.specs.Prelude.{◌↔◌, replicate, slice_get}
 use Rattle.std.proofs.Math.ListN.{set, length-set, length-replicate, get_or-replicate}
@@ -23,10 +24,7 @@ rule_read trace a b d x y test at_a at_b is = ap (λ (e : Event). is_hb_rule e (
 
 -- a list of unmarked events
 unmarked : (n k : ℕ) (xs : List Bool) → xs ≡ replicate n false → get_or xs k false ≡ false
-unmarked n k xs same = elim (cases_lt k n) [
-  | inl lt ↦ ap (λ (ys : List Bool). get_or ys k false) same ∙ get_or-replicate n k false false lt
-  | inr le ↦ get_or_past xs k false (let total = ap length same in let size = length-replicate n false in omega (arith, total, size))
-]
+unmarked n k xs same = grind (arith, common_steps, cases_lt, get_or-replicate, get_or_past, length-replicate)
 
 -- before the sweep p alone is marked
 pub marks_start : (trace : List Event) (p : ℕ) (xs : List Bool) → p < length trace → xs ≡ replicate (length trace) false → MarksFrom trace p p (set xs p true)

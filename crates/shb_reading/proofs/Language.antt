@@ -1,9 +1,9 @@
 -- The forms are those of the lines of reports, and of no other lines.
-use Rattle.std.proofs.Common.{◌≡◌, inl, ℕ, zero, suc, ◌≤◌, List, [], ◌∷◌, ◌++◌, length, take, codes, refl, sym, ap, ◌∙◌, arith, append_assoc}
+use Rattle.std.proofs.Common.{◌≡◌, true, false, ℕ, zero, suc, ◌≤◌, List, [], ◌∷◌, ◌++◌, length, take, codes, refl, sym, ap, ◌∙◌, arith, append_assoc}
 use Rattle.std.specs.Fmt.{decimal}
 use Rattle.shb_report.specs.declared.counts.Counts.{Counts}
 use Rattle.shb_report.specs.Value.{AreShown, HasNoLineFeed, IsRest, counts_line, lines_text, listed, numbers_line, place_line, places_line, race_numbers_line, races_line}
-use Rattle.shb_reading.specs.Forms.{Form, Version, CountsForm, Races, RacesBeforePlaces, Places, PlaceForm, Race, Named, Schedule, End, Label, First, Second, At, And, label_bytes, least_after, HasForm, TakesForm, Takes}
+use Rattle.shb_reading.specs.Forms.{Form, Version, CountsForm, Races, Places, PlaceForm, Race, Named, Schedule, End, Label, First, Second, At, And, label_bytes, least_after, HasForm, TakesForm, Takes}
 use Rattle.shb_reading.proofs.Fronts.{one_line-append, one_line-decimal}
 
 -- all of these lines have these forms, one after another
@@ -103,13 +103,13 @@ ends_more form forms line added free has later = (line ∷ later.0, (free, (adde
 pub can_end : (forms : List Form) → Ends forms
 can_end [] = ([], refl)
 can_end (Version ∷ forms) =
-    ends_more Version forms (codes "shb-report 1") (CountsForm ∷ (Races ∷ [])) refl (inl (refl, refl))
-    (ends_more CountsForm (Races ∷ forms) (counts_line zeros) [] (one_line-counts zeros) (zeros, zeros-shown, refl, refl)
-    (ends_more Races forms (races_line 0) [] (one_line-races 0) (0, omega arith, refl, refl) (can_end forms)))
+    ends_more Version forms (codes "shb-report 1") (CountsForm ∷ (Races false ∷ [])) refl (false, refl, refl)
+    (ends_more CountsForm (Races false ∷ forms) (counts_line zeros) [] (one_line-counts zeros) (zeros, zeros-shown, refl, refl)
+    (ends_more (Races false) forms (races_line 0) [] (one_line-races 0) (0, omega arith, refl, refl) (can_end forms)))
 can_end (CountsForm ∷ forms) = ends_more CountsForm forms (counts_line zeros) [] (one_line-counts zeros) (zeros, zeros-shown, refl, refl) (can_end forms)
-can_end (Races ∷ forms) = ends_more Races forms (races_line 0) [] (one_line-races 0) (0, omega arith, refl, refl) (can_end forms)
-can_end (RacesBeforePlaces ∷ forms) =
-    ends_more RacesBeforePlaces forms (races_line 0) (Places ∷ []) (one_line-races 0) (0, omega arith, refl, refl)
+can_end (Races false ∷ forms) = ends_more (Races false) forms (races_line 0) [] (one_line-races 0) (0, omega arith, refl, refl) (can_end forms)
+can_end (Races true ∷ forms) =
+    ends_more (Races true) forms (races_line 0) (Places ∷ []) (one_line-races 0) (0, omega arith, refl, refl)
     (ends_more Places forms (places_line 0) [] (one_line-places 0) (0, omega arith, refl, refl) (can_end forms))
 can_end (Places ∷ forms) = ends_more Places forms (places_line 0) [] (one_line-places 0) (0, omega arith, refl, refl) (can_end forms)
 can_end (PlaceForm number ∷ forms) = ends_more (PlaceForm number) forms (place_line number 0) [] (one_line-place number 0) (0, omega arith, refl, refl) (can_end forms)

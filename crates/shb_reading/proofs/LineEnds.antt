@@ -1,9 +1,9 @@
 -- Where a line ends, and which lines stand at a front.
-use Rattle.std.proofs.Common.{codes, inl, inr, ◌≡◌, ◌≢◌, ℕ, suc, ◌+◌, ◌<◌, ◌==◌, Bool, true, false, not, List, [], ◌∷◌, ◌++◌, length, get_or, take, drop, None, Some, refl, sym, ap, subst, ◌∙◌, arith, append_assoc, take-append-drop, length-take, length-append, get_or-take}
+use Rattle.std.proofs.Common.{◌≡◌, ◌≢◌, ℕ, suc, ◌+◌, ◌<◌, ◌==◌, Bool, true, false, not, List, [], ◌∷◌, ◌++◌, length, get_or, take, drop, None, Some, refl, sym, ap, subst, ◌∙◌, arith, append_assoc, take-append-drop, length-take, length-append, get_or-take}
 use Rattle.std.proofs.Math.Seq.{drop-cons, drop-append_seam, take-append_seam}
 use Rattle.std.proofs.lemmas.List.{drop-drop}
 use Rattle.memchr.specs.Find.{IsFirstByte, is_byte}
-use Rattle.shb_reading.specs.Forms.{Form, Version, Named, Label, label_bytes, least_after, HasForm, TakesForm}
+use Rattle.shb_reading.specs.Forms.{Form, Named, Label, label_bytes, least_after, HasForm, TakesForm}
 use Rattle.shb_reading.specs.declared.position.Position.{Position}
 use Rattle.shb_reading.specs.declared.parts.Span.{Span}
 use Rattle.shb_reading.specs.Parts.{IsSpanIn, bytes_at}
@@ -50,13 +50,6 @@ lacks_by form bytes line rest b unlike l added more t = unlike added (subst (λ 
 
 pub takes_by : (form : Form) (bytes line rest : List ℕ) (added : List Form) → BeginsWithLine bytes line rest → HasForm form line added → TakesForm form bytes line added rest
 takes_by form bytes line rest added b has = record { one_line = b.one_line; has_form = has; bytes_are = b.bytes_are }
-
-pub lacks_version : (bytes line rest : List ℕ) → BeginsWithLine bytes line rest → (line ≢ codes "shb-report 1") × (line ≢ codes "shb-report 2") → Lacks Version bytes
-lacks_version bytes line rest b unlike = lacks_by Version bytes line rest b by
-  where
-    by : (added : List Form) → HasForm Version line added → ⊥
-    by added (inl h) = unlike.0 h.0
-    by added (inr h) = unlike.1 h.0
 
 -- a line of a label and bytes, where those bytes stand
 pub named_bytes : (text label bytes rest : List ℕ) (start : ℕ) → drop start text ≡ (label ++ bytes) ++ (10 ∷ rest) → take (length bytes) (drop (start + length label) text) ≡ bytes

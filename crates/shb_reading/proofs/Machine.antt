@@ -1,20 +1,22 @@
 -- The forms determine what a text's lines are, and so which line is the first bad one.
-use Rattle.std.proofs.Common.{◌≡◌, inl, inr, ℕ, zero, suc, ◌+◌, ◌<◌, List, [], ◌∷◌, ◌++◌, length, codes, get_or, refl, sym, ap, subst, ◌∙◌, arith}
-use Rattle.shb_reading.specs.Forms.{Form, Version, CountsForm, Races, RacesBeforePlaces, Places, PlaceForm, Race, Named, Schedule, End, HasForm, TakesForm, Takes, IsBadFrom, block_forms, place_forms}
+use Rattle.std.proofs.Common.{◌≡◌, Bool, true, false, ℕ, zero, suc, ◌+◌, ◌<◌, List, [], ◌∷◌, ◌++◌, length, codes, get_or, refl, sym, ap, subst, ◌∙◌, arith}
+use Rattle.shb_reading.specs.Forms.{Form, Version, CountsForm, Races, Places, PlaceForm, Race, Named, Schedule, End, HasForm, TakesForm, Takes, IsBadFrom, block_forms, place_forms, places_form, version_text}
 use Rattle.shb_reading.proofs.Fronts.{same_line, same_ending}
 
 pub versions_differ : codes "shb-report 1" ≡ codes "shb-report 2" → ⊥
 versions_differ e = let digits : ◌≡◌ {A = ℕ} 49 50 = ap (λ (l : List ℕ). get_or l 11 0) e in omega arith
 
+same_version : (p q : Bool) → version_text p ≡ version_text q → p ≡ q
+same_version true true e = refl
+same_version true false e = absurd (versions_differ (sym e))
+same_version false true e = absurd (versions_differ e)
+same_version false false e = refl
+
 -- a line has a form in one way
 pub same_added : (form : Form) (line : List ℕ) (a b : List Form) → HasForm form line a → HasForm form line b → a ≡ b
-same_added Version line a b (inl h) (inl g) = h.1 ∙ sym g.1
-same_added Version line a b (inl h) (inr g) = absurd (versions_differ (sym h.0 ∙ g.0))
-same_added Version line a b (inr h) (inl g) = absurd (versions_differ (sym g.0 ∙ h.0))
-same_added Version line a b (inr h) (inr g) = h.1 ∙ sym g.1
+same_added Version line a b h g = h.2 ∙ ap (λ p. CountsForm ∷ (Races p ∷ [])) (same_version h.0 g.0 (sym h.1 ∙ g.1)) ∙ sym g.2
 same_added CountsForm line a b h g = h.3 ∙ sym g.3
-same_added Races line a b h g = h.3 ∙ ap (block_forms 1) (same_ending (codes "races ") h.0 g.0 h.1 g.1 (sym h.2 ∙ g.2)) ∙ sym g.3
-same_added RacesBeforePlaces line a b h g = h.3 ∙ ap (λ n. Places ∷ block_forms 1 n) (same_ending (codes "races ") h.0 g.0 h.1 g.1 (sym h.2 ∙ g.2)) ∙ sym g.3
+same_added (Races p) line a b h g = h.3 ∙ ap (λ n. places_form p ++ block_forms 1 n) (same_ending (codes "races ") h.0 g.0 h.1 g.1 (sym h.2 ∙ g.2)) ∙ sym g.3
 same_added Places line a b h g = h.3 ∙ ap (place_forms 1) (same_ending (codes "places ") h.0 g.0 h.1 g.1 (sym h.2 ∙ g.2)) ∙ sym g.3
 same_added (PlaceForm number) line a b h g = h.3 ∙ sym g.3
 same_added (Race number) line a b h g = h.5 ∙ sym g.5

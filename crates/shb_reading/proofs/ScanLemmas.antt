@@ -1,5 +1,5 @@
 -- The parts of a report, one after another.
-use Rattle.std.proofs.Common.{◌≡◌, inl, inr, ℕ, ◌+◌, ◌-◌, ◌*◌, ◌^◌, ◌<◌, ◌≤◌, Bool, true, false, List, [], ◌∷◌, ◌++◌, length, codes, refl, sym, ap, subst, ◌∙◌, arith, append_assoc, append-nil, length-append, length-drop}
+use Rattle.std.proofs.Common.{◌≡◌, ℕ, ◌+◌, ◌-◌, ◌*◌, ◌^◌, ◌<◌, ◌≤◌, Bool, true, false, List, [], ◌∷◌, ◌++◌, length, codes, refl, sym, ap, subst, ◌∙◌, arith, append_assoc, append-nil, length-append, length-drop}
 use Rattle.std.proofs.lemmas.List.{length-map, take_all}
 use Rattle.std.specs.List.{AllByRecursion}
 use Rattle.shb_lines.specs.text.Limits.{most_bytes}
@@ -7,29 +7,24 @@ use Rattle.shb_reading.specs.declared.position.Position.{Position}
 use Rattle.shb_reading.specs.declared.parts.PlaceEntry.{PlaceEntry}
 use Rattle.shb_reading.specs.declared.parts.Parts.{Parts}
 use Rattle.shb_report.specs.declared.counts.Counts.{Counts}
-use Rattle.shb_reading.specs.Forms.{Form, Version, CountsForm, Races, RacesBeforePlaces, Places, block_forms}
-use Rattle.shb_reading.specs.Lines.{IsBadAt, Lacks, Passes, TakesLine, bytes_from}
-use Rattle.shb_reading.specs.Parts.{IsPlaceIn, IsScanned, IsTextOf, KeepsFirst, ReadsBlocks, ReadsPlaces, ReadsSection, TakesBlocks, blocks_at, places_at, places_form, races_form, section_at, version_text}
+use Rattle.shb_reading.specs.Forms.{Form, Version, CountsForm, Races, Places, block_forms, places_form, version_text}
+use Rattle.shb_reading.specs.Lines.{IsBadAt, Passes, TakesLine, bytes_from}
+use Rattle.shb_reading.specs.Parts.{IsPlaceIn, IsScanned, IsTextOf, KeepsFirst, ReadsBlocks, ReadsPlaces, ReadsSection, TakesBlocks, blocks_at, places_at, section_at}
 use Rattle.shb_report.specs.Value.{AreShown, Block, IsShown, Place, block_lines, counts_line, lines_text, place_lines, places_line, places_section, races_line, version_line}
 use Rattle.shb_reading.proofs.Machine.{bad_after}
-use Rattle.shb_reading.proofs.Passing.{bad_at, passes_by}
+use Rattle.shb_reading.proofs.Passing.{passes_by}
 use Rattle.shb_report.proofs.EachLemmas.{each-take}
 use Rattle.shb_report.proofs.LineLemmas.{joined}
 
 -- the version decides which forms follow
 
-pub passes_version : (forms : List Form) (text : List ℕ) (old new : Position) (with_places : Bool) → TakesLine text old new (version_text with_places) → Passes text old new (Version ∷ forms) (CountsForm ∷ (races_form with_places ∷ forms))
-passes_version forms text old new true taken = passes_by Version (CountsForm ∷ (RacesBeforePlaces ∷ [])) forms text old new _ taken (inr (refl, refl))
-passes_version forms text old new false taken = passes_by Version (CountsForm ∷ (Races ∷ [])) forms text old new _ taken (inl (refl, refl))
+pub passes_version : (forms : List Form) (text : List ℕ) (old new : Position) (with_places : Bool) → TakesLine text old new (version_text with_places) → Passes text old new (Version ∷ forms) (CountsForm ∷ (Races with_places ∷ forms))
+passes_version forms text old new with_places taken = passes_by Version (CountsForm ∷ (Races with_places ∷ [])) forms text old new _ taken (with_places, refl, refl)
 
 pub passes_race_count : (forms : List Form) (text : List ℕ) (old new : Position) (with_places : Bool) (n : ℕ) → TakesLine text old new (races_line n) → IsShown n
-    → Passes text old new (races_form with_places ∷ forms) (places_form with_places ++ (block_forms 1 n ++ forms))
-passes_race_count forms text old new true n taken shown = passes_by RacesBeforePlaces (Places ∷ block_forms 1 n) forms text old new _ taken (n, shown, refl, refl)
-passes_race_count forms text old new false n taken shown = passes_by Races (block_forms 1 n) forms text old new _ taken (n, shown, refl, refl)
-
-pub bad_race_count : (forms : List Form) (text : List ℕ) (old new : Position) (with_places : Bool) → new ≡ old → Lacks Races (bytes_from text old) → Lacks RacesBeforePlaces (bytes_from text old) → IsBadAt text old (races_form with_places ∷ forms) (new.lines + 1)
-bad_race_count forms text old new true same races before = bad_at RacesBeforePlaces forms text old new same before
-bad_race_count forms text old new false same races before = bad_at Races forms text old new same races
+    → Passes text old new (Races with_places ∷ forms) (places_form with_places ++ (block_forms 1 n ++ forms))
+passes_race_count forms text old new true n taken shown = passes_by (Races true) (Places ∷ block_forms 1 n) forms text old new _ taken (n, shown, refl, refl)
+passes_race_count forms text old new false n taken shown = passes_by (Races false) (block_forms 1 n) forms text old new _ taken (n, shown, refl, refl)
 
 -- the places, or none
 

@@ -1,8 +1,8 @@
 -- The lines of the forms are those of the reports in the grammar.
-use Rattle.std.proofs.Common.{◌≡◌, inl, inr, ℕ, zero, suc, ◌+◌, List, [], ◌∷◌, ◌++◌, length, codes, refl, sym, ap, subst, ◌∙◌, Option, None, Some, IfSome}
+use Rattle.std.proofs.Common.{◌≡◌, true, false, ℕ, zero, suc, ◌+◌, List, [], ◌∷◌, ◌++◌, length, codes, refl, sym, ap, subst, ◌∙◌, Option, None, Some, IfSome}
 use Rattle.std.specs.List.{AllByRecursion}
 use Rattle.shb_report.specs.Value.{ArePlaces, Block, IsBlock, IsPlace, IsReportValue, IsShown, Place, ReportValue, block_lines, counts_line, numbers_line, place_line, place_lines, places_line, places_section, race_numbers_line, races_line, report_lines, version_line}
-use Rattle.shb_reading.specs.Forms.{Form, Version, CountsForm, Races, RacesBeforePlaces, Places, PlaceForm, Race, Named, Schedule, End, First, Second, At, And, HasForm, block_forms, place_forms}
+use Rattle.shb_reading.specs.Forms.{Form, Version, CountsForm, Races, Places, PlaceForm, Race, Named, Schedule, End, First, Second, At, And, HasForm, block_forms, place_forms}
 use Rattle.shb_reading.proofs.Language.{AreLines, line_then, one_line-counts, one_line-races, one_line-places, one_line-place, one_line-race, one_line-named, one_line-numbers}
 
 -- a report's lines have the forms
@@ -44,16 +44,16 @@ lines_of_value report h = by report.places h.places
     by None p =
         let n = length report.blocks in
         let tail = block_lines 1 report.blocks ++ codes "end" ∷ [] in
-        line_then Version (End ∷ []) (codes "shb-report 1") (CountsForm ∷ (Races ∷ [])) (counts_line report.counts ∷ (races_line n ∷ tail)) refl (inl (refl, refl))
-        (line_then CountsForm (Races ∷ (End ∷ [])) (counts_line report.counts) [] (races_line n ∷ tail) (one_line-counts report.counts) (report.counts, h.counts, refl, refl)
-        (line_then Races (End ∷ []) (races_line n) (block_forms 1 n) tail (one_line-races n) (n, h.few, refl, refl) are_blocks))
+        line_then Version (End ∷ []) (codes "shb-report 1") (CountsForm ∷ (Races false ∷ [])) (counts_line report.counts ∷ (races_line n ∷ tail)) refl (false, refl, refl)
+        (line_then CountsForm (Races false ∷ (End ∷ [])) (counts_line report.counts) [] (races_line n ∷ tail) (one_line-counts report.counts) (report.counts, h.counts, refl, refl)
+        (line_then (Races false) (End ∷ []) (races_line n) (block_forms 1 n) tail (one_line-races n) (n, h.few, refl, refl) are_blocks))
     by (Some places) p =
         let n = length report.blocks in
         let tail = block_lines 1 report.blocks ++ codes "end" ∷ [] in
         let section = places_line (length places) ∷ (place_lines 1 places ++ tail) in
-        line_then Version (End ∷ []) (codes "shb-report 2") (CountsForm ∷ (RacesBeforePlaces ∷ [])) (counts_line report.counts ∷ (races_line n ∷ section)) refl (inr (refl, refl))
-        (line_then CountsForm (RacesBeforePlaces ∷ (End ∷ [])) (counts_line report.counts) [] (races_line n ∷ section) (one_line-counts report.counts) (report.counts, h.counts, refl, refl)
-        (line_then RacesBeforePlaces (End ∷ []) (races_line n) (Places ∷ block_forms 1 n) section (one_line-races n) (n, h.few, refl, refl)
+        line_then Version (End ∷ []) (codes "shb-report 2") (CountsForm ∷ (Races true ∷ [])) (counts_line report.counts ∷ (races_line n ∷ section)) refl (true, refl, refl)
+        (line_then CountsForm (Races true ∷ (End ∷ [])) (counts_line report.counts) [] (races_line n ∷ section) (one_line-counts report.counts) (report.counts, h.counts, refl, refl)
+        (line_then (Races true) (End ∷ []) (races_line n) (Places ∷ block_forms 1 n) section (one_line-races n) (n, h.few, refl, refl)
         (line_then Places (block_forms 1 n ++ End ∷ []) (places_line (length places)) (place_forms 1 (length places)) (place_lines 1 places ++ tail) (one_line-places (length places)) (length places, p.few, refl, refl)
         (lines_of_places 1 places (block_forms 1 n ++ End ∷ []) tail p.each are_blocks))))
 
@@ -146,10 +146,10 @@ only_end lines h =
 abbrev ReportOf : List (List ℕ) → Type 0
 ReportOf lines = (report : ReportValue) × IsReportValue report × (report_lines report ≡ lines)
 
-with_races : (lines : List (List ℕ)) (v : FirstLine Version (End ∷ []) lines) → v.line ≡ codes "shb-report 1" → v.added ≡ CountsForm ∷ (Races ∷ []) → ReportOf lines
+with_races : (lines : List (List ℕ)) (v : FirstLine Version (End ∷ []) lines) → v.line ≡ codes "shb-report 1" → v.added ≡ CountsForm ∷ (Races false ∷ []) → ReportOf lines
 with_races lines v is added =
-    let counts = first_line CountsForm (Races ∷ (End ∷ [])) v.more (on (End ∷ []) v.added v.more _ added v.later) in
-    let races = first_line Races (End ∷ []) counts.more (on (Races ∷ (End ∷ [])) counts.added counts.more [] counts.has.3 counts.later) in
+    let counts = first_line CountsForm (Races false ∷ (End ∷ [])) v.more (on (End ∷ []) v.added v.more _ added v.later) in
+    let races = first_line (Races false) (End ∷ []) counts.more (on (Races false ∷ (End ∷ [])) counts.added counts.more [] counts.has.3 counts.later) in
     let blocks = blocks_of 1 races.has.0 (End ∷ []) races.more (on (End ∷ []) races.added races.more _ races.has.3 races.later) in
     let report : ReportValue = record { counts = counts.has.0; places = None; blocks = blocks.blocks } in (
       report,
@@ -160,10 +160,10 @@ with_races lines v is added =
           (blocks.is ∙ ap (λ m. block_lines 1 blocks.blocks ++ m) (only_end blocks.more blocks.later))))),
     )
 
-with_places : (lines : List (List ℕ)) (v : FirstLine Version (End ∷ []) lines) → v.line ≡ codes "shb-report 2" → v.added ≡ CountsForm ∷ (RacesBeforePlaces ∷ []) → ReportOf lines
+with_places : (lines : List (List ℕ)) (v : FirstLine Version (End ∷ []) lines) → v.line ≡ codes "shb-report 2" → v.added ≡ CountsForm ∷ (Races true ∷ []) → ReportOf lines
 with_places lines v is added =
-    let counts = first_line CountsForm (RacesBeforePlaces ∷ (End ∷ [])) v.more (on (End ∷ []) v.added v.more _ added v.later) in
-    let races = first_line RacesBeforePlaces (End ∷ []) counts.more (on (RacesBeforePlaces ∷ (End ∷ [])) counts.added counts.more [] counts.has.3 counts.later) in
+    let counts = first_line CountsForm (Races true ∷ (End ∷ [])) v.more (on (End ∷ []) v.added v.more _ added v.later) in
+    let races = first_line (Races true) (End ∷ []) counts.more (on (Races true ∷ (End ∷ [])) counts.added counts.more [] counts.has.3 counts.later) in
     let forms = block_forms 1 races.has.0 ++ End ∷ [] in
     let count = first_line Places forms races.more (on (End ∷ []) races.added races.more _ races.has.3 races.later) in
     let places = places_from 1 count.has.0 forms count.more (on forms count.added count.more _ count.has.3 count.later) in
@@ -185,5 +185,5 @@ value_of_lines lines h = by (first_line Version (End ∷ []) lines h)
     by v = either v v.has
       where
         either : (v : FirstLine Version (End ∷ []) lines) → HasForm Version v.line v.added → ReportOf lines
-        either v (inl h) = with_races lines v h.0 h.1
-        either v (inr h) = with_places lines v h.0 h.1
+        either v (false, is, added) = with_races lines v is added
+        either v (true, is, added) = with_places lines v is added

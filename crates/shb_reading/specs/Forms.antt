@@ -1,5 +1,5 @@
 -- The forms of the lines of a report, one after another: what the reader still expects.
-use Rattle.std.specs.Prelude.{◌≡◌, ℕ, zero, suc, ◌+◌, ◌⊎◌, List, [], ◌∷◌, ◌++◌, length, codes}
+use Rattle.std.specs.Prelude.{◌≡◌, ℕ, zero, suc, ◌+◌, Bool, List, [], ◌∷◌, ◌++◌, length, codes, if◌then◌else◌}
 use Rattle.std.specs.List.{AllByRecursion}
 use Rattle.shb_report.specs.declared.counts.Counts.{Counts}
 use Rattle.shb_report.specs.Value.{AreShown, HasNoLineFeed, IsRest, IsShown, counts_line, numbers_line, place_line, places_line, race_numbers_line, races_line}
@@ -28,8 +28,7 @@ least_after And = 0
 pub data Form : Type 0 where
   Version : Form
   CountsForm : Form
-  Races : Form
-  RacesBeforePlaces : Form
+  Races : Bool → Form
   Places : Form
   PlaceForm : ℕ → Form
   Race : ℕ → Form
@@ -46,13 +45,18 @@ abbrev pub block_forms : ℕ → ℕ → List Form
 block_forms number zero = []
 block_forms number (suc count) = Race number ∷ (Named First ∷ (Named Second ∷ (Schedule ∷ block_forms (number + 1) count)))
 
+-- the first line, and what stands between the races' count and the blocks, of reports that have places and of those that have none
+abbrev pub version_text : Bool → List ℕ
+version_text with_places = if with_places then codes "shb-report 2" else codes "shb-report 1"
+
+abbrev pub places_form : Bool → List Form
+places_form with_places = if with_places then Places ∷ [] else []
+
 -- the line has the form, and these forms are then expected before those that were expected after it
 abbrev pub HasForm : Form → List ℕ → List Form → Type 0
-HasForm Version line added =
-    ((line ≡ codes "shb-report 1") × (added ≡ CountsForm ∷ (Races ∷ []))) ⊎ ((line ≡ codes "shb-report 2") × (added ≡ CountsForm ∷ (RacesBeforePlaces ∷ [])))
+HasForm Version line added = (with_places : Bool) × (line ≡ version_text with_places) × (added ≡ CountsForm ∷ (Races with_places ∷ []))
 HasForm CountsForm line added = (counts : Counts) × AreShown counts × (line ≡ counts_line counts) × (added ≡ [])
-HasForm Races line added = (n : ℕ) × IsShown n × (line ≡ races_line n) × (added ≡ block_forms 1 n)
-HasForm RacesBeforePlaces line added = (n : ℕ) × IsShown n × (line ≡ races_line n) × (added ≡ Places ∷ block_forms 1 n)
+HasForm (Races with_places) line added = (n : ℕ) × IsShown n × (line ≡ races_line n) × (added ≡ places_form with_places ++ block_forms 1 n)
 HasForm Places line added = (n : ℕ) × IsShown n × (line ≡ places_line n) × (added ≡ place_forms 1 n)
 HasForm (PlaceForm number) line added = (n : ℕ) × IsShown n × (line ≡ place_line number n) × (added ≡ [])
 HasForm (Race number) line added = (i : ℕ) × (j : ℕ) × IsShown i × IsShown j × (line ≡ race_numbers_line number i j) × (added ≡ [])

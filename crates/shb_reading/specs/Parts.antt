@@ -1,5 +1,5 @@
 -- Where the parts of a report stand in its text, and the report that they are.
-use Rattle.std.specs.Prelude.{◌≡◌, ℕ, ◌+◌, ◌*◌, ◌≤◌, Bool, List, [], ◌∷◌, ◌++◌, length, map, take, drop, Option, None, Some, IfSome, codes, if◌then◌else◌}
+use Rattle.std.specs.Prelude.{◌≡◌, ℕ, ◌+◌, ◌*◌, ◌≤◌, Bool, List, [], ◌∷◌, ◌++◌, length, map, take, drop, Option, None, Some, IfSome, if◌then◌else◌}
 use Rattle.std.specs.List.{AllByRecursion}
 use Rattle.shb_lines.specs.text.Limits.{most_bytes}
 use Rattle.shb_reading.specs.declared.parts.Span.{Span}
@@ -8,7 +8,7 @@ use Rattle.shb_reading.specs.declared.whole.Head.{Head}
 use Rattle.shb_reading.specs.declared.parts.RaceEntry.{RaceEntry}
 use Rattle.shb_reading.specs.declared.parts.PlaceEntry.{PlaceEntry}
 use Rattle.shb_reading.specs.declared.position.Position.{Position}
-use Rattle.shb_reading.specs.Forms.{Form, Races, RacesBeforePlaces, Places, PlaceForm, Race, Named, Schedule, First, Second, At, And}
+use Rattle.shb_reading.specs.Forms.{Form, PlaceForm, Race, Named, Schedule, First, Second, At, And, version_text}
 use Rattle.shb_reading.specs.Lines.{bytes_from}
 use Rattle.shb_report.specs.Value.{AreShown, ArePlaces, Block, Place, IsBlock, IsPlace, IsReportValue, IsShown, ReportValue, block_lines, counts_line, lines_text, place_lines, places_section, races_line, report_lines, report_text}
 
@@ -133,15 +133,6 @@ pub record IsTextOf (text : List ℕ) (report : ReportValue) (lines : ℕ) : Typ
 pub record IsScanned (text : List ℕ) (parts : Parts) (lines : ℕ) : Type 0 where
   pub parts_in : ArePartsIn text parts
   pub whole : IsTextOf text (report_at text parts) lines
-
-abbrev pub version_text : Bool → List ℕ
-version_text with_places = if with_places then codes "shb-report 2" else codes "shb-report 1"
-
-abbrev pub races_form : Bool → Form
-races_form with_places = if with_places then RacesBeforePlaces else Races
-
-abbrev pub places_form : Bool → List Form
-places_form with_places = if with_places then Places ∷ [] else []
 
 -- the first three lines were read
 pub record ReadsHead (text : List ℕ) (old new : Position) (head : Head) : Type 0 where

@@ -82,24 +82,17 @@ fn read_place(text: &[u8], at: &mut Position, number: u64) -> Result<PlaceEntry,
     })
 }
 
-/// Where the blocks of a report stand, and the numbers of all their schedules.
-#[derive(Drop)]
-pub(crate) struct BlockEntries {
-    pub races: Vec<RaceEntry>,
-    pub numbers: Vec<u64>,
-}
-
-/// Reads so many blocks.
+/// Reads so many blocks: where each stands, and the numbers of all their schedules.
 pub(crate) fn read_blocks(
     alloc: Global,
     text: &[u8],
     at: &mut Position,
     count: u64,
-) -> Result<BlockEntries, ReadStop>
+) -> Result<(Vec<RaceEntry>, Vec<u64>), ReadStop>
     requires short { length text.now ≤ most_bytes }
     requires at { IsAt text.now at.old }
     ensures at { OnOk result (IsAt text.now at.new) }
-    ensures read { IfOk result (λ blocks. ReadsBlocks text.now at.old at.new count blocks.numbers.items blocks.races.items) }
+    ensures read { IfOk result (λ blocks. ReadsBlocks text.now at.old at.new count blocks.1.items blocks.0.items) }
     ensures passes { OnOk result ((forms : List Form) → Passes text.now at.old at.new (block_forms 1 count ++ forms) forms) }
     ensures bad { (forms : List Form) → IfBad result (IsBadAt text.now at.old (block_forms 1 count ++ forms)) }
 {
@@ -114,7 +107,7 @@ pub(crate) fn read_blocks(
             Err(refused) => return Err(ReadStop::Memory(NoMemory::from(refused))),
         }
     }
-    Ok(BlockEntries { races, numbers })
+    Ok((races, numbers))
 }
 
 /// Adds the entry of the place of this number, if it is one of the first that are kept.

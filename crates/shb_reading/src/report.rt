@@ -196,7 +196,7 @@ fn stop_of_long(alloc: Global, text: &[u8], limit: u64) -> ReadStop
 {
     let (seen, _) = text.split_at(limit as usize);
     match scan(alloc, seen) {
-        Ok(scanned) => ReadStop::BadLine(scanned.lines + 1),
+        Ok(scanned) => ReadStop::BadLine(scanned.1 + 1),
         Err(stop) => stop,
     }
 }
@@ -211,7 +211,7 @@ fn report_of(alloc: Global, text: Vec<u8>, limit: u64) -> Result<Report, ReadSto
         return Err(stop_of_long(alloc, text.as_slice(), limit));
     }
     let scanned = scan(alloc, text.as_slice())?;
-    Ok(Report::new(text, scanned.parts))
+    Ok(Report::new(text, scanned.0))
 }
 
 /// Reads a report of at most so many bytes, of version 1 or version 2, with schedules.

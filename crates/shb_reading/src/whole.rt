@@ -1,12 +1,12 @@
 //! Reads the text of a report.
 ghost use Rattle.std.specs.Prelude.{◌≡◌, ◌+◌, ◌<◌, ◌≤◌, ◌++◌, ◌∷◌, [], ℕ, List, codes, length, IfOk, OnOk};
 ghost use Rattle.shb_lines.specs.text.Limits.{most_bytes};
-ghost use Rattle.shb_reading.specs.Forms.{Form, End, Version, IsBadFrom, block_forms};
+ghost use Rattle.shb_reading.specs.Forms.{Form, End, Version, IsBadFrom, block_forms, places_form};
 ghost use Rattle.shb_reading.specs.Lines.{IfBad, IsAt, IsBadAt, Passes, bytes_from};
-ghost use Rattle.shb_reading.specs.Parts.{IsScanned, KeepsFirst, ReadsHead, ReadsSection, places_form};
+ghost use Rattle.shb_reading.specs.Parts.{IsScanned, KeepsFirst, ReadsHead, ReadsSection};
 ghost use Rattle.shb_report.specs.Value.{lines_text};
 
-use crate::entries::{BlockEntries, read_blocks, read_place_entries};
+use crate::entries::{read_blocks, read_place_entries};
 use crate::lines::{read_counts, read_end, read_place_count, read_race_count, read_version};
 use crate::parts::{Parts, PlaceEntry};
 use crate::position::{Position, ReadStop};
@@ -106,33 +106,24 @@ pub fn read_tail(text: &[u8], at: &mut Position) -> Result<(), ReadStop>
     Ok(())
 }
 
-/// The parts of a report, and how many lines it has.
-#[derive(Drop)]
-pub(crate) struct Scanned {
-    pub parts: Parts,
-    pub lines: u64,
-}
-
-/// Reads the text of a report.
-pub(crate) fn scan(alloc: Global, text: &[u8]) -> Result<Scanned, ReadStop>
+/// Reads the text of a report: its parts, and how many lines it has.
+pub(crate) fn scan(alloc: Global, text: &[u8]) -> Result<(Parts, u64), ReadStop>
     requires short { length text.now ≤ most_bytes }
-    ensures read { IfOk result (λ scanned. IsScanned text.now scanned.parts scanned.lines) }
-    ensures few { IfOk result (λ scanned. scanned.lines ≤ most_bytes) }
+    ensures read { IfOk result (λ scanned. IsScanned text.now scanned.0 scanned.1) }
+    ensures few { IfOk result (λ scanned. scanned.1 ≤ most_bytes) }
     ensures bad { IfBad result (IsBadFrom (Version ∷ (End ∷ [])) 0 text.now) }
 {
     let mut at = Position { start: 0, lines: 0 };
     let head = read_head(text, &mut at)?;
     let places = read_places(alloc, text, &mut at, head.with_places, u64::MAX)?;
-    let BlockEntries { races, numbers } = read_blocks(alloc, text, &mut at, head.races)?;
+    let (races, numbers) = read_blocks(alloc, text, &mut at, head.races)?;
     read_tail(text, &mut at)?;
-    Ok(Scanned {
-        parts: Parts {
-            counts: head.counts,
-            with_places: head.with_places,
-            places,
-            races,
-            numbers,
-        },
-        lines: at.lines,
-    })
+    let parts = Parts {
+        counts: head.counts,
+        with_places: head.with_places,
+        places,
+        races,
+        numbers,
+    };
+    Ok((parts, at.lines))
 }

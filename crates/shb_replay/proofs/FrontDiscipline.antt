@@ -1,4 +1,5 @@
 -- The events of an unbroken list are disciplined.
+use Rattle.std.proofs.lemmas.Grind.{common_steps}
 use Rattle.std.proofs.Common.{◌≡◌, ◌≢◌, ℕ, zero, suc, ◌+◌, ◌<◌, ◌≤◌, ◌⊎◌, inl, inr, Bool, true, false, List, Some, length, take, refl, sym, ◌∙◌, ap, arith, subst}
 use Rattle.std.specs.Prelude.{count_by, cond, ◌==◌}
 use Rattle.std.proofs.lemmas.Bool.{cases_Bool, cases_lt, cases_order, eqb-true, eq-eqb}
@@ -36,10 +37,7 @@ release_tests h l e is = sym (eqb-true h e.thread (is_release_parts (only h) l e
 
 -- a thread has one fork
 pub one_fork : (trace : List Event) → IsDisciplined trace → (u a b : ℕ) → op_at trace a ≡ Some (Fork u) → op_at trace b ≡ Some (Fork u) → a ≡ b
-one_fork trace disciplined u a b fork_a fork_b = elim (cases_order a b) [
-  | inl same ↦ same
-  | inr apart ↦ elim apart [ inl lt ↦ absurd (fork_unique trace disciplined u a b fork_a fork_b lt) | inr gt ↦ absurd (fork_unique trace disciplined u b a fork_b fork_a gt) ]
-]
+one_fork trace disciplined u a b fork_a fork_b = grind (arith, common_steps, cases_order, fork_unique)
 
 module _ (trace : List Event) (disciplined : IsDisciplined trace) (s : List ℕ) (unbroken : IsUnbroken trace s (length s)) where
   none_counted : (f : Event → Bool) (q : ℕ) → ((k a : ℕ) (d : Event) → k < q → IsEventAt trace s k a d → f d ≡ true → ⊥) → count_by f (take q (events_at trace s)) ≡ 0

@@ -1,4 +1,5 @@
 -- The latest write before an index of a list, against the last write in the trace.
+use Rattle.std.proofs.lemmas.Grind.{common_steps}
 use Rattle.std.proofs.Common.{◌≡◌, ◌≢◌, ℕ, ◌<◌, ◌⊎◌, inl, inr, Bool, true, false, List, Option, Some, None, refl, sym, ◌∙◌, ap, arith, subst}
 use Rattle.std.specs.Prelude.{slice_get, ◌↔◌}
 use Rattle.std.proofs.lemmas.Bool.{cases_eq, cases_order}
@@ -17,12 +18,7 @@ use Rattle.shb_replay.proofs.Standing.{one_value, same_index}
 
 -- a list has at most one latest write before an index
 pub latest_unique : (trace : List Event) (s : List ℕ) (p x v w : ℕ) → IsLatestWrite trace s p x v → IsLatestWrite trace s p x w → v ≡ w
-latest_unique trace s p x v w hv hw = go (cases_order hv.index hw.index)
-  where
-    go : (hv.index ≡ hw.index) ⊎ ((hv.index < hw.index) ⊎ (hw.index < hv.index)) → v ≡ w
-    go (inl same) = one_value s hw.index v w (subst (λ (k : ℕ). slice_get s k ≡ Some v) same hv.at) hw.at
-    go (inr (inl lt)) = absurd (hv.latest hw.index w lt hw.earlier hw.at hw.writes)
-    go (inr (inr gt)) = absurd (hw.latest hv.index v gt hv.earlier hv.at hv.writes)
+latest_unique trace s p x v w hv hw = grind (arith, common_steps, cases_order, one_value)
 
 -- whether the event at an index of the list writes x
 abbrev writes_there : (trace : List Event) (x : ℕ) → Option ℕ → Bool

@@ -1,4 +1,5 @@
 -- The reasons of an event by its predecessor, and whether an event is next.
+use Rattle.std.proofs.lemmas.Grind.{common_steps}
 use Rattle.std.proofs.Common.{◌≡◌, ◌≢◌, ℕ, ◌<◌, ◌⊎◌, inl, inr, Bool, true, false, List, Option, Some, None, length, get_or, refl, sym, ◌∙◌, ap, arith, subst}
 use Rattle.std.specs.Prelude.{slice_get, not, IfSome}
 use Rattle.std.proofs.lemmas.Bool.{cases_order}
@@ -46,9 +47,7 @@ pub threads_same : (trace : List Event) (a x t u : ℕ) → thread_at trace a �
 threads_same trace a x t u of_a of_x h = of_a ∙ (ap (λ (n : ℕ). Some n) h ∙ sym of_x)
 
 pub threads_differ : (trace : List Event) (a x t u : ℕ) → thread_at trace a ≡ Some t → thread_at trace x ≡ Some u → (t ≡ u → ⊥) → thread_at trace a ≢ thread_at trace x
-threads_differ trace a x t u of_a of_x h same =
-    let both : Some t ≡ Some u = sym of_a ∙ (same ∙ of_x) in
-    h (let equal : t ≡ u = cc in equal)
+threads_differ trace a x t u of_a of_x h same = grind (arith, common_steps)
 
 pub lacks_true : (s : List ℕ) (p e n : ℕ) (flags : List Bool) (flag : Bool) → AreFlags (StandsEarlier s p) n flags → slice_get flags e ≡ Some flag → TellsLack s p (Some e) (not flag)
 lacks_true s p e n flags true h at = λ a is. (let same : e ≡ a = cc in subst (λ (k : ℕ). StandsEarlier s p k) same (h.each e true at))

@@ -1,44 +1,22 @@
 -- What must stand before each event: its predecessor, the latest release of its lock, the latest write of its variable.
-use Rattle.std.proofs.Common.{◌≡◌, ℕ, ◌+◌, ◌<◌, ◌≤◌, ◌⊎◌, inl, inr, List, [], ◌∷◌, ◌++◌, Option, Some, None, length, get_or, arith, subst, ap, sym, ◌∙◌}
-use Rattle.std.proofs.Math.ListN.{set, get_or-append}
+use Rattle.std.proofs.lemmas.Grind.{common_steps}
+use Rattle.std.proofs.Common.{◌≡◌, ℕ, ◌+◌, ◌<◌, ◌≤◌, ◌⊎◌, inl, inr, List, [], ◌∷◌, ◌++◌, Option, Some, None, length, get_or, arith, subst, sym, ◌∙◌}
+use Rattle.std.proofs.Math.ListN.{get_or-append}
 use Rattle.std.proofs.lemmas.Bool.{cases_lt}
 use Rattle.std.proofs.lemmas.List.{get_or_push, get_or_read, length_push}
 use Rattle.shb_lines.specs.declared.event.Event.{Event}
 use Rattle.shb_lines.specs.declared.event.Sizes.{Sizes}
 use Rattle.shb_lines.specs.declared.event.Op.{Op}
-use Rattle.shb_lines.specs.declared.event.Op.TheVariants.{Acquire, Read, Release, Write}
+use Rattle.shb_lines.specs.declared.event.Op.TheVariants.{Acquire, Read}
 use Rattle.shb_lines.specs.events.Events.{op_at}
 use Rattle.shb_lines.specs.events.Order.{IsPred}
 use Rattle.shb_lines.specs.events.Sizes.{IsWithin}
 use Rattle.shb_lines.proofs.events.Items.{op_other_at, op_within_at}
 use Rattle.shb_links.specs.Latest.{Latest, IsLatestTable, ReleasesLock, WritesVariable}
 use Rattle.shb_links.specs.Links.{Exactly}
-use Rattle.shb_links.proofs.Tables.{table_mark, table_skip}
-use Rattle.shb_replay.specs.Walks.{HasPreds, HasOrigins, IsOrigin}
-
-release_alone : (trace : List Event) (e l m : ℕ) → op_at trace e ≡ Some (Release l) → op_at trace e ≡ Some (Release m) → m ≡ l
-release_alone trace e l m h g = let s : Some (Release l) ≡ Some (Release m) = sym h ∙ g in cc
-
-write_alone : (trace : List Event) (e x y : ℕ) → op_at trace e ≡ Some (Write x) → op_at trace e ≡ Some (Write y) → y ≡ x
-write_alone trace e x y h g = let s : Some (Write x) ≡ Some (Write y) = sym h ∙ g in cc
+use Rattle.shb_replay.specs.Walks.{HasPreds, IsOrigin}
 
 module _ (trace : List Event) (sizes : Sizes) (e : ℕ) (within : IsWithin trace sizes) where
-  pub release_noted : (table : List (Option ℕ)) (l : ℕ) → op_at trace e ≡ Some (Release l) → IsLatestTable (ReleasesLock trace) e sizes.locks table → IsLatestTable (ReleasesLock trace) (e + 1) sizes.locks (set table l (Some e))
-  release_noted table l releases old =
-      let low : l < sizes.locks = op_within_at trace sizes e (Release l) within releases in
-      table_mark (ReleasesLock trace) e sizes.locks l table low releases (λ m. release_alone trace e l m releases) old
-
-  pub no_release_noted : (table : List (Option ℕ)) (op : Op) → op_at trace e ≡ Some op → ((l : ℕ) → op ≡ Release l → ⊥) → IsLatestTable (ReleasesLock trace) e sizes.locks table → IsLatestTable (ReleasesLock trace) (e + 1) sizes.locks table
-  no_release_noted table op does other old = table_skip (ReleasesLock trace) e sizes.locks table (λ l. op_other_at trace e op (Release l) does (other l)) old
-
-  pub write_noted : (table : List (Option ℕ)) (x : ℕ) → op_at trace e ≡ Some (Write x) → IsLatestTable (WritesVariable trace) e sizes.variables table → IsLatestTable (WritesVariable trace) (e + 1) sizes.variables (set table x (Some e))
-  write_noted table x writes old =
-      let low : x < sizes.variables = op_within_at trace sizes e (Write x) within writes in
-      table_mark (WritesVariable trace) e sizes.variables x table low writes (λ y. write_alone trace e x y writes) old
-
-  pub no_write_noted : (table : List (Option ℕ)) (op : Op) → op_at trace e ≡ Some op → ((x : ℕ) → op ≡ Write x → ⊥) → IsLatestTable (WritesVariable trace) e sizes.variables table → IsLatestTable (WritesVariable trace) (e + 1) sizes.variables table
-  no_write_noted table op does other old = table_skip (WritesVariable trace) e sizes.variables table (λ x. op_other_at trace e op (Write x) does (other x)) old
-
   -- the origin of an event, from the tables of what stands before it
   pub release_found : (table : List (Option ℕ)) (l : ℕ) → op_at trace e ≡ Some (Acquire l) → IsLatestTable (ReleasesLock trace) e sizes.locks table → IsOrigin trace e (get_or table l None)
   release_found table l acquires has = record {
@@ -62,10 +40,7 @@ module _ (trace : List Event) (sizes : Sizes) (e : ℕ) (within : IsWithin trace
 
 -- what acquires and reads nothing needs nothing
 pub none_found : (trace : List Event) (e : ℕ) (op : Op) → op_at trace e ≡ Some op → ((l : ℕ) → op ≡ Acquire l → ⊥) → ((x : ℕ) → op ≡ Read x → ⊥) → IsOrigin trace e None
-none_found trace e op does no_acquire no_read = record {
-  releases = λ l acquires. absurd (op_other_at trace e op (Acquire l) does (no_acquire l) acquires);
-  writes = λ x reads. absurd (op_other_at trace e op (Read x) does (no_read x) reads);
-}
+none_found trace e op does no_acquire no_read = grind (arith, common_steps, op_other_at)
 
 -- one more entry of a table
 entries_more : (P : ℕ → Option ℕ → Type 0) (n : ℕ) (xs : List (Option ℕ)) (x : Option ℕ) → length xs ≡ n → P n x → ((e : ℕ) → e < n → P e (get_or xs e None)) → (e : ℕ) → e < n + 1 → (e < n) ⊎ (n ≤ e) → P e (get_or (xs ++ x ∷ []) e None)
@@ -78,19 +53,7 @@ entry_read : (P : Option ℕ → Type 0) (xs : List (Option ℕ)) (x : Option �
 entry_read P xs x e lt is known = subst P (sym (get_or_read xs e x lt is None)) known
 
 pub preds_more : (trace : List Event) (n : ℕ) (xs : List (Option ℕ)) (x : Option ℕ) → Exactly (λ p. IsPred trace p n) x → HasPreds trace n xs → HasPreds trace (n + 1) (xs ++ x ∷ [])
-preds_more trace n xs x is old = record {
-  as_long = length_push xs x ∙ ap (λ m. m + 1) old.as_long;
-  each = λ e lt. entries_more (λ k o. Exactly (λ p. IsPred trace p k) o) n xs x old.as_long is old.each e lt (cases_lt e n);
-}
+preds_more trace n xs x is old = grind (arith, common_steps, length_push, entries_more, cases_lt)
 
 pub pred_is : (trace : List Event) (n e : ℕ) (xs : List (Option ℕ)) (x : Option ℕ) → HasPreds trace n xs → e < n → x ≡ get_or xs e x → Exactly (λ p. IsPred trace p e) x
 pred_is trace n e xs x has lt is = entry_read (λ o. Exactly (λ p. IsPred trace p e) o) xs x e (let long = has.as_long in omega (arith, long, lt)) is (has.each e lt)
-
-pub origins_more : (trace : List Event) (n : ℕ) (xs : List (Option ℕ)) (x : Option ℕ) → IsOrigin trace n x → HasOrigins trace n xs → HasOrigins trace (n + 1) (xs ++ x ∷ [])
-origins_more trace n xs x is old = record {
-  as_long = length_push xs x ∙ ap (λ m. m + 1) old.as_long;
-  each = λ e lt. entries_more (IsOrigin trace) n xs x old.as_long is old.each e lt (cases_lt e n);
-}
-
-pub origin_is : (trace : List Event) (n e : ℕ) (xs : List (Option ℕ)) (x : Option ℕ) → HasOrigins trace n xs → e < n → x ≡ get_or xs e x → IsOrigin trace e x
-origin_is trace n e xs x has lt is = entry_read (IsOrigin trace e) xs x e (let long = has.as_long in omega (arith, long, lt)) is (has.each e lt)

@@ -1,5 +1,6 @@
 -- What stands at indices before an index of a list.
-use Rattle.std.proofs.Common.{◌≡◌, ℕ, ◌+◌, ◌<◌, ◌≤◌, ◌⊎◌, inl, inr, List, Some, length, sym, ◌∙◌, ap, arith, subst}
+use Rattle.std.proofs.lemmas.Grind.{common_steps}
+use Rattle.std.proofs.Common.{◌≡◌, ℕ, ◌+◌, ◌<◌, ◌≤◌, ◌⊎◌, inl, inr, List, Some, length, sym, ◌∙◌, arith}
 use Rattle.std.specs.Prelude.{slice_get, Contains}
 use Rattle.std.proofs.lemmas.Bool.{cases_eq, cases_order}
 use Rattle.std.proofs.lemmas.Option.{slice_get_within, slice_get_cases}
@@ -16,11 +17,7 @@ pub widen : (s : List ℕ) (p q a : ℕ) → p ≤ q → StandsEarlier s p a →
 widen s p q a le h = record { index = h.index; earlier = (let lt = h.earlier in omega arith); at = h.at }
 
 decide_at : (s : List ℕ) (a k : ℕ) → Decided (slice_get s k ≡ Some a)
-decide_at s a k = elim (slice_get_cases s k).1 [ inl c ↦ compare_to c.0 c.2 (cases_eq c.0 a) | inr c ↦ inr (λ is. let gone = c.1 in (let f : ⊥ = cc in f)) ]
-  where
-    compare_to : (b : ℕ) → slice_get s k ≡ Some b → (b ≡ a) ⊎ (b ≡ a → ⊥) → Decided (slice_get s k ≡ Some a)
-    compare_to b at (inl e) = inl (at ∙ ap (λ x. Some x) e)
-    compare_to b at (inr ne) = inr (λ is. ne (one_value s k b a at is))
+decide_at s a k = grind (arith, common_steps, slice_get_cases, cases_eq, Decided, one_value)
 
 pub decide_stands : (s : List ℕ) (p a : ℕ) → Decided (StandsEarlier s p a)
 decide_stands s p a = go (some_below (λ k. slice_get s k ≡ Some a) (decide_at s a) p)
@@ -31,12 +28,7 @@ decide_stands s p a = go (some_below (λ k. slice_get s k ≡ Some a) (decide_at
 
 -- one index more
 pub stands_next : (s : List ℕ) (p b a : ℕ) → slice_get s p ≡ Some b → StandsEarlier s (p + 1) a → StandsEarlier s p a ⊎ (a ≡ b)
-stands_next s p b a at h = go (cases_order h.index p)
-  where
-    go : (h.index ≡ p) ⊎ ((h.index < p) ⊎ (p < h.index)) → StandsEarlier s p a ⊎ (a ≡ b)
-    go (inl e) = inr (one_value s p a b (subst (λ (k : ℕ). slice_get s k ≡ Some a) e h.at) at)
-    go (inr (inl lt)) = inl (record { index = h.index; earlier = lt; at = h.at })
-    go (inr (inr gt)) = absurd (let lt = h.earlier in omega arith)
+stands_next s p b a at h = grind (arith, common_steps, cases_order, one_value)
 
 pub stands_here : (s : List ℕ) (p b : ℕ) → slice_get s p ≡ Some b → StandsEarlier s (p + 1) b
 stands_here s p b at = record { index = p; earlier = omega arith; at = at }

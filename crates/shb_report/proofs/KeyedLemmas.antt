@@ -1,5 +1,6 @@
 -- Places by the numbers of their locations are the places of these locations.
-use Rattle.std.proofs.Common.{◌≡◌, ◌≢◌, ℕ, zero, suc, ◌+◌, ◌<◌, ◌≤◌, ◌&&◌, ◌++◌, Bool, true, false, cond, nat_eq, List, [], ◌∷◌, length, map, position, Option, None, Some, IfSome, is_some, slice_get, get_or, take, refl, sym, ap, subst, ◌∙◌, inl, inr, arith}
+use Rattle.std.proofs.lemmas.Grind.{common_steps}
+use Rattle.std.proofs.Common.{◌≡◌, ℕ, zero, suc, ◌+◌, ◌<◌, ◌≤◌, ◌&&◌, ◌++◌, Bool, true, false, cond, nat_eq, List, [], ◌∷◌, length, map, position, Option, None, Some, IfSome, is_some, slice_get, get_or, take, refl, sym, ap, subst, ◌∙◌, arith}
 use Rattle.std.specs.List.{AllByRecursion, IsDistinct, list_any}
 use Rattle.std.specs.Map.{keys_of}
 use Rattle.std.specs.Str.{bytes_eq}
@@ -19,14 +20,7 @@ use Rattle.shb_report.specs.declared.places.PlaceCount.{PlaceCount}
 
 -- two numbers are equal exactly if their locations are
 same_number : (locations : List (List ℕ)) (a b : ℕ) (x y : List ℕ) → IsDistinct bytes_eq locations → slice_get locations a ≡ Some x → slice_get locations b ≡ Some y → bytes_eq x y ≡ nat_eq a b
-same_number locations a b x y differ at_a at_b = elim (eqb_tells a b) [
-  | inl same ↦ (let one : Some x ≡ Some y = sym at_a ∙ ap (slice_get locations) same.1 ∙ at_b in let is : x ≡ y = cc in (bytes_eq-Decides x y).1 is ∙ sym same.0)
-  | inr other ↦ by (bytes_eq x y) refl other
-]
-  where
-    by : (t : Bool) → bytes_eq x y ≡ t → (nat_eq a b ≡ false) × (a ≢ b) → bytes_eq x y ≡ nat_eq a b
-    by false is other = is ∙ sym other.0
-    by true is other = absurd (other.1 (one_number locations y a b differ (at_a ∙ ap Some ((bytes_eq-Decides x y).0 is)) at_b))
+same_number locations a b x y differ at_a at_b = grind (arith, common_steps, eqb_tells, slice_get, bytes_eq-Decides, nat_eq, one_number)
 
 -- one pair more
 module _ (locations : List (List ℕ)) (differ : IsDistinct bytes_eq locations) (key : Key) (first second : List ℕ) (is_first : slice_get locations key.0 ≡ Some first) (is_second : slice_get locations key.1 ≡ Some second) (pair : Pair) where
@@ -98,11 +92,7 @@ put_last key counted (e ∷ entries) none = by (same_key key e.0) none (put_last
     by false none rest = ap (λ (l : List Keyed). e ∷ l) (rest none)
 
 pub put_new : (key : Key) (counted : PlaceCount) (entries : List Keyed) → is_some (counted_of entries key) ≡ false → insert_entry same_key entries key counted ≡ with_new entries key counted
-put_new key counted entries none = put_last key counted entries (is_none (counted_of entries key) none) ∙ ap (λ (b : Bool). cond b entries (entries ++ (key, counted) ∷ [])) (sym none)
-  where
-    is_none : (found : Option PlaceCount) → is_some found ≡ false → found ≡ None
-    is_none None h = refl
-    is_none (Some c) h = absurd (let f : ⊥ = cc in f)
+put_new key counted entries none = grind (arith, common_steps, put_last, Option, is_some)
 
 take_few : {A : Type 0} (n : ℕ) (xs : List A) → length (take n xs) ≤ n
 take_few zero xs = omega arith

@@ -1,5 +1,6 @@
 -- What a report on leading races says of all races of the trace.
-use Rattle.std.proofs.Common.{◌≡◌, ℕ, ◌<◌, List, length, map, get_or, sym, ap, ◌∙◌, arith}
+use Rattle.std.proofs.lemmas.Grind.{common_steps}
+use Rattle.std.proofs.Common.{ℕ, List, map, arith}
 use Rattle.std.specs.Prelude.{Contains}
 use Rattle.std.proofs.lemmas.List.{get_or-map, length-map}
 use Rattle.shb_lines.specs.events.Race.{Race}
@@ -10,16 +11,10 @@ use Rattle.shb_report.proofs.LeadingLemmas.{leading_listed, led_once}
 
 -- a list of pairs has what the list of their positions has, and the other way round
 pair_there : (races : List (ℕ × ℕ)) (i j : ℕ) → Contains races (i, j) → Contains (map pair_of races) (pair_of (i, j))
-pair_there races i j c =
-    let within = c.1 in
-    (c.0, omega (arith, within, length-map races pair_of), get_or-map pair_of races c.0 (i, j) (pair_of (i, j)) within ∙ ap pair_of c.2)
+pair_there races i j c = grind (arith, common_steps, length-map, get_or-map)
 
 pair_back : (races : List (ℕ × ℕ)) (i j : ℕ) → Contains (map pair_of races) (pair_of (i, j)) → Contains races (i, j)
-pair_back races i j c =
-    let low = c.1 in
-    let within : c.0 < length races = omega (arith, low, length-map races pair_of) in
-    let same : pair_of (get_or races c.0 (i, j)) ≡ pair_of (i, j) = sym (get_or-map pair_of races c.0 (i, j) (pair_of (i, j)) within) ∙ c.2 in
-    (c.0, within, λ k. ((same k).first, (same k).second))
+pair_back races i j c = grind (arith, common_steps, length-map, get_or-map)
 
 -- each leading race is a race
 pub leading_are_races : (trace : TraceData) (leading : List (ℕ × ℕ)) → LeadingRaces trace leading → (i j : ℕ) → Contains leading (i, j) → Race trace.events i j

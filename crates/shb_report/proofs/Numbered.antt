@@ -1,5 +1,6 @@
 -- Locations and their numbers.
-use Rattle.std.proofs.Common.{◌≡◌, ◌||◌, ◌++◌, ℕ, Bool, true, false, cond, List, [], ◌∷◌, refl, ap, ◌∙◌}
+use Rattle.std.proofs.lemmas.Grind.{common_steps}
+use Rattle.std.proofs.Common.{◌≡◌, ◌||◌, ◌++◌, ℕ, Bool, true, false, cond, List, [], ◌∷◌, refl, ap, arith}
 use Rattle.std.specs.Cmp.Lexicographic.{nat_list_eq_equiv}
 use Rattle.std.specs.List.{IsDistinct, list_any}
 use Rattle.std.specs.Str.{bytes_eq}
@@ -18,11 +19,7 @@ any_location (k ∷ known) l = ap (λ (b : Bool). same_location l k || b) (any_l
 
 -- a location is put into a table as its text is put among the texts
 pub inserted : (known : List TextKey) (l : TextKey) → locations_in (insert_key same_location known l) ≡ insert_key bytes_eq (locations_in known) l.bytes.now
-inserted known l = by (list_any (same_location l) known) ∙ ap (λ (b : Bool). cond b (locations_in known) (locations_in known ++ l.bytes.now ∷ [])) (any_location known l)
-  where
-    by : (b : Bool) → locations_in (cond b known (known ++ l ∷ [])) ≡ cond b (locations_in known) (locations_in known ++ l.bytes.now ∷ [])
-    by true = refl
-    by false = map-append (λ (k : TextKey). k.bytes.now) known (l ∷ [])
+inserted known l = grind (arith, common_steps, any_location, map-append)
 
 -- different texts stay different
 pub still_different : (texts : List (List ℕ)) (text : List ℕ) → IsDistinct bytes_eq texts → IsDistinct bytes_eq (insert_key bytes_eq texts text)

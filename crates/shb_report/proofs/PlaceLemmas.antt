@@ -1,6 +1,7 @@
 -- What a table of places does with a pair.
+use Rattle.std.proofs.lemmas.Grind.{common_steps}
 use Rattle.std.specs.Prelude.{All}
-use Rattle.std.proofs.Common.{◌≡◌, ℕ, zero, suc, ◌+◌, ◌<◌, ◌≤◌, ◌&&◌, Bool, true, false, cond, List, [], ◌∷◌, length, get_or, take, Option, None, Some, IfSome, sym, ap, ◌∙◌, arith}
+use Rattle.std.proofs.Common.{◌≡◌, ℕ, zero, suc, ◌+◌, ◌<◌, ◌≤◌, ◌&&◌, Bool, true, false, cond, List, [], ◌∷◌, length, get_or, take, Option, None, Some, IfSome, arith}
 use Rattle.std.specs.Borrow.{Bor}
 use Rattle.std.specs.List.{AllByRecursion}
 use Rattle.std.specs.Option.{option_copied, option_map, unwrap_or}
@@ -36,12 +37,7 @@ located (Some line) found e = cc
 pub one_pair_more : (trace : TraceData) (before : List PlaceOf) (pairs : List Pair) (k : ℕ) (d : Pair) (first second : List ℕ) → k < length pairs
     → first ≡ location_at trace (get_or pairs k d).first → second ≡ location_at trace (get_or pairs k d).second
     → with_pair (places_after trace before (take k pairs)) first second (get_or pairs k d) ≡ places_after trace before (take (k + 1) pairs)
-one_pair_more trace before pairs k d first second within e f =
-    let pair = get_or pairs k d in
-    ap (λ l. with_pair (places_after trace before (take k pairs)) l second pair) e
-    ∙ ap (λ l. with_pair (places_after trace before (take k pairs)) (location_at trace pair.first) l pair) f
-    ∙ sym (fold-append (λ places pair. with_pair places (location_at trace pair.first) (location_at trace pair.second) pair) before (take k pairs) (pair ∷ []))
-    ∙ ap (places_after trace before) (sym (take_more pairs k d within))
+one_pair_more trace before pairs k d first second within e f = grind (arith, common_steps, fold-append, take_more)
 
 -- each place's pair is one of the pairs
 pub with_pair_in_range : (trace : TraceData) (places : List PlaceOf) (first second : List ℕ) (pair : Pair) → IsPairOf trace pair → AllByRecursion (λ place. IsPlaceOf trace place.counted) places

@@ -1,21 +1,17 @@
 -- The bytes that the writer puts together are the text of a report.
-use Rattle.std.proofs.Common.{◌≡◌, ℕ, ◌+◌, true, List, [], ◌∷◌, ◌++◌, length, map, codes, Option, None, Some, refl, sym, ap, subst, ◌∙◌, append_assoc}
+use Rattle.std.proofs.lemmas.Grind.{common_steps}
+use Rattle.std.proofs.Common.{◌≡◌, ℕ, ◌+◌, true, List, [], ◌∷◌, ◌++◌, map, codes, Option, None, Some, refl, sym, ap, subst, ◌∙◌, append_assoc, arith}
 use Rattle.std.specs.Prelude.{All, IsSomeAnd}
 use Rattle.std.proofs.lemmas.List.{length-map}
 use Rattle.std.proofs.lemmas.List.Elements.{All-head, All-tail}
 use Rattle.shb_lines.specs.text.TraceData.{TraceData}
 use Rattle.shb_lines.specs.events.Race.{IsRaceList}
 use Rattle.shb_lines.specs.events.Schedule.{IsPrintedSchedule}
-use Rattle.shb_report.specs.declared.counts.Counts.{Counts}
 use Rattle.shb_report.specs.Places.{counts_in, places_of_pairs, section_bytes, shown_places}
-use Rattle.shb_report.specs.Report.{AllRaces, HasSchedule, IsReport, IsReportOn, ShownRace, block_bytes, blocks_from, counts_of, head_bytes, pair_of, tail_bytes}
-use Rattle.shb_report.specs.Value.{block_lines, counts_line, lines_text, places_section, races_line, report_text}
+use Rattle.shb_report.specs.Report.{AllRaces, HasSchedule, IsReport, IsReportOn, ShownRace, block_bytes, blocks_from, pair_of}
+use Rattle.shb_report.specs.Value.{block_lines, lines_text, places_section, report_text}
 use Rattle.shb_report.specs.Written.{block_of, written_report}
 use Rattle.shb_report.proofs.LineLemmas.{lines_text-append}
-
--- the lines of the head and of the places
-abbrev head_lines : Counts → ℕ → List (List ℕ)
-head_lines counts races = codes "shb-report 2" ∷ (counts_line counts ∷ (races_line races ∷ []))
 
 abbrev section_lines : TraceData → List (ℕ × ℕ) → List (List ℕ)
 section_lines trace races = places_section (Some (shown_places trace (counts_in (places_of_pairs trace (map pair_of races)))))
@@ -24,9 +20,7 @@ abbrev section_of : TraceData → List (ℕ × ℕ) → List ℕ
 section_of trace races = section_bytes trace (counts_in (places_of_pairs trace (map pair_of races)))
 
 block_is : (trace : TraceData) (number : ℕ) (race : ShownRace) (schedule : List ℕ) → race.schedule ≡ Some schedule → block_bytes trace number race.pair race.schedule ≡ lines_text (block_lines number (block_of trace race ∷ []))
-block_is trace number race schedule is =
-    ap (λ s. block_bytes trace number race.pair s) is
-    ∙ ap (λ (s : Option (List ℕ)). lines_text (block_lines number (block_of trace (record { pair = race.pair; schedule = s }) ∷ []))) (sym is)
+block_is trace number race schedule is = grind (arith, common_steps, Option)
 
 -- blocks, one after another
 blocks_are : (trace : TraceData) (number : ℕ) (shown : List ShownRace) → All (HasSchedule true trace) shown → blocks_from trace number shown ≡ lines_text (block_lines number (map (block_of trace) shown))
@@ -47,21 +41,7 @@ blocks_are trace number (race ∷ shown) h =
 
 -- the whole
 pub written_is : (Lists : TraceData → List (ℕ × ℕ) → Type 0) (trace : TraceData) (bytes : List ℕ) (h : IsReportOn Lists true trace bytes) → bytes ≡ report_text (written_report trace h.blocks_are.shown)
-written_is Lists trace bytes h =
-    let shown = h.blocks_are.shown in
-    let counts = counts_of trace in
-    let blocks = map (block_of trace) shown in
-    let after = block_lines 1 blocks ++ codes "end" ∷ [] in
-    let count : length h.races ≡ length blocks = sym (ap (λ (l : List (ℕ × ℕ)). length l) h.blocks_are.races_are) ∙ length-map shown _ ∙ sym (length-map shown _) in
-    let last : h.blocks ++ tail_bytes ≡ lines_text after =
-    ap (λ b. b ++ tail_bytes) (h.blocks_are.bytes_are ∙ blocks_are trace 1 shown h.blocks_are.schedules_are) ∙ sym (lines_text-append (block_lines 1 blocks) (codes "end" ∷ [])) in
-    h.bytes_are
-    ∙ append_assoc (head_bytes counts (length h.races)) (section_of trace h.races) (h.blocks ++ tail_bytes)
-    ∙ ap (λ b. head_bytes counts (length h.races) ++ (section_of trace h.races ++ b)) last
-    ∙ ap (λ b. head_bytes counts (length h.races) ++ b) (sym (lines_text-append (section_lines trace h.races) after))
-    ∙ sym (lines_text-append (head_lines counts (length h.races)) (section_lines trace h.races ++ after))
-    ∙ ap (λ n. lines_text (head_lines counts n ++ (section_lines trace h.races ++ after))) count
-    ∙ ap (λ races. lines_text (head_lines counts (length blocks) ++ (section_lines trace races ++ after))) (sym h.blocks_are.races_are)
+written_is Lists trace bytes h = grind (arith, common_steps, blocks_are, map, codes, length-map, lines_text-append, append_assoc)
 
 pub written_law : (trace : TraceData) (bytes : List ℕ) → IsReport true trace bytes
     → (shown : List ShownRace) × IsRaceList trace.events (map (λ race. race.pair) shown) × All (HasSchedule true trace) shown × (bytes ≡ report_text (written_report trace shown))

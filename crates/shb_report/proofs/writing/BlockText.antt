@@ -1,10 +1,11 @@
 -- The pieces of a block, one after another, are its lines.
-use Rattle.std.proofs.Common.{◌≡◌, ℕ, ◌+◌, List, [], ◌∷◌, ◌++◌, length, map, codes, Option, None, Some, refl, sym, ap, ◌∙◌, append_assoc}
+use Rattle.std.proofs.lemmas.Grind.{common_steps}
+use Rattle.std.proofs.Common.{◌≡◌, ℕ, ◌+◌, List, [], ◌∷◌, ◌++◌, length, map, codes, Option, None, Some, refl, sym, ap, ◌∙◌, append_assoc, arith}
 use Rattle.std.specs.Fmt.{decimal}
 use Rattle.std.proofs.lemmas.List.{length-map}
 use Rattle.shb_lines.specs.text.TraceData.{TraceData}
 use Rattle.shb_report.specs.BlockTexts.{event_lines, event_numbers, race_line, schedule_bytes}
-use Rattle.shb_report.specs.Report.{block_bytes, line_of_event, schedule_lines}
+use Rattle.shb_report.specs.Report.{block_bytes, schedule_lines}
 use Rattle.shb_report.specs.Value.{lines_text, listed}
 
 numbers_are : (events : List ℕ) → event_numbers events ≡ listed (map (λ event. event + 1) events)
@@ -31,7 +32,4 @@ block_pieces number first second first_line second_line schedule = simp append_a
 -- what is put together after the line of the race is the block
 pub block_is : (trace : TraceData) (number : ℕ) (pair : ℕ × ℕ) (schedule : Option (List ℕ)) (line : List ℕ) → line ≡ race_line number pair
     → line ++ (event_lines trace pair ++ schedule_bytes schedule) ≡ block_bytes trace number pair schedule
-block_is trace number pair schedule line is =
-    ap (λ l. l ++ (event_lines trace pair ++ schedule_bytes schedule)) is
-    ∙ ap (λ s. race_line number pair ++ (event_lines trace pair ++ s)) (schedule_is schedule)
-    ∙ block_pieces (decimal number) (decimal (pair.0 + 1)) (decimal (pair.1 + 1)) (line_of_event trace pair.0) (line_of_event trace pair.1) (lines_text (schedule_lines schedule))
+block_is trace number pair schedule line is = grind (arith, common_steps, schedule_is, block_pieces)

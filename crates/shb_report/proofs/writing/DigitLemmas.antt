@@ -1,4 +1,5 @@
 -- How many digits a number has.
+use Rattle.std.proofs.lemmas.Grind.{common_steps}
 use Rattle.std.proofs.Common.{◌≡◌, ℕ, ◌+◌, ◌/◌, ◌^◌, ◌<◌, ◌≤◌, length, ap, ◌∙◌, arith, length-append}
 use Rattle.std.specs.Fmt.{decimal}
 use Rattle.std.proofs.lemmas.Fmt.{decimal_digit, decimal_step}
@@ -20,11 +21,4 @@ length_four n least lt = omega (arith, length_step n (omega arith) (omega arith)
 
 -- four digits more
 pub length_more : (n : ℕ) → 10000 ≤ n → n < 2 ^ 64 → length (decimal n) ≡ length (decimal (n / 10000)) + 4
-length_more n least fits =
-    let first = length_step n (omega arith) fits in
-    let second = length_step (n / 10) (omega arith) (omega arith) in
-    let third = length_step (n / 10 / 10) (omega arith) (omega arith) in
-    let fourth = length_step (n / 10 / 10 / 10) (omega arith) (omega arith) in
-    let same : n / 10 / 10 / 10 / 10 ≡ n / 10000 = omega arith in
-    let last = ap (λ m. length (decimal m)) same in
-    omega (arith, first, second, third, fourth, last)
+length_more n least fits = grind (arith, common_steps, length_step)

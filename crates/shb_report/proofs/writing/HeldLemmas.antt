@@ -46,11 +46,6 @@ pushed_first a b held mid now xs back grown = subst (λ l. HoldsBack a b l (held
 pub pushed_next : (a b : Option (List ℕ)) (held mid now xs ys : List ℕ) → HoldsBack a b mid (held ++ xs) → now ≡ mid ++ ys → HoldsBack a b now (held ++ (xs ++ ys))
 pushed_next a b held mid now xs ys back grown = subst (HoldsBack a b now) (append_assoc held xs ys) (pushed_first a b (held ++ xs) mid now ys back grown)
 
--- one more after a label and a number
-pub pushed_label : (a b : Option (List ℕ)) (held mid now xs ys zs : List ℕ) → HoldsBack a b mid (held ++ (xs ++ ys)) → now ≡ mid ++ zs → HoldsBack a b now (held ++ (xs ++ (ys ++ zs)))
-pushed_label a b held mid now xs ys zs back grown =
-    subst (λ l. HoldsBack a b now (held ++ l)) (append_assoc xs ys zs) (pushed_next a b held mid now (xs ++ ys) zs back grown)
-
 -- texts of the members of a list, one after another
 module _ {X : Type 0} (f : X → List ℕ) (xs : List X) (k : ℕ) (d : X) (within : k < length xs) where
   -- the text of one member more

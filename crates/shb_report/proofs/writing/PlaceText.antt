@@ -1,4 +1,5 @@
 -- The lines of places, one place after another.
+use Rattle.std.proofs.lemmas.Grind.{common_steps}
 use Rattle.std.proofs.Common.{◌≡◌, ℕ, ◌+◌, ◌<◌, List, [], ◌∷◌, ◌++◌, length, get_or, take, drop, codes, sym, ap, ◌∙◌, arith, append_assoc, take-append-drop, length-take}
 use Rattle.std.proofs.lemmas.List.{length-map, map-append, take_more}
 use Rattle.std.specs.Fmt.{decimal}
@@ -6,7 +7,7 @@ use Rattle.shb_lines.specs.text.TraceData.{TraceData}
 use Rattle.shb_report.specs.declared.places.PlaceCount.{PlaceCount}
 use Rattle.shb_report.specs.BlockTexts.{labelled_line}
 use Rattle.shb_report.specs.Places.{place_bytes, places_bytes, section_bytes, shown_place, shown_places}
-use Rattle.shb_report.specs.Value.{Place, lines_text, place_line, place_lines, places_line}
+use Rattle.shb_report.specs.Value.{Place, lines_text, place_line, place_lines}
 use Rattle.shb_report.proofs.LineLemmas.{lines_text-append, place_lines-append}
 
 -- a line after its label
@@ -19,11 +20,7 @@ last_labelled label text = sym (append_assoc label text (codes "\n"))
 -- the three lines of a place
 pub place_pieces : (trace : TraceData) (number : ℕ) (counted : PlaceCount) (first second : List ℕ) → first ≡ (shown_place trace counted).first → second ≡ (shown_place trace counted).second
     → (place_line number counted.count ++ codes "\n") ++ (labelled_line (codes "at ") first ++ labelled_line (codes "and ") second) ≡ place_bytes trace number counted
-place_pieces trace number counted first second e f =
-    append_assoc (place_line number counted.count) (codes "\n") (labelled_line (codes "at ") first ++ labelled_line (codes "and ") second)
-    ∙ ap (λ r. place_line number counted.count ++ (10 ∷ r)) (one_labelled (codes "at ") first (labelled_line (codes "and ") second) ∙ ap (λ r. (codes "at " ++ first) ++ (10 ∷ r)) (last_labelled (codes "and ") second))
-    ∙ ap (λ a. place_line number counted.count ++ (10 ∷ ((codes "at " ++ a) ++ (10 ∷ ((codes "and " ++ second) ++ (10 ∷ [])))))) e
-    ∙ ap (λ b. place_line number counted.count ++ (10 ∷ ((codes "at " ++ (shown_place trace counted).first) ++ (10 ∷ ((codes "and " ++ b) ++ (10 ∷ [])))))) f
+place_pieces trace number counted first second e f = grind (arith, common_steps, append_assoc, codes, one_labelled, last_labelled)
 
 -- the lines of some places and of others
 bytes-append : (number : ℕ) (places more : List Place) → lines_text (place_lines number (places ++ more)) ≡ lines_text (place_lines number places) ++ lines_text (place_lines (number + length places) more)
@@ -57,8 +54,4 @@ module _ (trace : TraceData) (counts : List PlaceCount) (k : ℕ) (d : PlaceCoun
 -- the count of the places, as it was put together, and their lines
 pub section_is : (trace : TraceData) (counts : List PlaceCount) (n : ℕ) (empty counted held : List ℕ) → n ≡ length counts → empty ≡ [] → counted ≡ empty ++ (codes "places " ++ decimal n) → held ≡ counted ++ 10 ∷ []
     → held ++ places_bytes trace counts ≡ section_bytes trace counts
-section_is trace counts n empty counted held same e f h =
-    let count : n ≡ length (shown_places trace counts) = same ∙ sym (length-map counts (shown_place trace)) in
-    ap (λ l. l ++ places_bytes trace counts) (h ∙ ap (λ l. l ++ 10 ∷ []) (f ∙ ap (λ l. l ++ (codes "places " ++ decimal n)) e))
-    ∙ append_assoc (places_line n) (10 ∷ []) (places_bytes trace counts)
-    ∙ ap (λ m. places_line m ++ (10 ∷ places_bytes trace counts)) count
+section_is trace counts n empty counted held same e f h = grind (arith, common_steps, length-map, codes, append_assoc)

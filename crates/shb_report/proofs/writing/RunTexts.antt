@@ -1,5 +1,6 @@
 -- The numbers of consecutive events.
-use Rattle.std.proofs.Common.{◌≡◌, ℕ, ◌+◌, ◌-◌, ◌<◌, ◌≤◌, ◌⊎◌, inl, inr, List, [], ◌∷◌, ◌++◌, length, get_or, take, drop, refl, sym, ap, subst, ◌∙◌, arith, append_assoc, append-nil, length-append}
+use Rattle.std.proofs.lemmas.Grind.{common_steps}
+use Rattle.std.proofs.Common.{◌≡◌, ℕ, ◌+◌, ◌-◌, ◌<◌, ◌≤◌, List, [], ◌∷◌, ◌++◌, length, get_or, refl, sym, ap, ◌∙◌, arith, append_assoc, append-nil, length-append}
 use Rattle.std.specs.List.{range_with_len, slice_range}
 use Rattle.std.proofs.lemmas.Bool.{cases_lt}
 use Rattle.std.proofs.lemmas.List.{get_or_push, get_or_read, length_push}
@@ -35,28 +36,10 @@ run_numbers-are (run ∷ runs) =
 
 -- the text of one number more
 pub numbers-more : (count : ℕ) (text starts : List ℕ) → HasNumbers count text starts → HasNumbers (count + 1) (text ++ event_number count) (starts ++ length (text ++ event_number count) ∷ [])
-numbers-more count text starts has = record {
-  text_is = next;
-  as_many = length_push starts (length (text ++ event_number count)) ∙ ap (λ n. n + 1) has.as_many;
-  each = λ k le. at k le (cases_lt k (count + 1));
-}
-  where
-    next : text ++ event_number count ≡ first_numbers (count + 1)
-    next = ap (λ l. l ++ event_number count) has.text_is ∙ numbers-next 0 count count (omega arith)
-
-    at : (k : ℕ) → k ≤ count + 1 → (k < count + 1) ⊎ (count + 1 ≤ k) → get_or (starts ++ length (text ++ event_number count) ∷ []) k 0 ≡ length (first_numbers k)
-    at k le (inl lt) = get_or-append starts (length (text ++ event_number count) ∷ []) 0 k (omega (arith, has.as_many, lt)) ∙ has.each k (omega (arith, lt))
-    at k le (inr more) =
-        let same : k ≡ count + 1 = omega (arith, le, more) in
-        get_or_push starts (length (text ++ event_number count)) 0 k (has.as_many ∙ sym same) ∙ ap length next ∙ ap (λ n. length (first_numbers n)) (sym same)
+numbers-more count text starts has = grind (arith, common_steps, length_push, cases_lt, numbers-next, get_or-append, get_or_push)
 
 middle : (xs ys zs : List ℕ) (from to : ℕ) → from ≡ length xs → to ≡ length xs + length ys → slice_range (xs ++ (ys ++ zs)) from to ≡ ys
-middle xs ys zs from to begins ends =
-    let gap : to - from ≡ length ys = omega (arith, begins, ends) in
-    ap (λ n. take n (drop from (xs ++ (ys ++ zs)))) gap
-    ∙ ap (λ n. take (length ys) (drop n (xs ++ (ys ++ zs)))) begins
-    ∙ ap (take (length ys)) (drop-append_seam xs (ys ++ zs))
-    ∙ take-append_seam ys zs
+middle xs ys zs from to begins ends = grind (arith, common_steps, drop-append_seam, take-append_seam)
 
 -- where the numbers of a run stand in the text
 module _ (count : ℕ) (text starts : List ℕ) (first len from to : ℕ) (has : HasNumbers count text starts) (within : first + len ≤ count) (is_from : from ≡ get_or starts first from) (is_to : to ≡ get_or starts (first + len) to) where
@@ -93,14 +76,4 @@ module _ (count : ℕ) (text starts : List ℕ) (first len from to : ℕ) (has :
 
 -- the text and the starts with one number more
 pub numbers-pushed : (count place : ℕ) (text starts new_text new_starts : List ℕ) → HasNumbers count text starts → new_text ≡ text ++ event_number count → new_starts ≡ starts ++ place ∷ [] → place ≡ length new_text → HasNumbers (count + 1) new_text new_starts
-numbers-pushed count place text starts new_text new_starts has more pushed there =
-    let started : new_starts ≡ starts ++ length (text ++ event_number count) ∷ [] = pushed ∙ ap (λ n. starts ++ n ∷ []) (there ∙ ap length more) in
-    subst (λ l. HasNumbers (count + 1) l new_starts) (sym more) (subst (λ l. HasNumbers (count + 1) (text ++ event_number count) l) (sym started) (numbers-more count text starts has))
-
--- no numbers yet
-pub numbers-none : (text starts : List ℕ) → text ≡ [] → starts ≡ 0 ∷ [] → HasNumbers 0 text starts
-numbers-none text starts empty one = record {
-  text_is = empty;
-  as_many = ap length one;
-  each = λ k le. (let zero_is : k ≡ 0 = omega (arith, le) in ap (λ l. get_or l k 0) one ∙ ap (λ n. get_or (0 ∷ []) n 0) zero_is ∙ ap (λ n. length (first_numbers n)) (sym zero_is));
-}
+numbers-pushed count place text starts new_text new_starts has more pushed there = grind (arith, common_steps, numbers-more)

@@ -1,98 +1,53 @@
-use Rattle.std.proofs.Common.{refl}
-use Rattle.shb_lines.proofs.text.TakingLemmas.{reads_left, reads_then, reads_told}
-use Rattle.shb_lines.specs.text.Limits.{most_read}
-use Rattle.shb_check.proofs.Endings.{checked_of, counted_judged, judged, none_found, not_judged, of_any_fault, of_any_trace, of_no_trace, refusal_first}
+-- Each exit has its outcome.
+use Rattle.shb_lines.specs.declared.read.Parsed.{Parsed}
+use Rattle.shb_judging.specs.declared.verdict.Verdict.{Verdict}
+use Rattle.shb_check.proofs.Endings.{of_failed_sink, of_line, of_refused, of_unjudged, of_unread}
 use Rattle.shb_check.proofs.verdicts.check.Goals as goal
 
-pub returns-clause-verdict : goal.returns-clause-verdict
-returns-clause-verdict g c =
+pub returns-in_err-parsed : goal.returns-in_err-parsed
+returns-in_err-parsed g c =
+    let error = c.in_err-parsed.ensures in
+    of_unread g.S.Source.remaining g.S.Source.given_count g.S.Source.failure_count c.args.trace_source.now c.read_trace.new.source
+    g.Q.Source.remaining g.Q.Source.given_count g.Q.Source.failure_count c.args.report_source.now g.K.Sink.taken g.K.Sink.failure_count c.args.sink.now error.taken error.given
+    Parsed _ c.from_residual.result c.from_residual.ensures.1 error.counted
+
+pub returns-in_err-trace : goal.returns-in_err-trace
+returns-in_err-trace g c =
+    let parsed = c.in_ok-parsed.parsed in
+    let read = c.in_ok-parsed.ensures in
+    of_refused g.S.Source.remaining g.S.Source.given_count g.S.Source.failure_count c.args.trace_source.now c.read_trace.new.source
+    g.Q.Source.remaining g.Q.Source.given_count g.Q.Source.failure_count c.args.report_source.now g.K.Sink.taken g.K.Sink.failure_count c.args.sink.now read.taken read.given
+    parsed.trace parsed.stop read.reading read.counted
+    _ c.from_residual-in_err-trace.result c.from_residual-in_err-trace.ensures.1 c.in_err-trace.ensures.refused
+
+pub returns-in_err-verdict : goal.returns-in_err-verdict
+returns-in_err-verdict g c =
+    let parsed = c.in_ok-parsed.parsed in
+    let read = c.in_ok-parsed.ensures in
+    let error = c.in_err-verdict.ensures in
+    of_unjudged g.S.Source.remaining g.S.Source.given_count g.S.Source.failure_count c.args.trace_source.now c.read_trace.new.source
+    g.Q.Source.remaining g.Q.Source.given_count g.Q.Source.failure_count c.args.report_source.now g.K.Sink.taken g.K.Sink.failure_count c.args.sink.now read.taken read.given
+    parsed.trace parsed.stop read.reading read.counted c.in_ok-trace.trace.trace.now c.in_ok-trace.ensures.accepted c.judge_report.new.source error.taken error.given
+    Verdict _ c.from_residual-in_err-verdict.result c.from_residual-in_err-verdict.ensures.1 error.counted
+
+pub returns-in_default : goal.returns-in_default
+returns-in_default g c =
+    let parsed = c.in_ok-parsed.parsed in
+    let read = c.in_ok-parsed.ensures in
     let trace = c.in_ok-trace.trace in
-    let told = g.Q.Source.remaining c.args.report_source.now in
-    let after = g.Q.Source.remaining c.judge_report.new.source in
-    reads_then most_read (g.S.Source.remaining c.args.trace_source.now) (g.S.Source.remaining c.read_trace.new.source) _ _ _ _ c.in_ok-parsed.ensures.reading (λ text r. reads_then most_read told after _ _ _ _ c.in_ok-verdict.ensures.verdict (λ report v.
-    (checked_of text report c.in_ok-parsed.parsed.trace c.in_ok-parsed.parsed.stop trace.events.now trace.trace.now c.in_ok-verdict.verdict trace.meets trace.of_trace c.in_ok-trace.ensures.accepted r v)))
+    let there = c.in_ok-verdict.ensures in
+    of_failed_sink g.S.Source.remaining g.S.Source.given_count g.S.Source.failure_count c.args.trace_source.now c.read_trace.new.source
+    g.Q.Source.remaining g.Q.Source.given_count g.Q.Source.failure_count c.args.report_source.now g.K.Sink.taken g.K.Sink.failure_count c.args.sink.now read.taken read.given
+    parsed.trace parsed.stop read.reading read.counted trace.trace.now c.in_ok-trace.ensures.accepted c.judge_report.new.source there.taken there.given
+    trace.events.now c.in_ok-verdict.verdict trace.meets trace.of_trace there.verdict there.counted c.verdict_line.new.sink c.in_default.ensures.written c.in_default.ensures.counted
 
-pub returns-in_default-clause-cut : goal.returns-in_default-clause-cut
-returns-in_default-clause-cut g c =
+pub returns : goal.returns
+returns g c =
+    let parsed = c.in_ok-parsed.parsed in
+    let read = c.in_ok-parsed.ensures in
     let trace = c.in_ok-trace.trace in
-    let told = g.Q.Source.remaining c.args.report_source.now in
-    let after = g.Q.Source.remaining c.judge_report.new.source in
-    reads_then most_read (g.S.Source.remaining c.args.trace_source.now) (g.S.Source.remaining c.read_trace.new.source) _ _ _ _ c.in_ok-parsed.ensures.reading (λ text r. reads_then most_read told after _ _ _ _ c.in_ok-verdict.ensures.verdict (λ report v.
-    record {
-      verdict = c.in_ok-verdict.verdict;
-      checked = (checked_of text report c.in_ok-parsed.parsed.trace c.in_ok-parsed.parsed.stop trace.events.now trace.trace.now c.in_ok-verdict.verdict trace.meets trace.of_trace c.in_ok-trace.ensures.accepted r v);
-      written = c.in_default.ensures.written;
-    }))
-
-pub returns-in_err-trace-clause-refused : goal.returns-in_err-trace-clause-refused
-returns-in_err-trace-clause-refused g c =
-    refusal_first c.in_ok-parsed.parsed.trace c.in_ok-parsed.parsed.stop most_read (g.S.Source.remaining c.args.trace_source.now) (g.S.Source.remaining c.read_trace.new.source) _ _ _ c.from_residual-in_err-trace.result c.from_residual-in_err-trace.ensures.1 c.in_ok-parsed.ensures.reading c.in_err-trace.ensures.refused
-
-pub returns-in_default-clause-silent : goal.returns-in_default-clause-silent
-returns-in_default-clause-silent g c =
-    none_found c.in_ok-parsed.parsed.trace c.in_ok-parsed.parsed.stop c.in_ok-trace.trace.trace.now (g.S.Source.remaining c.args.trace_source.now) _ c.in_ok-trace.ensures.accepted (reads_told most_read (g.S.Source.remaining c.args.trace_source.now) (g.S.Source.remaining c.read_trace.new.source) _ _ _ c.in_ok-parsed.ensures.reading)
-
-pub returns-clause-silent : goal.returns-clause-silent
-returns-clause-silent g c =
-    none_found c.in_ok-parsed.parsed.trace c.in_ok-parsed.parsed.stop c.in_ok-trace.trace.trace.now (g.S.Source.remaining c.args.trace_source.now) _ c.in_ok-trace.ensures.accepted (reads_told most_read (g.S.Source.remaining c.args.trace_source.now) (g.S.Source.remaining c.read_trace.new.source) _ _ _ c.in_ok-parsed.ensures.reading)
-
-pub returns-in_err-verdict-clause-unread : goal.returns-in_err-verdict-clause-unread
-returns-in_err-verdict-clause-unread g c =
-    none_found c.in_ok-parsed.parsed.trace c.in_ok-parsed.parsed.stop c.in_ok-trace.trace.trace.now (g.S.Source.remaining c.args.trace_source.now) _ c.in_ok-trace.ensures.accepted (reads_told most_read (g.S.Source.remaining c.args.trace_source.now) (g.S.Source.remaining c.read_trace.new.source) _ _ _ c.in_ok-parsed.ensures.reading)
-
-pub returns-in_default-clause-unread : goal.returns-in_default-clause-unread
-returns-in_default-clause-unread g c =
-    none_found c.in_ok-parsed.parsed.trace c.in_ok-parsed.parsed.stop c.in_ok-trace.trace.trace.now (g.S.Source.remaining c.args.trace_source.now) _ c.in_ok-trace.ensures.accepted (reads_told most_read (g.S.Source.remaining c.args.trace_source.now) (g.S.Source.remaining c.read_trace.new.source) _ _ _ c.in_ok-parsed.ensures.reading)
-
-pub returns-clause-unread : goal.returns-clause-unread
-returns-clause-unread g c =
-    none_found c.in_ok-parsed.parsed.trace c.in_ok-parsed.parsed.stop c.in_ok-trace.trace.trace.now (g.S.Source.remaining c.args.trace_source.now) _ c.in_ok-trace.ensures.accepted (reads_told most_read (g.S.Source.remaining c.args.trace_source.now) (g.S.Source.remaining c.read_trace.new.source) _ _ _ c.in_ok-parsed.ensures.reading)
-
-pub returns-in_err-parsed-clause-trace_left : goal.returns-in_err-parsed-clause-trace_left
-returns-in_err-parsed-clause-trace_left g c = not_judged _ c.from_residual.result _ c.from_residual.ensures.1
-
-pub returns-in_err-trace-clause-trace_left : goal.returns-in_err-trace-clause-trace_left
-returns-in_err-trace-clause-trace_left g c = judged _ _ (reads_left most_read (g.S.Source.remaining c.args.trace_source.now) (g.S.Source.remaining c.read_trace.new.source) _ _ _ c.in_ok-parsed.ensures.reading)
-
-pub returns-in_err-verdict-clause-trace_left : goal.returns-in_err-verdict-clause-trace_left
-returns-in_err-verdict-clause-trace_left g c = judged _ _ (reads_left most_read (g.S.Source.remaining c.args.trace_source.now) (g.S.Source.remaining c.read_trace.new.source) _ _ _ c.in_ok-parsed.ensures.reading)
-
-pub returns-in_default-clause-trace_left : goal.returns-in_default-clause-trace_left
-returns-in_default-clause-trace_left g c = reads_left most_read (g.S.Source.remaining c.args.trace_source.now) (g.S.Source.remaining c.read_trace.new.source) _ _ _ c.in_ok-parsed.ensures.reading
-
-pub returns-clause-trace_left : goal.returns-clause-trace_left
-returns-clause-trace_left g c = reads_left most_read (g.S.Source.remaining c.args.trace_source.now) (g.S.Source.remaining c.read_trace.new.source) _ _ _ c.in_ok-parsed.ensures.reading
-
-pub returns-in_default-clause-report_left : goal.returns-in_default-clause-report_left
-returns-in_default-clause-report_left g c = reads_left most_read (g.Q.Source.remaining c.args.report_source.now) (g.Q.Source.remaining c.judge_report.new.source) _ _ _ c.in_ok-verdict.ensures.verdict
-
-pub returns-clause-report_left : goal.returns-clause-report_left
-returns-clause-report_left g c = reads_left most_read (g.Q.Source.remaining c.args.report_source.now) (g.Q.Source.remaining c.judge_report.new.source) _ _ _ c.in_ok-verdict.ensures.verdict
-
-pub returns-in_err-parsed-clause-unwritten : goal.returns-in_err-parsed-clause-unwritten
-returns-in_err-parsed-clause-unwritten g c = of_no_trace c.from_residual.result _ refl
-
-pub returns-in_err-parsed-clause-silent : goal.returns-in_err-parsed-clause-silent
-returns-in_err-parsed-clause-silent g c = of_any_fault (g.S.Source.remaining c.args.trace_source.now) _ refl
-
-pub returns-in_err-parsed-clause-unread : goal.returns-in_err-parsed-clause-unread
-returns-in_err-parsed-clause-unread g c = of_any_fault (g.S.Source.remaining c.args.trace_source.now) _ refl
-
-pub returns-in_err-parsed-clause-unread_after : goal.returns-in_err-parsed-clause-unread_after
-returns-in_err-parsed-clause-unread_after g c = of_any_trace c.from_residual.result _ refl
-
-pub returns-in_err-trace-clause-unwritten : goal.returns-in_err-trace-clause-unwritten
-returns-in_err-trace-clause-unwritten g c = of_no_trace c.from_residual-in_err-trace.result _ refl
-
-pub returns-in_err-trace-clause-silent : goal.returns-in_err-trace-clause-silent
-returns-in_err-trace-clause-silent g c = of_any_fault (g.S.Source.remaining c.args.trace_source.now) _ refl
-
-pub returns-in_err-trace-clause-unread : goal.returns-in_err-trace-clause-unread
-returns-in_err-trace-clause-unread g c = of_any_fault (g.S.Source.remaining c.args.trace_source.now) _ refl
-
-pub returns-in_err-trace-clause-unread_after : goal.returns-in_err-trace-clause-unread_after
-returns-in_err-trace-clause-unread_after g c = of_any_trace c.from_residual-in_err-trace.result _ refl
-
-pub returns-in_err-trace-clause-sources : goal.returns-in_err-trace-clause-sources
-returns-in_err-trace-clause-sources g c =
-    counted_judged c.in_ok-parsed.parsed.trace c.in_ok-parsed.parsed.stop _ c.from_residual-in_err-trace.result _ _ _ _ c.from_residual-in_err-trace.ensures.1 c.in_err-trace.ensures.refused c.in_ok-parsed.ensures.counted refl
+    let there = c.in_ok-verdict.ensures in
+    of_line g.S.Source.remaining g.S.Source.given_count g.S.Source.failure_count c.args.trace_source.now c.read_trace.new.source
+    g.Q.Source.remaining g.Q.Source.given_count g.Q.Source.failure_count c.args.report_source.now g.K.Sink.taken g.K.Sink.failure_count c.args.sink.now read.taken read.given
+    parsed.trace parsed.stop read.reading read.counted trace.trace.now c.in_ok-trace.ensures.accepted c.judge_report.new.source there.taken there.given
+    trace.events.now c.in_ok-verdict.verdict trace.meets trace.of_trace there.verdict there.counted c.verdict_line.new.sink c.in-Ok.ensures.written c.in-Ok.ensures.counted

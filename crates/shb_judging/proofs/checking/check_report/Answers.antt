@@ -8,7 +8,7 @@ returns-clause-verdict g c = c.in_ok-verdict.ensures c.args.report.now (sym c.co
 
 pub returns-clause-good : goal.returns-clause-good
 returns-clause-good g c =
-    let trace = c.args.trace.now in
+    let trace = c.args.disciplined.now in
     let report = c.args.report.now in
     good_exactly_of trace.trace.now trace.events.now trace.of_trace trace.meets report c.in_ok-verdict.verdict
     (c.in_ok-verdict.ensures report (sym c.counts.ensures) (sym c.section.ensures) c.in_ok-judged.ensures)

@@ -8,7 +8,7 @@ use Rattle.shb_judging.proofs.checking.judge_listed.Goals as goal
 
 pub loop-k-preserved : goal.loop-k-preserved
 loop-k-preserved c =
-    let trace = c.args.trace.now.trace.now in
+    let trace = c.args.disciplined.now.trace.now in
     let block = block_in c.listed-listed.result in
     let next = take_push c.args.report.now.blocks c.loop-k.k block c.listed-listed.ensures in
     let first : ℕ → List ℕ = λ count. take (count + 1) (map (position_of count) block.schedule) in

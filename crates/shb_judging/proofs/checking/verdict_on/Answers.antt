@@ -6,10 +6,10 @@ use Rattle.shb_lines.specs.text.TraceData.{TraceData}
 use Rattle.shb_judging.specs.declared.judged.JudgedBlocks.{JudgedBlocks}
 use Rattle.shb_judging.specs.declared.verdict.Verdict.TheVariants.{Good}
 use Rattle.shb_report.specs.declared.counts.Counts.{Counts}
-use Rattle.shb_judging.specs.Judging.{AreFound, HasPlacesOf, IsVerdictOnJudged}
+use Rattle.shb_judging.specs.Judging.{AreFound, IsVerdictOnJudged}
 use Rattle.shb_report.specs.Report.{counts_of}
 use Rattle.shb_report.specs.Value.{Place}
-use Rattle.shb_judging.specs.Verdicts.{pair_in}
+use Rattle.shb_judging.specs.Verdicts.{HasPlacesOf, pair_in}
 use Rattle.shb_judging.proofs.checking.verdict_on.Goals as goal
 
 good_as_judged : (trace : TraceData) (counts : Counts) (places : Option (List Place)) (judged : JudgedBlocks) (races : ℕ) → counts ≡ counts_of trace → judged.bad ≡ None
@@ -27,6 +27,6 @@ returns-then-not-branch g c = search rules
 pub returns : goal.returns
 returns g c =
     let judged : JudgedBlocks = c.args.judged.now in
-    let races : c.len.result ≡ length judged.pairs.items = omega (arith, c.len.ensures, judged.pairs.ok.0) in
+    let races : c.len-2.result ≡ length judged.pairs.items = omega (arith, c.len-2.ensures, judged.pairs.ok.0) in
     let has = subst (λ (p : List Pair). HasPlacesOf c.args.trace.now c.args.section p) c.as_slice.ensures.value (c.in_ok-has_places_of.ensures.0 (cc)) in
-    good_as_judged c.args.trace.now c.args.counts c.args.section judged c.len.result (c.has_counts.ensures.0 (cc)) c.in_default.is has races
+    good_as_judged c.args.trace.now c.args.counts c.args.section judged c.len-2.result (c.has_counts.ensures.0 (cc)) c.in_default.is has races

@@ -22,7 +22,7 @@ pub loop-number-preserved : goal.loop-number-preserved
 loop-number-preserved c =
     let loop = c.loop-number in
     let text : List ℕ = c.args.text.now in
-    let trace = c.args.trace.now.trace.now in
+    let trace = c.args.disciplined.now.trace.now in
     let before = loop.invariant.read in
     let read = c.in_ok-entry.ensures.read in
     let first : ℕ → List ℕ = λ count. take (count + 1) (map (position_of count) read.block.schedule) in

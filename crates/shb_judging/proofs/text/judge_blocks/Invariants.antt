@@ -9,7 +9,7 @@ invariant-loop-number l = record {
   within : l.number ≤ l.count;
   judge : l.judge ≡ l.fn.judge;
   at : IsAt l.text l.at;
-  read : JudgesBlocks l.trace.trace.now l.text l.fn.at l.at l.number l.judged;
+  read : JudgesBlocks l.disciplined.trace.now l.text l.fn.at l.at l.number l.judged;
   passes : (forms : List Form) → Passes l.text l.fn.at l.at (block_forms 1 l.count ++ forms) (block_forms (l.number + 1) (l.count - l.number) ++ forms);
 }
 

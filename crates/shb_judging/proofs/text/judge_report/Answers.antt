@@ -11,7 +11,7 @@ use Rattle.shb_judging.proofs.text.judge_report.Goals as goal
 
 pub returns-in-Ok-clause-verdict : goal.returns-in-Ok-clause-verdict
 returns-in-Ok-clause-verdict g c =
-    let trace = c.args.trace.now.trace.now in
+    let trace = c.args.disciplined.now.trace.now in
     let text = c.in_ok-text.text in
     let whole = c.in_ok-text.ensures.ok in
     let given = subst (HasGiven _ _) text.ok.0 c.in_ok-text.ensures.given_ok in
@@ -22,7 +22,7 @@ returns-in-Ok-clause-verdict g c =
 
 pub returns-in-Err-BadLine-clause-verdict : goal.returns-in-Err-BadLine-clause-verdict
 returns-in-Err-BadLine-clause-verdict g c =
-    let trace = c.args.trace.now.trace.now in
+    let trace = c.args.disciplined.now.trace.now in
     let text = c.in_ok-text.text in
     let whole = c.in_ok-text.ensures.ok in
     let given = subst (HasGiven _ _) text.ok.0 c.in_ok-text.ensures.given_ok in

@@ -26,5 +26,5 @@ returns-clause-judged g c =
     let section = c.section_of-section.ensures ∙ ap (section_at text head.with_places) (c.as_slice.ensures.value ∙ places.kept_is) ∙ section_front text head.with_places most entries in record {
       report = report;
       text_is = whole_text text _ _ _ head.with_places head.counts entries read.blocks head.races _ first.counts first.races first.bytes first.lines places.holds read.taken tail.bytes tail.lines;
-      verdict_is = verdict_by_front c.args.trace.now.trace.now report most more _ (c.in_ok-verdict.ensures (with_first_places most report) refl (sym section) read.are_judged);
+      verdict_is = verdict_by_front c.args.disciplined.now.trace.now report most more _ (c.in_ok-verdict.ensures (with_first_places most report) refl (sym section) read.are_judged);
     }

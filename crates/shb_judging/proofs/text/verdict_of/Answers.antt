@@ -10,10 +10,10 @@ pub returns-clause-verdict : goal.returns-clause-verdict
 returns-clause-verdict g c =
     let text = c.args.text.now in
     let short : length text ≤ most_bytes = omega (arith, c.if-text-gt-MOST_BYTES.false) in
-    verdict_for c.args.trace.now.trace.now text c.in_ok-judged.judged.lines c.in_ok-judged.judged.verdict short c.in_ok-judged.ensures.judged
+    verdict_for c.args.disciplined.now.trace.now text _ _ short c.in_ok-verdict.ensures.judged
 
-pub returns-in_err-judged-clause-bad : goal.returns-in_err-judged-clause-bad
-returns-in_err-judged-clause-bad g c =
+pub returns-in_err-verdict-clause-bad : goal.returns-in_err-verdict-clause-bad
+returns-in_err-verdict-clause-bad g c =
     let text = c.args.text.now in
     let short : length text ≤ most_bytes = omega (arith, c.if-text-gt-MOST_BYTES.false) in
-    bad_weaker c.from_residual.result c.in_err-judged.field-0.0 _ _ c.from_residual.ensures.1 (λ n b. bad_short most_bytes text n short b) c.in_err-judged.ensures.bad
+    bad_weaker c.from_residual.result c.in_err-verdict.field-0.0 _ _ c.from_residual.ensures.1 (λ n b. bad_short most_bytes text n short b) c.in_err-verdict.ensures.bad

@@ -15,6 +15,3 @@ loop-e-preserved c =
         | inr high ↦ (let is : k ≡ x = omega (arith, lt, high) in subst (Contains (before ++ k ∷ [])) is (Contains-push before k))
       ];
     })
-
-pub returns-clause-each : goal.returns-clause-each
-returns-clause-each c = λ x lt. c.loop-e.invariant.each x (omega (arith, lt, c.loop-e-test.false))

@@ -5,11 +5,6 @@ use Rattle.shb_clocks.proofs.ListedLemmas.{contains_listed}
 use Rattle.shb_orders.specs.Learned.{AreLearnedTimes}
 use Rattle.shb_orders.proofs.clock_versions.versions.Goals as goal
 
-pub at_events-requires : goal.at_events-requires
-at_events-requires c =
-    let size = c.len.ensures in
-    rw c.as_slice.ensures.value (λ k d lt. (let low = c.in_ok-events.ensures.within k d lt in omega (arith, low, size)))
-
 pub invariant_of-result : goal.invariant_of-result
 invariant_of-result c =
     let size = c.len.ensures in

@@ -1,12 +1,8 @@
 -- Another line stands at the front.
 use Rattle.shb_reading.proofs.LineEnds.{lacks_by}
 use Rattle.std.proofs.Common.{refl}
-use Rattle.shb_reading.specs.Forms.{Races, RacesBeforePlaces}
+use Rattle.shb_reading.specs.Forms.{Races}
 use Rattle.shb_reading.proofs.lines.read_race_count.Goals as goal
 
 pub returns-in_err-count : goal.returns-in_err-count
-returns-in_err-count c = rw c.from_residual-in_err-count.ensures (
-  refl,
-  lacks_by Races _ _ _ c.in_ok-line.ensures.begins (λ added h. c.in_err-count.ensures h.0 h.1 h.2),
-  lacks_by RacesBeforePlaces _ _ _ c.in_ok-line.ensures.begins (λ added h. c.in_err-count.ensures h.0 h.1 h.2),
-)
+returns-in_err-count c = rw c.from_residual-in_err-count.ensures (refl, λ with_places. lacks_by (Races with_places) _ _ _ c.in_ok-line.ensures.begins (λ added h. c.in_err-count.ensures h.0 h.1 h.2))

@@ -1,7 +1,8 @@
--- A first line is one of two.
+-- Another line stands at the front.
 use Rattle.std.proofs.Common.{refl}
-use Rattle.shb_reading.proofs.LineEnds.{lacks_version}
+use Rattle.shb_reading.specs.Forms.{Version}
+use Rattle.shb_reading.proofs.LineEnds.{lacks_by}
 use Rattle.shb_reading.proofs.lines.read_version.Goals as goal
 
 pub returns-in_err-with_places : goal.returns-in_err-with_places
-returns-in_err-with_places c = rw c.from_residual-in_err-with_places.ensures (refl, lacks_version _ _ _ c.in_ok-line.ensures.begins c.in_err-with_places.ensures)
+returns-in_err-with_places c = rw c.from_residual-in_err-with_places.ensures (refl, lacks_by Version _ _ _ c.in_ok-line.ensures.begins (λ added h. c.in_err-with_places.ensures h.0 h.1))

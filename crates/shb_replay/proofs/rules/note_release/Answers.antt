@@ -1,7 +1,6 @@
 use Rattle.shb_lines.specs.declared.event.Op.TheVariants.{Release}
 use Rattle.std.proofs.Common.{◌<◌, arith}
 use Rattle.shb_lines.proofs.events.Items.{op_known, op_within_at}
-use Rattle.shb_replay.proofs.Origins.{release_noted, no_release_noted}
 use Rattle.shb_replay.proofs.rules.note_release.Goals as goal
 
 pub index_mut-requires : goal.index_mut-requires
@@ -9,9 +8,3 @@ index_mut-requires c =
     let trace = c.args.linked.now in
     let low : c.in-Release.lock < trace.sizes.locks = op_within_at trace.events.now trace.sizes c.args.e (Release c.in-Release.lock) trace.within (op_known trace.events.now c.args.e c.op.result (Release c.in-Release.lock) c.op.ensures c.in-Release.is) in
     omega (arith, low, c.requires.releases.as_long, c.args.releases.now.ok.0)
-
-pub returns-in-Release : goal.returns-in-Release
-returns-in-Release c = release_noted c.args.linked.now.events.now c.args.linked.now.sizes c.args.e c.args.linked.now.within c.args.releases.now.items c.in-Release.lock (op_known _ _ _ _ c.op.ensures c.in-Release.is) c.requires.releases
-
-pub returns-in_default : goal.returns-in_default
-returns-in_default c = no_release_noted c.args.linked.now.events.now c.args.linked.now.sizes c.args.e c.args.linked.now.within c.args.releases.now.items c.op.result c.op.ensures c.in_default.not-Release c.requires.releases

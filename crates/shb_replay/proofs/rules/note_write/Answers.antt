@@ -1,7 +1,6 @@
 use Rattle.shb_lines.specs.declared.event.Op.TheVariants.{Write}
 use Rattle.std.proofs.Common.{◌<◌, arith}
 use Rattle.shb_lines.proofs.events.Items.{op_known, op_within_at}
-use Rattle.shb_replay.proofs.Origins.{no_write_noted, write_noted}
 use Rattle.shb_replay.proofs.rules.note_write.Goals as goal
 
 pub index_mut-requires : goal.index_mut-requires
@@ -9,9 +8,3 @@ index_mut-requires c =
     let trace = c.args.linked.now in
     let low : c.in-Write.variable < trace.sizes.variables = op_within_at trace.events.now trace.sizes c.args.e (Write c.in-Write.variable) trace.within (op_known trace.events.now c.args.e c.op.result (Write c.in-Write.variable) c.op.ensures c.in-Write.is) in
     omega (arith, low, c.requires.writes.as_long, c.args.writes.now.ok.0)
-
-pub returns-in-Write : goal.returns-in-Write
-returns-in-Write c = write_noted c.args.linked.now.events.now c.args.linked.now.sizes c.args.e c.args.linked.now.within c.args.writes.now.items c.in-Write.variable (op_known _ _ _ _ c.op.ensures c.in-Write.is) c.requires.writes
-
-pub returns-in_default : goal.returns-in_default
-returns-in_default c = no_write_noted c.args.linked.now.events.now c.args.linked.now.sizes c.args.e c.args.linked.now.within c.args.writes.now.items c.op.result c.op.ensures c.in_default.not-Write c.requires.writes

@@ -1,7 +1,7 @@
 use Rattle.std.proofs.Common.{◌<◌, arith}
 use Rattle.shb_lines.specs.declared.event.Op.TheVariants.{Acquire, Read}
 use Rattle.shb_lines.proofs.events.Items.{op_known, op_within_at}
-use Rattle.shb_replay.proofs.Origins.{none_found, release_found, write_found}
+use Rattle.shb_replay.proofs.Origins.{release_found, write_found}
 use Rattle.shb_replay.proofs.rules.origin_of.Goals as goal
 
 pub bounds-releases-lock : goal.bounds-releases-lock
@@ -21,6 +21,3 @@ returns-in-Acquire c = release_found c.args.linked.now.events.now c.args.linked.
 
 pub returns-in-Read : goal.returns-in-Read
 returns-in-Read c = write_found c.args.linked.now.events.now c.args.linked.now.sizes c.args.e c.args.linked.now.within c.args.writes.now c.in-Read.variable (op_known _ _ _ _ c.op.ensures c.in-Read.is) c.requires.writes
-
-pub returns-in_default : goal.returns-in_default
-returns-in_default c = none_found c.args.linked.now.events.now c.args.e c.op.result c.op.ensures c.in_default.not-Acquire c.in_default.not-Read

@@ -1,3 +1,4 @@
+use Rattle.std.proofs.lemmas.Grind.{common_steps}
 use Rattle.std.proofs.Common.{◌<◌, List, Some, None, length, arith, slice_index_or, ap, subst, ◌∙◌}
 use Rattle.std.specs.Bool.{then_some}
 use Rattle.std.proofs.lemmas.Option.{slice_get-get_or, slice_get_read}
@@ -20,14 +21,7 @@ index-requires c =
     omega (arith, low, c.requires.walked.joined.as_long, c.args.self.now.joined.ok.0)
 
 pub lacks-requires : goal.lacks-requires
-lacks-requires c =
-    let trace = c.args.rules.now.linked in
-    let x = slice_index_or c.args.list.now c.args.at 0 in
-    let lt = c.requires.in_trace _ (slice_get-get_or c.args.list.now c.args.at 0 c.requires.at) in
-    let takes = c.op.ensures ∙ ap (λ o. Some o) c.in-Acquire.is in
-    let long = c.requires.walked.stands.as_long in
-    let len = c.args.self.now.stands.ok.0 in
-    handover_in_trace trace.events.now c.in-Acquire.field-0 x c.args.self.now.stands.len c.origin.result (c.origin.ensures.releases c.in-Acquire.field-0 takes) (omega (arith, lt, long, len))
+lacks-requires c = grind (arith, common_steps, slice_index_or, c.requires.in_trace, slice_get-get_or, c.requires.at, c.op.ensures, c.in-Acquire.is, c.requires.walked.stands.as_long, handover_in_trace, c.origin.ensures.releases)
 
 pub index-requires-in-Read : goal.index-requires-in-Read
 index-requires-in-Read c =

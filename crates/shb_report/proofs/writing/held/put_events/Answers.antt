@@ -1,5 +1,6 @@
-use Rattle.std.proofs.Common.{rules, ◌++◌, ◌+◌, get_or, take, drop, subst}
-use Rattle.shb_io.specs.Devices.{AppendsPrefix, HoldsBack}
+use Rattle.std.proofs.lemmas.Grind.{common_steps}
+use Rattle.std.proofs.Common.{◌++◌, ◌+◌, get_or, take, drop, subst, arith}
+use Rattle.shb_io.specs.Devices.{AppendsPrefix}
 use Rattle.shb_report.specs.BlockTexts.{event_number, event_numbers}
 use Rattle.shb_report.proofs.writing.HeldLemmas.{HoldsBack-then, PutsPrefix-front, PutsPrefix-after, Puts-err, texts-next, texts-split}
 use Rattle.shb_report.proofs.writing.held.put_events.Goals as goal
@@ -17,12 +18,4 @@ returns-in_err-put_event-clause-put g c =
     (subst (λ l. AppendsPrefix (g.S.Sink.taken c.args.sink.now) (g.S.Sink.taken c.put_event.new.sink) (held ++ l)) (texts-split event_number events k 0 c.loop-event-test.true) after)
 
 pub loop-event-preserved : goal.loop-event-preserved
-loop-event-preserved g c =
-    let held = c.args.held.now in
-    let events = c.args.events.now in
-    let k = c.loop-event.event-index in
-    let number = event_number (get_or events k 0) in
-    let more = HoldsBack-then _ _ _ held _ _ (event_numbers (take k events)) number c.loop-event.invariant.held c.in_ok-put_event.ensures.put in record {
-      held = subst (λ l. HoldsBack (g.S.Sink.taken c.args.sink.now) (g.S.Sink.taken c.put_event.new.sink) c.put_event.new.held (held ++ l)) (texts-next event_number events k 0 c.loop-event-test.true) more;
-      counted = search rules;
-    }
+loop-event-preserved g c = grind (arith, common_steps, HoldsBack-then, c.loop-event.invariant.held, c.in_ok-put_event.ensures.put, texts-next, c.loop-event-test.true)

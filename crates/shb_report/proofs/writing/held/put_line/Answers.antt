@@ -1,4 +1,5 @@
-use Rattle.std.proofs.Common.{◌++◌, codes}
+use Rattle.std.proofs.lemmas.Grind.{common_steps}
+use Rattle.std.proofs.Common.{◌++◌, codes, arith}
 use Rattle.shb_report.proofs.writing.HeldLemmas.{PutsPrefix-front, PutsPrefix-after, Puts-then, Puts-err}
 use Rattle.shb_report.proofs.writing.held.put_line.Goals as goal
 
@@ -12,7 +13,4 @@ returns-in_err-put_bytes-2-clause-put g c =
     (PutsPrefix-after _ _ _ held _ label (text ++ codes "\n") c.in_ok-put_bytes.ensures.put front)
 
 pub returns-clause-put : goal.returns-clause-put
-returns-clause-put g c =
-    let text = c.args.text.now in
-    let last = Puts-then _ _ _ _ c.put_bytes.new.held _ _ text (codes "\n") c.in_ok-put_bytes-2.ensures.put c.put_bytes-3.ensures.put in
-    Puts-then _ _ _ _ c.args.held.now _ _ c.args.label.now (text ++ codes "\n") c.in_ok-put_bytes.ensures.put last
+returns-clause-put g c = grind (arith, common_steps, Puts-then, codes, c.in_ok-put_bytes-2.ensures.put, c.put_bytes-3.ensures.put, c.in_ok-put_bytes.ensures.put)

@@ -1,5 +1,6 @@
-use Rattle.std.proofs.Common.{rules, ◌++◌, ◌+◌, get_or, take, drop, subst}
-use Rattle.shb_io.specs.Devices.{AppendsPrefix, HoldsBack}
+use Rattle.std.proofs.lemmas.Grind.{common_steps}
+use Rattle.std.proofs.Common.{◌++◌, ◌+◌, get_or, take, drop, subst, arith}
+use Rattle.shb_io.specs.Devices.{AppendsPrefix}
 use Rattle.shb_positions.specs.declared.positions.Run.{Run}
 use Rattle.shb_positions.specs.Runs.{run_positions}
 use Rattle.shb_report.specs.Numbers.{run_numbers}
@@ -23,12 +24,4 @@ returns-in_err-put_run-clause-put g c =
     (subst (λ l. AppendsPrefix (g.S.Sink.taken c.args.sink.now) (g.S.Sink.taken c.put_run.new.sink) (held ++ l)) (texts-split (λ run. event_numbers (run_positions run)) runs k none c.loop-run-test.true) after)
 
 pub loop-run-preserved : goal.loop-run-preserved
-loop-run-preserved g c =
-    let held = c.args.held.now in
-    let runs = c.args.runs.now in
-    let k = c.loop-run.run-index in
-    let numbers = event_numbers (run_positions (get_or runs k none)) in
-    let more = HoldsBack-then _ _ _ held _ _ (run_numbers (take k runs)) numbers c.loop-run.invariant.held c.in_ok-put_run.ensures.put in record {
-      held = subst (λ l. HoldsBack (g.S.Sink.taken c.args.sink.now) (g.S.Sink.taken c.put_run.new.sink) c.put_run.new.held (held ++ l)) (texts-next (λ run. event_numbers (run_positions run)) runs k none c.loop-run-test.true) more;
-      counted = search rules;
-    }
+loop-run-preserved g c = grind (arith, common_steps, HoldsBack-then, c.loop-run.invariant.held, c.in_ok-put_run.ensures.put, texts-next, c.loop-run-test.true)

@@ -1,12 +1,6 @@
-use Rattle.std.proofs.Common.{rules, arith}
-use Rattle.shb_report.proofs.writing.RunTexts.{numbers-none, numbers-pushed}
+use Rattle.std.proofs.Common.{arith}
+use Rattle.shb_report.proofs.writing.RunTexts.{numbers-pushed}
 use Rattle.shb_report.proofs.writing.number_texts.NumberTexts.of_first.Goals as goal
-
-pub loop-event-init : goal.loop-event-init
-loop-event-init c = record {
-  texts = numbers-none _ _ (search rules) (search rules);
-  short = search (rules, arith);
-}
 
 pub loop-event-preserved : goal.loop-event-preserved
 loop-event-preserved c = record {

@@ -1,6 +1,6 @@
 -- An edit that makes this false is refused at once.
 use Rattle.std.proofs.Common.{rules}
-use Rattle.shb_judging.proofs.judged.pair_fault.Goals as goal
+use Rattle.shb_judging.proofs.judged.judge_pair.Goals as goal
 
 pub returns-then-not-same_bytes : goal.returns-then-not-same_bytes
 returns-then-not-same_bytes c = search rules
