@@ -31,7 +31,7 @@ use Rattle.shb_places.proofs.NoteLemmas.{chain_in}
 -- an access that is kept at a site is one of its variable and location
 pub noted_in : (trace : TraceData) (sites : List Site) (notes : Tables) (s i n : ℕ) (site : Site) → AreKept trace sites notes n → slice_get sites s ≡ Some site → IsNotedAt notes s i → (variable_at trace.events i ≡ Some site.variable) × (location_at trace i ≡ location_at trace site.location)
 noted_in trace sites notes s i n site kept at_site noted =
-    let f = chain_in trace sites notes s noted.number i n noted.class noted.newest kept noted.there noted.at_newest noted.site_is noted.chain in
+    let f = chain_in trace sites notes s noted.number i n noted.class kept noted.there noted.site_is noted.chain in
     let same = same_entry sites s f.site site f.at_site at_site in
     (subst (λ (k : Site). variable_at trace.events i ≡ Some k.variable) same f.access.variable, subst (λ (k : Site). location_at trace i ≡ location_at trace k.location) same f.access.location)
 
@@ -94,15 +94,12 @@ kept_sites trace old new notes n stay kept = record {
     head = h.head;
     at_head = h.at_head;
     reached = h.reached;
-    newest = h.newest;
-    at_newest = h.at_newest;
     link = h.link;
     at_link = h.at_link;
     access = h.access;
     local = h.local;
   });
   links = kept.links;
-  as_many = kept.as_many;
 }
 
 kept_later : (trace : TraceData) (sites : List Site) (notes : Tables) (n : ℕ) → AreKept trace sites notes n → AreKept trace sites notes (n + 1)
@@ -114,7 +111,6 @@ kept_later trace sites notes n kept = record {
     falls = kept.links.falls;
     alike = kept.links.alike;
   };
-  as_many = kept.as_many;
 }
 
 -- an event without an access of an open variable
@@ -195,7 +191,7 @@ searched_all trace flags sites notes table n all h apart = record {
 }
 
 -- before the first event
-pub searched_none : (trace : TraceData) (flags : List Bool) (sites : Sites) (notes : Notes) (table : Found) → ((e x : ℕ) → variable_at trace.events e ≡ Some x → x < length sites.newest.items) → sites.sites.items ≡ [] → tables_of notes ≡ record { heads = []; classes = []; newest = []; links = [] } → table.races.entries ≡ [] → IsSearched trace flags sites notes table 0
+pub searched_none : (trace : TraceData) (flags : List Bool) (sites : Sites) (notes : Notes) (table : Found) → ((e x : ℕ) → variable_at trace.events e ≡ Some x → x < length sites.newest.items) → sites.sites.items ≡ [] → tables_of notes ≡ record { heads = []; classes = []; links = [] } → table.races.entries ≡ [] → IsSearched trace flags sites notes table 0
 searched_none trace flags sites notes table sized no_sites no_notes no_races = record {
   sized = sized;
   listed = λ s site there. absurd (apart s (subst (λ (all : List Site). slice_get all s ≡ Some site) no_sites there));
@@ -207,7 +203,6 @@ searched_none trace flags sites notes table sized no_sites no_notes no_races = r
       falls = λ k link before at. absurd cc;
       alike = λ k link before at. absurd cc;
     };
-    as_many = refl;
   });
   noted = λ e x lt. absurd (omega (arith, lt));
   found = λ e there. absurd (contains_none e (subst (λ (all : List FoundRace). Contains all e) no_races there));

@@ -20,9 +20,6 @@ local-local-requires g c =
     let trace = c.args.ordered.now.disciplined.now.trace.now in
     within_of trace.events _ _ c.args.access.event c.args.ordered.now.linked c.args.ordered.now.disciplined.now.of_trace (accessed_within trace.events c.args.access.event c.args.access.variable c.requires.access.variable)
 
-pub add-requires : goal.add-requires
-add-requires g c = record { as_many = subst (λ (n : Notes). length n.newest.items ≡ length n.classes.items) (sym c.in_ok-ask.ensures.notes) c.requires.searched.1.searched.kept.as_many }
-
 pub returns-clause-searched : goal.returns-clause-searched
 returns-clause-searched g c flags is_so h =
     let trace = c.args.ordered.now.disciplined.now.trace.now in
