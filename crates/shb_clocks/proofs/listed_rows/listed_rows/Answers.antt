@@ -1,4 +1,3 @@
-use Rattle.std.proofs.lemmas.Grind.{common_steps}
 use Rattle.std.proofs.Common.{◌≡◌, ℕ, length, arith, subst}
 use Rattle.shb_clocks.specs.KeptRows.{AreListedRows}
 use Rattle.shb_clocks.proofs.ListedLemmas.{rising_order}
@@ -16,7 +15,12 @@ pub note_listed-requires-clause-copies : goal.note_listed-requires-clause-copies
 note_listed-requires-clause-copies c = c.in_ok-pass_up_to.ensures.copies c.loop-at.kept.rows.rows c.loop-at.invariant.copies
 
 pub loop-at-preserved : goal.loop-at-preserved
-loop-at-preserved c = grind (arith, common_steps, c.in_ok-pass_up_to.ensures.swept, rising_order, c.requires.rising, c.in_ok-note_listed.ensures.kept, c.in_ok-note_listed.ensures.copies)
+loop-at-preserved c = record {
+  swept = c.in_ok-pass_up_to.ensures.swept;
+  passed = λ i low lt. rising_order c.args.events.now c.requires.rising c.loop-at.at i 0 (omega (arith, low)) lt;
+  kept = c.in_ok-note_listed.ensures.kept;
+  copies = c.in_ok-note_listed.ensures.copies;
+}
 
 pub returns : goal.returns
 returns c =
