@@ -16,7 +16,6 @@ use Rattle.std.specs.Map.{keys_of}
 use Rattle.std.proofs.lemmas.Bool.{cases_order}
 use Rattle.std.proofs.lemmas.Map.Keys.{apart_from_distinct}
 use Rattle.std.proofs.lemmas.Option.{slice_get-get_or, slice_get-map}
-use Rattle.shb_lines.proofs.events.Increasing.{contains_none}
 use Rattle.shb_lines.proofs.text.Numbers.{one_number}
 use Rattle.shb_report.specs.Leading.{place_at}
 use Rattle.shb_report.specs.Places.{location_at}
@@ -74,16 +73,6 @@ first_more trace known new firsts text number e are put at same located = elim (
     ];
   })
 ]
-
--- no location
-pub firsts_none : (trace : TraceData) (known : List (List ℕ)) (firsts : List ℕ) → known ≡ [] → firsts ≡ [] → AreFirsts trace known firsts
-firsts_none trace known firsts no_text no_event = record {
-  as_many = ap length no_event ∙ sym (ap length no_text);
-  each = λ n e text at. absurd (apart (subst (λ (es : List ℕ). slice_get es n ≡ Some e) no_event at));
-}
-  where
-    apart : {x : ℕ} → None ≡ Some x → ⊥
-    apart e = cc
 
 -- first accesses with one location are one
 firsts_exact : (trace : TraceData) (known : List (List ℕ)) (firsts : List ℕ) (l m : ℕ) → AreFirsts trace known firsts → IsDistinct bytes_eq known → Contains firsts l → Contains firsts m → location_at trace l ≡ location_at trace m → l ≡ m
@@ -155,12 +144,3 @@ numbered_site firsts old new found l from here h = record {
 -- a place more
 pub numbered_place : (firsts : List ℕ) (sites : List Site) (old new : List FoundRace) → HaveFirsts firsts new → AreNumbered firsts sites old → AreNumbered firsts sites new
 numbered_place firsts sites old new have h = record { of_sites = h.of_sites; of_places = have }
-
-pub numbered_none : (firsts : List ℕ) (sites : List Site) (found : List FoundRace) → sites ≡ [] → found ≡ [] → AreNumbered firsts sites found
-numbered_none firsts sites found no_sites no_races = record {
-  of_sites = λ s site at. absurd (nothing (subst (λ (all : List Site). slice_get all s ≡ Some site) no_sites at));
-  of_places = λ e there. absurd (contains_none e (subst (λ (all : List FoundRace). Contains all e) no_races there));
-}
-  where
-    nothing : {T : Type 0} {x : T} → None ≡ Some x → ⊥
-    nothing e = cc

@@ -1,7 +1,7 @@
 -- What is kept of the accesses, an access at a time.
-use Rattle.std.proofs.Common.{◌≡◌, ◌≢◌, ℕ, ◌+◌, ◌*◌, ◌<◌, ◌≤◌, ◌⊎◌, inl, inr, Bool, true, false, List, [], ◌∷◌, ◌++◌, Option, Some, None, length, get_or, slice_get, arith, refl, subst, ap, sym, ◌∙◌}
+use Rattle.std.proofs.Common.{◌≡◌, ◌≢◌, ℕ, ◌+◌, ◌<◌, ◌≤◌, ◌⊎◌, inl, inr, Bool, true, false, List, [], ◌∷◌, ◌++◌, Option, Some, None, length, get_or, slice_get, arith, refl, subst, ap, sym, ◌∙◌}
 use Rattle.std.specs.Prelude.{min, option_and_then}
-use Rattle.std.proofs.Math.ListN.{set, length-set}
+use Rattle.std.proofs.Math.ListN.{set}
 use Rattle.std.proofs.Math.Nat.{min-eq_left, min-eq_right, min-le_left, min-le_right}
 use Rattle.std.proofs.lemmas.Bool.{cases_eq, cases_Bool, cases_lt}
 use Rattle.std.proofs.lemmas.List.{length-append}
@@ -556,8 +556,3 @@ earliest_both trace sites notes s access write read earliest of_writes of_reads 
     | inr is ↦ subst (λ (k : ℕ). RacesAt trace sites s k access) (sym is) (of_reads.races (λ same. some (is ∙ same)))
   ];
 }
-
--- both lists of a site stand before the end
-pub list_within : (s n : ℕ) (writes : Bool) → s * 2 + 1 < n → list_at s writes < n
-list_within s n true low = low
-list_within s n false low = omega (arith, low)

@@ -53,12 +53,6 @@ returns-then-link-at-clause-chain g c some =
     let at = slice_get_read c.args.links.now (length c.args.links.now) c.loop-link.at c.in-Some.link.now refl c.in-Some.ensures.lookup.3.0 c.in-Some.ensures.lookup.1 in
     at_chain c.args.links.now c.loop-link.at c.args.newest c.in-Some.link.now at c.loop-link.invariant.reached
 
-pub returns-then-link-at-clause-above : goal.returns-then-link-at-clause-above
-returns-then-link-at-clause-above g c t some of_t =
-    let is = local_of c.args.ordered.now.disciplined.now.trace.now.events _ _ _ c.in-Some.link.now.event c.args.ordered.now.linked c.args.ordered.now.disciplined.now.of_trace c.local.ensures.time t of_t in
-    let bound = c.if-local-bound.false in
-    omega (arith, is, bound)
-
 pub loop-link-preserved : goal.loop-link-preserved
 loop-link-preserved g c =
     let links = c.args.links.now in

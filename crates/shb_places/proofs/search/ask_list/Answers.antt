@@ -29,6 +29,3 @@ returns-clause-told g c kept found =
     let none = c.loop-left-test.false in
     let is : c.loop-left.left ≡ 0 = omega (arith, none) in
     subst (λ (n : ℕ). AreToldFrom c.args.ordered.now.disciplined.now.trace.now c.args.sites.now.sites.items (tables_of c.args.notes.now) c.args.access n c.args.list.now.items c.loop-left.list.items c.args.found.now.races.entries c.loop-left.found.races.entries) is (c.loop-left.invariant.told kept found)
-
-pub returns-clause-numbered : goal.returns-clause-numbered
-returns-clause-numbered g c firsts here h = c.loop-left.invariant.numbered firsts here h

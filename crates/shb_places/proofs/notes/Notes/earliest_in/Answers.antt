@@ -1,18 +1,9 @@
-use Rattle.std.proofs.Common.{◌≡◌, true, false, List, length, arith, refl, subst, ap, sym, ◌∙◌}
-use Rattle.std.proofs.lemmas.Option.{slice_get_within}
+use Rattle.std.proofs.Common.{◌≡◌, true, false, List, refl, subst, sym, ◌∙◌}
 use Rattle.shb_pairs.proofs.Tails.{count_seen}
 use Rattle.shb_places.specs.declared.notes.Link.{Link}
 use Rattle.shb_places.proofs.Lists.{read_same}
-use Rattle.shb_places.proofs.NoteLemmas.{all_below, cannot, chain_least, earliest_none, noted_class, order_within, IsLeast}
+use Rattle.shb_places.proofs.NoteLemmas.{all_below, cannot, chain_least, order_within, IsLeast}
 use Rattle.shb_places.proofs.notes.Notes.earliest_in.Goals as goal
-
-pub returns-in_default : goal.returns-in_default
-returns-in_default g c sites kept = earliest_none _ sites _ c.args.s c.args.c c.args.access (λ e noted is race. let low = slice_get_within c.args.self.now.classes.items noted.number noted.class noted.there in let past = c.in_default.ensures.lookup.3 in let same = ap length c.deref.ensures.value in omega (arith, low, past, is, same))
-
-pub returns-then-class-s : goal.returns-then-class-s
-returns-then-class-s g c sites kept =
-    let there = read_same c.args.self.now.classes.items c.deref.result.now c.args.c c.in-Some.class.now c.deref.ensures.value c.in-Some.ensures.lookup.3.0 c.in-Some.ensures.lookup.1 in
-    earliest_none _ sites _ c.args.s c.args.c c.args.access (λ e noted is race. c.if-class-s.true (noted_class _ c.args.s c.args.c e c.in-Some.class.now there noted is).0)
 
 pub returns-then-not-can_race : goal.returns-then-not-can_race
 returns-then-not-can_race g c sites kept =

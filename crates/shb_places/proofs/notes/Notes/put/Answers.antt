@@ -1,15 +1,11 @@
-use Rattle.std.proofs.Common.{◌<◌, length, subst, sym}
+use Rattle.std.proofs.Common.{subst, sym}
 use Rattle.std.proofs.lemmas.Result.{on_ok_weaker}
-use Rattle.shb_places.specs.Lists.{list_at}
 use Rattle.shb_places.specs.Notes.{IsAddable, IsAdded, Tables, tables_of}
 use Rattle.shb_places.proofs.NoteLemmas.{begun_added, extended_added}
 use Rattle.shb_places.proofs.notes.Notes.put.Goals as goal
 
 pub returns-in-Some : goal.returns-in-Some
 returns-in-Some c trace sites add = on_ok_weaker c.extend.result (λ e. extended_added trace sites (tables_of c.args.self.now) c.args.s c.args.local c.args.access add c.in-Some.c c.in-Some.ensures e.1.few _ e.0 e.1) c.extend.ensures
-
-pub begin-requires : goal.begin-requires
-begin-requires c = subst (λ (t : Tables). list_at c.args.s c.args.access.writes < length t.heads) (sym c.in_ok-note_newest.ensures) c.requires
 
 pub returns : goal.returns
 returns c trace sites add =
