@@ -1,4 +1,5 @@
 -- The races that are found, in the order of the race list, are the leading races.
+use Rattle.std.proofs.lemmas.Grind.{common_steps}
 use Rattle.std.proofs.Common.{◌≡◌, ◌&&◌, ℕ, inl, inr, Bool, true, false, nat_eq, List, [], ◌∷◌, Option, Some, map, get_or, All, refl, sym, ap, subst, ◌∙◌, arith}
 use Rattle.std.specs.Prelude.{AllPairs, Contains, slice_get}
 use Rattle.std.specs.List.{IsDistinct}
@@ -40,13 +41,7 @@ unfolding same_race
 race_same p q is = (Decides-and _ _ (Decides-eqb p.first q.first) (Decides-eqb p.second q.second)).1 (ap (λ (r : Pair). r.first) is, ap (λ (r : Pair). r.second) is)
 
 race_flips : (p q : Pair) → same_race p q ≡ same_race q p
-race_flips p q = by (same_race p q) (same_race q p) refl refl
-  where
-    by : (a b : Bool) → same_race p q ≡ a → same_race q p ≡ b → a ≡ b
-    by true true h g = refl
-    by false false h g = refl
-    by true false h g = absurd (let f : true ≡ false = sym (race_same q p (sym (one_race p q h))) ∙ g in let none : ⊥ = cc in none)
-    by false true h g = absurd (let f : true ≡ false = sym (race_same p q (sym (one_race q p g))) ∙ h in let none : ⊥ = cc in none)
+race_flips p q = grind (arith, common_steps, same_race, race_same, one_race)
 
 module _ (trace : TraceData) (found : List FoundRace) (sorted : List Pair) (covers : Covers trace found) (order : IsInListOrder trace.events (races_in found) sorted) where
   -- the race list, and its leading races

@@ -1,4 +1,5 @@
 -- The races that are found, one more at a time.
+use Rattle.std.proofs.lemmas.Grind.{common_steps}
 use Rattle.std.proofs.Common.{◌≡◌, ℕ, ◌+◌, ◌<◌, ◌≤◌, ◌⊎◌, inl, inr, Bool, true, false, cond, List, [], ◌∷◌, Some, arith, refl, subst, ap, sym, ◌∙◌}
 use Rattle.std.specs.Prelude.{Contains}
 use Rattle.std.specs.Map.{lookup}
@@ -53,10 +54,7 @@ pub improves_self : (trace : TraceData) (found : List FoundRace) → Improves tr
 improves_self trace found e there = covered_self trace found e there
 
 pub same_places : (trace : TraceData) (i j k l : ℕ) → location_at trace i ≡ location_at trace k → location_at trace j ≡ location_at trace l → place_at trace i j ≡ place_at trace k l
-same_places trace i j k l a b = ap (λ (t : List ℕ). pair_of t (location_at trace j)) a ∙ ap (λ (t : List ℕ). pair_of (location_at trace k) t) b
-  where
-    pair_of : List ℕ → List ℕ → List ℕ × List ℕ
-    pair_of a b = (a, b)
+same_places trace i j k l a b = grind (arith, common_steps)
 
 -- equal keys are the same
 pub one_key : (x y : ℕ × ℕ) → same_key x y ≡ true → x ≡ y

@@ -1,4 +1,5 @@
 -- What is kept of the accesses, an access at a time.
+use Rattle.std.proofs.lemmas.Grind.{common_steps}
 use Rattle.std.proofs.Common.{◌≡◌, ◌≢◌, ℕ, ◌+◌, ◌<◌, ◌≤◌, ◌⊎◌, inl, inr, Bool, true, false, List, [], ◌∷◌, ◌++◌, Option, Some, None, length, get_or, slice_get, arith, refl, subst, ap, sym, ◌∙◌}
 use Rattle.std.specs.Prelude.{min, option_and_then}
 use Rattle.std.proofs.Math.ListN.{set}
@@ -27,17 +28,11 @@ use Rattle.shb_places.proofs.Lists.{get_cases, get_last, get_more, get_set, get_
 
 -- where a chain ends
 pub in_chain_end : (links : List Link) (p e : ℕ) → length links ≤ p → InChain links p e → ⊥
-in_chain_end links p e past chain =
-    let same = reaches_end link_previous links chain.number p past chain.reached in
-    let low = slice_get_within links chain.number chain.link chain.there in
-    omega (arith, same, low, past)
+in_chain_end links p e past chain = grind (arith, common_steps, reaches_end, slice_get_within)
 
 -- at a link
 pub in_chain_next : (links : List Link) (p e : ℕ) (link : Link) → slice_get links p ≡ Some link → InChain links p e → (link.event ≡ e) ⊎ ((link.previous < p) × InChain links link.previous e)
-in_chain_next links p e link at chain = elim (reaches_next link_previous links chain.number p link at chain.reached) [
-  | inl same ↦ inl (ap (λ (l : Link). l.event) (same_entry links p link chain.link at (subst (λ (k : ℕ). slice_get links k ≡ Some chain.link) (sym same) chain.there)) ∙ chain.event_is)
-  | inr rest ↦ inr (rest.0, record { number = chain.number; link = chain.link; reached = rest.1; there = chain.there; event_is = chain.event_is })
-]
+in_chain_next links p e link at chain = grind (arith, common_steps, reaches_next, same_entry, slice_get)
 
 alike_same : (trace : TraceData) (e : ℕ) → AreAlike trace e e
 alike_same trace e = record { thread = refl; op = refl; location = refl }
@@ -75,13 +70,7 @@ chain_times trace links n p e t link linked at chain of_t =
     )
 
 access_alike : (trace : TraceData) (t x l : ℕ) (writes : Bool) (e f : ℕ) → AreAlike trace e f → IsAccessOf trace t x l writes f → IsAccessOf trace t x l writes e
-access_alike trace t x l writes e f alike access = record {
-  thread = alike.thread ∙ access.thread;
-  variable = ap (λ (o : Option Op). option_and_then variable_of o) alike.op ∙ access.variable;
-  location = alike.location ∙ access.location;
-  write = λ is. alike.op ∙ access.write is;
-  read = λ is op. access.read is (sym alike.op ∙ op);
-}
+access_alike trace t x l writes e f alike access = grind (arith, common_steps, Option)
 
 -- the events of a class are accesses of it, and their local times are no higher than that of the newest
 pub class_access : (trace : TraceData) (sites : List Site) (notes : Tables) (n c e : ℕ) (class : Class) (site : Site) → AreKept trace sites notes n → slice_get notes.classes c ≡ Some class → slice_get sites class.site ≡ Some site → InChain notes.links class.newest e → IsAccessOf trace class.thread site.variable site.location class.writes e × (local_time trace.events class.thread e ≤ class.local) × (e < n)
@@ -121,19 +110,7 @@ class_races trace t x l b e writes access own other same can lt count above =
 
 -- and where it races, this is so
 pub race_class : (trace : TraceData) (t x l e : ℕ) (writes : Bool) (access : Access) → IsAccess trace access → IsAccessOf trace t x l writes e → Race trace.events e access.event → (t ≢ access.thread) × ((writes ≡ true) ⊎ (access.writes ≡ true))
-race_class trace t x l e writes access own other race = (
-  (λ same. race.conflict.other_thread (other.thread ∙ (ap (λ (u : ℕ). Some u) same ∙ sym own.thread))),
-  (elim (cases_Bool writes) [
-    | inl w ↦ inl w
-    | inr r ↦ elim (cases_Bool access.writes) [
-      | inl w ↦ inr w
-      | inr s ↦ absurd (elim race.conflict.one_writes [
-        | inl w ↦ other.read r (subst (λ (y : ℕ). op_at trace.events e ≡ Some (Write y)) (let f : Some race.conflict.variable ≡ Some x = sym race.conflict.first_accesses ∙ other.variable in cc) w)
-        | inr w ↦ own.read s (subst (λ (y : ℕ). op_at trace.events access.event ≡ Some (Write y)) (let f : Some race.conflict.variable ≡ Some access.variable = sym race.conflict.second_accesses ∙ own.variable in cc) w)
-      ])
-    ]
-  ]),
-)
+race_class trace t x l e writes access own other race = grind (arith, common_steps, cases_Bool)
 
 pub race_above : (trace : TraceData) (t x l b e : ℕ) (writes : Bool) (access : Access) → IsAccessOf trace t x l writes e → IsBelowPredCount trace.events t access.event b → Race trace.events e access.event → b < local_time trace.events t e
 race_above trace t x l b e writes access other count race = (rival_races trace.events t access.event b e count (record { earlier = race.earlier; thread = other.thread; conflict = race.conflict })).0 race
@@ -193,10 +170,7 @@ abbrev tables : List ℕ → List Class → List Link → Tables
 tables heads classes links = record { heads = heads; classes = classes; links = links }
 
 tables_same : (a b : Tables) → a.heads ≡ b.heads → a.classes ≡ b.classes → a.links ≡ b.links → a ≡ b
-tables_same a b heads classes links =
-    ap (λ (v : List ℕ). tables v a.classes a.links) heads
-    ∙ (ap (λ (v : List Class). tables b.heads v a.links) classes
-    ∙ ap (λ (v : List Link). tables b.heads b.classes v) links)
+tables_same a b heads classes links = grind (arith, common_steps)
 
 -- what is kept, by lists
 module _ (trace : TraceData) (sites : List Site) (old : Tables) (s local : ℕ) (access : Access) (add : IsAddable trace sites old s access local) where
@@ -451,14 +425,7 @@ least_start trace sites notes s n head writes access kept is = record {
 
 -- the lesser of two numbers
 lesser : (a b m : ℕ) → m ≡ min a b → (m ≤ a) × (m ≤ b) × ((m ≡ a) ⊎ (m ≡ b))
-lesser a b m is = (
-  subst (λ (k : ℕ). k ≤ a) (sym is) (min-le_left a b),
-  subst (λ (k : ℕ). k ≤ b) (sym is) (min-le_right a b),
-  elim (cases_lt a b) [
-    | inl lt ↦ inl (is ∙ min-eq_left (omega (arith, lt)))
-    | inr ge ↦ inr (is ∙ min-eq_right (omega (arith, ge)))
-  ],
-)
+lesser a b m is = grind (arith, common_steps, min-le_left, min-le_right, cases_lt, min-eq_left, min-eq_right)
 
 pub least_next : (trace : TraceData) (sites : List Site) (notes : Tables) (s : ℕ) (writes : Bool) (access : Access) (earliest p r next : ℕ) (class : Class) → slice_get notes.classes p ≡ Some class → IsEarliestIn trace sites notes s p access r → next ≡ min earliest r → AreLeast trace sites notes s writes access earliest p
     → ((e : ℕ) (noted : IsNotedAt notes s e) → noted.class.writes ≡ writes → Race trace.events e access.event → (next ≤ e) ⊎ ((class.next < p) × Reaches class_next notes.classes noted.number class.next)) × (next ≢ none → RacesAt trace sites s next access)
@@ -518,11 +485,7 @@ addable_more trace sites old s local access heads more grown add = record {
 
 -- which no access that is kept is told by
 pub added_more : (trace : TraceData) (sites : List Site) (old new : Tables) (s e : ℕ) (heads : List ℕ) → IsAdded trace sites (record old { heads = heads }) new s e → IsAdded trace sites old new s e
-added_more trace sites old new s e heads added = record {
-  kept = added.kept;
-  noted = added.noted;
-  stays = λ t i noted. added.stays t i (record { number = noted.number; class = noted.class; there = noted.there; site_is = noted.site_is; chain = noted.chain });
-}
+added_more trace sites old new s e heads added = grind (arith, common_steps)
 
 -- a truth value is not both
 pub not_both : (known : Bool) → known ≡ false → known ≡ true → ⊥

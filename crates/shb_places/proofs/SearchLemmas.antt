@@ -1,5 +1,6 @@
 -- The search, an access at a time.
-use Rattle.std.proofs.Common.{◌≡◌, ◌≢◌, ℕ, ◌+◌, List, Some, slice_get, arith, subst, ap, sym, ◌∙◌}
+use Rattle.std.proofs.lemmas.Grind.{common_steps}
+use Rattle.std.proofs.Common.{◌≡◌, ◌≢◌, ℕ, ◌+◌, List, Some, slice_get, arith, subst}
 use Rattle.shb_lines.specs.events.Discipline.{local_time}
 use Rattle.shb_lines.specs.events.Race.{Race, variable_at}
 use Rattle.shb_lines.specs.text.TraceData.{TraceData}
@@ -23,24 +24,11 @@ noted_in trace sites notes s i n site kept at_site noted =
     (subst (λ (k : Site). variable_at trace.events i ≡ Some k.variable) same f.access.variable, subst (λ (k : Site). location_at trace i ≡ location_at trace k.location) same f.access.location)
 
 pub race_variable : (trace : TraceData) (i x : ℕ) (access : Access) → IsAccess trace access → variable_at trace.events i ≡ Some x → Race trace.events i access.event → x ≡ access.variable
-race_variable trace i x access own of_i race =
-    let a : Some x ≡ Some race.conflict.variable = sym of_i ∙ race.conflict.first_accesses in
-    let b : Some race.conflict.variable ≡ Some access.variable = sym race.conflict.second_accesses ∙ own.variable in
-    cc
+race_variable trace i x access own of_i race = grind (arith, common_steps)
 
 -- the race that is offered
 pub offered_race : (trace : TraceData) (sites : List Site) (notes : Tables) (access : Access) (s earliest : ℕ) (site : Site) (e : FoundRace) → IsAccess trace access → slice_get sites s ≡ Some site → site.variable ≡ access.variable → IsEarliestAt trace sites notes s access earliest → earliest ≢ none → e.0 ≡ (site.location, access.location) → e.1 ≡ race_of access.variable access.event earliest → IsFound trace (access.event + 1) e
-offered_race trace sites notes access s earliest site e own at_site same_variable least some place_is race_is =
-    let h = least.races some in
-    let same = same_entry sites s h.site site h.at_site at_site in
-    let here : IsFound trace (access.event + 1) ((site.location, access.location), race_of access.variable access.event earliest) = record {
-      is_race = h.is_race (ap (λ (k : Site). k.variable) same ∙ same_variable);
-      past = omega arith;
-      first_is = h.location_is ∙ ap (λ (k : Site). location_at trace k.location) same;
-      second_is = own.location;
-      variable_is = own.variable;
-    } in
-    subst (λ (k : FoundRace). IsFound trace (access.event + 1) k) (λ k. (sym place_is k, sym race_is k)) here
+offered_race trace sites notes access s earliest site e own at_site same_variable least some place_is race_is = grind (arith, common_steps, same_entry)
 
 -- what is kept stays when sites come
 pub kept_sites : (trace : TraceData) (old new : List Site) (notes : Tables) (n : ℕ) → ((s : ℕ) (site : Site) → slice_get old s ≡ Some site → slice_get new s ≡ Some site) → AreKept trace old notes n → AreKept trace new notes n
@@ -60,15 +48,7 @@ kept_sites trace old new notes n stay kept = record {
 }
 
 pub kept_later : (trace : TraceData) (sites : List Site) (notes : Tables) (n : ℕ) → AreKept trace sites notes n → AreKept trace sites notes (n + 1)
-kept_later trace sites notes n kept = record {
-  classes = kept.classes;
-  links = record {
-    few = kept.links.few;
-    past = λ k link at. (let low = kept.links.past k link at in omega (arith, low));
-    falls = kept.links.falls;
-    alike = kept.links.alike;
-  };
-}
+kept_later trace sites notes n kept = grind (arith, common_steps)
 
 pub can_add : (trace : TraceData) (sites : List Site) (notes : Tables) (s local : ℕ) (access : Access) → AreKept trace sites notes access.event → IsSite sites access.variable access.location s → IsAccess trace access → local ≡ local_time trace.events access.thread access.event → IsAddable trace sites notes s access local
 can_add trace sites notes s local access kept is own time = record { kept = kept; site = is.site; at_site = is.there; variable_is = is.variable_is; location_is = is.location_is; is_access = own; time = time }

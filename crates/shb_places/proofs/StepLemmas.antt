@@ -1,5 +1,6 @@
 -- What an event is to the search.
-use Rattle.std.proofs.Common.{◌≡◌, ℕ, Bool, false, List, Some, None, subst, sym, ◌∙◌}
+use Rattle.std.proofs.lemmas.Grind.{common_steps}
+use Rattle.std.proofs.Common.{◌≡◌, ℕ, Bool, false, List, Some, None, subst, sym, ◌∙◌, arith}
 use Rattle.shb_clocks.specs.Open.{is_open}
 use Rattle.shb_lines.specs.declared.event.Event.{Event}
 use Rattle.shb_lines.specs.declared.event.Op.{Op}
@@ -18,7 +19,4 @@ shut_none trace events op e flags same does none x access = absurd (apart x (sym
 
 -- its variable isn't open
 pub shut_known : (trace : TraceData) (events : List Event) (op : Op) (e y : ℕ) (flags : List Bool) → events ≡ trace.events → op_at events e ≡ Some op → Some y ≡ variable_of op → is_open flags y ≡ false → (x : ℕ) → variable_at trace.events e ≡ Some x → is_open flags x ≡ false
-shut_known trace events op e y flags same does variable shut x access =
-    let s : Some x ≡ Some y = sym access ∙ (variable_here trace events op e same does ∙ sym variable) in
-    let is : y ≡ x = cc in
-    subst (λ (k : ℕ). is_open flags k ≡ false) is shut
+shut_known trace events op e y flags same does variable shut x access = grind (arith, common_steps, variable_here)

@@ -1,5 +1,6 @@
 -- The search with its lists, an event at a time.
-use Rattle.std.proofs.Common.{◌≡◌, ℕ, ◌+◌, ◌≤◌, inl, inr, Bool, true, false, List, Some, length, slice_get, arith, subst, ap, sym, ◌∙◌, ◌<◌, [], Option, None}
+use Rattle.std.proofs.lemmas.Grind.{common_steps}
+use Rattle.std.proofs.Common.{◌≡◌, ℕ, ◌+◌, ◌≤◌, inl, inr, Bool, true, false, List, Some, length, slice_get, arith, subst, ap, sym, ◌∙◌, ◌<◌, [], Option}
 use Rattle.std.proofs.Math.ListN.{set}
 use Rattle.std.proofs.lemmas.Bool.{cases_eq}
 use Rattle.std.proofs.lemmas.Option.{slice_get_within}
@@ -15,7 +16,7 @@ use Rattle.shb_places.specs.declared.sites.Sites.{Sites}
 use Rattle.shb_places.specs.declared.wanted.Wanted.{Wanted}
 use Rattle.shb_places.specs.Access.{IsAccess}
 use Rattle.shb_places.specs.Covering.{FoundRace, Covers, IsCovered, race_of}
-use Rattle.shb_places.specs.Notes.{IsAdded, Tables, tables_of, AreKept, IsNotedAt}
+use Rattle.shb_places.specs.Notes.{IsAdded, Tables, tables_of, IsNotedAt}
 use Rattle.shb_places.specs.Searched.{AreSearched, AreToldFrom, IsAskable, IsAskedBy}
 use Rattle.shb_places.specs.Sites.{AreMore, IsSite}
 use Rattle.shb_places.specs.Wanted.{AreHeld, AreWanted, IsWanted}
@@ -23,7 +24,6 @@ use Rattle.shb_places.proofs.FoundLemmas.{found_later, improves_self, covered_th
 use Rattle.shb_places.proofs.Lists.{get_set, get_set_other, same_entry}
 use Rattle.shb_places.proofs.SearchLemmas.{kept_later, kept_sites, race_variable}
 use Rattle.shb_places.proofs.WantedLemmas.{told_held, wanted_grown, wanted_none, wanted_then}
-use Rattle.std.specs.Prelude.{Contains}
 use Rattle.shb_lines.proofs.events.Increasing.{contains_none}
 use Rattle.shb_report.specs.Leading.{place_at}
 use Rattle.shb_pairs.proofs.Found.{accessed_within}
@@ -31,10 +31,7 @@ use Rattle.shb_places.specs.declared.notes.Link.{Link}
 
 -- what a list holds for the accesses of its site
 pub held_of : (trace : TraceData) (sites : List Site) (races : List FoundRace) (n x m s : ℕ) (list : Wanted) → IsSite sites x m s → IsWanted trace sites races n s list → AreHeld trace sites races list.sites.items x m n list.looked
-held_of trace sites races n x m s list is h =
-    let same = same_entry sites s h.asker is.site h.at_asker is.there in
-    subst (λ (l : ℕ). AreHeld trace sites races list.sites.items x l n list.looked) (ap (λ (k : Site). k.location) same ∙ is.location_is)
-    (subst (λ (y : ℕ). AreHeld trace sites races list.sites.items y h.asker.location n list.looked) (ap (λ (k : Site). k.variable) same ∙ is.variable_is) h.held)
+held_of trace sites races n x m s list is h = grind (arith, common_steps, same_entry)
 
 -- the lists after the list of the site s was asked
 pub lists_asked : (trace : TraceData) (sites : List Site) (notes : Tables) (lists : List Wanted) (s : ℕ) (list after : Wanted) (middle : List ℕ) (old new : List FoundRace) (access : Access) → slice_get lists s ≡ Some list → IsSite sites access.variable access.location s → AreWanted trace sites old access.event lists → AreHeld trace sites old middle access.variable access.location access.event (length sites) → AreToldFrom trace sites notes access 0 middle after.sites.items old new → after.looked ≤ length sites → AreWanted trace sites new (access.event + 1) (set lists s after)
@@ -141,23 +138,4 @@ searched_all trace flags sites notes lists table n all h apart = record {
 
 -- before the first event
 pub searched_none : (trace : TraceData) (flags : List Bool) (sites : Sites) (notes : Notes) (lists : List Wanted) (table : Found) → ((e x : ℕ) → variable_at trace.events e ≡ Some x → x < length sites.newest.items) → sites.sites.items ≡ [] → tables_of notes ≡ record { heads = []; classes = []; links = [] } → table.races.entries ≡ [] → lists ≡ [] → AreSearched trace flags sites notes lists table 0
-searched_none trace flags sites notes lists table sized no_sites no_notes no_races no_lists = record {
-  sized = sized;
-  listed = λ s site there. absurd (apart s (subst (λ (all : List Site). slice_get all s ≡ Some site) no_sites there));
-  kept = subst (λ (all : Tables). AreKept trace sites.sites.items all 0) (sym no_notes) (record {
-    classes = λ c class there. absurd cc;
-    links = record {
-      few = omega arith;
-      past = λ k link at. absurd cc;
-      falls = λ k link before at. absurd cc;
-      alike = λ k link before at. absurd cc;
-    };
-  });
-  noted = λ e x lt. absurd (omega (arith, lt));
-  found = λ e there. absurd (contains_none e (subst (λ (all : List FoundRace). Contains all e) no_races there));
-  covered = λ i j x lt. absurd (omega (arith, lt));
-  wanted = wanted_none trace sites.sites.items table.races.entries 0 lists no_lists;
-}
-  where
-    apart : {T : Type 0} (k : ℕ) {x : T} → None ≡ Some x → ⊥
-    apart k e = cc
+searched_none trace flags sites notes lists table sized no_sites no_notes no_races no_lists = grind (arith, common_steps, slice_get, contains_none, wanted_none)

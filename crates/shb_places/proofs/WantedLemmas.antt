@@ -1,5 +1,6 @@
 -- The lists of the sites that still have to be asked.
-use Rattle.std.proofs.Common.{◌≡◌, ◌≢◌, ℕ, zero, suc, ◌+◌, ◌<◌, ◌≤◌, ◌⊎◌, inl, inr, Bool, true, false, List, [], ◌∷◌, ◌++◌, None, Some, length, get_or, slice_get, arith, refl, ap, subst, sym, ◌∙◌}
+use Rattle.std.proofs.lemmas.Grind.{common_steps}
+use Rattle.std.proofs.Common.{◌≡◌, ◌≢◌, ℕ, zero, suc, ◌+◌, ◌<◌, ◌≤◌, ◌⊎◌, inl, inr, Bool, true, false, List, [], ◌∷◌, ◌++◌, Some, length, get_or, slice_get, arith, refl, ap, subst, sym, ◌∙◌}
 use Rattle.std.specs.Prelude.{Contains}
 use Rattle.std.proofs.lemmas.Bool.{cases_eq}
 use Rattle.std.proofs.lemmas.Option.{slice_get_within, slice_get-get_or}
@@ -63,10 +64,7 @@ looked_before trace sites races list x m n looked p before h s site low at same 
 
 -- no lists
 pub wanted_none : (trace : TraceData) (sites : List Site) (races : List FoundRace) (n : ℕ) (lists : List Wanted) → lists ≡ [] → AreWanted trace sites races n lists
-wanted_none trace sites races n lists none_yet k list at = absurd (apart (subst (λ (ls : List Wanted). slice_get ls k ≡ Some list) none_yet at))
-  where
-    apart : {T : Type 0} {x : T} → None ≡ Some x → ⊥
-    apart e = cc
+wanted_none trace sites races n lists none_yet k list at = grind (arith, common_steps, slice_get)
 
 -- a new list, which looked at nothing
 pub wanted_new : (trace : TraceData) (sites : List Site) (races : List FoundRace) (n : ℕ) (lists all : List Wanted) (last : Wanted) → all ≡ lists ++ last ∷ [] → length lists < length sites → last.looked ≡ 0 → AreWanted trace sites races n lists → AreWanted trace sites races n all
@@ -119,10 +117,7 @@ wanted_grown trace old new races n k list stay h = record {
 
 -- a race that was offered makes its place known
 pub offered_known : (trace : TraceData) (access : Access) (earliest l : ℕ) (new : List FoundRace) → IsAccess trace access → IsCovered trace new (race_of access.variable access.event earliest) → location_at trace earliest ≡ location_at trace l → IsKnown trace new access.variable l access.location (access.event + 1)
-offered_known trace access earliest l new own cover located = record {
-  covers = λ i j later first_is second_is. covered_later trace new (race_of access.variable access.event earliest) (race_of access.variable j i)
-      (same_places trace earliest access.event i j (located ∙ sym first_is) (own.location ∙ sym second_is)) (inr (refl, inl (omega (arith, later)))) cover;
-}
+offered_known trace access earliest l new own cover located = grind (arith, common_steps, covered_later, same_places)
 
 -- no site, or one of another variable
 pub told_no_site : (trace : TraceData) (sites : List Site) (notes : Tables) (access : Access) (s : ℕ) (races : List FoundRace) → AreKept trace sites notes access.event → length sites ≤ s → AreFound trace (access.event + 1) races → IsTold trace sites notes access s false races races
