@@ -1,4 +1,5 @@
 -- Copies of rows among kept ones: none yet, one more, more rows and more kept ones.
+use Rattle.std.proofs.lemmas.Grind.{common_steps}
 use Rattle.std.proofs.Common.{◌≡◌, ℕ, ◌+◌, ◌-◌, ◌<◌, ◌≤◌, ◌⊎◌, inl, inr, List, [], ◌∷◌, ◌++◌, Some, length, get_or, arith, ap, sym, ◌∙◌, get_or-set_same, get_or-set_other}
 use Rattle.std.proofs.Math.ListN.{set}
 use Rattle.std.proofs.lemmas.Bool.{cases_lt, cases_eq}
@@ -14,9 +15,7 @@ use Rattle.shb_clocks.specs.Stamps.{IsRowFor}
 use Rattle.shb_clocks.proofs.MovedLemmas.{row_further}
 
 pub copies_none : (rows kept : List (List ℕ)) (copies : List ℕ) → copies ≡ [] → AreCopies rows kept copies
-copies_none rows kept copies none = record {
-  each = λ a b at. absurd (let past = get_or_past copies a 0 (let size = ap length none in omega (arith, size)) in omega (arith, past, at));
-}
+copies_none rows kept copies none = grind (arith, common_steps, get_or_past)
 
 pub copies_more : (rows kept more : List (List ℕ)) (copies : List ℕ) → AreMore kept more → AreCopies rows kept copies → AreCopies rows more copies
 copies_more rows kept more copies grown h = record { each = λ a b at. (let c = h.each a b at in (c.0, row_further rows kept more grown a b c.1)) }
@@ -40,10 +39,7 @@ row_in_range trace rows e row lt is = elim (slice_get_cases trace e).1 [
 
 -- a kept row that is added is a copy
 pub copy_pushed : (rows kept more : List (List ℕ)) (row number : ℕ) (clock : List ℕ) → more ≡ kept ++ clock ∷ [] → clock ≡ get_or rows row [] → number ≡ length kept → IsMovedRow rows more row number
-copy_pushed rows kept more row number clock is same at_end = record {
-  in_range = (let size = ap length is ∙ length_push kept clock in omega (arith, size, at_end));
-  same = ap (λ (rs : List (List ℕ)). get_or rs number []) is ∙ (get_or_push kept clock [] number (sym at_end) ∙ same);
-}
+copy_pushed rows kept more row number clock is same at_end = grind (arith, common_steps, length_push, get_or_push)
 
 -- room for numbers of copies, and one more number
 pub copy_noted : (rows kept : List (List ℕ)) (old wide : List ℕ) (row number size : ℕ) → row < length rows → IsMovedRow rows kept row number → length old ≤ size → row < size → length wide ≡ size → ((k d : ℕ) → k < size → k < length old → get_or wide k d ≡ get_or old k d) → ((k d : ℕ) → length old ≤ k → k < size → get_or wide k d ≡ 0) → AreCopies rows kept old → AreCopies rows kept (set wide row (number + 1))

@@ -1,5 +1,6 @@
 -- Accesses of open variables, as the code reads them.
-use Rattle.std.proofs.Common.{◌≡◌, ℕ, ◌+◌, ◌<◌, inl, inr, Bool, true, false, List, Some, length, arith, subst, ap, sym, ◌∙◌}
+use Rattle.std.proofs.lemmas.Grind.{common_steps}
+use Rattle.std.proofs.Common.{◌≡◌, ℕ, ◌+◌, ◌<◌, Bool, true, false, List, Some, length, arith, ap, sym, ◌∙◌}
 use Rattle.std.proofs.lemmas.Bool.{cases_lt}
 use Rattle.std.specs.Option.{option_and_then, option_map_or}
 use Rattle.std.specs.Prelude.{Option}
@@ -19,10 +20,4 @@ asks_open trace flags e x accesses is = ap (λ (v : Option ℕ). option_map_or (
 
 -- none from n on, and n itself isn't one either
 pub asked_below : (trace : List Event) (flags : List Bool) (n : ℕ) (asked : Bool) → asked ≡ accesses_open flags trace n → asked ≡ false → ((k : ℕ) → k < length trace → accesses_open flags trace k ≡ true → k < n + 1) → (k : ℕ) → k < length trace → accesses_open flags trace k ≡ true → k < n
-asked_below trace flags n asked is fails below k lt yes_k = elim (cases_lt k n) [
-  | inl less ↦ less
-  | inr past ↦
-      let same : k ≡ n = (let under = below k lt yes_k in omega (arith, under, past)) in
-      let here = subst (λ (m : ℕ). accesses_open flags trace m ≡ true) same yes_k in
-      absurd (let f : ⊥ = cc in f)
-]
+asked_below trace flags n asked is fails below k lt yes_k = grind (arith, common_steps, cases_lt)

@@ -1,4 +1,5 @@
 -- A stamp that names the row of its own clock, and threads that share it.
+use Rattle.std.proofs.lemmas.Grind.{common_steps}
 use Rattle.std.proofs.Common.{◌≡◌, ℕ, ◌<◌, ◌≤◌, ◌⊎◌, inl, inr, List, [], length, get_or, arith, subst, sym, ◌∙◌, get_or-set_same, get_or-set_other}
 use Rattle.std.specs.Prelude.{max}
 use Rattle.std.proofs.Math.ListN.{set, length-set}
@@ -13,17 +14,11 @@ use Rattle.shb_clocks.proofs.Fronts.{front_whole}
 
 -- a clock that is below another as far as it goes
 pub below_all : (clock other : List ℕ) (n t : ℕ) → length clock ≤ n → ((k : ℕ) → k < n → get_or clock k 0 ≤ get_or other k 0) → get_or clock t 0 ≤ get_or other t 0
-below_all clock other n t past low = elim (cases_lt t n) [
-  | inl lt ↦ low t lt
-  | inr le ↦ (let zero = get_or_past clock t 0 (omega (arith, past, le)) in omega (arith, zero))
-]
+below_all clock other n t past low = grind (arith, common_steps, cases_lt, get_or_past)
 
 -- a row that is the clock of a stamp, and not below a given one, is that one raised to the clock
 pub joined_whole : (given row : List ℕ) (u time t : ℕ) → u < length row → get_or row u 0 ≡ time → ((k : ℕ) → get_or given k 0 ≤ get_or row k 0) → get_or row t 0 ≡ max (get_or given t 0) (get_or (set row u time) t 0)
-joined_whole given row u time t wide whole low = elim (cases_eq t u) [
-  | inl same ↦ rw same (let here = get_or-set_same row u time 0 wide in let le = low u in omega (arith, here, le, whole))
-  | inr ne ↦ (let other = get_or-set_other row u t time 0 ne in let le = low t in omega (arith, other, le))
-]
+joined_whole given row u time t wide whole low = grind (arith, common_steps, cases_eq, get_or-set_same, get_or-set_other)
 
 module _ (trace : List Event) (rows : List (List ℕ)) where
   stamp_renamed : (e row : ℕ) (stamp : Stamp) → row < length rows → stamp.thread < length (get_or rows stamp.row []) → get_or rows row [] ≡ set (get_or rows stamp.row []) stamp.thread stamp.time → IsStampOf trace rows e stamp → IsStampOf trace rows e (record { row = row; thread = stamp.thread; time = stamp.time })

@@ -1,4 +1,5 @@
 -- The clocks of a flat list, and the list as a list of clocks.
+use Rattle.std.proofs.lemmas.Grind.{common_steps}
 use Rattle.std.proofs.Common.{◌≡◌, ℕ, zero, suc, ◌+◌, ◌*◌, ◌<◌, ◌≤◌, List, [], ◌∷◌, ◌++◌, length, get_or, take, drop, arith, ap, sym, ◌∙◌, refl, add-one, length-drop}
 use Rattle.std.proofs.Math.Nat.{mul-le-mul_right, suc-mul, zero-mul}
 use Rattle.std.proofs.lemmas.List.{length-take-le, take-append-le, drop-append-le, take_all, drop-drop, nil_from_length}
@@ -6,10 +7,7 @@ use Rattle.shb_clocks.specs.Rows.{RowsData, row_at, rows_data, rows_in}
 
 -- where a row stands in the flat list
 pub row_end : (threads time n : ℕ) → time < n → time * threads + threads ≤ n * threads
-row_end threads time n lt =
-    let le = mul-le-mul_right {m = suc time} {n = n} threads (omega arith) in
-    let more = suc-mul time threads in
-    omega (arith, le, more)
+row_end threads time n lt = grind (arith, common_steps, mul-le-mul_right, suc-mul)
 
 pub row_long : (threads time n : ℕ) (clocks : List ℕ) → time < n → length clocks ≡ n * threads → length (row_at threads clocks time) ≡ threads
 unfolding row_at

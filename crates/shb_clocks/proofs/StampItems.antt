@@ -1,4 +1,5 @@
 -- What the code of the sweep by stamps reads, and the parts of its state, an event more.
+use Rattle.std.proofs.lemmas.Grind.{common_steps}
 use Rattle.std.proofs.Common.{◌≡◌, ℕ, ◌<◌, ◌≤◌, ◌⊎◌, inl, inr, List, [], length, get_or, arith, subst, ap, sym, ◌∙◌}
 use Rattle.std.specs.Prelude.{replicate}
 use Rattle.std.proofs.Math.ListN.{length-replicate, get_or-replicate}
@@ -23,16 +24,4 @@ current_item trace rows n threads t item current has lt is = subst (IsRowFor tra
 
 -- before the first event
 pub current_start : (trace : List Event) (rows : List (List ℕ)) (threads : ℕ) (current : List ℕ) → 0 < length rows → get_or rows 0 [] ≡ replicate threads 0 → current ≡ replicate threads 0 → AreCurrent trace rows 0 threads current
-current_start trace rows threads current some first is = record {
-  as_many = ap length is ∙ length-replicate threads 0;
-  each = λ t lt. subst (IsRowFor trace rows t (IsKnown trace t 0)) (sym (ap (λ (xs : List ℕ). get_or xs t 0) is ∙ get_or-replicate threads t 0 0 lt)) (record {
-    in_range = some;
-    front = record {
-      within = λ s ne. (let z = zero s in omega (arith, z));
-      exact = λ s k of_k ne. ((λ le. absurd (let own = time_at trace s k of_k in let z = zero s in omega (arith, own, z, le))), (λ h. absurd (let lt = h.earlier in omega (arith, lt))));
-    };
-  });
-}
-  where
-    zero : (s : ℕ) → get_or (get_or rows 0 []) s 0 ≡ 0
-    zero s = ap (λ (xs : List ℕ). get_or xs s 0) first ∙ zero_entry threads s
+current_start trace rows threads current some first is = grind (arith, common_steps, length-replicate, get_or-replicate, time_at, zero_entry)

@@ -1,4 +1,5 @@
 -- The sweep by stamps, an event at a time.
+use Rattle.std.proofs.lemmas.Grind.{common_steps}
 use Rattle.std.proofs.Common.{◌≡◌, ◌≢◌, ℕ, ◌+◌, ◌<◌, ◌≤◌, ◌⊎◌, inl, inr, Bool, true, false, List, [], ◌∷◌, ◌++◌, Option, Some, length, get_or, take, arith, subst, ap, sym, ◌∙◌, refl, get_or-set_same, get_or-set_other}
 use Rattle.std.specs.Prelude.{◌↔◌, ◌==◌, count_by, max, option_and_then, replicate, slice_get}
 use Rattle.std.proofs.Math.ListN.{set, length-set, length-replicate, get_or-replicate}
@@ -28,16 +29,10 @@ pub more_same : (rows : List (List ℕ)) → AreMore rows rows
 more_same rows = record { as_long = omega arith; same = λ i lt. refl }
 
 pub more_push : (rows new : List (List ℕ)) (row : List ℕ) → new ≡ rows ++ row ∷ [] → AreMore rows new
-more_push rows new row is = record {
-  as_long = (let size = ap length is ∙ length_push rows row in omega (arith, size));
-  same = λ i lt. ap (λ (rs : List (List ℕ)). get_or rs i []) is ∙ get_or_append_left rows (row ∷ []) [] i lt;
-}
+more_push rows new row is = grind (arith, common_steps, length_push, get_or_append_left)
 
 pub more_chain : (one two three : List (List ℕ)) → AreMore one two → AreMore two three → AreMore one three
-more_chain one two three first second = record {
-  as_long = (let a = first.as_long in let b = second.as_long in omega (arith, a, b));
-  same = λ i lt. second.same i (let a = first.as_long in omega (arith, a, lt)) ∙ first.same i lt;
-}
+more_chain one two three first second = grind (arith, common_steps)
 
 pub grown_same : (rows : RowsData) → HasGrown rows rows
 grown_same rows = record { width = refl; more = more_same rows.rows; few = omega arith }

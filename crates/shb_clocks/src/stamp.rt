@@ -49,8 +49,8 @@ fn is_joined(given: &[u32], row: &[u32], stamp: Stamp) -> bool
     is_below(given, row)
 }
 
-/// Whether the row of this number, which is the newest, is the clock of the stamp, whose row is another.
-/// The clock that is given is space to work in.
+/// Whether the row of this number is the clock of the stamp, whose row is an older one. The clock that is given
+/// is space to work in.
 pub fn is_new_clock(rows: &Rows, clock: &mut Clock, row: u32, stamp: Stamp) -> bool
     requires row { row < length rows.now.rows }
     requires long { length clock.old ≡ rows.now.width }
@@ -58,10 +58,10 @@ pub fn is_new_clock(rows: &Rows, clock: &mut Clock, row: u32, stamp: Stamp) -> b
     ensures wide { result ≡ true → stamp.thread < length (slice_index_or rows.now.rows stamp.row []) }
     ensures clock { result ≡ true → slice_index_or rows.now.rows row []
         ≡ set (slice_index_or rows.now.rows stamp.row []) stamp.thread stamp.time }
-    ensures another { result ≡ false → stamp.row < row → length rows.now.rows ≤ row + 1 → stamp.thread < rows.now.width
+    ensures another { result ≡ false → stamp.row < row → stamp.thread < rows.now.width
         → slice_index_or rows.now.rows row [] ≢ set (slice_index_or rows.now.rows stamp.row []) stamp.thread stamp.time }
 {
-    if stamp.row >= row || rows.count() - row > 1 {
+    if stamp.row >= row {
         return false;
     }
     if stamp.thread >= rows.width() {

@@ -158,13 +158,14 @@ fn note_write(linked: &Linked<'_>, e: u32, stamp: Stamp, variables: &mut Vec<Sta
     }
 }
 
-/// Where e is a read and the newest row, which was made for it, is the clock of the variable's last
-/// write, names this row in the write's stamp. So the next reads of it need no row of their own.
+/// Where e is a read and its row, which isn't the one before it, is the clock of the variable's last write,
+/// names this row in the write's stamp. So the next reads of it need no row of their own.
 fn note_read(
     rows: &Rows,
     clock: &mut Clock,
     linked: &Linked<'_>,
     e: u32,
+    before: u32,
     row: u32,
     variables: &mut Vec<Stamp>,
 )
@@ -178,6 +179,9 @@ fn note_read(
     ensures stamps { AreStamps linked.now.events.now rows.now.rows (WritesShared linked.now.events.now) e
         linked.now.sizes.variables variables.new.items }
 {
+    if row == before {
+        return;
+    }
     if let Op::Read(variable) = linked.events.op(e) {
         let stamp = variables[variable as usize];
         if is_new_clock(rows, clock, row, stamp) {
@@ -275,6 +279,7 @@ impl Stamps {
             &mut self.clock,
             linked,
             e,
+            before,
             row,
             &mut self.variables,
         );

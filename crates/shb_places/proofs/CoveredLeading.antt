@@ -1,4 +1,5 @@
 -- The races that are found, in the order of the race list, are the leading races.
+use Rattle.std.proofs.lemmas.Grind.{common_steps}
 use Rattle.std.proofs.Common.{◌≡◌, ◌&&◌, ℕ, inl, inr, Bool, true, false, nat_eq, List, [], ◌∷◌, Option, Some, map, get_or, All, refl, sym, ap, subst, ◌∙◌, arith}
 use Rattle.std.specs.Prelude.{AllPairs, Contains, slice_get}
 use Rattle.std.specs.List.{IsDistinct}
@@ -23,7 +24,7 @@ use Rattle.shb_pairs.proofs.Listing.{all_is_race_list, all_races}
 use Rattle.shb_places.specs.declared.found.ListedRace.{ListedRace}
 use Rattle.shb_places.specs.Covering.{Covers, FoundRace, NotAfter, race_in, race_of, races_in}
 use Rattle.shb_places.specs.ListOrder.{HasVariable, IsInListOrder}
-use Rattle.shb_places.proofs.KeyOrder.{key_from, key_strict, key_trans, up_to_before}
+use Rattle.shb_places.proofs.KeyOrder.{before_not_after, before_or_same, not_before}
 use Rattle.shb_places.proofs.LeadMembers.{at_contained, contained_at, lead_of, leading_ordered}
 use Rattle.shb_places.proofs.Lists.{contains_get, same_entry}
 use Rattle.shb_places.proofs.RacesByNumber.{IsBefore, listed_pairs, listed_race, pair_listed, pairs_ordered}
@@ -40,13 +41,7 @@ unfolding same_race
 race_same p q is = (Decides-and _ _ (Decides-eqb p.first q.first) (Decides-eqb p.second q.second)).1 (ap (λ (r : Pair). r.first) is, ap (λ (r : Pair). r.second) is)
 
 race_flips : (p q : Pair) → same_race p q ≡ same_race q p
-race_flips p q = by (same_race p q) (same_race q p) refl refl
-  where
-    by : (a b : Bool) → same_race p q ≡ a → same_race q p ≡ b → a ≡ b
-    by true true h g = refl
-    by false false h g = refl
-    by true false h g = absurd (let f : true ≡ false = sym (race_same q p (sym (one_race p q h))) ∙ g in let none : ⊥ = cc in none)
-    by false true h g = absurd (let f : true ≡ false = sym (race_same p q (sym (one_race q p g))) ∙ h in let none : ⊥ = cc in none)
+race_flips p q = grind (arith, common_steps, same_race, race_same, one_race)
 
 module _ (trace : TraceData) (found : List FoundRace) (sorted : List Pair) (covers : Covers trace found) (order : IsInListOrder trace.events (races_in found) sorted) where
   -- the race list, and its leading races
@@ -86,8 +81,7 @@ module _ (trace : TraceData) (found : List FoundRace) (sorted : List Pair) (cove
               let before : IsBefore trace.events q p =
               subst (λ (r : Pair). IsBefore trace.events q r) p_is
               (subst (λ (r : Pair). IsBefore trace.events r (get_or all at.0 p)) q_is (pairs_ordered trace.events n at.0 p later (slice_get_within all at.0 p at.1))) in
-              key_strict (e.1.variable, e.1.second, e.1.first)
-              (up_to_before (e.1.variable, e.1.second, e.1.first) (y, q.second, q.first) (e.1.variable, e.1.second, e.1.first) (key_from e.1 (race_of y q.second q.first) low) (before y e.1.variable of_q race.1)))
+              not_before e.1 (race_of y q.second q.first) low (before y e.1.variable of_q race.1))
         ]
       ]
 
@@ -146,12 +140,12 @@ module _ (trace : TraceData) (found : List FoundRace) (sorted : List Pair) (cove
   ])
 
   sorted_before : AllPairs (IsBefore trace.events) sorted
-  sorted_before = λ i j d low within x y of_p of_q. elim (order.in_order i j d low within x y of_p of_q) [
+  sorted_before = λ i j d low within x y of_p of_q. elim (before_or_same (race_of x (get_or sorted i d).second (get_or sorted i d).first) (race_of y (get_or sorted j d).second (get_or sorted j d).first) (order.in_order i j d low within x y of_p of_q)) [
     | inl less ↦ less
     | inr same ↦ absurd (
         let p : Pair = get_or sorted i d in
         let q : Pair = get_or sorted j d in
-        let one : p ≡ q = (λ k. record { first = (same k).2; second = (same k).1 }) in
+        let one : p ≡ q = (λ k. record { first = same.1 k; second = same.0 k }) in
         let no = apart_from_distinct same_race sorted i j d (IsDistinct-IsPermutation same_race race_flips (races_in found) sorted order.permutation races_distinct) low within in
         let f : true ≡ false = sym (race_same p q one) ∙ no in
         let none : ⊥ = cc in
@@ -169,8 +163,7 @@ module _ (trace : TraceData) (found : List FoundRace) (sorted : List Pair) (cove
       let y : ℕ = other.0.1.variable in
       let of_a : variable_at trace.events a.second ≡ Some x = subst (λ (r : Pair). variable_at trace.events r.second ≡ Some x) own.2 (covers.races own.0 own.1).1 in
       let of_b : variable_at trace.events b.second ≡ Some y = subst (λ (r : Pair). variable_at trace.events r.second ≡ Some y) other.2 (covers.races other.0 other.1).1 in
-      key_strict (x, a.second, a.first)
-      (key_trans (x, a.second, a.first) (y, b.second, b.first) (x, a.second, a.first) (before x y of_a of_b) (after y x of_b of_a))
+      not_before (race_of x a.second a.first) (race_of y b.second b.first) (before_not_after (race_of x a.second a.first) (race_of y b.second b.first) (before x y of_a of_b)) (after y x of_b of_a)
 
   sorted_same : sorted ≡ first_ones
   sorted_same = same_in_order (IsBefore trace.events) sorted first_ones strict sorted_before first_before (λ p. (sorted_is_first p, first_is_sorted p))

@@ -1,4 +1,5 @@
 -- The first accesses that have each location, one more at a time.
+use Rattle.std.proofs.lemmas.Grind.{common_steps}
 use Rattle.std.proofs.Common.{◌≡◌, ◌≢◌, ◌<◌, ◌⊎◌, inl, inr, ℕ, Bool, true, false, cond, List, [], ◌∷◌, ◌++◌, Option, None, Some, length, get_or, option_map, slice_get, arith, refl, ap, subst, sym, ◌∙◌}
 use Rattle.std.specs.Prelude.{unwrap_or}
 use Rattle.std.specs.List.{list_any}
@@ -16,7 +17,6 @@ use Rattle.std.specs.Map.{keys_of}
 use Rattle.std.proofs.lemmas.Bool.{cases_order}
 use Rattle.std.proofs.lemmas.Map.Keys.{apart_from_distinct}
 use Rattle.std.proofs.lemmas.Option.{slice_get-get_or, slice_get-map}
-use Rattle.shb_lines.proofs.events.Increasing.{contains_none}
 use Rattle.shb_lines.proofs.text.Numbers.{one_number}
 use Rattle.shb_report.specs.Leading.{place_at}
 use Rattle.shb_report.specs.Places.{location_at}
@@ -50,10 +50,7 @@ numbered known new text number put at = by (list_any (bytes_eq text) known) refl
 -- a location that was known
 pub first_known : (trace : TraceData) (known new : List (List ℕ)) (firsts : List ℕ) (text : List ℕ) (number : ℕ) → AreFirsts trace known firsts → new ≡ insert_key bytes_eq known text → slice_get new number ≡ Some text → number ≢ length firsts
     → (number < length firsts) × (new ≡ known)
-first_known trace known new firsts text number are put at other = elim (numbered known new text number put at) [
-  | inl old ↦ ((let low = old.0 in let many = are.as_many in omega (arith, low, many)), old.1)
-  | inr next ↦ absurd (other (next.0 ∙ sym are.as_many))
-]
+first_known trace known new firsts text number are put at other = grind (arith, common_steps, numbered)
 
 -- a new one
 pub first_more : (trace : TraceData) (known new : List (List ℕ)) (firsts : List ℕ) (text : List ℕ) (number e : ℕ) → AreFirsts trace known firsts → new ≡ insert_key bytes_eq known text → slice_get new number ≡ Some text → number ≡ length firsts → IsLocatedAt trace e text
@@ -74,16 +71,6 @@ first_more trace known new firsts text number e are put at same located = elim (
     ];
   })
 ]
-
--- no location
-pub firsts_none : (trace : TraceData) (known : List (List ℕ)) (firsts : List ℕ) → known ≡ [] → firsts ≡ [] → AreFirsts trace known firsts
-firsts_none trace known firsts no_text no_event = record {
-  as_many = ap length no_event ∙ sym (ap length no_text);
-  each = λ n e text at. absurd (apart (subst (λ (es : List ℕ). slice_get es n ≡ Some e) no_event at));
-}
-  where
-    apart : {x : ℕ} → None ≡ Some x → ⊥
-    apart e = cc
 
 -- first accesses with one location are one
 firsts_exact : (trace : TraceData) (known : List (List ℕ)) (firsts : List ℕ) (l m : ℕ) → AreFirsts trace known firsts → IsDistinct bytes_eq known → Contains firsts l → Contains firsts m → location_at trace l ≡ location_at trace m → l ≡ m
@@ -144,23 +131,8 @@ numbered_more firsts more sites found stay h = record {
 
 -- a site more
 pub numbered_site : (firsts : List ℕ) (old new : List Site) (found : List FoundRace) (l : ℕ) → ((s : ℕ) (site : Site) → slice_get new s ≡ Some site → (slice_get old s ≡ Some site) ⊎ (site.location ≡ l)) → Contains firsts l → AreNumbered firsts old found → AreNumbered firsts new found
-numbered_site firsts old new found l from here h = record {
-  of_sites = λ s site at. elim (from s site at) [
-    | inl before ↦ h.of_sites s site before
-    | inr is ↦ subst (λ (m : ℕ). Contains firsts m) (sym is) here
-  ];
-  of_places = h.of_places;
-}
+numbered_site firsts old new found l from here h = grind (arith, common_steps)
 
 -- a place more
 pub numbered_place : (firsts : List ℕ) (sites : List Site) (old new : List FoundRace) → HaveFirsts firsts new → AreNumbered firsts sites old → AreNumbered firsts sites new
 numbered_place firsts sites old new have h = record { of_sites = h.of_sites; of_places = have }
-
-pub numbered_none : (firsts : List ℕ) (sites : List Site) (found : List FoundRace) → sites ≡ [] → found ≡ [] → AreNumbered firsts sites found
-numbered_none firsts sites found no_sites no_races = record {
-  of_sites = λ s site at. absurd (nothing (subst (λ (all : List Site). slice_get all s ≡ Some site) no_sites at));
-  of_places = λ e there. absurd (contains_none e (subst (λ (all : List FoundRace). Contains all e) no_races there));
-}
-  where
-    nothing : {T : Type 0} {x : T} → None ≡ Some x → ⊥
-    nothing e = cc

@@ -1,4 +1,5 @@
 -- The races that are found, one more at a time.
+use Rattle.std.proofs.lemmas.Grind.{common_steps}
 use Rattle.std.proofs.Common.{◌≡◌, ℕ, ◌+◌, ◌<◌, ◌≤◌, ◌⊎◌, inl, inr, Bool, true, false, cond, List, [], ◌∷◌, Some, arith, refl, subst, ap, sym, ◌∙◌}
 use Rattle.std.specs.Prelude.{Contains}
 use Rattle.std.specs.Map.{lookup}
@@ -16,18 +17,7 @@ use Rattle.shb_places.specs.Covering.{FoundRace, IsCovered, NotAfter, race_of}
 use Rattle.shb_places.specs.Known.{IsKnown}
 use Rattle.shb_places.specs.Firsts.{HasFirsts, HaveFirsts}
 use Rattle.shb_places.specs.Found.{AreFound, Improves, IsFound, IsOffered, same_key}
-
-pub key_then : (a b c : ListedRace) → NotAfter a b → NotAfter b c → NotAfter a c
-key_then a b c (inl h) (inl g) = inl (omega (arith, h, g))
-key_then a b c (inl h) (inr g) = inl (let e = g.0 in omega (arith, h, e))
-key_then a b c (inr h) (inl g) = inl (let e = h.0 in omega (arith, g, e))
-key_then a b c (inr h) (inr g) = inr (h.0 ∙ g.0, go h.1 g.1)
-  where
-    go : (a.second < b.second) ⊎ ((a.second ≡ b.second) × (a.first ≤ b.first)) → (b.second < c.second) ⊎ ((b.second ≡ c.second) × (b.first ≤ c.first)) → (a.second < c.second) ⊎ ((a.second ≡ c.second) × (a.first ≤ c.first))
-    go (inl x) (inl y) = inl (omega (arith, x, y))
-    go (inl x) (inr y) = inl (let e = y.0 in omega (arith, x, e))
-    go (inr x) (inl y) = inl (let e = x.0 in omega (arith, y, e))
-    go (inr x) (inr y) = inr (x.0 ∙ y.0, (let e = x.1 in let f = y.1 in omega (arith, e, f)))
+use Rattle.shb_places.proofs.KeyOrder.{race_then}
 
 pub key_self : (a : ListedRace) → NotAfter a a
 key_self a = inr (refl, inr (refl, (omega arith)))
@@ -48,7 +38,7 @@ covered_then trace old new race improves cover =
       known = more.known;
       there = more.there;
       same_place = more.same_place ∙ cover.same_place;
-      not_after = key_then more.known cover.known race more.not_after cover.not_after;
+      not_after = race_then more.known cover.known race more.not_after cover.not_after;
     }
 
 pub covered_later : (trace : TraceData) (found : List FoundRace) (race later : ListedRace) → place_at trace race.first race.second ≡ place_at trace later.first later.second → NotAfter race later → IsCovered trace found race → IsCovered trace found later
@@ -57,17 +47,14 @@ covered_later trace found race later same low cover = record {
   known = cover.known;
   there = cover.there;
   same_place = cover.same_place ∙ same;
-  not_after = key_then cover.known race later cover.not_after low;
+  not_after = race_then cover.known race later cover.not_after low;
 }
 
 pub improves_self : (trace : TraceData) (found : List FoundRace) → Improves trace found found
 improves_self trace found e there = covered_self trace found e there
 
 pub same_places : (trace : TraceData) (i j k l : ℕ) → location_at trace i ≡ location_at trace k → location_at trace j ≡ location_at trace l → place_at trace i j ≡ place_at trace k l
-same_places trace i j k l a b = ap (λ (t : List ℕ). pair_of t (location_at trace j)) a ∙ ap (λ (t : List ℕ). pair_of (location_at trace k) t) b
-  where
-    pair_of : List ℕ → List ℕ → List ℕ × List ℕ
-    pair_of a b = (a, b)
+same_places trace i j k l a b = grind (arith, common_steps)
 
 -- equal keys are the same
 pub one_key : (x y : ℕ × ℕ) → same_key x y ≡ true → x ≡ y

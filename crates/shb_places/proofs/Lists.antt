@@ -2,6 +2,7 @@
 use Rattle.std.proofs.Common.{◌≡◌, ◌≢◌, ℕ, zero, suc, ◌<◌, ◌≤◌, ◌⊎◌, inl, inr, List, [], ◌∷◌, ◌++◌, Some, Result, Ok, Err, OnOk, length, get_or, slice_get, arith, refl, subst, ap, sym, ◌∙◌}
 use Rattle.std.specs.Prelude.{Contains}
 use Rattle.std.proofs.Math.ListN.{set}
+use Rattle.std.proofs.lemmas.Bool.{cases_eq}
 use Rattle.std.proofs.lemmas.Option.{get_or_from_slice_get, slice_get_read, slice_get_within, slice_get-get_or}
 use Rattle.shb_places.specs.Lists.{Reaches, here, further}
 
@@ -52,6 +53,19 @@ contains_get entries entry there = slice_get-get_or entries there.0 entry there.
 pub reaches_more : {T : Type 0} (next : T → ℕ) (entries more : List T) (k p : ℕ) → Reaches next entries k p → Reaches next (entries ++ more) k p
 reaches_more next entries more k p (here is) = here is
 reaches_more next entries more k p (further entry at falls rest) = further entry (get_more entries more p entry at) falls (reaches_more next entries more k (next entry) rest)
+
+-- and when an entry changes that keeps the next one
+pub reaches_set : {T : Type 0} (next : T → ℕ) (entries : List T) (c : ℕ) (before after : T) (k p : ℕ) → slice_get entries c ≡ Some before → next after ≡ next before → Reaches next entries k p → Reaches next (set entries c after) k p
+reaches_set next entries c before after k p at same (here is) = here is
+reaches_set next entries c before after k p at same (further entry there falls rest) =
+    let more = reaches_set next entries c before after k (next entry) at same rest in
+    elim (cases_eq p c) [
+      | inl here_is ↦ (
+          let is = same ∙ ap next (same_entry entries c before entry at (subst (λ (m : ℕ). slice_get entries m ≡ Some entry) here_is there)) in
+          further after (subst (λ (m : ℕ). slice_get (set entries c after) m ≡ Some after) (sym here_is) (get_set entries c after (slice_get_within entries c before at)))
+          (omega (arith, is, falls)) (subst (λ (m : ℕ). Reaches next (set entries c after) k m) (sym is) more))
+      | inr ne ↦ further entry (get_set_other entries c p after ne ∙ there) falls more
+    ]
 
 -- at an entry
 pub reaches_next : {T : Type 0} (next : T → ℕ) (entries : List T) (k p : ℕ) (entry : T) → slice_get entries p ≡ Some entry → Reaches next entries k p → (p ≡ k) ⊎ ((next entry < p) × Reaches next entries k (next entry))

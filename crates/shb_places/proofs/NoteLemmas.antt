@@ -1,7 +1,8 @@
 -- What is kept of the accesses, an access at a time.
-use Rattle.std.proofs.Common.{◌≡◌, ◌≢◌, ℕ, ◌+◌, ◌*◌, ◌<◌, ◌≤◌, ◌⊎◌, inl, inr, Bool, true, false, List, [], ◌∷◌, ◌++◌, Option, Some, None, length, get_or, slice_get, arith, refl, subst, ap, sym, ◌∙◌}
+use Rattle.std.proofs.lemmas.Grind.{common_steps}
+use Rattle.std.proofs.Common.{◌≡◌, ◌≢◌, ℕ, ◌+◌, ◌<◌, ◌≤◌, ◌⊎◌, inl, inr, Bool, true, false, List, [], ◌∷◌, ◌++◌, Option, Some, None, length, get_or, slice_get, arith, refl, subst, ap, sym, ◌∙◌}
 use Rattle.std.specs.Prelude.{min, option_and_then}
-use Rattle.std.proofs.Math.ListN.{set, length-set}
+use Rattle.std.proofs.Math.ListN.{set}
 use Rattle.std.proofs.Math.Nat.{min-eq_left, min-eq_right, min-le_left, min-le_right}
 use Rattle.std.proofs.lemmas.Bool.{cases_eq, cases_Bool, cases_lt}
 use Rattle.std.proofs.lemmas.List.{length-append}
@@ -19,26 +20,19 @@ use Rattle.shb_pairs.proofs.Tails.{rival_races, times_rise}
 use Rattle.shb_places.specs.declared.notes.Access.{Access}
 use Rattle.shb_places.specs.declared.notes.Class.{Class}
 use Rattle.shb_places.specs.declared.notes.Link.{Link}
-use Rattle.shb_places.specs.declared.notes.Newest.{Newest}
 use Rattle.shb_places.specs.declared.sites.Site.{Site}
 use Rattle.shb_places.specs.Access.{IsAccess, IsAccessOf}
 use Rattle.shb_places.specs.Lists.{Reaches, here, further, class_next, link_previous, list_at, none}
-use Rattle.shb_places.specs.Notes.{AreAlike, AreKept, AreLinked, InChain, IsAddable, IsAdded, IsClass, IsClassOf, IsEarliestAt, IsEarliestIn, IsEarliestOf, IsNotedAt, RacesAt, Tables}
-use Rattle.shb_places.proofs.Lists.{get_cases, get_last, get_more, get_set, get_set_other, reaches_end, reaches_more, reaches_next, reaches_within, same_entry}
+use Rattle.shb_places.specs.Notes.{AreAlike, AreKept, AreLinked, InChain, IsAddable, IsAdded, IsBegun, IsClass, IsClassOf, IsEarliestAt, IsEarliestIn, IsEarliestOf, IsExtended, IsNotedAt, RacesAt, Tables}
+use Rattle.shb_places.proofs.Lists.{get_cases, get_last, get_more, get_set, get_set_other, reaches_end, reaches_more, reaches_next, reaches_set, reaches_within, same_entry}
 
 -- where a chain ends
 pub in_chain_end : (links : List Link) (p e : ℕ) → length links ≤ p → InChain links p e → ⊥
-in_chain_end links p e past chain =
-    let same = reaches_end link_previous links chain.number p past chain.reached in
-    let low = slice_get_within links chain.number chain.link chain.there in
-    omega (arith, same, low, past)
+in_chain_end links p e past chain = grind (arith, common_steps, reaches_end, slice_get_within)
 
 -- at a link
 pub in_chain_next : (links : List Link) (p e : ℕ) (link : Link) → slice_get links p ≡ Some link → InChain links p e → (link.event ≡ e) ⊎ ((link.previous < p) × InChain links link.previous e)
-in_chain_next links p e link at chain = elim (reaches_next link_previous links chain.number p link at chain.reached) [
-  | inl same ↦ inl (ap (λ (l : Link). l.event) (same_entry links p link chain.link at (subst (λ (k : ℕ). slice_get links k ≡ Some chain.link) (sym same) chain.there)) ∙ chain.event_is)
-  | inr rest ↦ inr (rest.0, record { number = chain.number; link = chain.link; reached = rest.1; there = chain.there; event_is = chain.event_is })
-]
+in_chain_next links p e link at chain = grind (arith, common_steps, reaches_next, same_entry, slice_get)
 
 alike_same : (trace : TraceData) (e : ℕ) → AreAlike trace e e
 alike_same trace e = record { thread = refl; op = refl; location = refl }
@@ -76,27 +70,19 @@ chain_times trace links n p e t link linked at chain of_t =
     )
 
 access_alike : (trace : TraceData) (t x l : ℕ) (writes : Bool) (e f : ℕ) → AreAlike trace e f → IsAccessOf trace t x l writes f → IsAccessOf trace t x l writes e
-access_alike trace t x l writes e f alike access = record {
-  thread = alike.thread ∙ access.thread;
-  variable = ap (λ (o : Option Op). option_and_then variable_of o) alike.op ∙ access.variable;
-  location = alike.location ∙ access.location;
-  write = λ is. alike.op ∙ access.write is;
-  read = λ is op. access.read is (sym alike.op ∙ op);
-}
+access_alike trace t x l writes e f alike access = grind (arith, common_steps, Option)
 
 -- the events of a class are accesses of it, and their local times are no higher than that of the newest
-pub class_access : (trace : TraceData) (sites : List Site) (notes : Tables) (n c e : ℕ) (class : Class) (newest : Newest) (site : Site) → AreKept trace sites notes n → slice_get notes.classes c ≡ Some class → slice_get notes.newest c ≡ Some newest → slice_get sites class.site ≡ Some site → InChain notes.links newest.link e → IsAccessOf trace class.thread site.variable site.location class.writes e × (local_time trace.events class.thread e ≤ newest.local) × (e < n)
-class_access trace sites notes n c e class newest site kept there at_newest at_site chain =
+pub class_access : (trace : TraceData) (sites : List Site) (notes : Tables) (n c e : ℕ) (class : Class) (site : Site) → AreKept trace sites notes n → slice_get notes.classes c ≡ Some class → slice_get sites class.site ≡ Some site → InChain notes.links class.newest e → IsAccessOf trace class.thread site.variable site.location class.writes e × (local_time trace.events class.thread e ≤ class.local) × (e < n)
+class_access trace sites notes n c e class site kept there at_site chain =
     let h = kept.classes c class there in
-    let same : h.newest ≡ newest = same_entry notes.newest c h.newest newest h.at_newest at_newest in
-    let at_link : slice_get notes.links newest.link ≡ Some h.link = subst (λ (m : Newest). slice_get notes.links m.link ≡ Some h.link) same h.at_link in
-    let alike = chain_alike trace notes.links n newest.link e h.link kept.links at_link chain in
+    let alike = chain_alike trace notes.links n class.newest e h.link kept.links h.at_link chain in
     let access : IsAccessOf trace class.thread site.variable site.location class.writes h.link.event = subst (λ (s : Site). IsAccessOf trace class.thread s.variable s.location class.writes h.link.event) (same_entry sites class.site h.site site h.at_site at_site) h.access in
     let own = access_alike trace class.thread site.variable site.location class.writes e h.link.event alike.1 access in
-    let times = chain_times trace notes.links n newest.link e class.thread h.link kept.links at_link chain own.thread in
-    let high : local_time trace.events class.thread h.link.event ≤ newest.local = subst (λ (m : Newest). local_time trace.events class.thread h.link.event ≤ m.local) same h.local in
+    let times = chain_times trace notes.links n class.newest e class.thread h.link kept.links h.at_link chain own.thread in
     let low = times.1 in
-    let past = kept.links.past newest.link h.link at_link in
+    let high = h.local in
+    let past = kept.links.past class.newest h.link h.at_link in
     let late = alike.0 in
     (own, (omega (arith, low, high)), (omega (arith, past, late)))
 
@@ -124,19 +110,7 @@ class_races trace t x l b e writes access own other same can lt count above =
 
 -- and where it races, this is so
 pub race_class : (trace : TraceData) (t x l e : ℕ) (writes : Bool) (access : Access) → IsAccess trace access → IsAccessOf trace t x l writes e → Race trace.events e access.event → (t ≢ access.thread) × ((writes ≡ true) ⊎ (access.writes ≡ true))
-race_class trace t x l e writes access own other race = (
-  (λ same. race.conflict.other_thread (other.thread ∙ (ap (λ (u : ℕ). Some u) same ∙ sym own.thread))),
-  (elim (cases_Bool writes) [
-    | inl w ↦ inl w
-    | inr r ↦ elim (cases_Bool access.writes) [
-      | inl w ↦ inr w
-      | inr s ↦ absurd (elim race.conflict.one_writes [
-        | inl w ↦ other.read r (subst (λ (y : ℕ). op_at trace.events e ≡ Some (Write y)) (let f : Some race.conflict.variable ≡ Some x = sym race.conflict.first_accesses ∙ other.variable in cc) w)
-        | inr w ↦ own.read s (subst (λ (y : ℕ). op_at trace.events access.event ≡ Some (Write y)) (let f : Some race.conflict.variable ≡ Some access.variable = sym race.conflict.second_accesses ∙ own.variable in cc) w)
-      ])
-    ]
-  ]),
-)
+race_class trace t x l e writes access own other race = grind (arith, common_steps, cases_Bool)
 
 pub race_above : (trace : TraceData) (t x l b e : ℕ) (writes : Bool) (access : Access) → IsAccessOf trace t x l writes e → IsBelowPredCount trace.events t access.event b → Race trace.events e access.event → b < local_time trace.events t e
 race_above trace t x l b e writes access other count race = (rival_races trace.events t access.event b e count (record { earlier = race.earlier; thread = other.thread; conflict = race.conflict })).0 race
@@ -192,15 +166,11 @@ chain_longer links last e low chain = record { number = chain.number; link = cha
 chain_last : (links : List Link) (last : Link) → InChain (links ++ last ∷ []) (length links) last.event
 chain_last links last = record { number = length links; link = last; reached = here refl; there = get_last links last (length links) refl; event_is = refl }
 
-abbrev tables : List ℕ → List Class → List Newest → List Link → Tables
-tables heads classes newest links = record { heads = heads; classes = classes; newest = newest; links = links }
+abbrev tables : List ℕ → List Class → List Link → Tables
+tables heads classes links = record { heads = heads; classes = classes; links = links }
 
-tables_same : (a b : Tables) → a.heads ≡ b.heads → a.classes ≡ b.classes → a.newest ≡ b.newest → a.links ≡ b.links → a ≡ b
-tables_same a b heads classes newests links =
-    ap (λ (v : List ℕ). tables v a.classes a.newest a.links) heads
-    ∙ (ap (λ (v : List Class). tables b.heads v a.newest a.links) classes
-    ∙ (ap (λ (v : List Newest). tables b.heads b.classes v a.links) newests
-    ∙ ap (λ (v : List Link). tables b.heads b.classes b.newest v) links))
+tables_same : (a b : Tables) → a.heads ≡ b.heads → a.classes ≡ b.classes → a.links ≡ b.links → a ≡ b
+tables_same a b heads classes links = grind (arith, common_steps)
 
 -- what is kept, by lists
 module _ (trace : TraceData) (sites : List Site) (old : Tables) (s local : ℕ) (access : Access) (add : IsAddable trace sites old s access local) where
@@ -217,126 +187,111 @@ module _ (trace : TraceData) (sites : List Site) (old : Tables) (s local : ℕ) 
   own_time class thread_is = let f = ap (λ (t : ℕ). local_time trace.events t access.event) thread_is in let g = add.time in omega (arith, f, g)
 
   -- a class gets one access more
-  module _ (c : ℕ) (is : IsClassOf old.classes s access c) (newest : Newest) (at_newest : slice_get old.newest c ≡ Some newest) (few : length old.links < none) where
+  module _ (c : ℕ) (is : IsClassOf old.classes s access c) (few : length old.links < none) where
     h : IsClass trace sites old c is.class
     h = add.kept.classes c is.class is.there
 
     abbrev last : Link
-    last = record { event = access.event; previous = newest.link }
+    last = record { event = access.event; previous = is.class.newest }
 
-    abbrev later : Newest
-    later = record { link = length old.links; local = local }
+    abbrev later : Class
+    later = record is.class { newest = length old.links; local = local }
 
     abbrev extended : Tables
-    extended = record { heads = old.heads; classes = old.classes; newest = set old.newest c later; links = old.links ++ last ∷ [] }
+    extended = record { heads = old.heads; classes = set old.classes c later; links = old.links ++ last ∷ [] }
 
-    at_link : slice_get old.links newest.link ≡ Some h.link
-    at_link = subst (λ (m : Newest). slice_get old.links m.link ≡ Some h.link) (same_entry old.newest c h.newest newest h.at_newest at_newest) h.at_link
+    at_later : slice_get extended.classes c ≡ Some later
+    at_later = get_set old.classes c later (slice_get_within old.classes c is.class is.there)
 
     own : IsAccessOf trace is.class.thread h.site.variable h.site.location is.class.writes access.event
     own = own_access is.class h.site is.site_is is.thread_is is.writes_is h.at_site
 
     linked : AreLinked trace extended.links (access.event + 1)
-    linked = linked_more trace old.links access.event last add.kept.links few refl (λ before low there. subst (λ (l : Link). AreAlike trace l.event access.event) (same_entry old.links newest.link h.link before at_link there) (access_same trace is.class.thread h.site.variable h.site.location is.class.writes h.link.event access.event h.access own))
+    linked = linked_more trace old.links access.event last add.kept.links few refl (λ before low there. subst (λ (l : Link). AreAlike trace l.event access.event) (same_entry old.links is.class.newest h.link before h.at_link there) (access_same trace is.class.thread h.site.variable h.site.location is.class.writes h.link.event access.event h.access own))
 
-    ext_class : (k : ℕ) (class : Class) → slice_get old.classes k ≡ Some class → IsClass trace sites extended k class
-    ext_class k class there =
-        let g = add.kept.classes k class there in
-        elim (cases_eq k c) [
-          | inl same ↦ (
-              let class_is : is.class ≡ class = same_entry old.classes c is.class class is.there (subst (λ (m : ℕ). slice_get old.classes m ≡ Some class) same there) in
-              record {
-                site = g.site;
-                at_site = g.at_site;
-                head = g.head;
-                at_head = g.at_head;
-                reached = g.reached;
-                newest = later;
-                at_newest = subst (λ (m : ℕ). slice_get extended.newest m ≡ Some later) (sym same) (get_set old.newest c later (slice_get_within old.newest c newest at_newest));
-                link = last;
-                at_link = get_last old.links last (length old.links) refl;
-                access = own_access class g.site (subst (λ (m : Class). m.site ≡ s) class_is is.site_is) (subst (λ (m : Class). m.thread ≡ access.thread) class_is is.thread_is) (subst (λ (m : Class). m.writes ≡ access.writes) class_is is.writes_is) g.at_site;
-                local = own_time class (subst (λ (m : Class). m.thread ≡ access.thread) class_is is.thread_is);
-              })
-          | inr ne ↦ record {
+    ext_reached : (k p : ℕ) → Reaches class_next old.classes k p → Reaches class_next extended.classes k p
+    ext_reached k p reached = reaches_set class_next old.classes c is.class later k p is.there refl reached
+
+    ext_class : (k : ℕ) (class : Class) → slice_get extended.classes k ≡ Some class → IsClass trace sites extended k class
+    ext_class k class there = elim (cases_eq k c) [
+      | inl same ↦ subst (λ (m : Class). IsClass trace sites extended k m) (same_entry extended.classes c later class at_later (subst (λ (m : ℕ). slice_get extended.classes m ≡ Some class) same there)) (record {
+        site = h.site;
+        at_site = h.at_site;
+        head = h.head;
+        at_head = h.at_head;
+        reached = subst (λ (m : ℕ). Reaches class_next extended.classes m h.head) (sym same) (ext_reached c h.head h.reached);
+        link = last;
+        at_link = get_last old.links last (length old.links) refl;
+        access = own;
+        local = own_time is.class is.thread_is;
+      })
+      | inr ne ↦ (
+          let g = add.kept.classes k class (sym (get_set_other old.classes c k later ne) ∙ there) in
+          record {
             site = g.site;
             at_site = g.at_site;
             head = g.head;
             at_head = g.at_head;
-            reached = g.reached;
-            newest = g.newest;
-            at_newest = get_set_other old.newest c k later ne ∙ g.at_newest;
+            reached = ext_reached k g.head g.reached;
             link = g.link;
-            at_link = get_more old.links (last ∷ []) g.newest.link g.link g.at_link;
+            at_link = get_more old.links (last ∷ []) class.newest g.link g.at_link;
             access = g.access;
             local = g.local;
-          }
-        ]
+          })
+    ]
 
     ext_stays : (t i : ℕ) → IsNotedAt old t i → IsNotedAt extended t i
     ext_stays t i noted = elim (cases_eq noted.number c) [
       | inl same ↦ (
-          let newest_is : newest ≡ noted.newest = same_entry old.newest c newest noted.newest at_newest (subst (λ (m : ℕ). slice_get old.newest m ≡ Some noted.newest) same noted.at_newest) in
+          let class_is : noted.class ≡ is.class = same_entry old.classes c noted.class is.class (subst (λ (m : ℕ). slice_get old.classes m ≡ Some noted.class) same noted.there) is.there in
           record {
-            number = noted.number;
-            class = noted.class;
-            there = noted.there;
-            site_is = noted.site_is;
-            newest = later;
-            at_newest = subst (λ (m : ℕ). slice_get extended.newest m ≡ Some later) (sym same) (get_set old.newest c later (slice_get_within old.newest c newest at_newest));
-            chain = chain_longer old.links last i (slice_get_within old.links newest.link h.link at_link) (subst (λ (m : Newest). InChain old.links m.link i) (sym newest_is) noted.chain);
+            number = c;
+            class = later;
+            there = at_later;
+            site_is = subst (λ (m : Class). m.site ≡ t) class_is noted.site_is;
+            chain = chain_longer old.links last i (slice_get_within old.links is.class.newest h.link h.at_link) (subst (λ (m : Class). InChain old.links m.newest i) class_is noted.chain);
           })
       | inr ne ↦ record {
         number = noted.number;
         class = noted.class;
-        there = noted.there;
+        there = get_set_other old.classes c noted.number later ne ∙ noted.there;
         site_is = noted.site_is;
-        newest = noted.newest;
-        at_newest = get_set_other old.newest c noted.number later ne ∙ noted.at_newest;
-        chain = chain_more old.links (last ∷ []) noted.newest.link i noted.chain;
+        chain = chain_more old.links (last ∷ []) noted.class.newest i noted.chain;
       }
     ]
 
-    ext_noted : IsNotedAt extended s access.event
-    ext_noted = record {
-      number = c;
-      class = is.class;
-      there = is.there;
-      site_is = is.site_is;
-      newest = later;
-      at_newest = get_set old.newest c later (slice_get_within old.newest c newest at_newest);
-      chain = chain_last old.links last;
-    }
-
     ext_added : IsAdded trace sites old extended s access.event
     ext_added = record {
-      kept = record { classes = ext_class; links = linked; as_many = length-set old.newest c later ∙ add.kept.as_many };
-      noted = ext_noted;
+      kept = record { classes = ext_class; links = linked };
+      noted = record { number = c; class = later; there = at_later; site_is = is.site_is; chain = chain_last old.links last };
       stays = ext_stays;
     }
 
-    pub extended_added : (new : Tables) → new.heads ≡ extended.heads → new.classes ≡ extended.classes → new.newest ≡ extended.newest → new.links ≡ extended.links → IsAdded trace sites old new s access.event
-    extended_added new heads classes newests links = subst (λ (t : Tables). IsAdded trace sites old t s access.event) (sym (tables_same new extended heads classes newests links)) ext_added
+    pub extended_added : (new : Tables) (class : Class) → IsExtended old new c class access.event local → IsAdded trace sites old new s access.event
+    extended_added new class e =
+        let class_is : class ≡ is.class = same_entry old.classes c class is.class e.at_class is.there in
+        subst (λ (t : Tables). IsAdded trace sites old t s access.event)
+        (sym (tables_same new extended e.heads (e.classes ∙ ap (λ (k : Class). set old.classes c (record k { newest = length old.links; local = local })) class_is) (e.links ∙ ap (λ (k : Class). old.links ++ record { event = access.event; previous = k.newest } ∷ []) class_is))) ext_added
 
   -- a new class
-  module _ (head : ℕ) (class : Class) (at_head : slice_get old.heads (list_at s access.writes) ≡ Some head) (site_is : class.site ≡ s) (thread_is : class.thread ≡ access.thread) (writes_is : class.writes ≡ access.writes) (next_is : class.next ≡ head) (few : length old.links < none) where
+  module _ (head : ℕ) (at_head : slice_get old.heads (list_at s access.writes) ≡ Some head) (few : length old.links < none) where
     abbrev first : Link
     first = record { event = access.event; previous = none }
 
-    abbrev only : Newest
-    only = record { link = length old.links; local = local }
-
-    abbrev begun : Tables
-    begun = record { heads = set old.heads (list_at s access.writes) (length old.classes); classes = old.classes ++ class ∷ []; newest = old.newest ++ only ∷ []; links = old.links ++ first ∷ [] }
+    abbrev class : Class
+    class = record { site = s; thread = access.thread; writes = access.writes; next = head; newest = length old.links; local = local }
 
     abbrev own_list : ℕ
     own_list = list_at s access.writes
 
-    list_is : list_at class.site class.writes ≡ own_list
-    list_is = ap (λ (k : ℕ). list_at k class.writes) site_is ∙ ap (λ (w : Bool). list_at s w) writes_is
+    abbrev begun : Tables
+    begun = record { heads = set old.heads own_list (length old.classes); classes = old.classes ++ class ∷ []; links = old.links ++ first ∷ [] }
 
-    begun_linked : AreLinked trace begun.links (access.event + 1)
-    begun_linked = linked_more trace old.links access.event first add.kept.links few refl (λ before low there. absurd (omega (arith, low, few)))
+    at_first : slice_get begun.heads own_list ≡ Some (length old.classes)
+    at_first = get_set old.heads own_list (length old.classes) (slice_get_within old.heads own_list head at_head)
+
+    at_last : slice_get begun.classes (length old.classes) ≡ Some class
+    at_last = get_last old.classes class (length old.classes) refl
 
     begun_class : (k : ℕ) (other : Class) → slice_get begun.classes k ≡ Some other → IsClass trace sites begun k other
     begun_class k other there = elim (get_cases old.classes class k other there) [
@@ -348,8 +303,8 @@ module _ (trace : TraceData) (sites : List Site) (old : Tables) (s local : ℕ) 
                 let same_head : g.head ≡ head = same_entry old.heads own_list g.head head (subst (λ (m : ℕ). slice_get old.heads m ≡ Some g.head) same g.at_head) at_head in
                 let low = reaches_within class_next old.classes k g.head (slice_get_within old.classes k other before) g.reached in (
                   length old.classes,
-                  subst (λ (m : ℕ). slice_get begun.heads m ≡ Some (length old.classes)) (sym same) (get_set old.heads own_list (length old.classes) (slice_get_within old.heads own_list head at_head)),
-                  further class (get_last old.classes class (length old.classes) refl) (omega (arith, low, same_head, next_is)) (subst (λ (m : ℕ). Reaches class_next begun.classes k m) (same_head ∙ sym next_is) more),
+                  subst (λ (m : ℕ). slice_get begun.heads m ≡ Some (length old.classes)) (sym same) at_first,
+                  further class at_last (omega (arith, low, same_head)) (subst (λ (m : ℕ). Reaches class_next begun.classes k m) same_head more),
                 ))
             | inr ne ↦ (g.head, get_set_other old.heads own_list (list_at other.site other.writes) (length old.classes) ne ∙ g.at_head, more)
           ] in
@@ -359,64 +314,39 @@ module _ (trace : TraceData) (sites : List Site) (old : Tables) (s local : ℕ) 
             head = parts.0;
             at_head = parts.1;
             reached = parts.2;
-            newest = g.newest;
-            at_newest = get_more old.newest (only ∷ []) k g.newest g.at_newest;
             link = g.link;
-            at_link = get_more old.links (first ∷ []) g.newest.link g.link g.at_link;
+            at_link = get_more old.links (first ∷ []) other.newest g.link g.at_link;
             access = g.access;
             local = g.local;
           })
-      | inr new ↦ subst (λ (m : Class). IsClass trace sites begun k m) new.1 (subst (λ (m : ℕ). IsClass trace sites begun m class) (sym new.0) begun_own)
+      | inr new ↦ subst (λ (m : Class). IsClass trace sites begun k m) new.1 (record {
+        site = add.site;
+        at_site = add.at_site;
+        head = length old.classes;
+        at_head = at_first;
+        reached = here (sym new.0);
+        link = first;
+        at_link = get_last old.links first (length old.links) refl;
+        access = own_access class add.site refl refl refl add.at_site;
+        local = own_time class refl;
+      })
     ]
-      where
-        begun_own : IsClass trace sites begun (length old.classes) class
-        begun_own =
-            let at_site = subst (λ (m : ℕ). slice_get sites m ≡ Some add.site) (sym site_is) add.at_site in
-            record {
-              site = add.site;
-              at_site = at_site;
-              head = length old.classes;
-              at_head = subst (λ (m : ℕ). slice_get begun.heads m ≡ Some (length old.classes)) (sym list_is) (get_set old.heads own_list (length old.classes) (slice_get_within old.heads own_list head at_head));
-              reached = here refl;
-              newest = only;
-              at_newest = get_last old.newest only (length old.classes) (sym add.kept.as_many);
-              link = first;
-              at_link = get_last old.links first (length old.links) refl;
-              access = own_access class add.site site_is thread_is writes_is at_site;
-              local = own_time class thread_is;
-            }
-
-    begun_noted : IsNotedAt begun s access.event
-    begun_noted = record {
-      number = length old.classes;
-      class = class;
-      there = get_last old.classes class (length old.classes) refl;
-      site_is = site_is;
-      newest = only;
-      at_newest = get_last old.newest only (length old.classes) (sym add.kept.as_many);
-      chain = chain_last old.links first;
-    }
-
-    begun_stays : (t i : ℕ) → IsNotedAt old t i → IsNotedAt begun t i
-    begun_stays t i noted = record {
-      number = noted.number;
-      class = noted.class;
-      there = get_more old.classes (class ∷ []) noted.number noted.class noted.there;
-      site_is = noted.site_is;
-      newest = noted.newest;
-      at_newest = get_more old.newest (only ∷ []) noted.number noted.newest noted.at_newest;
-      chain = chain_more old.links (first ∷ []) noted.newest.link i noted.chain;
-    }
 
     begun_is_added : IsAdded trace sites old begun s access.event
     begun_is_added = record {
-      kept = record { classes = begun_class; links = begun_linked; as_many = (let a = length-append old.newest (only ∷ []) in let b = length-append old.classes (class ∷ []) in let e = add.kept.as_many in omega (arith, a, b, e)) };
-      noted = begun_noted;
-      stays = begun_stays;
+      kept = record { classes = begun_class; links = linked_more trace old.links access.event first add.kept.links few refl (λ before low there. absurd (omega (arith, low, few))) };
+      noted = record { number = length old.classes; class = class; there = at_last; site_is = refl; chain = chain_last old.links first };
+      stays = λ t i noted. record {
+        number = noted.number;
+        class = noted.class;
+        there = get_more old.classes (class ∷ []) noted.number noted.class noted.there;
+        site_is = noted.site_is;
+        chain = chain_more old.links (first ∷ []) noted.class.newest i noted.chain;
+      };
     }
 
-    pub begun_added : (new : Tables) → new.heads ≡ begun.heads → new.classes ≡ begun.classes → new.newest ≡ begun.newest → new.links ≡ begun.links → IsAdded trace sites old new s access.event
-    begun_added new heads classes newests links = subst (λ (t : Tables). IsAdded trace sites old t s access.event) (sym (tables_same new begun heads classes newests links)) begun_is_added
+    pub begun_added : (new : Tables) → IsBegun old new class access.event → IsAdded trace sites old new s access.event
+    begun_added new e = subst (λ (t : Tables). IsAdded trace sites old t s access.event) (sym (tables_same new begun e.heads e.classes e.links)) begun_is_added
 
 -- no access of the class is asked for, or none races
 pub earliest_none : (trace : TraceData) (sites : List Site) (notes : Tables) (s c : ℕ) (access : Access) → ((e : ℕ) (noted : IsNotedAt notes s e) → noted.number ≡ c → Race trace.events e access.event → ⊥) → IsEarliestIn trace sites notes s c access none
@@ -426,37 +356,33 @@ earliest_none trace sites notes s c access nothing = record {
 }
 
 -- what is known of an access in the class c
-pub record IsIn (trace : TraceData) (sites : List Site) (notes : Tables) (s c e n : ℕ) (class : Class) (newest : Newest) : Type 0 where
+pub record IsIn (trace : TraceData) (sites : List Site) (s e n : ℕ) (class : Class) : Type 0 where
   pub site : Site
   pub at_site : slice_get sites s ≡ Some site
   pub access : IsAccessOf trace class.thread site.variable site.location class.writes e
-  pub local : local_time trace.events class.thread e ≤ newest.local
+  pub local : local_time trace.events class.thread e ≤ class.local
   pub past : e < n
 
-pub chain_in : (trace : TraceData) (sites : List Site) (notes : Tables) (s c e n : ℕ) (class : Class) (newest : Newest) → AreKept trace sites notes n → slice_get notes.classes c ≡ Some class → slice_get notes.newest c ≡ Some newest → class.site ≡ s → InChain notes.links newest.link e → IsIn trace sites notes s c e n class newest
-chain_in trace sites notes s c e n class newest kept there at_newest site_is chain =
+pub chain_in : (trace : TraceData) (sites : List Site) (notes : Tables) (s c e n : ℕ) (class : Class) → AreKept trace sites notes n → slice_get notes.classes c ≡ Some class → class.site ≡ s → InChain notes.links class.newest e → IsIn trace sites s e n class
+chain_in trace sites notes s c e n class kept there site_is chain =
     let h = kept.classes c class there in
-    let f = class_access trace sites notes n c e class newest h.site kept there at_newest h.at_site chain in
+    let f = class_access trace sites notes n c e class h.site kept there h.at_site chain in
     record { site = h.site; at_site = subst (λ (k : ℕ). slice_get sites k ≡ Some h.site) site_is h.at_site; access = f.0; local = f.1; past = f.2 }
 
-pub noted_chain : (notes : Tables) (s c e : ℕ) (newest : Newest) → slice_get notes.newest c ≡ Some newest → (noted : IsNotedAt notes s e) → noted.number ≡ c → InChain notes.links newest.link e
-noted_chain notes s c e newest at_newest noted is =
-    subst (λ (m : Newest). InChain notes.links m.link e) (same_entry notes.newest c noted.newest newest (subst (λ (k : ℕ). slice_get notes.newest k ≡ Some noted.newest) is noted.at_newest) at_newest) noted.chain
-
-pub noted_class : (notes : Tables) (s c e : ℕ) (class : Class) → slice_get notes.classes c ≡ Some class → (noted : IsNotedAt notes s e) → noted.number ≡ c → class.site ≡ s
+pub noted_class : (notes : Tables) (s c e : ℕ) (class : Class) → slice_get notes.classes c ≡ Some class → (noted : IsNotedAt notes s e) → noted.number ≡ c → (class.site ≡ s) × InChain notes.links class.newest e
 noted_class notes s c e class there noted is =
-    subst (λ (m : Class). m.site ≡ s) (same_entry notes.classes c noted.class class (subst (λ (k : ℕ). slice_get notes.classes k ≡ Some noted.class) is noted.there) there) noted.site_is
+    subst (λ (m : Class). (m.site ≡ s) × InChain notes.links m.newest e) (same_entry notes.classes c noted.class class (subst (λ (k : ℕ). slice_get notes.classes k ≡ Some noted.class) is noted.there) there) (noted.site_is, noted.chain)
 
 -- a class that can't race
-pub cannot : (trace : TraceData) (sites : List Site) (notes : Tables) (s c : ℕ) (access : Access) (class : Class) (newest : Newest) → AreKept trace sites notes access.event → IsAccess trace access → slice_get notes.classes c ≡ Some class → slice_get notes.newest c ≡ Some newest → class.site ≡ s → ((class.thread ≢ access.thread) × ((class.writes ≡ true) ⊎ (access.writes ≡ true)) → ⊥) → IsEarliestIn trace sites notes s c access none
-cannot trace sites notes s c access class newest kept own there at_newest site_is not = earliest_none trace sites notes s c access (λ e noted is race.
-    let f = chain_in trace sites notes s c e access.event class newest kept there at_newest site_is (noted_chain notes s c e newest at_newest noted is) in
+pub cannot : (trace : TraceData) (sites : List Site) (notes : Tables) (s c : ℕ) (access : Access) (class : Class) → AreKept trace sites notes access.event → IsAccess trace access → slice_get notes.classes c ≡ Some class → class.site ≡ s → ((class.thread ≢ access.thread) × ((class.writes ≡ true) ⊎ (access.writes ≡ true)) → ⊥) → IsEarliestIn trace sites notes s c access none
+cannot trace sites notes s c access class kept own there site_is not = earliest_none trace sites notes s c access (λ e noted is race.
+    let f = chain_in trace sites notes s c e access.event class kept there site_is (noted_class notes s c e class there noted is).1 in
     not (race_class trace class.thread f.site.variable f.site.location e class.writes access own f.access race))
 
 -- a class that is below
-pub all_below : (trace : TraceData) (sites : List Site) (notes : Tables) (s c b : ℕ) (access : Access) (class : Class) (newest : Newest) → AreKept trace sites notes access.event → IsAccess trace access → slice_get notes.classes c ≡ Some class → slice_get notes.newest c ≡ Some newest → class.site ≡ s → IsBelowPredCount trace.events class.thread access.event b → newest.local ≤ b → IsEarliestIn trace sites notes s c access none
-all_below trace sites notes s c b access class newest kept own there at_newest site_is count low = earliest_none trace sites notes s c access (λ e noted is race.
-    let f = chain_in trace sites notes s c e access.event class newest kept there at_newest site_is (noted_chain notes s c e newest at_newest noted is) in
+pub all_below : (trace : TraceData) (sites : List Site) (notes : Tables) (s c b : ℕ) (access : Access) (class : Class) → AreKept trace sites notes access.event → IsAccess trace access → slice_get notes.classes c ≡ Some class → class.site ≡ s → IsBelowPredCount trace.events class.thread access.event b → class.local ≤ b → IsEarliestIn trace sites notes s c access none
+all_below trace sites notes s c b access class kept own there site_is count low = earliest_none trace sites notes s c access (λ e noted is race.
+    let f = chain_in trace sites notes s c e access.event class kept there site_is (noted_class notes s c e class there noted is).1 in
     let above = race_above trace class.thread f.site.variable f.site.location b e class.writes access f.access count race in
     let local = f.local in
     omega (arith, above, local, low))
@@ -467,14 +393,14 @@ pub record IsLeast (trace : TraceData) (links : List Link) (p b r : ℕ) : Type 
   pub chain : r ≢ none → InChain links p r
   pub above : (t : ℕ) → r ≢ none → thread_at trace.events r ≡ Some t → b < local_time trace.events t r
 
-pub chain_least : (trace : TraceData) (sites : List Site) (notes : Tables) (s c b r : ℕ) (access : Access) (class : Class) (newest : Newest) → AreKept trace sites notes access.event → IsAccess trace access → slice_get notes.classes c ≡ Some class → slice_get notes.newest c ≡ Some newest → class.site ≡ s → (class.thread ≢ access.thread) × ((class.writes ≡ true) ⊎ (access.writes ≡ true)) → IsBelowPredCount trace.events class.thread access.event b → IsLeast trace notes.links newest.link b r → IsEarliestIn trace sites notes s c access r
-chain_least trace sites notes s c b r access class newest kept own there at_newest site_is can count found = record {
+pub chain_least : (trace : TraceData) (sites : List Site) (notes : Tables) (s c b r : ℕ) (access : Access) (class : Class) → AreKept trace sites notes access.event → IsAccess trace access → slice_get notes.classes c ≡ Some class → class.site ≡ s → (class.thread ≢ access.thread) × ((class.writes ≡ true) ⊎ (access.writes ≡ true)) → IsBelowPredCount trace.events class.thread access.event b → IsLeast trace notes.links class.newest b r → IsEarliestIn trace sites notes s c access r
+chain_least trace sites notes s c b r access class kept own there site_is can count found = record {
   least = λ e noted is race. (
-      let chain = noted_chain notes s c e newest at_newest noted is in
-      let f = chain_in trace sites notes s c e access.event class newest kept there at_newest site_is chain in
+      let chain = (noted_class notes s c e class there noted is).1 in
+      let f = chain_in trace sites notes s c e access.event class kept there site_is chain in
       found.least access.event class.thread e kept.links chain f.access.thread (race_above trace class.thread f.site.variable f.site.location b e class.writes access f.access count race));
   races = λ some. (
-      let f = chain_in trace sites notes s c r access.event class newest kept there at_newest site_is (found.chain some) in
+      let f = chain_in trace sites notes s c r access.event class kept there site_is (found.chain some) in
       record {
         site = f.site;
         at_site = f.at_site;
@@ -499,14 +425,7 @@ least_start trace sites notes s n head writes access kept is = record {
 
 -- the lesser of two numbers
 lesser : (a b m : ℕ) → m ≡ min a b → (m ≤ a) × (m ≤ b) × ((m ≡ a) ⊎ (m ≡ b))
-lesser a b m is = (
-  subst (λ (k : ℕ). k ≤ a) (sym is) (min-le_left a b),
-  subst (λ (k : ℕ). k ≤ b) (sym is) (min-le_right a b),
-  elim (cases_lt a b) [
-    | inl lt ↦ inl (is ∙ min-eq_left (omega (arith, lt)))
-    | inr ge ↦ inr (is ∙ min-eq_right (omega (arith, ge)))
-  ],
-)
+lesser a b m is = grind (arith, common_steps, min-le_left, min-le_right, cases_lt, min-eq_left, min-eq_right)
 
 pub least_next : (trace : TraceData) (sites : List Site) (notes : Tables) (s : ℕ) (writes : Bool) (access : Access) (earliest p r next : ℕ) (class : Class) → slice_get notes.classes p ≡ Some class → IsEarliestIn trace sites notes s p access r → next ≡ min earliest r → AreLeast trace sites notes s writes access earliest p
     → ((e : ℕ) (noted : IsNotedAt notes s e) → noted.class.writes ≡ writes → Race trace.events e access.event → (next ≤ e) ⊎ ((class.next < p) × Reaches class_next notes.classes noted.number class.next)) × (next ≢ none → RacesAt trace sites s next access)
@@ -538,7 +457,7 @@ pub order_within : (trace events seen : List Event) (e x : ℕ) → seen ≡ eve
 order_within trace events seen e x of_events same access = within_of trace events seen e of_events same (accessed_within trace e x access)
 
 -- the table of the heads may have grown
-pub addable_more : (trace : TraceData) (sites : List Site) (old : Tables) (s local : ℕ) (access : Access) (heads more : List ℕ) → heads ≡ old.heads ++ more → IsAddable trace sites old s access local → IsAddable trace sites (record { heads = heads; classes = old.classes; newest = old.newest; links = old.links }) s access local
+pub addable_more : (trace : TraceData) (sites : List Site) (old : Tables) (s local : ℕ) (access : Access) (heads more : List ℕ) → heads ≡ old.heads ++ more → IsAddable trace sites old s access local → IsAddable trace sites (record old { heads = heads }) s access local
 addable_more trace sites old s local access heads more grown add = record {
   kept = record {
     classes = λ c class there. (
@@ -549,15 +468,12 @@ addable_more trace sites old s local access heads more grown add = record {
           head = g.head;
           at_head = subst (λ (hs : List ℕ). slice_get hs (list_at class.site class.writes) ≡ Some g.head) (sym grown) (get_more old.heads more (list_at class.site class.writes) g.head g.at_head);
           reached = g.reached;
-          newest = g.newest;
-          at_newest = g.at_newest;
           link = g.link;
           at_link = g.at_link;
           access = g.access;
           local = g.local;
         });
     links = add.kept.links;
-    as_many = add.kept.as_many;
   };
   site = add.site;
   at_site = add.at_site;
@@ -568,20 +484,8 @@ addable_more trace sites old s local access heads more grown add = record {
 }
 
 -- which no access that is kept is told by
-pub added_more : (trace : TraceData) (sites : List Site) (old new : Tables) (s e : ℕ) (heads : List ℕ) → IsAdded trace sites (record { heads = heads; classes = old.classes; newest = old.newest; links = old.links }) new s e → IsAdded trace sites old new s e
-added_more trace sites old new s e heads added = record {
-  kept = added.kept;
-  noted = added.noted;
-  stays = λ t i noted. added.stays t i (record {
-    number = noted.number;
-    class = noted.class;
-    there = noted.there;
-    site_is = noted.site_is;
-    newest = noted.newest;
-    at_newest = noted.at_newest;
-    chain = noted.chain;
-  });
-}
+pub added_more : (trace : TraceData) (sites : List Site) (old new : Tables) (s e : ℕ) (heads : List ℕ) → IsAdded trace sites (record old { heads = heads }) new s e → IsAdded trace sites old new s e
+added_more trace sites old new s e heads added = grind (arith, common_steps)
 
 -- a truth value is not both
 pub not_both : (known : Bool) → known ≡ false → known ≡ true → ⊥
@@ -590,7 +494,7 @@ not_both known isnt is = let f : true ≡ false = sym is ∙ isnt in (let none :
 -- a class of reads doesn't race with a read
 pub reads_alone : (trace : TraceData) (sites : List Site) (notes : Tables) (s : ℕ) (access : Access) (e : ℕ) → AreKept trace sites notes access.event → IsAccess trace access → access.writes ≡ false → (noted : IsNotedAt notes s e) → Race trace.events e access.event → noted.class.writes ≡ true
 reads_alone trace sites notes s access e kept own reads noted race =
-    let h = chain_in trace sites notes s noted.number e access.event noted.class noted.newest kept noted.there noted.at_newest noted.site_is noted.chain in
+    let h = chain_in trace sites notes s noted.number e access.event noted.class kept noted.there noted.site_is noted.chain in
     elim (race_class trace noted.class.thread h.site.variable h.site.location e noted.class.writes access own h.access race).1 [
       | inl w ↦ w
       | inr w ↦ absurd (not_both access.writes reads w)
@@ -615,8 +519,3 @@ earliest_both trace sites notes s access write read earliest of_writes of_reads 
     | inr is ↦ subst (λ (k : ℕ). RacesAt trace sites s k access) (sym is) (of_reads.races (λ same. some (is ∙ same)))
   ];
 }
-
--- both lists of a site stand before the end
-pub list_within : (s n : ℕ) (writes : Bool) → s * 2 + 1 < n → list_at s writes < n
-list_within s n true low = low
-list_within s n false low = omega (arith, low)

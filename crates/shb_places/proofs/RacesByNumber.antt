@@ -1,4 +1,5 @@
 -- The race list, by the numbers of variables in place of their first accesses.
+use Rattle.std.proofs.lemmas.Grind.{common_steps}
 use Rattle.std.proofs.Common.{◌≡◌, ℕ, ◌<◌, ◌⊎◌, inl, inr, true, List, Some, length, map, get_or, refl, subst, arith}
 use Rattle.std.specs.Prelude.{AllPairs, Contains}
 use Rattle.std.proofs.lemmas.List.Elements.{Contains-get_or}
@@ -24,10 +25,7 @@ EndsBefore trace p q = IsBefore trace (pair_of p) (pair_of q)
 
 -- two races on one variable stand in the order of their later accesses, then their earlier ones
 on_variable : (trace : List Event) (z : ℕ) (p q : ℕ × ℕ) → variable_at trace p.1 ≡ Some z → variable_at trace q.1 ≡ Some z → (p.1 < q.1) ⊎ ((p.1 ≡ q.1) × (p.0 < q.0)) → EndsBefore trace p q
-on_variable trace z p q at_p at_q order = λ x y of_x of_y.
-    let same_x : x ≡ z = cc in
-    let same_y : y ≡ z = cc in
-    inr (omega (arith, same_x, same_y), order)
+on_variable trace z p q at_p at_q order = grind (arith, common_steps)
 
 with_ordered : (trace : List Event) (z j : ℕ) → variable_at trace j ≡ Some z → AllPairs (EndsBefore trace) (races_with trace j)
 unfolding races_with

@@ -1,12 +1,9 @@
 -- Entries that were sorted have their races in the order of the race list.
 use Rattle.std.proofs.Common.{◌≡◌, ℕ, ◌<◌, false, List, Some, length, map, get_or, All, sym, ap, subst, ◌∙◌, arith}
 use Rattle.std.specs.Prelude.{AllPairs}
-use Rattle.std.specs.Ordering.{is_lt, nat_cmp, ordering_then}
-use Rattle.std.specs.Cmp.{IsTotalOrder}
+use Rattle.std.specs.Ordering.{is_lt}
 use Rattle.std.specs.List.Sorted.{IsPermutation, IsSorted}
-use Rattle.std.proofs.lemmas.Cmp.{nat_cmp_total, on_total, then_total}
 use Rattle.std.proofs.lemmas.List.Sorted.{All-permutation, IsPermutation-map, ranks_by, sorted_far}
-use Rattle.std.specs.declared.cmp.Ordering.{Ordering}
 use Rattle.shb_lines.specs.declared.event.Event.{Event}
 use Rattle.shb_lines.specs.declared.event.Pair.{Pair}
 use Rattle.shb_lines.specs.events.Race.{variable_at}
@@ -14,17 +11,10 @@ use Rattle.shb_pairs.proofs.FlatMaps.{map_ordered}
 use Rattle.shb_places.specs.declared.found.ListedRace.{ListedRace}
 use Rattle.shb_places.specs.Covering.{race_in}
 use Rattle.shb_places.specs.ListOrder.{HasVariable, IsInListOrder, IsNotAfter}
-use Rattle.shb_places.proofs.KeyOrder.{KeyUpTo, compared}
-
--- entries are compared by their variables, their later events and their earlier ones
-abbrev pub entry_cmp : ListedRace → ListedRace → Ordering
-entry_cmp a b = ordering_then (nat_cmp a.variable b.variable) (ordering_then (nat_cmp a.second b.second) (nat_cmp a.first b.first))
-
-entry_total : IsTotalOrder entry_cmp
-entry_total = then_total (on_total (λ (e : ListedRace). e.variable) nat_cmp_total) (then_total (on_total (λ (e : ListedRace). e.second) nat_cmp_total) (on_total (λ (e : ListedRace). e.first) nat_cmp_total))
+use Rattle.shb_places.proofs.KeyOrder.{race_cmp, race_not_less, race_renamed, race_total}
 
 -- so two entries that the sort left in this order have races in this order
-module _ (trace : List Event) (entries : List ListedRace) (variables : All (HasVariable trace) entries) (up : IsSorted entry_cmp entries) where
+module _ (trace : List Event) (entries : List ListedRace) (variables : All (HasVariable trace) entries) (up : IsSorted race_cmp entries) where
   one_variable : (i x : ℕ) (d : ListedRace) → i < length entries → variable_at trace (get_or entries i d).second ≡ Some x → (get_or entries i d).variable ≡ x
   one_variable i x d within is = let known : variable_at trace (get_or entries i d).second ≡ Some (get_or entries i d).variable = variables i d within in cc
 
@@ -32,19 +22,15 @@ module _ (trace : List Event) (entries : List ListedRace) (variables : All (HasV
   not_after i j d low within x y of_x of_y =
       let a : ListedRace = get_or entries i d in
       let b : ListedRace = get_or entries j d in
-      let upward : is_lt (entry_cmp b a) ≡ false = sorted_far (λ p q. is_lt (entry_cmp p q)) (ranks_by entry_total (λ e. e)) entries up i j d (omega (arith, low)) within in
-      let order : KeyUpTo (a.variable, a.second, a.first) (b.variable, b.second, b.first) = compared (b.variable, b.second, b.first) (a.variable, a.second, a.first) upward in
-      let first_is : a.variable ≡ x = one_variable i x d (omega (arith, low, within)) of_x in
-      let second_is : b.variable ≡ y = one_variable j y d within of_y in
-      subst (λ (n : ℕ). KeyUpTo (x, a.second, a.first) (n, b.second, b.first)) second_is
-      (subst (λ (n : ℕ). KeyUpTo (n, a.second, a.first) (b.variable, b.second, b.first)) first_is order)
+      let upward : is_lt (race_cmp b a) ≡ false = sorted_far (λ p q. is_lt (race_cmp p q)) (ranks_by race_total (λ e. e)) entries up i j d (omega (arith, low)) within in
+      race_renamed a b x y (one_variable i x d (omega (arith, low, within)) of_x) (one_variable j y d within of_y) (race_not_less b a upward)
 
   races_ordered : AllPairs (IsNotAfter trace) (map race_in entries)
   races_ordered = map_ordered (IsNotAfter trace) race_in entries (λ i j d low within. not_after i j d low within)
 
 -- the races of the sorted entries, which are read back under another name
 pub sorted_races : (trace : List Event) (races sorted back : List ListedRace) (pairs : List Pair) → All (HasVariable trace) races
-    → IsPermutation races sorted → IsSorted entry_cmp sorted → back ≡ sorted → pairs ≡ map race_in back → IsInListOrder trace (map race_in races) pairs
+    → IsPermutation races sorted → IsSorted race_cmp sorted → back ≡ sorted → pairs ≡ map race_in back → IsInListOrder trace (map race_in races) pairs
 sorted_races trace races sorted back pairs variables moved up same is =
     subst (λ (l : List Pair). IsInListOrder trace (map race_in races) l) (sym (is ∙ ap (λ (l : List ListedRace). map race_in l) same)) (record {
       permutation = IsPermutation-map race_in races sorted moved;

@@ -1,16 +1,13 @@
 -- What an event is to the search.
-use Rattle.std.proofs.Common.{◌≡◌, ℕ, Bool, false, List, Some, None, subst, sym, ◌∙◌}
+use Rattle.std.proofs.lemmas.Grind.{common_steps}
+use Rattle.std.proofs.Common.{◌≡◌, ℕ, Bool, false, List, Some, None, subst, sym, ◌∙◌, arith}
 use Rattle.shb_clocks.specs.Open.{is_open}
 use Rattle.shb_lines.specs.declared.event.Event.{Event}
 use Rattle.shb_lines.specs.declared.event.Op.{Op}
-use Rattle.shb_lines.specs.events.Events.{thread_at, op_at, variable_of}
+use Rattle.shb_lines.specs.events.Events.{op_at, variable_of}
 use Rattle.shb_lines.specs.events.Race.{variable_at}
-use Rattle.shb_lines.specs.events.Tests.{is_write}
 use Rattle.shb_lines.specs.text.TraceData.{TraceData}
 use Rattle.shb_links.proofs.Owners.{apart, variable_known}
-use Rattle.shb_report.specs.Places.{location_at}
-use Rattle.shb_pairs.proofs.Found.{not_write_at, write_at}
-use Rattle.shb_places.specs.Access.{IsAccessOf, IsLocatedAt}
 
 -- the variable of an event whose operation is known
 variable_here : (trace : TraceData) (events : List Event) (op : Op) (e : ℕ) → events ≡ trace.events → op_at events e ≡ Some op → variable_at trace.events e ≡ variable_of op
@@ -22,20 +19,4 @@ shut_none trace events op e flags same does none x access = absurd (apart x (sym
 
 -- its variable isn't open
 pub shut_known : (trace : TraceData) (events : List Event) (op : Op) (e y : ℕ) (flags : List Bool) → events ≡ trace.events → op_at events e ≡ Some op → Some y ≡ variable_of op → is_open flags y ≡ false → (x : ℕ) → variable_at trace.events e ≡ Some x → is_open flags x ≡ false
-shut_known trace events op e y flags same does variable shut x access =
-    let s : Some x ≡ Some y = sym access ∙ (variable_here trace events op e same does ∙ sym variable) in
-    let is : y ≡ x = cc in
-    subst (λ (k : ℕ). is_open flags k ≡ false) is shut
-
--- the access that the event is
-pub access_of : (trace : TraceData) (events : List Event) (op : Op) (t x l e : ℕ) (writes : Bool) → events ≡ trace.events → op_at events e ≡ Some op → thread_at events e ≡ Some t → Some x ≡ variable_of op → IsLocatedAt trace l (location_at trace e) → writes ≡ is_write op → IsAccessOf trace t x l writes e
-access_of trace events op t x l e writes same does thread variable located is =
-    let here : op_at trace.events e ≡ Some op = subst (λ (es : List Event). op_at es e ≡ Some op) same does in
-    let of_e : variable_at trace.events e ≡ Some x = variable_known trace.events e op here ∙ sym variable in
-    record {
-      thread = subst (λ (es : List Event). thread_at es e ≡ Some t) same thread;
-      variable = of_e;
-      location = sym located.located;
-      write = λ yes. write_at trace.events e x op here (sym is ∙ yes) of_e;
-      read = λ no. not_write_at trace.events e x op here (sym is ∙ no);
-    }
+shut_known trace events op e y flags same does variable shut x access = grind (arith, common_steps, variable_here)

@@ -1,10 +1,11 @@
 -- The search with its lists, an event at a time.
-use Rattle.std.proofs.Common.{◌≡◌, ℕ, ◌+◌, ◌≤◌, inl, inr, Bool, true, false, List, Some, length, slice_get, arith, subst, ap, sym, ◌∙◌}
+use Rattle.std.proofs.lemmas.Grind.{common_steps}
+use Rattle.std.proofs.Common.{◌≡◌, ℕ, ◌+◌, ◌≤◌, inl, inr, Bool, true, false, List, Some, length, slice_get, arith, subst, ap, sym, ◌∙◌, ◌<◌, [], Option}
 use Rattle.std.proofs.Math.ListN.{set}
 use Rattle.std.proofs.lemmas.Bool.{cases_eq}
 use Rattle.std.proofs.lemmas.Option.{slice_get_within}
 use Rattle.shb_clocks.specs.Open.{is_open}
-use Rattle.shb_lines.specs.events.Race.{variable_at}
+use Rattle.shb_lines.specs.events.Race.{variable_at, Race}
 use Rattle.shb_lines.specs.text.TraceData.{TraceData}
 use Rattle.shb_pairs.specs.Open.{AreOpen}
 use Rattle.shb_places.specs.declared.found.Found.{Found}
@@ -14,22 +15,23 @@ use Rattle.shb_places.specs.declared.sites.Site.{Site}
 use Rattle.shb_places.specs.declared.sites.Sites.{Sites}
 use Rattle.shb_places.specs.declared.wanted.Wanted.{Wanted}
 use Rattle.shb_places.specs.Access.{IsAccess}
-use Rattle.shb_places.specs.Covering.{FoundRace}
-use Rattle.shb_places.specs.Notes.{IsAdded, Tables, tables_of}
+use Rattle.shb_places.specs.Covering.{FoundRace, Covers, IsCovered, race_of}
+use Rattle.shb_places.specs.Notes.{IsAdded, Tables, tables_of, IsNotedAt}
 use Rattle.shb_places.specs.Searched.{AreSearched, AreToldFrom, IsAskable, IsAskedBy}
 use Rattle.shb_places.specs.Sites.{AreMore, IsSite}
 use Rattle.shb_places.specs.Wanted.{AreHeld, AreWanted, IsWanted}
-use Rattle.shb_places.proofs.FoundLemmas.{found_later, improves_self}
+use Rattle.shb_places.proofs.FoundLemmas.{found_later, improves_self, covered_then}
 use Rattle.shb_places.proofs.Lists.{get_set, get_set_other, same_entry}
-use Rattle.shb_places.proofs.SearchLemmas.{kept_grown, searched_other, taken}
-use Rattle.shb_places.proofs.WantedLemmas.{told_held, wanted_grown, wanted_then}
+use Rattle.shb_places.proofs.SearchLemmas.{kept_later, kept_sites, race_variable}
+use Rattle.shb_places.proofs.WantedLemmas.{told_held, wanted_grown, wanted_none, wanted_then}
+use Rattle.shb_lines.proofs.events.Increasing.{contains_none}
+use Rattle.shb_report.specs.Leading.{place_at}
+use Rattle.shb_pairs.proofs.Found.{accessed_within}
+use Rattle.shb_places.specs.declared.notes.Link.{Link}
 
 -- what a list holds for the accesses of its site
 pub held_of : (trace : TraceData) (sites : List Site) (races : List FoundRace) (n x m s : ℕ) (list : Wanted) → IsSite sites x m s → IsWanted trace sites races n s list → AreHeld trace sites races list.sites.items x m n list.looked
-held_of trace sites races n x m s list is h =
-    let same = same_entry sites s h.asker is.site h.at_asker is.there in
-    subst (λ (l : ℕ). AreHeld trace sites races list.sites.items x l n list.looked) (ap (λ (k : Site). k.location) same ∙ is.location_is)
-    (subst (λ (y : ℕ). AreHeld trace sites races list.sites.items y h.asker.location n list.looked) (ap (λ (k : Site). k.variable) same ∙ is.variable_is) h.held)
+held_of trace sites races n x m s list is h = grind (arith, common_steps, same_entry)
 
 -- the lists after the list of the site s was asked
 pub lists_asked : (trace : TraceData) (sites : List Site) (notes : Tables) (lists : List Wanted) (s : ℕ) (list after : Wanted) (middle : List ℕ) (old new : List FoundRace) (access : Access) → slice_get lists s ≡ Some list → IsSite sites access.variable access.location s → AreWanted trace sites old access.event lists → AreHeld trace sites old middle access.variable access.location access.event (length sites) → AreToldFrom trace sites notes access 0 middle after.sites.items old new → after.looked ≤ length sites → AreWanted trace sites new (access.event + 1) (set lists s after)
@@ -55,23 +57,85 @@ lists_asked trace sites notes lists s list after middle old new access at is bef
 -- an access can be asked when its site is there
 pub can_ask : (trace : TraceData) (flags : List Bool) (sites more : Sites) (notes : Notes) (lists : List Wanted) (table : Found) (access : Access) → AreSearched trace flags sites notes lists table access.event → AreMore sites.newest.items sites.sites.items more.newest.items more.sites.items → IsAskable trace more notes lists table access
 can_ask trace flags sites more notes lists table access h grown = record {
-  listed = grown.listed h.searched.listed;
-  kept = kept_grown trace flags sites more notes table access.event h.searched grown;
-  found = found_later trace access.event table.races.entries h.searched.found;
+  listed = grown.listed h.listed;
+  kept = kept_sites trace sites.sites.items more.sites.items (tables_of notes) access.event grown.stay h.kept;
+  found = found_later trace access.event table.races.entries h.found;
   wanted = λ k list at. wanted_grown trace sites.sites.items more.sites.items table.races.entries access.event k list grown.stay (h.wanted k list at);
 }
-
--- an access of an open variable
-pub taken_all : (trace : TraceData) (flags : List Bool) (sites more last : Sites) (notes same after : Notes) (lists later : List Wanted) (table next : Found) (s : ℕ) (access : Access) → IsAccess trace access → is_open flags access.variable ≡ true → AreSearched trace flags sites notes lists table access.event → AreMore sites.newest.items sites.sites.items more.newest.items more.sites.items → IsSite more.sites.items access.variable access.location s → last ≡ more → same ≡ notes → IsAskedBy trace more notes later table next access → IsAdded trace more.sites.items (tables_of same) (tables_of after) s access.event → AreSearched trace flags last after later next (access.event + 1)
-taken_all trace flags sites more last notes same after lists later table next s access own is_so h grown is last_is same_is asked added =
-    subst (λ (t : Sites). AreSearched trace flags t after later next (access.event + 1)) (sym last_is) (record {
-      searched = taken trace flags sites more notes after table next s access own is_so h.searched grown is asked.asked (subst (λ (n : Notes). IsAdded trace more.sites.items (tables_of n) (tables_of after) s access.event) same_is added);
-      wanted = asked.wanted;
-    })
 
 -- an event without an access of an open variable
 pub passed_other : (trace : TraceData) (flags : List Bool) (sites : Sites) (notes : Notes) (lists : List Wanted) (table : Found) (n : ℕ) → AreOpen trace.events flags → ((x : ℕ) → variable_at trace.events n ≡ Some x → is_open flags x ≡ false) → AreSearched trace flags sites notes lists table n → AreSearched trace flags sites notes lists table (n + 1)
 passed_other trace flags sites notes lists table n settled shut h = record {
-  searched = searched_other trace flags sites notes table n settled shut h.searched;
+  sized = h.sized;
+  listed = h.listed;
+  kept = kept_later trace sites.sites.items (tables_of notes) n h.kept;
+  noted = λ e x lt access is_so. elim (cases_eq e n) [
+    | inl same ↦ absurd (let no = shut x (subst (λ (k : ℕ). variable_at trace.events k ≡ Some x) same access) in let f : true ≡ false = sym is_so ∙ no in (let none : ⊥ = cc in none))
+    | inr ne ↦ h.noted e x (omega (arith, lt, ne)) access is_so
+  ];
+  found = found_later trace n table.races.entries h.found;
+  covered = λ i j x lt race of_j. elim (cases_eq j n) [
+    | inl same ↦ absurd (settled x (shut x (subst (λ (k : ℕ). variable_at trace.events k ≡ Some x) same of_j)) i j of_j race)
+    | inr ne ↦ h.covered i j x (omega (arith, lt, ne)) race of_j
+  ];
   wanted = λ k list at. wanted_then trace sites.sites.items n (n + 1) k table.races.entries table.races.entries list (improves_self trace table.races.entries) (omega arith) (h.wanted k list at);
 }
+
+-- an access of an open variable
+pub taken_all : (trace : TraceData) (flags : List Bool) (sites more : Sites) (notes after : Notes) (lists later : List Wanted) (table next : Found) (s : ℕ) (access : Access) → IsAccess trace access → is_open flags access.variable ≡ true → AreSearched trace flags sites notes lists table access.event → AreMore sites.newest.items sites.sites.items more.newest.items more.sites.items → IsSite more.sites.items access.variable access.location s → IsAskedBy trace more notes later table next access → IsAdded trace more.sites.items (tables_of notes) (tables_of after) s access.event → AreSearched trace flags more after later next (access.event + 1)
+taken_all trace flags sites more notes after lists later table next s access own is_so h grown is asked added = record {
+  sized = λ e x of_e. (let low = h.sized e x of_e in let same = grown.as_many in omega (arith, low, same));
+  listed = grown.listed h.listed;
+  kept = added.kept;
+  noted = λ e x lt of_e is_so_e. elim (cases_eq e access.event) [
+    | inl same ↦ record {
+      number = s;
+      site = is.site;
+      there = is.there;
+      variable_is = is.variable_is ∙ same_number access.variable x (variable_at trace.events access.event) own.variable (subst (λ (k : ℕ). variable_at trace.events k ≡ Some x) same of_e);
+      noted = subst (λ (k : ℕ). IsNotedAt (tables_of after) s k) (sym same) added.noted;
+    }
+    | inr ne ↦ (let g = h.noted e x (omega (arith, lt, ne)) of_e is_so_e in record {
+      number = g.number;
+      site = g.site;
+      there = grown.stay g.number g.site g.there;
+      variable_is = g.variable_is;
+      noted = added.stays g.number e g.noted;
+    })
+  ];
+  found = asked.found;
+  covered = λ i j x lt race of_j. elim (cases_eq j access.event) [
+    | inl same ↦ (
+        let is = same_number access.variable x (variable_at trace.events access.event) own.variable (subst (λ (k : ℕ). variable_at trace.events k ≡ Some x) same of_j) in
+        subst (λ (k : ℕ). IsCovered trace next.races.entries (race_of x k i)) (sym same)
+        (subst (λ (y : ℕ). IsCovered trace next.races.entries (race_of y access.event i)) is (here_covered i (subst (λ (k : ℕ). Race trace.events i k) same race))))
+    | inr ne ↦ covered_then trace table.races.entries next.races.entries (race_of x j i) asked.improves (h.covered i j x (omega (arith, lt, ne)) race of_j)
+  ];
+  wanted = asked.wanted;
+}
+  where
+    same_number : (x y : ℕ) (o : Option ℕ) → o ≡ Some x → o ≡ Some y → x ≡ y
+    same_number x y o a b = let f : Some x ≡ Some y = sym a ∙ b in cc
+
+    here_covered : (i : ℕ) → Race trace.events i access.event → IsCovered trace next.races.entries (race_of access.variable access.event i)
+    here_covered i race =
+        let of_i : variable_at trace.events i ≡ Some access.variable = race.conflict.first_accesses ∙ ap (λ (x : ℕ). Some x) (race_variable trace i race.conflict.variable access own race.conflict.first_accesses race) in
+        let g = h.noted i access.variable race.earlier of_i is_so in
+        asked.covers g.number i g.site (grown.stay g.number g.site g.there) g.variable_is g.noted race
+
+-- the links are of events of the trace
+pub links_within : (trace : TraceData) (flags : List Bool) (sites : Sites) (notes : Notes) (lists : List Wanted) (table : Found) (access : Access) → IsAccess trace access → AreSearched trace flags sites notes lists table access.event → (k : ℕ) (link : Link) → slice_get notes.links.items k ≡ Some link → link.event < length trace.events
+links_within trace flags sites notes lists table access own h k link at = let low = h.kept.links.past k link at in let past = accessed_within trace.events access.event access.variable own.variable in omega (arith, low, past)
+
+-- at the end
+pub searched_all : (trace : TraceData) (flags : List Bool) (sites : Sites) (notes : Notes) (lists : List Wanted) (table : Found) (n : ℕ) → length trace.events ≤ n → AreSearched trace flags sites notes lists table n
+    → ((i j : ℕ) (e f : FoundRace) → slice_get table.races.entries i ≡ Some e → slice_get table.races.entries j ≡ Some f → place_at trace e.1.first e.1.second ≡ place_at trace f.1.first f.1.second → i ≡ j) → Covers trace table.races.entries
+searched_all trace flags sites notes lists table n all h apart = record {
+  races = λ e there. (let v = h.found e there in (v.is_race, v.variable_is));
+  each = λ i j x race of_j. h.covered i j x (let low = accessed_within trace.events j x of_j in omega (arith, low, all)) race of_j;
+  apart = apart;
+}
+
+-- before the first event
+pub searched_none : (trace : TraceData) (flags : List Bool) (sites : Sites) (notes : Notes) (lists : List Wanted) (table : Found) → ((e x : ℕ) → variable_at trace.events e ≡ Some x → x < length sites.newest.items) → sites.sites.items ≡ [] → tables_of notes ≡ record { heads = []; classes = []; links = [] } → table.races.entries ≡ [] → lists ≡ [] → AreSearched trace flags sites notes lists table 0
+searched_none trace flags sites notes lists table sized no_sites no_notes no_races no_lists = grind (arith, common_steps, slice_get, contains_none, wanted_none)

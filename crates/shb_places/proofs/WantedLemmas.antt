@@ -1,8 +1,10 @@
 -- The lists of the sites that still have to be asked.
-use Rattle.std.proofs.Common.{◌≡◌, ◌≢◌, ℕ, zero, suc, ◌+◌, ◌<◌, ◌≤◌, ◌⊎◌, inl, inr, Bool, true, false, List, [], ◌∷◌, ◌++◌, None, Some, length, get_or, slice_get, arith, refl, ap, subst, sym, ◌∙◌}
+use Rattle.std.proofs.lemmas.Grind.{common_steps}
+use Rattle.std.proofs.Common.{◌≡◌, ◌≢◌, ℕ, zero, suc, ◌+◌, ◌<◌, ◌≤◌, ◌⊎◌, inl, inr, Bool, true, false, List, [], ◌∷◌, ◌++◌, Some, length, get_or, slice_get, arith, refl, ap, subst, sym, ◌∙◌}
 use Rattle.std.specs.Prelude.{Contains}
 use Rattle.std.proofs.lemmas.Bool.{cases_eq}
 use Rattle.std.proofs.lemmas.Option.{slice_get_within, slice_get-get_or}
+use Rattle.shb_lines.specs.events.Race.{Race}
 use Rattle.shb_lines.specs.text.TraceData.{TraceData}
 use Rattle.shb_report.specs.Places.{location_at}
 use Rattle.shb_places.specs.declared.notes.Access.{Access}
@@ -14,24 +16,17 @@ use Rattle.shb_places.specs.Found.{AreFound, Improves, IsOffered}
 use Rattle.shb_places.specs.Known.{IsKnown}
 use Rattle.shb_places.specs.Lists.{Reaches, none, site_previous}
 use Rattle.shb_places.specs.Notes.{AreKept, IsEarliestAt, IsNotedAt, Tables}
-use Rattle.shb_places.specs.Searched.{AreToldFrom, IsAskedAll, IsTold}
-use Rattle.shb_places.specs.Sites.{AreSites}
+use Rattle.shb_places.specs.Searched.{AreToldFrom, IsTold}
 use Rattle.shb_places.specs.Wanted.{AreHeld, AreWanted, IsWanted}
 use Rattle.shb_places.proofs.FoundLemmas.{covered_later, covered_then, improves_self, known_then, same_places}
 use Rattle.shb_places.proofs.Lists.{contains_get, get_cases, reaches_down, reaches_end, reaches_next, same_entry}
 use Rattle.shb_places.proofs.NoteLemmas.{not_both}
-use Rattle.shb_places.proofs.SearchLemmas.{asked_none, asked_offered, asked_other, noted_in}
+use Rattle.shb_places.proofs.SearchLemmas.{noted_in, race_variable}
 
 -- sites that are in the list, or known, or still to be looked at from the site p back
 pub record AreLookedFrom (trace : TraceData) (sites : List Site) (races : List FoundRace) (list : List ℕ) (x m n looked p : ℕ) : Type 0 where
   pub held : AreHeld trace sites races list x m n looked
   pub rest : (s : ℕ) (site : Site) → slice_get sites s ≡ Some site → site.variable ≡ x → (Contains list s ⊎ IsKnown trace races x site.location m n) ⊎ Reaches site_previous sites s p
-
-pub looked_start : (trace : TraceData) (newest : List ℕ) (sites : List Site) (races : List FoundRace) (list : List ℕ) (x m n looked p : ℕ) → AreSites newest sites → AreHeld trace sites races list x m n looked → ((head : ℕ) → slice_get newest x ≡ Some head → p ≡ head) → AreLookedFrom trace sites races list x m n looked p
-looked_start trace newest sites races list x m n looked p listed held is = record {
-  held = held;
-  rest = λ s site there same. inr (let h = listed s site there in subst (λ (k : ℕ). Reaches site_previous sites s k) (sym (is h.0 (subst (λ (y : ℕ). slice_get newest y ≡ Some h.0) same h.1))) h.2);
-}
 
 pub looked_next : (trace : TraceData) (sites : List Site) (races : List FoundRace) (list more : List ℕ) (x m n looked p : ℕ) (at : Site) → slice_get sites p ≡ Some at → ((t : ℕ) → Contains list t → Contains more t) → Contains more p ⊎ IsKnown trace races x at.location m n → AreLookedFrom trace sites races list x m n looked p
     → AreHeld trace sites races more x m n looked × ((s : ℕ) (site : Site) → slice_get sites s ≡ Some site → site.variable ≡ x → (Contains more s ⊎ IsKnown trace races x site.location m n) ⊎ ((at.previous < p) × Reaches site_previous sites s at.previous))
@@ -69,10 +64,7 @@ looked_before trace sites races list x m n looked p before h s site low at same 
 
 -- no lists
 pub wanted_none : (trace : TraceData) (sites : List Site) (races : List FoundRace) (n : ℕ) (lists : List Wanted) → lists ≡ [] → AreWanted trace sites races n lists
-wanted_none trace sites races n lists none_yet k list at = absurd (apart (subst (λ (ls : List Wanted). slice_get ls k ≡ Some list) none_yet at))
-  where
-    apart : {T : Type 0} {x : T} → None ≡ Some x → ⊥
-    apart e = cc
+wanted_none trace sites races n lists none_yet k list at = grind (arith, common_steps, slice_get)
 
 -- a new list, which looked at nothing
 pub wanted_new : (trace : TraceData) (sites : List Site) (races : List FoundRace) (n : ℕ) (lists all : List Wanted) (last : Wanted) → all ≡ lists ++ last ∷ [] → length lists < length sites → last.looked ≡ 0 → AreWanted trace sites races n lists → AreWanted trace sites races n all
@@ -125,36 +117,35 @@ wanted_grown trace old new races n k list stay h = record {
 
 -- a race that was offered makes its place known
 pub offered_known : (trace : TraceData) (access : Access) (earliest l : ℕ) (new : List FoundRace) → IsAccess trace access → IsCovered trace new (race_of access.variable access.event earliest) → location_at trace earliest ≡ location_at trace l → IsKnown trace new access.variable l access.location (access.event + 1)
-offered_known trace access earliest l new own cover located = record {
-  covers = λ i j later first_is second_is. covered_later trace new (race_of access.variable access.event earliest) (race_of access.variable j i)
-      (same_places trace earliest access.event i j (located ∙ sym first_is) (own.location ∙ sym second_is)) (inr (refl, inl (omega (arith, later)))) cover;
-}
+offered_known trace access earliest l new own cover located = grind (arith, common_steps, covered_later, same_places)
 
 -- no site, or one of another variable
 pub told_no_site : (trace : TraceData) (sites : List Site) (notes : Tables) (access : Access) (s : ℕ) (races : List FoundRace) → AreKept trace sites notes access.event → length sites ≤ s → AreFound trace (access.event + 1) races → IsTold trace sites notes access s false races races
 told_no_site trace sites notes access s races kept past found = record {
-  asked = record {
-    found = found;
-    improves = improves_self trace races;
-    covers = λ i noted race. absurd (
-        let is = noted.site_is in
-        let own = kept.classes noted.number noted.class noted.there in
-        let low = slice_get_within sites noted.class.site own.site own.at_site in
-        omega (arith, is, low, past));
-  };
+  found = found;
+  improves = improves_self trace races;
+  covers = λ i noted race. absurd (
+      let is = noted.site_is in
+      let own = kept.classes noted.number noted.class noted.there in
+      let low = slice_get_within sites noted.class.site own.site own.at_site in
+      omega (arith, is, low, past));
   known_is = λ yes. absurd (not_both false refl yes);
 }
 
 pub told_other : (trace : TraceData) (sites : List Site) (notes : Tables) (access : Access) (s : ℕ) (site : Site) (races : List FoundRace) → IsAccess trace access → AreKept trace sites notes access.event → slice_get sites s ≡ Some site → AreFound trace (access.event + 1) races → site.variable ≢ access.variable → IsTold trace sites notes access s false races races
 told_other trace sites notes access s site races own kept at found other = record {
-  asked = asked_other trace sites notes access s site races own kept at found other;
+  found = found;
+  improves = improves_self trace races;
+  covers = λ i noted race. absurd (other (race_variable trace i site.variable access own (noted_in trace sites notes s i access.event site kept at noted).0 race));
   known_is = λ yes. absurd (not_both false refl yes);
 }
 
 -- no access there races
 pub told_none : (trace : TraceData) (sites : List Site) (notes : Tables) (access : Access) (s : ℕ) (races : List FoundRace) → access.event < none → AreFound trace (access.event + 1) races → IsEarliestAt trace sites notes s access none → IsTold trace sites notes access s false races races
 told_none trace sites notes access s races few found nothing = record {
-  asked = asked_none trace sites notes access s races few found nothing;
+  found = found;
+  improves = improves_self trace races;
+  covers = λ i noted race. absurd (let low = nothing.least i noted race in let before = race.earlier in omega (arith, low, before, few));
   known_is = λ yes. absurd (not_both false refl yes);
 }
 
@@ -162,9 +153,14 @@ told_none trace sites notes access s races few found nothing = record {
 pub told_offered : (trace : TraceData) (sites : List Site) (notes : Tables) (access : Access) (s earliest : ℕ) (site : Site) (old new : List FoundRace) → IsAccess trace access → AreKept trace sites notes access.event → slice_get sites s ≡ Some site → IsEarliestAt trace sites notes s access earliest → earliest ≢ none → IsOffered trace (access.event + 1) old new (race_of access.variable access.event earliest) → IsTold trace sites notes access s true old new
 told_offered trace sites notes access s earliest site old new own kept at least some offered =
     let h = least.races some in
+    let here : (other : Site) → slice_get sites s ≡ Some other → location_at trace earliest ≡ location_at trace other.location =
+    (λ other at_other. h.location_is ∙ ap (λ (k : Site). location_at trace k.location) (same_entry sites s h.site other h.at_site at_other)) in
     record {
-      asked = asked_offered trace sites notes access s earliest site old new own kept at least some offered;
-      known_is = λ yes other at_other. offered_known trace access earliest other.location new own offered.covered (h.location_is ∙ ap (λ (k : Site). location_at trace k.location) (same_entry sites s h.site other h.at_site at_other));
+      found = offered.found;
+      improves = offered.improves;
+      covers = λ i noted race. (let low = least.least i noted race in covered_later trace new (race_of access.variable access.event earliest) (race_of access.variable access.event i)
+          (same_places trace earliest access.event i access.event (here site at ∙ sym (noted_in trace sites notes s i access.event site kept at noted).1) refl) (inr (refl, inr (refl, low))) offered.covered);
+      known_is = λ yes other at_other. offered_known trace access earliest other.location new own offered.covered (here other at_other);
     }
 
 -- one entry more
@@ -173,45 +169,41 @@ pub told_next : (trace : TraceData) (sites : List Site) (notes : Tables) (access
     → ((j t : ℕ) → k ≤ j → slice_get after j ≡ Some t → (i : ℕ) × (k ≤ i) × (slice_get list i ≡ Some t))
     → IsTold trace sites notes access s known races new → AreToldFrom trace sites notes access (k + 1) before list old races → AreToldFrom trace sites notes access k before after old new
 told_next trace sites notes access k s known before list after old races new at stay later told h = record {
-  found = told.asked.found;
-  improves = λ e is. covered_then trace races new e.1 told.asked.improves (h.improves e is);
+  found = told.found;
+  improves = λ e is. covered_then trace races new e.1 told.improves (h.improves e is);
   told = λ j t i site le at_t at_site noted race. (
       let from = later j t le at_t in
       elim (cases_eq from.0 k) [
         | inl same ↦ (
             let is : s ≡ t = same_entry list k s t at (subst (λ (m : ℕ). slice_get list m ≡ Some t) same from.2) in
-            told.asked.covers i (subst (λ (m : ℕ). IsNotedAt notes m i) (sym is) noted) race)
-        | inr ne ↦ (let le_from = from.1 in covered_then trace races new (race_of access.variable access.event i) told.asked.improves (h.told from.0 t i site (omega (arith, ne, le_from)) from.2 at_site noted race))
+            told.covers i (subst (λ (m : ℕ). IsNotedAt notes m i) (sym is) noted) race)
+        | inr ne ↦ (let le_from = from.1 in covered_then trace races new (race_of access.variable access.event i) told.improves (h.told from.0 t i site (omega (arith, ne, le_from)) from.2 at_site noted race))
       ]);
   stays = λ t site in_before at_site. elim (h.stays t site in_before at_site) [
     | inl in_list ↦ elim (stay s t at in_list) [
       | inl in_after ↦ inl in_after
       | inr gone ↦ inr (
           record {
-            covers = λ i noted race. told.asked.covers i (subst (λ (m : ℕ). IsNotedAt notes m i) (sym gone.0) noted) race;
+            covers = λ i noted race. told.covers i (subst (λ (m : ℕ). IsNotedAt notes m i) (sym gone.0) noted) race;
             known = told.known_is gone.1 site (subst (λ (m : ℕ). slice_get sites m ≡ Some site) (sym gone.0) at_site);
           })
     ]
     | inr settled ↦ inr (record {
-      covers = λ i noted race. covered_then trace races new (race_of access.variable access.event i) told.asked.improves (settled.covers i noted race);
-      known = known_then trace races new access.variable site.location access.location (access.event + 1) (access.event + 1) told.asked.improves (omega arith) settled.known;
+      covers = λ i noted race. covered_then trace races new (race_of access.variable access.event i) told.improves (settled.covers i noted race);
+      known = known_then trace races new access.variable site.location access.location (access.event + 1) (access.event + 1) told.improves (omega arith) settled.known;
     })
   ];
 }
 
 -- a list that has each site whose place isn't known, all of which were asked
-pub told_all : (trace : TraceData) (sites : List Site) (notes : Tables) (access : Access) (before after : List ℕ) (old new : List FoundRace) → IsAccess trace access → AreKept trace sites notes access.event → AreHeld trace sites old before access.variable access.location access.event (length sites) → AreToldFrom trace sites notes access 0 before after old new → IsAskedAll trace sites notes access old new
-told_all trace sites notes access before after old new own kept held h = record {
-  found = h.found;
-  improves = h.improves;
-  covers = λ s i site at same noted race. elim (held s site (slice_get_within sites s site at) at same) [
-    | inl in_before ↦ elim (h.stays s site in_before at) [
-      | inl in_after ↦ h.told in_after.0 s i site (omega arith) (contains_get after s in_after) at noted race
-      | inr settled ↦ settled.covers i noted race
-    ]
-    | inr known ↦ covered_then trace old new (race_of access.variable access.event i) h.improves (known.covers i access.event (omega arith) (noted_in trace sites notes s i access.event site kept at noted).1 own.location)
-  ];
-}
+pub told_all : (trace : TraceData) (sites : List Site) (notes : Tables) (access : Access) (before after : List ℕ) (old new : List FoundRace) → IsAccess trace access → AreKept trace sites notes access.event → AreHeld trace sites old before access.variable access.location access.event (length sites) → AreToldFrom trace sites notes access 0 before after old new → (s i : ℕ) (site : Site) → slice_get sites s ≡ Some site → site.variable ≡ access.variable → IsNotedAt notes s i → Race trace.events i access.event → IsCovered trace new (race_of access.variable access.event i)
+told_all trace sites notes access before after old new own kept held h s i site at same noted race = elim (held s site (slice_get_within sites s site at) at same) [
+  | inl in_before ↦ elim (h.stays s site in_before at) [
+    | inl in_after ↦ h.told in_after.0 s i site (omega arith) (contains_get after s in_after) at noted race
+    | inr settled ↦ settled.covers i noted race
+  ]
+  | inr known ↦ covered_then trace old new (race_of access.variable access.event i) h.improves (known.covers i access.event (omega arith) (noted_in trace sites notes s i access.event site kept at noted).1 own.location)
+]
 
 -- the list after it was asked
 pub told_held : (trace : TraceData) (sites : List Site) (notes : Tables) (access : Access) (before after : List ℕ) (old new : List FoundRace) → AreHeld trace sites old before access.variable access.location access.event (length sites) → AreToldFrom trace sites notes access 0 before after old new → AreHeld trace sites new after access.variable access.location (access.event + 1) (length sites)

@@ -9,7 +9,6 @@ use Rattle.shb_report.specs.Places.{location_at}
 use Rattle.shb_places.specs.declared.notes.Access.{Access}
 use Rattle.shb_places.specs.declared.notes.Class.{Class}
 use Rattle.shb_places.specs.declared.notes.Link.{Link}
-use Rattle.shb_places.specs.declared.notes.Newest.{Newest}
 use Rattle.shb_places.specs.declared.notes.Notes.{Notes}
 use Rattle.shb_places.specs.declared.sites.Site.{Site}
 use Rattle.shb_places.specs.Access.{IsAccess, IsAccessOf}
@@ -40,11 +39,10 @@ pub record AreLinked (trace : TraceData) (links : List Link) (n : ℕ) : Type 0 
 pub record Tables : Type 0 where
   pub heads : List ℕ
   pub classes : List Class
-  pub newest : List Newest
   pub links : List Link
 
 abbrev pub tables_of : Notes → Tables
-tables_of notes = record { heads = notes.heads.items; classes = notes.classes.items; newest = notes.newest.items; links = notes.links.items }
+tables_of notes = record { heads = notes.heads.items; classes = notes.classes.items; links = notes.links.items }
 
 -- what holds of the class c: the list of its site and kind leads to it, and its newest link is of an access of it
 pub record IsClass (trace : TraceData) (sites : List Site) (notes : Tables) (c : ℕ) (class : Class) : Type 0 where
@@ -53,18 +51,15 @@ pub record IsClass (trace : TraceData) (sites : List Site) (notes : Tables) (c :
   pub head : ℕ
   pub at_head : slice_get notes.heads (list_at class.site class.writes) ≡ Some head
   pub reached : Reaches class_next notes.classes c head
-  pub newest : Newest
-  pub at_newest : slice_get notes.newest c ≡ Some newest
   pub link : Link
-  pub at_link : slice_get notes.links newest.link ≡ Some link
+  pub at_link : slice_get notes.links class.newest ≡ Some link
   pub access : IsAccessOf trace class.thread site.variable site.location class.writes link.event
-  pub local : local_time trace.events class.thread link.event ≤ newest.local
+  pub local : local_time trace.events class.thread link.event ≤ class.local
 
 -- what holds of all that is kept of the events before n
 pub record AreKept (trace : TraceData) (sites : List Site) (notes : Tables) (n : ℕ) : Type 0 where
   pub classes : (c : ℕ) (class : Class) → slice_get notes.classes c ≡ Some class → IsClass trace sites notes c class
   pub links : AreLinked trace notes.links n
-  pub as_many : length notes.newest ≡ length notes.classes
 
 -- an access is kept in a class of the site s
 pub record IsNotedAt (notes : Tables) (s e : ℕ) : Type 0 where
@@ -72,9 +67,7 @@ pub record IsNotedAt (notes : Tables) (s e : ℕ) : Type 0 where
   pub class : Class
   pub there : slice_get notes.classes number ≡ Some class
   pub site_is : class.site ≡ s
-  pub newest : Newest
-  pub at_newest : slice_get notes.newest number ≡ Some newest
-  pub chain : InChain notes.links newest.link e
+  pub chain : InChain notes.links class.newest e
 
 -- the class c is that of an access at the site s
 pub record IsClassOf (classes : List Class) (s : ℕ) (access : Access) (c : ℕ) : Type 0 where
@@ -101,24 +94,20 @@ pub record IsAdded (trace : TraceData) (sites : List Site) (old new : Tables) (s
   pub stays : (t i : ℕ) → IsNotedAt old t i → IsNotedAt new t i
 
 -- a class gets one access more
-pub record IsExtended (old new : Tables) (c : ℕ) (newest : Newest) (event local : ℕ) : Type 0 where
-  pub at_newest : slice_get old.newest c ≡ Some newest
+pub record IsExtended (old new : Tables) (c : ℕ) (class : Class) (event local : ℕ) : Type 0 where
+  pub at_class : slice_get old.classes c ≡ Some class
   pub few : length old.links < none
   pub heads : new.heads ≡ old.heads
-  pub classes : new.classes ≡ old.classes
-  pub links : new.links ≡ old.links ++ record { event = event; previous = newest.link } ∷ []
-  pub newests : new.newest ≡ set old.newest c (record { link = length old.links; local = local })
+  pub classes : new.classes ≡ set old.classes c (record class { newest = length old.links; local = local })
+  pub links : new.links ≡ old.links ++ record { event = event; previous = class.newest } ∷ []
 
--- a new class of the site s with one access
-pub record IsBegun (old new : Tables) (s head : ℕ) (class : Class) (event local : ℕ) : Type 0 where
-  pub at_head : slice_get old.heads (list_at s class.writes) ≡ Some head
+-- a new class with one access
+pub record IsBegun (old new : Tables) (class : Class) (event : ℕ) : Type 0 where
+  pub at_head : slice_get old.heads (list_at class.site class.writes) ≡ Some class.next
   pub few : length old.links < none
-  pub site_is : class.site ≡ s
-  pub next_is : class.next ≡ head
-  pub heads : new.heads ≡ set old.heads (list_at s class.writes) (length old.classes)
+  pub heads : new.heads ≡ set old.heads (list_at class.site class.writes) (length old.classes)
   pub classes : new.classes ≡ old.classes ++ class ∷ []
   pub links : new.links ≡ old.links ++ record { event = event; previous = none } ∷ []
-  pub newests : new.newest ≡ old.newest ++ record { link = length old.links; local = local } ∷ []
 
 -- a race of an event with an access at the site s
 pub record RacesAt (trace : TraceData) (sites : List Site) (s e : ℕ) (access : Access) : Type 0 where

@@ -16,21 +16,11 @@ use Rattle.shb_places.specs.Notes.{AreKept, IsNotedAt, Tables, tables_of}
 use Rattle.shb_places.specs.Sites.{AreSites}
 use Rattle.shb_places.specs.Wanted.{AreWanted}
 
--- each race of an access with one at the site s is covered
-pub record IsAsked (trace : TraceData) (notes : Tables) (access : Access) (s : ℕ) (old new : List FoundRace) : Type 0 where
+-- each race of an access with one at the site s is covered, and where the answer is yes, the place is known from the next event on
+pub record IsTold (trace : TraceData) (sites : List Site) (notes : Tables) (access : Access) (s : ℕ) (known : Bool) (old new : List FoundRace) : Type 0 where
   pub found : AreFound trace (access.event + 1) new
   pub improves : Improves trace old new
   pub covers : (i : ℕ) → IsNotedAt notes s i → Race trace.events i access.event → IsCovered trace new (race_of access.variable access.event i)
-
--- each race of an access with one at a site of its variable is covered
-pub record IsAskedAll (trace : TraceData) (sites : List Site) (notes : Tables) (access : Access) (old new : List FoundRace) : Type 0 where
-  pub found : AreFound trace (access.event + 1) new
-  pub improves : Improves trace old new
-  pub covers : (s i : ℕ) (site : Site) → slice_get sites s ≡ Some site → site.variable ≡ access.variable → IsNotedAt notes s i → Race trace.events i access.event → IsCovered trace new (race_of access.variable access.event i)
-
--- the same of the site with a number, and where the answer is yes, the place is known from the next event on
-pub record IsTold (trace : TraceData) (sites : List Site) (notes : Tables) (access : Access) (s : ℕ) (known : Bool) (old new : List FoundRace) : Type 0 where
-  pub asked : IsAsked trace notes access s old new
   pub known_is : known ≡ true → (site : Site) → slice_get sites s ≡ Some site → IsKnown trace new access.variable site.location access.location (access.event + 1)
 
 -- each race of an access with one at the site s is covered, and the place is known from the next event on
@@ -52,9 +42,11 @@ pub record IsAskable (trace : TraceData) (sites : Sites) (notes : Notes) (lists 
   pub found : AreFound trace (access.event + 1) table.races.entries
   pub wanted : AreWanted trace sites.sites.items table.races.entries access.event lists
 
--- each race of an access with one before is covered, and the lists are those of the next event
+-- each race of an access with one at a site of its variable is covered, and the lists are those of the next event
 pub record IsAskedBy (trace : TraceData) (sites : Sites) (notes : Notes) (lists : List Wanted) (old new : Found) (access : Access) : Type 0 where
-  pub asked : IsAskedAll trace sites.sites.items (tables_of notes) access old.races.entries new.races.entries
+  pub found : AreFound trace (access.event + 1) new.races.entries
+  pub improves : Improves trace old.races.entries new.races.entries
+  pub covers : (s i : ℕ) (site : Site) → slice_get sites.sites.items s ≡ Some site → site.variable ≡ access.variable → IsNotedAt (tables_of notes) s i → Race trace.events i access.event → IsCovered trace new.races.entries (race_of access.variable access.event i)
   pub wanted : AreWanted trace sites.sites.items new.races.entries (access.event + 1) lists
 
 -- an access of x is kept at a site
@@ -65,16 +57,12 @@ pub record IsNoted (sites : List Site) (notes : Tables) (x e : ℕ) : Type 0 whe
   pub variable_is : site.variable ≡ x
   pub noted : IsNotedAt notes number e
 
--- the accesses before n of open variables are kept, and each race before n is covered
-pub record IsSearched (trace : TraceData) (flags : List Bool) (sites : Sites) (notes : Notes) (table : Found) (n : ℕ) : Type 0 where
+-- the accesses before n of open variables are kept, each race before n is covered, and the lists have the sites that still have to be asked
+pub record AreSearched (trace : TraceData) (flags : List Bool) (sites : Sites) (notes : Notes) (lists : List Wanted) (table : Found) (n : ℕ) : Type 0 where
   pub sized : (e x : ℕ) → variable_at trace.events e ≡ Some x → x < length sites.newest.items
   pub listed : AreSites sites.newest.items sites.sites.items
   pub kept : AreKept trace sites.sites.items (tables_of notes) n
   pub noted : (e x : ℕ) → e < n → variable_at trace.events e ≡ Some x → is_open flags x ≡ true → IsNoted sites.sites.items (tables_of notes) x e
   pub found : AreFound trace n table.races.entries
   pub covered : (i j x : ℕ) → j < n → Race trace.events i j → variable_at trace.events j ≡ Some x → IsCovered trace table.races.entries (race_of x j i)
-
--- the same, with the lists of the sites that still have to be asked
-pub record AreSearched (trace : TraceData) (flags : List Bool) (sites : Sites) (notes : Notes) (lists : List Wanted) (table : Found) (n : ℕ) : Type 0 where
-  pub searched : IsSearched trace flags sites notes table n
   pub wanted : AreWanted trace sites.sites.items table.races.entries n lists

@@ -10,7 +10,6 @@ ghost use Rattle.shb_places.specs.Access.{IsAccess};
 ghost use Rattle.shb_places.specs.Lists.{list_at, none};
 ghost use Rattle.shb_places.specs.Notes.{AreKept, AreLinked, InChain, IsAddable, IsAdded, IsBegun, IsClassOf, IsEarliestAt, IsEarliestIn, IsEarliestOf, IsExtended, IsNotedAt, tables_of};
 ghost use Rattle.shb_places.specs.declared.sites.Site.{Site};
-ghost use Rattle.shb_places.specs.declared.notes.Newest.{Newest};
 
 use crate::numbers::{NONE, next_number};
 use crate::sites::Site;
@@ -21,19 +20,15 @@ use shb_lines::HashKeys;
 use std::alloc::Global;
 use std::random::RandomSource;
 
-/// The accesses of a site by one thread, of one kind; and the number of the class of the same site and kind before it.
+/// The accesses of a site by one thread, of one kind; the number of the class of the same site and kind before it; and
+/// of the newest of these accesses the number of its link and the local time.
 #[derive(Clone, Copy)]
 pub struct Class {
     pub site: u32,
     pub thread: u32,
     pub writes: bool,
     pub next: u32,
-}
-
-/// The newest access of a class: the number of its link, and its local time.
-#[derive(Clone, Copy)]
-pub struct Newest {
-    pub link: u32,
+    pub newest: u32,
     pub local: u32,
 }
 
@@ -49,7 +44,6 @@ pub struct Link {
 pub struct Notes {
     pub heads: Vec<u32>,
     pub classes: Vec<Class>,
-    pub newest: Vec<Newest>,
     pub links: Vec<Link>,
     pub numbers: IndexMap<(u32, u32), u32, HashKeys>,
 }
@@ -60,7 +54,6 @@ impl Drop for Notes {
         let Notes {
             heads: _,
             classes: _,
-            newest: _,
             links: _,
             numbers: _,
         } = self;
@@ -159,12 +152,11 @@ fn list_of(s: u32, writes: bool) -> usize
 impl Notes {
     /// No accesses.
     pub fn new<R: RandomSource>(rt: &R, alloc: Global) -> Result<Notes, NoMemory>
-        ensures { IfOk result (λ notes. tables_of notes ≡ record { heads = []; classes = []; newest = []; links = [] }) }
+        ensures { IfOk result (λ notes. tables_of notes ≡ record { heads = []; classes = []; links = [] }) }
     {
         Ok(Notes {
             heads: Vec::new(alloc),
             classes: Vec::new(alloc),
-            newest: Vec::new(alloc),
             links: Vec::new(alloc),
             numbers: IndexMap::with_hasher(alloc, HashKeys::new(rt)?),
         })
@@ -211,31 +203,36 @@ impl Notes {
 
     /// Adds an access to a class.
     fn extend(&mut self, c: u32, event: u32, local: u32) -> Result<(), NoMemory>
-        requires { c < length self.old.newest.items }
-        ensures { OnOk result ((newest : Newest) × IsExtended (tables_of self.old) (tables_of self.new) c newest event local) }
+        requires { c < length self.old.classes.items }
+        ensures { OnOk result ((class : Class) × IsExtended (tables_of self.old) (tables_of self.new) c class event local) }
     {
-        let newest = self.newest[c as usize];
-        let link = add_link(&mut self.links, event, newest.link)?;
-        self.newest[c as usize] = Newest { link, local };
+        let class = self.classes[c as usize];
+        let newest = add_link(&mut self.links, event, class.newest)?;
+        self.classes[c as usize] = Class {
+            newest,
+            local,
+            ..class
+        };
         Ok(())
     }
 
     /// Adds an access as the first of a new class.
     fn begin(&mut self, s: u32, access: Access, local: u32) -> Result<u32, NoMemory>
         requires { list_at s access.writes < length self.old.heads.items }
-        ensures { IfOk result (λ c. (head : ℕ) × IsBegun (tables_of self.old) (tables_of self.new) s head
-            (record { site = s; thread = access.thread; writes = access.writes; next = head }) access.event local) }
+        ensures { IfOk result (λ c. (head : ℕ) × IsBegun (tables_of self.old) (tables_of self.new)
+            (record { site = s; thread = access.thread; writes = access.writes; next = head; newest = length self.old.links.items; local = local }) access.event) }
     {
         let c = next_number(self.classes.as_slice())?;
         let list = list_of(s, access.writes);
         let next = self.heads[list];
-        let link = add_link(&mut self.links, access.event, NONE)?;
-        self.newest.push(Newest { link, local })?;
+        let newest = add_link(&mut self.links, access.event, NONE)?;
         self.classes.push(Class {
             site: s,
             thread: access.thread,
             writes: access.writes,
             next,
+            newest,
+            local,
         })?;
         self.heads[list] = c;
         Ok(c)
@@ -243,8 +240,7 @@ impl Notes {
 
     /// Adds an access at a site to its class, or as the first of a new one.
     fn put(&mut self, s: u32, access: Access, local: u32) -> Result<(), NoMemory>
-        requires room { list_at s access.writes < length self.old.heads.items }
-        requires as_many { length self.old.newest.items ≡ length self.old.classes.items }
+        requires { list_at s access.writes < length self.old.heads.items }
         ensures { (trace : TraceData) (sites : List Site) → IsAddable trace sites (tables_of self.old) s access local
             → OnOk result (IsAdded trace sites (tables_of self.old) (tables_of self.new) s access.event) }
     {
@@ -262,7 +258,6 @@ impl Notes {
     ///
     /// `NoMemory` where a growth was refused.
     pub fn add(&mut self, s: u32, access: Access, local: u32) -> Result<(), NoMemory>
-        requires as_many { length self.old.newest.items ≡ length self.old.classes.items }
         ensures { (trace : TraceData) (sites : List Site) → IsAddable trace sites (tables_of self.old) s access local
             → OnOk result (IsAdded trace sites (tables_of self.old) (tables_of self.new) s access.event) }
     {
@@ -281,9 +276,6 @@ impl Notes {
         let Some(class) = self.classes.get(c as usize) else {
             return NONE;
         };
-        let Some(newest) = self.newest.get(c as usize) else {
-            return NONE;
-        };
         if class.site != s {
             return NONE;
         }
@@ -291,10 +283,10 @@ impl Notes {
             return NONE;
         }
         let bound = ordered.order.below_pred(access.event, class.thread);
-        if newest.local <= bound {
+        if class.local <= bound {
             return NONE;
         }
-        earliest_from(ordered, self.links.as_slice(), newest.link, bound)
+        earliest_from(ordered, self.links.as_slice(), class.newest, bound)
     }
 
     /// The same of all classes of the site that write, or of those that don't.

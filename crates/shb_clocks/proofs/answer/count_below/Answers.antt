@@ -1,3 +1,4 @@
+use Rattle.std.proofs.lemmas.Grind.{common_steps}
 use Rattle.std.proofs.Common.{ℕ, List, refl, arith}
 use Rattle.shb_lines.specs.declared.event.Event.{Event}
 use Rattle.shb_clocks.proofs.Locals.{local_is, time_at}
@@ -5,13 +6,7 @@ use Rattle.shb_clocks.proofs.Counting.{count_other, count_own}
 use Rattle.shb_clocks.proofs.answer.count_below.Goals as goal
 
 pub returns-then-t-thread : goal.returns-then-t-thread
-returns-then-t-thread c =
-    let trace : List Event = c.args.linked.now.events.now in
-    let u : ℕ = c.thread.result in
-    let of_e = c.thread.ensures in
-    let time = local_is trace c.args.linked.now.links.now c.args.e c.local.result u c.args.linked.now.of_links c.local.ensures.time of_e in
-    let some = time_at trace u c.args.e of_e in
-    count_own trace trace c.args.linked.now.meets refl c.args.t u c.args.e _ of_e c.if-t-thread.true (omega (arith, time, some))
+returns-then-t-thread c = grind (arith, common_steps, c.thread.ensures, local_is, c.local.ensures.time, time_at, count_own, c.if-t-thread.true)
 
 pub row-requires : goal.row-requires
 row-requires c = (c.requires.row _ c.thread.ensures).in_range

@@ -1,13 +1,10 @@
-use Rattle.std.proofs.Common.{ℕ, List, get_or, ap, ◌∙◌, arith}
+use Rattle.std.proofs.Common.{ℕ, List, get_or, ap, ◌∙◌}
 use Rattle.shb_lines.specs.declared.event.Event.{Event}
 use Rattle.shb_lines.specs.events.Order.{BelowPred}
 use Rattle.shb_clocks.proofs.CopiesLemmas.{copies_more, copy_known, copy_pushed, row_in_range}
 use Rattle.shb_clocks.proofs.MovedLemmas.{row_moved}
-use Rattle.shb_clocks.proofs.Stamping.{grown_push, grown_same}
+use Rattle.shb_clocks.proofs.Stamping.{grown_push}
 use Rattle.shb_clocks.proofs.kept_rows.keep.Goals as goal
-
-pub returns-then-known-gt0-clause-grown : goal.returns-then-known-gt0-clause-grown
-returns-then-known-gt0-clause-grown c = grown_same c.args.rows.now
 
 pub returns-then-known-gt0-clause-row : goal.returns-then-known-gt0-clause-row
 returns-then-known-gt0-clause-row c t of_t =
@@ -19,9 +16,6 @@ returns-then-known-gt0-clause-row c t of_t =
 pub row-requires : goal.row-requires
 row-requires c = (row_in_range c.args.linked.now.events.now c.args.stamps.now.rows.rows c.args.e c.row_before-before.result c.requires.in_range c.row_before-before.ensures)
 
-pub note_copy-requires : goal.note_copy-requires
-note_copy-requires c = let few = c.requires.few in let at = c.in_ok-number.ensures.number in omega (arith, few, at)
-
 pub returns-clause-copies : goal.returns-clause-copies
 returns-clause-copies c =
     let rows = c.args.stamps.now.rows.rows in
@@ -29,9 +23,6 @@ returns-clause-copies c =
     c.in_ok-note_copy.ensures.copies rows c.push.new.self.rows (row_in_range c.args.linked.now.events.now c.args.stamps.now.rows.rows c.args.e c.row_before-before.result c.requires.in_range c.row_before-before.ensures)
     (copy_pushed rows c.args.rows.now.rows c.push.new.self.rows c.row_before-before.result c.in_ok-number.number c.row.result.now c.in_ok-number.ensures.rows c.row.ensures.row c.in_ok-number.ensures.number)
     (copies_more rows c.args.rows.now.rows c.push.new.self.rows c.args.copies.now.items grown.more c.requires.copies)
-
-pub returns-clause-grown : goal.returns-clause-grown
-returns-clause-grown c = grown_push c.args.rows.now c.push.new.self c.row.result.now c.in_ok-number.ensures.width c.in_ok-number.ensures.rows
 
 pub returns-clause-row : goal.returns-clause-row
 returns-clause-row c t of_t =

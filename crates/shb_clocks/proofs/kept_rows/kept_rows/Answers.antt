@@ -1,5 +1,5 @@
-use Rattle.std.proofs.Common.{ℕ, sym, subst, arith}
-use Rattle.shb_clocks.specs.Stamps.{HasRowsBefore}
+use Rattle.std.proofs.lemmas.Grind.{common_steps}
+use Rattle.std.proofs.Common.{arith}
 use Rattle.shb_clocks.proofs.kept_rows.kept_rows.Goals as goal
 
 pub loop-e-init : goal.loop-e-init
@@ -17,7 +17,4 @@ loop-e-preserved c = record {
 }
 
 pub returns-clause-rows : goal.returns-clause-rows
-returns-clause-rows c = record {
-  rows_before = subst (λ (n : ℕ). HasRowsBefore c.args.linked.now.events.now c.args.flags.now c.loop-e.kept.rows.rows n c.loop-e.kept.before.items) (sym c.loop-e.invariant.kept.before.as_many) c.loop-e.invariant.kept.before;
-  all = λ e lt asked. (let below = c.asked_end-e-end.ensures.all e lt asked in let many = c.loop-e.invariant.kept.before.as_many in omega (arith, below, many));
-}
+returns-clause-rows c = grind (arith, common_steps, c.loop-e.invariant.kept.before.as_many, c.loop-e.invariant.kept.before, c.asked_end-e-end.ensures.all)

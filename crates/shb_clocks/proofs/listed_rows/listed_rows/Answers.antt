@@ -11,9 +11,6 @@ loop-at-init c = record {
   copies = c.in_ok-kept.ensures.copies c.in_ok-stamps.stamps.rows.rows;
 }
 
-pub note_listed-requires-clause-swept : goal.note_listed-requires-clause-swept
-note_listed-requires-clause-swept c = c.in_ok-pass_up_to.ensures.swept
-
 pub note_listed-requires-clause-copies : goal.note_listed-requires-clause-copies
 note_listed-requires-clause-copies c = c.in_ok-pass_up_to.ensures.copies c.loop-at.kept.rows.rows c.loop-at.invariant.copies
 

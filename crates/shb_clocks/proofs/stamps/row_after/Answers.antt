@@ -6,16 +6,6 @@ use Rattle.shb_clocks.proofs.StampItems.{known_read}
 use Rattle.shb_clocks.proofs.Stamping.{row_joined, row_known, source_new}
 use Rattle.shb_clocks.proofs.stamps.row_after.Goals as goal
 
--- first, so that an edit which makes a row too many is refused by this clause
-pub returns-clause-shared : goal.returns-clause-shared
-returns-clause-shared c t of_t known =
-    let trace : List Event = c.args.linked.now.events.now in
-    let u : ℕ = c.thread-thread.result in
-    let same : u ≡ t = thread_same trace c.args.e u t c.thread-thread.ensures of_t in
-    let passing = c.is_known-known.ensures.1 (known_read c.args.source t u (get_or c.args.rows.now.rows c.args.before []) c.row.result.now (sym same) (sym c.row.ensures.row) known) in
-    let fails = c.if-known.false in
-    absurd (let f : ⊥ = cc in f)
-
 pub row-requires : goal.row-requires
 row-requires c = (c.requires.before _ c.thread-thread.ensures).in_range
 

@@ -1,3 +1,4 @@
+use Rattle.std.proofs.lemmas.Grind.{common_steps}
 use Rattle.std.proofs.Common.{inl, inr, length, arith, refl, ap}
 use Rattle.std.proofs.lemmas.Option.{slice_get_read}
 use Rattle.shb_places.specs.Lists.{here, link_previous}
@@ -21,9 +22,7 @@ returns-in_default-clause-least g c n t e linked chain of_t above = elim (c.loop
 ]
 
 pub local-requires : goal.local-requires
-local-requires g c =
-    let at = slice_get_read c.args.links.now (length c.args.links.now) c.loop-link.at c.in-Some.link.now refl c.in-Some.ensures.lookup.3.0 c.in-Some.ensures.lookup.1 in
-    within_of c.args.ordered.now.disciplined.now.trace.now.events _ _ c.in-Some.link.now.event c.args.ordered.now.linked c.args.ordered.now.disciplined.now.of_trace (c.requires.in_range c.loop-link.at c.in-Some.link.now at)
+local-requires g c = grind (arith, common_steps, slice_get_read, c.in-Some.ensures.lookup.3.0, c.in-Some.ensures.lookup.1, within_of, c.requires.in_range)
 
 pub returns-then-local-bound-clause-least : goal.returns-then-local-bound-clause-least
 returns-then-local-bound-clause-least g c n t e linked chain of_t above = elim (c.loop-link.invariant.least n t e linked chain of_t above) [
@@ -49,15 +48,7 @@ returns-then-link-at-clause-least g c n t e linked chain of_t above =
     ]
 
 pub returns-then-link-at-clause-chain : goal.returns-then-link-at-clause-chain
-returns-then-link-at-clause-chain g c some =
-    let at = slice_get_read c.args.links.now (length c.args.links.now) c.loop-link.at c.in-Some.link.now refl c.in-Some.ensures.lookup.3.0 c.in-Some.ensures.lookup.1 in
-    at_chain c.args.links.now c.loop-link.at c.args.newest c.in-Some.link.now at c.loop-link.invariant.reached
-
-pub returns-then-link-at-clause-above : goal.returns-then-link-at-clause-above
-returns-then-link-at-clause-above g c t some of_t =
-    let is = local_of c.args.ordered.now.disciplined.now.trace.now.events _ _ _ c.in-Some.link.now.event c.args.ordered.now.linked c.args.ordered.now.disciplined.now.of_trace c.local.ensures.time t of_t in
-    let bound = c.if-local-bound.false in
-    omega (arith, is, bound)
+returns-then-link-at-clause-chain g c some = grind (arith, common_steps, slice_get_read, c.in-Some.ensures.lookup.3.0, c.in-Some.ensures.lookup.1, at_chain, c.loop-link.invariant.reached)
 
 pub loop-link-preserved : goal.loop-link-preserved
 loop-link-preserved g c =

@@ -1,3 +1,4 @@
+use Rattle.std.proofs.lemmas.Grind.{common_steps}
 use Rattle.std.proofs.Common.{◌≡◌, ◌+◌, ◌-◌, ℕ, length, arith, refl, subst}
 use Rattle.std.proofs.lemmas.Option.{slice_get_read}
 use Rattle.shb_places.specs.Notes.{tables_of}
@@ -25,10 +26,4 @@ loop-left-preserved g c = record {
 }
 
 pub returns-clause-told : goal.returns-clause-told
-returns-clause-told g c kept found =
-    let none = c.loop-left-test.false in
-    let is : c.loop-left.left ≡ 0 = omega (arith, none) in
-    subst (λ (n : ℕ). AreToldFrom c.args.ordered.now.disciplined.now.trace.now c.args.sites.now.sites.items (tables_of c.args.notes.now) c.args.access n c.args.list.now.items c.loop-left.list.items c.args.found.now.races.entries c.loop-left.found.races.entries) is (c.loop-left.invariant.told kept found)
-
-pub returns-clause-numbered : goal.returns-clause-numbered
-returns-clause-numbered g c firsts here h = c.loop-left.invariant.numbered firsts here h
+returns-clause-told g c kept found = grind (arith, common_steps, c.loop-left-test.false, c.loop-left.invariant.told)

@@ -12,7 +12,7 @@ use Rattle.shb_places.specs.Covering.{Covers, FoundRace}
 use Rattle.shb_places.specs.Firsts.{AreFirsts}
 use Rattle.shb_places.specs.Searched.{AreSearched}
 use Rattle.shb_places.proofs.FirstLemmas.{places_apart}
-use Rattle.shb_places.proofs.SearchLemmas.{searched_all}
+use Rattle.shb_places.proofs.TakeLemmas.{searched_all}
 use Rattle.shb_places.proofs.search.covering_races.Goals as goal
 
 pub loop-e-init : goal.loop-e-init
@@ -56,17 +56,11 @@ returns-then-not-any_open g c =
 pub step-requires-clause-settled : goal.step-requires-clause-settled
 step-requires-clause-settled g c = rw c.new-ordered.ensures.disciplined (subst (λ (l : List Event). AreOpen l c.args.flags.now) c.args.disciplined.now.of_trace c.requires.settled)
 
-pub step-requires-clause-of_trace : goal.step-requires-clause-of_trace
-step-requires-clause-of_trace g c = c.loop-e.invariant.located ∙ sym c.new-ordered.ensures.disciplined
-
-pub step-requires-clause-firsts : goal.step-requires-clause-firsts
-step-requires-clause-firsts g c = subst (λ (t : TraceData). AreFirsts t c.loop-e.locations.known c.loop-e.locations.firsts.items) (sym (ap (λ (d : Disciplined). d.trace.now) c.loop-e.invariant.located)) c.loop-e.invariant.firsts
-
 pub returns : goal.returns
 returns g c =
     let trace = c.args.disciplined.now in
     let kept = c.loop-e.search in
     let all : c.loop-e.e ≡ length trace.events.now = omega arith in
     let same = ap length trace.of_trace in
-    searched_all trace.trace.now c.args.flags.now kept.sites kept.notes kept.found c.loop-e.e (omega (arith, all, same)) c.loop-e.invariant.searched.searched
-    (places_apart trace.trace.now c.loop-e.locations.known c.loop-e.locations.firsts.items c.loop-e.e kept.found.races.entries c.loop-e.invariant.firsts c.are_different.ensures c.loop-e.invariant.searched.searched.found c.loop-e.invariant.numbered.of_places c.are_different-2.ensures)
+    searched_all trace.trace.now c.args.flags.now kept.sites kept.notes kept.wanted.items kept.found c.loop-e.e (omega (arith, all, same)) c.loop-e.invariant.searched
+    (places_apart trace.trace.now c.loop-e.locations.known c.loop-e.locations.firsts.items c.loop-e.e kept.found.races.entries c.loop-e.invariant.firsts c.are_different.ensures c.loop-e.invariant.searched.found c.loop-e.invariant.numbered.of_places c.are_different-2.ensures)

@@ -1,10 +1,7 @@
 use Rattle.std.proofs.Common.{inl, inr, length, arith, ap}
 use Rattle.shb_places.proofs.Lists.{read_same}
-use Rattle.shb_places.proofs.WantedLemmas.{looked_before, looked_end, looked_next, looked_start}
+use Rattle.shb_places.proofs.WantedLemmas.{looked_before, looked_end, looked_next}
 use Rattle.shb_places.proofs.wanted.look_from.Goals as goal
-
-pub loop-site-init : goal.loop-site-init
-loop-site-init c trace n listed found own held = looked_start trace c.args.sites.now.newest.items c.args.sites.now.sites.items c.args.found.now.races.entries c.args.list.now.items c.args.access.variable c.args.access.location c.args.access.event c.args.looked c.newest_of-at.result listed held c.newest_of-at.ensures
 
 pub returns-in_default : goal.returns-in_default
 returns-in_default c trace n listed found own held =

@@ -1,3 +1,4 @@
+use Rattle.std.proofs.lemmas.Grind.{common_steps}
 use Rattle.std.proofs.Common.{◌≡◌, ℕ, Some, ◌∙◌, arith, subst, sym}
 use Rattle.shb_lines.specs.events.Events.{thread_at}
 use Rattle.shb_lines.specs.events.Order.{BelowPred}
@@ -6,12 +7,7 @@ use Rattle.shb_clocks.proofs.ListedLemmas.{rising_above, listed_more, listed_pus
 use Rattle.shb_clocks.proofs.kept_rows.KeptRows.note_listed.Goals as goal
 
 pub keep-requires-clause-few : goal.keep-requires-clause-few
-keep-requires-clause-few c =
-    let above = rising_above c.args.events.now c.requires.rising c.args.at c.requires.in_range in
-    let few = c.requires.kept.few in
-    let within = c.requires.of_trace in
-    let most = c.args.linked.now.few in
-    omega (arith, above, few, within, most)
+keep-requires-clause-few c = grind (arith, common_steps, rising_above, c.requires.rising, c.requires.in_range, c.requires.kept.few, c.requires.of_trace)
 
 pub returns-clause-kept : goal.returns-clause-kept
 returns-clause-kept c = record {

@@ -1,17 +1,8 @@
 use Rattle.std.proofs.Common.{◌∙◌, arith}
 use Rattle.shb_links.specs.Latest.{ReleasesLock}
 use Rattle.shb_clocks.specs.Stamps.{WritesShared}
-use Rattle.shb_clocks.proofs.MovedLemmas.{current_low, current_moved, stamps_low, stamps_moved}
+use Rattle.shb_clocks.proofs.MovedLemmas.{current_moved, stamps_moved}
 use Rattle.shb_clocks.proofs.stamps.Stamps.compact.Goals as goal
-
-pub compacted-requires-clause-current : goal.compacted-requires-clause-current
-compacted-requires-clause-current c = current_low c.args.linked.now.events.now c.args.self.now.rows.rows c.args.n c.args.linked.now.sizes.threads c.args.self.now.current.items c.requires.swept.current
-
-pub compacted-requires-clause-locks : goal.compacted-requires-clause-locks
-compacted-requires-clause-locks c = stamps_low c.args.linked.now.events.now c.args.self.now.rows.rows (ReleasesLock c.args.linked.now.events.now) c.args.n c.args.linked.now.sizes.locks c.args.self.now.locks.items c.requires.swept.locks
-
-pub compacted-requires-clause-variables : goal.compacted-requires-clause-variables
-compacted-requires-clause-variables c = stamps_low c.args.linked.now.events.now c.args.self.now.rows.rows (WritesShared c.args.linked.now.events.now) c.args.n c.args.linked.now.sizes.variables c.args.self.now.variables.items c.requires.swept.variables
 
 pub returns : goal.returns
 returns c =

@@ -2,21 +2,9 @@ use Rattle.std.proofs.Common.{◌≡◌, ℕ, arith, subst}
 use Rattle.shb_clocks.specs.Stamps.{IsSwept}
 use Rattle.shb_clocks.proofs.stamps.Stamps.pass_up_to.Goals as goal
 
-pub loop-e-init : goal.loop-e-init
-loop-e-init c = record { swept = c.requires.swept; copies = λ kept are. are }
-
-pub loop-e-preserved : goal.loop-e-preserved
-loop-e-preserved c = record {
-  swept = c.in_ok-moved.ensures.swept;
-  copies = λ kept are. c.forget_moved.ensures _ _ kept c.in_ok-moved.ensures.more (c.loop-e.invariant.copies kept are);
-}
-
 pub returns-clause-swept : goal.returns-clause-swept
 returns-clause-swept c =
     let past = c.loop-e-test.false in
     let within = c.loop-e.auto.e-end in
     let same : c.loop-e.e ≡ c.args.end = omega (arith, past, within) in
     subst (λ (n : ℕ). IsSwept c.args.linked.now.events.now n c.args.linked.now.sizes c.loop-e.self) same c.loop-e.invariant.swept
-
-pub returns-clause-copies : goal.returns-clause-copies
-returns-clause-copies c = c.loop-e.invariant.copies

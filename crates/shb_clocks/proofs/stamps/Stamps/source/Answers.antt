@@ -1,10 +1,8 @@
-use Rattle.std.proofs.Common.{List, ap, ◌<◌, arith}
+use Rattle.std.proofs.Common.{List, ◌<◌, arith}
 use Rattle.shb_lines.specs.declared.event.Event.{Event}
 use Rattle.shb_links.specs.Latest.{ReleasesLock}
-use Rattle.shb_clocks.specs.Stamps.{WritesShared, nothing_new}
+use Rattle.shb_clocks.specs.Stamps.{WritesShared}
 use Rattle.shb_lines.proofs.events.Items.{op_known, op_within_at}
-use Rattle.shb_clocks.specs.declared.stamp.Stamp.{Stamp}
-use Rattle.shb_clocks.proofs.Sources.{learns_nothing}
 use Rattle.shb_clocks.proofs.StampItems.{stamp_item}
 use Rattle.shb_clocks.proofs.Stamping.{source_acquire, source_read}
 use Rattle.shb_clocks.proofs.stamps.Stamps.source.Goals as goal
@@ -21,9 +19,6 @@ index-requires-in-Read c =
     let many = c.requires.swept.variables.as_many in
     omega (arith, low, many)
 
-pub join_source-requires-clause-joins : goal.join_source-requires-clause-joins
-join_source-requires-clause-joins c = op_known c.args.linked.now.events.now c.args.e _ _ c.op.ensures c.in-Join.is
-
 pub returns-in-Acquire : goal.returns-in-Acquire
 returns-in-Acquire c =
     let trace : List Event = c.args.linked.now.events.now in
@@ -37,8 +32,3 @@ returns-in-Read c =
     let there = op_known trace c.args.e _ _ c.op.ensures c.in-Read.is in
     source_read trace c.args.linked.now.meets c.args.self.now.rows.rows c.args.e c.in-Read.variable c.index-in-Read.result.now there
     (stamp_item trace c.args.self.now.rows.rows (WritesShared trace) c.args.e c.args.linked.now.sizes.variables c.in-Read.variable c.args.self.now.variables.items c.index-in-Read.result.now c.requires.swept.variables (op_within_at trace c.args.linked.now.sizes c.args.e _ c.args.linked.now.within there) c.index-in-Read.ensures)
-
-pub returns-in_default : goal.returns-in_default
-returns-in_default c = nothing_new
-    (λ k learns. absurd (learns_nothing c.args.linked.now.events.now c.args.linked.now.meets c.args.e _ k c.op.ensures c.in_default.not-Acquire c.in_default.not-Join c.in_default.not-Read learns))
-    (ap (λ (s : Stamp). s.time) c.empty.ensures)

@@ -42,6 +42,3 @@ returns-clause-swept c =
       locks = c.note_release.ensures c.pass_on.new.rows.rows kept (stamps_more trace rows c.pass_on.new.rows.rows (ReleasesLock trace) c.args.e sizes.locks c.args.self.now.locks.items grown old.locks);
       variables = c.note_write.ensures c.pass_on.new.rows.rows kept (stamps_more trace c.row_after.new.rows.rows c.pass_on.new.rows.rows (WritesShared trace) c.args.e sizes.variables c.note_read.new.variables.items second.more c.note_read.ensures.stamps);
     }
-
-pub returns-clause-more : goal.returns-clause-more
-returns-clause-more c = more_chain c.args.self.now.rows.rows c.row_after.new.rows.rows c.pass_on.new.rows.rows c.in_ok-row.ensures.grown.more c.in_ok-pass_on.ensures.grown.more

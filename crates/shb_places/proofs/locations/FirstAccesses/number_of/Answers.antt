@@ -1,6 +1,4 @@
-use Rattle.std.proofs.Common.{◌≡◌, ℕ, List, [], ◌∷◌, Some, arith, length, slice_get, refl, subst, sym}
-use Rattle.std.specs.Prelude.{Contains}
-use Rattle.std.proofs.lemmas.List.Elements.{Contains-append_left, Contains-push}
+use Rattle.std.proofs.Common.{◌≡◌, ℕ, List, Some, arith, length, slice_get, refl, subst, sym}
 use Rattle.std.proofs.lemmas.Option.{slice_get_read}
 use Rattle.shb_places.specs.Access.{IsLocatedAt}
 use Rattle.shb_places.specs.Firsts.{AreFirsts}
@@ -34,12 +32,6 @@ returns-clause-firsts c =
     let firsts = c.args.self.now.firsts.items in
     let known = first_known c.args.self.now.disciplined.now.trace.now c.args.self.now.known c.number_of.new.self firsts c.location.result.now c.in_ok-number.number c.requires.firsts c.in_ok-number.ensures.known c.in_ok-number.ensures.number (λ is. c.if-number-len.false (let long = c.len.ensures in omega (arith, is, long))) in
     subst (λ (ts : List (List ℕ)). AreFirsts c.args.self.now.disciplined.now.trace.now ts firsts) (sym known.1) c.requires.firsts
-
-pub returns-then-number-len-clause-there : goal.returns-then-number-len-clause-there
-returns-then-number-len-clause-there c = subst (λ (fs : List ℕ). Contains fs c.args.e) (sym c.in_ok-push.ensures.items) (Contains-push c.args.self.now.firsts.items c.args.e)
-
-pub returns-then-number-len-clause-stay : goal.returns-then-number-len-clause-stay
-returns-then-number-len-clause-stay c l there = subst (λ (fs : List ℕ). Contains fs l) (sym c.in_ok-push.ensures.items) (Contains-append_left c.args.self.now.firsts.items (c.args.e ∷ []) l there)
 
 pub returns-clause-there : goal.returns-clause-there
 returns-clause-there c =

@@ -1,43 +1,28 @@
-use Rattle.std.proofs.Common.{◌≡◌, true, false, List, length, arith, refl, subst, ap, sym, ◌∙◌}
-use Rattle.std.proofs.lemmas.Option.{slice_get_within}
+use Rattle.std.proofs.Common.{◌≡◌, true, false, List, refl, subst, sym, ◌∙◌}
 use Rattle.shb_pairs.proofs.Tails.{count_seen}
 use Rattle.shb_places.specs.declared.notes.Link.{Link}
 use Rattle.shb_places.proofs.Lists.{read_same}
-use Rattle.shb_places.proofs.NoteLemmas.{all_below, cannot, chain_least, earliest_none, noted_class, order_within, IsLeast}
+use Rattle.shb_places.proofs.NoteLemmas.{all_below, cannot, chain_least, order_within, IsLeast}
 use Rattle.shb_places.proofs.notes.Notes.earliest_in.Goals as goal
-
-pub returns-in_default : goal.returns-in_default
-returns-in_default g c sites kept = earliest_none _ sites _ c.args.s c.args.c c.args.access (λ e noted is race. let low = slice_get_within c.args.self.now.classes.items noted.number noted.class noted.there in let past = c.in_default.ensures.lookup.3 in let same = ap length c.deref.ensures.value in omega (arith, low, past, is, same))
-
-pub returns-in_default-get : goal.returns-in_default-get
-returns-in_default-get g c sites kept = earliest_none _ sites _ c.args.s c.args.c c.args.access (λ e noted is race. let low = slice_get_within c.args.self.now.newest.items noted.number noted.newest noted.at_newest in let past = c.in_default-get.ensures.lookup.3 in let same = ap length c.deref-2.ensures.value in omega (arith, low, past, is, same))
-
-pub returns-then-class-s : goal.returns-then-class-s
-returns-then-class-s g c sites kept =
-    let there = read_same c.args.self.now.classes.items c.deref.result.now c.args.c c.in-Some.class.now c.deref.ensures.value c.in-Some.ensures.lookup.3.0 c.in-Some.ensures.lookup.1 in
-    earliest_none _ sites _ c.args.s c.args.c c.args.access (λ e noted is race. c.if-class-s.true (noted_class _ c.args.s c.args.c e c.in-Some.class.now there noted is))
 
 pub returns-then-not-can_race : goal.returns-then-not-can_race
 returns-then-not-can_race g c sites kept =
     let there = read_same c.args.self.now.classes.items c.deref.result.now c.args.c c.in-Some.class.now c.deref.ensures.value c.in-Some.ensures.lookup.3.0 c.in-Some.ensures.lookup.1 in
-    let at_newest = read_same c.args.self.now.newest.items c.deref-2.result.now c.args.c c.in-Some-get.newest.now c.deref-2.ensures.value c.in-Some-get.ensures.lookup.3.0 c.in-Some-get.ensures.lookup.1 in
-    cannot c.args.ordered.now.disciplined.now.trace.now sites _ c.args.s c.args.c c.args.access c.in-Some.class.now c.in-Some-get.newest.now kept c.requires.access there at_newest c.if-class-s.false (λ can. let f : true ≡ false = sym (c.can_race.ensures.1 can) ∙ c.if-not-can_race.true in (let n : ⊥ = cc in n))
+    cannot c.args.ordered.now.disciplined.now.trace.now sites _ c.args.s c.args.c c.args.access c.in-Some.class.now kept c.requires.access there c.if-class-s.false (λ can. let f : true ≡ false = sym (c.can_race.ensures.1 can) ∙ c.if-not-can_race.true in (let n : ⊥ = cc in n))
 
 pub below_pred-bound-requires-clause-in_range : goal.below_pred-bound-requires-clause-in_range
 below_pred-bound-requires-clause-in_range g c = order_within c.args.ordered.now.disciplined.now.trace.now.events _ _ c.args.access.event c.args.access.variable c.args.ordered.now.of_trace c.args.ordered.now.disciplined.now.of_trace c.requires.access.variable
 
-pub returns-then-newest-bound : goal.returns-then-newest-bound
-returns-then-newest-bound g c sites kept =
+pub returns-then-class-bound : goal.returns-then-class-bound
+returns-then-class-bound g c sites kept =
     let there = read_same c.args.self.now.classes.items c.deref.result.now c.args.c c.in-Some.class.now c.deref.ensures.value c.in-Some.ensures.lookup.3.0 c.in-Some.ensures.lookup.1 in
-    let at_newest = read_same c.args.self.now.newest.items c.deref-2.result.now c.args.c c.in-Some-get.newest.now c.deref-2.ensures.value c.in-Some-get.ensures.lookup.3.0 c.in-Some-get.ensures.lookup.1 in
-    all_below c.args.ordered.now.disciplined.now.trace.now sites _ c.args.s c.args.c c.below_pred-bound.result c.args.access c.in-Some.class.now c.in-Some-get.newest.now kept c.requires.access there at_newest c.if-class-s.false (count_seen c.args.ordered.now.disciplined.now.trace.now.events _ _ _ _ _ (c.args.ordered.now.of_trace ∙ c.args.ordered.now.disciplined.now.of_trace) refl c.below_pred-bound.ensures) c.if-newest-bound.true
+    all_below c.args.ordered.now.disciplined.now.trace.now sites _ c.args.s c.args.c c.below_pred-bound.result c.args.access c.in-Some.class.now kept c.requires.access there c.if-class-s.false (count_seen c.args.ordered.now.disciplined.now.trace.now.events _ _ _ _ _ (c.args.ordered.now.of_trace ∙ c.args.ordered.now.disciplined.now.of_trace) refl c.below_pred-bound.ensures) c.if-class-bound.true
 
 pub returns : goal.returns
 returns g c sites kept =
     let there = read_same c.args.self.now.classes.items c.deref.result.now c.args.c c.in-Some.class.now c.deref.ensures.value c.in-Some.ensures.lookup.3.0 c.in-Some.ensures.lookup.1 in
-    let at_newest = read_same c.args.self.now.newest.items c.deref-2.result.now c.args.c c.in-Some-get.newest.now c.deref-2.ensures.value c.in-Some-get.ensures.lookup.3.0 c.in-Some-get.ensures.lookup.1 in
     let trace = c.args.ordered.now.disciplined.now.trace.now in
-    let found : IsLeast trace c.as_slice.result.now c.in-Some-get.newest.now.link c.below_pred-bound.result c.earliest_from.result = record { least = c.earliest_from.ensures.least; chain = c.earliest_from.ensures.chain; above = c.earliest_from.ensures.above } in
-    chain_least trace sites _ c.args.s c.args.c c.below_pred-bound.result c.earliest_from.result c.args.access c.in-Some.class.now c.in-Some-get.newest.now kept c.requires.access there at_newest c.if-class-s.false (c.can_race.ensures.0 c.if-not-can_race.false)
+    let found : IsLeast trace c.as_slice.result.now c.in-Some.class.now.newest c.below_pred-bound.result c.earliest_from.result = record { least = c.earliest_from.ensures.least; chain = c.earliest_from.ensures.chain; above = c.earliest_from.ensures.above } in
+    chain_least trace sites _ c.args.s c.args.c c.below_pred-bound.result c.earliest_from.result c.args.access c.in-Some.class.now kept c.requires.access there c.if-class-s.false (c.can_race.ensures.0 c.if-not-can_race.false)
     (count_seen trace.events _ _ _ _ _ (c.args.ordered.now.of_trace ∙ c.args.ordered.now.disciplined.now.of_trace) refl c.below_pred-bound.ensures)
-    (subst (λ (ls : List Link). IsLeast trace ls c.in-Some-get.newest.now.link c.below_pred-bound.result c.earliest_from.result) c.as_slice.ensures.value found)
+    (subst (λ (ls : List Link). IsLeast trace ls c.in-Some.class.now.newest c.below_pred-bound.result c.earliest_from.result) c.as_slice.ensures.value found)

@@ -1,19 +1,15 @@
-use Rattle.std.proofs.Common.{◌<◌, length, refl, subst, sym}
+use Rattle.std.proofs.Common.{subst, sym}
 use Rattle.std.proofs.lemmas.Result.{on_ok_weaker}
-use Rattle.shb_places.specs.Lists.{list_at}
 use Rattle.shb_places.specs.Notes.{IsAddable, IsAdded, Tables, tables_of}
 use Rattle.shb_places.proofs.NoteLemmas.{begun_added, extended_added}
 use Rattle.shb_places.proofs.notes.Notes.put.Goals as goal
 
 pub returns-in-Some : goal.returns-in-Some
-returns-in-Some c trace sites add = on_ok_weaker c.extend.result (λ e. extended_added trace sites (tables_of c.args.self.now) c.args.s c.args.local c.args.access add c.in-Some.c c.in-Some.ensures e.0 e.1.at_newest e.1.few _ e.1.heads e.1.classes e.1.newests e.1.links) c.extend.ensures
-
-pub begin-requires : goal.begin-requires
-begin-requires c = subst (λ (t : Tables). list_at c.args.s c.args.access.writes < length t.heads) (sym c.in_ok-note_newest.ensures) c.requires.room
+returns-in-Some c trace sites add = on_ok_weaker c.extend.result (λ e. extended_added trace sites (tables_of c.args.self.now) c.args.s c.args.local c.args.access add c.in-Some.c c.in-Some.ensures e.1.few _ e.0 e.1) c.extend.ensures
 
 pub returns : goal.returns
 returns c trace sites add =
     let e = c.in_ok-begin.ensures in
     let here = subst (λ (t : Tables). IsAddable trace sites t c.args.s c.args.access c.args.local) (sym c.in_ok-note_newest.ensures) add in
     subst (λ (t : Tables). IsAdded trace sites t (tables_of c.begin.new.self) c.args.s c.args.access.event) c.in_ok-note_newest.ensures
-    (begun_added trace sites (tables_of c.note_newest.new.self) c.args.s c.args.local c.args.access here e.0 (record { site = c.args.s; thread = c.args.access.thread; writes = c.args.access.writes; next = e.0 }) e.1.at_head refl refl refl refl e.1.few _ e.1.heads e.1.classes e.1.newests e.1.links)
+    (begun_added trace sites (tables_of c.note_newest.new.self) c.args.s c.args.local c.args.access here e.0 e.1.at_head e.1.few _ e.1)

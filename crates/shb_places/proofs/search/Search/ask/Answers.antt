@@ -20,9 +20,8 @@ returns-clause-asked g c is able =
     let held = c.in_ok-look.ensures.held trace (access.event + 1) able.listed able.found c.requires.access (held_of trace sites own.found.races.entries access.event access.variable access.location c.args.s list is (before c.args.s list at)) in
     let after : Wanted = record { looked = c.look.new.list.looked; sites = c.ask_list.new.list } in
     on_ok_weaker c.ask_list.result (λ told. record {
-      asked = told_all trace sites (tables_of own.notes) access c.look.new.list.sites.items after.sites.items own.found.races.entries c.ask_list.new.found.races.entries c.requires.access able.kept held told;
+      found = told.found;
+      improves = told.improves;
+      covers = told_all trace sites (tables_of own.notes) access c.look.new.list.sites.items after.sites.items own.found.races.entries c.ask_list.new.found.races.entries c.requires.access able.kept held told;
       wanted = lists_asked trace sites (tables_of own.notes) lists c.args.s list after c.look.new.list.sites.items own.found.races.entries c.ask_list.new.found.races.entries access at is before held told c.in_ok-look.ensures.looked;
     }) (c.ask_list.ensures.told able.kept able.found)
-
-pub returns-clause-numbered : goal.returns-clause-numbered
-returns-clause-numbered g c firsts here h = c.ask_list.ensures.numbered firsts here h

@@ -1,27 +1,25 @@
-use Rattle.std.proofs.Common.{◌≡◌, length, subst, sym}
+use Rattle.std.proofs.Common.{◌+◌, subst, sym}
 use Rattle.std.proofs.lemmas.Result.{on_ok_weaker}
 use Rattle.shb_places.specs.declared.notes.Notes.{Notes}
 use Rattle.shb_places.specs.declared.sites.Sites.{Sites}
 use Rattle.shb_places.specs.Firsts.{AreNumbered}
-use Rattle.shb_places.specs.Notes.{AreKept, tables_of}
+use Rattle.shb_places.specs.Notes.{AreKept, IsAdded, tables_of}
+use Rattle.shb_places.specs.Searched.{AreSearched}
 use Rattle.shb_places.proofs.FirstLemmas.{numbered_site}
 use Rattle.shb_places.proofs.Lists.{on_ok_always}
 use Rattle.shb_places.proofs.NoteLemmas.{local_of, within_of}
 use Rattle.shb_pairs.proofs.Found.{accessed_within}
-use Rattle.shb_places.proofs.SearchLemmas.{can_add, links_within}
-use Rattle.shb_places.proofs.TakeLemmas.{can_ask, taken_all}
+use Rattle.shb_places.proofs.SearchLemmas.{can_add}
+use Rattle.shb_places.proofs.TakeLemmas.{can_ask, links_within, taken_all}
 use Rattle.shb_places.proofs.search.Search.take.Goals as goal
 
 pub ask-requires-clause-in_range : goal.ask-requires-clause-in_range
-ask-requires-clause-in_range g c = links_within c.args.ordered.now.disciplined.now.trace.now c.requires.searched.0 c.args.self.now.sites c.args.self.now.notes c.args.self.now.found c.args.access c.requires.access c.requires.searched.1.searched
+ask-requires-clause-in_range g c = links_within c.args.ordered.now.disciplined.now.trace.now c.requires.searched.0 c.args.self.now.sites c.args.self.now.notes c.args.self.now.wanted.items c.args.self.now.found c.args.access c.requires.access c.requires.searched.1
 
 pub local-local-requires : goal.local-local-requires
 local-local-requires g c =
     let trace = c.args.ordered.now.disciplined.now.trace.now in
     within_of trace.events _ _ c.args.access.event c.args.ordered.now.linked c.args.ordered.now.disciplined.now.of_trace (accessed_within trace.events c.args.access.event c.args.access.variable c.requires.access.variable)
-
-pub add-requires : goal.add-requires
-add-requires g c = record { as_many = subst (λ (n : Notes). length n.newest.items ≡ length n.classes.items) (sym c.in_ok-ask.ensures.notes) c.requires.searched.1.searched.kept.as_many }
 
 pub returns-clause-searched : goal.returns-clause-searched
 returns-clause-searched g c flags is_so h =
@@ -32,7 +30,7 @@ returns-clause-searched g c flags is_so h =
     let asked = c.in_ok-ask.ensures.asked c.in_ok-s.ensures.site able in
     let kept = subst (λ (n : Notes). AreKept trace more.sites.items (tables_of n) c.args.access.event) (sym c.in_ok-ask.ensures.notes) able.kept in
     let time = local_of trace.events _ _ _ c.args.access.event c.args.ordered.now.linked c.args.ordered.now.disciplined.now.of_trace c.local-local.ensures.time c.args.access.thread c.requires.access.thread in
-    on_ok_weaker c.add.result (λ added. taken_all trace flags own.sites more c.ask.new.self.sites own.notes c.ask.new.self.notes c.add.new.self own.wanted.items c.ask.new.self.wanted.items own.found c.ask.new.self.found c.in_ok-s.s c.args.access c.requires.access is_so h c.in_ok-s.ensures.more c.in_ok-s.ensures.site c.in_ok-ask.ensures.sites c.in_ok-ask.ensures.notes asked added)
+    on_ok_weaker c.add.result (λ added. subst (λ (t : Sites). AreSearched trace flags t c.add.new.self c.ask.new.self.wanted.items c.ask.new.self.found (c.args.access.event + 1)) (sym c.in_ok-ask.ensures.sites) (taken_all trace flags own.sites more own.notes c.add.new.self own.wanted.items c.ask.new.self.wanted.items own.found c.ask.new.self.found c.in_ok-s.s c.args.access c.requires.access is_so h c.in_ok-s.ensures.more c.in_ok-s.ensures.site asked (subst (λ (n : Notes). IsAdded trace more.sites.items (tables_of n) (tables_of c.add.new.self) c.in_ok-s.s c.args.access.event) c.in_ok-ask.ensures.notes added)))
     (c.add.ensures trace more.sites.items (can_add trace more.sites.items (tables_of c.ask.new.self.notes) c.in_ok-s.s c.local-local.result c.args.access kept c.in_ok-s.ensures.site c.requires.access time))
 
 pub returns-clause-numbered : goal.returns-clause-numbered

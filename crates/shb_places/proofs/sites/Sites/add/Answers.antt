@@ -1,4 +1,5 @@
-use Rattle.std.proofs.Common.{◌≡◌, inl, inr, ℕ, List, Some, slice_get, ap, length, refl, sym, subst, ◌∙◌}
+use Rattle.std.proofs.lemmas.Grind.{common_steps}
+use Rattle.std.proofs.Common.{ℕ, List, slice_get, ap, length, refl, sym, subst, ◌∙◌, arith}
 use Rattle.std.proofs.Math.ListN.{set}
 use Rattle.std.proofs.lemmas.Option.{slice_get_read}
 use Rattle.shb_places.specs.declared.sites.Site.{Site}
@@ -17,10 +18,4 @@ returns-clause-more c =
     subst (λ (k : ℕ). AreMore newest sites (set newest c.args.variable k) c.push.new.self.items) (sym (c.in_ok-s.ensures.0 ∙ ap length c.as_slice.ensures.value)) more
 
 pub returns-clause-from : goal.returns-clause-from
-returns-clause-from c s site at =
-    let sites = c.args.self.now.sites.items in
-    let last : Site = record { variable = c.args.variable; location = c.args.location; previous = c.index-previous.result.now } in
-    elim (get_cases sites last s site (subst (λ (all : List Site). slice_get all s ≡ Some site) c.in_ok-push.ensures.items at)) [
-      | inl old ↦ inl old
-      | inr new ↦ inr (ap (λ (k : Site). k.location) (sym new.1))
-    ]
+returns-clause-from c s site at = grind (arith, common_steps, get_cases, slice_get, c.in_ok-push.ensures.items)

@@ -1,10 +1,7 @@
-use Rattle.std.proofs.Common.{◌≡◌, ◌⊎◌, inl, ℕ, List, Some, ap, slice_get, subst}
+use Rattle.std.proofs.Common.{◌≡◌, ◌⊎◌, ℕ, List, Some, ap, slice_get, subst}
 use Rattle.std.proofs.lemmas.Result.{on_ok_weaker}
 use Rattle.shb_places.specs.declared.sites.Site.{Site}
 use Rattle.shb_places.proofs.sites.Sites.number_of.Goals as goal
-
-pub returns-in-Some-clause-from : goal.returns-in-Some-clause-from
-returns-in-Some-clause-from c s site at = inl at
 
 pub returns-clause-from : goal.returns-clause-from
 returns-clause-from c = on_ok_weaker c.add.result
