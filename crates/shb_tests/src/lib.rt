@@ -20,6 +20,8 @@ mod checkpoints;
 #[cfg(test)]
 mod clocks;
 #[cfg(test)]
+mod endless;
+#[cfg(test)]
 mod fixtures;
 #[cfg(test)]
 mod lines;

@@ -4,7 +4,8 @@ ghost use Rattle.std.specs.Prelude.{◌≡◌, ◌<◌};
 ghost use Rattle.shb_lines.specs.text.Limits.{AreStandard};
 
 use crate::asserting::{has_length, holds, same, same_bytes, same_in_row};
-use shb_io::{Endless, Source, Text};
+use crate::endless::Endless;
+use shb_io::Text;
 use shb_lines::Fault::{
     LineTooLong, MissingField, TextTooLong, TooManyEvents, TooManyThreads, UnknownOperation,
 };
@@ -187,11 +188,11 @@ fn events_and_names(rt: HostRuntime) -> Result<(), Fail> {
 #[test]
 fn sources_without_end(rt: HostRuntime) -> Result<(), Fail> {
     for (byte, line) in [(b'a', 1), (b'\n', 1001)] {
-        let mut source = Endless::new(byte);
+        let mut source = Endless { byte, given: 0 };
         let found = parse(&rt, rt.alloc(), &mut source, &limits_of(THOUSAND_BYTES))?;
         let stop = found.stop.map(|stop| (stop.line, stop.fault));
         same(&rt, &stop, &Some((line, TextTooLong)), "the stop");
-        same(&rt, &source.given(), &1001, "bytes given");
+        same(&rt, &source.given, &1001, "bytes given");
     }
     Ok(())
 }
