@@ -1,27 +1,20 @@
 //! Which events conflict: accesses of one variable by different threads, at least one a write.
 ghost use Rattle.std.specs.Prelude.{◌≡◌, ◌<◌, ◌↔◌, IsTrue, length};
 ghost use Rattle.shb_lines.specs.events.Race.{Conflict};
-ghost use Rattle.shb_lines.specs.events.Tests.{is_conflict_of, same_variable};
+ghost use Rattle.shb_lines.specs.events.Tests.{is_conflict_of};
 
 use crate::event::Op;
 use crate::stored::Events;
 use crate::trace::Trace;
 
-/// Whether both are variables, and the same one.
-fn equal_variables(first: Option<u32>, second: Option<u32>) -> bool
-    ensures { result ≡ same_variable first second }
-{
-    match (first, second) {
-        (Some(x), Some(y)) => x == y,
-        _ => false,
-    }
-}
-
 /// Whether two operations access one variable, and at least one of them writes it.
 fn operations_conflict(first: Op, second: Op) -> bool
     ensures { result ≡ is_conflict_of first second }
 {
-    equal_variables(first.variable(), second.variable()) && (first.is_write() || second.is_write())
+    match (first.variable(), second.variable()) {
+        (Some(x), Some(y)) => x == y && (first.is_write() || second.is_write()),
+        _ => false,
+    }
 }
 
 /// Whether two events of a trace's events conflict, by their numbers from 0: they access one variable,
