@@ -4,6 +4,7 @@ ghost use Rattle.std.specs.Prelude.{None};
 use shb_io::{Failed, Source};
 
 /// A source of one byte without end, which never fails and doesn't tell its bytes.
+#[derive(Drop)]
 pub struct Endless {
     pub byte: u8,
     /// How many bytes it gave so far.
