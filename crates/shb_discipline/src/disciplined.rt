@@ -1,7 +1,8 @@
 //! A trace that is known to meet the discipline.
 ghost use Rattle.std.specs.Prelude.{◌≡◌, ◌≤◌, length};
-ghost use Rattle.shb_lines.specs.events.Discipline.{IsDisciplined, IsDisciplined-prop};
-ghost use Rattle.shb_lines.specs.events.Sizes.{IsNumberedByAccess, IsNumberedByAccess-prop, IsWithin, IsWithin-prop};
+ghost use Rattle.shb_lines.specs.events.Discipline.{IsDisciplined};
+ghost use Rattle.shb_lines.specs.events.Sizes.{IsNumberedByAccess, IsWithin};
+ghost use Rattle.shb_lines.proofs.events.Propositions.{IsDisciplined-prop, IsNumberedByAccess-prop, IsWithin-prop};
 ghost use Rattle.shb_lines.specs.text.Limits.{most_events};
 ghost use Rattle.shb_lines.specs.text.TraceData.{sizes_of};
 

@@ -10,6 +10,7 @@ pub mod Listed
 pub mod Locks
 pub mod Indices
 pub mod Prefix
+pub mod Propositions
 pub mod RaceLists
 pub mod Reach
 pub mod Reordered

@@ -1,7 +1,5 @@
 -- The discipline of locks, forks and joins, by counts over the events before each event.
 use Rattle.std.specs.Prelude.{not, ◌≡◌, ◌≢◌, ◌==◌, ℕ, ◌+◌, ◌<◌, Bool, true, false, ◌&&◌, List, Some, slice_get, count_by, take}
-use Rattle.std.specs.Coded.{le_prop}
-use Rattle.std.proofs.Math.Nat.{ℕ_set}
 use Rattle.shb_lines.specs.declared.event.Event.{Event}
 use Rattle.shb_lines.specs.declared.event.Op.{Op}
 use Rattle.shb_lines.specs.declared.event.Op.TheVariants.{Acquire, Release, Fork, Join}
@@ -83,17 +81,3 @@ pub record MayCome (past : List Event) (e : Event) : Type 0 where
 -- each event may come after those before it
 abbrev pub IsDisciplined : List Event → Type 0
 IsDisciplined trace = (k : ℕ) (e : Event) → slice_get trace k ≡ Some e → MayCome (take k trace) e
-
--- there is at most one proof of it, so a struct can keep it as a ghost field
-MayDo-prop : (past : List Event) (t : ℕ) (op : Op) → IsProp (MayDo past t op)
-MayDo-prop past t (Acquire l) = hlevel ℕ_set
-MayDo-prop past t (Release l) = hlevel le_prop
-MayDo-prop past t (Fork u) = hlevel ℕ_set
-MayDo-prop past t (Join u) = hlevel ℕ_set
-MayDo-prop past t _ = hlevel ℕ_set
-
-MayCome-prop : (past : List Event) (e : Event) → IsProp (MayCome past e)
-MayCome-prop past e = hlevel (ℕ_set, MayDo-prop)
-
-pub IsDisciplined-prop : (trace : List Event) → IsProp (IsDisciplined trace)
-IsDisciplined-prop trace = hlevel (MayCome-prop)

@@ -1,6 +1,5 @@
 -- The numbers that name threads, locks and variables are below the counts of names.
 use Rattle.std.specs.Prelude.{◌≡◌, ◌≢◌, ℕ, ◌<◌, List, Some, slice_get}
-use Rattle.std.specs.Coded.{le_prop}
 use Rattle.shb_lines.specs.declared.event.Event.{Event}
 use Rattle.shb_lines.specs.declared.event.Op.{Op}
 use Rattle.shb_lines.specs.declared.event.Op.TheVariants.{Read, Write, Acquire, Release, Fork, Join}
@@ -27,22 +26,3 @@ IsWithin trace sizes = (k : ℕ) (e : Event) → slice_get trace k ≡ Some e �
 -- before an access of a variable, each variable with a lower number was accessed
 abbrev pub IsNumberedByAccess : List Event → Type 0
 IsNumberedByAccess trace = (k x y : ℕ) → variable_at trace k ≡ Some x → y < x → ¬ ((j : ℕ) → j < k → variable_at trace j ≢ Some y)
-
--- there is at most one proof of each, so a struct can keep it as a ghost field
-IsOpWithin-prop : (sizes : Sizes) (op : Op) → IsProp (IsOpWithin sizes op)
-IsOpWithin-prop sizes (Read x) = hlevel le_prop
-IsOpWithin-prop sizes (Write x) = hlevel le_prop
-IsOpWithin-prop sizes (Acquire l) = hlevel le_prop
-IsOpWithin-prop sizes (Release l) = hlevel le_prop
-IsOpWithin-prop sizes (Fork t) = hlevel le_prop
-IsOpWithin-prop sizes (Join t) = hlevel le_prop
-IsOpWithin-prop sizes _ = hlevel le_prop
-
-IsEventWithin-prop : (sizes : Sizes) (e : Event) → IsProp (IsEventWithin sizes e)
-IsEventWithin-prop sizes e = hlevel (le_prop, IsOpWithin-prop)
-
-pub IsWithin-prop : (trace : List Event) (sizes : Sizes) → IsProp (IsWithin trace sizes)
-IsWithin-prop trace sizes = hlevel (IsEventWithin-prop)
-
-pub IsNumberedByAccess-prop : (trace : List Event) → IsProp (IsNumberedByAccess trace)
-IsNumberedByAccess-prop trace = hlevel (le_prop)
