@@ -9,7 +9,7 @@ use Rattle.atomic_table.specs.Table.{State, Me, Act, step, keeps, stepped, carri
 use Rattle.shb_fan.specs.declared.ticket_table.Plan.{Plan}
 use Rattle.shb_fan.specs.declared.ticket_table.PassView.{PassView}
 use Rattle.shb_fan.specs.Numbers.{once_below, total, times}
-use Rattle.shb_fan.specs.Drawing.{Sound, Holds, KeepsDrawing, gained, used_up, drew, drew_this, saw, looked, stopped, left_over, one_part, joined, spent_pass_view}
+use Rattle.shb_fan.specs.Drawing.{Sound, Holds, KeepsDrawing, gained, used_up, drew, drew_this, saw, left_over, one_part, joined, spent_pass_view}
 use Rattle.atomic_table.proofs.Lists.{set_again, set_else, exchanged}
 use Rattle.shb_fan.proofs.Counts.{total-set, total-snoc, total-at, total-le, sound-set, sound-snoc, times-append, times-snoc, once_below-more, once_below-min, all-below}
 
@@ -145,7 +145,7 @@ module _ (plan : Plan) where
   seen_before : (t z : ℕ) (views : List PassView) → Holds plan t z views → (id : ℕ) (v : PassView) → get_elem? views id ≡ some v → z ≡ 0 → v.seen ≡ 0
   seen_before t z views r id v at unset = let least = total-at (λ (u : PassView). u.seen) views id v at in let h = r.seen unset in omega arith
 
-  pub sees : (slots id : ℕ) (me : M) → 0 < me.0.parts → me.0.spent ≡ 0 → Allows (KeepsDrawing plan) slots id me 1 (λ n. n) (saw (step slots 1 0 0 none) me)
+  pub sees : (slots id : ℕ) (me : M) → 0 < me.0.parts → me.0.spent ≡ 0 → Allows (KeepsDrawing plan) slots id me 1 (λ n. n) (saw used_up (step slots 1 0 0 none) me)
   sees slots id me one unspent s r _ at _ = let v : PassView = me.0 in let t : ℕ = get_or s.words 0 0 in let z : ℕ = get_or s.words 1 0 in let h = r.1 in dite (ℕ_discrete z 0)
       (λ unset. (v, keeps, tt, on_stop s r.0 z id me v (stays t z s.views h id v at), ((λ _. (seen_halted t z s.views h id v at unset, seen_before t z s.views h id v at unset, refl)), λ more. absurd (omega arith))))
       (λ more. (
@@ -156,12 +156,12 @@ module _ (plan : Plan) where
         ((λ e. absurd (more e)), λ _. refl),
       ))
 
-  pub looks : (slots id : ℕ) (me : M) → 0 < me.0.parts → Allows (KeepsDrawing plan) slots id me 1 (λ n. n) (looked (step slots 1 0 0 none) me)
+  pub looks : (slots id : ℕ) (me : M) → 0 < me.0.parts → Allows (KeepsDrawing plan) slots id me 1 (λ n. n) (saw (λ v. record v { seen = 1 }) (step slots 1 0 0 none) me)
   looks slots id me one s r _ at _ = let v : PassView = me.0 in let t : ℕ = get_or s.words 0 0 in let z : ℕ = get_or s.words 1 0 in let h = r.1 in dite (ℕ_discrete z 0)
       (λ unset. (v, keeps, tt, on_stop s r.0 z id me v (stays t z s.views h id v at), ((λ _. (seen_halted t z s.views h id v at unset, seen_before t z s.views h id v at unset, refl)), λ more. absurd (omega arith))))
       (λ more. (record v { seen = 1 }, keeps, tt, on_stop s r.0 z id me (record v { seen = 1 }) (warns t z s.views h id v at one more), ((λ e. absurd (more e)), λ _. refl)))
 
-  pub stops : (slots id : ℕ) (me : M) → 0 < me.0.parts → Allows (KeepsDrawing plan) slots id me 1 (λ _. 1) (λ _. stopped (step slots 1 1 0 none) me 1)
+  pub stops : (slots id : ℕ) (me : M) → 0 < me.0.parts → Allows (KeepsDrawing plan) slots id me 1 (λ _. 1) (λ _ left. left ≡ (record me.0 { halted = 1 }, me.1))
   stops slots id me one s r _ at _ = let v : PassView = me.0 in let t : ℕ = get_or s.words 0 0 in let z : ℕ = get_or s.words 1 0 in
       (record v { halted = 1 }, keeps, tt, on_stop s r.0 1 id me (record v { halted = 1 }) (halts t z s.views r.1 id v at one), refl)
 

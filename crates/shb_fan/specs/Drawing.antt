@@ -51,16 +51,9 @@ drew st m r m' = (r < m.0.plan.limit → All (λ x. x < r) m.0.drawn × (m' ≡ 
 abbrev pub drew_this : Step (Unit {0}) → M → ℕ → M → Type 0
 drew_this st m r m' = (r ≡ st.first → All (λ x. x < st.first) m.0.drawn × (m' ≡ (gained m.0 st.first, m.1))) × (r ≢ st.first → m' ≡ m)
 
--- where the word isn't 0 the pass is spent, and it isn't 0 where the pass is halted or has seen a stop before
-abbrev pub saw : Step (Unit {0}) → M → ℕ → M → Type 0
-saw st m r m' = (r ≡ 0 → (m.0.halted ≡ 0) × (m.0.seen ≡ 0) × (m' ≡ m)) × (0 < r → m' ≡ (used_up m.0, m.1))
-
--- where the word isn't 0 the pass has seen a stop, and it isn't 0 where the pass is halted or has seen one before
-abbrev pub looked : Step (Unit {0}) → M → ℕ → M → Type 0
-looked st m r m' = (r ≡ 0 → (m.0.halted ≡ 0) × (m.0.seen ≡ 0) × (m' ≡ m)) × (0 < r → m' ≡ (record m.0 { seen = 1 }, m.1))
-
-abbrev pub stopped : Step (Unit {0}) → M → ℕ → M → Type 0
-stopped st m r m' = m' ≡ (record m.0 { halted = 1 }, m.1)
+-- where the word isn't 0 the pass is left so, and it isn't 0 where the pass is halted or has seen a stop before
+abbrev pub saw : (PassView → PassView) → Step (Unit {0}) → M → ℕ → M → Type 0
+saw left st m r m' = (r ≡ 0 → (m.0.halted ≡ 0) × (m.0.seen ≡ 0) × (m' ≡ m)) × (0 < r → m' ≡ (left m.0, m.1))
 
 abbrev pub left_over : PassView → PassView
 left_over v = record v { parts = v.parts - 1 }

@@ -81,13 +81,9 @@ module _ {T M J G : Type 0} (value : J → ℕ → M) (count : J → ℕ) where
     pub tickets : shared.desk.now.tickets.limit ≡ count shared.gated.job.now
     pub pieces : shared.pieces ≡ count shared.gated.job.now
 
-  -- the worker is one of these, and has claimed nothing
-  abbrev pub IsReady : Shared T M J G → Worker T M → Type 0
-  IsReady shared worker = IsShared shared × IsIdle value count shared.desk.now.tickets shared.desk.now.ring worker
-
-  -- and its accounts are in order
+  -- the worker is one of these, has claimed nothing, and its accounts are in order
   abbrev pub CanWork : Shared T M J G → Worker T M → Type 0
-  CanWork shared worker = IsReady shared worker × HasAccounts worker
+  CanWork shared worker = IsShared shared × HasWorked value count shared.desk.now.tickets shared.desk.now.ring worker
 
   -- the worker may draw, since it has placed all that it drew
   abbrev pub CanDraw : Shared T M J G → Worker T M → Type 0
@@ -99,7 +95,7 @@ module _ {T M J G : Type 0} (value : J → ℕ → M) (count : J → ℕ) where
 
   -- the worker may lift, and draw and make what nobody has drawn
   abbrev pub CanTake : Shared T M J G → Worker T M → Type 0
-  CanTake shared worker = CanDraw shared worker × IsRunning worker
+  CanTake shared worker = IsShared shared × CanBegin value count shared.desk.now.tickets shared.desk.now.ring worker
 
 module _ {T M : Type 0} (meaning : T → M) (value : ℕ → M) where
   -- the results of the pieces below k, in order
@@ -114,11 +110,9 @@ module _ {T M : Type 0} (meaning : T → M) (value : ℕ → M) where
   abbrev pub HasTaken : {K : Type 0} → (K → List T → K → Type 0) → K → ℕ → K → Type 0
   HasTaken takes start k end = (given : List T) × AreFirst k given × takes start given end
 
-  -- and then refused that of piece k with the answer e
-  abbrev pub HasRefused : {K E : Type 0} → (K → List T → T → E → K → Type 0) → K → ℕ → E → K → Type 0
-  HasRefused refuses start k e end = (given : List T) × (out : T) × AreFirst k given × (meaning out ≡ value k) × refuses start given out e end
-
+  -- it was given all of them; or the first ones, where memory was refused; or the first ones, and then refused that of piece k with the answer e
   abbrev pub Ended : {K E A : Type 0} → (K → List T → K → Type 0) → (K → List T → T → E → K → Type 0) → ℕ → K → Result A (StreamError E) → K → Type 0
   Ended takes refuses count start (Ok _) end = HasTaken takes start count end
   Ended takes refuses count start (Err (Memory _)) end = (k : ℕ) × (k ≤ count) × HasTaken takes start k end
-  Ended takes refuses count start (Err (Taker e)) end = (k : ℕ) × (k < count) × HasRefused refuses start k e end
+  Ended takes refuses count start (Err (Taker e)) end =
+      (k : ℕ) × (k < count) × (given : List T) × (out : T) × AreFirst k given × (meaning out ≡ value k) × refuses start given out e end
