@@ -23,8 +23,7 @@ pub record Holds (plan : Plan) (ticket stop : ℕ) (views : List PassView) : Typ
   pub each : (x : ℕ) → total (λ v. times x v.drawn) views ≡ once_below x (min plan.limit ticket)
   pub low : ticket ≤ plan.limit + total (λ v. v.spent) views
   -- the stop word is 1 where some view is halted, else 0
-  pub running : total (λ v. v.halted) views ≡ 0 → stop ≡ 0
-  pub halted : 0 < total (λ v. v.halted) views → stop ≡ 1
+  pub halted : stop ≡ min 1 (total (λ v. v.halted) views)
   -- and where some view has seen a stop it isn't 0
   pub seen : stop ≡ 0 → total (λ v. v.seen) views ≡ 0
   -- where a view is spent, the stop word isn't 0 or the ticket is at the limit or above

@@ -45,7 +45,6 @@ module _ {T M : Type 0} where
   abbrev pub HasLifted : Worker T M → ℕ → Type 0
   HasLifted worker count = (k : ℕ) → k < count → 0 < times k (lifted_of worker.seat)
 
-module _ {T M : Type 0} where
   -- no piece was placed more often than it was drawn, and where a pass stopped the draw some piece was placed less often
   pub record Balanced (passes : List PassState) (seats : List (RingSeat T M)) : Type 0 where
     pub within : (k : ℕ) → sum_by (λ s. times k (placed_of s)) seats ≤ sum_by (λ p. times k p.drawn) passes
