@@ -109,9 +109,11 @@ module _ {T M : Type 0} (meaning : T → M) (value : ℕ → M) where
   abbrev pub HasTaken : {K : Type 0} → (K → List T → K → Type 0) → K → ℕ → K → Type 0
   HasTaken takes start k end = (given : List T) × AreFirst k given × takes start given end
 
-  -- it was given all of them; or the first ones, where memory was refused; or the first ones, and then refused that of piece k with the answer e
+  -- and then refused that of piece k with the answer e
+  abbrev pub HasRefused : {K E : Type 0} → (K → List T → T → E → K → Type 0) → K → ℕ → E → K → Type 0
+  HasRefused refuses start k e end = (given : List T) × (out : T) × AreFirst k given × (meaning out ≡ value k) × refuses start given out e end
+
   abbrev pub Ended : {K E A : Type 0} → (K → List T → K → Type 0) → (K → List T → T → E → K → Type 0) → ℕ → K → Result A (StreamError E) → K → Type 0
   Ended takes refuses count start (Ok _) end = HasTaken takes start count end
   Ended takes refuses count start (Err (Memory _)) end = (k : ℕ) × (k ≤ count) × HasTaken takes start k end
-  Ended takes refuses count start (Err (Taker e)) end =
-      (k : ℕ) × (k < count) × (given : List T) × (out : T) × AreFirst k given × (meaning out ≡ value k) × refuses start given out e end
+  Ended takes refuses count start (Err (Taker e)) end = (k : ℕ) × (k < count) × HasRefused refuses start k e end

@@ -27,4 +27,4 @@ returns-in-Err-clause-ended g c =
     let got = c.in-Some.ensures.value in
     let inside : c.loop-k.k < g.J.Job.count c.args.shared.now.gated.job.now = omega (arith, c.loop-k-test.true, c.requires.ready.0.pieces) in
     let may = c.requires.may_take _ t.0 c.in-Some.out inside t.1 got.0 in
-    (c.loop-k.k, inside, t.0, c.in-Some.out, t.1, got.0, c.in-Err.ensures.refused _ t.0 (first-long _ _ _ _ t.1) t.2 may)
+    (c.loop-k.k, inside, (t.0, c.in-Some.out, t.1, got.0, c.in-Err.ensures.refused _ t.0 (first-long _ _ _ _ t.1) t.2 may))
