@@ -23,11 +23,11 @@ use Rattle.shb_lines.specs.declared.read.ReadError.{ReadError}
 use Rattle.shb_lines.specs.declared.read.ReadError.TheVariants as reading
 use Rattle.shb_lines.specs.text.Limits.{most_read, standard_limits}
 use Rattle.shb_judging.specs.declared.verdict.Verdict.{Verdict}
-use Rattle.shb_judging.specs.Checks.{IsVerdictFor}
+use Rattle.shb_judging.specs.Verdicts.{IsVerdictFor}
 use Rattle.shb_judging.specs.Verdicts.{verdict_bytes}
-use Rattle.shb_check.specs.Checks.{HasChecked, IsChecked, IsLineCutShort}
+use Rattle.shb_check.specs.Checks.{HasChecked, IsChecked}
 use Rattle.shb_check.specs.Errors.{error_of_checking, error_of_reading}
-use Rattle.shb_check.specs.Judged.{IsAccepted, IsRefusalOf}
+use Rattle.shb_check.specs.Errors.{IsAccepted, IsRefusalOf}
 use Rattle.shb_check.specs.Outcomes.{Grows, OnJudged, OnMemory, OnNoTrace, OnSink, OnTrace, OnWriting, sink_failed, source_failed}
 
 -- a text with no fault has no first one
@@ -230,7 +230,7 @@ module _ {A B C : Type 0} (remaining : A → Option (List ℕ)) (given failures 
           unwritten = tt;
           memory = tt;
           silent = faultless _;
-          cut = both (λ text report. IsLineCutShort text report (taken sink) (taken written)) (λ text report checked. record { verdict = verdict; checked = checked; written = front });
+          cut = both (λ text report. (v : Verdict) × IsChecked text report v × AppendsPrefix (taken sink) (taken written) (verdict_bytes v)) (λ text report checked. (verdict, checked, front));
           grown = (_, front.2);
           unread = faultless _;
           unread_after = tt;

@@ -12,7 +12,7 @@ use Rattle.shb_judging.specs.Verdicts.{IsVerdict}
 use Rattle.shb_reading.proofs.Bad.{bad_line_unique}
 use Rattle.shb_reading.proofs.Injective.{report_same}
 use Rattle.shb_judging.proofs.VerdictLaws.{one_verdict}
-use Rattle.shb_judging.specs.Checks.{IsJudged, IsVerdictFor}
+use Rattle.shb_judging.specs.Verdicts.{IsJudged, IsVerdictFor}
 use Rattle.shb_check.specs.Checks.{IsGoodFor, IsVerdictOf}
 use Rattle.shb_check.proofs.OneTrace.{one_whole_trace}
 

@@ -10,7 +10,7 @@ use Rattle.shb_lines.specs.text.Text.{lines_of}
 use Rattle.shb_lines.specs.text.TraceData.{IsTraceOf, TraceData}
 use Rattle.shb_discipline.specs.FirstFault.{HasNoFault, IsFirstFault}
 use Rattle.shb_judging.specs.declared.verdict.Verdict.{Verdict}
-use Rattle.shb_judging.specs.Checks.{IsVerdictFor}
+use Rattle.shb_judging.specs.Verdicts.{IsVerdictFor}
 use Rattle.shb_reading.specs.Reading.{IsReportText}
 use Rattle.shb_report.specs.Value.{ReportValue}
 use Rattle.shb_judging.specs.Verdicts.{IsGoodReport, verdict_bytes}
@@ -38,12 +38,6 @@ pub record IsChecked (text report : List ℕ) (verdict : Verdict) : Type 0 where
   pub faultless : HasNoFault standard_limits text
   pub verdict_is : IsVerdictOf text report verdict
 
--- of the verdict's line the first bytes were written, not all of them
-pub record IsLineCutShort (text report : List ℕ) (old new : Option (List ℕ)) : Type 0 where
-  pub verdict : Verdict
-  pub checked : IsChecked text report verdict
-  pub written : AppendsPrefix old new (verdict_bytes verdict)
-
 -- of the source of the trace, and of that of the report: the bytes still to come, how many bytes it has given, and how many reads have failed, at the start and at the end; of the sink: the bytes that it took, and how many writes have failed
 module _ {A B C : Type 0} (remaining : A → Option (List ℕ)) (given failures : A → ℕ) (source left : A) (remaining_there : B → Option (List ℕ)) (given_there failures_there : B → ℕ) (reports reports_left : B)
     (taken : C → Option (List ℕ)) (failed_writes : C → ℕ) (sink written : C) where
@@ -70,7 +64,7 @@ module _ {A B C : Type 0} (remaining : A → Option (List ℕ)) (given failures 
     pub memory : OnMemory answer (written ≡ sink)
     pub silent : IfFaulty (written ≡ sink)
     -- where the sink failed the trace has no fault, and less than the line of the verdict was written, the front of it
-    pub cut : OnSink answer (OfBoth (λ text report. IsLineCutShort text report (taken sink) (taken written)))
+    pub cut : OnSink answer (OfBoth (λ text report. (verdict : Verdict) × IsChecked text report verdict × AppendsPrefix (taken sink) (taken written) (verdict_bytes verdict)))
     -- what the sink took before stays as it was
     pub grown : Grows (taken sink) (taken written)
     -- the report isn't read where the trace has a fault, whatever is answered, nor where the source of the trace failed

@@ -4,7 +4,7 @@ ghost use Rattle.shb_io.specs.Devices.{CountsFailure};
 ghost use Rattle.shb_lines.specs.text.Limits.{most_read, standard_limits};
 ghost use Rattle.shb_lines.specs.text.Taking.{ReadsText, TakesAtMost, read_failed};
 ghost use Rattle.shb_lines.specs.text.TraceData.{IsReadingOf};
-ghost use Rattle.shb_check.specs.Judged.{IsAccepted, IsRefusalOf};
+ghost use Rattle.shb_check.specs.Errors.{IsAccepted, IsRefusalOf};
 
 use crate::errors::RunError;
 use shb_discipline::{Disciplined, check};

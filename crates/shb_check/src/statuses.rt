@@ -1,6 +1,6 @@
 //! What a program says of an error, and the status that it ends with.
 ghost use Rattle.std.specs.Prelude.{◌≡◌, IfOk, string_bytes};
-ghost use Rattle.shb_check.specs.Statuses.{check_status_of, exit_status_of, fault_line_of};
+ghost use Rattle.shb_check.specs.Errors.{check_status_of, exit_status_of, fault_line_of};
 
 use crate::errors::RunError;
 use shb_io::NoMemory;

@@ -1,8 +1,9 @@
 -- Sums over the views, and how often a number stands in a list.
-use Rattle.std.proofs.Common.{◌≡◌, ◌≢◌, ℕ, zero, suc, ◌+◌, ◌<◌, ◌≤◌, Bool, true, false, ltb, eqb, List, [], ◌∷◌, ◌++◌, length, get_or, set, sym, refl, ap, subst, ⊎_elim, arith, min, All}
+use Rattle.std.proofs.Common.{◌≡◌, ◌≢◌, ℕ, zero, suc, ◌+◌, ◌<◌, ◌≤◌, Bool, true, false, ltb, eqb, List, [], ◌∷◌, ◌++◌, length, get_or, set, sym, refl, ap, subst, ⊎_elim, arith, min, All, sum_by, ◌∙◌}
 use Rattle.std.specs.List.Sorted.{IsStrictlyIncreasing}
 use Rattle.std.proofs.lemmas.Bool.{le-ltb}
 use Rattle.std.proofs.lemmas.Bool.Decides.{nat_tests}
+use Rattle.std.proofs.lemmas.List.Sums.{sum_by_push}
 use mathlib.Core.Logic.{dite}
 use mathlib.Core.Option.{some, some-injective, some-ne-none}
 use native.Mathlib.Decide.{ℕ_discrete, dec_lt}
@@ -11,6 +12,18 @@ use Rattle.atomic_table.proofs.Lists.{at_set, at_snoc}
 use Rattle.shb_fan.specs.declared.ticket_table.PassView.{PassView}
 use Rattle.shb_fan.specs.Numbers.{weight, times, once_below, total}
 use Rattle.shb_fan.specs.Drawing.{Sound}
+
+-- a sum over a list with one element more, in two parts, and over no elements
+module _ {A : Type 0} (f : A → ℕ) where
+  pub counted : (all rest : List A) (last : A) (n m k : ℕ) → all ≡ rest ++ last ∷ [] → n + sum_by f all ≡ m → f last ≡ k → (n + k) + sum_by f rest ≡ m
+  counted all rest last n m k longer was is = let a : sum_by f all ≡ sum_by f rest + f last = ap (sum_by f) longer ∙ sum_by_push f rest last in omega arith
+
+  pub first_counted : (all rest : List A) (last : A) (k : ℕ) → all ≡ rest ++ last ∷ [] → f last ≡ k → k + sum_by f rest ≡ sum_by f all
+  first_counted all rest last k longer is = let a : sum_by f all ≡ sum_by f rest + f last = ap (sum_by f) longer ∙ sum_by_push f rest last in omega arith
+
+  pub sum_nothing : (xs : List A) → length xs ≡ 0 → sum_by f xs ≡ 0
+  sum_nothing [] e = refl
+  sum_nothing (x ∷ xs) e = absurd (omega arith)
 
 module _ {V : Type 0} where
   pub total-set : (f : V → ℕ) (views : List V) (id : ℕ) (v w : V) → get_elem? views id ≡ some v → total f (set views id w) + f v ≡ total f views + f w

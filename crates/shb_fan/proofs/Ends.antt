@@ -5,7 +5,7 @@ use Rattle.std.proofs.lemmas.Bool.Decides.{nat_tests}
 use Rattle.std.proofs.lemmas.List.Elements.{All-pop, All-push, All-same}
 use mathlib.Core.Logic.{dite}
 use native.Mathlib.Decide.{ℕ_discrete}
-use Rattle.std.proofs.lemmas.List.Sums.{sum_by_push, sum_by-cons, get_or-le-sum_by}
+use Rattle.std.proofs.lemmas.List.Sums.{sum_by-cons, get_or-le-sum_by}
 use mathlib.Core.Option.{some, some-injective, some-ne-none}
 use lib.ListN.{get_elem?}
 use Rattle.atomic_table.specs.Table.{Final, Seen}
@@ -16,12 +16,6 @@ use Rattle.shb_fan.specs.Numbers.{weight, times, once_below, total}
 use Rattle.shb_fan.specs.Drawing.{Holds, KeepsDrawing}
 use Rattle.shb_fan.specs.Passes.{TicketSource, PassState, state_of, IsPass}
 use Rattle.shb_fan.proofs.Counts.{total-whole}
-
-pub counted : (f : PassState → ℕ) (rest ys : List PassState) (p : PassState) (n m k : ℕ) → rest ≡ ys ++ p ∷ [] → n + sum_by f rest ≡ m → f p ≡ k → (n + k) + sum_by f ys ≡ m
-counted f rest ys p n m k longer was is = let a : sum_by f rest ≡ sum_by f ys + f p = ap (sum_by f) longer ∙ sum_by_push f ys p in omega arith
-
-pub first_counted : (f : PassState → ℕ) (all ys : List PassState) (p : PassState) (k : ℕ) → all ≡ ys ++ p ∷ [] → f p ≡ k → k + sum_by f ys ≡ sum_by f all
-first_counted f all ys p k longer is = let a : sum_by f all ≡ sum_by f ys + f p = ap (sum_by f) longer ∙ sum_by_push f ys p in omega arith
 
 weight-positive : (n : ℕ) → n ≤ 1 → weight (ltb 0 n) ≡ n
 weight-positive zero h = refl
@@ -60,8 +54,7 @@ index-at (x ∷ xs) (suc i) a e = index-at xs i a e
 -- what the words tell a view with every part
 pub record Told (plan : Plan) (v : PassView) (ticket stop : ℕ) : Type 0 where
   pub each : (x : ℕ) → times x v.drawn ≡ once_below x (min plan.limit ticket)
-  pub running : v.halted ≡ 0 → stop ≡ 0
-  pub halted : 0 < v.halted → stop ≡ 1
+  pub halted : stop ≡ min 1 v.halted
   pub seen : stop ≡ 0 → v.seen ≡ 0
   pub ended : 0 < v.spent → stop ≡ 0 → plan.limit ≤ ticket
 
@@ -72,7 +65,6 @@ told plan t z views r id v at whole =
     let n = total-whole (λ (u : PassView). u.parts) (λ (u : PassView). u.seen) views id v at all (λ i w e empty. ((r.sound i w e).nothing empty).2) in
     let s = total-whole (λ (u : PassView). u.parts) (λ (u : PassView). u.spent) views id v at all (λ i w e empty. let o = (r.sound i w e).once in omega arith) in record {
       each = λ x. sym (total-whole (λ (u : PassView). u.parts) (λ (u : PassView). times x u.drawn) views id v at all (λ i w e empty. ap (times x) ((r.sound i w e).nothing empty).0)) ∙ r.each x;
-      running = (let f = r.running in omega arith);
       halted = (let f = r.halted in omega arith);
       seen = (let f = r.seen in omega arith);
       ended = (let f = r.ended in omega arith);
@@ -100,10 +92,6 @@ any_to f xs a = let le = get_or-le-sum_by (λ (p : PassState). weight (f p)) xs 
 pub ours_before : (z : TicketSource) (xs ys : List PassState) (p : PassState) → xs ≡ ys ++ p ∷ [] → All (λ q. q.source ≡ z) xs → All (λ q. q.source ≡ z) ys × (p.source ≡ z)
 ours_before z xs ys p longer all = All-pop (λ (q : PassState). q.source ≡ z) xs ys (Some p) longer all
 
-pub sum_nothing : (f : PassState → ℕ) (xs : List PassState) → length xs ≡ 0 → sum_by f xs ≡ 0
-sum_nothing f [] e = refl
-sum_nothing f (x ∷ xs) e = absurd (omega arith)
-
 unset_set : (z : ℕ) → z ≡ 0 → not (eqb z 0) ≡ true → ⊥
 unset_set z e set = grind (arith, nat_tests)
 
@@ -120,11 +108,11 @@ module _ (plan : Plan) (v : PassView) (t z : ℕ) (passes : List PassState) (r :
 
   pub stop_seen : v.halted ≡ sum_by (λ (q : PassState). weight q.halted) passes → not (eqb z 0) ≡ true → Any (λ p. IsTrue p.halted) passes
   stop_seen e set = dite (ℕ_discrete v.halted 0)
-      (λ h. let a : z ≡ 0 = r.running h in absurd (unset_set z a set))
+      (λ h. let is = r.halted in let a : z ≡ 0 = omega (arith, is, h) in absurd (unset_set z a set))
       (λ h. any_from (λ (p : PassState). p.halted) passes (omega arith))
 
   pub stop_set : v.halted ≡ sum_by (λ (q : PassState). weight q.halted) passes → Any (λ p. IsTrue p.halted) passes → not (eqb z 0) ≡ true
-  stop_set e a = let more = any_to (λ (p : PassState). p.halted) passes a in let one = r.halted (omega arith) in ap (λ (n : ℕ). not (eqb n 0)) one
+  stop_set e a = let more = any_to (λ (p : PassState). p.halted) passes a in let is = r.halted in let one : z ≡ 1 = omega (arith, e, more, is) in ap (λ (n : ℕ). not (eqb n 0)) one
 
   pub seen_set : v.seen ≡ sum_by (λ (q : PassState). weight q.seen) passes → Any (λ p. IsTrue p.seen) passes → not (eqb z 0) ≡ true
   seen_set e a = let more = any_to (λ (p : PassState). p.seen) passes a in is_set z (λ unset. let none_seen = r.seen unset in omega arith)

@@ -9,7 +9,7 @@ use Rattle.atomic_table.specs.Table.{State, Me, Act, step, keeps, stepped, carri
 use Rattle.shb_fan.specs.declared.ticket_table.Plan.{Plan}
 use Rattle.shb_fan.specs.declared.ticket_table.PassView.{PassView}
 use Rattle.shb_fan.specs.Numbers.{once_below, total, times}
-use Rattle.shb_fan.specs.Drawing.{Sound, Holds, KeepsDrawing, gained, used_up, drew, drew_this, saw, looked, stopped, left_over, one_part, joined, spent_pass_view}
+use Rattle.shb_fan.specs.Drawing.{Sound, Holds, KeepsDrawing, gained, used_up, drew, drew_this, saw, left_over, one_part, joined, spent_pass_view}
 use Rattle.atomic_table.proofs.Lists.{set_again, set_else, exchanged}
 use Rattle.shb_fan.proofs.Counts.{total-set, total-snoc, total-at, total-le, sound-set, sound-snoc, times-append, times-snoc, once_below-more, once_below-min, all-below}
 
@@ -50,7 +50,6 @@ module _ (plan : Plan) where
           let was : min plan.limit t ≡ t = omega arith in let now : min plan.limit (t + 1) ≡ t + 1 = omega arith in
           let e' = rw was at e in subst (λ (k : ℕ). total (λ (u : PassView). times x u.drawn) (set views id w) ≡ once_below x k) (sym now) (omega arith);
       low = (let s = total-set (λ (u : PassView). u.spent) views id v w at in let l = r.low in omega arith);
-      running = (let s = total-set (λ (u : PassView). u.halted) views id v w at in let h = r.running in omega arith);
       halted = (let s = total-set (λ (u : PassView). u.halted) views id v w at in let h = r.halted in omega arith);
       seen = (let s = total-set (λ (u : PassView). u.seen) views id v w at in let h = r.seen in omega arith);
       ended = (let s = total-set (λ (u : PassView). u.spent) views id v w at in let h = r.ended in omega arith);
@@ -64,7 +63,6 @@ module _ (plan : Plan) where
       parts = (let s = total-set (λ (u : PassView). u.parts) views id v w at in let p = r.parts in omega arith);
       each = λ x. let s = total-set (λ (u : PassView). times x u.drawn) views id v w at in let e = r.each x in subst (λ (k : ℕ). total (λ (u : PassView). times x u.drawn) (set views id w) ≡ once_below x k) (sym same) (omega arith);
       low = (let s = total-set (λ (u : PassView). u.spent) views id v w at in let l = r.low in omega arith);
-      running = (let s = total-set (λ (u : PassView). u.halted) views id v w at in let h = r.running in omega arith);
       halted = (let s = total-set (λ (u : PassView). u.halted) views id v w at in let h = r.halted in omega arith);
       seen = (let s = total-set (λ (u : PassView). u.seen) views id v w at in let h = r.seen in omega arith);
       ended = λ _. over;
@@ -77,8 +75,7 @@ module _ (plan : Plan) where
       parts = (let s = total-set (λ (u : PassView). u.parts) views id v w at in let p = r.parts in omega arith);
       each = λ x. let s = total-set (λ (u : PassView). times x u.drawn) views id v w at in let e = r.each x in omega arith;
       low = (let s = total-set (λ (u : PassView). u.spent) views id v w at in let l = r.low in omega arith);
-      running = λ empty. let least = total-at (λ (u : PassView). u.halted) views id v at in absurd (omega arith);
-      halted = λ _. refl;
+      halted = (let least = total-at (λ (u : PassView). u.halted) views id v at in omega arith);
       seen = λ e. absurd (omega arith);
       ended = λ _ e. absurd (omega arith);
       sound = sound-set views id w (record { once = (r.sound id v at).once; nothing = λ empty. absurd (omega arith) }) r.sound;
@@ -90,7 +87,6 @@ module _ (plan : Plan) where
       parts = (let s = total-set (λ (u : PassView). u.parts) views id v w at in let p = r.parts in omega arith);
       each = λ x. let s = total-set (λ (u : PassView). times x u.drawn) views id v w at in let e = r.each x in omega arith;
       low = (let s = total-set (λ (u : PassView). u.spent) views id v w at in let l = r.low in omega arith);
-      running = (let s = total-set (λ (u : PassView). u.halted) views id v w at in let h = r.running in omega arith);
       halted = (let s = total-set (λ (u : PassView). u.halted) views id v w at in let h = r.halted in omega arith);
       seen = λ e. absurd (set_now e);
       ended = λ _ e. absurd (set_now e);
@@ -139,13 +135,13 @@ module _ (plan : Plan) where
 
   -- what a view that is halted knows of the stop word
   seen_halted : (t z : ℕ) (views : List PassView) → Holds plan t z views → (id : ℕ) (v : PassView) → get_elem? views id ≡ some v → z ≡ 0 → v.halted ≡ 0
-  seen_halted t z views r id v at unset = dite (ℕ_discrete v.halted 0) (λ e. e) (λ e. let least = total-at (λ (u : PassView). u.halted) views id v at in let h = r.halted (omega arith) in absurd (omega arith))
+  seen_halted t z views r id v at unset = dite (ℕ_discrete v.halted 0) (λ e. e) (λ e. let least = total-at (λ (u : PassView). u.halted) views id v at in let h = r.halted in absurd (omega arith))
 
   -- what a view that has seen a stop knows of the stop word
   seen_before : (t z : ℕ) (views : List PassView) → Holds plan t z views → (id : ℕ) (v : PassView) → get_elem? views id ≡ some v → z ≡ 0 → v.seen ≡ 0
   seen_before t z views r id v at unset = let least = total-at (λ (u : PassView). u.seen) views id v at in let h = r.seen unset in omega arith
 
-  pub sees : (slots id : ℕ) (me : M) → 0 < me.0.parts → me.0.spent ≡ 0 → Allows (KeepsDrawing plan) slots id me 1 (λ n. n) (saw (step slots 1 0 0 none) me)
+  pub sees : (slots id : ℕ) (me : M) → 0 < me.0.parts → me.0.spent ≡ 0 → Allows (KeepsDrawing plan) slots id me 1 (λ n. n) (saw used_up (step slots 1 0 0 none) me)
   sees slots id me one unspent s r _ at _ = let v : PassView = me.0 in let t : ℕ = get_or s.words 0 0 in let z : ℕ = get_or s.words 1 0 in let h = r.1 in dite (ℕ_discrete z 0)
       (λ unset. (v, keeps, tt, on_stop s r.0 z id me v (stays t z s.views h id v at), ((λ _. (seen_halted t z s.views h id v at unset, seen_before t z s.views h id v at unset, refl)), λ more. absurd (omega arith))))
       (λ more. (
@@ -156,12 +152,12 @@ module _ (plan : Plan) where
         ((λ e. absurd (more e)), λ _. refl),
       ))
 
-  pub looks : (slots id : ℕ) (me : M) → 0 < me.0.parts → Allows (KeepsDrawing plan) slots id me 1 (λ n. n) (looked (step slots 1 0 0 none) me)
+  pub looks : (slots id : ℕ) (me : M) → 0 < me.0.parts → Allows (KeepsDrawing plan) slots id me 1 (λ n. n) (saw (λ v. record v { seen = 1 }) (step slots 1 0 0 none) me)
   looks slots id me one s r _ at _ = let v : PassView = me.0 in let t : ℕ = get_or s.words 0 0 in let z : ℕ = get_or s.words 1 0 in let h = r.1 in dite (ℕ_discrete z 0)
       (λ unset. (v, keeps, tt, on_stop s r.0 z id me v (stays t z s.views h id v at), ((λ _. (seen_halted t z s.views h id v at unset, seen_before t z s.views h id v at unset, refl)), λ more. absurd (omega arith))))
       (λ more. (record v { seen = 1 }, keeps, tt, on_stop s r.0 z id me (record v { seen = 1 }) (warns t z s.views h id v at one more), ((λ e. absurd (more e)), λ _. refl)))
 
-  pub stops : (slots id : ℕ) (me : M) → 0 < me.0.parts → Allows (KeepsDrawing plan) slots id me 1 (λ _. 1) (λ _. stopped (step slots 1 1 0 none) me 1)
+  pub stops : (slots id : ℕ) (me : M) → 0 < me.0.parts → Allows (KeepsDrawing plan) slots id me 1 (λ _. 1) (λ _ left. left ≡ (record me.0 { halted = 1 }, me.1))
   stops slots id me one s r _ at _ = let v : PassView = me.0 in let t : ℕ = get_or s.words 0 0 in let z : ℕ = get_or s.words 1 0 in
       (record v { halted = 1 }, keeps, tt, on_stop s r.0 1 id me (record v { halted = 1 }) (halts t z s.views r.1 id v at one), refl)
 
@@ -172,7 +168,6 @@ module _ (plan : Plan) where
     parts = (let a = total-set (λ (u : PassView). u.parts) views id v w at in let b = total-snoc (λ (u : PassView). u.parts) cut u in let p = r.parts in omega arith);
     each = λ x. let a = total-set (λ (u : PassView). times x u.drawn) views id v w at in let b = total-snoc (λ (u : PassView). times x u.drawn) cut u in let e = r.each x in omega arith;
     low = (let a = total-set (λ (u : PassView). u.spent) views id v w at in let b = total-snoc (λ (u : PassView). u.spent) cut u in let l = r.low in omega arith);
-    running = (let a = total-set (λ (u : PassView). u.halted) views id v w at in let b = total-snoc (λ (u : PassView). u.halted) cut u in let h = r.running in omega arith);
     halted = (let a = total-set (λ (u : PassView). u.halted) views id v w at in let b = total-snoc (λ (u : PassView). u.halted) cut u in let h = r.halted in omega arith);
     seen = (let a = total-set (λ (u : PassView). u.seen) views id v w at in let b = total-snoc (λ (u : PassView). u.seen) cut u in let h = r.seen in omega arith);
     ended = (let a = total-set (λ (u : PassView). u.spent) views id v w at in let b = total-snoc (λ (u : PassView). u.spent) cut u in let h = r.ended in omega arith);
@@ -189,7 +184,6 @@ module _ (plan : Plan) where
         parts = (let a = total-set (λ (u : PassView). u.parts) views id v u at in let b = total-set (λ (u : PassView). u.parts) made other w spent_pass_view there in let p = r.parts in omega arith);
         each = λ x. let a = total-set (λ (u : PassView). times x u.drawn) views id v u at in let b = total-set (λ (u : PassView). times x u.drawn) made other w spent_pass_view there in let d = times-append x v.drawn w.drawn in let e = r.each x in omega arith;
         low = (let a = total-set (λ (u : PassView). u.spent) views id v u at in let b = total-set (λ (u : PassView). u.spent) made other w spent_pass_view there in let l = r.low in omega arith);
-        running = (let a = total-set (λ (u : PassView). u.halted) views id v u at in let b = total-set (λ (u : PassView). u.halted) made other w spent_pass_view there in let h = r.running in omega arith);
         halted = (let a = total-set (λ (u : PassView). u.halted) views id v u at in let b = total-set (λ (u : PassView). u.halted) made other w spent_pass_view there in let h = r.halted in omega arith);
         seen = (let a = total-set (λ (u : PassView). u.seen) views id v u at in let b = total-set (λ (u : PassView). u.seen) made other w spent_pass_view there in let h = r.seen in omega arith);
         ended = (let a = total-set (λ (u : PassView). u.spent) views id v u at in let b = total-set (λ (u : PassView). u.spent) made other w spent_pass_view there in let h = r.ended in omega arith);

@@ -1,7 +1,6 @@
 -- The seats of a ring, as it opens and as it ends.
-use Rattle.std.proofs.Common.{◌≡◌, ℕ, ◌+◌, ◌-◌, ◌^◌, ◌≤◌, List, [], ◌∷◌, ◌++◌, length, length-append, All, Option, Some, sum_by, sym, ap, ◌∙◌, subst, arith}
+use Rattle.std.proofs.Common.{◌≡◌, ℕ, ◌+◌, ◌-◌, ◌^◌, ◌≤◌, List, [], ◌∷◌, ◌++◌, length, length-append, All, Option, Some, sym, ap, ◌∙◌, subst, arith}
 use Rattle.std.proofs.lemmas.List.Elements.{All-push, All-pop, All-same}
-use Rattle.std.proofs.lemmas.List.Sums.{sum_by_push}
 use Rattle.atomic_table.specs.Table.{Me}
 use Rattle.atomic_table.specs.Seated.{TableId}
 use Rattle.atomic_table.specs.declared.shared.Seat as table_seat
@@ -53,17 +52,6 @@ module _ {T M : Type 0} where
 
   pub last_left : (me : Seated T M) (wanted : List M) (a b : ℕ) → a ≡ b → me ≡ (seat_view a wanted [] [] [] [], []) → me ≡ (seat_view b wanted [] [] [] [], [])
   last_left me wanted a b same is = is ∙ ap (λ (n : ℕ). (seat_view n wanted [] [] [] [], [])) same
-
-  -- what two seats count, one after the other
-  pub both_counted : (f : RingSeat T M → ℕ) (n m : ℕ) (seats rest : List (RingSeat T M)) (seat : RingSeat T M) (all : ℕ) → seats ≡ rest ++ seat ∷ [] → m ≡ n + f seat → n + sum_by f seats ≡ all → m + sum_by f rest ≡ all
-  both_counted f n m seats rest seat all cut is was = let a : sum_by f seats ≡ sum_by f rest + f seat = ap (sum_by f) cut ∙ sum_by_push f rest seat in omega (arith, a, is, was)
-
-  pub first_counted : (f : RingSeat T M → ℕ) (first : RingSeat T M) (seats rest : List (RingSeat T M)) → seats ≡ rest ++ first ∷ [] → f first + sum_by f rest ≡ sum_by f seats
-  first_counted f first seats rest cut = let a : sum_by f seats ≡ sum_by f rest + f first = ap (sum_by f) cut ∙ sum_by_push f rest first in omega (arith, a)
-
-  pub at_end : (f : RingSeat T M → ℕ) (seats all : List (RingSeat T M)) (n : ℕ) → length seats ≡ 0 → n + sum_by f seats ≡ sum_by f all → sum_by f all ≡ n
-  at_end f [] all n none_left is = omega (arith, is)
-  at_end f (x ∷ xs) all n none_left is = absurd (omega (arith, none_left))
 
 module _ {T M J : Type 0} (value : J → ℕ → M) (count : J → ℕ) where
   -- all seats of a table are new ones of the ring whose key is the job

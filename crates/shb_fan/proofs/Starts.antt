@@ -6,7 +6,7 @@ use Rattle.std.proofs.lemmas.List.Sums.{sum_by-cons}
 use Rattle.shb_fan.specs.declared.step.Step.{Step}
 use Rattle.shb_fan.specs.Numbers.{weight}
 use Rattle.shb_fan.specs.Machine.{ActorState, State, Allowed, HasAdvanced, IsInBounds, Runs, after, start}
-use Rattle.shb_fan.specs.RunSteps.{IsRefusedAt}
+use Rattle.shb_fan.specs.Turns.{IsRefusedAt}
 use Rattle.shb_fan.proofs.Counts.{weight-most}
 
 -- no more actors are spent than there are

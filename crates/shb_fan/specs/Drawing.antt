@@ -23,8 +23,7 @@ pub record Holds (plan : Plan) (ticket stop : ℕ) (views : List PassView) : Typ
   pub each : (x : ℕ) → total (λ v. times x v.drawn) views ≡ once_below x (min plan.limit ticket)
   pub low : ticket ≤ plan.limit + total (λ v. v.spent) views
   -- the stop word is 1 where some view is halted, else 0
-  pub running : total (λ v. v.halted) views ≡ 0 → stop ≡ 0
-  pub halted : 0 < total (λ v. v.halted) views → stop ≡ 1
+  pub halted : stop ≡ min 1 (total (λ v. v.halted) views)
   -- and where some view has seen a stop it isn't 0
   pub seen : stop ≡ 0 → total (λ v. v.seen) views ≡ 0
   -- where a view is spent, the stop word isn't 0 or the ticket is at the limit or above
@@ -51,16 +50,9 @@ drew st m r m' = (r < m.0.plan.limit → All (λ x. x < r) m.0.drawn × (m' ≡ 
 abbrev pub drew_this : Step (Unit {0}) → M → ℕ → M → Type 0
 drew_this st m r m' = (r ≡ st.first → All (λ x. x < st.first) m.0.drawn × (m' ≡ (gained m.0 st.first, m.1))) × (r ≢ st.first → m' ≡ m)
 
--- where the word isn't 0 the pass is spent, and it isn't 0 where the pass is halted or has seen a stop before
-abbrev pub saw : Step (Unit {0}) → M → ℕ → M → Type 0
-saw st m r m' = (r ≡ 0 → (m.0.halted ≡ 0) × (m.0.seen ≡ 0) × (m' ≡ m)) × (0 < r → m' ≡ (used_up m.0, m.1))
-
--- where the word isn't 0 the pass has seen a stop, and it isn't 0 where the pass is halted or has seen one before
-abbrev pub looked : Step (Unit {0}) → M → ℕ → M → Type 0
-looked st m r m' = (r ≡ 0 → (m.0.halted ≡ 0) × (m.0.seen ≡ 0) × (m' ≡ m)) × (0 < r → m' ≡ (record m.0 { seen = 1 }, m.1))
-
-abbrev pub stopped : Step (Unit {0}) → M → ℕ → M → Type 0
-stopped st m r m' = m' ≡ (record m.0 { halted = 1 }, m.1)
+-- where the word isn't 0 the pass is left so, and it isn't 0 where the pass is halted or has seen a stop before
+abbrev pub saw : (PassView → PassView) → Step (Unit {0}) → M → ℕ → M → Type 0
+saw left st m r m' = (r ≡ 0 → (m.0.halted ≡ 0) × (m.0.seen ≡ 0) × (m' ≡ m)) × (0 < r → m' ≡ (left m.0, m.1))
 
 abbrev pub left_over : PassView → PassView
 left_over v = record v { parts = v.parts - 1 }

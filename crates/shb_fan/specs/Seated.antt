@@ -9,10 +9,6 @@ module _ {T M J : Type 0} where
   abbrev pub job_of : Ring T M J → J
   job_of ring = ring.table.shared.key
 
-  -- how many slots it has
-  abbrev pub slots_of : Ring T M J → ℕ
-  slots_of ring = ring.table.shared.table_id.slots
-
 module _ {T M : Type 0} where
   -- the piece that the seat has claimed and has not placed, if any
   abbrev pub claimed_of : RingSeat T M → List ℕ

@@ -45,7 +45,6 @@ module _ {T M : Type 0} where
   abbrev pub HasLifted : Worker T M → ℕ → Type 0
   HasLifted worker count = (k : ℕ) → k < count → 0 < times k (lifted_of worker.seat)
 
-module _ {T M : Type 0} where
   -- no piece was placed more often than it was drawn, and where a pass stopped the draw some piece was placed less often
   pub record Balanced (passes : List PassState) (seats : List (RingSeat T M)) : Type 0 where
     pub within : (k : ℕ) → sum_by (λ s. times k (placed_of s)) seats ≤ sum_by (λ p. times k p.drawn) passes
@@ -81,13 +80,9 @@ module _ {T M J G : Type 0} (value : J → ℕ → M) (count : J → ℕ) where
     pub tickets : shared.desk.now.tickets.limit ≡ count shared.gated.job.now
     pub pieces : shared.pieces ≡ count shared.gated.job.now
 
-  -- the worker is one of these, and has claimed nothing
-  abbrev pub IsReady : Shared T M J G → Worker T M → Type 0
-  IsReady shared worker = IsShared shared × IsIdle value count shared.desk.now.tickets shared.desk.now.ring worker
-
-  -- and its accounts are in order
+  -- the worker is one of these, has claimed nothing, and its accounts are in order
   abbrev pub CanWork : Shared T M J G → Worker T M → Type 0
-  CanWork shared worker = IsReady shared worker × HasAccounts worker
+  CanWork shared worker = IsShared shared × HasWorked value count shared.desk.now.tickets shared.desk.now.ring worker
 
   -- the worker may draw, since it has placed all that it drew
   abbrev pub CanDraw : Shared T M J G → Worker T M → Type 0
@@ -99,7 +94,7 @@ module _ {T M J G : Type 0} (value : J → ℕ → M) (count : J → ℕ) where
 
   -- the worker may lift, and draw and make what nobody has drawn
   abbrev pub CanTake : Shared T M J G → Worker T M → Type 0
-  CanTake shared worker = CanDraw shared worker × IsRunning worker
+  CanTake shared worker = IsShared shared × CanBegin value count shared.desk.now.tickets shared.desk.now.ring worker
 
 module _ {T M : Type 0} (meaning : T → M) (value : ℕ → M) where
   -- the results of the pieces below k, in order

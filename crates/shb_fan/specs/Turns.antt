@@ -1,12 +1,27 @@
--- The draws, one after the other, that lists of drawn numbers tell of.
-use Rattle.std.specs.Prelude.{◌≡◌, ℕ, ◌+◌, ◌<◌, Bool, true, false, cond, List, [], ◌∷◌, ◌++◌, Some, length, map, replicate, slice_get, slice_index_or, sum_by, Contains, IsTrue, IsFalse}
+-- What becomes of a list of steps; and the draws, one after the other, that lists of drawn numbers tell of.
+use Rattle.std.specs.Prelude.{◌≡◌, ℕ, ◌+◌, ◌<◌, Bool, MatchBool, false, cond, List, [], ◌∷◌, ◌++◌, Some, length, map, replicate, slice_get, slice_index_or, sum_by, take, Contains, IsTrue, IsFalse}
 use Rattle.std.specs.List.Sorted.{IsStrictlyIncreasing}
+use Rattle.shb_fan.specs.declared.machine.StepsRun.{StepsRun}
+use Rattle.shb_fan.specs.declared.machine.StepsRun.TheVariants.{Ended, Refused}
 use Rattle.shb_fan.specs.declared.step.PieceState.TheVariants.{Empty}
 use Rattle.shb_fan.specs.declared.step.Step.{Step}
 use Rattle.shb_fan.specs.declared.step.Step.TheVariants.{Draw, Stop}
-use Rattle.shb_fan.specs.Machine.{State, Runs, start}
+use Rattle.shb_fan.specs.Machine.{Allowed, Facts, State, Runs, start}
 use Rattle.shb_fan.specs.Numbers.{weight, times, once_below}
 use Rattle.shb_fan.specs.Passes.{PassState}
+
+-- the step at this index isn't allowed, and all before it are
+pub record IsRefusedAt (actors pieces : ℕ) (steps : List Step) (at : ℕ) : Type 0 where
+  pub state : State
+  pub step : Step
+  pub runs : Runs (start actors pieces) (take at steps) state
+  pub there : slice_get steps at ≡ Some step
+  pub refused : ¬ Allowed state step
+
+-- all steps are allowed and led here, where the facts hold; or this is the index of the first that isn't allowed
+abbrev pub HasRunSteps : ℕ → ℕ → List Step → StepsRun → Type 0
+HasRunSteps actors pieces steps (Ended fan) = Runs (start actors pieces) steps fan × Facts fan
+HasRunSteps actors pieces steps (Refused at) = IsRefusedAt actors pieces steps at
 
 -- each list rises, and together they are the numbers below `drawn`, each once
 pub record AreDrawn (lists : List (List ℕ)) (drawn : ℕ) : Type 0 where
@@ -31,11 +46,6 @@ drawn_state lists drawn pieces stopped = record { next = drawn; actors = map (λ
 abbrev pub lists_of : List PassState → List (List ℕ)
 lists_of passes = map (λ p. p.drawn) passes
 
--- where the draw was stopped, a stop by a halted pass, else nothing
-abbrev pub AreStops : List PassState → Bool → List Step → Type 0
-AreStops passes true steps = (a : ℕ) × (p : PassState) × (slice_get passes a ≡ Some p) × IsTrue p.halted × (steps ≡ Stop a ∷ [])
-AreStops passes false steps = steps ≡ []
-
 -- one draw more for each spent pass, in the order of the passes, the first of which is actor a
 abbrev pub spent_draws : ℕ → List PassState → List Step
 spent_draws a [] = []
@@ -50,6 +60,6 @@ pub record IsMachineRun (limit : ℕ) (passes : List PassState) (drawn : ℕ) (s
   pub draws : List Step
   pub stops : List Step
   pub are_draws : AreDraws (lists_of passes) drawn draws
-  pub are_stops : AreStops passes stopped stops
+  pub are_stops : MatchBool stopped ((a : ℕ) × (p : PassState) × (slice_get passes a ≡ Some p) × IsTrue p.halted × (stops ≡ Stop a ∷ [])) (stops ≡ [])
   pub ends : Runs (start (length passes) limit) (draws ++ stops) (drawn_state (lists_of passes) drawn limit stopped)
   pub spends : IsFalse stopped → Runs (start (length passes) limit) (draws ++ spent_draws 0 passes) (spent_state passes (drawn + sum_by (λ p. weight p.spent) passes) limit)

@@ -4,8 +4,7 @@ ghost use Rattle.std.specs.Prelude.{◌≡◌, ◌<◌, ◌≤◌, ◌^◌, ◌+
 ghost use Rattle.shb_fan.specs.declared.step.Step.{Step};
 ghost use Rattle.shb_fan.specs.declared.step.Step.TheVariants.{Claim, Draw, Free, Lift, Place, Stop};
 ghost use Rattle.shb_fan.specs.Machine.{Facts, HasAdvanced, IsInBounds, Runs, State, actor_of, after_draw, new_actor, piece_of, start, state_from};
-ghost use Rattle.shb_fan.specs.Turns.{AreDrawn, AreDraws, drawn_state};
-ghost use Rattle.shb_fan.specs.RunSteps.{HasFacts, HasRunSteps};
+ghost use Rattle.shb_fan.specs.Turns.{AreDrawn, AreDraws, HasRunSteps, drawn_state};
 
 pub use crate::step::{PieceState, Step};
 use shb_io::NoMemory;
@@ -285,8 +284,7 @@ pub fn run_steps(
     requires some { 1 ≤ actors }
     requires actors { actors ≤ 65 }
     requires pieces { pieces ≤ 2 ^ 60 }
-    ensures steps { IfOk result (HasRunSteps actors pieces steps.now) }
-    ensures facts { IfOk result HasFacts }
+    ensures { IfOk result (HasRunSteps actors pieces steps.now) }
 {
     let mut fan = new_fan(alloc, actors, pieces)?;
     for at in 0..steps.len() {

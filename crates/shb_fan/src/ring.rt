@@ -3,7 +3,7 @@ ghost use Rattle.std.specs.Prelude.{◌≡◌, ℕ, ◌+◌, ◌*◌, ◌∷◌,
 ghost use Rattle.std.specs.Vec.{vec_capacity};
 ghost use Rattle.std.specs.Slots.{IsFull};
 ghost use Rattle.shb_fan.specs.Numbers.{times};
-ghost use Rattle.shb_fan.specs.Seated.{IsSeatOf, IsNewSeat, job_of, slots_of, claimed_of, placed_of, lifted_of};
+ghost use Rattle.shb_fan.specs.Seated.{IsSeatOf, IsNewSeat, job_of, claimed_of, placed_of, lifted_of};
 
 use crate::job::Job;
 use crate::ring_steps::{Claim, CutSeat, Free, Lift, MergeSeats, Place};
@@ -53,7 +53,7 @@ impl<T: Drop, M, J: Job<Out = T, Meaning = M>> Ring<T, M, J> {
     /// A ring of 64 slots for the results of the job's pieces, and its 65 seats, in a list that has room
     /// for them again. `NoMemory` where memory was refused.
     pub fn new(alloc: Global, job: &J) -> Result<(Ring<T, M, J>, Vec<RingSeat<T, M>>), NoMemory>
-        ensures ring { IfOk result (λ r. (job_of r.0 ≡ job.now) × (slots_of r.0 ≡ 64)) }
+        ensures ring { IfOk result (λ r. (job_of r.0 ≡ job.now) × (r.0.table.shared.table_id.slots ≡ 64)) }
         ensures seats { IfOk result (λ r. (length r.1.items ≡ 65) × All (IsNewSeat J.value J.count r.0) r.1.items
             × (65 ≤ vec_capacity r.1)) }
     {

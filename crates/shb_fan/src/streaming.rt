@@ -1,7 +1,7 @@
 //! Results in the order of their pieces, while others are computed.
 ghost use Rattle.std.specs.Prelude.{◌≡◌, ◌∷◌, ◌++◌, ◌+◌, ◌<◌, [], None, Some, true, false, All, IfOk, IfErr, IfSome, IfNone, IsTrue, IsFalse, length};
 ghost use Rattle.shb_fan.specs.Seated.{IsSeatOf, job_of, claimed_of, placed_of, lifted_of};
-ghost use Rattle.shb_fan.specs.Streamed.{IsIdle, IsReady, IsRunning, HasWorked, HasAccounts, HasLifted, HasEnded, HasPlacedAllBut, KnowsStop, CanBegin, CanDraw, CanMake, CanTake, CanWork, MayTake, Ended};
+ghost use Rattle.shb_fan.specs.Streamed.{IsIdle, IsShared, IsRunning, HasWorked, HasAccounts, HasLifted, HasEnded, HasPlacedAllBut, KnowsStop, CanBegin, CanDraw, CanMake, CanTake, CanWork, MayTake, Ended};
 
 use crate::crew::{Desk, Worker};
 use crate::gate::Gate;
@@ -41,7 +41,8 @@ fn wait_to_claim<R: Wait, T: Drop, M, J: Job<Out = T, Meaning = M>, G: Gate>(
     worker: &mut Worker<T, M>,
     k: u64,
 ) -> bool
-    requires ready { IsReady J.value J.count shared.now worker.old }
+    requires ready { IsShared J.value J.count shared.now
+        × IsIdle J.value J.count shared.now.desk.now.tickets shared.now.desk.now.ring worker.old }
     requires piece { k < J.count shared.now.gated.job.now }
     ensures pass { (worker.new.pass.source ≡ worker.old.pass.source) × (worker.new.pass.drawn ≡ worker.old.pass.drawn)
         × (worker.new.pass.halted ≡ worker.old.pass.halted) }

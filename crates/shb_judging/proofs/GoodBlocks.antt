@@ -1,5 +1,5 @@
 -- When a block is good, and that a good block has no fault.
-use Rattle.std.proofs.Common.{◌≡◌, ℕ, zero, suc, ◌+◌, ◌-◌, ◌<◌, ◌≤◌, ◌⊎◌, inl, inr, List, [], ◌∷◌, ◌++◌, length, map, take, Option, None, Some, refl, sym, ap, subst, ◌∙◌, arith, min}
+use Rattle.std.proofs.Common.{◌≡◌, ℕ, zero, suc, ◌+◌, ◌-◌, ◌<◌, ◌≤◌, inl, inr, List, [], ◌∷◌, ◌++◌, length, map, take, Option, None, Some, refl, sym, ap, subst, ◌∙◌, arith, min}
 use Rattle.std.specs.Prelude.{slice_get, Contains}
 use Rattle.std.specs.List.{AllByRecursion}
 use Rattle.std.proofs.lemmas.List.{take-map, take_all, take_min, take_more}
@@ -8,7 +8,6 @@ use Rattle.std.proofs.Math.Nat.{min-eq_left}
 use Rattle.shb_lines.specs.declared.event.Event.{Event}
 use Rattle.shb_lines.specs.declared.event.Pair.{Pair}
 use Rattle.shb_lines.specs.events.Discipline.{IsDisciplined}
-use Rattle.shb_lines.specs.events.Race.{Conflict}
 use Rattle.shb_lines.specs.events.Schedule.{IsSchedule}
 use Rattle.shb_lines.specs.text.TraceData.{TraceData}
 use Rattle.shb_lines.proofs.events.Indices.{contains_at}
@@ -17,10 +16,9 @@ use Rattle.shb_replay.specs.declared.broken.Broken.{Broken}
 use Rattle.shb_replay.specs.Reasons.{IsBroken}
 use Rattle.shb_judging.specs.declared.verdict.RaceFault.{RaceFault}
 use Rattle.shb_judging.specs.declared.verdict.RaceFault.TheVariants.{Absent, NoConflict, FirstLine, SecondLine, Schedule}
-use Rattle.shb_judging.specs.Judging.{HasGoodPair, first_positions}
-use Rattle.shb_report.specs.Report.{line_of_event}
+use Rattle.shb_judging.specs.Judging.{first_positions}
 use Rattle.shb_report.specs.Value.{Block}
-use Rattle.shb_judging.specs.Verdicts.{HasRaceFault, IsGoodBlock, IsLowestFault, IsNoEvent, fault_number, pair_in, position_of, positions_of}
+use Rattle.shb_judging.specs.Verdicts.{HasGoodPair, HasRaceFault, IsGoodBlock, IsLowestFault, IsNoEvent, fault_number, pair_in, position_of, positions_of}
 use Rattle.shb_report.proofs.EachLemmas.{each_of}
 use Rattle.shb_judging.proofs.LongSchedules.{broken_by_front, schedule_by_front}
 
@@ -68,23 +66,28 @@ good_by trace block events s pair events_are s_is pair_is good schedule =
     let of_list = schedule_by_front trace.events (positions_of trace block.schedule) pair.first pair.second of_front in
     let of_pair : IsSchedule trace.events (positions_of trace block.schedule) (block.first - 1) (block.second - 1)
     = subst (λ (p : Pair). IsSchedule trace.events (positions_of trace block.schedule) p.first p.second) pair_is of_list in
-    let counts = good.first_counts in
-    let before = good.earlier in
-    let within = good.in_range in
     record {
-      first = block.first - 1;
-      second = block.second - 1;
-      first_is = omega (arith, counts);
-      second_is = omega (arith, counts, before);
-      earlier = omega (arith, counts, before);
-      in_range = omega (arith, counts, before, within);
-      conflict = good.conflict;
-      first_line = good.first_line;
-      second_line = good.second_line;
+      pair = good;
       events = positions_of trace block.schedule;
       numbers = numbers_back (length trace.events) block.schedule (in_range (length trace.events) (positions_of trace block.schedule) of_pair.reordering.positions.in_range);
       schedule = of_pair;
     }
+
+-- a block whose pair is good has none of the faults 1 to 4
+pair_has_none : (trace : TraceData) (block : Block) → HasGoodPair trace block → (why : RaceFault) → HasRaceFault trace block why → 5 ≤ fault_number why
+pair_has_none trace block good = by
+  where
+    none : (number : ℕ) → 1 ≤ number → number ≤ length trace.events → IsNoEvent trace number → ⊥
+    none number low high (inl zeroth) = omega (arith, low, zeroth)
+    none number low high (inr above) = omega (arith, high, above)
+
+    by : (why : RaceFault) → HasRaceFault trace block why → 5 ≤ fault_number why
+    by Absent (inl first) = let a = good.first_counts in let b = good.earlier in let d = good.in_range in absurd (none block.first a (omega (arith, b, d)) first)
+    by Absent (inr second) = let a = good.first_counts in let b = good.earlier in let d = good.in_range in absurd (none block.second (omega (arith, a, b)) d second)
+    by NoConflict not = absurd (not (good.earlier, good.conflict))
+    by FirstLine differ = absurd (differ good.first_line)
+    by SecondLine differ = absurd (differ good.second_line)
+    by (Schedule broken) h = omega arith
 
 -- a block whose pair is good has no lower fault than that of its schedule
 pub broken_lowest : (trace : TraceData) (block : Block) (events : List Event) (s : List ℕ) (pair : Pair) (broken : Broken) → events ≡ trace.events → s ≡ first_positions trace block.schedule → pair ≡ pair_in block
@@ -93,19 +96,7 @@ broken_lowest trace block events s pair broken events_are s_is pair_is good is =
     let of_trace = subst (λ (ev : List Event). IsBroken ev s pair.first pair.second broken.at broken.why) events_are is in
     let of_front = subst (λ (l : List ℕ). IsBroken trace.events l pair.first pair.second broken.at broken.why) s_is of_trace in
     let of_list = broken_by_front trace.events (positions_of trace block.schedule) pair.first pair.second broken.at broken.why of_front in
-    (subst (λ (p : Pair). IsBroken trace.events (positions_of trace block.schedule) p.first p.second broken.at broken.why) pair_is of_list, by)
-  where
-    none : (number : ℕ) → 1 ≤ number → number ≤ length trace.events → IsNoEvent trace number → ⊥
-    none number low high (inl zeroth) = omega (arith, low, zeroth)
-    none number low high (inr above) = omega (arith, high, above)
-
-    by : (other : RaceFault) → HasRaceFault trace block other → 5 ≤ fault_number other
-    by Absent (inl first) = let a = good.first_counts in let b = good.earlier in let d = good.in_range in absurd (none block.first a (omega (arith, b, d)) first)
-    by Absent (inr second) = let a = good.first_counts in let b = good.earlier in let d = good.in_range in absurd (none block.second (omega (arith, a, b)) d second)
-    by NoConflict not = absurd (not (good.earlier, good.conflict))
-    by FirstLine differ = absurd (differ good.first_line)
-    by SecondLine differ = absurd (differ good.second_line)
-    by (Schedule other) h = omega arith
+    (subst (λ (p : Pair). IsBroken trace.events (positions_of trace block.schedule) p.first p.second broken.at broken.why) pair_is of_list, pair_has_none trace block good)
 
 -- its two events are events of the trace
 pub pair_within : (trace : TraceData) (events : List Event) (block : Block) (pair : Pair) → events ≡ trace.events → pair ≡ pair_in block → HasGoodPair trace block → (pair.first < length events) × (pair.second < length events)
@@ -119,34 +110,18 @@ pair_within trace events block pair same pair_is good =
     (omega (arith, count, first, counts, before, within), omega (arith, count, second, counts, before, within))
 
 module _ (trace : TraceData) (disciplined : IsDisciplined trace.events) (block : Block) (good : IsGoodBlock trace block) where
-  first_back : block.first - 1 ≡ good.first
-  first_back = let e = good.first_is in omega (arith, e)
-
-  second_back : block.second - 1 ≡ good.second
-  second_back = let e = good.second_is in omega (arith, e)
-
-  is_event : (number : ℕ) (e : ℕ) → number ≡ e + 1 → e < length trace.events → (number ≡ 0) ⊎ (length trace.events < number) → ⊥
-  is_event number e is low (inl none) = omega (arith, is, none)
-  is_event number e is low (inr above) = omega (arith, is, low, above)
-
   schedule_back : IsSchedule trace.events (positions_of trace block.schedule) (block.first - 1) (block.second - 1)
   schedule_back =
       let low = in_range (length trace.events) good.events good.schedule.reordering.positions.in_range in
       let same : positions_of trace block.schedule ≡ good.events = ap (map (position_of (length trace.events))) good.numbers ∙ numbers_forth (length trace.events) good.events low in
-      let with_list = subst (λ (l : List ℕ). IsSchedule trace.events l good.first good.second) (sym same) good.schedule in
-      let with_first = subst (λ (i : ℕ). IsSchedule trace.events (positions_of trace block.schedule) i good.second) (sym first_back) with_list in
-      subst (λ (j : ℕ). IsSchedule trace.events (positions_of trace block.schedule) (block.first - 1) j) (sym second_back) with_first
-
-  conflict_back : Conflict trace.events (block.first - 1) (block.second - 1)
-  conflict_back = subst (λ (j : ℕ). Conflict trace.events (block.first - 1) j) (sym second_back) (subst (λ (i : ℕ). Conflict trace.events i good.second) (sym first_back) good.conflict)
+      subst (λ (l : List ℕ). IsSchedule trace.events l (block.first - 1) (block.second - 1)) (sym same) good.schedule
 
   -- a good block has no fault
   pub good_has_none : (why : RaceFault) → HasRaceFault trace block why → ⊥
-  good_has_none Absent (inl none) = let a = good.earlier in let b = good.in_range in is_event block.first good.first good.first_is (omega (arith, a, b)) none
-  good_has_none Absent (inr none) = is_event block.second good.second good.second_is good.in_range none
-  good_has_none NoConflict not = let a = good.earlier in let b = good.first_is in let d = good.second_is in not (omega (arith, a, b, d), conflict_back)
-  good_has_none FirstLine differ = differ (good.first_line ∙ ap (line_of_event trace) (sym first_back))
-  good_has_none SecondLine differ = differ (good.second_line ∙ ap (line_of_event trace) (sym second_back))
+  good_has_none Absent h = let f = pair_has_none trace block good.pair Absent h in omega (arith, f)
+  good_has_none NoConflict h = let f = pair_has_none trace block good.pair NoConflict h in omega (arith, f)
+  good_has_none FirstLine h = let f = pair_has_none trace block good.pair FirstLine h in omega (arith, f)
+  good_has_none SecondLine h = let f = pair_has_none trace block good.pair SecondLine h in omega (arith, f)
   good_has_none (Schedule broken) is =
       let none : ◌≡◌ {A = Option Broken} (Some broken) None = (answer_none trace.events (positions_of trace block.schedule) (block.first - 1) (block.second - 1) (Some broken) disciplined is).1 schedule_back in
       absurd (let f : ⊥ = cc in f)

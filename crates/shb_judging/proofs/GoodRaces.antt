@@ -1,5 +1,5 @@
 -- Each listed pair of a good report is a race.
-use Rattle.std.proofs.Common.{◌≡◌, ℕ, ◌-◌, List, [], ◌∷◌, subst, arith}
+use Rattle.std.proofs.Common.{◌-◌, List, [], ◌∷◌, arith}
 use Rattle.std.specs.List.{AllByRecursion}
 use Rattle.shb_lines.specs.events.Race.{Race}
 use Rattle.shb_lines.specs.text.TraceData.{TraceData}
@@ -10,12 +10,8 @@ use Rattle.shb_judging.specs.Verdicts.{IsGoodBlock, IsGoodReport}
 -- the block has a schedule of its pair, and a conflicting pair with a schedule is a race
 race_in : (trace : TraceData) (block : Block) → IsGoodBlock trace block → Race trace.events (block.first - 1) (block.second - 1)
 race_in trace block good =
-    let first_is = good.first_is in
-    let second_is = good.second_is in
-    let first : good.first ≡ block.first - 1 = omega (arith, first_is) in
-    let second : good.second ≡ block.second - 1 = omega (arith, second_is) in
-    let race = race_of_schedule trace.events good.events good.first good.second good.conflict good.earlier good.schedule in
-    subst (λ (j : ℕ). Race trace.events (block.first - 1) j) second (subst (λ (i : ℕ). Race trace.events i good.second) first race)
+    let pair = good.pair in
+    race_of_schedule trace.events good.events (block.first - 1) (block.second - 1) pair.conflict (omega (arith, pair.first_counts, pair.earlier)) good.schedule
 
 races_in : (trace : TraceData) (blocks : List Block) → AllByRecursion (IsGoodBlock trace) blocks
     → AllByRecursion (λ block. Race trace.events (block.first - 1) (block.second - 1)) blocks

@@ -5,7 +5,7 @@ use Rattle.shb_lines.specs.text.Limits.{most_bytes}
 use Rattle.shb_lines.specs.text.TraceData.{TraceData}
 use Rattle.shb_judging.specs.declared.verdict.Verdict.{Verdict}
 use Rattle.shb_judging.specs.declared.verdict.Verdict.TheVariants.{Good, BadLine, BadCounts, BadRace, BadPlaces}
-use Rattle.shb_judging.specs.Checks.{IsJudged, IsVerdictFor}
+use Rattle.shb_judging.specs.Verdicts.{IsJudged, IsVerdictFor}
 use Rattle.shb_judging.specs.Judging.{IsJudgedText}
 use Rattle.shb_reading.proofs.Bad.{bad_of_source}
 

@@ -8,7 +8,7 @@ use Rattle.std.proofs.lemmas.List.Elements.{All-head, All-tail}
 use Rattle.std.proofs.lemmas.Option.{slice_get-get_or, slice_get_within}
 use Rattle.shb_lines.specs.declared.event.Pair.{Pair}
 use Rattle.shb_lines.specs.events.Discipline.{IsDisciplined}
-use Rattle.shb_lines.specs.events.Race.{Race}
+use Rattle.shb_lines.specs.events.Race.{Conflict, Race}
 use Rattle.shb_lines.specs.events.Schedule.{IsPrintedSchedule, IsSchedule}
 use Rattle.shb_lines.specs.text.Text.{IsLineText}
 use Rattle.shb_lines.specs.text.TraceData.{TraceData, location_of}
@@ -20,7 +20,7 @@ use Rattle.shb_report.specs.Places.{PlaceOf, counts_in, location_at, places_of_p
 use Rattle.shb_report.specs.Report.{AllRaces, HasSchedule, IsReportOn, ShownRace, line_of_event, pair_of}
 use Rattle.shb_report.specs.Value.{IsBlock, IsPlace, IsReportValue, IsRest, IsShown, ReportValue, report_text}
 use Rattle.shb_judging.specs.Verdicts.{IsGoodBlock, IsGoodReport, IsVerdict, pair_in}
-use Rattle.shb_report.specs.Written.{IsShowable, block_of, written_report}
+use Rattle.shb_report.specs.Writing.{IsShowable, block_of, written_report}
 use Rattle.shb_report.proofs.EachLemmas.{each_at}
 use Rattle.shb_judging.proofs.GoodBlocks.{in_range}
 use Rattle.shb_judging.proofs.LongSchedules.{few_different}
@@ -57,19 +57,21 @@ schedule_shown trace race disciplined is h = by race.schedule h
 
 good_block : (trace : TraceData) (race : ShownRace) → IsDisciplined trace.events → IsRace trace race → HasSchedule true trace race → IsGoodBlock trace (block_of trace race)
 good_block trace race disciplined is h =
-    let shown = schedule_shown trace race disciplined is h in record {
-      first = race.pair.0;
-      second = race.pair.1;
-      first_is = refl;
-      second_is = refl;
-      earlier = is.earlier;
-      in_range = race_within trace race.pair.0 race.pair.1 is;
-      conflict = is.conflict;
-      first_line = refl;
-      second_line = refl;
+    let shown = schedule_shown trace race disciplined is h in
+    let first : race.pair.0 ≡ race.pair.0 + 1 - 1 = omega arith in
+    let second : race.pair.1 ≡ race.pair.1 + 1 - 1 = omega arith in
+    let both : ◌≡◌ {A = ℕ × ℕ} (race.pair.0, race.pair.1) (race.pair.0 + 1 - 1, race.pair.1 + 1 - 1) = λ i. (first i, second i) in record {
+      pair = record {
+        first_counts = omega arith;
+        in_range = omega (arith, race_within trace race.pair.0 race.pair.1 is);
+        earlier = omega (arith, is.earlier);
+        conflict = subst (λ (p : ℕ × ℕ). Conflict trace.events p.0 p.1) both is.conflict;
+        first_line = ap (line_of_event trace) first;
+        second_line = ap (line_of_event trace) second;
+      };
       events = shown.0;
       numbers = ap (λ schedule. map (λ event. event + 1) (unwrap_or schedule [])) shown.1;
-      schedule = shown.3;
+      schedule = subst (λ (p : ℕ × ℕ). IsSchedule trace.events shown.0 p.0 p.1) both shown.3;
     }
 
 good_blocks : (trace : TraceData) (shown : List ShownRace) → IsDisciplined trace.events → AllByRecursion (IsRace trace) shown → All (HasSchedule true trace) shown

@@ -1,7 +1,6 @@
 -- What the parts of a judgement find.
-use Rattle.std.specs.Prelude.{◌≡◌, ◌+◌, ◌-◌, ◌<◌, ◌≤◌, ℕ, All, List, length, map, take, Option, Some, None, Result, Ok, Err}
+use Rattle.std.specs.Prelude.{◌≡◌, ◌+◌, ℕ, All, List, length, map, take, Option, Some, None, Result, Ok, Err}
 use Rattle.std.specs.List.{AllByRecursion}
-use Rattle.shb_lines.specs.events.Race.{Conflict}
 use Rattle.shb_lines.specs.text.TraceData.{TraceData}
 use Rattle.shb_lines.specs.declared.event.Pair.{Pair}
 use Rattle.shb_judging.specs.declared.judged.JudgedBlocks.{JudgedBlocks}
@@ -11,27 +10,12 @@ use Rattle.shb_judging.specs.declared.verdict.Verdict.{Verdict}
 use Rattle.shb_report.specs.declared.counts.Counts.{Counts}
 use Rattle.shb_reading.specs.Parts.{IsTextOf, TakesBlocks}
 use Rattle.shb_report.specs.Places.{IsPairOf}
-use Rattle.shb_report.specs.Report.{line_of_event}
 use Rattle.shb_report.specs.Value.{Block, Place, ReportValue}
-use Rattle.shb_judging.specs.Verdicts.{IsFirstBadBlock, IsGoodBlock, IsLowestFault, IsVerdict, pair_in, positions_of}
-
--- a block that is good but perhaps for its schedule
-pub record HasGoodPair (trace : TraceData) (block : Block) : Type 0 where
-  pub first_counts : 1 ≤ block.first
-  pub in_range : block.second ≤ length trace.events
-  pub earlier : block.first < block.second
-  pub conflict : Conflict trace.events (block.first - 1) (block.second - 1)
-  pub first_line : block.first_line ≡ line_of_event trace (block.first - 1)
-  pub second_line : block.second_line ≡ line_of_event trace (block.second - 1)
+use Rattle.shb_judging.specs.Verdicts.{HasGoodPair, IsFirstBadBlock, IsGoodBlock, IsLowestFault, IsVerdict, pair_in, positions_of}
 
 -- the positions that are kept of a schedule: the first ones, at most one more than the trace has events
 abbrev pub first_positions : TraceData → List ℕ → List ℕ
 first_positions trace numbers = take (length trace.events + 1) (positions_of trace numbers)
-
--- the pair of a block that has none of the faults 1 to 4, or the lowest of them
-abbrev pub IsPairJudged : TraceData → Block → Result Pair RaceFault → Type 0
-IsPairJudged trace block (Ok pair) = (pair ≡ pair_in block) × HasGoodPair trace block
-IsPairJudged trace block (Err why) = IsLowestFault trace block why
 
 -- all blocks are good, and these are their pairs; or these are as many as stand before the first that is bad, and this is its lowest fault
 abbrev pub AreFound : TraceData → List Block → List Pair → Option RaceFault → Type 0

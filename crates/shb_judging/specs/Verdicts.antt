@@ -1,34 +1,37 @@
--- When a report is good for a trace, and what is said of one that isn't: the first verdict that applies.
-use Rattle.std.specs.Prelude.{◌≡◌, ◌≢◌, ℕ, zero, suc, ◌+◌, ◌-◌, ◌<◌, ◌⊎◌, List, ◌++◌, codes, decimal, length, map, take, slice_get, Option, Some, IfSome, min}
+-- When a report is good for a trace, and what is said of one that isn't, or of a text that is no report: the first verdict that applies.
+use Rattle.std.specs.Prelude.{◌≡◌, ◌≢◌, ℕ, zero, suc, ◌+◌, ◌-◌, ◌<◌, ◌≤◌, ◌⊎◌, List, ◌++◌, codes, decimal, length, map, take, slice_get, Option, Some, IfSome, min}
 use Rattle.std.specs.List.{AllByRecursion}
 use Rattle.shb_lines.specs.declared.event.Pair.{Pair}
 use Rattle.shb_lines.specs.events.Race.{Conflict}
 use Rattle.shb_lines.specs.events.Schedule.{IsSchedule}
+use Rattle.shb_lines.specs.text.Limits.{most_bytes}
 use Rattle.shb_lines.specs.text.TraceData.{TraceData}
 use Rattle.shb_replay.specs.Reasons.{IsBroken}
 use Rattle.shb_judging.specs.declared.verdict.RaceFault.{RaceFault}
 use Rattle.shb_judging.specs.declared.verdict.RaceFault.TheVariants.{Absent, NoConflict, FirstLine, SecondLine, Schedule}
 use Rattle.shb_judging.specs.declared.verdict.Verdict.{Verdict}
 use Rattle.shb_judging.specs.declared.verdict.Verdict.TheVariants.{Good, BadLine, BadCounts, BadRace, BadPlaces}
+use Rattle.shb_reading.specs.Reading.{IsBadLine, IsReportText}
 use Rattle.shb_report.specs.Places.{counts_in, places_of_pairs, shown_places}
 use Rattle.shb_report.specs.Report.{counts_of, line_of_event}
 use Rattle.shb_report.specs.Value.{Block, Place, ReportValue}
 use Rattle.shb_lines.specs.Lowest.{IsLowest}
 
--- the block is about two events that conflict, the earlier one first; it has their lines; and its numbers, which count from 1, are those of a schedule of the two
+-- the block is about two events that conflict, the earlier one first, and has their lines; its numbers count from 1
+pub record HasGoodPair (trace : TraceData) (block : Block) : Type 0 where
+  pub first_counts : 1 ≤ block.first
+  pub in_range : block.second ≤ length trace.events
+  pub earlier : block.first < block.second
+  pub conflict : Conflict trace.events (block.first - 1) (block.second - 1)
+  pub first_line : block.first_line ≡ line_of_event trace (block.first - 1)
+  pub second_line : block.second_line ≡ line_of_event trace (block.second - 1)
+
+-- and the numbers of its schedule are those of a schedule of the two
 pub record IsGoodBlock (trace : TraceData) (block : Block) : Type 0 where
-  pub first : ℕ
-  pub second : ℕ
-  pub first_is : block.first ≡ first + 1
-  pub second_is : block.second ≡ second + 1
-  pub earlier : first < second
-  pub in_range : second < length trace.events
-  pub conflict : Conflict trace.events first second
-  pub first_line : block.first_line ≡ line_of_event trace first
-  pub second_line : block.second_line ≡ line_of_event trace second
+  pub pair : HasGoodPair trace block
   pub events : List ℕ
   pub numbers : block.schedule ≡ map (λ e. e + 1) events
-  pub schedule : IsSchedule trace.events events first second
+  pub schedule : IsSchedule trace.events events (block.first - 1) (block.second - 1)
 
 -- the two events of a block, whose numbers count from 1
 abbrev pub pair_in : Block → Pair
@@ -92,6 +95,17 @@ IsVerdict trace report BadCounts = report.counts ≢ counts_of trace
 IsVerdict trace report (BadRace race why) = (report.counts ≡ counts_of trace) × IsFirstBadBlock trace report.blocks race why
 IsVerdict trace report BadPlaces = (report.counts ≡ counts_of trace) × AllByRecursion (IsGoodBlock trace) report.blocks × (¬ HasPlacesOf trace report.places (map pair_in report.blocks))
 IsVerdict trace report (BadLine line) = ⊥
+
+-- the text is a report, and this is its verdict against the trace
+pub record IsJudged (trace : TraceData) (text : List ℕ) (verdict : Verdict) : Type 0 where
+  pub report : ReportValue
+  pub report_is : IsReportText most_bytes text report
+  pub verdict_is : IsVerdict trace report verdict
+
+-- the verdict on a text against a trace: its bad line where it is no report
+abbrev pub IsVerdictFor : TraceData → List ℕ → Verdict → Type 0
+IsVerdictFor trace text (BadLine line) = IsBadLine most_bytes text line
+IsVerdictFor trace text verdict = IsJudged trace text verdict
 
 -- the line of a verdict
 abbrev pub verdict_bytes : Verdict → List ℕ

@@ -1,9 +1,9 @@
 //! Judges the blocks of a report one after another.
-ghost use Rattle.std.specs.Prelude.{◌≡◌, ◌+◌, ◌-◌, ◌<◌, ◌≤◌, ◌↔◌, ◌^◌, ◌++◌, ◌∷◌, [], ℕ, List, None, IfErr, IfOk, IsTrue, OnOk, map, take};
-ghost use Rattle.shb_judging.specs.Judging.{AreJudged, IsPairJudged, first_positions};
-ghost use Rattle.shb_reading.specs.BlockLines.{block_with};
+ghost use Rattle.std.specs.Prelude.{◌≡◌, ◌+◌, ◌-◌, ◌<◌, ◌≤◌, ◌↔◌, ◌^◌, ◌++◌, ◌∷◌, [], ℕ, List, None, IfErr, IfOk, IsTrue, MatchResult, OnOk, map, take};
+ghost use Rattle.shb_judging.specs.Judging.{AreJudged, first_positions};
+ghost use Rattle.shb_reading.specs.Parts.{block_with};
 ghost use Rattle.shb_report.specs.Value.{Block};
-ghost use Rattle.shb_judging.specs.Verdicts.{IsGoodBlock, IsLowestFault, pair_in, position_of};
+ghost use Rattle.shb_judging.specs.Verdicts.{HasGoodPair, IsGoodBlock, IsLowestFault, pair_in, position_of};
 
 use crate::positions::position_of;
 use crate::verdict::RaceFault;
@@ -48,7 +48,8 @@ pub(crate) fn set_positions(
 
 /// The two events of a block that has no fault, or has one in its schedule alone; else its lowest fault.
 fn judge_pair(trace: &Trace, listed: BlockLines<'_>) -> Result<Pair, RaceFault>
-    ensures { (numbers : List ℕ) → IsPairJudged trace.now (block_with listed.entry numbers) result }
+    ensures { (numbers : List ℕ) → let block = block_with listed.entry numbers in
+        MatchResult result (λ pair. (pair ≡ pair_in block) × HasGoodPair trace.now block) (IsLowestFault trace.now block) }
 {
     let count = u64::from(trace.len());
     if listed.first == 0 || listed.first > count || listed.second == 0 || listed.second > count {

@@ -3,7 +3,7 @@ ghost use Rattle.std.specs.Prelude.{◌≡◌, ◌+◌, ◌<◌, ◌≤◌, ◌-
 ghost use Rattle.shb_io.specs.Devices.{CountsFailure};
 ghost use Rattle.shb_lines.specs.text.Limits.{most_bytes, most_read};
 ghost use Rattle.shb_lines.specs.text.Taking.{ReadsText, TakesAtMost, read_failed};
-ghost use Rattle.shb_judging.specs.Checks.{IsVerdictFor};
+ghost use Rattle.shb_judging.specs.Verdicts.{IsVerdictFor};
 ghost use Rattle.shb_reading.specs.Forms.{End, Form, IsBadFrom, Version, block_forms};
 ghost use Rattle.shb_judging.specs.Judging.{IsJudgedText, JudgesBlocks};
 ghost use Rattle.shb_reading.specs.Lines.{IfBad, IfStop, IsAt, IsBadAt, Passes, bytes_from};
@@ -60,9 +60,9 @@ fn judge_blocks(
     Ok(judged)
 }
 
-/// Reads the text of a report to its end: the verdict on it, and how many lines it has. Of its places the first ones are kept, at most one
-/// more than there are races: since the races have at most as many places as they are, these tell whether the
-/// places are theirs.
+/// Reads the text of a report to its end: the verdict on it, and how many lines it has. Of its places the first
+/// ones are kept, at most one more than there are races: since the races have at most as many places as they
+/// are, these tell whether the places are theirs.
 fn judge_text<R: RandomSource>(
     rt: &R,
     alloc: Global,

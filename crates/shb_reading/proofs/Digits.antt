@@ -10,7 +10,7 @@ use Rattle.std.proofs.lemmas.List.Folds.{list_all_at}
 use Rattle.std.proofs.lemmas.Str.{digit_value_digit}
 use Rattle.std.proofs.lemmas.Str.Parse.{IsDigitsTest, IsNumeralModel, digits_value-take-le, numerals_by_value}
 use Rattle.std.proofs.lemmas.Fmt.{decimal_is_IsNumeral, decimal-digits_value, first_decimal, decimal_digit}
-use Rattle.shb_reading.specs.Labels.{EndsNumber, IsLabelled}
+use Rattle.shb_reading.specs.Lines.{Stops, IsLabelled}
 use Rattle.shb_reading.proofs.Fronts.{decimal_digits, digit_range, same_front}
 
 -- a digit more
@@ -57,7 +57,7 @@ decimal_plain n small = ((decimal_is_IsNumeral n small).0.0, by n small)
     by zero small h = ap (λ (l : List ℕ). length l) (decimal_digit 0 (omega arith))
     by (suc n) small h = absurd (omega (arith, h, first_decimal (suc n) (omega arith) small))
 
-module _ (text digits after : List ℕ) (whole : text ≡ digits ++ after) (all : list_all is_ascii_digit digits ≡ true) (ends : EndsNumber after) where
+module _ (text digits after : List ℕ) (whole : text ≡ digits ++ after) (all : list_all is_ascii_digit digits ≡ true) (ends : Stops is_ascii_digit after) where
   front_is : (n : ℕ) (rest : List ℕ) → IsLabelled [] text n rest → (decimal n ≡ digits) × (rest ≡ after)
   front_is n rest h = same_front is_ascii_digit (decimal n) digits rest after (decimal_digits n) all h.ends ends (sym h.text_is ∙ whole)
 

@@ -11,8 +11,8 @@ use Rattle.shb_reading.specs.declared.parts.RaceEntry.{RaceEntry}
 use Rattle.shb_reading.specs.declared.parts.Span.{Span}
 use Rattle.shb_reading.specs.Forms.{Form, block_forms, place_forms}
 use Rattle.shb_reading.specs.Lines.{IfBad, IfStop, TakesLine, bytes_from}
-use Rattle.shb_reading.specs.Parts.{IsPlaceIn, IsRaceIn, IsSpanIn, ReadsBlock, ReadsBlocks, ReadsPlace, ReadsPlaces, TakesBlocks, block_at, block_before, block_from, blocks_at, bytes_at, place_in_text, place_before, places_at}
-use Rattle.shb_reading.specs.Labels.{AddsShown}
+use Rattle.shb_reading.specs.Parts.{IsPlaceIn, IsRaceIn, IsSpanIn, ReadsBlock, ReadsBlocks, ReadsPlace, ReadsPlaces, TakesBlocks, block_at, block_from, blocks_at, bytes_at, place_in_text, places_at}
+use Rattle.shb_reading.specs.Lines.{AddsShown}
 use Rattle.shb_report.proofs.EachLemmas.{each-push, each-weaker}
 use Rattle.shb_report.proofs.LineLemmas.{block_lines-append, joined, place_lines-append}
 use Rattle.shb_report.specs.Value.{Block, IsBlock, IsPlace, IsRest, IsShown, block_lines, lines_text, numbers_line, place_lines, race_numbers_line}
@@ -30,10 +30,10 @@ bad_weaker (Err s) stop P Q same weaker h = subst (λ s. IfStop s Q) (sym same) 
 one_less : (number count : ℕ) → number < count → count - number ≡ suc (count - (number + 1))
 one_less number count h = omega arith
 
-pub blocks_left : (number count : ℕ) (forms : List Form) → number < count → block_forms (number + 1) (count - number) ++ forms ≡ block_before (number + 1) (block_forms (number + 1 + 1) (count - (number + 1)) ++ forms)
+pub blocks_left : (number count : ℕ) (forms : List Form) → number < count → block_forms (number + 1) (count - number) ++ forms ≡ block_forms (number + 1) 1 ++ (block_forms (number + 1 + 1) (count - (number + 1)) ++ forms)
 blocks_left number count forms h = ap (λ n. block_forms (number + 1) n ++ forms) (one_less number count h)
 
-pub places_left : (number count : ℕ) (forms : List Form) → number < count → place_forms (number + 1) (count - number) ++ forms ≡ place_before (number + 1) (place_forms (number + 1 + 1) (count - (number + 1)) ++ forms)
+pub places_left : (number count : ℕ) (forms : List Form) → number < count → place_forms (number + 1) (count - number) ++ forms ≡ place_forms (number + 1) 1 ++ (place_forms (number + 1 + 1) (count - (number + 1)) ++ forms)
 places_left number count forms h = ap (λ n. place_forms (number + 1) n ++ forms) (one_less number count h)
 
 -- places
@@ -86,10 +86,7 @@ taken_more text old mid new k blocks block h in_grammar bytes lines =
       lines = omega (arith, h.lines, lines);
     }
 
--- an entry of numbers that are kept as they are written
-entry_in : (text : List ℕ) (mid new : Position) (k : ℕ) (numbers all_numbers : List ℕ) (entry : RaceEntry) → ReadsBlock (λ n. n) (2 ^ 64 - 1) text mid new k numbers all_numbers entry → IsRaceIn text all_numbers entry
-entry_in text mid new k numbers all_numbers entry g = record { first = g.first_in; second = g.second_in; schedule = g.part_in }
-
+-- numbers that are kept as they are written
 all_kept : (most : ℕ) (ns : List ℕ) → length ns ≤ most → take most (map (λ n. n) ns) ≡ ns
 all_kept most ns few = ap (take most) (map-id ns) ∙ take_all most ns few
 
@@ -107,7 +104,7 @@ blocks_more text old mid new k numbers all_numbers entries entry all is h g =
     let still_in : AllByRecursion (IsRaceIn text all_numbers) entries =
     subst (λ n. AllByRecursion (IsRaceIn text n) entries) (sym added) (each-weaker (IsRaceIn text numbers) (IsRaceIn text (numbers ++ block.schedule)) entries (λ e i. grown_in text numbers block.schedule e i) h.entries_in) in record {
       taken = subst (TakesBlocks text old new (k + 1)) same (taken_more text old mid new k blocks block h.taken g.in_grammar g.bytes g.lines);
-      entries_in = subst (AllByRecursion (IsRaceIn text all_numbers)) (sym is) (each-push (IsRaceIn text all_numbers) entries entry still_in (entry_in text mid new (k + 1) numbers all_numbers entry g));
+      entries_in = subst (AllByRecursion (IsRaceIn text all_numbers)) (sym is) (each-push (IsRaceIn text all_numbers) entries entry still_in g.entry_in);
     }
 
 -- the four lines of a block, and what was kept of its numbers
@@ -139,9 +136,7 @@ block_read kept most text a b c d e number first second first_line second_line o
       bytes = joined (line_1 ∷ []) (line_2 ∷ (line_3 ∷ (line_4 ∷ []))) _ _ _ (one_line text a b line_1 race)
           (joined (line_2 ∷ []) (line_3 ∷ (line_4 ∷ [])) _ _ _ (one_line text b c line_2 named) (joined (line_3 ∷ []) (line_4 ∷ []) _ _ _ (one_line text c d line_3 named_second) (one_line text d e line_4 listed)));
       numbers = added.grown;
-      first_in = in_first;
-      second_in = in_second;
-      part_in = omega (arith, len_is);
+      entry_in = record { first = in_first; second = in_second; schedule = omega (arith, len_is) };
       entry_is = refl;
       part_is = ap (λ s. take len (drop s new)) start_is ∙ ap (λ l. take len (drop (length old) l)) added.grown ∙ ap (take len) (drop-append_seam old front) ∙ take_all len front all;
       lines = omega (arith, race.counted, named.counted, named_second.counted, listed.counted);

@@ -7,7 +7,7 @@ use Rattle.std.proofs.lemmas.Bool.Decides.{nat_tests}
 use Rattle.std.proofs.lemmas.List.{append_cancel_left}
 use Rattle.std.proofs.lemmas.List.Folds.{list_all-append}
 use Rattle.std.proofs.lemmas.Fmt.{decimal_injective}
-use Rattle.shb_reading.specs.Labels.{Stops, EndsNumber, IsLabelled}
+use Rattle.shb_reading.specs.Lines.{Stops, IsLabelled}
 use Rattle.shb_report.specs.Value.{HasNoLineFeed}
 
 first_true : (a b : Bool) → (a && b) ≡ true → a ≡ true
@@ -72,7 +72,7 @@ pub decimal_digits : (n : ℕ) → list_all is_ascii_digit (decimal n) ≡ true
 unfolding digits
 decimal_digits n = onto_digits 64 n [] refl
 
-pub same_number : (m n : ℕ) (r s : List ℕ) → m < 2 ^ 64 → n < 2 ^ 64 → EndsNumber r → EndsNumber s → decimal m ++ r ≡ decimal n ++ s → (m ≡ n) × (r ≡ s)
+pub same_number : (m n : ℕ) (r s : List ℕ) → m < 2 ^ 64 → n < 2 ^ 64 → Stops is_ascii_digit r → Stops is_ascii_digit s → decimal m ++ r ≡ decimal n ++ s → (m ≡ n) × (r ≡ s)
 same_number m n r s p q h g e =
     let same = same_front is_ascii_digit (decimal m) (decimal n) r s (decimal_digits m) (decimal_digits n) h g e in
     (decimal_injective m n p q same.0, same.1)

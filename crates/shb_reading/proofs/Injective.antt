@@ -3,6 +3,7 @@ use Rattle.std.proofs.Common.{◌≡◌, ℕ, ◌+◌, List, [], ◌∷◌, ◌+
 use Rattle.std.specs.Fmt.{decimal}
 use Rattle.std.specs.List.{AllByRecursion}
 use Rattle.std.proofs.lemmas.List.{append_cancel_left}
+use Rattle.std.specs.Option.{is_some}
 use Rattle.shb_report.specs.declared.counts.Counts.{Counts}
 use Rattle.shb_reading.specs.Forms.{Form, Version, End}
 use Rattle.shb_report.specs.Value.{AreShown, ArePlaces, Block, HasNoLineFeed, IsBlock, IsPlace, IsReportValue, IsShown, Place, ReportValue, block_lines, counts_line, lines_text, listed, numbers_line, place_line, place_lines, places_section, race_numbers_line, report_lines, report_text, version_line}
@@ -102,7 +103,7 @@ blocks_same number (p ∷ blocks) (q ∷ others) xs ys h g n e =
     let same : p ≡ q = λ i. record { first = pair.0 i; second = pair.1 i; first_line = first_line i; second_line = second_line i; schedule = schedule i } in
     (λ i. same i ∷ later.0 i, later.1)
 
-section_same : (places others : Option (List Place)) (xs ys : List (List ℕ)) → IfSome places ArePlaces → IfSome others ArePlaces → version_line places ≡ version_line others
+section_same : (places others : Option (List Place)) (xs ys : List (List ℕ)) → IfSome places ArePlaces → IfSome others ArePlaces → version_line (is_some places) ≡ version_line (is_some others)
     → places_section places ++ xs ≡ places_section others ++ ys → (places ≡ others) × (xs ≡ ys)
 section_same None None xs ys h g v e = (refl, e)
 section_same None (Some qs) xs ys h g v e = absurd (versions_differ v)

@@ -4,11 +4,12 @@ use Rattle.std.specs.Fmt.{decimal}
 use Rattle.std.proofs.lemmas.Bool.Decides.{nat_tests}
 use Rattle.std.proofs.lemmas.List.{append_cancel_left}
 use Rattle.std.specs.List.{AllByRecursion}
-use Rattle.shb_reading.specs.Labels.{AddsShown, EndsNumber, IsLabelled}
+use Rattle.std.specs.Char.{is_ascii_digit}
+use Rattle.shb_reading.specs.Lines.{AddsShown, Stops, IsLabelled}
 use Rattle.shb_report.specs.Value.{IsShown, listed, numbers_line}
 use Rattle.shb_reading.proofs.Peeling.{peel}
 
-pub ends-listed : (ns : List ℕ) → EndsNumber (listed ns)
+pub ends-listed : (ns : List ℕ) → Stops is_ascii_digit (listed ns)
 ends-listed [] = tt
 ends-listed (n ∷ ns) = refl
 

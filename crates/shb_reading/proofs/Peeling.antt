@@ -2,13 +2,14 @@
 use Rattle.std.proofs.Common.{◌≡◌, ◌≢◌, ℕ, ◌<◌, ◌==◌, Bool, true, false, List, [], ◌∷◌, ◌++◌, length, codes, refl, sym, ap, ◌∙◌, arith, append-nil, Option, None, Some, MatchOption}
 use Rattle.std.specs.Fmt.{decimal}
 use Rattle.std.proofs.lemmas.Bool.Decides.{nat_tests}
+use Rattle.std.specs.Char.{is_ascii_digit}
 use Rattle.shb_report.specs.declared.counts.Counts.{Counts}
-use Rattle.shb_reading.specs.Labels.{EndsNumber, IsLabelled}
+use Rattle.shb_reading.specs.Lines.{Stops, IsLabelled}
 use Rattle.shb_report.specs.Value.{AreShown, IsShown, counts_line, place_line, race_numbers_line}
 use Rattle.shb_reading.proofs.Fronts.{same_labelled}
 
 -- what stands after a number that was read
-pub peel : (label text : List ℕ) (n m : ℕ) (rest tail : List ℕ) → IsShown n → IsShown m → IsLabelled label text n rest → EndsNumber tail → text ≡ label ++ (decimal m ++ tail) → (m ≡ n) × (tail ≡ rest)
+pub peel : (label text : List ℕ) (n m : ℕ) (rest tail : List ℕ) → IsShown n → IsShown m → IsLabelled label text n rest → Stops is_ascii_digit tail → text ≡ label ++ (decimal m ++ tail) → (m ≡ n) × (tail ≡ rest)
 peel label text n m rest tail p q h ends e = same_labelled label text m n tail rest q p (record { text_is = e; ends = ends }) h
 
 pub peel_last : (label text : List ℕ) (n m : ℕ) (rest : List ℕ) → IsShown n → IsShown m → IsLabelled label text n rest → text ≡ label ++ decimal m → (m ≡ n) × ([] ≡ rest)
@@ -34,7 +35,7 @@ pub counts_variables : (line : List ℕ) (locks : ℕ) (rest : List ℕ) (counts
 counts_variables line locks rest counts p h shown e = sym (peel (codes " locks ") line locks counts.locks rest _ p shown.locks h refl e).1
 
 -- a number known beforehand
-pub after_known : (label text : List ℕ) (n : ℕ) (rest tail : List ℕ) → IsShown n → IsLabelled label text n rest → EndsNumber tail → text ≡ label ++ (decimal n ++ tail) → rest ≡ tail
+pub after_known : (label text : List ℕ) (n : ℕ) (rest tail : List ℕ) → IsShown n → IsLabelled label text n rest → Stops is_ascii_digit tail → text ≡ label ++ (decimal n ++ tail) → rest ≡ tail
 after_known label text n rest tail p h ends e = sym (peel label text n n rest tail p p h ends e).1
 
 pub place_by : (line : List ℕ) (number : ℕ) (rest : List ℕ) (found : Option ℕ) → IsShown number → IsLabelled (codes "place ") line number rest

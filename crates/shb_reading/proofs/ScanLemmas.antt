@@ -2,12 +2,13 @@
 use Rattle.std.proofs.Common.{◌≡◌, ℕ, ◌+◌, ◌-◌, ◌*◌, ◌^◌, ◌<◌, ◌≤◌, Bool, true, false, List, [], ◌∷◌, ◌++◌, length, codes, refl, sym, ap, subst, ◌∙◌, arith, append_assoc, append-nil, length-append, length-drop}
 use Rattle.std.proofs.lemmas.List.{length-map, take_all}
 use Rattle.std.specs.List.{AllByRecursion}
+use Rattle.std.specs.Option.{is_some}
 use Rattle.shb_lines.specs.text.Limits.{most_bytes}
 use Rattle.shb_reading.specs.declared.position.Position.{Position}
 use Rattle.shb_reading.specs.declared.parts.PlaceEntry.{PlaceEntry}
 use Rattle.shb_reading.specs.declared.parts.Parts.{Parts}
 use Rattle.shb_report.specs.declared.counts.Counts.{Counts}
-use Rattle.shb_reading.specs.Forms.{Form, Version, CountsForm, Races, Places, block_forms, places_form, version_text}
+use Rattle.shb_reading.specs.Forms.{Form, Version, CountsForm, Races, Places, block_forms, places_form}
 use Rattle.shb_reading.specs.Lines.{IsBadAt, Passes, TakesLine, bytes_from}
 use Rattle.shb_reading.specs.Parts.{IsPlaceIn, IsScanned, IsTextOf, KeepsFirst, ReadsBlocks, ReadsPlaces, ReadsSection, TakesBlocks, blocks_at, places_at, section_at}
 use Rattle.shb_report.specs.Value.{AreShown, Block, IsShown, Place, block_lines, counts_line, lines_text, place_lines, places_line, places_section, races_line, version_line}
@@ -18,7 +19,7 @@ use Rattle.shb_report.proofs.LineLemmas.{joined}
 
 -- the version decides which forms follow
 
-pub passes_version : (forms : List Form) (text : List ℕ) (old new : Position) (with_places : Bool) → TakesLine text old new (version_text with_places) → Passes text old new (Version ∷ forms) (CountsForm ∷ (Races with_places ∷ forms))
+pub passes_version : (forms : List Form) (text : List ℕ) (old new : Position) (with_places : Bool) → TakesLine text old new (version_line with_places) → Passes text old new (Version ∷ forms) (CountsForm ∷ (Races with_places ∷ forms))
 passes_version forms text old new with_places taken = passes_by Version (CountsForm ∷ (Races with_places ∷ [])) forms text old new _ taken (with_places, refl, refl)
 
 pub passes_race_count : (forms : List Form) (text : List ℕ) (old new : Position) (with_places : Bool) (n : ℕ) → TakesLine text old new (races_line n) → IsShown n
@@ -76,13 +77,13 @@ bad_tail text at more = bad_after at.lines (bytes_from text at) (omega (arith, l
 
 -- the whole
 
-version_is : (text : List ℕ) (with_places : Bool) (entries : List PlaceEntry) → version_text with_places ≡ version_line (section_at text with_places entries)
+version_is : (text : List ℕ) (with_places : Bool) (entries : List PlaceEntry) → version_line with_places ≡ version_line (is_some (section_at text with_places entries))
 version_is text true entries = refl
 version_is text false entries = refl
 
 pub whole_text : (text : List ℕ) (a b c : Position) (with_places : Bool) (counts : Counts) (entries : List PlaceEntry) (blocks : List Block) (races lines : ℕ)
     → AreShown counts → IsShown races
-    → text ≡ lines_text (version_text with_places ∷ (counts_line counts ∷ (races_line races ∷ []))) ++ bytes_from text a → a.lines ≡ 3
+    → text ≡ lines_text (version_line with_places ∷ (counts_line counts ∷ (races_line races ∷ []))) ++ bytes_from text a → a.lines ≡ 3
     → ReadsSection text a b with_places entries → TakesBlocks text b c races blocks
     → bytes_from text c ≡ lines_text (codes "end" ∷ []) → lines ≡ c.lines + 1
     → IsTextOf text (record { counts = counts; places = section_at text with_places entries; blocks = blocks }) lines
@@ -93,18 +94,18 @@ whole_text text a b c with_places counts entries blocks races lines shown_counts
     let from_c : bytes_from text c ≡ lines_text end ++ [] = tail ∙ sym (append-nil (lines_text end)) in
     let from_b = joined (block_lines 1 blocks) end _ _ _ taken.bytes from_c in
     let from_a = joined section_lines (block_lines 1 blocks ++ end) _ _ _ section.bytes from_b in
-    let whole = joined (version_text with_places ∷ (counts_line counts ∷ (races_line races ∷ []))) (section_lines ++ (block_lines 1 blocks ++ end)) _ _ _ head from_a in
+    let whole = joined (version_line with_places ∷ (counts_line counts ∷ (races_line races ∷ []))) (section_lines ++ (block_lines 1 blocks ++ end)) _ _ _ head from_a in
     let first = version_is text with_places entries in record {
       in_grammar = record { counts = shown_counts; places = section.in_grammar; blocks = taken.in_grammar; few = subst IsShown (sym counted) shown };
       text_is = whole ∙ append-nil _
           ∙ ap (λ v. lines_text (v ∷ (counts_line counts ∷ (races_line races ∷ (section_lines ++ (block_lines 1 blocks ++ end)))))) first
-          ∙ ap (λ n. lines_text (version_line (section_at text with_places entries) ∷ (counts_line counts ∷ (races_line n ∷ (section_lines ++ (block_lines 1 blocks ++ end)))))) (sym counted);
+          ∙ ap (λ n. lines_text (version_line (is_some (section_at text with_places entries)) ∷ (counts_line counts ∷ (races_line n ∷ (section_lines ++ (block_lines 1 blocks ++ end)))))) (sym counted);
       lines_are = omega (arith, last, taken.lines, section.lines, third, counted, length-block_lines 1 blocks, length-append section_lines (block_lines 1 blocks ++ end), length-append (block_lines 1 blocks) end);
     }
 
 pub scanned : (text : List ℕ) (a b c : Position) (parts : Parts) (races lines : ℕ)
     → length text ≤ most_bytes → AreShown parts.counts → IsShown races
-    → text ≡ lines_text (version_text parts.with_places ∷ (counts_line parts.counts ∷ (races_line races ∷ []))) ++ bytes_from text a → a.lines ≡ 3
+    → text ≡ lines_text (version_line parts.with_places ∷ (counts_line parts.counts ∷ (races_line races ∷ []))) ++ bytes_from text a → a.lines ≡ 3
     → ReadsSection text a b parts.with_places parts.places.items → ReadsBlocks text b c races parts.numbers.items parts.races.items
     → bytes_from text c ≡ lines_text (codes "end" ∷ []) → lines ≡ c.lines + 1 → IsScanned text parts lines
 scanned text a b c parts races lines short counts shown head third section blocks tail last = record {

@@ -1,6 +1,7 @@
 -- The lines of the forms are those of the reports in the grammar.
 use Rattle.std.proofs.Common.{◌≡◌, true, false, ℕ, zero, suc, ◌+◌, List, [], ◌∷◌, ◌++◌, length, codes, refl, sym, ap, subst, ◌∙◌, Option, None, Some, IfSome}
 use Rattle.std.specs.List.{AllByRecursion}
+use Rattle.std.specs.Option.{is_some}
 use Rattle.shb_report.specs.Value.{ArePlaces, Block, IsBlock, IsPlace, IsReportValue, IsShown, Place, ReportValue, block_lines, counts_line, numbers_line, place_line, place_lines, places_line, places_section, race_numbers_line, races_line, report_lines, version_line}
 use Rattle.shb_reading.specs.Forms.{Form, Version, CountsForm, Races, Places, PlaceForm, Race, Named, Schedule, End, First, Second, At, And, HasForm, block_forms, place_forms}
 use Rattle.shb_reading.proofs.Language.{AreLines, line_then, one_line-counts, one_line-races, one_line-places, one_line-place, one_line-race, one_line-named, one_line-numbers}
@@ -40,7 +41,7 @@ lines_of_value report h = by report.places h.places
     are_blocks = lines_of_blocks 1 report.blocks (End ∷ []) (codes "end" ∷ []) h.blocks (refl, ([], (refl, refl), refl))
 
     by : (places : Option (List Place)) → IfSome places ArePlaces → AreLines (Version ∷ (End ∷ []))
-        (version_line places ∷ (counts_line report.counts ∷ (races_line (length report.blocks) ∷ (places_section places ++ (block_lines 1 report.blocks ++ codes "end" ∷ [])))))
+        (version_line (is_some places) ∷ (counts_line report.counts ∷ (races_line (length report.blocks) ∷ (places_section places ++ (block_lines 1 report.blocks ++ codes "end" ∷ [])))))
     by None p =
         let n = length report.blocks in
         let tail = block_lines 1 report.blocks ++ codes "end" ∷ [] in

@@ -2,7 +2,7 @@
 use Rattle.std.specs.Prelude.{◌≡◌, ℕ, zero, suc, ◌+◌, Bool, List, [], ◌∷◌, ◌++◌, length, codes, if◌then◌else◌}
 use Rattle.std.specs.List.{AllByRecursion}
 use Rattle.shb_report.specs.declared.counts.Counts.{Counts}
-use Rattle.shb_report.specs.Value.{AreShown, HasNoLineFeed, IsRest, IsShown, counts_line, numbers_line, place_line, places_line, race_numbers_line, races_line}
+use Rattle.shb_report.specs.Value.{AreShown, HasNoLineFeed, IsRest, IsShown, counts_line, numbers_line, place_line, places_line, race_numbers_line, races_line, version_line}
 
 -- the labels before bytes that are taken as they stand
 pub data Label : Type 0 where
@@ -19,10 +19,9 @@ label_bytes And = codes "and "
 
 -- how many bytes stand after a label at least
 abbrev pub least_after : Label → ℕ
-least_after First = 1
-least_after Second = 1
 least_after At = 0
 least_after And = 0
+least_after _ = 1
 
 -- the form of a line
 pub data Form : Type 0 where
@@ -45,16 +44,13 @@ abbrev pub block_forms : ℕ → ℕ → List Form
 block_forms number zero = []
 block_forms number (suc count) = Race number ∷ (Named First ∷ (Named Second ∷ (Schedule ∷ block_forms (number + 1) count)))
 
--- the first line, and what stands between the races' count and the blocks, of reports that have places and of those that have none
-abbrev pub version_text : Bool → List ℕ
-version_text with_places = if with_places then codes "shb-report 2" else codes "shb-report 1"
-
+-- what stands between the races' count and the blocks, of reports that have places and of those that have none
 abbrev pub places_form : Bool → List Form
 places_form with_places = if with_places then Places ∷ [] else []
 
 -- the line has the form, and these forms are then expected before those that were expected after it
 abbrev pub HasForm : Form → List ℕ → List Form → Type 0
-HasForm Version line added = (with_places : Bool) × (line ≡ version_text with_places) × (added ≡ CountsForm ∷ (Races with_places ∷ []))
+HasForm Version line added = (with_places : Bool) × (line ≡ version_line with_places) × (added ≡ CountsForm ∷ (Races with_places ∷ []))
 HasForm CountsForm line added = (counts : Counts) × AreShown counts × (line ≡ counts_line counts) × (added ≡ [])
 HasForm (Races with_places) line added = (n : ℕ) × IsShown n × (line ≡ races_line n) × (added ≡ places_form with_places ++ block_forms 1 n)
 HasForm Places line added = (n : ℕ) × IsShown n × (line ≡ places_line n) × (added ≡ place_forms 1 n)

@@ -1,10 +1,27 @@
--- Lines of a text, taken one after another.
-use Rattle.std.specs.Prelude.{◌≡◌, ℕ, ◌+◌, ◌≤◌, List, ◌∷◌, ◌++◌, length, drop, Result, Ok, Err}
+-- Labels, numbers and lines at the front of a text, and lines of it taken one after another.
+use Rattle.std.specs.Prelude.{◌≡◌, ℕ, ◌+◌, ◌≤◌, Bool, false, List, [], ◌∷◌, ◌++◌, length, decimal, map, take, drop, Result, Ok, Err, ⊤}
+use Rattle.std.specs.Char.{is_ascii_digit}
+use Rattle.std.specs.List.{AllByRecursion}
 use Rattle.shb_reading.specs.declared.position.Position.{Position}
 use Rattle.shb_reading.specs.declared.position.ReadStop.{ReadStop}
 use Rattle.shb_reading.specs.declared.position.ReadStop.TheVariants.{BadLine, Memory}
 use Rattle.shb_reading.specs.Forms.{Form, IsBadFrom, TakesForm}
-use Rattle.shb_report.specs.Value.{HasNoLineFeed}
+use Rattle.shb_report.specs.Value.{HasNoLineFeed, IsShown}
+
+-- the text is at its end, or its next byte fails the test
+abbrev pub Stops : (ℕ → Bool) → List ℕ → Type 0
+Stops test [] = ⊤
+Stops test (byte ∷ rest) = test byte ≡ false
+
+-- the text is a label, the whole of a number, and a rest
+pub record IsLabelled (label text : List ℕ) (n : ℕ) (rest : List ℕ) : Type 0 where
+  pub text_is : text ≡ label ++ (decimal n ++ rest)
+  pub ends : Stops is_ascii_digit rest
+
+-- a list grew by what is kept of these numbers, which can be shown: at most so many are kept, the first ones
+pub record AddsShown {T : Type 0} (kept : ℕ → T) (most : ℕ) (old new : List T) (ns : List ℕ) : Type 0 where
+  pub grown : new ≡ old ++ take most (map kept ns)
+  pub shown : AllByRecursion IsShown ns
 
 -- the position stands in the text, after that many lines
 pub record IsAt (text : List ℕ) (at : Position) : Type 0 where

@@ -2,15 +2,16 @@
 use Rattle.std.specs.Prelude.{◌≡◌, ℕ, ◌+◌, ◌*◌, ◌≤◌, Bool, List, [], ◌∷◌, ◌++◌, length, map, take, drop, Option, None, Some, IfSome, if◌then◌else◌}
 use Rattle.std.specs.List.{AllByRecursion}
 use Rattle.shb_lines.specs.text.Limits.{most_bytes}
+use Rattle.shb_reading.specs.declared.listed.BlockLines.{BlockLines}
+use Rattle.shb_reading.specs.declared.listed.Listed.{Listed}
 use Rattle.shb_reading.specs.declared.parts.Span.{Span}
 use Rattle.shb_reading.specs.declared.parts.Parts.{Parts}
 use Rattle.shb_reading.specs.declared.whole.Head.{Head}
 use Rattle.shb_reading.specs.declared.parts.RaceEntry.{RaceEntry}
 use Rattle.shb_reading.specs.declared.parts.PlaceEntry.{PlaceEntry}
 use Rattle.shb_reading.specs.declared.position.Position.{Position}
-use Rattle.shb_reading.specs.Forms.{Form, PlaceForm, Race, Named, Schedule, First, Second, At, And, version_text}
 use Rattle.shb_reading.specs.Lines.{bytes_from}
-use Rattle.shb_report.specs.Value.{AreShown, ArePlaces, Block, Place, IsBlock, IsPlace, IsReportValue, IsShown, ReportValue, block_lines, counts_line, lines_text, place_lines, places_section, races_line, report_lines, report_text}
+use Rattle.shb_report.specs.Value.{AreShown, ArePlaces, Block, Place, IsBlock, IsPlace, IsReportValue, IsShown, ReportValue, block_lines, counts_line, lines_text, place_lines, places_section, races_line, report_lines, report_text, version_line}
 
 abbrev pub bytes_at : List ℕ → Span → List ℕ
 bytes_at text span = take span.len (drop span.start text)
@@ -20,6 +21,20 @@ IsSpanIn text span = span.start + span.len ≤ length text
 
 abbrev pub place_in_text : List ℕ → PlaceEntry → Place
 place_in_text text entry = record { count = entry.count; first = bytes_at text entry.first; second = bytes_at text entry.second }
+
+-- the block of these lines, with this schedule
+abbrev pub block_with : BlockLines → List ℕ → Block
+block_with lines schedule = record {
+  first = lines.first;
+  second = lines.second;
+  first_line = lines.first_line.now;
+  second_line = lines.second_line.now;
+  schedule = schedule;
+}
+
+-- the block of a race that is listed
+abbrev pub block_in : Listed → Block
+block_in listed = block_with listed.lines listed.schedule.now
 
 -- the block of an entry, with this schedule
 abbrev pub block_from : List ℕ → RaceEntry → List ℕ → Block
@@ -42,17 +57,10 @@ pub record IsPlaceIn (text : List ℕ) (entry : PlaceEntry) : Type 0 where
   pub first : IsSpanIn text entry.first
   pub second : IsSpanIn text entry.second
 
-pub record IsRaceIn (text numbers : List ℕ) (entry : RaceEntry) : Type 0 where
+pub record IsRaceIn {T : Type 0} (text : List ℕ) (numbers : List T) (entry : RaceEntry) : Type 0 where
   pub first : IsSpanIn text entry.first_line
   pub second : IsSpanIn text entry.second_line
   pub schedule : entry.schedule_start + entry.schedule_len ≤ length numbers
-
--- the forms of the block of this number, before others
-abbrev pub block_before : ℕ → List Form → List Form
-block_before number forms = Race number ∷ (Named First ∷ (Named Second ∷ (Schedule ∷ forms)))
-
-abbrev pub place_before : ℕ → List Form → List Form
-place_before number forms = PlaceForm number ∷ (Named At ∷ (Named And ∷ forms))
 
 -- a block was read: its lines stand between the positions, what is kept of its first numbers, at most so many, was added, and this entry says where it stands
 pub record ReadsBlock {T : Type 0} (kept : ℕ → T) (most : ℕ) (text : List ℕ) (old new : Position) (number : ℕ) (old_numbers new_numbers : List T) (entry : RaceEntry) : Type 0 where
@@ -60,9 +68,7 @@ pub record ReadsBlock {T : Type 0} (kept : ℕ → T) (most : ℕ) (text : List 
   pub in_grammar : IsBlock block
   pub bytes : bytes_from text old ≡ lines_text (block_lines number (block ∷ [])) ++ bytes_from text new
   pub numbers : new_numbers ≡ old_numbers ++ take most (map kept block.schedule)
-  pub first_in : IsSpanIn text entry.first_line
-  pub second_in : IsSpanIn text entry.second_line
-  pub part_in : entry.schedule_start + entry.schedule_len ≤ length new_numbers
+  pub entry_in : IsRaceIn text new_numbers entry
   pub entry_is : block_from text entry block.schedule ≡ block
   pub part_is : part_of new_numbers entry ≡ take most (map kept block.schedule)
   pub lines : new.lines ≡ old.lines + 4
@@ -138,7 +144,7 @@ pub record IsScanned (text : List ℕ) (parts : Parts) (lines : ℕ) : Type 0 wh
 pub record ReadsHead (text : List ℕ) (old new : Position) (head : Head) : Type 0 where
   pub counts : AreShown head.counts
   pub races : IsShown head.races
-  pub bytes : bytes_from text old ≡ lines_text (version_text head.with_places ∷ (counts_line head.counts ∷ (races_line head.races ∷ []))) ++ bytes_from text new
+  pub bytes : bytes_from text old ≡ lines_text (version_line head.with_places ∷ (counts_line head.counts ∷ (races_line head.races ∷ []))) ++ bytes_from text new
   pub lines : new.lines ≡ old.lines + 3
 
 -- the places were read, if there are any

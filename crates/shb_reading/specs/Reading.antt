@@ -1,5 +1,5 @@
 -- Which text is a report, and which of its lines is the first bad one.
-use Rattle.std.specs.Prelude.{◌≡◌, ℕ, ◌<◌, ◌≤◌, Bool, true, false, List, ◌++◌, length, take, Result, Ok, Err}
+use Rattle.std.specs.Prelude.{◌≡◌, ℕ, ◌<◌, ◌≤◌, Bool, true, false, List, ◌++◌, length, take, Result, Err}
 use Rattle.shb_reading.specs.declared.report.ReportError.{ReportError}
 use Rattle.shb_reading.specs.declared.report.ReportError.TheVariants as errors
 use Rattle.shb_report.specs.Value.{IsReportValue, ReportValue, lines_text, report_lines, report_text}
@@ -27,13 +27,10 @@ pub record IsBadLine (limit : ℕ) (text : List ℕ) (n : ℕ) : Type 0 where
 
 -- the number of the bad line, where that is the answer
 abbrev pub IfBadLine : {T : Type 0} → Result T ReportError → (ℕ → Type 0) → Type 0
-IfBadLine (Ok report) P = Unit {0}
 IfBadLine (Err (errors.BadLine n)) P = P n
-IfBadLine (Err errors.Source) P = Unit {0}
-IfBadLine (Err (errors.Memory _)) P = Unit {0}
+IfBadLine _ P = Unit {0}
 
 -- the error of the reading of a report that names its source
 abbrev pub report_read_failed : ReportError → Bool
-report_read_failed (errors.BadLine n) = false
 report_read_failed errors.Source = true
-report_read_failed (errors.Memory _) = false
+report_read_failed _ = false

@@ -3,7 +3,7 @@ ghost use Rattle.std.specs.Prelude.{◌≡◌, ◌+◌, ◌-◌, ◌<◌, ◌≤
 ghost use Rattle.shb_lines.specs.text.Limits.{most_bytes};
 ghost use Rattle.shb_reading.specs.Forms.{Form, block_forms, place_forms};
 ghost use Rattle.shb_reading.specs.Lines.{IfBad, IsAt, IsBadAt, Passes, bytes_from};
-ghost use Rattle.shb_reading.specs.Parts.{IsPlaceIn, IsRaceIn, KeepsFirst, ReadsBlock, ReadsBlocks, ReadsPlace, ReadsPlaces, block_at, block_before, place_in_text, place_before};
+ghost use Rattle.shb_reading.specs.Parts.{IsPlaceIn, IsRaceIn, KeepsFirst, ReadsBlock, ReadsBlocks, ReadsPlace, ReadsPlaces, block_at, place_in_text};
 
 use crate::keeping::{AsWritten, Keeping};
 use crate::lines::{read_named, read_place_line, read_race_line, read_schedule};
@@ -31,8 +31,8 @@ pub fn read_block<K: Keeping>(
     ensures at { OnOk result (IsAt text.now at.new) }
     ensures read { IfOk result (λ entry.
         ReadsBlock (K.kept keeping.now) (K.most_kept keeping.now) text.now at.old at.new number numbers.old.items numbers.new.items entry) }
-    ensures passes { OnOk result ((forms : List Form) → Passes text.now at.old at.new (block_before number forms) forms) }
-    ensures bad { (forms : List Form) → IfBad result (IsBadAt text.now at.old (block_before number forms)) }
+    ensures passes { OnOk result ((forms : List Form) → Passes text.now at.old at.new (block_forms number 1 ++ forms) forms) }
+    ensures bad { (forms : List Form) → IfBad result (IsBadAt text.now at.old (block_forms number 1 ++ forms)) }
 {
     let Some((first, second)) = read_race_line(text, at, number) else {
         return Err(ReadStop::BadLine(at.lines + 1));
@@ -63,8 +63,8 @@ fn read_place(text: &[u8], at: &mut Position, number: u64) -> Result<PlaceEntry,
     requires at { IsAt text.now at.old }
     ensures at { OnOk result (IsAt text.now at.new) }
     ensures read { IfOk result (λ entry. ReadsPlace text.now at.old at.new number entry) }
-    ensures passes { OnOk result ((forms : List Form) → Passes text.now at.old at.new (place_before number forms) forms) }
-    ensures bad { (forms : List Form) → IfBad result (IsBadAt text.now at.old (place_before number forms)) }
+    ensures passes { OnOk result ((forms : List Form) → Passes text.now at.old at.new (place_forms number 1 ++ forms) forms) }
+    ensures bad { (forms : List Form) → IfBad result (IsBadAt text.now at.old (place_forms number 1 ++ forms)) }
 {
     let Some(count) = read_place_line(text, at, number) else {
         return Err(ReadStop::BadLine(at.lines + 1));

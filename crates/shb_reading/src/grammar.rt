@@ -1,9 +1,8 @@
 //! Reads single lines of a report.
 ghost use Rattle.std.specs.Prelude.{◌≡◌, ◌≢◌, ◌+◌, ◌<◌, ◌≤◌, ◌^◌, ◌++◌, Bool, ℕ, List, codes, decimal, length, IfOk, IsTrue, MatchBool, MatchOption, vec_len};
-ghost use Rattle.shb_reading.specs.Forms.{version_text};
 ghost use Rattle.std.specs.List.{AllByRecursion};
-ghost use Rattle.shb_reading.specs.Labels.{IsLabelled};
-ghost use Rattle.shb_report.specs.Value.{AreShown, HasNoLineFeed, IsRest, IsShown, counts_line, listed, numbers_line, place_line, race_numbers_line};
+ghost use Rattle.shb_reading.specs.Lines.{IsLabelled};
+ghost use Rattle.shb_report.specs.Value.{AreShown, HasNoLineFeed, IsRest, IsShown, counts_line, listed, numbers_line, place_line, race_numbers_line, version_line};
 ghost use Rattle.shb_report.specs.declared.counts.Counts.{Counts};
 
 use crate::labels::{after_label, labelled};
@@ -12,8 +11,8 @@ use shb_report::Counts;
 /// Whether the report that begins with this line has places, as those of version 2 have.
 pub(crate) fn version_in(line: &[u8]) -> Option<bool>
     ensures { MatchOption result
-        ((with_places : Bool) → line.now ≢ version_text with_places)
-        (λ with_places. line.now ≡ version_text with_places) }
+        ((with_places : Bool) → line.now ≢ version_line with_places)
+        (λ with_places. line.now ≡ version_line with_places) }
 {
     let version = after_label(line, b"shb-report ")?;
     match version {

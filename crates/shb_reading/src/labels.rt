@@ -3,13 +3,13 @@ ghost use Rattle.std.specs.Prelude.{◌≡◌, ◌≢◌, ◌+◌, ◌<◌, ◌�
 ghost use Rattle.std.specs.List.{list_all};
 ghost use Rattle.std.specs.Char.{is_ascii_digit};
 ghost use Rattle.std.specs.Str.Parse.{digits_value};
-ghost use Rattle.shb_reading.specs.Labels.{EndsNumber, IsLabelled};
+ghost use Rattle.shb_reading.specs.Lines.{Stops, IsLabelled};
 
 /// How many digits stand at the front of a text.
 fn digits_in(text: &[u8]) -> usize
     ensures within { result ≤ length text.now }
     ensures digits { list_all is_ascii_digit (take result text.now) ≡ true }
-    ensures ends { EndsNumber (drop result text.now) }
+    ensures ends { Stops is_ascii_digit (drop result text.now) }
 {
     for (count, byte) in text.iter().enumerate() {
         if !byte.is_ascii_digit() {
@@ -23,7 +23,7 @@ fn digits_in(text: &[u8]) -> usize
 fn split_digits(text: &[u8]) -> (&[u8], &[u8])
     ensures whole { text.now ≡ result.0.now ++ result.1.now }
     ensures digits { list_all is_ascii_digit result.0.now ≡ true }
-    ensures ends { EndsNumber result.1.now }
+    ensures ends { Stops is_ascii_digit result.1.now }
 {
     text.split_at(digits_in(text))
 }

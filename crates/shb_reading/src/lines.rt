@@ -2,9 +2,9 @@
 ghost use Rattle.std.specs.Prelude.{◌≡◌, ◌≢◌, ◌+◌, ◌<◌, ◌≤◌, ◌++◌, ◌∷◌, [], Bool, ℕ, List, codes, decimal, length, IfOk, IsTrue, MatchBool, MatchOption, OnOk, if◌then◌else◌, vec_len};
 ghost use Rattle.std.specs.List.{AllByRecursion};
 ghost use Rattle.shb_lines.specs.text.Limits.{most_bytes};
-ghost use Rattle.shb_reading.specs.Labels.{AddsShown};
-ghost use Rattle.shb_report.specs.Value.{AreShown, IsRest, IsShown, counts_line, numbers_line, place_line, places_line, race_numbers_line, races_line};
-ghost use Rattle.shb_reading.specs.Forms.{Form, Label, label_bytes, least_after, Version, CountsForm, Races, Places, PlaceForm, Race, Named, Schedule, End, version_text};
+ghost use Rattle.shb_reading.specs.Lines.{AddsShown};
+ghost use Rattle.shb_report.specs.Value.{AreShown, IsRest, IsShown, counts_line, numbers_line, place_line, places_line, race_numbers_line, races_line, version_line};
+ghost use Rattle.shb_reading.specs.Forms.{Form, Label, label_bytes, least_after, Version, CountsForm, Races, Places, PlaceForm, Race, Named, Schedule, End};
 ghost use Rattle.shb_reading.specs.Parts.{IsPlaceIn, IsRaceIn, IsSpanIn, block_at, bytes_at, place_in_text};
 ghost use Rattle.shb_reading.specs.Lines.{BeginsWithLine, IfBad, IsAt, IsBadAt, Lacks, Passes, TakesLine, bytes_from};
 
@@ -22,7 +22,7 @@ pub(crate) fn read_version(text: &[u8], at: &mut Position) -> Option<bool>
     requires at { IsAt text.now at.old }
     ensures { MatchOption result
         ((at.new ≡ at.old) × Lacks Version (bytes_from text.now at.old))
-        (λ with_places. TakesLine text.now at.old at.new (version_text with_places)) }
+        (λ with_places. TakesLine text.now at.old at.new (version_line with_places)) }
 {
     let line = next_line(text, *at)?;
     let with_places = version_in(line)?;

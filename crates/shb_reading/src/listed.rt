@@ -1,8 +1,7 @@
 //! Blocks and places of a report, over its text.
 ghost use Rattle.std.specs.Prelude.{◌≡◌, ◌+◌, ◌≤◌, ◌↔◌, ℕ, List, IsTrue, drop, length, take};
 ghost use Rattle.std.specs.List.{AllByRecursion};
-ghost use Rattle.shb_reading.specs.BlockLines.{block_in, block_with};
-ghost use Rattle.shb_reading.specs.Parts.{IsPlaceIn, IsRaceIn, IsSpanIn, block_at, block_from, bytes_at, section_at};
+ghost use Rattle.shb_reading.specs.Parts.{IsPlaceIn, IsRaceIn, IsSpanIn, block_at, block_from, block_in, block_with, bytes_at, section_at};
 
 use crate::parts::{PlaceEntry, RaceEntry, Span};
 use std::marker::Model;

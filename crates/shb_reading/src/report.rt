@@ -1,13 +1,12 @@
 //! A report that was read.
-ghost use Rattle.std.specs.Prelude.{◌≡◌, ◌+◌, ◌<◌, ◌≤◌, ◌^◌, ◌-◌, ℕ, List, Some, length, take, drop, option_map, slice_get, IfOk};
+ghost use Rattle.std.specs.Prelude.{◌≡◌, ◌+◌, ◌<◌, ◌≤◌, ◌^◌, ◌-◌, ℕ, List, [], Some, length, take, drop, option_map, slice_get, unwrap_or, if◌then◌else◌, IfOk};
+ghost use Rattle.std.specs.Option.{is_some};
 ghost use Rattle.shb_io.specs.Devices.{CountsFailure};
 ghost use Rattle.shb_lines.specs.text.Limits.{most_bytes, most_read};
 ghost use Rattle.shb_lines.specs.text.Taking.{ReadsText, TakesAtMost};
-ghost use Rattle.shb_reading.specs.BlockLines.{block_in};
 ghost use Rattle.shb_reading.specs.Lines.{IfBad, IfStop};
-ghost use Rattle.shb_reading.specs.Parts.{ArePartsIn, bytes_at, report_at};
+ghost use Rattle.shb_reading.specs.Parts.{ArePartsIn, block_in, bytes_at, report_at};
 ghost use Rattle.shb_reading.specs.Reading.{IfBadLine, IsBadLine, IsReportText, report_read_failed};
-ghost use Rattle.shb_report.specs.Value.{listed_places, version_of};
 
 use crate::listed::{Listed, Section, bytes_in, listed_at, numbers_in, section_of};
 use crate::parts::Parts;
@@ -59,7 +58,7 @@ impl Report {
 
     /// The version: 1, or 2 where the report has places.
     pub fn version(&self) -> u32
-        ensures { result ≡ version_of self.now.places }
+        ensures { result ≡ (if is_some self.now.places then 2 else 1) }
     {
         if self.parts.with_places { 2 } else { 1 }
     }
@@ -143,7 +142,7 @@ impl Report {
 
     /// How many places there are: none in version 1.
     pub fn places(&self) -> u64
-        ensures { result ≡ length (listed_places self.now.places) }
+        ensures { result ≡ length (unwrap_or self.now.places []) }
     {
         if self.parts.with_places {
             self.parts.places.len() as u64
@@ -165,24 +164,24 @@ impl Report {
 
     /// How many races a place has, as it is written.
     pub fn place_count(&self, q: u64) -> u64
-        requires { q < length (listed_places self.now.places) }
-        ensures { option_map (λ place. place.count) (slice_get (listed_places self.now.places) q) ≡ Some result }
+        requires { q < length (unwrap_or self.now.places []) }
+        ensures { option_map (λ place. place.count) (slice_get (unwrap_or self.now.places []) q) ≡ Some result }
     {
         self.parts.places[q as usize].count
     }
 
     /// The first location of a place.
     pub fn place_first(&self, q: u64) -> &[u8]
-        requires { q < length (listed_places self.now.places) }
-        ensures { option_map (λ place. place.first) (slice_get (listed_places self.now.places) q) ≡ Some result.now }
+        requires { q < length (unwrap_or self.now.places []) }
+        ensures { option_map (λ place. place.first) (slice_get (unwrap_or self.now.places []) q) ≡ Some result.now }
     {
         bytes_in(self.text.as_slice(), self.parts.places[q as usize].first)
     }
 
     /// The second location of a place.
     pub fn place_second(&self, q: u64) -> &[u8]
-        requires { q < length (listed_places self.now.places) }
-        ensures { option_map (λ place. place.second) (slice_get (listed_places self.now.places) q) ≡ Some result.now }
+        requires { q < length (unwrap_or self.now.places []) }
+        ensures { option_map (λ place. place.second) (slice_get (unwrap_or self.now.places []) q) ≡ Some result.now }
     {
         bytes_in(self.text.as_slice(), self.parts.places[q as usize].second)
     }

@@ -1,7 +1,7 @@
 //! Reads the line of a schedule.
 ghost use Rattle.std.specs.Prelude.{◌≡◌, ◌≢◌, ◌+◌, ◌<◌, ◌≤◌, ◌++◌, ◌∷◌, [], ℕ, List, length, IfOk, MatchBool, MatchOption, OnOk, map, take};
 ghost use Rattle.std.specs.List.{AllByRecursion};
-ghost use Rattle.shb_reading.specs.Labels.{AddsShown};
+ghost use Rattle.shb_reading.specs.Lines.{AddsShown};
 ghost use Rattle.shb_report.specs.Value.{IsShown, listed, numbers_line};
 
 use crate::keeping::Keeping;

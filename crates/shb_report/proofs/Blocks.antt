@@ -11,7 +11,7 @@ use Rattle.shb_lines.proofs.events.Decide.{printed_exists}
 use Rattle.shb_lines.proofs.events.RaceLists.{race_list_unique}
 use Rattle.shb_lines.proofs.events.Increasing.{increasing_equal}
 use Rattle.shb_report.specs.Leading.{AreLeading}
-use Rattle.shb_report.specs.Report.{AllRaces, AreBlocks, HasSchedule, IsReport, IsReportOn, LeadingRaces, ShownRace, block_bytes, blocks_from, front_bytes, pair_of, tail_bytes}
+use Rattle.shb_report.specs.Report.{AllRaces, AreBlocks, HasSchedule, IsReportOn, LeadingRaces, ShownRace, block_bytes, blocks_from, front_bytes, pair_of, tail_bytes}
 use Rattle.shb_report.proofs.LeadingLemmas.{leading_unique}
 
 -- the pairs of some races that are shown
@@ -102,10 +102,6 @@ one_leading_list trace leading more h g =
         let rest = pairs_same xs ys tails in
         λ k. (((heads k).first, (heads k).second) ∷ rest k)
 
--- a trace has one report
-pub IsReport-unique : (with_schedules : Bool) (trace : TraceData) (bytes others : List ℕ) → IsReport with_schedules trace bytes → IsReport with_schedules trace others → bytes ≡ others
-IsReport-unique with_schedules trace bytes others h g = IsReportOn-unique AllRaces with_schedules trace bytes others (one_race_list trace) h g
-
 -- some pairs, each with its printed schedule or with none
 shown_of : (with_schedules : Bool) (trace : TraceData) → IsDisciplined trace.events → (races : List (ℕ × ℕ)) → (shown : List ShownRace) × (pairs_of shown ≡ races) × All (HasSchedule with_schedules trace) shown
 shown_of with_schedules trace disciplined [] = ([], refl, All-nil (HasSchedule with_schedules trace))
@@ -119,8 +115,8 @@ shown_of with_schedules trace disciplined (pair ∷ races) =
     one true = let printed = printed_exists trace.events disciplined pair.0 pair.1 in (Some printed.0, printed.1)
 
 -- a disciplined trace with a race list has a report, in both forms
-pub IsReport-exists : (with_schedules : Bool) (trace : TraceData) (races : List (ℕ × ℕ)) → IsDisciplined trace.events → IsRaceList trace.events races → (bytes : List ℕ) × IsReport with_schedules trace bytes
-IsReport-exists with_schedules trace races disciplined list =
+pub report_exists : (with_schedules : Bool) (trace : TraceData) (races : List (ℕ × ℕ)) → IsDisciplined trace.events → IsRaceList trace.events races → (bytes : List ℕ) × IsReportOn AllRaces with_schedules trace bytes
+report_exists with_schedules trace races disciplined list =
     let shown = shown_of with_schedules trace disciplined races in
     let blocks = blocks_from trace 1 shown.0 in
     let are : AreBlocks with_schedules trace races blocks = record { shown = shown.0; races_are = shown.1; schedules_are = shown.2; bytes_are = refl } in

@@ -1,6 +1,6 @@
 -- Locations and their numbers.
 use Rattle.std.proofs.lemmas.Grind.{common_steps}
-use Rattle.std.proofs.Common.{◌≡◌, ◌||◌, ◌++◌, ℕ, Bool, true, false, cond, List, [], ◌∷◌, refl, ap, arith}
+use Rattle.std.proofs.Common.{◌≡◌, ◌||◌, ◌++◌, ℕ, Bool, true, false, cond, List, [], ◌∷◌, map, refl, ap, arith}
 use Rattle.std.specs.Cmp.Lexicographic.{nat_list_eq_equiv}
 use Rattle.std.specs.List.{IsDistinct, list_any}
 use Rattle.std.specs.Str.{bytes_eq}
@@ -8,7 +8,10 @@ use Rattle.std.proofs.lemmas.List.{map-append}
 use Rattle.std.proofs.lemmas.Map.Keys.{IsDistinct-push}
 use Rattle.indexmap.specs.IndexSet.{insert_key}
 use Rattle.shb_lines.specs.declared.hashing.TextKey.{TextKey}
-use Rattle.shb_report.specs.Locations.{locations_in}
+
+-- the texts of the locations in a table, by number
+abbrev pub locations_in : List TextKey → List (List ℕ)
+locations_in known = map (λ location. location.bytes.now) known
 
 abbrev pub same_location : TextKey → TextKey → Bool
 same_location x y = bytes_eq x.bytes.now y.bytes.now

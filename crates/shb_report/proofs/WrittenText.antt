@@ -8,9 +8,9 @@ use Rattle.shb_lines.specs.text.TraceData.{TraceData}
 use Rattle.shb_lines.specs.events.Race.{IsRaceList}
 use Rattle.shb_lines.specs.events.Schedule.{IsPrintedSchedule}
 use Rattle.shb_report.specs.Places.{counts_in, places_of_pairs, section_bytes, shown_places}
-use Rattle.shb_report.specs.Report.{AllRaces, HasSchedule, IsReport, IsReportOn, ShownRace, block_bytes, blocks_from, pair_of}
+use Rattle.shb_report.specs.Report.{AllRaces, HasSchedule, IsReportOn, ShownRace, block_bytes, blocks_from, pair_of}
+use Rattle.shb_report.specs.Writing.{block_of, written_report}
 use Rattle.shb_report.specs.Value.{block_lines, lines_text, places_section, report_text}
-use Rattle.shb_report.specs.Written.{block_of, written_report}
 use Rattle.shb_report.proofs.LineLemmas.{lines_text-append}
 
 abbrev section_lines : TraceData → List (ℕ × ℕ) → List (List ℕ)
@@ -43,6 +43,6 @@ blocks_are trace number (race ∷ shown) h =
 pub written_is : (Lists : TraceData → List (ℕ × ℕ) → Type 0) (trace : TraceData) (bytes : List ℕ) (h : IsReportOn Lists true trace bytes) → bytes ≡ report_text (written_report trace h.blocks_are.shown)
 written_is Lists trace bytes h = grind (arith, common_steps, blocks_are, map, codes, length-map, lines_text-append, append_assoc)
 
-pub written_law : (trace : TraceData) (bytes : List ℕ) → IsReport true trace bytes
+pub written_law : (trace : TraceData) (bytes : List ℕ) → IsReportOn AllRaces true trace bytes
     → (shown : List ShownRace) × IsRaceList trace.events (map (λ race. race.pair) shown) × All (HasSchedule true trace) shown × (bytes ≡ report_text (written_report trace shown))
 written_law trace bytes h = (h.blocks_are.shown, subst (IsRaceList trace.events) (sym h.blocks_are.races_are) h.races_are, h.blocks_are.schedules_are, written_is AllRaces trace bytes h)

@@ -1,5 +1,6 @@
 -- Places by the numbers of their two locations.
 use Rattle.std.specs.Prelude.{◌≡◌, ℕ, ◌+◌, Bool, ◌&&◌, nat_eq, List, [], ◌∷◌, ◌++◌, Option, Some, slice_get, if◌then◌else◌}
+use Rattle.std.specs.List.{AllZip}
 use Rattle.std.specs.Map.{lookup}
 use Rattle.std.specs.Option.{is_some, option_map_or}
 use Rattle.indexmap.specs.IndexMap.{insert_entry}
@@ -46,7 +47,4 @@ pub record IsKeyed (locations : List (List ℕ)) (keyed : Keyed) (place : PlaceO
 
 -- the places one by one
 abbrev pub AreKeyed : List (List ℕ) → List Keyed → List PlaceOf → Type 0
-AreKeyed locations [] [] = Unit {0}
-AreKeyed locations (keyed ∷ more) (place ∷ places) = IsKeyed locations keyed place × AreKeyed locations more places
-AreKeyed locations [] (place ∷ places) = ⊥
-AreKeyed locations (keyed ∷ more) [] = ⊥
+AreKeyed locations = AllZip (IsKeyed locations)

@@ -92,14 +92,3 @@ pub record IsReportOnText (Lists : TraceData → List (ℕ × ℕ) → Type 0) (
   pub trace : TraceData
   pub trace_is : IsTraceOf (lines_of text) trace
   pub report : IsReportOn Lists with_schedules trace bytes
-
--- the report of a trace, and of a text: of all races
-abbrev pub IsReport : Bool → TraceData → List ℕ → Type 0
-IsReport with_schedules trace bytes = IsReportOn AllRaces with_schedules trace bytes
-
-abbrev pub IsReportOf : Bool → List ℕ → List ℕ → Type 0
-IsReportOf with_schedules text bytes = IsReportOnText AllRaces with_schedules text bytes
-
--- the places report of a text: of its leading races
-abbrev pub IsPlacesReportOf : Bool → List ℕ → List ℕ → Type 0
-IsPlacesReportOf with_schedules text bytes = IsReportOnText LeadingRaces with_schedules text bytes

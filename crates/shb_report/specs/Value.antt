@@ -1,6 +1,7 @@
 -- What a report says, and the text that says it, in version 1 (without places) and version 2 (with them).
-use Rattle.std.specs.Prelude.{◌≡◌, ℕ, ◌+◌, ◌<◌, ◌≤◌, ◌^◌, ◌==◌, not, true, List, [], ◌∷◌, ◌++◌, length, codes, decimal, Option, None, Some, IfSome}
+use Rattle.std.specs.Prelude.{◌≡◌, ℕ, ◌+◌, ◌<◌, ◌≤◌, ◌^◌, ◌==◌, not, Bool, true, List, [], ◌∷◌, ◌++◌, length, codes, decimal, Option, None, Some, IfSome, if◌then◌else◌}
 use Rattle.std.specs.List.{AllByRecursion, list_all}
+use Rattle.std.specs.Option.{is_some}
 use Rattle.shb_report.specs.declared.counts.Counts.{Counts}
 
 -- the block of a race: the numbers of its two events, their lines, and the numbers of its schedule, all as they are written
@@ -23,18 +24,9 @@ pub record ReportValue : Type 0 where
   pub places : Option (List Place)
   pub blocks : List Block
 
-abbrev pub version_of : Option (List Place) → ℕ
-version_of None = 1
-version_of (Some places) = 2
-
-abbrev pub listed_places : Option (List Place) → List Place
-listed_places None = []
-listed_places (Some places) = places
-
--- the lines, without their line feeds
-abbrev pub version_line : Option (List Place) → List ℕ
-version_line None = codes "shb-report 1"
-version_line (Some places) = codes "shb-report 2"
+-- the lines, without their line feeds; the first one, of reports that have places and of those that have none
+abbrev pub version_line : Bool → List ℕ
+version_line with_places = if with_places then codes "shb-report 2" else codes "shb-report 1"
 
 abbrev pub counts_line : Counts → List ℕ
 counts_line counts =
@@ -81,7 +73,7 @@ places_section (Some places) = places_line (length places) ∷ place_lines 1 pla
 
 abbrev pub report_lines : ReportValue → List (List ℕ)
 report_lines report =
-    version_line report.places ∷ (counts_line report.counts ∷ (races_line (length report.blocks)
+    version_line (is_some report.places) ∷ (counts_line report.counts ∷ (races_line (length report.blocks)
     ∷ (places_section report.places ++ (block_lines 1 report.blocks ++ codes "end" ∷ []))))
 
 -- lines, each with its line feed

@@ -26,16 +26,15 @@ impl Drop for Locations<'_> {
 }
 
 impl<'t> Model for Locations<'t> {
-    ghost use Rattle.std.specs.Prelude.{ℕ, List};
+    ghost use Rattle.std.specs.Prelude.{ℕ, List, map};
     ghost use Rattle.std.specs.List.{IsDistinct};
     ghost use Rattle.std.specs.Str.{bytes_eq};
-    ghost use Rattle.shb_report.specs.Locations.{locations_in};
 
     ghost Value = { List (List ℕ) };
 
-    ghost view = { λ l. locations_in l.known.keys };
+    ghost view = { λ l. map (λ location. location.bytes.now) l.known.keys };
 
-    ghost invariant = { λ l. IsDistinct bytes_eq (locations_in l.known.keys) };
+    ghost invariant = { λ l. IsDistinct bytes_eq (map (λ location. location.bytes.now) l.known.keys) };
 }
 
 impl<'t> Locations<'t> {

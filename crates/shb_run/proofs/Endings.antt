@@ -11,23 +11,23 @@ use Rattle.shb_lines.proofs.events.Schedulable.{printed_is_schedule}
 use Rattle.shb_lines.proofs.events.Unschedulable.{race_of_schedule}
 use Rattle.shb_lines.specs.text.Limits.{standard_limits}
 use Rattle.shb_discipline.proofs.FirstFault.{accepted}
-use Rattle.shb_report.specs.Report.{AllRaces, IsReportOn, IsReportOnText, LeadingRaces}
+use Rattle.shb_report.specs.Report.{LeadingRaces, counts_of}
+use Rattle.shb_report.specs.Value.{AreShown, IsShown}
 use Rattle.shb_report.proofs.LeadingReports.{leading_are_races, race_led_once}
 use Rattle.shb_write.specs.declared.errors.WriteError.{WriteError}
 use Rattle.shb_write.specs.declared.errors.WriteError.TheVariants as writing
 use Rattle.shb_run.specs.declared.settings.Choice.{Choice}
 use Rattle.shb_run.specs.declared.settings.Choice.TheVariants.{All, Leading}
 use Rattle.shb_run.specs.declared.settings.Summary.{Summary}
-use Rattle.shb_check.specs.Judged.{IsAccepted}
+use Rattle.shb_check.specs.Errors.{IsAccepted}
 use Rattle.shb_check.specs.Outcomes.{Grows}
-use Rattle.shb_run.specs.Runs.{FitsU64, HasTrace, IsReportedBy, ListsPlaces, ListsSchedulable}
+use Rattle.shb_run.specs.Runs.{HasTrace, IsReported, ListedBy, ListsPlaces, ListsRaces, ListsSchedulable, ReportsTrace, summary_of}
 use Rattle.shb_write.specs.Written.{CutsBlocksOn, HasReported, These}
 use Rattle.shb_run.specs.Outcomes.{HasSummed}
-use Rattle.shb_run.specs.Written.{ListedBy, ReportsTrace, summary_of}
 use Rattle.shb_check.proofs.Endings.{Grows-same}
 use Rattle.shb_run.proofs.Reports.{known_blocks, known_cut, known_written}
 
-pub schedulable_of : (events : List Event) (races : List (ℕ × ℕ)) → IsDisciplined events → IsRaceList events races → ListsSchedulable events races
+schedulable_of : (events : List Event) (races : List (ℕ × ℕ)) → IsDisciplined events → IsRaceList events races → ListsSchedulable events races
 schedulable_of events races disciplined are = record {
   listed = λ i j is.
       let printed = printed_exists events disciplined i j in
@@ -40,7 +40,7 @@ schedulable_of events races disciplined are = record {
       ];
 }
 
-pub places_of : (trace : TraceData) (races : List (ℕ × ℕ)) → IsDisciplined trace.events → LeadingRaces trace races → ListsPlaces trace races
+places_of : (trace : TraceData) (races : List (ℕ × ℕ)) → IsDisciplined trace.events → LeadingRaces trace races → ListsPlaces trace races
 places_of trace races disciplined lists = record {
   race = leading_are_races trace races lists;
   listed = λ i j is.
@@ -49,36 +49,22 @@ places_of trace races disciplined lists = record {
   once = race_led_once trace races lists;
 }
 
-abbrev pub report_of_text : (Lists : TraceData → List (ℕ × ℕ) → Type 0) (ws : Bool) (text bytes : List ℕ) (read : TraceData) (stop : Option LineFault) (trace : TraceData)
-    → IsAccepted read stop trace → IsReadingOf standard_limits text read stop → IsReportOn Lists ws trace bytes → IsReportOnText Lists ws text bytes
-report_of_text Lists ws text bytes read stop trace accepted reading report = record {
-  trace = trace;
-  trace_is = subst (IsTraceOf (lines_of text)) (sym accepted.same) (accepted.whole text reading);
-  report = report;
-}
+races_of : (choice : Choice) (trace : TraceData) (races : List (ℕ × ℕ)) → IsDisciplined trace.events → ListedBy choice trace races → ListsRaces choice trace races
+races_of All trace races = schedulable_of trace.events races
+races_of Leading trace races = places_of trace races
 
 pub reported_of : (choice : Choice) (ws : Bool) (text : List ℕ) (read : TraceData) (stop : Option LineFault) (events : List Event) (trace : TraceData) (summary : Summary) (old new : Option (List ℕ))
-    → IsDisciplined events → events ≡ trace.events → IsAccepted read stop trace → ReportsTrace (ListedBy choice) ws trace summary old new → FitsU64 summary → IsReadingOf standard_limits text read stop
-    → IsReportedBy choice ws text summary old new
-reported_of All ws text read stop events trace summary old new disciplined same accepted written fits reading = record {
+    → IsDisciplined events → events ≡ trace.events → IsAccepted read stop trace → ReportsTrace (ListedBy choice) ws trace summary old new → AreShown (counts_of trace) × IsShown summary.races → IsReadingOf standard_limits text read stop
+    → IsReported choice ws text summary old new
+reported_of choice ws text read stop events trace summary old new disciplined same accepted written fits reading = record {
   faultless = accepted.faultless text reading;
   bytes = written.bytes;
-  report = report_of_text AllRaces ws text written.bytes read stop trace accepted reading written.report;
+  report = record { trace = trace; trace_is = subst (IsTraceOf (lines_of text)) (sym accepted.same) (accepted.whole text reading); report = written.report };
   disciplined = subst IsDisciplined same disciplined;
   written = written.written;
   summary_is = written.summary_is;
   fits = fits;
-  schedulable = schedulable_of trace.events written.report.races (subst IsDisciplined same disciplined) written.report.races_are;
-}
-reported_of Leading ws text read stop events trace summary old new disciplined same accepted written fits reading = record {
-  faultless = accepted.faultless text reading;
-  bytes = written.bytes;
-  report = report_of_text LeadingRaces ws text written.bytes read stop trace accepted reading written.report;
-  disciplined = subst IsDisciplined same disciplined;
-  written = written.written;
-  summary_is = written.summary_is;
-  fits = fits;
-  places = places_of trace written.report.races (subst IsDisciplined same disciplined) written.report.races_are;
+  lists = races_of choice trace written.report.races (subst IsDisciplined same disciplined) written.report.races_are;
 }
 
 -- a text that has no fault, and what holds of its trace
@@ -96,7 +82,7 @@ or_then (inr b) then = inr (then b)
 
 -- a report on these races is one of this choice
 module _ {K : Type 0} (choice : Choice) (ws : Bool) (trace : TraceData) (races : List (ℕ × ℕ)) (lists : ListedBy choice trace races) (taken : K → Option (List ℕ)) (failures : K → ℕ) (old new : K) where
-  pub summed : (U : Type 0) (x : U) (summary : Summary) (count : ℕ) → summary ≡ summary_of trace count → FitsU64 summary → count ≡ length races
+  pub summed : (U : Type 0) (x : U) (summary : Summary) (count : ℕ) → summary ≡ summary_of trace count → AreShown (counts_of trace) × IsShown summary.races → count ≡ length races
       → HasReported {T = U} (These races) ws trace taken failures old new (Ok x) → HasSummed choice ws trace taken failures old new (Ok summary)
   summed U x summary count is fits counted has =
       let written = has.report in record {

@@ -11,14 +11,15 @@ use Rattle.shb_lines.proofs.text.TakingLemmas.{reads_left, reads_then, reads_tol
 use Rattle.shb_discipline.specs.FirstFault.{IsFirstFault}
 use Rattle.shb_check.specs.declared.errors.RunError.{RunError}
 use Rattle.shb_check.specs.declared.errors.RunError.TheVariants.{Trace, Source, Sink, Memory}
-use Rattle.shb_check.specs.Judged.{IsAccepted, IsRefusalOf}
+use Rattle.shb_check.specs.Errors.{IsAccepted, IsRefusalOf}
 use Rattle.shb_check.proofs.Endings.{Grows-same, none_found, of_any_fault}
+use Rattle.shb_report.specs.Report.{counts_of}
+use Rattle.shb_report.specs.Value.{AreShown, IsShown}
 use Rattle.shb_write.specs.Written.{CutsBlocksOn, CutsReportOn}
 use Rattle.shb_run.specs.declared.settings.Choice.{Choice}
 use Rattle.shb_run.specs.declared.settings.Summary.{Summary}
 use Rattle.shb_run.specs.Outcomes.{IsOutcome}
-use Rattle.shb_run.specs.Runs.{FitsU64}
-use Rattle.shb_run.specs.Written.{ListedBy, ReportsTrace}
+use Rattle.shb_run.specs.Runs.{ListedBy, ReportsTrace}
 use Rattle.shb_run.proofs.Endings.{grown_of_refused, has_trace, or_then, reported_of}
 
 module _ {A B : Type 0} (choice : Choice) (ws : Bool) (remaining : A → Option (List ℕ)) (given failed_reads : A → ℕ) (source left : A) (taken : B → Option (List ℕ)) (failed_writes : B → ℕ) (sink : B)
@@ -67,7 +68,7 @@ module _ {A B : Type 0} (choice : Choice) (ws : Bool) (remaining : A → Option 
 
     module _ (trace : TraceData) (accepted : IsAccepted read stop trace) (written : B) where
       -- the report was written
-      pub of_report : (events : List Event) (summary : Summary) → IsDisciplined events → events ≡ trace.events → ReportsTrace (ListedBy choice) ws trace summary (taken sink) (taken written) → FitsU64 summary
+      pub of_report : (events : List Event) (summary : Summary) → IsDisciplined events → events ≡ trace.events → ReportsTrace (ListedBy choice) ws trace summary (taken sink) (taken written) → AreShown (counts_of trace) × IsShown summary.races
           → failed_writes written ≡ failed_writes sink
           → IsOutcome choice ws remaining given failed_reads source left taken failed_writes sink written (Ok summary)
       of_report events summary disciplined same report fits no_failed_write = record {

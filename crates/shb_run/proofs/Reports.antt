@@ -15,7 +15,7 @@ use Rattle.shb_judging.proofs.WrittenGood.{all_are_races}
 use Rattle.shb_run.specs.declared.settings.Choice.{Choice}
 use Rattle.shb_run.specs.declared.settings.Choice.TheVariants as choices
 use Rattle.shb_write.specs.Written.{CutsBlocksOn, CutsReportOn, These, WritesReport}
-use Rattle.shb_run.specs.Written.{ListedBy}
+use Rattle.shb_run.specs.Runs.{ListedBy}
 
 -- each pair that a report of this choice lists is a race
 pub listed_are_races : (choice : Choice) (trace : TraceData) (races : List (ℕ × ℕ)) → ListedBy choice trace races → (i j : ℕ) → Contains races (i, j) → Race trace.events i j

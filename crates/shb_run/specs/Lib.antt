@@ -1,4 +1,2 @@
-pub mod Statuses
-pub mod Written
 pub mod Runs
 pub mod Outcomes

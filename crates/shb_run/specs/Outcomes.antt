@@ -8,17 +8,18 @@ use Rattle.shb_discipline.specs.FirstFault.{IsFirstFault}
 use Rattle.shb_check.specs.declared.errors.RunError.{RunError}
 use Rattle.shb_check.specs.Outcomes.{Grows, OnJudged, OnMemory, OnNoTrace, OnSink, OnTrace, sink_failed, source_failed}
 use Rattle.shb_lines.specs.text.TraceData.{TraceData}
+use Rattle.shb_report.specs.Report.{counts_of}
+use Rattle.shb_report.specs.Value.{AreShown, IsShown}
 use Rattle.shb_write.specs.declared.errors.WriteError.{WriteError}
 use Rattle.shb_write.specs.Written.{CutsBlocksOn, CutsReportOn, OnFailedSink, OnNoMemory, write_failed}
 use Rattle.shb_run.specs.declared.settings.Choice.{Choice}
 use Rattle.shb_run.specs.declared.settings.Summary.{Summary}
-use Rattle.shb_run.specs.Runs.{FitsU64, HasTrace, IsReportedBy}
-use Rattle.shb_run.specs.Written.{ListedBy, ReportsTrace}
+use Rattle.shb_run.specs.Runs.{HasTrace, IsReported, ListedBy, ReportsTrace}
 
 -- what the writing of the report of a trace leaves, and what it answers: all of the report and its summary; the front of it where the sink failed; and where memory was refused nothing or all lines before the first block
 pub record HasSummed {K : Type 0} (choice : Choice) (with_schedules : Bool) (trace : TraceData) (taken : K → Option (List ℕ)) (failures : K → ℕ) (old new : K) (answer : Result Summary WriteError) : Type 0 where
   pub report : IfOk answer (λ summary. ReportsTrace (ListedBy choice) with_schedules trace summary (taken old) (taken new))
-  pub fits : IfOk answer FitsU64
+  pub fits : IfOk answer (λ summary. AreShown (counts_of trace) × IsShown summary.races)
   pub cut : OnFailedSink answer (CutsReportOn (ListedBy choice) with_schedules trace (taken old) (taken new))
   pub memory : OnNoMemory answer ((new ≡ old) ⊎ CutsBlocksOn (ListedBy choice) with_schedules trace (taken old) (taken new))
   pub counted : CountsFailure write_failed (failures old) (failures new) answer
@@ -32,7 +33,7 @@ module _ {A B : Type 0} (choice : Choice) (with_schedules : Bool) (remaining : A
 
   pub record IsOutcome (answer : Result Summary RunError) : Type 0 where
     -- the text that was read has no fault, and the report that is asked for was written
-    pub read : IfOk answer (λ summary. OnText (λ text. IsReportedBy choice with_schedules text summary (taken sink) (taken written)))
+    pub read : IfOk answer (λ summary. OnText (λ text. IsReported choice with_schedules text summary (taken sink) (taken written)))
     -- a refused trace has this fault first
     pub refused : OnTrace answer (λ line fault. OnText (λ text. IsFirstFault standard_limits text line fault))
     -- nothing was written where the trace was refused or not read, and where the text has a fault

@@ -1,4 +1,4 @@
--- What a run says of the text that it read, and what it leaves in the sink.
+-- What a run says of the trace of the text that it read, and what it leaves in the sink.
 use Rattle.std.specs.Prelude.{◌≡◌, ℕ, ◌<◌, Bool, List, length, map, Contains, Option}
 use Rattle.std.specs.Io.KnownBytes.{Appends}
 use Rattle.shb_lines.specs.declared.event.Event.{Event}
@@ -11,12 +11,33 @@ use Rattle.shb_lines.specs.events.Schedule.{IsPrintedSchedule, IsSchedule}
 use Rattle.shb_lines.specs.text.Limits.{standard_limits}
 use Rattle.shb_discipline.specs.FirstFault.{HasNoFault}
 use Rattle.shb_report.specs.Leading.{HasOnce, place_at}
-use Rattle.shb_report.specs.Report.{IsPlacesReportOf, IsReportOf, pair_of}
-use Rattle.shb_report.specs.Value.{IsShown}
+use Rattle.shb_report.specs.Report.{AllRaces, IsReportOn, IsReportOnText, LeadingRaces, counts_of, pair_of}
+use Rattle.shb_report.specs.Value.{AreShown, IsShown}
 use Rattle.shb_run.specs.declared.settings.Choice.{Choice}
 use Rattle.shb_run.specs.declared.settings.Choice.TheVariants.{All, Leading}
 use Rattle.shb_run.specs.declared.settings.Summary.{Summary}
-use Rattle.shb_run.specs.Written.{summary_of}
+
+-- the races that a report of this choice lists
+abbrev pub ListedBy : Choice → TraceData → List (ℕ × ℕ) → Type 0
+ListedBy All = AllRaces
+ListedBy Leading = LeadingRaces
+
+-- what a run says of a trace with so many races
+abbrev pub summary_of : TraceData → ℕ → Summary
+summary_of trace races = record {
+  events = length trace.events;
+  threads = length trace.threads;
+  locks = length trace.locks;
+  variables = length trace.variables;
+  races = races;
+}
+
+-- the report of a trace on such races was written, and the summary is that of the report
+pub record ReportsTrace (Lists : TraceData → List (ℕ × ℕ) → Type 0) (with_schedules : Bool) (trace : TraceData) (summary : Summary) (old new : Option (List ℕ)) : Type 0 where
+  pub bytes : List ℕ
+  pub report : IsReportOn Lists with_schedules trace bytes
+  pub written : Appends old new bytes
+  pub summary_is : summary ≡ summary_of trace (length report.races)
 
 -- each listed pair has a printed schedule, which is a schedule of it; a conflicting pair that is not listed has none, and its earlier event is SHB-below the predecessor of the later one
 pub record ListsSchedulable (events : List Event) (races : List (ℕ × ℕ)) : Type 0 where
@@ -24,46 +45,27 @@ pub record ListsSchedulable (events : List Event) (races : List (ℕ × ℕ)) : 
   pub unlisted : (i j : ℕ) → i < j → Conflict events i j → ¬ Contains races (i, j) → (s : List ℕ) → ¬ IsSchedule events s i j
   pub ordered : (i j : ℕ) → i < j → Conflict events i j → ¬ Contains races (i, j) → BelowPred events i j
 
--- the numbers of a summary have 64 bits
-pub record FitsU64 (summary : Summary) : Type 0 where
-  pub events : IsShown summary.events
-  pub threads : IsShown summary.threads
-  pub locks : IsShown summary.locks
-  pub variables : IsShown summary.variables
-  pub races : IsShown summary.races
-
--- the text has no fault, its report was written and nothing else, the trace of the report is disciplined, and the summary is that of the report
-pub record IsReported (with_schedules : Bool) (text : List ℕ) (summary : Summary) (old new : Option (List ℕ)) : Type 0 where
-  pub faultless : HasNoFault standard_limits text
-  pub bytes : List ℕ
-  pub report : IsReportOf with_schedules text bytes
-  pub disciplined : IsDisciplined report.trace.events
-  pub written : Appends old new bytes
-  pub summary_is : summary ≡ summary_of report.trace (length report.report.races)
-  pub fits : FitsU64 summary
-  pub schedulable : ListsSchedulable report.trace.events report.report.races
-
 -- each listed pair is a race and has a printed schedule, which is a schedule of it; each race of the trace has the place of exactly one listed pair
 pub record ListsPlaces (trace : TraceData) (races : List (ℕ × ℕ)) : Type 0 where
   pub race : (i j : ℕ) → Contains races (i, j) → Race trace.events i j
   pub listed : (i j : ℕ) → Contains races (i, j) → (s : List ℕ) × IsPrintedSchedule trace.events s i j × IsSchedule trace.events s i j
   pub once : (i j : ℕ) → Race trace.events i j → HasOnce trace (map pair_of races) (place_at trace i j)
 
--- the text has no fault, its places report was written and nothing else, the trace of the report is disciplined, and the summary is that of the report
-pub record IsPlacesReported (with_schedules : Bool) (text : List ℕ) (summary : Summary) (old new : Option (List ℕ)) : Type 0 where
+-- what holds of the races that a report of this choice lists
+abbrev pub ListsRaces : Choice → TraceData → List (ℕ × ℕ) → Type 0
+ListsRaces All trace races = ListsSchedulable trace.events races
+ListsRaces Leading trace races = ListsPlaces trace races
+
+-- the text has no fault, its report of this choice was written and nothing else, the trace of the report is disciplined, and the summary is that of the report, with numbers of 64 bits
+pub record IsReported (choice : Choice) (with_schedules : Bool) (text : List ℕ) (summary : Summary) (old new : Option (List ℕ)) : Type 0 where
   pub faultless : HasNoFault standard_limits text
   pub bytes : List ℕ
-  pub report : IsPlacesReportOf with_schedules text bytes
+  pub report : IsReportOnText (ListedBy choice) with_schedules text bytes
   pub disciplined : IsDisciplined report.trace.events
   pub written : Appends old new bytes
   pub summary_is : summary ≡ summary_of report.trace (length report.report.races)
-  pub fits : FitsU64 summary
-  pub places : ListsPlaces report.trace report.report.races
-
--- what was written by a run of this choice
-abbrev pub IsReportedBy : Choice → Bool → List ℕ → Summary → Option (List ℕ) → Option (List ℕ) → Type 0
-IsReportedBy All with_schedules text summary old new = IsReported with_schedules text summary old new
-IsReportedBy Leading with_schedules text summary old new = IsPlacesReported with_schedules text summary old new
+  pub fits : AreShown (counts_of report.trace) × IsShown summary.races
+  pub lists : ListsRaces choice report.trace report.report.races
 
 -- the text has no fault, and P holds of its trace
 pub record HasTrace (text : List ℕ) (P : TraceData → Type 0) : Type 0 where

@@ -2,8 +2,9 @@
 ghost use Rattle.std.specs.Prelude.{◌≡◌, ◌-◌, ◌^◌, ◌<◌};
 ghost use Rattle.shb_run.specs.declared.settings.Choice.TheVariants.{All};
 ghost use Rattle.shb_run.specs.Outcomes.{HasSummed, IsOutcome};
-ghost use Rattle.shb_run.specs.Runs.{FitsU64};
-ghost use Rattle.shb_run.specs.Written.{summary_of};
+ghost use Rattle.shb_report.specs.Report.{counts_of};
+ghost use Rattle.shb_report.specs.Value.{AreShown, IsShown};
+ghost use Rattle.shb_run.specs.Runs.{summary_of};
 
 use crate::all::report_found;
 use crate::leading::report_leading;
@@ -26,7 +27,7 @@ use std::thread::Threads;
 /// What a run says of a trace that has so many races.
 pub(crate) fn summary_of(trace: &Trace, races: u64) -> Summary
     ensures summary { result ≡ summary_of trace.now races }
-    ensures fits { FitsU64 result }
+    ensures fits { AreShown (counts_of trace.now) × IsShown result.races }
 {
     Summary {
         events: u64::from(trace.len()),

@@ -26,22 +26,22 @@ use std::alloc::Global;
 pub fn schedule<O: Order>(
     alloc: Global,
     order: &O,
-    trace: &Disciplined<'_>,
+    disciplined: &Disciplined<'_>,
     links: &Links<'_>,
     pair: Pair,
 ) -> Result<Vec<u32>, NoMemory>
-    requires of_trace { O.trace order.now ≡ trace.now.events.now }
-    requires linked { links.now ≡ trace.now.events.now }
-    requires race { Race trace.now.events.now pair.first pair.second }
+    requires of_trace { O.trace order.now ≡ disciplined.now.events.now }
+    requires linked { links.now ≡ disciplined.now.events.now }
+    requires race { Race disciplined.now.events.now pair.first pair.second }
     requires asked { AsksBoth (O.asks order.now) pair }
-    ensures printed { IfOk result (λ s. IsPrintedSchedule trace.now.events.now s.items
+    ensures printed { IfOk result (λ s. IsPrintedSchedule disciplined.now.events.now s.items
         pair.first pair.second) }
-    ensures schedule { IfOk result (λ s. IsSchedule trace.now.events.now s.items
+    ensures schedule { IfOk result (λ s. IsSchedule disciplined.now.events.now s.items
         pair.first pair.second) }
 {
     let ordered = Ordered {
         order: &*order,
-        disciplined: &*trace,
+        disciplined: &*disciplined,
         links: &*links,
     };
     schedule_runs(alloc, &ordered, None, pair)?.to_vec(alloc)

@@ -5,7 +5,7 @@ use Rattle.std.proofs.lemmas.List.Concat.{flat_map-append}
 use Rattle.std.specs.Io.KnownBytes.{Appends}
 use Rattle.shb_io.specs.Devices.{AppendsPrefix, HoldsBack}
 use Rattle.shb_io.proofs.Growth.{Appends-trans, AppendsPrefix-front, AppendsPrefix-after, HoldsBack-push, HoldsBack-trans}
-use Rattle.shb_report.specs.Held.{Puts}
+use Rattle.shb_report.specs.Writing.{Puts}
 
 -- xs, and then ys
 pub HoldsBack-then : (a b c : Option (List ℕ)) (held mid now xs ys : List ℕ) → HoldsBack a b mid (held ++ xs) → HoldsBack b c now (mid ++ ys) → HoldsBack a c now (held ++ (xs ++ ys))
@@ -27,6 +27,10 @@ PutsPrefix-after a b c held mid xs ys p q =
 pub Puts-then : {T E : Type 0} (r : Result T E) (a b c : Option (List ℕ)) (held mid now xs ys : List ℕ) → HoldsBack a b mid (held ++ xs) → Puts b c r mid now ys → Puts a c r held now (xs ++ ys)
 Puts-then (Ok _) a b c held mid now xs ys p q = HoldsBack-then a b c held mid now xs ys p q
 Puts-then (Err _) a b c held mid now xs ys p q = PutsPrefix-after a b c held mid xs ys p q
+
+-- the same text in another form
+pub Puts-as : {T E : Type 0} (r : Result T E) (a b : Option (List ℕ)) (held now xs ys : List ℕ) → xs ≡ ys → Puts a b r held now xs → Puts a b r held now ys
+Puts-as r a b held now xs ys same p = subst (Puts a b r held now) same p
 
 -- at the exit of a `?`
 pub Puts-err : {T E : Type 0} (Q : E → Type 0) (r : Result T E) (a b : Option (List ℕ)) (held now xs : List ℕ) → IsErrAnd r Q → AppendsPrefix a b (held ++ xs) → Puts a b r held now xs

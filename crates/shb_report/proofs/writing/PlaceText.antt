@@ -5,7 +5,7 @@ use Rattle.std.proofs.lemmas.List.{length-map, map-append, take_more}
 use Rattle.std.specs.Fmt.{decimal}
 use Rattle.shb_lines.specs.text.TraceData.{TraceData}
 use Rattle.shb_report.specs.declared.places.PlaceCount.{PlaceCount}
-use Rattle.shb_report.specs.BlockTexts.{labelled_line}
+use Rattle.shb_report.specs.Writing.{labelled_line}
 use Rattle.shb_report.specs.Places.{place_bytes, places_bytes, section_bytes, shown_place, shown_places}
 use Rattle.shb_report.specs.Value.{Place, lines_text, place_line, place_lines}
 use Rattle.shb_report.proofs.LineLemmas.{lines_text-append, place_lines-append}

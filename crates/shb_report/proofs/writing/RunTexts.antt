@@ -1,6 +1,6 @@
 -- The numbers of consecutive events.
 use Rattle.std.proofs.lemmas.Grind.{common_steps}
-use Rattle.std.proofs.Common.{◌≡◌, ℕ, ◌+◌, ◌-◌, ◌<◌, ◌≤◌, List, [], ◌∷◌, ◌++◌, length, get_or, refl, sym, ap, ◌∙◌, arith, append_assoc, append-nil, length-append}
+use Rattle.std.proofs.Common.{◌≡◌, ℕ, ◌+◌, ◌-◌, ◌<◌, ◌≤◌, List, [], ◌∷◌, ◌++◌, length, get_or, take, drop, refl, sym, ap, ◌∙◌, arith, append_assoc, append-nil, length-append, take-append-drop}
 use Rattle.std.specs.List.{range_with_len, slice_range}
 use Rattle.std.proofs.lemmas.Bool.{cases_lt}
 use Rattle.std.proofs.lemmas.List.{get_or_push, get_or_read, length_push}
@@ -10,8 +10,8 @@ use Rattle.std.proofs.Math.Seq.{drop-append_seam, take-append_seam}
 use Rattle.shb_positions.specs.declared.positions.Run.{Run}
 use Rattle.shb_positions.specs.Runs.{positions_in, run_positions}
 use Rattle.shb_positions.proofs.RunLemmas.{range_split}
-use Rattle.shb_report.specs.Numbers.{HasNumbers, first_numbers, run_numbers}
-use Rattle.shb_report.specs.BlockTexts.{event_number, event_numbers}
+use Rattle.shb_report.specs.Writing.{HasNumbers, event_number, event_numbers, first_numbers}
+use Rattle.shb_report.proofs.writing.HeldLemmas.{texts-next}
 
 numbers_split : (a m n b k : ℕ) → a + m ≡ b → m + n ≡ k → event_numbers (range_with_len a k) ≡ event_numbers (range_with_len a m) ++ event_numbers (range_with_len b n)
 numbers_split a m n b k from more = ap event_numbers (range_split a m n b k from more) ∙ flat_map-append event_number (range_with_len a m) (range_with_len b n)
@@ -28,11 +28,17 @@ numbers-split a k j n from within =
     ∙ ap (λ l. l ++ event_numbers (range_with_len (j + 1) (n - (k + 1)))) (numbers-next a k j from)
     ∙ sym (numbers_split a (k + 1) (n - (k + 1)) (j + 1) n (omega (arith, from)) (omega (arith, within)))
 
--- run by run, or event by event
-pub run_numbers-are : (runs : List Run) → run_numbers runs ≡ event_numbers (positions_in runs)
-run_numbers-are [] = refl
-run_numbers-are (run ∷ runs) =
-    ap (λ l. event_numbers (run_positions run) ++ l) (run_numbers-are runs) ∙ sym (flat_map-append event_number (run_positions run) (positions_in runs))
+-- the numbers of the first runs, of the next one, and of those after it
+module _ (runs : List Run) (k : ℕ) (d : Run) (within : k < length runs) where
+  pub runs-next : event_numbers (positions_in (take k runs)) ++ event_numbers (run_positions (get_or runs k d)) ≡ event_numbers (positions_in (take (k + 1) runs))
+  runs-next = sym (flat_map-append event_number (positions_in (take k runs)) (run_positions (get_or runs k d))) ∙ ap event_numbers (texts-next run_positions runs k d within)
+
+  pub runs-split : event_numbers (positions_in (take k runs)) ++ (event_numbers (run_positions (get_or runs k d)) ++ event_numbers (positions_in (drop (k + 1) runs))) ≡ event_numbers (positions_in runs)
+  runs-split =
+      sym (append_assoc (event_numbers (positions_in (take k runs))) (event_numbers (run_positions (get_or runs k d))) (event_numbers (positions_in (drop (k + 1) runs))))
+      ∙ ap (λ l. l ++ event_numbers (positions_in (drop (k + 1) runs))) runs-next
+      ∙ sym (flat_map-append event_number (positions_in (take (k + 1) runs)) (positions_in (drop (k + 1) runs)))
+      ∙ ap event_numbers (sym (flat_map-append run_positions (take (k + 1) runs) (drop (k + 1) runs)) ∙ ap positions_in (take-append-drop (k + 1) runs))
 
 -- the text of one number more
 pub numbers-more : (count : ℕ) (text starts : List ℕ) → HasNumbers count text starts → HasNumbers (count + 1) (text ++ event_number count) (starts ++ length (text ++ event_number count) ∷ [])

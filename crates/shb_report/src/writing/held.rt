@@ -1,9 +1,10 @@
 //! Text that is held back in a buffer, and sent once the buffer is full.
-ghost use Rattle.std.specs.Prelude.{◌+◌, ◌-◌, ◌^◌, ◌<◌, ◌≤◌, ◌++◌, length, OnErr, OnOk};
+ghost use Rattle.std.specs.Prelude.{◌+◌, ◌-◌, ◌^◌, ◌<◌, ◌≤◌, ◌++◌, Some, length, OnErr, OnOk};
 ghost use Rattle.std.specs.Option.{option_map};
 ghost use Rattle.shb_io.specs.Devices.{AppendsPrefix, HoldsBack, IsCounted};
-ghost use Rattle.shb_report.specs.Held.{Puts};
-ghost use Rattle.shb_report.specs.BlockTexts.{event_number, event_numbers, labelled_line, schedule_bytes, schedule_line, schedule_start};
+ghost use Rattle.shb_report.specs.Writing.{Puts, event_number, event_numbers, labelled_line, schedule_start};
+ghost use Rattle.shb_report.specs.Report.{schedule_lines};
+ghost use Rattle.shb_report.specs.Value.{lines_text};
 ghost use Rattle.shb_report.specs.declared.writing.buffer.TheConstants.{ROOM};
 
 use super::buffer::{DIGITS, ROOM, TextBuffer};
@@ -117,7 +118,8 @@ fn put_schedule_line<S: Sink>(
     events: &[u32],
 ) -> Result<(), Failed>
     requires countable { S.failure_count sink.old < 2 ^ 64 - 1 }
-    ensures put { Puts (S.taken sink.old) (S.taken sink.new) result held.old held.new (schedule_line events.now) }
+    ensures put { Puts (S.taken sink.old) (S.taken sink.new) result held.old held.new
+        (lines_text (schedule_lines (Some events.now))) }
     ensures counted { IsCounted (S.failure_count sink.old) (S.failure_count sink.new) result }
 {
     put_schedule_start(sink, held, events.len() as u64)?;
@@ -133,7 +135,7 @@ pub(crate) fn put_schedule<S: Sink>(
 ) -> Result<(), Failed>
     requires countable { S.failure_count sink.old < 2 ^ 64 - 1 }
     ensures put { Puts (S.taken sink.old) (S.taken sink.new) result held.old held.new
-        (schedule_bytes (option_map (λ s. s.now) schedule.entry)) }
+        (lines_text (schedule_lines (option_map (λ s. s.now) schedule.entry))) }
     ensures counted { IsCounted (S.failure_count sink.old) (S.failure_count sink.new) result }
 {
     match schedule {

@@ -1,10 +1,10 @@
 //! Schedules that are kept as runs, put after what is held back in a buffer.
-ghost use Rattle.std.specs.Prelude.{◌≡◌, ◌+◌, ◌-◌, ◌^◌, ◌<◌, ◌≤◌, ◌++◌, All, length, OnErr, OnOk};
+ghost use Rattle.std.specs.Prelude.{◌≡◌, ◌+◌, ◌-◌, ◌^◌, ◌<◌, ◌≤◌, ◌++◌, All, Some, length, OnErr, OnOk};
 ghost use Rattle.shb_io.specs.Devices.{AppendsPrefix, HoldsBack, IsCounted};
-ghost use Rattle.shb_positions.specs.Runs.{EndsInRange, run_positions};
-ghost use Rattle.shb_report.specs.Held.{Puts};
-ghost use Rattle.shb_report.specs.Numbers.{run_numbers};
-ghost use Rattle.shb_report.specs.BlockTexts.{event_numbers, schedule_line};
+ghost use Rattle.shb_positions.specs.Runs.{EndsInRange, positions_in, run_positions};
+ghost use Rattle.shb_report.specs.Writing.{Puts, event_numbers};
+ghost use Rattle.shb_report.specs.Report.{schedule_lines};
+ghost use Rattle.shb_report.specs.Value.{lines_text};
 
 use super::buffer::TextBuffer;
 use super::held::{put_bytes, put_event, put_schedule_start};
@@ -53,7 +53,7 @@ fn put_runs<S: Sink>(
 ) -> Result<(), Failed>
     requires countable { S.failure_count sink.old < 2 ^ 64 - 1 }
     requires ends { All EndsInRange runs.now }
-    ensures put { Puts (S.taken sink.old) (S.taken sink.new) result held.old held.new (run_numbers runs.now) }
+    ensures put { Puts (S.taken sink.old) (S.taken sink.new) result held.old held.new (event_numbers (positions_in runs.now)) }
     ensures counted { IsCounted (S.failure_count sink.old) (S.failure_count sink.new) result }
 {
     for run in runs {
@@ -70,7 +70,8 @@ pub(crate) fn put_runs_line<S: Sink>(
     schedule: &Positions,
 ) -> Result<(), Failed>
     requires countable { S.failure_count sink.old < 2 ^ 64 - 1 }
-    ensures put { Puts (S.taken sink.old) (S.taken sink.new) result held.old held.new (schedule_line schedule.now) }
+    ensures put { Puts (S.taken sink.old) (S.taken sink.new) result held.old held.new
+        (lines_text (schedule_lines (Some schedule.now))) }
     ensures counted { IsCounted (S.failure_count sink.old) (S.failure_count sink.new) result }
 {
     put_schedule_start(sink, held, schedule.len())?;

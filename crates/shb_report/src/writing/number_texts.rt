@@ -3,7 +3,7 @@ ghost use Rattle.std.specs.Prelude.{◌≡◌, ◌+◌, ◌<◌, ◌≤◌, ◌+
 ghost use Rattle.std.specs.List.{slice_range};
 ghost use Rattle.shb_positions.specs.Runs.{EndsInRange, run_positions};
 ghost use Rattle.shb_lines.specs.text.Limits.{most_events};
-ghost use Rattle.shb_report.specs.BlockTexts.{event_number, event_numbers};
+ghost use Rattle.shb_report.specs.Writing.{event_number, event_numbers};
 
 use super::buffer::TextBuffer;
 use shb_io::NoMemory;
@@ -23,7 +23,7 @@ pub struct NumberTexts {
 
 impl Model for NumberTexts {
     ghost use Rattle.std.specs.Prelude.{ℕ};
-    ghost use Rattle.shb_report.specs.Numbers.{HasNumbers};
+    ghost use Rattle.shb_report.specs.Writing.{HasNumbers};
 
     ghost Value = { ℕ };
 

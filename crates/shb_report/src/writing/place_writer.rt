@@ -1,7 +1,7 @@
 //! Writes the lines of the places.
 ghost use Rattle.std.specs.Prelude.{◌≡◌, ◌+◌, ◌-◌, ◌^◌, ◌<◌, ◌≤◌, ◌++◌, ◌∷◌, [], All, codes, length};
 ghost use Rattle.shb_io.specs.Devices.{IsCounted, Writes};
-ghost use Rattle.shb_report.specs.Held.{Puts};
+ghost use Rattle.shb_report.specs.Writing.{Puts};
 ghost use Rattle.shb_report.specs.Places.{IsPlaceOf, place_bytes, places_bytes, section_bytes};
 ghost use Rattle.shb_report.specs.Value.{place_line};
 ghost use Rattle.shb_report.specs.declared.writing.buffer.TheConstants.{ROOM};

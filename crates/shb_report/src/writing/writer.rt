@@ -1,11 +1,11 @@
 //! The parts of a report, each written by one call.
-ghost use Rattle.std.specs.Prelude.{◌≡◌, ◌+◌, ◌-◌, ◌^◌, ◌<◌, ◌≤◌, ◌++◌, length, Some};
+ghost use Rattle.std.specs.Prelude.{◌≡◌, ◌+◌, ◌-◌, ◌^◌, ◌<◌, ◌≤◌, ◌++◌, codes, length, Some};
 ghost use Rattle.std.specs.Option.{option_map};
 ghost use Rattle.shb_io.specs.Devices.{IsCounted, Writes};
 ghost use Rattle.shb_report.specs.declared.writing.buffer.TheConstants.{ROOM};
-ghost use Rattle.shb_report.specs.Held.{Puts};
-ghost use Rattle.shb_report.specs.BlockTexts.{event_lines, race_line};
+ghost use Rattle.shb_report.specs.Writing.{Puts, event_lines};
 ghost use Rattle.shb_report.specs.Report.{block_bytes, head_bytes, tail_bytes};
+ghost use Rattle.shb_report.specs.Value.{race_numbers_line};
 
 use super::buffer::TextBuffer;
 use super::held::{put_line, put_schedule};
@@ -48,7 +48,7 @@ pub fn head<S: Sink>(sink: &mut S, counts: &Counts, races: u64) -> Result<(), Fa
 /// Adds the line with the numbers of a race and of its events, which are counted from 1.
 fn push_race_line(text: &mut TextBuffer, number: u64, pair: Pair)
     requires { length text.old + 80 ≤ ROOM }
-    ensures { text.new ≡ text.old ++ race_line number (pair.first, pair.second) }
+    ensures { text.new ≡ text.old ++ (race_numbers_line number (pair.first + 1) (pair.second + 1) ++ codes "\n") }
 {
     text.push_labelled(b"race ", number);
     text.push_labelled(b": ", u64::from(pair.first) + 1);

@@ -9,8 +9,8 @@ returns-clause-ready g c =
     let claim = c.wait_to_claim.ensures in
     let place = c.place.ensures in
     let new : Worker g.row.T.Denot g.row.M.Denot = record { pass = c.wait_to_claim.new.worker.pass; seat = c.place.new.seat } in (
-      (can.0.0.0, (claim.pass.0 ∙ can.0.0.1.0, place.seat, place.claimed)),
-      placed_at c.args.worker.now new can.0.1 c.args.k can.2 can.1.0 claim.pass.1 claim.pass.2 (place.placed ∙ ap (λ (l : List ℕ). l ++ c.args.k ∷ []) claim.placed),
+      can.0.0,
+      ((claim.pass.0 ∙ can.0.1.0.0, place.seat, place.claimed), placed_at c.args.worker.now new can.0.1.1 c.args.k can.2 can.1.0 claim.pass.1 claim.pass.2 (place.placed ∙ ap (λ (l : List ℕ). l ++ c.args.k ∷ []) claim.placed)),
     )
 
 pub returns-clause-made : goal.returns-clause-made

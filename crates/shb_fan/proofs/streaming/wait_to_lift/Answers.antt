@@ -13,9 +13,9 @@ make-requires-clause-ready g c =
     let old = c.loop.own in
     let new : Worker g.row.T.Denot g.row.M.Denot = record { pass = c.draw_this.new.pass; seat = c.lift-lifted.new.seat } in
     let drawn : new.pass.drawn ≡ old.pass.drawn ++ c.args.k ∷ [] = ap (λ (p : PassState). p.drawn) won.1 ∙ ap (λ (p : PassState). p.drawn ++ c.args.k ∷ []) looked in
-    let halted : new.pass.halted ≡ false = ap (λ (p : PassState). p.halted) won.1 ∙ (ap (λ (p : PassState). p.halted) looked ∙ can.1.0) in
+    let halted : new.pass.halted ≡ false = ap (λ (p : PassState). p.halted) won.1 ∙ (ap (λ (p : PassState). p.halted) looked ∙ can.1.1.0) in
     let seen : new.pass.seen ≡ false = ap (λ (p : PassState). p.seen) won.1 ∙ (ap (λ (p : PassState). p.seen) looked ∙ c.if-stopped.false) in
-    let source = ap (λ (p : PassState). p.source) won.1 ∙ (ap (λ (p : PassState). p.source) looked ∙ can.0.0.0.1.0) in
+    let source = ap (λ (p : PassState). p.source) won.1 ∙ (ap (λ (p : PassState). p.source) looked ∙ can.1.0.0.0) in
     let above : All (λ x. x < c.args.k) old.pass.drawn = subst (λ (l : List ℕ). All (λ x. x < c.args.k) l) (ap (λ (p : PassState). p.drawn) looked) won.0 in
-    let owes = drawn_at old new can.0.0.1 c.args.k lost.placed drawn halted above in
-    (((can.0.0.0.0, (source, lost.seat, lost.claimed ∙ can.0.0.0.1.2)), owes.0), (halted, seen), owes.1, kept_at old new c.args.k can.0.1 lost.placed drawn)
+    let owes = drawn_at old new can.1.0.1 c.args.k lost.placed drawn halted above in
+    ((can.0, ((source, lost.seat, lost.claimed ∙ can.1.0.0.2), owes.0)), (halted, seen), owes.1, kept_at old new c.args.k can.1.2 lost.placed drawn)

@@ -2,7 +2,7 @@
 use Rattle.std.proofs.Common.{◌≡◌, ℕ, List, [], ◌∷◌, ◌+◌, ◌-◌, ◌++◌, ap, arith, map, take, sym, subst, ◌∙◌}
 use Rattle.shb_reading.specs.Forms.{Form, IsBadFrom, block_forms}
 use Rattle.shb_judging.specs.Judging.{AreJudged, first_positions}
-use Rattle.shb_reading.specs.BlockLines.{block_with}
+use Rattle.shb_reading.specs.Parts.{block_with}
 use Rattle.shb_reading.specs.Lines.{bytes_from}
 use Rattle.shb_report.specs.Value.{Block}
 use Rattle.shb_judging.specs.Verdicts.{position_of}

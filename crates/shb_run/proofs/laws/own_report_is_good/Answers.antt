@@ -1,8 +1,8 @@
-use Rattle.shb_run.proofs.OwnReport.{own_report, own_verdict}
+use Rattle.shb_run.proofs.OwnReport.{good_value, good_verdict}
 use Rattle.shb_run.proofs.laws.own_report_is_good.Goals as goal
 
 pub returns-clause-value : goal.returns-clause-value
-returns-clause-value c = own_report
+returns-clause-value c = good_value
 
 pub returns-clause-checked : goal.returns-clause-checked
-returns-clause-checked c = own_verdict
+returns-clause-checked c = good_verdict

@@ -1,9 +1,9 @@
-use Rattle.std.proofs.Common.{rules, arith, ap, ◌∙◌, ◌≡◌, ℕ, ◌+◌, ◌∷◌, [], length, length-append, sum_by}
+use Rattle.std.proofs.Common.{rules, arith, refl, ap, ◌∙◌, ◌≡◌, ℕ, ◌+◌, ◌∷◌, [], length, length-append, sum_by}
 use Rattle.shb_fan.specs.Numbers.{times}
 use Rattle.shb_fan.specs.Seated.{placed_of, lifted_of}
-use Rattle.shb_fan.proofs.Counts.{times-append}
+use Rattle.shb_fan.proofs.Counts.{counted, first_counted, sum_nothing, times-append}
 use Rattle.shb_fan.proofs.Rings.{merges, placed_once, lifted_once, lifted_placed, placed_after}
-use Rattle.shb_fan.proofs.Opens.{seats_back, both_counted, first_counted, at_end}
+use Rattle.shb_fan.proofs.Opens.{seats_back}
 use Rattle.shb_fan.proofs.shares.Ring.close.Given.{Over}
 use Rattle.shb_fan.proofs.shares.Ring.close.Goals as goal
 
@@ -14,8 +14,8 @@ loop-seat-init g c = let longer = c.in-Some.ensures.items in let cut = seats_bac
   present = (let one = first.0.1.one in omega (arith, one));
   slots = first.0.1.free first.1;
   ours = cut.0;
-  placed = λ k. first_counted (λ s. times k (placed_of s)) _ _ _ longer;
-  lifted = λ k. first_counted (λ s. times k (lifted_of s)) _ _ _ longer;
+  placed = λ k. first_counted (λ s. times k (placed_of s)) _ _ _ _ longer refl;
+  lifted = λ k. first_counted (λ s. times k (lifted_of s)) _ _ _ _ longer refl;
 }
 
 pub join_seat-requires : goal.join_seat-requires
@@ -35,8 +35,8 @@ loop-seat-preserved g c = let i = c.loop-seat.invariant in let j = c.join_seat.e
       present = (let e = ap (λ m. m.0.parts) j.2 in let p = i.present in omega (arith, e, p));
       slots = ap (λ m. m.1) j.2 ∙ i.slots;
       ours = back.0;
-      placed = λ k. both_counted (λ s. times k (placed_of s)) _ _ _ _ _ _ longer (ap (λ m. times k m.0.placed) j.2 ∙ times-append k _ _) (i.placed k);
-      lifted = λ k. both_counted (λ s. times k (lifted_of s)) _ _ _ _ _ _ longer (ap (λ m. times k m.0.lifted) j.2 ∙ times-append k _ _) (i.lifted k);
+      placed = λ k. ap (λ n. n + sum_by (λ s. times k (placed_of s)) c.pop-in-loop-seat.new.self.items) (ap (λ m. times k m.0.placed) j.2 ∙ times-append k _ _) ∙ counted (λ s. times k (placed_of s)) _ _ _ _ _ _ longer (i.placed k) refl;
+      lifted = λ k. ap (λ n. n + sum_by (λ s. times k (lifted_of s)) c.pop-in-loop-seat.new.self.items) (ap (λ m. times k m.0.lifted) j.2 ∙ times-append k _ _) ∙ counted (λ s. times k (lifted_of s)) _ _ _ _ _ _ longer (i.lifted k) refl;
     }
 
 -- the loop has left no seat, so that `whole` stands for all
@@ -47,10 +47,10 @@ every_part : (g : Over) (c : goal.After-drop-seats g) → c.loop-seat.whole.me.0
 every_part g c = let p = c.loop-seat.invariant.parts in let none = none_left g c in omega (arith, p, none)
 
 placed_whole : (g : Over) (c : goal.After-drop-seats g) (k : ℕ) → sum_by (λ s. times k (placed_of s)) c.args.seats.items ≡ times k c.loop-seat.whole.me.0.placed
-placed_whole g c k = at_end (λ s. times k (placed_of s)) c.loop-seat.seats.items c.args.seats.items _ (none_left g c) (c.loop-seat.invariant.placed k)
+placed_whole g c k = omega (arith, sum_nothing (λ s. times k (placed_of s)) c.loop-seat.seats.items (none_left g c), c.loop-seat.invariant.placed k)
 
 lifted_whole : (g : Over) (c : goal.After-drop-seats g) (k : ℕ) → sum_by (λ s. times k (lifted_of s)) c.args.seats.items ≡ times k c.loop-seat.whole.me.0.lifted
-lifted_whole g c k = at_end (λ s. times k (lifted_of s)) c.loop-seat.seats.items c.args.seats.items _ (none_left g c) (c.loop-seat.invariant.lifted k)
+lifted_whole g c k = omega (arith, sum_nothing (λ s. times k (lifted_of s)) c.loop-seat.seats.items (none_left g c), c.loop-seat.invariant.lifted k)
 
 pub returns-clause-placed_once : goal.returns-clause-placed_once
 returns-clause-placed_once g c = λ k.

@@ -4,9 +4,9 @@ use Rattle.shb_fan.specs.declared.ticket_table.PassView.{PassView}
 use Rattle.shb_fan.specs.declared.ticket_table.Plan.{Plan}
 use Rattle.shb_fan.specs.Numbers.{times, once_below, weight}
 use Rattle.shb_fan.specs.Passes.{TicketSource, PassState}
-use Rattle.shb_fan.proofs.Counts.{times-append}
+use Rattle.shb_fan.proofs.Counts.{counted, first_counted, sum_nothing, times-append}
 use Rattle.shb_fan.proofs.Keeps.{merges}
-use Rattle.shb_fan.proofs.Ends.{counted, first_counted, times-shown, halted-shown, seen-shown, spent-shown, rising-shown, all_rising, none_rising, Told, closes, ours_before, sum_nothing, each_once, stop_seen, stop_set, seen_set, all_drawn}
+use Rattle.shb_fan.proofs.Ends.{times-shown, halted-shown, seen-shown, spent-shown, rising-shown, all_rising, none_rising, Told, closes, ours_before, each_once, stop_seen, stop_set, seen_set, all_drawn}
 use Rattle.shb_fan.proofs.MachineRuns.{machine_run}
 use Rattle.shb_fan.proofs.tickets.Tickets.close.Goals as goal
 

@@ -2,7 +2,7 @@ use Rattle.std.proofs.Common.{List, [], sym, subst}
 use Rattle.std.specs.List.{IsDistinct}
 use Rattle.std.specs.Str.{bytes_eq}
 use Rattle.shb_lines.specs.declared.hashing.TextKey.{TextKey}
-use Rattle.shb_report.specs.Locations.{locations_in}
+use Rattle.shb_report.proofs.Numbered.{locations_in}
 use Rattle.shb_report.proofs.locations.Locations.new.Goals as goal
 
 none_alike : IsDistinct bytes_eq (locations_in [])

@@ -1,7 +1,7 @@
 use Rattle.std.proofs.lemmas.Grind.{common_steps}
 use Rattle.std.proofs.Common.{◌++◌, ◌+◌, get_or, take, drop, subst, arith}
 use Rattle.shb_io.specs.Devices.{AppendsPrefix}
-use Rattle.shb_report.specs.BlockTexts.{event_number, event_numbers}
+use Rattle.shb_report.specs.Writing.{event_number, event_numbers}
 use Rattle.shb_report.proofs.writing.HeldLemmas.{HoldsBack-then, PutsPrefix-front, PutsPrefix-after, Puts-err, texts-next, texts-split}
 use Rattle.shb_report.proofs.writing.held.put_events.Goals as goal
 

@@ -1,6 +1,6 @@
 use Rattle.std.proofs.Common.{◌≡◌, ◌++◌, take}
 use Rattle.shb_io.specs.Devices.{HoldsBack}
-use Rattle.shb_report.specs.BlockTexts.{event_numbers}
+use Rattle.shb_report.specs.Writing.{event_numbers}
 use Rattle.shb_report.proofs.writing.held.put_events.Given as goal
 
 abbrev pub invariant-loop-event : goal.invariant-loop-event

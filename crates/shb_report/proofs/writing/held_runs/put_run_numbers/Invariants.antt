@@ -1,7 +1,7 @@
 use Rattle.std.proofs.Common.{◌≡◌, ◌++◌}
 use Rattle.std.specs.List.{range_with_len}
 use Rattle.shb_io.specs.Devices.{HoldsBack}
-use Rattle.shb_report.specs.BlockTexts.{event_numbers}
+use Rattle.shb_report.specs.Writing.{event_numbers}
 use Rattle.shb_report.proofs.writing.held_runs.put_run_numbers.Given as goal
 
 abbrev pub invariant-loop-k : goal.invariant-loop-k

@@ -1,9 +1,9 @@
 -- The three lines, one after another.
 use Rattle.std.proofs.Common.{◌++◌, List, ℕ, codes, refl, subst}
 use Rattle.shb_io.specs.Devices.{AppendsPrefix}
-use Rattle.shb_report.specs.Held.{Puts}
+use Rattle.shb_report.specs.Writing.{Puts}
 use Rattle.shb_report.specs.Places.{shown_place}
-use Rattle.shb_report.specs.BlockTexts.{labelled_line}
+use Rattle.shb_report.specs.Writing.{labelled_line}
 use Rattle.shb_report.specs.Value.{place_line}
 use Rattle.shb_report.proofs.writing.HeldLemmas.{PutsPrefix-front, PutsPrefix-after, Puts-then, Puts-err}
 use Rattle.shb_report.proofs.PlaceLemmas.{located}

@@ -1,5 +1,5 @@
 use Rattle.std.proofs.Common.{◌++◌, codes}
-use Rattle.shb_report.specs.BlockTexts.{labelled_line}
+use Rattle.shb_report.specs.Writing.{labelled_line}
 use Rattle.shb_report.specs.Report.{line_of_event}
 use Rattle.shb_report.proofs.writing.HeldLemmas.{PutsPrefix-front, Puts-then, Puts-err}
 use Rattle.shb_report.proofs.writing.writer.put_event_lines.Goals as goal
