@@ -6,7 +6,7 @@ use Rattle.std.specs.List.{AllByRecursion, IsDistinct}
 use Rattle.std.specs.Str.{bytes_eq}
 use Rattle.std.proofs.lemmas.Bool.{cases_lt, eq-eqb}
 use Rattle.std.proofs.lemmas.Bool.Decides.{eqb_tells}
-use Rattle.std.proofs.lemmas.List.{length-append, length-map, map-append, take_all}
+use Rattle.std.proofs.lemmas.List.{length-append, length-map, map-append}
 use Rattle.std.proofs.lemmas.List.Elements.{All-map}
 use Rattle.std.proofs.lemmas.List.Sums.{fold-append, sum_by-cons}
 use Rattle.shb_lines.specs.declared.event.Event.{Event}
@@ -26,10 +26,10 @@ use Rattle.shb_report.specs.declared.places.PlaceCount.{PlaceCount}
 use Rattle.shb_report.proofs.KeyedLemmas.{keyed_counts, keyed_pair}
 use Rattle.shb_report.proofs.LeadingLemmas.{pairs_back}
 use Rattle.shb_counts.specs.Counted.{Differ, HasCounted, HasCountedKnown, by_number, grown, key_in, keyed_after, times, with_places}
-use Rattle.shb_counts.specs.Counts.{AreRacingCounts, number_in}
-use Rattle.shb_counts.specs.Numbering.{AreNumbered}
+use Rattle.shb_counts.specs.Counts.{AreNumbered, AreRacingCounts, number_in}
 use Rattle.shb_counts.specs.declared.counter.RaceCounter.{RaceCounter}
 use Rattle.shb_counts.proofs.Batches.{after_differ, after_few, at_key, counted_at_once, grown_same, grown_zero, key_of, not_yet, only_none, only_self, other_first, same_number}
+use Rattle.shb_counts.proofs.NumberLemmas.{number_below}
 use Rattle.shb_counts.proofs.RacingLemmas.{times_cons}
 
 -- no place has more races than there are
@@ -211,13 +211,12 @@ module _ (trace : TraceData) (seen : List Event) (numbers : List ℕ) (locations
   pub sum_racing : sum counts ≡ length (races_with seen j)
   sum_racing =
       let ks = numbers_where (λ i. is_race seen i j) j in
-      let whole = sum_whole (number_in numbers) (length locations) ks counts
-      (record { as_many = racing.as_many; each = λ n lt. racing.each n lt ∙ ap (λ (l : List ℕ). length (with_key (number_in numbers) l n)) (sym (take_all (length ks) ks (omega arith))) })
-      (λ q d lt. let below = earlier q d lt in are.numbered (get_or ks q d) (omega (arith, below, within))) in
+      let whole = sum_whole (number_in numbers) (length locations) ks counts racing
+      (λ q d lt. let below = earlier q d lt in number_below trace (get_or ks q d) _ numbers locations are (omega (arith, below, within))) in
       whole ∙ sym (length-map ks (λ i. (i, j))) ∙ ap length (sym (with_map seen j))
 
   number_within : All (λ i. number_in numbers i < length counts) (numbers_where (λ i. is_race seen i j) j)
-  number_within k d lt = grind (arith, common_steps, earlier)
+  number_within k d lt = (let below = earlier k d lt in let inside = number_below trace (get_or firsts k d) _ numbers locations are (omega (arith, below, within)) in let many = racing.as_many in omega (arith, inside, many))
 
   -- the counts are as many pairs of each place
   pub racing_times : (key : Key) → by_number (number_in numbers j) counts (length counts) key ≡ times numbers (map pair_of (races_with seen j)) key

@@ -9,7 +9,11 @@ use Rattle.indexmap.specs.IndexSet.{insert_key}
 use Rattle.shb_lines.specs.text.TraceData.{TraceData}
 use Rattle.shb_report.specs.Places.{location_at}
 use Rattle.shb_report.proofs.KeyedLemmas.{number_stays}
-use Rattle.shb_counts.specs.Numbering.{AreNumbered}
+use Rattle.shb_counts.specs.Counts.{AreNumbered}
+
+-- the number of an event is that of a location
+pub number_below : (trace : TraceData) (e count : ℕ) (numbers : List ℕ) (locations : List (List ℕ)) → AreNumbered trace count numbers locations → e < count → get_or numbers e 0 < length locations
+number_below trace e count numbers locations h lt = slice_get_within locations (get_or numbers e 0) (location_at trace e) (h.located e lt)
 
 pub one_more_location : (locations : List (List ℕ)) (text : List ℕ) → length (insert_key bytes_eq locations text) ≤ length locations + 1
 one_more_location locations text = grind (arith, common_steps, length_push)
@@ -20,7 +24,6 @@ pub next_numbered : (trace : TraceData) (e number : ℕ) (text : List ℕ) (numb
 next_numbered trace e number text numbers new_numbers locations new_locations h is known at pushed = record {
   as_many = ap length pushed ∙ (length_push numbers number ∙ ap (λ (n : ℕ). n + 1) h.as_many);
   few = (let more = one_more_location locations text in let long = ap length known in let few = h.few in omega (arith, more, long, few));
-  numbered = λ k below. slice_get_within new_locations (get_or new_numbers k 0) (location_at trace k) (there k below);
   located = there;
 }
   where

@@ -8,13 +8,13 @@ use Rattle.std.proofs.lemmas.List.Sorted.{sum_by-IsPermutation}
 use Rattle.std.proofs.lemmas.List.Sums.{length-filter}
 use Rattle.shb_lines.specs.declared.event.Event.{Event}
 use Rattle.shb_lines.specs.events.Reach.{is_race, numbers_where}
-use Rattle.shb_pairs.specs.Buckets.{with_key}
+use Rattle.shb_pairs.specs.Buckets.{HasCounts, with_key}
 use Rattle.shb_pairs.specs.Ranges.{sorted}
 use Rattle.shb_pairs.specs.Spans.{IsSpanOf, in_spans}
 use Rattle.shb_pairs.specs.declared.spans.Span.{Span}
 use Rattle.shb_pairs.proofs.Counting.{numbers_few}
 use Rattle.shb_pairs.proofs.Merging.{sorted_length, sorted_permutes}
-use Rattle.shb_counts.specs.Counts.{AreCountsOf, AreRacingCounts, number_in}
+use Rattle.shb_counts.specs.Counts.{AreRacingCounts, number_in}
 
 -- how often a number stands in a list with one element more
 pub times_cons : (f : ℕ → ℕ) (n k : ℕ) (ks : List ℕ) → length (with_key f (k ∷ ks) n) ≡ cond (f k == n) 1 0 + length (with_key f ks n)
@@ -46,5 +46,5 @@ module _ (trace : List Event) (j : ℕ) (positions numbers listed : List ℕ) (s
   pub racing_few : length (in_spans listed spans) ≤ j
   racing_few = grind (arith, common_steps, in_numbers, length-map, sorted_length, numbers_few)
 
-  pub racing_counted : (classes : ℕ) (counts : List ℕ) → AreCountsOf classes (in_spans listed spans) counts → AreRacingCounts trace numbers j classes counts
+  pub racing_counted : (classes : ℕ) (counts : List ℕ) → HasCounts (λ n. n) classes (in_spans listed spans) counts → AreRacingCounts trace numbers j classes counts
   racing_counted classes counts h = grind (arith, common_steps, in_numbers, times_map, times_sorted)

@@ -1,16 +1,15 @@
 -- Counts of the numbers of a span, from the counts before its two ends.
-use Rattle.std.proofs.lemmas.Grind.{common_steps}
+use Rattle.std.proofs.lemmas.Grind.{common_steps, flat_map-append}
 use Rattle.std.proofs.Common.{◌≡◌, ℕ, ◌+◌, ◌-◌, ◌<◌, ◌≤◌, ◌++◌, List, [], length, get_or, take, drop, arith, ap, sym, ◌∙◌}
 use Rattle.std.specs.Prelude.{◌==◌, All}
 use Rattle.std.proofs.Math.Seq.{take-add}
-use Rattle.std.proofs.lemmas.Grind.{flat_map-append}
 use Rattle.std.proofs.lemmas.List.{append-nil, length-append, length-take-le, length-drop, take-append-drop, take_more}
 use Rattle.std.proofs.lemmas.List.Elements.{filter-append}
 use Rattle.std.proofs.lemmas.List.Sums.{count_by-le-length, length-filter}
-use Rattle.shb_pairs.specs.Buckets.{with_key}
+use Rattle.shb_pairs.specs.Buckets.{HasCounts, with_key}
 use Rattle.shb_pairs.specs.Spans.{IsSpanOf, in_spans}
 use Rattle.shb_pairs.specs.declared.spans.Span.{Span}
-use Rattle.shb_counts.specs.Counts.{AreCountsBefore, AreCountsOf, HaveGrown, MayGrow}
+use Rattle.shb_counts.specs.Counts.{HaveGrown, MayGrow}
 
 -- how often n stands in the two parts of a list
 times_append : (n : ℕ) (xs ys : List ℕ) → length (with_key (λ k. k) (xs ++ ys) n) ≡ length (with_key (λ k. k) xs n) + length (with_key (λ k. k) ys n)
@@ -25,21 +24,21 @@ times_span n from to xs le =
     let e : from + (to - from) ≡ to = omega arith in
     ap (λ (ks : List ℕ). length (with_key (λ k. k) ks n)) (ap (λ (m : ℕ). take m xs) (sym e) ∙ take-add from (to - from) xs) ∙ times_append n (take from xs) (take (to - from) (drop from xs))
 
-module _ (classes from to : ℕ) (numbers before after list old : List ℕ) (ordered : from ≤ to) (is_before : AreCountsBefore classes numbers from before) (is_after : AreCountsBefore classes numbers to after) (h : AreCountsOf classes list old) where
+module _ (classes from to : ℕ) (numbers before after list old : List ℕ) (ordered : from ≤ to) (is_before : HasCounts (λ n. n) classes (take from numbers) before) (is_after : HasCounts (λ n. n) classes (take to numbers) after) (h : HasCounts (λ n. n) classes list old) where
   grows_by : (n : ℕ) → n < classes → (get_or before n 0 ≤ get_or after n 0) × (get_or after n 0 - get_or before n 0 ≡ length (with_key (λ k. k) (take (to - from) (drop from numbers)) n))
   grows_by n lt = let low = is_before.each n lt in let high = is_after.each n lt in let parts = times_span n from to numbers ordered in (omega (arith, low, high, parts), omega (arith, low, high, parts))
 
   pub span_may_grow : to ≤ length numbers → length list + (to - from) < 4294967296 → MayGrow before after old
   span_may_grow within few = grind (arith, common_steps, grows_by, times_few, length-drop, length-take-le)
 
-  pub span_counted : (new : List ℕ) → HaveGrown before after old (length old) new → AreCountsOf classes (list ++ take (to - from) (drop from numbers)) new
+  pub span_counted : (new : List ℕ) → HaveGrown before after old (length old) new → HasCounts (λ n. n) classes (list ++ take (to - from) (drop from numbers)) new
   span_counted new grown = grind (arith, common_steps, grows_by, times_append)
 
 take_none : (xs : List ℕ) → take 0 xs ≡ []
 take_none xs = grind (arith, common_steps)
 
 -- the counts before the first number are those of no number
-pub none_counted : (classes : ℕ) (numbers counts : List ℕ) → AreCountsBefore classes numbers 0 counts → AreCountsOf classes [] counts
+pub none_counted : (classes : ℕ) (numbers counts : List ℕ) → HasCounts (λ n. n) classes (take 0 numbers) counts → HasCounts (λ n. n) classes [] counts
 none_counted classes numbers counts h = record { as_many = h.as_many; each = λ n lt. h.each n lt ∙ ap (λ (ks : List ℕ). length (with_key (λ k. k) ks n)) (take_none numbers) }
 
 -- the numbers of one span more

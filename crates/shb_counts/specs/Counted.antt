@@ -1,10 +1,16 @@
--- What is counted of a list of races, by the numbers of their locations.
+-- What is counted of a list of races, by the numbers of their locations, and the tables of a variable that it is counted by.
 use Rattle.std.specs.Prelude.{◌≡◌, ℕ, zero, suc, ◌+◌, List, [], ◌∷◌, None, cond, fold, length, map, slice_index_or}
+use Rattle.shb_lines.specs.declared.event.Event.{Event}
 use Rattle.shb_lines.specs.declared.event.Pair.{Pair}
+use Rattle.shb_pairs.specs.Accesses.{IsByThread}
+use Rattle.shb_pairs.specs.declared.accesses.Which.{Which}
+use Rattle.shb_pairs.specs.declared.accesses.Which.TheVariants.{Both, Writes}
 use Rattle.shb_report.specs.Keyed.{Key, Keyed, counted_of, counting, same_key, with_keyed, with_new}
 use Rattle.shb_report.specs.Report.{pair_of}
 use Rattle.shb_counts.specs.Counts.{number_in}
 use Rattle.shb_counts.specs.declared.counter.RaceCounter.{RaceCounter}
+use Rattle.shb_counts.specs.declared.tables.Compared.{Compared}
+use Rattle.shb_counts.specs.declared.tables.Tables.{Tables}
 
 -- the numbers of a pair's two locations
 abbrev pub key_in : List ℕ → Pair → Key
@@ -50,3 +56,14 @@ pub record HasCounted (numbers : List ℕ) (races : List (ℕ × ℕ)) (counter 
 pub record HasCountedKnown (numbers : List ℕ) (races more : List (ℕ × ℕ)) (counter : RaceCounter) : Type 0 where
   pub count : counter.races ≡ length races + length more
   pub places : counter.places ≡ grown (times numbers (map pair_of more)) (keyed_after numbers [] (map pair_of races))
+
+-- those accesses of x by thread, and the table of the numbers of their locations
+pub record IsCompared (trace : List Event) (numbers : List ℕ) (classes : ℕ) (which : Which) (x : ℕ) (c : Compared) : Type 0 where
+  pub by_thread : IsByThread trace which x c.positions.now
+  pub counted : c.table ≡ (classes, map (number_in numbers) c.positions.now)
+
+-- all accesses of x, and its writes
+pub record AreTables (trace : List Event) (numbers : List ℕ) (classes x : ℕ) (tables : Tables) : Type 0 where
+  pub variable : tables.variable ≡ x
+  pub both : IsCompared trace numbers classes Both x tables.both
+  pub writes : IsCompared trace numbers classes Writes x tables.writes

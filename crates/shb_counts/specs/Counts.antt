@@ -1,12 +1,24 @@
--- How often each number stands in the first part of a list of numbers.
-use Rattle.std.specs.Prelude.{◌≡◌, ℕ, ◌+◌, ◌-◌, ◌*◌, ◌<◌, ◌≤◌, ◌^◌, List, length, slice_index_or, slice_range}
+-- Numbers of locations, and how often each number stands in a list of numbers.
+use Rattle.std.specs.Prelude.{◌≡◌, ℕ, ◌+◌, ◌-◌, ◌*◌, ◌^◌, ◌<◌, ◌≤◌, List, Some, length, slice_get, slice_index_or, slice_range, take}
 use Rattle.shb_lines.specs.declared.event.Event.{Event}
 use Rattle.shb_lines.specs.events.Reach.{is_race, numbers_where}
-use Rattle.shb_pairs.specs.Buckets.{HasCounts, with_key}
+use Rattle.shb_lines.specs.text.TraceData.{TraceData}
+use Rattle.shb_pairs.specs.Buckets.{HasCounts}
+use Rattle.shb_report.specs.Places.{location_at}
 
--- entry n of the counts is how often n stands among the first `end` numbers, for each n below `classes`
-abbrev pub AreCountsBefore : ℕ → List ℕ → ℕ → List ℕ → Type 0
-AreCountsBefore classes numbers end counts = HasCounts (λ n. n) classes numbers end counts
+-- each of the first `count` events has the number of its location
+pub record AreNumbered (trace : TraceData) (count : ℕ) (numbers : List ℕ) (locations : List (List ℕ)) : Type 0 where
+  pub as_many : length numbers ≡ count
+  pub few : length locations ≤ count
+  pub located : (e : ℕ) → e < count → slice_get locations (slice_index_or numbers e 0) ≡ Some (location_at trace e)
+
+-- the number of an event
+abbrev pub number_in : List ℕ → ℕ → ℕ
+number_in numbers event = slice_index_or numbers event 0
+
+-- how many accesses with each number below `classes` race with the later j
+abbrev pub AreRacingCounts : List Event → List ℕ → ℕ → ℕ → List ℕ → Type 0
+AreRacingCounts trace numbers j classes counts = HasCounts (number_in numbers) classes (numbers_where (λ i. is_race trace i j) j) counts
 
 -- row k of a table
 abbrev pub row_at : ℕ → List ℕ → ℕ → List ℕ
@@ -15,12 +27,7 @@ row_at width rows k = slice_range rows (k * width) (k * width + width)
 -- each of the first `count` rows has the counts before the first number of its stride
 pub record HasRows (classes stride : ℕ) (numbers : List ℕ) (count : ℕ) (rows : List ℕ) : Type 0 where
   pub as_many : length rows ≡ count * classes
-  pub each : (k : ℕ) → k < count → AreCountsBefore classes numbers (k * stride) (row_at classes rows k)
-
--- entry n of the counts is how often n stands in the list, for each n below `classes`
-pub record AreCountsOf (classes : ℕ) (list counts : List ℕ) : Type 0 where
-  pub as_many : length counts ≡ classes
-  pub each : (n : ℕ) → n < classes → slice_index_or counts n 0 ≡ length (with_key (λ k. k) list n)
+  pub each : (k : ℕ) → k < count → HasCounts (λ n. n) classes (take (k * stride) numbers) (row_at classes rows k)
 
 -- each of the first counts grew by how much more it is after than before, and the others are as they were
 pub record HaveGrown (before after old : List ℕ) (count : ℕ) (new : List ℕ) : Type 0 where
@@ -34,12 +41,3 @@ pub record MayGrow (before after old : List ℕ) : Type 0 where
   pub after_long : length after ≡ length old
   pub rising : (n : ℕ) → n < length old → slice_index_or before n 0 ≤ slice_index_or after n 0
   pub few : (n : ℕ) → n < length old → slice_index_or old n 0 + (slice_index_or after n 0 - slice_index_or before n 0) < 2 ^ 32
-
--- the number of an event
-abbrev pub number_in : List ℕ → ℕ → ℕ
-number_in numbers event = slice_index_or numbers event 0
-
--- entry n of the counts is how many accesses with this number race with the later j, for each n below `classes`
-pub record AreRacingCounts (trace : List Event) (numbers : List ℕ) (j classes : ℕ) (counts : List ℕ) : Type 0 where
-  pub as_many : length counts ≡ classes
-  pub each : (n : ℕ) → n < classes → slice_index_or counts n 0 ≡ length (with_key (number_in numbers) (numbers_where (λ i. is_race trace i j) j) n)

@@ -1,4 +1,2 @@
 pub mod Counts
-pub mod Numbering
 pub mod Counted
-pub mod Tables

@@ -3,12 +3,10 @@
 ghost use Rattle.std.specs.Prelude.{◌≡◌, ◌++◌, ◌+◌, ◌<◌, ◌≤◌, ◌^◌, ℕ, List, All, IfOk, IfSome, OnOk, [], length, map};
 ghost use Rattle.std.specs.Bool.{IsTrue};
 ghost use Rattle.shb_fan.specs.Values.{values_of};
-ghost use Rattle.shb_pairs.specs.Pieces.{pieces_in};
-ghost use Rattle.shb_pairs.specs.Races.{joined, races_at};
+ghost use Rattle.shb_pairs.specs.Races.{joined, pieces_in, races_at};
 ghost use Rattle.shb_report.specs.Places.{counts_in, places_of_pairs};
 ghost use Rattle.shb_report.specs.Report.{pair_of};
-ghost use Rattle.shb_counts.specs.Counted.{HasCounted};
-ghost use Rattle.shb_counts.specs.Tables.{AreTables};
+ghost use Rattle.shb_counts.specs.Counted.{AreTables, HasCounted};
 
 use crate::accesses::count_accesses;
 use crate::counter::{Located, RaceCounter};

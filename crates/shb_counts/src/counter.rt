@@ -10,8 +10,7 @@ ghost use Rattle.shb_pairs.specs.Races.{races_with};
 ghost use Rattle.shb_report.specs.Keyed.{Keyed, counted_of};
 ghost use Rattle.shb_report.specs.Places.{IsPairOf};
 ghost use Rattle.shb_counts.specs.Counted.{Differ, HasCounted, HasCountedKnown, by_number, grown, key_in, keyed_after, only, times, with_places};
-ghost use Rattle.shb_counts.specs.Counts.{AreRacingCounts, number_in};
-ghost use Rattle.shb_counts.specs.Numbering.{AreNumbered};
+ghost use Rattle.shb_counts.specs.Counts.{AreNumbered, AreRacingCounts, number_in};
 
 use crate::numbering::LocationNumbers;
 use shb_io::NoMemory;

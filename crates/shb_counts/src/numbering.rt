@@ -1,7 +1,7 @@
 //! Numbers of the locations of a trace.
 
 ghost use Rattle.std.specs.Prelude.{IfOk, length};
-ghost use Rattle.shb_counts.specs.Numbering.{AreNumbered};
+ghost use Rattle.shb_counts.specs.Counts.{AreNumbered};
 
 use shb_io::NoMemory;
 use shb_lines::Trace;

@@ -1,7 +1,8 @@
 //! How often each number stands in the first part of a list of numbers.
 
-ghost use Rattle.std.specs.Prelude.{◌≡◌, ℕ, ◌+◌, ◌*◌, ◌/◌, ◌<◌, ◌≤◌, ◌^◌, All, IfOk, OnOk, length, replicate};
-ghost use Rattle.shb_counts.specs.Counts.{AreCountsBefore, HasRows, row_at};
+ghost use Rattle.std.specs.Prelude.{◌≡◌, ℕ, ◌+◌, ◌*◌, ◌/◌, ◌<◌, ◌≤◌, ◌^◌, All, IfOk, OnOk, length, replicate, take};
+ghost use Rattle.shb_counts.specs.Counts.{HasRows, row_at};
+ghost use Rattle.shb_pairs.specs.Buckets.{HasCounts};
 
 use shb_io::NoMemory;
 use std::alloc::Global;
@@ -53,8 +54,8 @@ fn count_more(counts: &mut Vec<u32>, numbers: &[u32], from: usize, to: usize)
     requires ordered { from ≤ to }
     requires within { to ≤ length numbers.now }
     requires numbered { All (λ n. n < length counts.old.items) numbers.now }
-    requires counted { AreCountsBefore (length counts.old.items) numbers.now from counts.old.items }
-    ensures { AreCountsBefore (length counts.old.items) numbers.now to counts.new.items }
+    requires counted { HasCounts (λ n. n) (length counts.old.items) (take from numbers.now) counts.old.items }
+    ensures { HasCounts (λ n. n) (length counts.old.items) (take to numbers.now) counts.new.items }
 {
     for k in from..to {
         counts[numbers[k] as usize] += 1;
@@ -138,7 +139,7 @@ impl PrefixCounts {
     /// is known of it.
     pub(crate) fn counts_before(&self, end: usize, counts: &mut Vec<u32>) -> Result<(), NoMemory>
         requires { end ≤ length self.now.1 }
-        ensures { OnOk result (AreCountsBefore self.now.0 self.now.1 end counts.new.items) }
+        ensures { OnOk result (HasCounts (λ n. n) self.now.0 (take end self.now.1) counts.new.items) }
     {
         let k = end / self.stride;
         copy_row(counts, self.rows.as_slice(), self.classes, k)?;

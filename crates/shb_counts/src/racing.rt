@@ -3,7 +3,7 @@
 ghost use Rattle.std.specs.Prelude.{◌≡◌, ℕ, List, Some, OnOk};
 ghost use Rattle.shb_lines.specs.events.Race.{variable_at};
 ghost use Rattle.shb_counts.specs.Counts.{AreRacingCounts};
-ghost use Rattle.shb_counts.specs.Tables.{AreTables};
+ghost use Rattle.shb_counts.specs.Counted.{AreTables};
 
 use crate::span_counts::{Rows, counts_in_spans};
 use crate::tables::Tables;

@@ -1,7 +1,8 @@
 //! How often each number stands in some spans of a list.
 
 ghost use Rattle.std.specs.Prelude.{◌≡◌, ◌++◌, ◌+◌, ◌-◌, ◌<◌, ◌^◌, ℕ, List, All, OnOk, length, slice_range};
-ghost use Rattle.shb_counts.specs.Counts.{AreCountsOf, HaveGrown, MayGrow};
+ghost use Rattle.shb_counts.specs.Counts.{HaveGrown, MayGrow};
+ghost use Rattle.shb_pairs.specs.Buckets.{HasCounts};
 ghost use Rattle.shb_pairs.specs.Spans.{IsSpanOf, in_spans};
 
 use crate::prefix_counts::PrefixCounts;
@@ -52,9 +53,9 @@ fn add_growth(counts: &mut Vec<u32>, before: &[u32], after: &[u32])
 /// Adds to each count how often its number stands in a span.
 fn add_span(table: &PrefixCounts, span: Span, rows: &mut Rows) -> Result<(), NoMemory>
     requires within { IsSpanOf (length table.now.1) span }
-    requires counted { (list : List ℕ) × (length list + (span.to - span.from) < 2 ^ 32) × AreCountsOf table.now.0 list rows.old.counts.items }
-    ensures { OnOk result ((list : List ℕ) → AreCountsOf table.now.0 list rows.old.counts.items
-        → AreCountsOf table.now.0 (list ++ slice_range table.now.1 span.from span.to) rows.new.counts.items) }
+    requires counted { (list : List ℕ) × (length list + (span.to - span.from) < 2 ^ 32) × HasCounts (λ n. n) table.now.0 list rows.old.counts.items }
+    ensures { OnOk result ((list : List ℕ) → HasCounts (λ n. n) table.now.0 list rows.old.counts.items
+        → HasCounts (λ n. n) table.now.0 (list ++ slice_range table.now.1 span.from span.to) rows.new.counts.items) }
 {
     table.counts_before(span.from, &mut rows.before)?;
     table.counts_before(span.to, &mut rows.after)?;
@@ -80,7 +81,7 @@ pub(crate) fn counts_in_spans(
 ) -> Result<(), NoMemory>
     requires within { All (IsSpanOf (length table.now.1)) spans.now }
     requires few { length (in_spans table.now.1 spans.now) < 2 ^ 32 }
-    ensures { OnOk result (AreCountsOf table.now.0 (in_spans table.now.1 spans.now) rows.new.counts.items) }
+    ensures { OnOk result (HasCounts (λ n. n) table.now.0 (in_spans table.now.1 spans.now) rows.new.counts.items) }
 {
     // None stands before the first.
     table.counts_before(0, &mut rows.counts)?;

@@ -4,7 +4,7 @@ ghost use Rattle.std.specs.Prelude.{◌≡◌, ◌<◌, ◌≤◌, ◌^◌, ℕ,
 ghost use Rattle.shb_lines.specs.declared.event.Event.{Event};
 ghost use Rattle.shb_pairs.specs.Spans.{compared_with};
 ghost use Rattle.shb_counts.specs.Counts.{number_in};
-ghost use Rattle.shb_counts.specs.Tables.{AreTables, IsCompared};
+ghost use Rattle.shb_counts.specs.Counted.{AreTables, IsCompared};
 
 use crate::counter::Located;
 use crate::prefix_counts::PrefixCounts;

@@ -1,9 +1,8 @@
 -- All pieces have so few races that 64 bits count them: each access is one of a single variable, and has fewer races than there are numbers of 32 bits.
-use Rattle.std.proofs.lemmas.Grind.{common_steps}
+use Rattle.std.proofs.lemmas.Grind.{common_steps, flat_map-append}
 use Rattle.std.proofs.Common.{◌≡◌, ℕ, zero, suc, ◌+◌, ◌*◌, ◌<◌, ◌≤◌, inl, inr, Bool, false, List, [], ◌∷◌, Option, Some, None, length, refl, arith, ap, ◌∙◌}
 use Rattle.std.specs.Prelude.{cond, ◌==◌, flat_map}
 use Rattle.std.proofs.lemmas.Bool.{cases_Bool, eqb-true}
-use Rattle.std.proofs.lemmas.Grind.{flat_map-append}
 use Rattle.std.proofs.lemmas.List.{length-append}
 use Rattle.shb_fan.specs.Values.{values_of}
 use Rattle.shb_lines.specs.declared.event.Event.{Event}
@@ -12,8 +11,7 @@ use Rattle.shb_lines.specs.events.Reach.{numbers_where}
 use Rattle.shb_clocks.specs.Open.{OpenTrace, is_open}
 use Rattle.shb_pairs.specs.declared.piece.Piece.{Piece}
 use Rattle.shb_pairs.specs.Accesses.{accesses_at, accesses_in, listed_accesses, variables_in}
-use Rattle.shb_pairs.specs.Pieces.{pieces_below, pieces_in}
-use Rattle.shb_pairs.specs.Races.{races_of, races_at, joined}
+use Rattle.shb_pairs.specs.Races.{joined, pieces_below, pieces_in, races_at, races_of}
 use Rattle.shb_pairs.proofs.ByThread.{listed_closed, listed_open, numbers_all}
 use Rattle.shb_pairs.proofs.Joined.{joined_values, open_joined}
 use Rattle.shb_pairs.proofs.PieceRaces.{no_pieces, pieces_on}

@@ -21,8 +21,7 @@ use Rattle.shb_pairs.specs.declared.accesses.Which.{Which}
 use Rattle.shb_pairs.specs.declared.accesses.Which.TheVariants.{Both, Writes}
 use Rattle.shb_pairs.specs.Accesses.{accesses_at, is_selected, selected_at, occurs, IsByThread}
 use Rattle.shb_pairs.specs.Ranges.{sorted}
-use Rattle.shb_pairs.specs.Search.{AreRivals, racing}
-use Rattle.shb_pairs.specs.Spans.{AreComparedWith, compared_with}
+use Rattle.shb_pairs.specs.Spans.{AreComparedWith, AreRivals, compared_with, racing}
 use Rattle.shb_pairs.proofs.ByThread.{accessed_selected, op_in, op_in_at, occurs_filter, occurs_none, occurs_once, selected_item, variable_in}
 use Rattle.shb_pairs.proofs.Counting.{access_from_test, numbers_few, test_from_access}
 use Rattle.shb_pairs.proofs.Merging.{occurs_contains, sorted_length, sorted_occurs, sorted_rises, sorted_same}

@@ -16,8 +16,7 @@ use Rattle.shb_pairs.specs.declared.piece.Piece.{Piece}
 use Rattle.shb_pairs.specs.Accesses.{accesses_in, listed_accesses, variables_in}
 use Rattle.shb_clocks.specs.Open.{OpenTrace, is_open}
 use Rattle.shb_pairs.specs.Open.{AreOpen}
-use Rattle.shb_pairs.specs.Pieces.{numbered_piece, first_pieces, pieces_below, pieces_in}
-use Rattle.shb_pairs.specs.Races.{races_with, races_of, races_at, joined}
+use Rattle.shb_pairs.specs.Races.{first_pieces, joined, numbered_piece, pieces_below, pieces_in, races_at, races_of, races_with}
 use Rattle.shb_pairs.proofs.Listing.{numbers_below, races_on, races_on_parts, all_races, all_is_race_list}
 use Rattle.shb_pairs.proofs.ByThread.{listed_closed, listed_open}
 use Rattle.shb_lines.proofs.events.Increasing.{contains_head}

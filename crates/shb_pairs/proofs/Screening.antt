@@ -8,8 +8,8 @@ use Rattle.std.proofs.lemmas.List.{get_or-map}
 use Rattle.shb_lines.specs.declared.event.Event.{Event}
 use Rattle.shb_lines.specs.declared.event.Op.{Op}
 use Rattle.shb_lines.specs.declared.event.Op.TheVariants.{Write}
-use Rattle.shb_lines.specs.events.Discipline.{IsDisciplined, is_of}
-use Rattle.shb_lines.specs.events.Events.{op_at, variable_of}
+use Rattle.shb_lines.specs.events.Discipline.{IsDisciplined, is_of, local_time}
+use Rattle.shb_lines.specs.events.Events.{thread_at, op_at, variable_of}
 use Rattle.shb_lines.specs.events.Order.{BelowPred, IsPred, ShbBelow, by_fork, forked, happens_before, here, in_thread, same_thread, step}
 use Rattle.shb_lines.specs.events.Race.{Race, variable_at}
 use Rattle.shb_lines.proofs.events.Counts.{count_more_yes}
@@ -20,7 +20,7 @@ use Rattle.shb_links.specs.Sharing.{IsShared}
 use Rattle.shb_pairs.specs.declared.screen.Latest.{Latest}
 use Rattle.shb_pairs.specs.declared.screen.Mark.{Mark}
 use Rattle.shb_pairs.specs.Open.{AreOpen}
-use Rattle.shb_pairs.specs.Screen.{AreScreened, IsMarkOf, IsPast, IsScreened, no_time}
+use Rattle.shb_pairs.specs.Screen.{AreScreened, IsPast, IsScreened, no_time}
 
 -- what is below the predecessor of w, where w is below the predecessor of j
 pred_below : (trace : List Event) → IsDisciplined trace → (p w j : ℕ) → IsPred trace p w → BelowPred trace w j → BelowPred trace p j
@@ -35,16 +35,16 @@ chain_below : (trace : List Event) → IsDisciplined trace → (i w j : ℕ) →
 chain_below trace disciplined i w j below after = path_below trace i below.0 j below.2 (pred_below trace disciplined below.0 w j below.1 after)
 
 -- the event of a mark that is past
-pub mark_below : (trace : List Event) (mark : Mark) (e j : ℕ) → IsMarkOf trace mark e → e < j → IsPast trace mark j → BelowPred trace e j
+pub mark_below : (trace : List Event) (mark : Mark) (e j : ℕ) → (thread_at trace e ≡ Some mark.thread) × (mark.time ≡ local_time trace mark.thread e) → e < j → IsPast trace mark j → BelowPred trace e j
 mark_below trace mark e j own lt past = elim past.below [
   | inl none ↦ absurd (
-      let d = event_of_thread trace e mark.thread own.thread in
+      let d = event_of_thread trace e mark.thread own.0 in
       let more = count_more_yes (is_of mark.thread) trace e d.0 d.1 (is_of_true mark.thread d.0 d.2) in
-      let time = own.time in
+      let time = own.1 in
       omega (arith, none, more, time))
   | inr some ↦ elim some [
-    | inl same ↦ thread_below_pred trace mark.thread e j lt own.thread same
-    | inr counted ↦ (let time = own.time in let le = counted.2 in below_from_local trace mark.thread j counted.0 counted.1 e own.thread (omega (arith, time, le)))
+    | inl same ↦ thread_below_pred trace mark.thread e j lt own.0 same
+    | inr counted ↦ (let time = own.1 in let le = counted.2 in below_from_local trace mark.thread j counted.0 counted.1 e own.0 (omega (arith, time, le)))
   ]
 ]
 
@@ -74,7 +74,7 @@ race_accesses : (trace : List Event) (x i j : ℕ) → variable_at trace j ≡ S
 race_accesses trace x i j access race = subst (λ (y : ℕ). variable_at trace i ≡ Some y) (race_variable trace x i j access race) race.conflict.first_accesses
 
 -- a write that is ordered after the last write and the reads since
-pub screened_write : (trace : List Event) → IsDisciplined trace → (n x : ℕ) (latest next : Latest) → variable_at trace n ≡ Some x → IsPast trace latest.write n → IsPast trace latest.read n → IsMarkOf trace next.write n → IsScreened trace n x latest → IsScreened trace (n + 1) x next
+pub screened_write : (trace : List Event) → IsDisciplined trace → (n x : ℕ) (latest next : Latest) → variable_at trace n ≡ Some x → IsPast trace latest.write n → IsPast trace latest.read n → (thread_at trace n ≡ Some next.write.thread) × (next.write.time ≡ local_time trace next.write.thread n) → IsScreened trace n x latest → IsScreened trace (n + 1) x next
 screened_write trace disciplined n x latest next access past also own h = record {
   writes = λ k e lt le writes later. below k e lt le (write_accesses trace k x writes) later;
   accesses = λ k e lt le of_k later read. below k e lt le of_k later;
@@ -111,7 +111,7 @@ module _ (trace : List Event) (disciplined : IsDisciplined trace) (n x : ℕ) (l
       ]
 
   -- and is after the reads since, too
-  pub screened_read : IsPast trace latest.read n → IsMarkOf trace next.read n → IsScreened trace (n + 1) x next
+  pub screened_read : IsPast trace latest.read n → (thread_at trace n ≡ Some next.read.thread) × (next.read.time ≡ local_time trace next.read.thread n) → IsScreened trace (n + 1) x next
   screened_read also own = record {
     writes = read_writes;
     accesses = λ k e lt le of_k later read. elim (cases_eq k n) [

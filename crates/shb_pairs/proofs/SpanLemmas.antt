@@ -10,8 +10,7 @@ use Rattle.shb_lines.specs.events.Events.{op_at}
 use Rattle.shb_lines.specs.events.Race.{variable_at}
 use Rattle.shb_pairs.specs.declared.spans.Span.{Span}
 use Rattle.shb_pairs.specs.Accesses.{IsByThread}
-use Rattle.shb_pairs.specs.Search.{AreRivals, racing}
-use Rattle.shb_pairs.specs.Spans.{AreComparedWith, IsSpanOf, compared_with, in_spans}
+use Rattle.shb_pairs.specs.Spans.{AreComparedWith, AreRivals, compared_with, in_spans, IsSpanOf, racing}
 use Rattle.shb_pairs.proofs.Tails.{racing_more}
 use Rattle.shb_pairs.proofs.Found.{both_are_rivals, range_by_thread, write_at, writes_are_rivals}
 

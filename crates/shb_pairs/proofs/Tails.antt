@@ -22,7 +22,7 @@ use Rattle.shb_lines.proofs.events.Reach.{reflect_race}
 use Rattle.shb_pairs.specs.declared.buckets.Key.TheVariants.{Thread}
 use Rattle.shb_pairs.specs.Accesses.{IsBeforeByThread}
 use Rattle.shb_pairs.specs.Buckets.{key_at}
-use Rattle.shb_pairs.specs.Search.{AreRivals, IsOfOneThread, racing}
+use Rattle.shb_pairs.specs.Spans.{AreRivals, IsOfOneThread, racing}
 use Rattle.shb_pairs.proofs.Sorting.{thread_read}
 
 -- i conflicts with the later j and is of thread t

@@ -1,12 +1,34 @@
--- The races of a piece: those whose later access is among its accesses.
-use Rattle.std.specs.Prelude.{◌≡◌, ℕ, ◌<◌, ◌⊎◌, ◌↔◌, List, AllPairs, Contains, map, flat_map, slice_index_or, slice_range}
+-- The pieces that the accesses of each variable are cut into, and the races of a piece: those whose later access is among its accesses.
+use Rattle.std.specs.Prelude.{◌≡◌, ℕ, zero, suc, ◌+◌, ◌-◌, ◌*◌, ◌<◌, ◌⊎◌, ◌↔◌, min, List, [], ◌∷◌, ◌++◌, AllPairs, Contains, map, flat_map, length, slice_index_or, slice_range}
+use Rattle.std.specs.Int.{div_ceil}
 use Rattle.shb_lines.specs.declared.event.Event.{Event}
 use Rattle.shb_lines.specs.events.Race.{Race}
 use Rattle.shb_lines.specs.events.Reach.{numbers_where, is_race}
-use Rattle.shb_pairs.specs.declared.piece.Piece.{Piece}
-use Rattle.shb_pairs.specs.Accesses.{accesses_in, listed_accesses}
 use Rattle.shb_clocks.specs.Open.{OpenTrace}
-use Rattle.shb_pairs.specs.Pieces.{pieces_in}
+use Rattle.shb_pairs.specs.declared.piece.Piece.{Piece}
+use Rattle.shb_pairs.specs.Accesses.{accesses_in, listed_accesses, variables_in}
+
+-- how many accesses a piece has at most
+abbrev pub piece_length : ℕ
+piece_length = 64
+
+-- piece number k of the accesses of x, of which there are n: 64 of them, or all that are left
+abbrev pub numbered_piece : ℕ → ℕ → ℕ → Piece
+numbered_piece x n k = record { variable = x; from = piece_length * k; to = piece_length * k + min (n - piece_length * k) piece_length }
+
+-- the first k pieces
+unfoldable pub first_pieces : ℕ → ℕ → ℕ → List Piece
+first_pieces x n zero = []
+first_pieces x n (suc k) = first_pieces x n k ++ numbered_piece x n k ∷ []
+
+-- all pieces of the open variables with numbers below x
+unfoldable pub pieces_below : OpenTrace → ℕ → List Piece
+pieces_below a zero = []
+pieces_below a (suc x) = pieces_below a x ++ first_pieces x (length (listed_accesses a x)) (div_ceil (length (listed_accesses a x)) piece_length)
+
+-- all pieces of all open variables
+abbrev pub pieces_in : OpenTrace → List Piece
+pieces_in a = pieces_below a (variables_in a.trace)
 
 -- the races whose later access is j, by the earlier access
 unfoldable pub races_with : List Event → ℕ → List (ℕ × ℕ)

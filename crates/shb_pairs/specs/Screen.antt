@@ -2,7 +2,6 @@
 use Rattle.std.specs.Prelude.{◌≡◌, ◌≢◌, ℕ, ◌<◌, ◌≤◌, ◌⊎◌, List, Some, length, slice_index_or}
 use Rattle.shb_lines.specs.declared.event.Event.{Event}
 use Rattle.shb_lines.specs.declared.event.Op.TheVariants.{Write}
-use Rattle.shb_lines.specs.events.Discipline.{local_time}
 use Rattle.shb_lines.specs.events.Events.{thread_at, op_at}
 use Rattle.shb_lines.specs.events.Order.{BelowPred, IsBelowPredCount}
 use Rattle.shb_lines.specs.events.Race.{Race, variable_at}
@@ -18,11 +17,6 @@ no_time = 4294967295
 pub record IsPast (trace : List Event) (mark : Mark) (e : ℕ) : Type 0 where
   pub known : mark.time ≢ no_time
   pub below : (mark.time ≡ 0) ⊎ ((thread_at trace e ≡ Some mark.thread) ⊎ ((n : ℕ) × IsBelowPredCount trace mark.thread e n × (mark.time ≤ n)))
-
--- the mark of the event at e
-pub record IsMarkOf (trace : List Event) (mark : Mark) (e : ℕ) : Type 0 where
-  pub thread : thread_at trace e ≡ Some mark.thread
-  pub time : mark.time ≡ local_time trace mark.thread e
 
 -- an event at which the write is past is after all writes of x before n, and one at which the read is past too is after all accesses; unless the write is unordered, x has no race before n
 pub record IsScreened (trace : List Event) (n x : ℕ) (latest : Latest) : Type 0 where

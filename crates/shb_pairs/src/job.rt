@@ -5,8 +5,7 @@ ghost use Rattle.shb_clocks.specs.Open.{OpenTrace};
 ghost use Rattle.shb_fan.specs.Values.{values_of};
 ghost use Rattle.shb_pairs.specs.Accesses.{accesses_in};
 ghost use Rattle.shb_pairs.specs.Open.{AsksOpen};
-ghost use Rattle.shb_pairs.specs.Pieces.{pieces_in};
-ghost use Rattle.shb_pairs.specs.Races.{joined, piece_at, races_at, races_with};
+ghost use Rattle.shb_pairs.specs.Races.{joined, piece_at, pieces_in, races_at, races_with};
 ghost use Rattle.shb_lines.specs.events.Race.{ends};
 
 use crate::accesses::Accesses;

@@ -11,8 +11,7 @@ ghost use Rattle.shb_lines.specs.events.Schedule.{IsPrintedSchedule, IsSchedule}
 ghost use Rattle.shb_lines.specs.events.Sizes.{IsNumberedByAccess};
 ghost use Rattle.shb_clocks.specs.Open.{OpenTrace};
 ghost use Rattle.shb_pairs.specs.Open.{AreOpen};
-ghost use Rattle.shb_pairs.specs.Pieces.{pieces_in};
-ghost use Rattle.shb_pairs.specs.Races.{AreRacesOfPiece, joined, piece_at, races_at};
+ghost use Rattle.shb_pairs.specs.Races.{AreRacesOfPiece, joined, piece_at, pieces_in, races_at};
 
 /// The values of all pieces, joined, are the race list, where a variable that isn't open has no race.
 pub fn pieces_give_race_list()

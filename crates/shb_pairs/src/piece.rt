@@ -2,7 +2,7 @@
 
 ghost use Rattle.std.specs.Prelude.{◌≡◌, ◌++◌, IfOk};
 ghost use Rattle.std.specs.Int.{div_ceil};
-ghost use Rattle.shb_pairs.specs.Pieces.{pieces_in, piece_length, first_pieces};
+ghost use Rattle.shb_pairs.specs.Races.{pieces_in, piece_length, first_pieces};
 
 use crate::accesses::Accesses;
 use shb_io::NoMemory;

@@ -5,7 +5,7 @@ ghost use Rattle.shb_lines.specs.events.Discipline.{local_time};
 ghost use Rattle.shb_lines.specs.events.Events.{thread_at};
 ghost use Rattle.shb_pairs.specs.Accesses.{IsBeforeByThread};
 ghost use Rattle.shb_pairs.specs.Buckets.{key_at};
-ghost use Rattle.shb_pairs.specs.Search.{AreRivals, IsOfOneThread, racing};
+ghost use Rattle.shb_pairs.specs.Spans.{AreRivals, IsOfOneThread, racing};
 ghost use Rattle.shb_pairs.specs.declared.buckets.Key.TheVariants.{Thread};
 
 use crate::spans::Span;

@@ -1,9 +1,11 @@
 //! The variables that may have a race, by one pass over a trace.
 
 ghost use Rattle.std.specs.Prelude.{◌≡◌, ◌==◌, ◌⊎◌, ℕ, ◌+◌, ◌<◌, true, Some, IfOk, IsTrue, length, map};
+ghost use Rattle.shb_lines.specs.events.Discipline.{local_time};
+ghost use Rattle.shb_lines.specs.events.Events.{thread_at};
 ghost use Rattle.shb_lines.specs.events.Race.{variable_at};
 ghost use Rattle.shb_pairs.specs.Open.{AreOpen};
-ghost use Rattle.shb_pairs.specs.Screen.{AreScreened, IsMarkOf, IsPast, IsScreened, no_time};
+ghost use Rattle.shb_pairs.specs.Screen.{AreScreened, IsPast, IsScreened, no_time};
 
 use shb_clocks::{Order, Ordered, Sweep};
 use shb_discipline::Disciplined;
@@ -68,7 +70,8 @@ fn mark_after<O: Order>(ordered: &Ordered<'_, O>, kept: Mark, e: u32) -> Mark
     requires in_range { e < length ordered.now.disciplined.now.events.now }
     requires asked { O.asks ordered.now.order.now e ≡ true }
     ensures { (result.time ≡ no_time) ⊎ (IsPast ordered.now.disciplined.now.events.now kept e
-        × IsMarkOf ordered.now.disciplined.now.events.now result e) }
+        × (thread_at ordered.now.disciplined.now.events.now e ≡ Some result.thread)
+        × (result.time ≡ local_time ordered.now.disciplined.now.events.now result.thread e)) }
 {
     if is_past(ordered, kept, e) {
         Mark {

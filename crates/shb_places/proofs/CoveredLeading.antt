@@ -22,8 +22,7 @@ use Rattle.shb_report.proofs.LeadingLemmas.{firsts, firsts_lead, led_once, pairs
 use Rattle.shb_pairs.proofs.FlatMaps.{map_contains, map_parts}
 use Rattle.shb_pairs.proofs.Listing.{all_is_race_list, all_races}
 use Rattle.shb_places.specs.declared.found.ListedRace.{ListedRace}
-use Rattle.shb_places.specs.Covering.{Covers, FoundRace, NotAfter, race_in, race_of, races_in}
-use Rattle.shb_places.specs.ListOrder.{HasVariable, IsInListOrder}
+use Rattle.shb_places.specs.Found.{Covers, FoundRace, HasVariable, IsInListOrder, NotAfter, race_in, race_of}
 use Rattle.shb_places.proofs.KeyOrder.{before_not_after, before_or_same, not_before}
 use Rattle.shb_places.proofs.LeadMembers.{at_contained, contained_at, lead_of, leading_ordered}
 use Rattle.shb_places.proofs.Lists.{contains_get, same_entry}
@@ -42,6 +41,9 @@ race_same p q is = (Decides-and _ _ (Decides-eqb p.first q.first) (Decides-eqb p
 
 race_flips : (p q : Pair) → same_race p q ≡ same_race q p
 race_flips p q = grind (arith, common_steps, same_race, race_same, one_race)
+
+abbrev races_in : List FoundRace → List Pair
+races_in found = map (λ e. race_in e.1) found
 
 module _ (trace : TraceData) (found : List FoundRace) (sorted : List Pair) (covers : Covers trace found) (order : IsInListOrder trace.events (races_in found) sorted) where
   -- the race list, and its leading races

@@ -1,29 +1,24 @@
 -- The first accesses that have each location, one more at a time.
 use Rattle.std.proofs.lemmas.Grind.{common_steps}
 use Rattle.std.proofs.Common.{◌≡◌, ◌≢◌, ◌<◌, ◌⊎◌, inl, inr, ℕ, Bool, true, false, cond, List, [], ◌∷◌, ◌++◌, Option, None, Some, length, get_or, option_map, slice_get, arith, refl, ap, subst, sym, ◌∙◌}
-use Rattle.std.specs.Prelude.{unwrap_or}
-use Rattle.std.specs.List.{list_any}
+use Rattle.std.specs.Prelude.{Contains, unwrap_or}
+use Rattle.std.specs.List.{IsDistinct, list_any}
 use Rattle.std.specs.Str.{bytes_eq}
 use Rattle.std.proofs.lemmas.List.{length-append}
 use Rattle.std.proofs.lemmas.List.Folds.{list_any_at}
-use Rattle.std.proofs.lemmas.Option.{get_or_from_slice_get, slice_get_within}
+use Rattle.std.proofs.lemmas.Option.{get_or_from_slice_get, slice_get-get_or, slice_get-map, slice_get_within}
 use Rattle.std.proofs.lemmas.Slice.Eq.{bytes_eq-Decides}
 use Rattle.indexmap.specs.IndexSet.{insert_key}
 use Rattle.shb_lines.specs.text.TraceData.{TraceData, location_of}
-use Rattle.shb_places.specs.Access.{IsLocatedAt}
-use Rattle.std.specs.Prelude.{Contains}
-use Rattle.std.specs.List.{IsDistinct}
+use Rattle.shb_places.specs.Access.{AreFirsts, AreNumbered, HaveFirsts, IsLocatedAt}
 use Rattle.std.specs.Map.{keys_of}
 use Rattle.std.proofs.lemmas.Bool.{cases_order}
 use Rattle.std.proofs.lemmas.Map.Keys.{apart_from_distinct}
-use Rattle.std.proofs.lemmas.Option.{slice_get-get_or, slice_get-map}
 use Rattle.shb_lines.proofs.text.Numbers.{one_number}
 use Rattle.shb_report.specs.Leading.{place_at}
 use Rattle.shb_report.specs.Places.{location_at}
 use Rattle.shb_places.specs.declared.sites.Site.{Site}
-use Rattle.shb_places.specs.Covering.{FoundRace}
-use Rattle.shb_places.specs.Firsts.{AreFirsts, AreNumbered, HaveFirsts}
-use Rattle.shb_places.specs.Found.{AreFound, same_key}
+use Rattle.shb_places.specs.Found.{AreFound, FoundRace, same_key}
 use Rattle.shb_places.proofs.FoundLemmas.{key_same}
 use Rattle.shb_places.proofs.Lists.{contains_get, get_cases, get_contains, same_entry}
 

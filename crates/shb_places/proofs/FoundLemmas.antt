@@ -12,11 +12,8 @@ use Rattle.shb_report.specs.Leading.{place_at}
 use Rattle.shb_report.specs.Places.{location_at}
 use Rattle.shb_places.specs.declared.found.ListedRace.{ListedRace}
 use Rattle.shb_places.specs.declared.notes.Access.{Access}
-use Rattle.shb_places.specs.Access.{IsAccess}
-use Rattle.shb_places.specs.Covering.{FoundRace, IsCovered, NotAfter, race_of}
-use Rattle.shb_places.specs.Known.{IsKnown}
-use Rattle.shb_places.specs.Firsts.{HasFirsts, HaveFirsts}
-use Rattle.shb_places.specs.Found.{AreFound, Improves, IsFound, IsOffered, same_key}
+use Rattle.shb_places.specs.Access.{HasFirsts, HaveFirsts, IsAccess}
+use Rattle.shb_places.specs.Found.{AreFound, FoundRace, Improves, IsCovered, IsFound, IsKnown, IsOffered, NotAfter, race_of, same_key}
 use Rattle.shb_places.proofs.KeyOrder.{race_then}
 
 pub key_self : (a : ListedRace) → NotAfter a a

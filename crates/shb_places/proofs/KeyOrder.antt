@@ -7,7 +7,7 @@ use Rattle.std.proofs.lemmas.Cmp.{nat_cmp_total, on_total, then_total}
 use Rattle.std.proofs.lemmas.Grind.{common_steps}
 use Rattle.shb_lines.specs.events.Race.{KeyBefore}
 use Rattle.shb_places.specs.declared.found.ListedRace.{ListedRace}
-use Rattle.shb_places.specs.Covering.{NotAfter, race_of}
+use Rattle.shb_places.specs.Found.{NotAfter, race_of}
 
 -- races are compared by their variables, their later events and their earlier ones
 abbrev pub race_cmp : ListedRace → ListedRace → Ordering

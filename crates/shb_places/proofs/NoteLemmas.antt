@@ -5,7 +5,6 @@ use Rattle.std.specs.Prelude.{min, option_and_then}
 use Rattle.std.proofs.Math.ListN.{set}
 use Rattle.std.proofs.Math.Nat.{min-eq_left, min-eq_right, min-le_left, min-le_right}
 use Rattle.std.proofs.lemmas.Bool.{cases_eq, cases_Bool, cases_lt}
-use Rattle.std.proofs.lemmas.List.{length-append}
 use Rattle.std.proofs.lemmas.Option.{slice_get_within, slice_get-get_or}
 use Rattle.shb_lines.specs.declared.event.Event.{Event}
 use Rattle.shb_lines.specs.declared.event.Op.{Op}
@@ -22,8 +21,8 @@ use Rattle.shb_places.specs.declared.notes.Class.{Class}
 use Rattle.shb_places.specs.declared.notes.Link.{Link}
 use Rattle.shb_places.specs.declared.sites.Site.{Site}
 use Rattle.shb_places.specs.Access.{IsAccess, IsAccessOf}
-use Rattle.shb_places.specs.Lists.{Reaches, here, further, class_next, link_previous, list_at, none}
-use Rattle.shb_places.specs.Notes.{AreAlike, AreKept, AreLinked, InChain, IsAddable, IsAdded, IsBegun, IsClass, IsClassOf, IsEarliestAt, IsEarliestIn, IsEarliestOf, IsExtended, IsNotedAt, RacesAt, Tables}
+use Rattle.shb_places.specs.Lists.{Reaches, here, further, list_at, none}
+use Rattle.shb_places.specs.Notes.{AreAlike, AreKept, AreLinked, InChain, IsAddable, IsAdded, IsClass, IsClassOf, IsEarliest, IsNotedAt, Tables}
 use Rattle.shb_places.proofs.Lists.{get_cases, get_last, get_more, get_set, get_set_other, reaches_end, reaches_more, reaches_next, reaches_set, reaches_within, same_entry}
 
 -- where a chain ends
@@ -41,18 +40,19 @@ alike_then : (trace : TraceData) (d e f : ℕ) → AreAlike trace d e → AreAli
 alike_then trace d e f h g = record { thread = h.thread ∙ g.thread; op = h.op ∙ g.op; location = h.location ∙ g.location }
 
 -- the events of a chain are accesses of one class, and none is later than the one that it begins with
-reached_alike : (trace : TraceData) (links : List Link) (n : ℕ) → AreLinked trace links n → (k : ℕ) (last : Link) → slice_get links k ≡ Some last → (p : ℕ) (link : Link) → slice_get links p ≡ Some link → Reaches link_previous links k p → (last.event ≤ link.event) × AreAlike trace last.event link.event
+reached_alike : (trace : TraceData) (links : List Link) (n : ℕ) → AreLinked trace links n → (k : ℕ) (last : Link) → slice_get links k ≡ Some last → (p : ℕ) (link : Link) → slice_get links p ≡ Some link → Reaches (λ (k : Link). k.previous) links k p → (last.event ≤ link.event) × AreAlike trace last.event link.event
 reached_alike trace links n linked k last at_k p link at (here is) =
     subst (λ (l : Link). (last.event ≤ l.event) × AreAlike trace last.event l.event) (same_entry links p last link (subst (λ (m : ℕ). slice_get links m ≡ Some last) (sym is) at_k) at) ((omega arith), alike_same trace last.event)
 reached_alike trace links n linked k last at_k p link at (further entry there falls rest) =
-    let low = reaches_within link_previous links k entry.previous (slice_get_within links k last at_k) rest in
+    let low = reaches_within _ links k entry.previous (slice_get_within links k last at_k) rest in
     let before = get_or links entry.previous entry in
     let at_before = slice_get-get_or links entry.previous entry low in
     let more = reached_alike trace links n linked k last at_k entry.previous before at_before rest in
-    let later = linked.falls p entry before there falls at_before in
+    let next = linked.rises p entry before there falls at_before in
+    let later = next.0 in
     let earlier = more.0 in
     subst (λ (l : Link). (last.event ≤ l.event) × AreAlike trace last.event l.event) (same_entry links p entry link there at)
-    ((omega (arith, earlier, later)), alike_then trace last.event before.event entry.event more.1 (linked.alike p entry before there falls at_before))
+    ((omega (arith, earlier, later)), alike_then trace last.event before.event entry.event more.1 next.1)
 
 pub chain_alike : (trace : TraceData) (links : List Link) (n p e : ℕ) (link : Link) → AreLinked trace links n → slice_get links p ≡ Some link → InChain links p e → (e ≤ link.event) × AreAlike trace e link.event
 chain_alike trace links n p e link linked at chain = subst (λ (f : ℕ). (f ≤ link.event) × AreAlike trace f link.event) chain.event_is (reached_alike trace links n linked chain.number chain.link chain.there p link at chain.reached)
@@ -93,12 +93,16 @@ local_of trace events seen r e linked same time = subst (λ (tr : List Event). (
 pub within_of : (trace events seen : List Event) (e : ℕ) → seen ≡ events → events ≡ trace → e < length trace → e < length seen
 within_of trace events seen e linked same lt = let f = ap length (linked ∙ same) in omega (arith, f, lt)
 
-pub at_chain : (links : List Link) (k p : ℕ) (link : Link) → slice_get links k ≡ Some link → Reaches link_previous links k p → InChain links p link.event
+pub at_chain : (links : List Link) (k p : ℕ) (link : Link) → slice_get links k ≡ Some link → Reaches (λ (k : Link). k.previous) links k p → InChain links p link.event
 at_chain links k p link at reached = record { number = k; link = link; reached = reached; there = at; event_is = refl }
 
+one_variable : {x y : ℕ} → Some x ≡ Some y → x ≡ y
+one_variable is = cc
+
 -- an access that a class has races with an access of another thread where one of the two writes and its local time is above the bound
-pub class_races : (trace : TraceData) (t x l b e : ℕ) (writes : Bool) (access : Access) → IsAccess trace access → IsAccessOf trace t x l writes e → x ≡ access.variable → (t ≢ access.thread) × ((writes ≡ true) ⊎ (access.writes ≡ true)) → e < access.event → IsBelowPredCount trace.events t access.event b → b < local_time trace.events t e → Race trace.events e access.event
-class_races trace t x l b e writes access own other same can lt count above =
+pub class_races : (trace : TraceData) (t x l b e : ℕ) (writes : Bool) (access : Access) → IsAccess trace access → IsAccessOf trace t x l writes e → variable_at trace.events e ≡ Some access.variable → (t ≢ access.thread) × ((writes ≡ true) ⊎ (access.writes ≡ true)) → e < access.event → IsBelowPredCount trace.events t access.event b → b < local_time trace.events t e → Race trace.events e access.event
+class_races trace t x l b e writes access own other of_e can lt count above =
+    let same : x ≡ access.variable = one_variable (sym other.variable ∙ of_e) in
     let conflict : Conflict trace.events e access.event = record {
       variable = x;
       first_accesses = other.variable;
@@ -127,59 +131,46 @@ access_same trace t x l true e f h g = record { thread = h.thread ∙ sym g.thre
 access_same trace t x l false e f h g = record { thread = h.thread ∙ sym g.thread; op = read_op (op_at trace.events e) x h.variable (h.read refl) ∙ sym (read_op (op_at trace.events f) x g.variable (g.read refl)); location = h.location ∙ sym g.location }
 
 -- one link more
-linked_more : (trace : TraceData) (links : List Link) (n : ℕ) (last : Link) → AreLinked trace links n → length links < none → last.event ≡ n → ((before : Link) → last.previous < length links → slice_get links last.previous ≡ Some before → AreAlike trace before.event last.event) → AreLinked trace (links ++ last ∷ []) (n + 1)
-linked_more trace links n last linked few is alike = record {
-  few = (let long = length-append links (last ∷ []) in omega (arith, long, few));
+linked_more : (trace : TraceData) (links : List Link) (n : ℕ) (last : Link) → AreLinked trace links n → last.event ≡ n → ((before : Link) → last.previous < length links → slice_get links last.previous ≡ Some before → AreAlike trace before.event last.event) → AreLinked trace (links ++ last ∷ []) (n + 1)
+linked_more trace links n last linked is alike = record {
   past = λ k link at. elim (get_cases links last k link at) [
     | inl old ↦ (let low = linked.past k link old in omega (arith, low))
     | inr new ↦ (let own = ap (λ (l : Link). l.event) new.1 in omega (arith, own, is))
   ];
-  falls = λ k link before at low at_before. elim (get_cases links last k link at) [
+  rises = λ k link before at low at_before. elim (get_cases links last k link at) [
     | inl old ↦ (let high = slice_get_within links k link old in elim (get_cases links last link.previous before at_before) [
-      | inl there ↦ linked.falls k link before old low there
+      | inl there ↦ linked.rises k link before old low there
       | inr newer ↦ absurd (let same = newer.0 in omega (arith, high, low, same))
     ])
     | inr new ↦ (let own = ap (λ (l : Link). l.event) new.1 in let same_k = new.0 in elim (get_cases links last link.previous before at_before) [
-      | inl there ↦ (let past = linked.past link.previous before there in omega (arith, past, own, is))
-      | inr newer ↦ absurd (let same = newer.0 in omega (arith, low, same, same_k))
-    ])
-  ];
-  alike = λ k link before at low at_before. elim (get_cases links last k link at) [
-    | inl old ↦ (let high = slice_get_within links k link old in elim (get_cases links last link.previous before at_before) [
-      | inl there ↦ linked.alike k link before old low there
-      | inr newer ↦ absurd (let same = newer.0 in omega (arith, high, low, same))
-    ])
-    | inr new ↦ (let same_k = new.0 in elim (get_cases links last link.previous before at_before) [
-      | inl there ↦ subst (λ (l : Link). (l.previous < length links) → slice_get links l.previous ≡ Some before → AreAlike trace before.event l.event) new.1 (alike before) (omega (arith, low, same_k)) there
+      | inl there ↦ (
+        let past = linked.past link.previous before there in
+            (omega (arith, past, own, is)),
+        subst (λ (l : Link). (l.previous < length links) → slice_get links l.previous ≡ Some before → AreAlike trace before.event l.event) new.1 (alike before) (omega (arith, low, same_k)) there,
+      )
       | inr newer ↦ absurd (let same = newer.0 in omega (arith, low, same, same_k))
     ])
   ];
 }
 
 chain_more : (links more : List Link) (p e : ℕ) → InChain links p e → InChain (links ++ more) p e
-chain_more links more p e chain = record { number = chain.number; link = chain.link; reached = reaches_more link_previous links more chain.number p chain.reached; there = get_more links more chain.number chain.link chain.there; event_is = chain.event_is }
+chain_more links more p e chain = record { number = chain.number; link = chain.link; reached = reaches_more _ links more chain.number p chain.reached; there = get_more links more chain.number chain.link chain.there; event_is = chain.event_is }
 
 -- a chain that begins with one link more
 chain_longer : (links : List Link) (last : Link) (e : ℕ) → last.previous < length links → InChain links last.previous e → InChain (links ++ last ∷ []) (length links) e
-chain_longer links last e low chain = record { number = chain.number; link = chain.link; reached = further last (get_last links last (length links) refl) low (reaches_more link_previous links (last ∷ []) chain.number last.previous chain.reached); there = get_more links (last ∷ []) chain.number chain.link chain.there; event_is = chain.event_is }
+chain_longer links last e low chain = record { number = chain.number; link = chain.link; reached = further last (get_last links last (length links) refl) low (reaches_more _ links (last ∷ []) chain.number last.previous chain.reached); there = get_more links (last ∷ []) chain.number chain.link chain.there; event_is = chain.event_is }
 
 chain_last : (links : List Link) (last : Link) → InChain (links ++ last ∷ []) (length links) last.event
 chain_last links last = record { number = length links; link = last; reached = here refl; there = get_last links last (length links) refl; event_is = refl }
-
-abbrev tables : List ℕ → List Class → List Link → Tables
-tables heads classes links = record { heads = heads; classes = classes; links = links }
-
-tables_same : (a b : Tables) → a.heads ≡ b.heads → a.classes ≡ b.classes → a.links ≡ b.links → a ≡ b
-tables_same a b heads classes links = grind (arith, common_steps)
 
 -- what is kept, by lists
 module _ (trace : TraceData) (sites : List Site) (old : Tables) (s local : ℕ) (access : Access) (add : IsAddable trace sites old s access local) where
   -- the access is one of any class of its thread, site and kind
   own_access : (class : Class) (site : Site) → class.site ≡ s → class.thread ≡ access.thread → class.writes ≡ access.writes → slice_get sites class.site ≡ Some site → IsAccessOf trace class.thread site.variable site.location class.writes access.event
   own_access class site site_is thread_is writes_is at_site =
-      let same = same_entry sites s add.site site add.at_site (subst (λ (k : ℕ). slice_get sites k ≡ Some site) site_is at_site) in
-      let a : IsAccessOf trace access.thread site.variable access.location access.writes access.event = subst (λ (x : ℕ). IsAccessOf trace access.thread x access.location access.writes access.event) (sym add.variable_is ∙ ap (λ (k : Site). k.variable) same) add.is_access in
-      let b : IsAccessOf trace access.thread site.variable site.location access.writes access.event = subst (λ (l : ℕ). IsAccessOf trace access.thread site.variable l access.writes access.event) (sym add.location_is ∙ ap (λ (k : Site). k.location) same) a in
+      let same = same_entry sites s add.site.site site add.site.there (subst (λ (k : ℕ). slice_get sites k ≡ Some site) site_is at_site) in
+      let a : IsAccessOf trace access.thread site.variable access.location access.writes access.event = subst (λ (x : ℕ). IsAccessOf trace access.thread x access.location access.writes access.event) (sym add.site.variable_is ∙ ap (λ (k : Site). k.variable) same) add.is_access in
+      let b : IsAccessOf trace access.thread site.variable site.location access.writes access.event = subst (λ (l : ℕ). IsAccessOf trace access.thread site.variable l access.writes access.event) (sym add.site.location_is ∙ ap (λ (k : Site). k.location) same) a in
       let d : IsAccessOf trace class.thread site.variable site.location access.writes access.event = subst (λ (t : ℕ). IsAccessOf trace t site.variable site.location access.writes access.event) (sym thread_is) b in
       subst (λ (w : Bool). IsAccessOf trace class.thread site.variable site.location w access.event) (sym writes_is) d
 
@@ -187,7 +178,7 @@ module _ (trace : TraceData) (sites : List Site) (old : Tables) (s local : ℕ) 
   own_time class thread_is = let f = ap (λ (t : ℕ). local_time trace.events t access.event) thread_is in let g = add.time in omega (arith, f, g)
 
   -- a class gets one access more
-  module _ (c : ℕ) (is : IsClassOf old.classes s access c) (few : length old.links < none) where
+  module _ (c : ℕ) (is : IsClassOf old.classes s access c) where
     h : IsClass trace sites old c is.class
     h = add.kept.classes c is.class is.there
 
@@ -207,10 +198,10 @@ module _ (trace : TraceData) (sites : List Site) (old : Tables) (s local : ℕ) 
     own = own_access is.class h.site is.site_is is.thread_is is.writes_is h.at_site
 
     linked : AreLinked trace extended.links (access.event + 1)
-    linked = linked_more trace old.links access.event last add.kept.links few refl (λ before low there. subst (λ (l : Link). AreAlike trace l.event access.event) (same_entry old.links is.class.newest h.link before h.at_link there) (access_same trace is.class.thread h.site.variable h.site.location is.class.writes h.link.event access.event h.access own))
+    linked = linked_more trace old.links access.event last add.kept.links refl (λ before low there. subst (λ (l : Link). AreAlike trace l.event access.event) (same_entry old.links is.class.newest h.link before h.at_link there) (access_same trace is.class.thread h.site.variable h.site.location is.class.writes h.link.event access.event h.access own))
 
-    ext_reached : (k p : ℕ) → Reaches class_next old.classes k p → Reaches class_next extended.classes k p
-    ext_reached k p reached = reaches_set class_next old.classes c is.class later k p is.there refl reached
+    ext_reached : (k p : ℕ) → Reaches (λ (k : Class). k.next) old.classes k p → Reaches (λ (k : Class). k.next) extended.classes k p
+    ext_reached k p reached = reaches_set _ old.classes c is.class later k p is.there refl reached
 
     ext_class : (k : ℕ) (class : Class) → slice_get extended.classes k ≡ Some class → IsClass trace sites extended k class
     ext_class k class there = elim (cases_eq k c) [
@@ -219,7 +210,7 @@ module _ (trace : TraceData) (sites : List Site) (old : Tables) (s local : ℕ) 
         at_site = h.at_site;
         head = h.head;
         at_head = h.at_head;
-        reached = subst (λ (m : ℕ). Reaches class_next extended.classes m h.head) (sym same) (ext_reached c h.head h.reached);
+        reached = subst (λ (m : ℕ). Reaches (λ (k : Class). k.next) extended.classes m h.head) (sym same) (ext_reached c h.head h.reached);
         link = last;
         at_link = get_last old.links last (length old.links) refl;
         access = own;
@@ -267,11 +258,8 @@ module _ (trace : TraceData) (sites : List Site) (old : Tables) (s local : ℕ) 
       stays = ext_stays;
     }
 
-    pub extended_added : (new : Tables) (class : Class) → IsExtended old new c class access.event local → IsAdded trace sites old new s access.event
-    extended_added new class e =
-        let class_is : class ≡ is.class = same_entry old.classes c class is.class e.at_class is.there in
-        subst (λ (t : Tables). IsAdded trace sites old t s access.event)
-        (sym (tables_same new extended e.heads (e.classes ∙ ap (λ (k : Class). set old.classes c (record k { newest = length old.links; local = local })) class_is) (e.links ∙ ap (λ (k : Class). old.links ++ record { event = access.event; previous = k.newest } ∷ []) class_is))) ext_added
+    pub extended_added : (new : Tables) → new ≡ extended → IsAdded trace sites old new s access.event
+    extended_added new is_new = subst (λ (t : Tables). IsAdded trace sites old t s access.event) (sym is_new) ext_added
 
   -- a new class
   module _ (head : ℕ) (at_head : slice_get old.heads (list_at s access.writes) ≡ Some head) (few : length old.links < none) where
@@ -297,14 +285,14 @@ module _ (trace : TraceData) (sites : List Site) (old : Tables) (s local : ℕ) 
     begun_class k other there = elim (get_cases old.classes class k other there) [
       | inl before ↦ (
           let g = add.kept.classes k other before in
-          let more : Reaches class_next begun.classes k g.head = reaches_more class_next old.classes (class ∷ []) k g.head g.reached in
-          let parts : (start : ℕ) × (slice_get begun.heads (list_at other.site other.writes) ≡ Some start) × Reaches class_next begun.classes k start = elim (cases_eq (list_at other.site other.writes) own_list) [
+          let more : Reaches (λ (k : Class). k.next) begun.classes k g.head = reaches_more _ old.classes (class ∷ []) k g.head g.reached in
+          let parts : (start : ℕ) × (slice_get begun.heads (list_at other.site other.writes) ≡ Some start) × Reaches (λ (k : Class). k.next) begun.classes k start = elim (cases_eq (list_at other.site other.writes) own_list) [
             | inl same ↦ (
                 let same_head : g.head ≡ head = same_entry old.heads own_list g.head head (subst (λ (m : ℕ). slice_get old.heads m ≡ Some g.head) same g.at_head) at_head in
-                let low = reaches_within class_next old.classes k g.head (slice_get_within old.classes k other before) g.reached in (
+                let low = reaches_within _ old.classes k g.head (slice_get_within old.classes k other before) g.reached in (
                   length old.classes,
                   subst (λ (m : ℕ). slice_get begun.heads m ≡ Some (length old.classes)) (sym same) at_first,
-                  further class at_last (omega (arith, low, same_head)) (subst (λ (m : ℕ). Reaches class_next begun.classes k m) same_head more),
+                  further class at_last (omega (arith, low, same_head)) (subst (λ (m : ℕ). Reaches (λ (k : Class). k.next) begun.classes k m) same_head more),
                 ))
             | inr ne ↦ (g.head, get_set_other old.heads own_list (list_at other.site other.writes) (length old.classes) ne ∙ g.at_head, more)
           ] in
@@ -320,21 +308,21 @@ module _ (trace : TraceData) (sites : List Site) (old : Tables) (s local : ℕ) 
             local = g.local;
           })
       | inr new ↦ subst (λ (m : Class). IsClass trace sites begun k m) new.1 (record {
-        site = add.site;
-        at_site = add.at_site;
+        site = add.site.site;
+        at_site = add.site.there;
         head = length old.classes;
         at_head = at_first;
         reached = here (sym new.0);
         link = first;
         at_link = get_last old.links first (length old.links) refl;
-        access = own_access class add.site refl refl refl add.at_site;
+        access = own_access class add.site.site refl refl refl add.site.there;
         local = own_time class refl;
       })
     ]
 
     begun_is_added : IsAdded trace sites old begun s access.event
     begun_is_added = record {
-      kept = record { classes = begun_class; links = linked_more trace old.links access.event first add.kept.links few refl (λ before low there. absurd (omega (arith, low, few))) };
+      kept = record { classes = begun_class; links = linked_more trace old.links access.event first add.kept.links refl (λ before low there. absurd (omega (arith, low, few))) };
       noted = record { number = length old.classes; class = class; there = at_last; site_is = refl; chain = chain_last old.links first };
       stays = λ t i noted. record {
         number = noted.number;
@@ -345,14 +333,47 @@ module _ (trace : TraceData) (sites : List Site) (old : Tables) (s local : ℕ) 
       };
     }
 
-    pub begun_added : (new : Tables) → IsBegun old new class access.event → IsAdded trace sites old new s access.event
-    begun_added new e = subst (λ (t : Tables). IsAdded trace sites old t s access.event) (sym (tables_same new begun e.heads e.classes e.links)) begun_is_added
+    pub begun_added : (new : Tables) → new ≡ begun → IsAdded trace sites old new s access.event
+    begun_added new is_new = subst (λ (t : Tables). IsAdded trace sites old t s access.event) (sym is_new) begun_is_added
 
--- no access of the class is asked for, or none races
-pub earliest_none : (trace : TraceData) (sites : List Site) (notes : Tables) (s c : ℕ) (access : Access) → ((e : ℕ) (noted : IsNotedAt notes s e) → noted.number ≡ c → Race trace.events e access.event → ⊥) → IsEarliestIn trace sites notes s c access none
-earliest_none trace sites notes s c access nothing = record {
-  least = λ e noted is race. absurd (nothing e noted is race);
+-- none races
+pub earliest_none : (trace : TraceData) (notes : Tables) (s : ℕ) (Among : ℕ → Class → Type 0) (access : Access) → ((e : ℕ) (noted : IsNotedAt notes s e) → Among noted.number noted.class → Race trace.events e access.event → ⊥) → IsEarliest trace notes s Among access none
+earliest_none trace notes s Among access nothing = record {
+  least = λ e noted among race. absurd (nothing e noted among race);
   races = λ some. absurd (some refl);
+}
+
+-- the lesser of two numbers
+lesser : (a b m : ℕ) → m ≡ min a b → (m ≤ a) × (m ≤ b) × ((m ≡ a) ⊎ (m ≡ b))
+lesser a b m is = grind (arith, common_steps, min-le_left, min-le_right, cases_lt, min-eq_left, min-eq_right)
+
+-- the earliest of two parts is the lesser of the earliest of each
+pub earliest_both : (trace : TraceData) (notes : Tables) (s : ℕ) (First Second Among : ℕ → Class → Type 0) (access : Access) (first second earliest : ℕ) → IsEarliest trace notes s First access first → IsEarliest trace notes s Second access second → earliest ≡ min first second
+    → ((e : ℕ) (noted : IsNotedAt notes s e) → Among noted.number noted.class → Race trace.events e access.event → First noted.number noted.class ⊎ Second noted.number noted.class) → IsEarliest trace notes s Among access earliest
+earliest_both trace notes s First Second Among access first second earliest of_first of_second is_min either = record {
+  least = λ e noted among race. (
+      let low = lesser first second earliest is_min in
+      let low_first = low.0 in
+      let low_second = low.1 in
+      elim (either e noted among race) [
+        | inl in_first ↦ (let le = of_first.least e noted in_first race in omega (arith, le, low_first))
+        | inr in_second ↦ (let le = of_second.least e noted in_second race in omega (arith, le, low_second))
+      ]);
+  races = λ some. elim (lesser first second earliest is_min).2 [
+    | inl is ↦ subst Races (sym is) (of_first.races (λ same. some (is ∙ same)))
+    | inr is ↦ subst Races (sym is) (of_second.races (λ same. some (is ∙ same)))
+  ];
+}
+  where
+    Races : ℕ → Type 0
+    Races e = IsNotedAt notes s e × (variable_at trace.events e ≡ Some access.variable → Race trace.events e access.event)
+
+-- the earliest of more classes, of which the others have none that races
+pub earliest_part : (trace : TraceData) (notes : Tables) (s : ℕ) (More Among : ℕ → Class → Type 0) (access : Access) (earliest : ℕ) → IsEarliest trace notes s More access earliest
+    → ((e : ℕ) (noted : IsNotedAt notes s e) → Among noted.number noted.class → Race trace.events e access.event → More noted.number noted.class) → IsEarliest trace notes s Among access earliest
+earliest_part trace notes s More Among access earliest found more = record {
+  least = λ e noted among race. found.least e noted (more e noted among race) race;
+  races = found.races;
 }
 
 -- what is known of an access in the class c
@@ -374,14 +395,14 @@ noted_class notes s c e class there noted is =
     subst (λ (m : Class). (m.site ≡ s) × InChain notes.links m.newest e) (same_entry notes.classes c noted.class class (subst (λ (k : ℕ). slice_get notes.classes k ≡ Some noted.class) is noted.there) there) (noted.site_is, noted.chain)
 
 -- a class that can't race
-pub cannot : (trace : TraceData) (sites : List Site) (notes : Tables) (s c : ℕ) (access : Access) (class : Class) → AreKept trace sites notes access.event → IsAccess trace access → slice_get notes.classes c ≡ Some class → class.site ≡ s → ((class.thread ≢ access.thread) × ((class.writes ≡ true) ⊎ (access.writes ≡ true)) → ⊥) → IsEarliestIn trace sites notes s c access none
-cannot trace sites notes s c access class kept own there site_is not = earliest_none trace sites notes s c access (λ e noted is race.
+pub cannot : (trace : TraceData) (sites : List Site) (notes : Tables) (s c : ℕ) (access : Access) (class : Class) → AreKept trace sites notes access.event → IsAccess trace access → slice_get notes.classes c ≡ Some class → class.site ≡ s → ((class.thread ≢ access.thread) × ((class.writes ≡ true) ⊎ (access.writes ≡ true)) → ⊥) → IsEarliest trace notes s (λ number _. number ≡ c) access none
+cannot trace sites notes s c access class kept own there site_is not = earliest_none trace notes s _ access (λ e noted is race.
     let f = chain_in trace sites notes s c e access.event class kept there site_is (noted_class notes s c e class there noted is).1 in
     not (race_class trace class.thread f.site.variable f.site.location e class.writes access own f.access race))
 
 -- a class that is below
-pub all_below : (trace : TraceData) (sites : List Site) (notes : Tables) (s c b : ℕ) (access : Access) (class : Class) → AreKept trace sites notes access.event → IsAccess trace access → slice_get notes.classes c ≡ Some class → class.site ≡ s → IsBelowPredCount trace.events class.thread access.event b → class.local ≤ b → IsEarliestIn trace sites notes s c access none
-all_below trace sites notes s c b access class kept own there site_is count low = earliest_none trace sites notes s c access (λ e noted is race.
+pub all_below : (trace : TraceData) (sites : List Site) (notes : Tables) (s c b : ℕ) (access : Access) (class : Class) → AreKept trace sites notes access.event → IsAccess trace access → slice_get notes.classes c ≡ Some class → class.site ≡ s → IsBelowPredCount trace.events class.thread access.event b → class.local ≤ b → IsEarliest trace notes s (λ number _. number ≡ c) access none
+all_below trace sites notes s c b access class kept own there site_is count low = earliest_none trace notes s _ access (λ e noted is race.
     let f = chain_in trace sites notes s c e access.event class kept there site_is (noted_class notes s c e class there noted is).1 in
     let above = race_above trace class.thread f.site.variable f.site.location b e class.writes access f.access count race in
     let local = f.local in
@@ -393,64 +414,43 @@ pub record IsLeast (trace : TraceData) (links : List Link) (p b r : ℕ) : Type 
   pub chain : r ≢ none → InChain links p r
   pub above : (t : ℕ) → r ≢ none → thread_at trace.events r ≡ Some t → b < local_time trace.events t r
 
-pub chain_least : (trace : TraceData) (sites : List Site) (notes : Tables) (s c b r : ℕ) (access : Access) (class : Class) → AreKept trace sites notes access.event → IsAccess trace access → slice_get notes.classes c ≡ Some class → class.site ≡ s → (class.thread ≢ access.thread) × ((class.writes ≡ true) ⊎ (access.writes ≡ true)) → IsBelowPredCount trace.events class.thread access.event b → IsLeast trace notes.links class.newest b r → IsEarliestIn trace sites notes s c access r
+pub chain_least : (trace : TraceData) (sites : List Site) (notes : Tables) (s c b r : ℕ) (access : Access) (class : Class) → AreKept trace sites notes access.event → IsAccess trace access → slice_get notes.classes c ≡ Some class → class.site ≡ s → (class.thread ≢ access.thread) × ((class.writes ≡ true) ⊎ (access.writes ≡ true)) → IsBelowPredCount trace.events class.thread access.event b → IsLeast trace notes.links class.newest b r → IsEarliest trace notes s (λ number _. number ≡ c) access r
 chain_least trace sites notes s c b r access class kept own there site_is can count found = record {
   least = λ e noted is race. (
       let chain = (noted_class notes s c e class there noted is).1 in
       let f = chain_in trace sites notes s c e access.event class kept there site_is chain in
       found.least access.event class.thread e kept.links chain f.access.thread (race_above trace class.thread f.site.variable f.site.location b e class.writes access f.access count race));
   races = λ some. (
-      let f = chain_in trace sites notes s c r access.event class kept there site_is (found.chain some) in
-      record {
-        site = f.site;
-        at_site = f.at_site;
-        is_race = λ same. class_races trace class.thread f.site.variable f.site.location b r class.writes access own f.access same can f.past count (found.above class.thread some f.access.thread);
-        location_is = f.access.location;
-      });
+      let chain = found.chain some in
+      let f = chain_in trace sites notes s c r access.event class kept there site_is chain in (
+        record { number = c; class = class; there = there; site_is = site_is; chain = chain },
+        λ of_r. class_races trace class.thread f.site.variable f.site.location b r class.writes access own f.access of_r can f.past count (found.above class.thread some f.access.thread),
+      ));
 }
 
--- all classes of a site and a kind are looked at, or from one on
-pub record AreLeast (trace : TraceData) (sites : List Site) (notes : Tables) (s : ℕ) (writes : Bool) (access : Access) (earliest p : ℕ) : Type 0 where
-  pub least : (e : ℕ) (noted : IsNotedAt notes s e) → noted.class.writes ≡ writes → Race trace.events e access.event → (earliest ≤ e) ⊎ Reaches class_next notes.classes noted.number p
-  pub races : earliest ≢ none → RacesAt trace sites s earliest access
+-- a class of this kind, which the list that begins at p doesn't lead to
+abbrev pub IsLookedAt : Tables → Bool → ℕ → ℕ → Class → Type 0
+IsLookedAt notes writes p number class = (class.writes ≡ writes) × (Reaches (λ (k : Class). k.next) notes.classes number p → ⊥)
 
-pub least_start : (trace : TraceData) (sites : List Site) (notes : Tables) (s n head : ℕ) (writes : Bool) (access : Access) → AreKept trace sites notes n → ((h : ℕ) → slice_get notes.heads (list_at s writes) ≡ Some h → head ≡ h) → AreLeast trace sites notes s writes access none head
-least_start trace sites notes s n head writes access kept is = record {
-  least = λ e noted kind race. inr (
-      let h = kept.classes noted.number noted.class noted.there in
-      let list_is : list_at noted.class.site noted.class.writes ≡ list_at s writes = ap (λ (k : ℕ). list_at k noted.class.writes) noted.site_is ∙ ap (λ (w : Bool). list_at s w) kind in
-      subst (λ (p : ℕ). Reaches class_next notes.classes noted.number p) (sym (is h.head (subst (λ (k : ℕ). slice_get notes.heads k ≡ Some h.head) list_is h.at_head))) h.reached);
-  races = λ some. absurd (some refl);
-}
+pub least_start : (trace : TraceData) (sites : List Site) (notes : Tables) (s n head : ℕ) (writes : Bool) (access : Access) → AreKept trace sites notes n → ((h : ℕ) → slice_get notes.heads (list_at s writes) ≡ Some h → head ≡ h) → IsEarliest trace notes s (IsLookedAt notes writes head) access none
+least_start trace sites notes s n head writes access kept is = earliest_none trace notes s _ access (λ e noted looked race.
+    let h = kept.classes noted.number noted.class noted.there in
+    let list_is : list_at noted.class.site noted.class.writes ≡ list_at s writes = ap (λ (k : ℕ). list_at k noted.class.writes) noted.site_is ∙ ap (λ (w : Bool). list_at s w) looked.0 in
+    looked.1 (subst (λ (p : ℕ). Reaches (λ (k : Class). k.next) notes.classes noted.number p) (sym (is h.head (subst (λ (k : ℕ). slice_get notes.heads k ≡ Some h.head) list_is h.at_head))) h.reached))
 
--- the lesser of two numbers
-lesser : (a b m : ℕ) → m ≡ min a b → (m ≤ a) × (m ≤ b) × ((m ≡ a) ⊎ (m ≡ b))
-lesser a b m is = grind (arith, common_steps, min-le_left, min-le_right, cases_lt, min-eq_left, min-eq_right)
+-- a class more is looked at
+pub least_next : (trace : TraceData) (notes : Tables) (s : ℕ) (writes : Bool) (Among : ℕ → Class → Type 0) (access : Access) (earliest p r next : ℕ) (class : Class) → slice_get notes.classes p ≡ Some class → IsEarliest trace notes s (λ number _. number ≡ p) access r → next ≡ min earliest r → IsEarliest trace notes s (IsLookedAt notes writes p) access earliest
+    → ((number : ℕ) (k : Class) → Among number k → (k.writes ≡ writes) × ((class.next < p) × Reaches (λ (k : Class). k.next) notes.classes number class.next → ⊥)) → IsEarliest trace notes s Among access next
+least_next trace notes s writes Among access earliest p r next class there here_is is_min before looked = earliest_both trace notes s _ _ Among access earliest r next before here_is is_min (λ e noted among race. elim (cases_eq noted.number p) [
+  | inl same ↦ inr same
+  | inr ne ↦ (let h = looked noted.number noted.class among in inl (h.0, λ reached. elim (reaches_next _ notes.classes noted.number p class there reached) [ inl same ↦ ne (sym same) | inr more ↦ h.1 more ]))
+])
 
-pub least_next : (trace : TraceData) (sites : List Site) (notes : Tables) (s : ℕ) (writes : Bool) (access : Access) (earliest p r next : ℕ) (class : Class) → slice_get notes.classes p ≡ Some class → IsEarliestIn trace sites notes s p access r → next ≡ min earliest r → AreLeast trace sites notes s writes access earliest p
-    → ((e : ℕ) (noted : IsNotedAt notes s e) → noted.class.writes ≡ writes → Race trace.events e access.event → (next ≤ e) ⊎ ((class.next < p) × Reaches class_next notes.classes noted.number class.next)) × (next ≢ none → RacesAt trace sites s next access)
-least_next trace sites notes s writes access earliest p r next class there here_is is_min before = (
-  (λ e noted kind race. elim (before.least e noted kind race) [
-    | inl le ↦ inl (let low = lesser earliest r next is_min in let low_e = low.0 in omega (arith, le, low_e))
-    | inr rest ↦ elim (reaches_next class_next notes.classes noted.number p class there rest) [
-      | inl same ↦ inl (let le = here_is.least e noted (sym same) race in let low = lesser earliest r next is_min in let low_r = low.1 in omega (arith, le, low_r))
-      | inr more ↦ inr more
-    ]
-  ]),
-  (λ some. elim (lesser earliest r next is_min).2 [
-    | inl is ↦ subst (λ (k : ℕ). RacesAt trace sites s k access) (sym is) (before.races (λ same. some (is ∙ same)))
-    | inr is ↦ subst (λ (k : ℕ). RacesAt trace sites s k access) (sym is) (here_is.races (λ same. some (is ∙ same)))
-  ]),
-)
-
-pub least_end : (trace : TraceData) (sites : List Site) (notes : Tables) (s : ℕ) (writes : Bool) (access : Access) (earliest p : ℕ) → length notes.classes ≤ p → AreLeast trace sites notes s writes access earliest p → IsEarliestOf trace sites notes s writes access earliest
-least_end trace sites notes s writes access earliest p past h = record {
-  least = λ e noted kind race. elim (h.least e noted kind race) [
-    | inl le ↦ le
-    | inr rest ↦ absurd (let same = reaches_end class_next notes.classes noted.number p past rest in let low = slice_get_within notes.classes noted.number noted.class noted.there in omega (arith, same, low, past))
-  ];
-  races = h.races;
-}
+pub least_end : (trace : TraceData) (notes : Tables) (s : ℕ) (writes : Bool) (access : Access) (earliest p : ℕ) → length notes.classes ≤ p → IsEarliest trace notes s (IsLookedAt notes writes p) access earliest → IsEarliest trace notes s (λ _ class. class.writes ≡ writes) access earliest
+least_end trace notes s writes access earliest p past h = earliest_part trace notes s _ _ access earliest h (λ e noted kind race. (
+  kind,
+  λ rest. (let same = reaches_end _ notes.classes noted.number p past rest in let low = slice_get_within notes.classes noted.number noted.class noted.there in omega (arith, same, low, past)),
+))
 
 -- an access is an event that the order knows
 pub order_within : (trace events seen : List Event) (e x : ℕ) → seen ≡ events → events ≡ trace → variable_at trace e ≡ Some x → e < length seen
@@ -476,9 +476,6 @@ addable_more trace sites old s local access heads more grown add = record {
     links = add.kept.links;
   };
   site = add.site;
-  at_site = add.at_site;
-  variable_is = add.variable_is;
-  location_is = add.location_is;
   is_access = add.is_access;
   time = add.time;
 }
@@ -499,23 +496,3 @@ reads_alone trace sites notes s access e kept own reads noted race =
       | inl w ↦ w
       | inr w ↦ absurd (not_both access.writes reads w)
     ]
-
--- the earliest write is the earliest access that races with a read
-pub earliest_write : (trace : TraceData) (sites : List Site) (notes : Tables) (s : ℕ) (access : Access) (write : ℕ) → AreKept trace sites notes access.event → IsAccess trace access → access.writes ≡ false → IsEarliestOf trace sites notes s true access write → IsEarliestAt trace sites notes s access write
-earliest_write trace sites notes s access write kept own reads found = record {
-  least = λ e noted race. found.least e noted (reads_alone trace sites notes s access e kept own reads noted race) race;
-  races = found.races;
-}
-
--- the earliest access is the earliest write or the earliest read
-pub earliest_both : (trace : TraceData) (sites : List Site) (notes : Tables) (s : ℕ) (access : Access) (write read earliest : ℕ) → IsEarliestOf trace sites notes s true access write → IsEarliestOf trace sites notes s false access read → earliest ≡ min write read → IsEarliestAt trace sites notes s access earliest
-earliest_both trace sites notes s access write read earliest of_writes of_reads is_min = record {
-  least = λ e noted race. elim (cases_Bool noted.class.writes) [
-    | inl w ↦ (let le = of_writes.least e noted w race in let low = lesser write read earliest is_min in let low_write = low.0 in omega (arith, le, low_write))
-    | inr r ↦ (let le = of_reads.least e noted r race in let low = lesser write read earliest is_min in let low_read = low.1 in omega (arith, le, low_read))
-  ];
-  races = λ some. elim (lesser write read earliest is_min).2 [
-    | inl is ↦ subst (λ (k : ℕ). RacesAt trace sites s k access) (sym is) (of_writes.races (λ same. some (is ∙ same)))
-    | inr is ↦ subst (λ (k : ℕ). RacesAt trace sites s k access) (sym is) (of_reads.races (λ same. some (is ∙ same)))
-  ];
-}

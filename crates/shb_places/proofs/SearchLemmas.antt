@@ -1,18 +1,16 @@
 -- The search, an access at a time.
 use Rattle.std.proofs.lemmas.Grind.{common_steps}
-use Rattle.std.proofs.Common.{◌≡◌, ◌≢◌, ℕ, ◌+◌, List, Some, slice_get, arith, subst}
-use Rattle.shb_lines.specs.events.Discipline.{local_time}
+use Rattle.std.proofs.Common.{◌≡◌, ◌≢◌, ℕ, ◌+◌, List, Some, slice_get, arith, ap, subst, ◌∙◌}
+use Rattle.std.specs.Prelude.{⊤}
 use Rattle.shb_lines.specs.events.Race.{Race, variable_at}
 use Rattle.shb_lines.specs.text.TraceData.{TraceData}
 use Rattle.shb_report.specs.Places.{location_at}
 use Rattle.shb_places.specs.declared.notes.Access.{Access}
 use Rattle.shb_places.specs.declared.sites.Site.{Site}
 use Rattle.shb_places.specs.Access.{IsAccess}
-use Rattle.shb_places.specs.Covering.{FoundRace, race_of}
-use Rattle.shb_places.specs.Found.{IsFound}
+use Rattle.shb_places.specs.Found.{IsFound, race_of}
 use Rattle.shb_places.specs.Lists.{none}
-use Rattle.shb_places.specs.Notes.{AreKept, IsAddable, IsEarliestAt, IsNotedAt, Tables}
-use Rattle.shb_places.specs.Sites.{IsSite}
+use Rattle.shb_places.specs.Notes.{AreKept, IsEarliest, IsNotedAt, Tables}
 use Rattle.shb_places.proofs.Lists.{same_entry}
 use Rattle.shb_places.proofs.NoteLemmas.{chain_in}
 
@@ -27,8 +25,17 @@ pub race_variable : (trace : TraceData) (i x : ℕ) (access : Access) → IsAcce
 race_variable trace i x access own of_i race = grind (arith, common_steps)
 
 -- the race that is offered
-pub offered_race : (trace : TraceData) (sites : List Site) (notes : Tables) (access : Access) (s earliest : ℕ) (site : Site) (e : FoundRace) → IsAccess trace access → slice_get sites s ≡ Some site → site.variable ≡ access.variable → IsEarliestAt trace sites notes s access earliest → earliest ≢ none → e.0 ≡ (site.location, access.location) → e.1 ≡ race_of access.variable access.event earliest → IsFound trace (access.event + 1) e
-offered_race trace sites notes access s earliest site e own at_site same_variable least some place_is race_is = grind (arith, common_steps, same_entry)
+pub offered_race : (trace : TraceData) (sites : List Site) (notes : Tables) (access : Access) (s earliest : ℕ) (site : Site) → IsAccess trace access → AreKept trace sites notes access.event → slice_get sites s ≡ Some site → site.variable ≡ access.variable → IsEarliest trace notes s (λ _ _. ⊤) access earliest → earliest ≢ none → IsFound trace (access.event + 1) ((site.location, access.location), race_of access.variable access.event earliest)
+offered_race trace sites notes access s earliest site own kept at_site same least some =
+    let races = least.races some in
+    let noted = noted_in trace sites notes s earliest access.event site kept at_site races.0 in
+    record {
+      is_race = races.1 (noted.0 ∙ ap (λ (x : ℕ). Some x) same);
+      past = omega arith;
+      first_is = noted.1;
+      second_is = own.location;
+      variable_is = own.variable;
+    }
 
 -- what is kept stays when sites come
 pub kept_sites : (trace : TraceData) (old new : List Site) (notes : Tables) (n : ℕ) → ((s : ℕ) (site : Site) → slice_get old s ≡ Some site → slice_get new s ≡ Some site) → AreKept trace old notes n → AreKept trace new notes n
@@ -49,6 +56,3 @@ kept_sites trace old new notes n stay kept = record {
 
 pub kept_later : (trace : TraceData) (sites : List Site) (notes : Tables) (n : ℕ) → AreKept trace sites notes n → AreKept trace sites notes (n + 1)
 kept_later trace sites notes n kept = grind (arith, common_steps)
-
-pub can_add : (trace : TraceData) (sites : List Site) (notes : Tables) (s local : ℕ) (access : Access) → AreKept trace sites notes access.event → IsSite sites access.variable access.location s → IsAccess trace access → local ≡ local_time trace.events access.thread access.event → IsAddable trace sites notes s access local
-can_add trace sites notes s local access kept is own time = record { kept = kept; site = is.site; at_site = is.there; variable_is = is.variable_is; location_is = is.location_is; is_access = own; time = time }

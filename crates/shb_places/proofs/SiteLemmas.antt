@@ -4,8 +4,8 @@ use Rattle.std.proofs.Math.ListN.{set, length-set}
 use Rattle.std.proofs.lemmas.Bool.{cases_eq}
 use Rattle.std.proofs.lemmas.Option.{slice_get_within}
 use Rattle.shb_places.specs.declared.sites.Site.{Site}
-use Rattle.shb_places.specs.Lists.{Reaches, here, further, site_previous}
-use Rattle.shb_places.specs.Sites.{AreMore, AreSites}
+use Rattle.shb_places.specs.Lists.{Reaches, here, further}
+use Rattle.shb_places.specs.Sites.{AreMore, AreSites, site_previous}
 use Rattle.shb_places.proofs.Lists.{get_cases, get_last, get_more, get_set, get_set_other, reaches_more, reaches_within, same_entry}
 
 pub sites_same : (newest : List ℕ) (sites : List Site) → AreMore newest sites newest sites
@@ -27,11 +27,11 @@ site_added newest sites last at_newest = record {
     listed_old : AreSites newest sites → (s : ℕ) (site : Site) → slice_get sites s ≡ Some site → (head : ℕ) × (slice_get (set newest last.variable (length sites)) site.variable ≡ Some head) × Reaches site_previous (sites ++ last ∷ []) s head
     listed_old h s site old =
         let g = h s site old in
-        let longer = reaches_more site_previous sites (last ∷ []) s g.0 g.2 in
+        let longer = reaches_more _ sites (last ∷ []) s g.0 g.2 in
         elim (cases_eq site.variable last.variable) [
           | inl same ↦ (
               let head_is : g.0 ≡ last.previous = same_entry newest last.variable g.0 last.previous (subst (λ (x : ℕ). slice_get newest x ≡ Some g.0) same g.1) at_newest in
-              let low = reaches_within site_previous sites s g.0 (slice_get_within sites s site old) g.2 in (
+              let low = reaches_within _ sites s g.0 (slice_get_within sites s site old) g.2 in (
                 length sites,
                 subst (λ (x : ℕ). slice_get (set newest last.variable (length sites)) x ≡ Some (length sites)) (sym same) at_last,
                 further last (get_last sites last (length sites) refl) (omega (arith, low, head_is)) (subst (λ (p : ℕ). Reaches site_previous (sites ++ last ∷ []) s p) head_is longer),

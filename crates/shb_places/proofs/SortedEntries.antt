@@ -9,8 +9,7 @@ use Rattle.shb_lines.specs.declared.event.Pair.{Pair}
 use Rattle.shb_lines.specs.events.Race.{variable_at}
 use Rattle.shb_pairs.proofs.FlatMaps.{map_ordered}
 use Rattle.shb_places.specs.declared.found.ListedRace.{ListedRace}
-use Rattle.shb_places.specs.Covering.{race_in}
-use Rattle.shb_places.specs.ListOrder.{HasVariable, IsInListOrder, IsNotAfter}
+use Rattle.shb_places.specs.Found.{HasVariable, IsInListOrder, IsNotAfter, race_in}
 use Rattle.shb_places.proofs.KeyOrder.{race_cmp, race_not_less, race_renamed, race_total}
 
 -- so two entries that the sort left in this order have races in this order

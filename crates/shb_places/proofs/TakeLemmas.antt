@@ -15,11 +15,10 @@ use Rattle.shb_places.specs.declared.sites.Site.{Site}
 use Rattle.shb_places.specs.declared.sites.Sites.{Sites}
 use Rattle.shb_places.specs.declared.wanted.Wanted.{Wanted}
 use Rattle.shb_places.specs.Access.{IsAccess}
-use Rattle.shb_places.specs.Covering.{FoundRace, Covers, IsCovered, race_of}
+use Rattle.shb_places.specs.Found.{Covers, FoundRace, Improves, IsCovered, race_of}
 use Rattle.shb_places.specs.Notes.{IsAdded, Tables, tables_of, IsNotedAt}
-use Rattle.shb_places.specs.Searched.{AreSearched, AreToldFrom, IsAskable, IsAskedBy}
-use Rattle.shb_places.specs.Sites.{AreMore, IsSite}
-use Rattle.shb_places.specs.Wanted.{AreHeld, AreWanted, IsWanted}
+use Rattle.shb_places.specs.Searched.{AreAsked, AreSearched, AreToldFrom}
+use Rattle.shb_places.specs.Sites.{AreHeld, AreMore, AreWanted, IsSite, IsWanted}
 use Rattle.shb_places.proofs.FoundLemmas.{found_later, improves_self, covered_then}
 use Rattle.shb_places.proofs.Lists.{get_set, get_set_other, same_entry}
 use Rattle.shb_places.proofs.SearchLemmas.{kept_later, kept_sites, race_variable}
@@ -54,13 +53,18 @@ lists_asked trace sites notes lists s list after middle old new access at is bef
       held = λ t site low at_t same. held_site t site (omega (arith, low, few)) at_t same;
     }
 
--- an access can be asked when its site is there
-pub can_ask : (trace : TraceData) (flags : List Bool) (sites more : Sites) (notes : Notes) (lists : List Wanted) (table : Found) (access : Access) → AreSearched trace flags sites notes lists table access.event → AreMore sites.newest.items sites.sites.items more.newest.items more.sites.items → IsAskable trace more notes lists table access
-can_ask trace flags sites more notes lists table access h grown = record {
+-- sites may come
+pub searched_more : (trace : TraceData) (flags : List Bool) (sites more : Sites) (notes : Notes) (lists : List Wanted) (table : Found) (n : ℕ) → AreSearched trace flags sites notes lists table n → AreMore sites.newest.items sites.sites.items more.newest.items more.sites.items → AreSearched trace flags more notes lists table n
+searched_more trace flags sites more notes lists table n h grown = record {
+  sized = λ e x of_e. (let low = h.sized e x of_e in let same = grown.as_many in omega (arith, low, same));
   listed = grown.listed h.listed;
-  kept = kept_sites trace sites.sites.items more.sites.items (tables_of notes) access.event grown.stay h.kept;
-  found = found_later trace access.event table.races.entries h.found;
-  wanted = λ k list at. wanted_grown trace sites.sites.items more.sites.items table.races.entries access.event k list grown.stay (h.wanted k list at);
+  kept = kept_sites trace sites.sites.items more.sites.items (tables_of notes) n grown.stay h.kept;
+  noted = h.noted;
+  asked = record {
+    found = h.asked.found;
+    covered = h.asked.covered;
+    wanted = λ k list at. wanted_grown trace sites.sites.items more.sites.items table.races.entries n k list grown.stay (h.asked.wanted k list at);
+  };
 }
 
 -- an event without an access of an open variable
@@ -73,55 +77,49 @@ passed_other trace flags sites notes lists table n settled shut h = record {
     | inl same ↦ absurd (let no = shut x (subst (λ (k : ℕ). variable_at trace.events k ≡ Some x) same access) in let f : true ≡ false = sym is_so ∙ no in (let none : ⊥ = cc in none))
     | inr ne ↦ h.noted e x (omega (arith, lt, ne)) access is_so
   ];
-  found = found_later trace n table.races.entries h.found;
-  covered = λ i j x lt race of_j. elim (cases_eq j n) [
-    | inl same ↦ absurd (settled x (shut x (subst (λ (k : ℕ). variable_at trace.events k ≡ Some x) same of_j)) i j of_j race)
-    | inr ne ↦ h.covered i j x (omega (arith, lt, ne)) race of_j
-  ];
-  wanted = λ k list at. wanted_then trace sites.sites.items n (n + 1) k table.races.entries table.races.entries list (improves_self trace table.races.entries) (omega arith) (h.wanted k list at);
+  asked = record {
+    found = found_later trace n table.races.entries h.asked.found;
+    covered = λ i j x lt race of_j. elim (cases_eq j n) [
+      | inl same ↦ absurd (settled x (shut x (subst (λ (k : ℕ). variable_at trace.events k ≡ Some x) same of_j)) i j of_j race)
+      | inr ne ↦ h.asked.covered i j x (omega (arith, lt, ne)) race of_j
+    ];
+    wanted = λ k list at. wanted_then trace sites.sites.items n (n + 1) k table.races.entries table.races.entries list (improves_self trace table.races.entries) (omega arith) (h.asked.wanted k list at);
+  };
 }
 
--- an access of an open variable
-pub taken_all : (trace : TraceData) (flags : List Bool) (sites more : Sites) (notes after : Notes) (lists later : List Wanted) (table next : Found) (s : ℕ) (access : Access) → IsAccess trace access → is_open flags access.variable ≡ true → AreSearched trace flags sites notes lists table access.event → AreMore sites.newest.items sites.sites.items more.newest.items more.sites.items → IsSite more.sites.items access.variable access.location s → IsAskedBy trace more notes later table next access → IsAdded trace more.sites.items (tables_of notes) (tables_of after) s access.event → AreSearched trace flags more after later next (access.event + 1)
-taken_all trace flags sites more notes after lists later table next s access own is_so h grown is asked added = record {
-  sized = λ e x of_e. (let low = h.sized e x of_e in let same = grown.as_many in omega (arith, low, same));
-  listed = grown.listed h.listed;
-  kept = added.kept;
-  noted = λ e x lt of_e is_so_e. elim (cases_eq e access.event) [
-    | inl same ↦ record {
-      number = s;
-      site = is.site;
-      there = is.there;
-      variable_is = is.variable_is ∙ same_number access.variable x (variable_at trace.events access.event) own.variable (subst (λ (k : ℕ). variable_at trace.events k ≡ Some x) same of_e);
-      noted = subst (λ (k : ℕ). IsNotedAt (tables_of after) s k) (sym same) added.noted;
-    }
-    | inr ne ↦ (let g = h.noted e x (omega (arith, lt, ne)) of_e is_so_e in record {
-      number = g.number;
-      site = g.site;
-      there = grown.stay g.number g.site g.there;
-      variable_is = g.variable_is;
-      noted = added.stays g.number e g.noted;
-    })
-  ];
-  found = asked.found;
-  covered = λ i j x lt race of_j. elim (cases_eq j access.event) [
-    | inl same ↦ (
-        let is = same_number access.variable x (variable_at trace.events access.event) own.variable (subst (λ (k : ℕ). variable_at trace.events k ≡ Some x) same of_j) in
-        subst (λ (k : ℕ). IsCovered trace next.races.entries (race_of x k i)) (sym same)
-        (subst (λ (y : ℕ). IsCovered trace next.races.entries (race_of y access.event i)) is (here_covered i (subst (λ (k : ℕ). Race trace.events i k) same race))))
-    | inr ne ↦ covered_then trace table.races.entries next.races.entries (race_of x j i) asked.improves (h.covered i j x (omega (arith, lt, ne)) race of_j)
-  ];
-  wanted = asked.wanted;
-}
+-- each race up to an access of an open variable is covered
+pub covered_here : (trace : TraceData) (flags : List Bool) (sites : Sites) (notes : Notes) (lists : List Wanted) (table : Found) (access : Access) (new : List FoundRace) → IsAccess trace access → is_open flags access.variable ≡ true → AreSearched trace flags sites notes lists table access.event → Improves trace table.races.entries new
+    → ((s i : ℕ) → IsNotedAt (tables_of notes) s i → Race trace.events i access.event → IsCovered trace new (race_of access.variable access.event i))
+    → (i j x : ℕ) → j < access.event + 1 → Race trace.events i j → variable_at trace.events j ≡ Some x → IsCovered trace new (race_of x j i)
+covered_here trace flags sites notes lists table access new own is_so h improves covers i j x lt race of_j = elim (cases_eq j access.event) [
+  | inl same ↦ (
+      let is = same_number access.variable x (variable_at trace.events access.event) own.variable (subst (λ (k : ℕ). variable_at trace.events k ≡ Some x) same of_j) in
+      subst (λ (k : ℕ). IsCovered trace new (race_of x k i)) (sym same)
+      (subst (λ (y : ℕ). IsCovered trace new (race_of y access.event i)) is (of_own (subst (λ (k : ℕ). Race trace.events i k) same race))))
+  | inr ne ↦ covered_then trace table.races.entries new (race_of x j i) improves (h.asked.covered i j x (omega (arith, lt, ne)) race of_j)
+]
   where
     same_number : (x y : ℕ) (o : Option ℕ) → o ≡ Some x → o ≡ Some y → x ≡ y
     same_number x y o a b = let f : Some x ≡ Some y = sym a ∙ b in cc
 
-    here_covered : (i : ℕ) → Race trace.events i access.event → IsCovered trace next.races.entries (race_of access.variable access.event i)
-    here_covered i race =
+    of_own : Race trace.events i access.event → IsCovered trace new (race_of access.variable access.event i)
+    of_own race =
         let of_i : variable_at trace.events i ≡ Some access.variable = race.conflict.first_accesses ∙ ap (λ (x : ℕ). Some x) (race_variable trace i race.conflict.variable access own race.conflict.first_accesses race) in
         let g = h.noted i access.variable race.earlier of_i is_so in
-        asked.covers g.number i g.site (grown.stay g.number g.site g.there) g.variable_is g.noted race
+        covers g.0 i g.1 race
+
+-- an access of an open variable
+pub taken_all : (trace : TraceData) (flags : List Bool) (sites : Sites) (notes after : Notes) (lists later : List Wanted) (table next : Found) (s n : ℕ) → AreSearched trace flags sites notes lists table n → AreAsked trace sites.sites.items later next.races.entries (n + 1) → IsAdded trace sites.sites.items (tables_of notes) (tables_of after) s n → AreSearched trace flags sites after later next (n + 1)
+taken_all trace flags sites notes after lists later table next s n h asked added = record {
+  sized = h.sized;
+  listed = h.listed;
+  kept = added.kept;
+  noted = λ e x lt of_e is_so. elim (cases_eq e n) [
+    | inl same ↦ (s, subst (λ (k : ℕ). IsNotedAt (tables_of after) s k) (sym same) added.noted)
+    | inr ne ↦ (let g = h.noted e x (omega (arith, lt, ne)) of_e is_so in (g.0, added.stays g.0 e g.1))
+  ];
+  asked = asked;
+}
 
 -- the links are of events of the trace
 pub links_within : (trace : TraceData) (flags : List Bool) (sites : Sites) (notes : Notes) (lists : List Wanted) (table : Found) (access : Access) → IsAccess trace access → AreSearched trace flags sites notes lists table access.event → (k : ℕ) (link : Link) → slice_get notes.links.items k ≡ Some link → link.event < length trace.events
@@ -131,8 +129,8 @@ links_within trace flags sites notes lists table access own h k link at = let lo
 pub searched_all : (trace : TraceData) (flags : List Bool) (sites : Sites) (notes : Notes) (lists : List Wanted) (table : Found) (n : ℕ) → length trace.events ≤ n → AreSearched trace flags sites notes lists table n
     → ((i j : ℕ) (e f : FoundRace) → slice_get table.races.entries i ≡ Some e → slice_get table.races.entries j ≡ Some f → place_at trace e.1.first e.1.second ≡ place_at trace f.1.first f.1.second → i ≡ j) → Covers trace table.races.entries
 searched_all trace flags sites notes lists table n all h apart = record {
-  races = λ e there. (let v = h.found e there in (v.is_race, v.variable_is));
-  each = λ i j x race of_j. h.covered i j x (let low = accessed_within trace.events j x of_j in omega (arith, low, all)) race of_j;
+  races = λ e there. (let v = h.asked.found e there in (v.is_race, v.variable_is));
+  each = λ i j x race of_j. h.asked.covered i j x (let low = accessed_within trace.events j x of_j in omega (arith, low, all)) race of_j;
   apart = apart;
 }
 

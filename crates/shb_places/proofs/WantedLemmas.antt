@@ -1,7 +1,7 @@
 -- The lists of the sites that still have to be asked.
 use Rattle.std.proofs.lemmas.Grind.{common_steps}
-use Rattle.std.proofs.Common.{◌≡◌, ◌≢◌, ℕ, zero, suc, ◌+◌, ◌<◌, ◌≤◌, ◌⊎◌, inl, inr, Bool, true, false, List, [], ◌∷◌, ◌++◌, Some, length, get_or, slice_get, arith, refl, ap, subst, sym, ◌∙◌}
-use Rattle.std.specs.Prelude.{Contains}
+use Rattle.std.proofs.Common.{◌≡◌, ◌≢◌, ℕ, zero, suc, ◌+◌, ◌<◌, ◌≤◌, ◌⊎◌, inl, inr, Bool, true, false, List, [], ◌∷◌, ◌++◌, Some, length, get_or, slice_get, arith, refl, subst, sym, ◌∙◌}
+use Rattle.std.specs.Prelude.{Contains, ⊤}
 use Rattle.std.proofs.lemmas.Bool.{cases_eq}
 use Rattle.std.proofs.lemmas.Option.{slice_get_within, slice_get-get_or}
 use Rattle.shb_lines.specs.events.Race.{Race}
@@ -11,16 +11,14 @@ use Rattle.shb_places.specs.declared.notes.Access.{Access}
 use Rattle.shb_places.specs.declared.sites.Site.{Site}
 use Rattle.shb_places.specs.declared.wanted.Wanted.{Wanted}
 use Rattle.shb_places.specs.Access.{IsAccess}
-use Rattle.shb_places.specs.Covering.{FoundRace, IsCovered, race_of}
-use Rattle.shb_places.specs.Found.{AreFound, Improves, IsOffered}
-use Rattle.shb_places.specs.Known.{IsKnown}
-use Rattle.shb_places.specs.Lists.{Reaches, none, site_previous}
-use Rattle.shb_places.specs.Notes.{AreKept, IsEarliestAt, IsNotedAt, Tables}
+use Rattle.shb_places.specs.Found.{AreFound, FoundRace, Improves, IsCovered, IsKnown, IsOffered, race_of}
+use Rattle.shb_places.specs.Lists.{Reaches, none}
+use Rattle.shb_places.specs.Notes.{AreKept, IsEarliest, IsNotedAt, Tables}
 use Rattle.shb_places.specs.Searched.{AreToldFrom, IsTold}
-use Rattle.shb_places.specs.Wanted.{AreHeld, AreWanted, IsWanted}
+use Rattle.shb_places.specs.Sites.{AreHeld, AreWanted, IsWanted, site_previous}
 use Rattle.shb_places.proofs.FoundLemmas.{covered_later, covered_then, improves_self, known_then, same_places}
 use Rattle.shb_places.proofs.Lists.{contains_get, get_cases, reaches_down, reaches_end, reaches_next, same_entry}
-use Rattle.shb_places.proofs.NoteLemmas.{not_both}
+use Rattle.shb_places.proofs.NoteLemmas.{chain_in, not_both}
 use Rattle.shb_places.proofs.SearchLemmas.{noted_in, race_variable}
 
 -- sites that are in the list, or known, or still to be looked at from the site p back
@@ -40,7 +38,7 @@ looked_next trace sites races list more x m n looked p at there stay added befor
       | inl in_list ↦ inl (inl (stay s in_list))
       | inr known ↦ inl (inr known)
     ]
-    | inr rest ↦ elim (reaches_next site_previous sites s p at there rest) [
+    | inr rest ↦ elim (reaches_next _ sites s p at there rest) [
       | inl here_is ↦ elim added [
         | inl in_list ↦ inl (inl (subst (λ (k : ℕ). Contains more k) here_is in_list))
         | inr known ↦ inl (inr (subst (λ (k : Site). IsKnown trace races x k.location m n) (same_entry sites p at site there (subst (λ (k : ℕ). slice_get sites k ≡ Some site) (sym here_is) at_site)) known))
@@ -53,13 +51,13 @@ looked_next trace sites races list more x m n looked p at there stay added befor
 pub looked_end : (trace : TraceData) (sites : List Site) (races : List FoundRace) (list : List ℕ) (x m n looked p : ℕ) → length sites ≤ p → AreLookedFrom trace sites races list x m n looked p → AreHeld trace sites races list x m n (length sites)
 looked_end trace sites races list x m n looked p past h s site low at same = elim (h.rest s site at same) [
   | inl held ↦ held
-  | inr rest ↦ absurd (let is = reaches_end site_previous sites s p past rest in omega (arith, is, low, past))
+  | inr rest ↦ absurd (let is = reaches_end _ sites s p past rest in omega (arith, is, low, past))
 ]
 
 pub looked_before : (trace : TraceData) (sites : List Site) (races : List FoundRace) (list : List ℕ) (x m n looked p : ℕ) → p < looked → AreLookedFrom trace sites races list x m n looked p → AreHeld trace sites races list x m n (length sites)
 looked_before trace sites races list x m n looked p before h s site low at same = elim (h.rest s site at same) [
   | inl held ↦ held
-  | inr rest ↦ h.held s site (let down = reaches_down site_previous sites s p rest in omega (arith, down, before)) at same
+  | inr rest ↦ h.held s site (let down = reaches_down _ sites s p rest in omega (arith, down, before)) at same
 ]
 
 -- no lists
@@ -141,24 +139,23 @@ told_other trace sites notes access s site races own kept at found other = recor
 }
 
 -- no access there races
-pub told_none : (trace : TraceData) (sites : List Site) (notes : Tables) (access : Access) (s : ℕ) (races : List FoundRace) → access.event < none → AreFound trace (access.event + 1) races → IsEarliestAt trace sites notes s access none → IsTold trace sites notes access s false races races
+pub told_none : (trace : TraceData) (sites : List Site) (notes : Tables) (access : Access) (s : ℕ) (races : List FoundRace) → access.event < none → AreFound trace (access.event + 1) races → IsEarliest trace notes s (λ _ _. ⊤) access none → IsTold trace sites notes access s false races races
 told_none trace sites notes access s races few found nothing = record {
   found = found;
   improves = improves_self trace races;
-  covers = λ i noted race. absurd (let low = nothing.least i noted race in let before = race.earlier in omega (arith, low, before, few));
+  covers = λ i noted race. absurd (let low = nothing.least i noted tt race in let before = race.earlier in omega (arith, low, before, few));
   known_is = λ yes. absurd (not_both false refl yes);
 }
 
 -- the earliest was offered
-pub told_offered : (trace : TraceData) (sites : List Site) (notes : Tables) (access : Access) (s earliest : ℕ) (site : Site) (old new : List FoundRace) → IsAccess trace access → AreKept trace sites notes access.event → slice_get sites s ≡ Some site → IsEarliestAt trace sites notes s access earliest → earliest ≢ none → IsOffered trace (access.event + 1) old new (race_of access.variable access.event earliest) → IsTold trace sites notes access s true old new
+pub told_offered : (trace : TraceData) (sites : List Site) (notes : Tables) (access : Access) (s earliest : ℕ) (site : Site) (old new : List FoundRace) → IsAccess trace access → AreKept trace sites notes access.event → slice_get sites s ≡ Some site → IsEarliest trace notes s (λ _ _. ⊤) access earliest → earliest ≢ none → IsOffered trace (access.event + 1) old new (race_of access.variable access.event earliest) → IsTold trace sites notes access s true old new
 told_offered trace sites notes access s earliest site old new own kept at least some offered =
-    let h = least.races some in
     let here : (other : Site) → slice_get sites s ≡ Some other → location_at trace earliest ≡ location_at trace other.location =
-    (λ other at_other. h.location_is ∙ ap (λ (k : Site). location_at trace k.location) (same_entry sites s h.site other h.at_site at_other)) in
+    (λ other at_other. (noted_in trace sites notes s earliest access.event other kept at_other (least.races some).0).1) in
     record {
       found = offered.found;
       improves = offered.improves;
-      covers = λ i noted race. (let low = least.least i noted race in covered_later trace new (race_of access.variable access.event earliest) (race_of access.variable access.event i)
+      covers = λ i noted race. (let low = least.least i noted tt race in covered_later trace new (race_of access.variable access.event earliest) (race_of access.variable access.event i)
           (same_places trace earliest access.event i access.event (here site at ∙ sym (noted_in trace sites notes s i access.event site kept at noted).1) refl) (inr (refl, inr (refl, low))) offered.covered);
       known_is = λ yes other at_other. offered_known trace access earliest other.location new own offered.covered (here other at_other);
     }
@@ -170,47 +167,53 @@ pub told_next : (trace : TraceData) (sites : List Site) (notes : Tables) (access
     → IsTold trace sites notes access s known races new → AreToldFrom trace sites notes access (k + 1) before list old races → AreToldFrom trace sites notes access k before after old new
 told_next trace sites notes access k s known before list after old races new at stay later told h = record {
   found = told.found;
-  improves = λ e is. covered_then trace races new e.1 told.improves (h.improves e is);
-  told = λ j t i site le at_t at_site noted race. (
+  improves = improves;
+  told = λ j t i le at_t noted race. (
       let from = later j t le at_t in
       elim (cases_eq from.0 k) [
         | inl same ↦ (
             let is : s ≡ t = same_entry list k s t at (subst (λ (m : ℕ). slice_get list m ≡ Some t) same from.2) in
             told.covers i (subst (λ (m : ℕ). IsNotedAt notes m i) (sym is) noted) race)
-        | inr ne ↦ (let le_from = from.1 in covered_then trace races new (race_of access.variable access.event i) told.improves (h.told from.0 t i site (omega (arith, ne, le_from)) from.2 at_site noted race))
+        | inr ne ↦ (let le_from = from.1 in covered_then trace races new (race_of access.variable access.event i) told.improves (h.told from.0 t i (omega (arith, ne, le_from)) from.2 noted race))
       ]);
-  stays = λ t site in_before at_site. elim (h.stays t site in_before at_site) [
+  stays = λ t in_before. elim (h.stays t in_before) [
     | inl in_list ↦ elim (stay s t at in_list) [
       | inl in_after ↦ inl in_after
-      | inr gone ↦ inr (
-          record {
-            covers = λ i noted race. told.covers i (subst (λ (m : ℕ). IsNotedAt notes m i) (sym gone.0) noted) race;
-            known = told.known_is gone.1 site (subst (λ (m : ℕ). slice_get sites m ≡ Some site) (sym gone.0) at_site);
-          })
+      | inr gone ↦ inr (subst (λ (m : ℕ). IsTold trace sites notes access m true old new) gone.0 (subst (λ (b : Bool). IsTold trace sites notes access s b old new) gone.1 since))
     ]
     | inr settled ↦ inr (record {
+      found = told.found;
+      improves = improves;
       covers = λ i noted race. covered_then trace races new (race_of access.variable access.event i) told.improves (settled.covers i noted race);
-      known = known_then trace races new access.variable site.location access.location (access.event + 1) (access.event + 1) told.improves (omega arith) settled.known;
+      known_is = λ yes site at_site. known_then trace races new access.variable site.location access.location (access.event + 1) (access.event + 1) told.improves (omega arith) (settled.known_is yes site at_site);
     })
   ];
 }
+  where
+    improves : Improves trace old new
+    improves e is = covered_then trace races new e.1 told.improves (h.improves e is)
+
+    since : IsTold trace sites notes access s known old new
+    since = record { found = told.found; improves = improves; covers = told.covers; known_is = told.known_is }
 
 -- a list that has each site whose place isn't known, all of which were asked
-pub told_all : (trace : TraceData) (sites : List Site) (notes : Tables) (access : Access) (before after : List ℕ) (old new : List FoundRace) → IsAccess trace access → AreKept trace sites notes access.event → AreHeld trace sites old before access.variable access.location access.event (length sites) → AreToldFrom trace sites notes access 0 before after old new → (s i : ℕ) (site : Site) → slice_get sites s ≡ Some site → site.variable ≡ access.variable → IsNotedAt notes s i → Race trace.events i access.event → IsCovered trace new (race_of access.variable access.event i)
-told_all trace sites notes access before after old new own kept held h s i site at same noted race = elim (held s site (slice_get_within sites s site at) at same) [
-  | inl in_before ↦ elim (h.stays s site in_before at) [
-    | inl in_after ↦ h.told in_after.0 s i site (omega arith) (contains_get after s in_after) at noted race
-    | inr settled ↦ settled.covers i noted race
-  ]
-  | inr known ↦ covered_then trace old new (race_of access.variable access.event i) h.improves (known.covers i access.event (omega arith) (noted_in trace sites notes s i access.event site kept at noted).1 own.location)
-]
+pub told_all : (trace : TraceData) (sites : List Site) (notes : Tables) (access : Access) (before after : List ℕ) (old new : List FoundRace) → IsAccess trace access → AreKept trace sites notes access.event → AreHeld trace sites old before access.variable access.location access.event (length sites) → AreToldFrom trace sites notes access 0 before after old new → (s i : ℕ) → IsNotedAt notes s i → Race trace.events i access.event → IsCovered trace new (race_of access.variable access.event i)
+told_all trace sites notes access before after old new own kept held h s i noted race =
+    let f = chain_in trace sites notes s noted.number i access.event noted.class kept noted.there noted.site_is noted.chain in
+    elim (held s f.site (slice_get_within sites s f.site f.at_site) f.at_site (race_variable trace i f.site.variable access own f.access.variable race)) [
+      | inl in_before ↦ elim (h.stays s in_before) [
+        | inl in_after ↦ h.told in_after.0 s i (omega arith) (contains_get after s in_after) noted race
+        | inr settled ↦ settled.covers i noted race
+      ]
+      | inr known ↦ covered_then trace old new (race_of access.variable access.event i) h.improves (known.covers i access.event (omega arith) f.access.location own.location)
+    ]
 
 -- the list after it was asked
 pub told_held : (trace : TraceData) (sites : List Site) (notes : Tables) (access : Access) (before after : List ℕ) (old new : List FoundRace) → AreHeld trace sites old before access.variable access.location access.event (length sites) → AreToldFrom trace sites notes access 0 before after old new → AreHeld trace sites new after access.variable access.location (access.event + 1) (length sites)
 told_held trace sites notes access before after old new held h s site low at same = elim (held s site low at same) [
-  | inl in_before ↦ elim (h.stays s site in_before at) [
+  | inl in_before ↦ elim (h.stays s in_before) [
     | inl in_after ↦ inl in_after
-    | inr settled ↦ inr settled.known
+    | inr settled ↦ inr (settled.known_is refl site at)
   ]
   | inr known ↦ inr (known_then trace old new access.variable site.location access.location access.event (access.event + 1) h.improves (omega arith) known)
 ]

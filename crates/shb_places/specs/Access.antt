@@ -1,16 +1,13 @@
--- Accesses and their locations.
-use Rattle.std.specs.Prelude.{◌≡◌, ◌≢◌, ℕ, ◌<◌, Bool, true, false, List, Some, length}
+-- Accesses and their locations, and the first access that has each.
+use Rattle.std.specs.Prelude.{◌≡◌, ◌≢◌, ℕ, ◌<◌, Bool, true, false, List, Some, Contains, length, slice_get}
 use Rattle.shb_lines.specs.declared.event.Op.TheVariants.{Write}
 use Rattle.shb_lines.specs.events.Events.{thread_at, op_at}
 use Rattle.shb_lines.specs.events.Race.{variable_at}
 use Rattle.shb_lines.specs.text.TraceData.{TraceData}
 use Rattle.shb_report.specs.Places.{location_at}
 use Rattle.shb_places.specs.declared.notes.Access.{Access}
-
--- the event has this location
-pub record IsLocatedAt (trace : TraceData) (e : ℕ) (text : List ℕ) : Type 0 where
-  pub in_range : e < length trace.events
-  pub located : location_at trace e ≡ text
+use Rattle.shb_places.specs.declared.sites.Site.{Site}
+use Rattle.shb_places.specs.Found.{FoundRace}
 
 -- the event is an access of x by thread t, at the location of the event l, and writes or doesn't
 pub record IsAccessOf (trace : TraceData) (t x l : ℕ) (writes : Bool) (e : ℕ) : Type 0 where
@@ -22,3 +19,25 @@ pub record IsAccessOf (trace : TraceData) (t x l : ℕ) (writes : Bool) (e : ℕ
 
 abbrev pub IsAccess : TraceData → Access → Type 0
 IsAccess trace access = IsAccessOf trace access.thread access.variable access.location access.writes access.event
+
+-- the event has this location
+pub record IsLocatedAt (trace : TraceData) (e : ℕ) (text : List ℕ) : Type 0 where
+  pub in_range : e < length trace.events
+  pub located : location_at trace e ≡ text
+
+-- for each location that is known, an event that has it
+pub record AreFirsts (trace : TraceData) (known : List (List ℕ)) (firsts : List ℕ) : Type 0 where
+  pub as_many : length firsts ≡ length known
+  pub each : (n e : ℕ) (text : List ℕ) → slice_get firsts n ≡ Some e → slice_get known n ≡ Some text → IsLocatedAt trace e text
+
+-- both locations of a place that is found are among the first accesses
+abbrev pub HasFirsts : List ℕ → FoundRace → Type 0
+HasFirsts firsts e = Contains firsts e.0.0 × Contains firsts e.0.1
+
+abbrev pub HaveFirsts : List ℕ → List FoundRace → Type 0
+HaveFirsts firsts found = (e : FoundRace) → Contains found e → HasFirsts firsts e
+
+-- and so is each location of a site
+pub record AreNumbered (firsts : List ℕ) (sites : List Site) (found : List FoundRace) : Type 0 where
+  pub of_sites : (s : ℕ) (site : Site) → slice_get sites s ≡ Some site → Contains firsts site.location
+  pub of_places : HaveFirsts firsts found

@@ -1,11 +1,6 @@
 pub mod Access
-pub mod Covering
 pub mod Found
-pub mod Known
-pub mod ListOrder
 pub mod Lists
 pub mod Notes
-pub mod Firsts
 pub mod Searched
 pub mod Sites
-pub mod Wanted

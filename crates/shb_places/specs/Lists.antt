@@ -1,8 +1,5 @@
 -- Lists in flat tables: each entry has the number of the next one, which is smaller, or the list ends.
 use Rattle.std.specs.Prelude.{◌≡◌, ℕ, ◌+◌, ◌*◌, ◌<◌, Bool, true, false, List, Some, slice_get}
-use Rattle.shb_places.specs.declared.notes.Class.{Class}
-use Rattle.shb_places.specs.declared.notes.Link.{Link}
-use Rattle.shb_places.specs.declared.sites.Site.{Site}
 
 -- the number of no entry
 abbrev pub none : ℕ
@@ -17,12 +14,3 @@ pub data Reaches {T : Type 0} (next : T → ℕ) (entries : List T) (k : ℕ) : 
 abbrev pub list_at : ℕ → Bool → ℕ
 list_at s true = s * 2 + 1
 list_at s false = s * 2
-
-abbrev pub class_next : Class → ℕ
-class_next class = class.next
-
-abbrev pub link_previous : Link → ℕ
-link_previous link = link.previous
-
-abbrev pub site_previous : Site → ℕ
-site_previous site = site.previous

@@ -1,13 +1,11 @@
 //! The races that are found, one of each place that is known.
 
-ghost use Rattle.std.specs.Prelude.{◌≡◌, ◌⊎◌, ◌<◌, ℕ, IfOk, IsTrue, List, OnOk, [], map};
+ghost use Rattle.std.specs.Prelude.{◌≡◌, ◌⊎◌, ◌<◌, ℕ, false, true, IfOk, IsTrue, List, OnOk, [], Some, map};
 ghost use Rattle.std.specs.List.{IsDistinct};
-ghost use Rattle.std.specs.Map.{keys_of};
+ghost use Rattle.std.specs.Map.{keys_of, lookup};
 ghost use Rattle.shb_lines.specs.text.TraceData.{TraceData};
-ghost use Rattle.shb_places.specs.Access.{IsAccess};
-ghost use Rattle.shb_places.specs.Firsts.{HasFirsts, HaveFirsts};
-ghost use Rattle.shb_places.specs.Found.{AreFound, IsFound, IsOffered, StandsFirst, same_key};
-ghost use Rattle.shb_places.specs.Known.{IsKnown};
+ghost use Rattle.shb_places.specs.Access.{HasFirsts, HaveFirsts, IsAccess};
+ghost use Rattle.shb_places.specs.Found.{AreFound, IsFound, IsKnown, IsOffered, NotAfter, same_key};
 
 use crate::notes::Access;
 use indexmap::IndexMap;
@@ -97,7 +95,8 @@ impl Found {
 
     /// Whether the place isn't known, or is known by a race that stands after this one.
     fn stands_first(&self, place: (u32, u32), race: ListedRace) -> bool
-        ensures { StandsFirst self.now.races.entries place race result }
+        ensures earlier { result ≡ true → (known : ListedRace) → lookup (same_key place) self.now.races.entries ≡ Some known → NotAfter race known }
+        ensures known { result ≡ false → (known : ListedRace) × (lookup (same_key place) self.now.races.entries ≡ Some known) × NotAfter known race }
     {
         match self.races.get(&place) {
             Some(known) => race.cmp(known).is_lt(),

@@ -5,8 +5,7 @@ ghost use Rattle.shb_lines.specs.events.Race.{ends};
 ghost use Rattle.shb_lines.specs.events.Sizes.{IsNumberedByAccess};
 ghost use Rattle.shb_lines.specs.text.TraceData.{TraceData};
 ghost use Rattle.shb_report.specs.Report.{LeadingRaces};
-ghost use Rattle.shb_places.specs.Covering.{Covers, race_in};
-ghost use Rattle.shb_places.specs.ListOrder.{HasVariable, IsInListOrder};
+ghost use Rattle.shb_places.specs.Found.{Covers, HasVariable, IsInListOrder, race_in};
 
 use crate::found::{Found, ListedRace};
 use shb_io::NoMemory;

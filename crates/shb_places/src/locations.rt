@@ -1,8 +1,7 @@
 //! The location of an access as a number: the first access that has it.
 
 ghost use Rattle.std.specs.Prelude.{◌≡◌, ◌<◌, ℕ, Contains, IfOk, OnOk, length};
-ghost use Rattle.shb_places.specs.Access.{IsLocatedAt};
-ghost use Rattle.shb_places.specs.Firsts.{AreFirsts};
+ghost use Rattle.shb_places.specs.Access.{AreFirsts, IsLocatedAt};
 ghost use Rattle.shb_report.specs.Places.{location_at};
 
 use shb_discipline::Disciplined;

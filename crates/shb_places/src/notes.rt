@@ -1,6 +1,7 @@
 //! The accesses so far, by site, thread and kind.
 
-ghost use Rattle.std.specs.Prelude.{◌≡◌, ◌≢◌, ◌⊎◌, ◌↔◌, ◌∷◌, [], ◌++◌, ◌+◌, ℕ, ◌<◌, ◌≤◌, Bool, false, true, IfOk, IfSome, IsTrue, List, OnOk, Some, length, slice_get};
+ghost use Rattle.std.specs.Prelude.{◌≡◌, ◌≢◌, ◌⊎◌, ◌↔◌, ◌∷◌, [], ◌++◌, ◌+◌, ℕ, ◌<◌, ◌≤◌, Bool, false, true, IfOk, IfSome, IsTrue, List, OnOk, Some, length, slice_get, ⊤};
+ghost use Rattle.std.proofs.Math.ListN.{set};
 ghost use Rattle.shb_lines.specs.events.Discipline.{local_time};
 ghost use Rattle.shb_lines.specs.events.Events.{thread_at};
 ghost use Rattle.shb_lines.specs.events.Race.{Race};
@@ -8,7 +9,7 @@ ghost use Rattle.shb_lines.specs.text.TraceData.{TraceData};
 ghost use Rattle.shb_report.specs.Places.{location_at};
 ghost use Rattle.shb_places.specs.Access.{IsAccess};
 ghost use Rattle.shb_places.specs.Lists.{list_at, none};
-ghost use Rattle.shb_places.specs.Notes.{AreKept, AreLinked, InChain, IsAddable, IsAdded, IsBegun, IsClassOf, IsEarliestAt, IsEarliestIn, IsEarliestOf, IsExtended, IsNotedAt, tables_of};
+ghost use Rattle.shb_places.specs.Notes.{AreKept, AreLinked, InChain, IsAddable, IsAdded, IsClassOf, IsEarliest, tables_of};
 ghost use Rattle.shb_places.specs.declared.sites.Site.{Site};
 
 use crate::numbers::{NONE, next_number};
@@ -204,7 +205,11 @@ impl Notes {
     /// Adds an access to a class.
     fn extend(&mut self, c: u32, event: u32, local: u32) -> Result<(), NoMemory>
         requires { c < length self.old.classes.items }
-        ensures { OnOk result ((class : Class) × IsExtended (tables_of self.old) (tables_of self.new) c class event local) }
+        ensures { (class : Class) → slice_get self.old.classes.items c ≡ Some class → OnOk result (tables_of self.new ≡ record {
+          heads = self.old.heads.items;
+          classes = set self.old.classes.items c (record class { newest = length self.old.links.items; local = local });
+          links = self.old.links.items ++ record { event = event; previous = class.newest } ∷ [];
+        }) }
     {
         let class = self.classes[c as usize];
         let newest = add_link(&mut self.links, event, class.newest)?;
@@ -219,8 +224,11 @@ impl Notes {
     /// Adds an access as the first of a new class.
     fn begin(&mut self, s: u32, access: Access, local: u32) -> Result<u32, NoMemory>
         requires { list_at s access.writes < length self.old.heads.items }
-        ensures { IfOk result (λ c. (head : ℕ) × IsBegun (tables_of self.old) (tables_of self.new)
-            (record { site = s; thread = access.thread; writes = access.writes; next = head; newest = length self.old.links.items; local = local }) access.event) }
+        ensures { (head : ℕ) → slice_get self.old.heads.items (list_at s access.writes) ≡ Some head → OnOk result ((length self.old.links.items < none) × (tables_of self.new ≡ record {
+          heads = set self.old.heads.items (list_at s access.writes) (length self.old.classes.items);
+          classes = self.old.classes.items ++ record { site = s; thread = access.thread; writes = access.writes; next = head; newest = length self.old.links.items; local = local } ∷ [];
+          links = self.old.links.items ++ record { event = access.event; previous = none } ∷ [];
+        })) }
     {
         let c = next_number(self.classes.as_slice())?;
         let list = list_of(s, access.writes);
@@ -271,7 +279,7 @@ impl Notes {
         requires asked { O.asks ordered.now.order.now access.event ≡ true }
         requires in_range { (k : ℕ) (link : Link) → slice_get self.now.links.items k ≡ Some link → link.event < length ordered.now.disciplined.now.trace.now.events }
         ensures { (sites : List Site) → AreKept ordered.now.disciplined.now.trace.now sites (tables_of self.now) access.event
-            → IsEarliestIn ordered.now.disciplined.now.trace.now sites (tables_of self.now) s c access result }
+            → IsEarliest ordered.now.disciplined.now.trace.now (tables_of self.now) s (λ number _. number ≡ c) access result }
     {
         let Some(class) = self.classes.get(c as usize) else {
             return NONE;
@@ -301,7 +309,7 @@ impl Notes {
         requires asked { O.asks ordered.now.order.now access.event ≡ true }
         requires in_range { (k : ℕ) (link : Link) → slice_get self.now.links.items k ≡ Some link → link.event < length ordered.now.disciplined.now.trace.now.events }
         ensures { (sites : List Site) → AreKept ordered.now.disciplined.now.trace.now sites (tables_of self.now) access.event
-            → IsEarliestOf ordered.now.disciplined.now.trace.now sites (tables_of self.now) s writes access result }
+            → IsEarliest ordered.now.disciplined.now.trace.now (tables_of self.now) s (λ _ class. class.writes ≡ writes) access result }
     {
         let mut earliest = NONE;
         let mut at = self.head_of(s, writes);
@@ -324,7 +332,7 @@ impl Notes {
         requires asked { O.asks ordered.now.order.now access.event ≡ true }
         requires in_range { (k : ℕ) (link : Link) → slice_get self.now.links.items k ≡ Some link → link.event < length ordered.now.disciplined.now.trace.now.events }
         ensures { (sites : List Site) → AreKept ordered.now.disciplined.now.trace.now sites (tables_of self.now) access.event
-            → IsEarliestAt ordered.now.disciplined.now.trace.now sites (tables_of self.now) s access result }
+            → IsEarliest ordered.now.disciplined.now.trace.now (tables_of self.now) s (λ _ _. ⊤) access result }
     {
         let write = self.earliest_of(ordered, s, true, access);
         if !access.writes {

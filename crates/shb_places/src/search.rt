@@ -8,12 +8,10 @@ ghost use Rattle.shb_clocks.specs.Open.{is_open as open_flag};
 ghost use Rattle.shb_lines.specs.events.Race.{variable_at};
 ghost use Rattle.shb_lines.specs.text.TraceData.{TraceData};
 ghost use Rattle.shb_pairs.specs.Open.{AreOpen};
-ghost use Rattle.shb_places.specs.Access.{IsAccess};
-ghost use Rattle.shb_places.specs.Covering.{Covers};
-ghost use Rattle.shb_places.specs.Firsts.{AreFirsts, AreNumbered};
-ghost use Rattle.shb_places.specs.Found.{AreFound};
+ghost use Rattle.shb_places.specs.Access.{AreFirsts, AreNumbered, IsAccess};
+ghost use Rattle.shb_places.specs.Found.{AreFound, Covers};
 ghost use Rattle.shb_places.specs.Notes.{AreKept, tables_of};
-ghost use Rattle.shb_places.specs.Searched.{AreSearched, AreToldFrom, IsAskable, IsAskedBy, IsTold};
+ghost use Rattle.shb_places.specs.Searched.{AreAsked, AreSearched, AreToldFrom, IsTold};
 ghost use Rattle.shb_places.specs.Sites.{IsSite};
 ghost use Rattle.shb_places.specs.declared.notes.Link.{Link};
 
@@ -146,9 +144,9 @@ impl Search {
         requires in_range { (k : ℕ) (link : Link) → slice_get self.old.notes.links.items k ≡ Some link → link.event < length ordered.now.disciplined.now.trace.now.events }
         ensures sites { self.new.sites ≡ self.old.sites }
         ensures notes { self.new.notes ≡ self.old.notes }
-        ensures asked { IsSite self.old.sites.sites.items access.variable access.location s
-            → IsAskable ordered.now.disciplined.now.trace.now self.old.sites self.old.notes self.old.wanted.items self.old.found access
-            → OnOk result (IsAskedBy ordered.now.disciplined.now.trace.now self.old.sites self.old.notes self.new.wanted.items self.old.found self.new.found access) }
+        ensures asked { (flags : List Bool) → open_flag flags access.variable ≡ true → IsSite self.old.sites.sites.items access.variable access.location s
+            → AreSearched ordered.now.disciplined.now.trace.now flags self.old.sites self.old.notes self.old.wanted.items self.old.found access.event
+            → OnOk result (AreAsked ordered.now.disciplined.now.trace.now self.old.sites.sites.items self.new.wanted.items self.new.found.races.entries (access.event + 1)) }
         ensures numbered { (firsts : List ℕ) → Contains firsts access.location → AreNumbered firsts self.old.sites.sites.items self.old.found.races.entries → OnOk result (AreNumbered firsts self.old.sites.sites.items self.new.found.races.entries) }
     {
         make_room(alloc, &mut self.wanted, s)?;

@@ -3,11 +3,8 @@
 ghost use Rattle.std.specs.Prelude.{◌≡◌, ◌⊎◌, ◌<◌, ◌≤◌, ℕ, true, Contains, IfOk, IfSome, IsTrue, List, OnOk, [], Some, length, slice_get};
 ghost use Rattle.shb_lines.specs.text.TraceData.{TraceData};
 ghost use Rattle.shb_places.specs.Access.{IsAccess};
-ghost use Rattle.shb_places.specs.Covering.{FoundRace};
-ghost use Rattle.shb_places.specs.Found.{AreFound};
-ghost use Rattle.shb_places.specs.Known.{IsKnown};
-ghost use Rattle.shb_places.specs.Sites.{AreSites};
-ghost use Rattle.shb_places.specs.Wanted.{AreHeld, AreWanted};
+ghost use Rattle.shb_places.specs.Found.{AreFound, FoundRace, IsKnown};
+ghost use Rattle.shb_places.specs.Sites.{AreHeld, AreSites, AreWanted};
 ghost use Rattle.shb_places.specs.declared.sites.Site.{Site};
 
 use crate::found::Found;

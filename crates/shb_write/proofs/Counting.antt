@@ -14,7 +14,7 @@ use Rattle.shb_report.proofs.PlaceLemmas.{places_in_range}
 use Rattle.shb_witness.specs.Schedules.{AreRaces}
 use Rattle.shb_write.specs.declared.counted.Counted.{Counted}
 use Rattle.shb_write.specs.Listed.{IsCountOf, IsRaceOf}
-use Rattle.shb_write.proofs.Pieces.{pairs_of_trace}
+use Rattle.shb_counts.proofs.PieceLemmas.{pairs_of_trace}
 
 pub ends_back : (races : List (ℕ × ℕ)) → map ends (map pair_of races) ≡ races
 ends_back [] = refl

@@ -1,10 +1,9 @@
 -- Races that come piece by piece, each piece as the races of its later accesses.
-use Rattle.std.proofs.Common.{◌≡◌, ◌⊎◌, inl, inr, ℕ, zero, suc, ◌+◌, ◌<◌, ◌≤◌, List, [], ◌∷◌, ◌++◌, length, map, take, drop, get_or, All, refl, sym, ap, subst, ◌∙◌, append_assoc, append-nil, arith}
+use Rattle.std.proofs.Common.{◌≡◌, ℕ, suc, ◌+◌, ◌<◌, ◌≤◌, List, [], ◌∷◌, ◌++◌, length, map, take, drop, get_or, All, refl, sym, ap, subst, ◌∙◌, append-nil, arith}
 use Rattle.std.specs.Prelude.{flat_map}
-use Rattle.std.proofs.lemmas.Bool.{cases_lt}
 use Rattle.std.proofs.lemmas.List.{length-append, length-map, map-append, map_push, take_more, take-append-drop}
 use Rattle.std.proofs.lemmas.List.Concat.{flat_map-append}
-use Rattle.std.proofs.lemmas.List.Elements.{All-nil}
+use Rattle.shb_counts.proofs.PieceLemmas.{all_left, all_right, pairs_of_trace, values_front}
 use Rattle.shb_fan.specs.Values.{values_of}
 use Rattle.shb_lines.specs.declared.event.Pair.{Pair}
 use Rattle.shb_lines.specs.events.Race.{ends}
@@ -14,24 +13,9 @@ use Rattle.shb_report.specs.Places.{IsPairOf}
 use Rattle.shb_write.specs.Blocks.{alone}
 use Rattle.shb_write.specs.Listed.{IsRaceOf}
 
-module _ {A : Type 0} (P : A → Type 0) where
-  all_left : (xs ys : List A) → All P (xs ++ ys) → All P xs
-  all_left [] ys h k d lt = All-nil P k d lt
-  all_left (x ∷ xs) ys h zero d lt = h zero d (omega arith)
-  all_left (x ∷ xs) ys h (suc k) d lt = all_left xs ys (λ j e l. h (suc j) e (omega arith)) k d (omega arith)
-
-  pub all_right : (xs ys : List A) → All P (xs ++ ys) → All P ys
-  all_right [] ys h = h
-  all_right (x ∷ xs) ys h = all_right xs ys (λ j e l. h (suc j) e (omega arith))
-
-  -- of all, the first hold
-  pub all_front : (all xs rest : List A) → all ≡ xs ++ rest → All P all → All P xs
-  all_front all xs rest is h = all_left xs rest (subst (All P) is h)
-
-pub pairs_of_trace : (trace : TraceData) (pairs : List Pair) → All (IsRaceOf trace) (map ends pairs) → All (IsPairOf trace) pairs
-pairs_of_trace trace [] h k d lt = All-nil (IsPairOf trace) k d lt
-pairs_of_trace trace (pair ∷ pairs) h zero d lt = let both = h 0 (ends d) (omega arith) in record { first = both.0; second = both.1 }
-pairs_of_trace trace (pair ∷ pairs) h (suc k) d lt = pairs_of_trace trace pairs (λ j e l. h (suc j) e (omega arith)) k d (omega arith)
+-- of all, the first hold
+pub all_front : {A : Type 0} (P : A → Type 0) (all xs rest : List A) → all ≡ xs ++ rest → All P all → All P xs
+all_front P all xs rest is h = all_left P xs rest (subst (All P) is h)
 
 -- ---- the races of a piece, of one later access after the other
 
@@ -99,20 +83,6 @@ pieces_came values pieces are = one_by_one pieces ∙ ap (λ (l : List (List (�
     one_by_one [] = refl
     one_by_one (v ∷ vs) = ap (λ (l : List (ℕ × ℕ)). joined v ++ l) (one_by_one vs)
 
-values_front : (f : ℕ → List (ℕ × ℕ)) (k n : ℕ) → k ≤ n → (rest : List (ℕ × ℕ)) × (joined (values_of f n) ≡ joined (values_of f k) ++ rest)
-values_front f k zero le = ([], ap (λ j. joined (values_of f j)) (let e : 0 ≡ k = omega arith in e) ∙ sym (append-nil (joined (values_of f k))))
-values_front f k (suc n) le = cases (values_front f k n) (cases_lt k (suc n))
-  where
-    cases : ((k ≤ n) → (rest : List (ℕ × ℕ)) × (joined (values_of f n) ≡ joined (values_of f k) ++ rest)) → (k < suc n) ⊎ (suc n ≤ k) → (rest : List (ℕ × ℕ)) × (joined (values_of f (suc n)) ≡ joined (values_of f k) ++ rest)
-    cases fewer (inl lt) =
-        let before = fewer (omega arith) in (
-          before.0 ++ joined (f n ∷ []),
-          flat_map-append (λ (l : List (ℕ × ℕ)). l) (values_of f n) (f n ∷ [])
-              ∙ ap (λ (l : List (ℕ × ℕ)). l ++ joined (f n ∷ [])) before.1
-              ∙ append_assoc (joined (values_of f k)) before.0 (joined (f n ∷ [])),
-        )
-    cases fewer (inr ge) = ([], ap (λ j. joined (values_of f j)) (let e : suc n ≡ k = omega arith in e) ∙ sym (append-nil (joined (values_of f k))))
-
 -- one value more
 pub values_next : {V M : Type 0} (meaning : V → M) (f : ℕ → M) (k : ℕ) (given : List V) (out : V) → map meaning given ≡ values_of f k → meaning out ≡ f k → map meaning (given ++ out ∷ []) ≡ values_of f (k + 1)
 values_next meaning f k given out first next = map_push meaning given out ∙ ap (λ l. l ++ meaning out ∷ []) first ∙ ap (λ x. values_of f k ++ x ∷ []) next ∙ ap (values_of f) (let e : suc k ≡ k + 1 = omega arith in e)
@@ -120,5 +90,5 @@ values_next meaning f k given out first next = map_push meaning given out ∙ ap
 module _ (f : ℕ → List (ℕ × ℕ)) (k : ℕ) (given : List (List (List (ℕ × ℕ)))) (first : map (λ v. joined v) given ≡ values_of f k) where
   pub given_stand : (n : ℕ) → k ≤ n → (rest : List (ℕ × ℕ)) × (joined (values_of f n) ≡ flat_map joined given ++ rest)
   given_stand n le =
-      let front = values_front f k n le in
+      let front = values_front f n k le in
       (front.0, front.1 ∙ ap (λ (l : List (ℕ × ℕ)). l ++ front.0) (sym (pieces_came (values_of f k) given first)))

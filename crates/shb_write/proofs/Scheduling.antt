@@ -11,11 +11,10 @@ use Rattle.shb_lines.specs.text.TraceData.{TraceData}
 use Rattle.shb_witness.specs.Schedules.{Asked, schedule_at}
 use Rattle.shb_report.specs.Places.{IsPairOf}
 use Rattle.shb_write.specs.declared.schedule_writer.ScheduleWriter.{ScheduleWriter}
-use Rattle.shb_write.specs.Blocks.{blocks_of, scheduled, shown_from, with_schedule}
+use Rattle.shb_write.specs.Blocks.{blocks_of, HasScheduled, MaySchedule, scheduled, shown_from, with_schedule}
 use Rattle.shb_report.specs.Report.{blocks_from}
 use Rattle.shb_write.specs.Written.{AppendsFront}
 use Rattle.shb_write.proofs.Blocks.{blocks_front}
-use Rattle.shb_write.specs.Scheduled.{HasScheduled, MaySchedule}
 
 abbrev pub none : Pair
 none = record { first = 0; second = 0 }

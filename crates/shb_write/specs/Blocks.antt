@@ -1,13 +1,15 @@
 -- The blocks of races, written one after the other.
-use Rattle.std.specs.Prelude.{◌≡◌, ℕ, ◌+◌, Bool, List, [], ◌∷◌, length, map, Option, None, Some, Result, MatchResult, if◌then◌else◌, slice_index_or}
+use Rattle.std.specs.Prelude.{◌≡◌, ℕ, ◌+◌, ◌-◌, ◌^◌, ◌<◌, Bool, List, [], ◌∷◌, All, length, map, Option, None, Some, Result, MatchResult, if◌then◌else◌, slice_index_or}
 use Rattle.std.specs.Io.KnownBytes.{Appends}
 use Rattle.shb_lines.specs.declared.event.Pair.{Pair}
 use Rattle.shb_lines.specs.events.Race.{ends}
 use Rattle.shb_lines.specs.text.TraceData.{TraceData}
+use Rattle.shb_report.specs.Places.{IsPairOf}
 use Rattle.shb_report.specs.Report.{ShownRace, blocks_from, pair_of}
 use Rattle.shb_witness.specs.Schedules.{printed_schedule}
 use Rattle.shb_write.specs.declared.block_writer.BlockWriter.{BlockWriter}
 use Rattle.shb_write.specs.declared.errors.WriteError.{WriteError}
+use Rattle.shb_write.specs.declared.schedule_writer.ScheduleWriter.{ScheduleWriter}
 use Rattle.shb_write.specs.Written.{AppendsFront, write_failed}
 
 -- a race without a schedule, and with its printed schedule
@@ -21,18 +23,14 @@ scheduled trace race = record { pair = race; schedule = Some (printed_schedule t
 abbrev pub with_schedule : Pair → List ℕ → ShownRace
 with_schedule race schedule = record { pair = ends race; schedule = Some schedule }
 
--- these races, in one of the two forms
-abbrev pub shown : Bool → TraceData → List (ℕ × ℕ) → List ShownRace
-shown with_schedules trace races = if with_schedules then map (scheduled trace) races else map alone races
-
 -- race n with the first schedule, race n + 1 with the second, and so on
 abbrev pub shown_from : ℕ → List Pair → List (List ℕ) → List ShownRace
 shown_from n races [] = []
 shown_from n races (schedule ∷ schedules) = with_schedule (slice_index_or races n (record { first = 0; second = 0 })) schedule ∷ shown_from (n + 1) races schedules
 
--- the blocks of these races, numbered from 1
+-- the blocks of these races in one of the two forms, numbered from 1
 abbrev pub blocks_of : Bool → TraceData → List (ℕ × ℕ) → List ℕ
-blocks_of with_schedules trace races = blocks_from trace 1 (shown with_schedules trace races)
+blocks_of with_schedules trace races = blocks_from trace 1 (if with_schedules then map (scheduled trace) races else map alone races)
 
 -- the blocks of some races were written or, on an error, the front of them, perhaps all
 abbrev pub WritesBlocks : {T E : Type 0} → Bool → TraceData → List (ℕ × ℕ) → Option (List ℕ) → Option (List ℕ) → Result T E → Type 0
@@ -53,3 +51,14 @@ module _ {K : Type 0} (taken : K → Option (List ℕ)) (failures : K → ℕ) w
     pub same_sink : end.sink.ghost_name ≡ start.sink.ghost_name
     pub front : AppendsFront (taken start.sink.now) (taken end.sink.now) (blocks_from start.trace.now (start.written + 1) races)
     pub counted : failures end.sink.now ≡ (if write_failed error then failures start.sink.now + 1 else failures start.sink.now)
+
+-- there is a next race, the races are of the trace, and the sink can count a failure
+pub record MaySchedule {K : Type 0} (failures : K → ℕ) (start : ScheduleWriter K) (schedules : List (List ℕ)) : Type 0 where
+  pub room : start.writer.written + length schedules < length start.races.now
+  pub countable : failures start.writer.sink.now < 2 ^ 64 - 1
+  pub in_range : All (IsPairOf start.writer.trace.now) start.races.now
+
+-- the blocks of the next races were written, one for each of these schedules, and nothing else changed
+pub record HasScheduled {K : Type 0} (taken : K → Option (List ℕ)) (failures : K → ℕ) (start : ScheduleWriter K) (schedules : List (List ℕ)) (end : ScheduleWriter K) : Type 0 where
+  pub same_races : end.races.now ≡ start.races.now
+  pub written : HasWritten taken failures start.writer (shown_from start.writer.written start.races.now schedules) end.writer

@@ -1,4 +1,3 @@
 pub mod Written
 pub mod Blocks
-pub mod Scheduled
 pub mod Listed

@@ -49,19 +49,21 @@ pub(crate) struct PieceLister<'s, 't, 'r, K> {
 }
 
 impl<'s, 't, 'r, 'a, K: Sink> Taker<RaceRanges<'a>> for PieceLister<'s, 't, 'r, K> {
-    ghost use Rattle.std.specs.Prelude.{flat_map, ◌∷◌, ◌++◌, []};
+    ghost use Rattle.std.specs.Prelude.{flat_map, ◌+◌, ◌-◌, ◌^◌, ◌<◌, ◌∷◌, ◌++◌, [], All, length};
     ghost use Rattle.std.proofs.Common.{refl, sym};
     ghost use Rattle.std.proofs.Math.Nat.{zero-add};
     ghost use Rattle.shb_io.proofs.Growth.{Appends-nil};
     ghost use Rattle.shb_write.specs.Blocks.{HasStopped, HasWritten, alone};
-    ghost use Rattle.shb_write.specs.Listed.{MayList};
+    ghost use Rattle.shb_write.specs.Listed.{IsRaceOf};
     ghost use Rattle.shb_pairs.specs.Races.{joined};
 
     type Error = WriteError;
 
     ghost takes = { λ start given end. HasWritten K.taken K.failure_count start.writer (map alone (flat_map joined given)) end.writer };
 
-    ghost may_take = { λ start given out. MayList K.failure_count start.writer (flat_map joined (given ++ out ∷ [])) };
+    ghost may_take = { λ start given out. (length (flat_map joined (given ++ out ∷ [])) + start.writer.written < 2 ^ 64)
+        × (K.failure_count start.writer.sink.now < 2 ^ 64 - 1)
+        × All (IsRaceOf start.writer.trace.now) (flat_map joined (given ++ out ∷ [])) };
 
     ghost refuses = { λ start given out e end. HasStopped K.taken K.failure_count start.writer (map alone (flat_map joined (given ++ out ∷ []))) e end.writer };
 

@@ -1,8 +1,9 @@
 //! The races of a search, kept.
-ghost use Rattle.std.specs.Prelude.{◌≡◌, IfErr, IfOk, IsTrue, None, OnOk, map};
+ghost use Rattle.std.specs.Prelude.{◌≡◌, ◌≢◌, ◌++◌, IfErr, IfOk, IsTrue, None, OnOk, map};
 ghost use Rattle.shb_lines.specs.events.Race.{ends};
 ghost use Rattle.shb_pairs.specs.Races.{joined};
-ghost use Rattle.shb_write.specs.Listed.{HasKept, IsRefusal, races_found};
+ghost use Rattle.shb_write.specs.Listed.{races_found};
+ghost use Rattle.shb_write.specs.declared.race_keeper.KeepError.TheVariants.{Many};
 
 use crate::race_search::RaceSearch;
 use shb_clocks::Order;
@@ -35,7 +36,7 @@ fn has_room(most: Option<u64>, kept: usize, more: u64) -> bool
 
 /// Keeps the races of a piece.
 fn keep_piece(alloc: Global, kept: &mut Vec<Pair>, piece: &RaceRanges<'_>) -> Result<(), NoMemory>
-    ensures { OnOk result (HasKept kept.old.items (joined piece.now) kept.new.items) }
+    ensures { OnOk result (map ends kept.new.items ≡ map ends kept.old.items ++ joined piece.now) }
 {
     for k in 0..piece.later_accesses() {
         piece.expand(alloc, k, kept)?;
@@ -53,19 +54,19 @@ struct PieceKeeper {
 }
 
 impl<'a> Taker<RaceRanges<'a>> for PieceKeeper {
-    ghost use Rattle.std.specs.Prelude.{flat_map, map, None};
+    ghost use Rattle.std.specs.Prelude.{◌≡◌, ◌≢◌, ◌++◌, flat_map, map, None};
     ghost use Rattle.std.proofs.Common.{append-nil, refl, sym};
     ghost use Rattle.shb_lines.specs.events.Race.{ends};
     ghost use Rattle.shb_pairs.specs.Races.{joined};
-    ghost use Rattle.shb_write.specs.Listed.{HasKept, IsRefusal};
+    ghost use Rattle.shb_write.specs.declared.race_keeper.KeepError.TheVariants.{Many};
 
     type Error = KeepError;
 
-    ghost takes = { λ start given end. HasKept start.kept.items (flat_map joined given) end.kept.items × (end.most ≡ start.most) };
+    ghost takes = { λ start given end. (map ends end.kept.items ≡ map ends start.kept.items ++ flat_map joined given) × (end.most ≡ start.most) };
 
     ghost may_take = { λ _ _ _. Unit {0} };
 
-    ghost refuses = { λ start _ _ e _. start.most ≡ None → IsRefusal e };
+    ghost refuses = { λ start _ _ e _. start.most ≡ None → e ≢ Many };
 
     ghost nothing = { λ s. (sym (append-nil (map ends s.kept.items)), refl) };
 
@@ -89,7 +90,7 @@ pub(crate) fn keep_races<R: Threads + Wait + Sync, O: Order + Sync, G: Gate + Sy
     most: Option<u64>,
 ) -> Result<Vec<Pair>, KeepError>
     ensures kept { IfOk result (λ kept. map ends kept.items ≡ races_found search.now.job.now) }
-    ensures all { most ≡ None → IfErr result IsRefusal }
+    ensures all { most ≡ None → IfErr result (λ e. e ≢ Many) }
 {
     let mut taker = PieceKeeper {
         kept: Vec::new(alloc),

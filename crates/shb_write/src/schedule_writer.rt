@@ -21,8 +21,7 @@ pub(crate) struct ScheduleWriter<'s, 't, 'r, 'n, K> {
 
 impl<'s, 't, 'r, 'n, K: Sink> Taker<Positions> for ScheduleWriter<'s, 't, 'r, 'n, K> {
     ghost use Rattle.std.specs.Prelude.{◌∷◌, ◌++◌, []};
-    ghost use Rattle.shb_write.specs.Blocks.{HasStopped, shown_from};
-    ghost use Rattle.shb_write.specs.Scheduled.{HasScheduled, MaySchedule};
+    ghost use Rattle.shb_write.specs.Blocks.{HasScheduled, HasStopped, MaySchedule, shown_from};
     ghost use Rattle.std.proofs.Common.{refl, sym};
     ghost use Rattle.std.proofs.Math.Nat.{zero-add};
     ghost use Rattle.shb_io.proofs.Growth.{Appends-nil};

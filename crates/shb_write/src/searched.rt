@@ -1,9 +1,10 @@
 //! The report of a trace that lists the races which a search finds.
-ghost use Rattle.std.specs.Prelude.{◌≡◌, ◌-◌, ◌^◌, ◌<◌, All, IfOk, false, length};
+ghost use Rattle.std.specs.Prelude.{◌≡◌, ◌-◌, ◌^◌, ◌<◌, All, IfOk, false, length, map};
+ghost use Rattle.shb_report.specs.Report.{pair_of};
 ghost use Rattle.shb_io.specs.Devices.{CountsFailure};
 ghost use Rattle.shb_witness.specs.Schedules.{AreRaces, AsksEach};
 ghost use Rattle.shb_write.specs.Blocks.{WritesBlocks};
-ghost use Rattle.shb_write.specs.Listed.{IsCountOf, IsRaceOf, pairs_found, races_found};
+ghost use Rattle.shb_write.specs.Listed.{IsCountOf, IsRaceOf, races_found};
 ghost use Rattle.shb_write.specs.Written.{HasReported, These, write_failed};
 
 use crate::counted::Counted;
@@ -57,7 +58,7 @@ fn list_search<R: Threads + Wait + Sync + RandomSource, K: Sink, O: Order + Sync
     search: &RaceSearch<'_, '_, '_, '_, '_, O, P>,
 ) -> Result<u64, WriteError>
     requires countable { K.failure_count sink.old < 2 ^ 64 - 1 }
-    requires races { AreRaces search.now.ordered.now.disciplined.now.events.now (pairs_found search.now.job.now) }
+    requires races { AreRaces search.now.ordered.now.disciplined.now.events.now (map pair_of (races_found search.now.job.now)) }
     ensures count { IfOk result (λ count. count ≡ length (races_found search.now.job.now)) }
     ensures written { HasReported (These (races_found search.now.job.now)) false search.now.ordered.now.disciplined.now.trace.now
         K.taken K.failure_count sink.old sink.new result }
@@ -102,8 +103,8 @@ pub fn write_search<
     plan: &BlockPlan<'_, W>,
 ) -> Result<u64, WriteError>
     requires countable { K.failure_count sink.old < 2 ^ 64 - 1 }
-    requires races { AreRaces search.now.ordered.now.disciplined.now.events.now (pairs_found search.now.job.now) }
-    requires asked { AsksEach (O.asks search.now.ordered.now.order.now) (pairs_found search.now.job.now) }
+    requires races { AreRaces search.now.ordered.now.disciplined.now.events.now (map pair_of (races_found search.now.job.now)) }
+    requires asked { AsksEach (O.asks search.now.ordered.now.order.now) (map pair_of (races_found search.now.job.now)) }
     ensures count { IfOk result (λ count. count ≡ length (races_found search.now.job.now)) }
     ensures written { HasReported (These (races_found search.now.job.now)) schedules search.now.ordered.now.disciplined.now.trace.now
         K.taken K.failure_count sink.old sink.new result }

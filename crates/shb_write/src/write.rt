@@ -1,11 +1,10 @@
 //! The report of a trace that lists races which are known.
-ghost use Rattle.std.specs.Prelude.{◌≡◌, ◌-◌, ◌^◌, ◌<◌, ℕ, All, List, false, length, map, true};
+ghost use Rattle.std.specs.Prelude.{◌≡◌, ◌-◌, ◌^◌, ◌<◌, ℕ, ◌++◌, All, List, false, length, map, true};
 ghost use Rattle.shb_io.specs.Devices.{CountsFailure, IsCounted, Writes};
 ghost use Rattle.shb_report.specs.Places.{IsPairOf, IsPlaceOf, counts_in, places_of_pairs};
-ghost use Rattle.shb_report.specs.Report.{counts_of, front_bytes, pair_of};
+ghost use Rattle.shb_report.specs.Report.{counts_of, front_bytes, pair_of, tail_bytes};
 ghost use Rattle.shb_witness.specs.Schedules.{AreRaces, AsksEach};
-ghost use Rattle.shb_write.specs.Blocks.{WritesBlocks};
-ghost use Rattle.shb_write.specs.Listed.{list_bytes};
+ghost use Rattle.shb_write.specs.Blocks.{WritesBlocks, blocks_of};
 ghost use Rattle.shb_write.specs.Written.{HasReported, These, write_failed};
 ghost use Rattle.shb_lines.specs.events.Race.{ends};
 
@@ -129,7 +128,8 @@ pub fn write_list<K: Sink>(
     requires countable { K.failure_count sink.old < 2 ^ 64 - 1 }
     requires in_range { All (IsPairOf trace.now) races.now }
     requires places { places.now ≡ counts_in (places_of_pairs trace.now races.now) }
-    ensures written { Writes (K.taken sink.old) (K.taken sink.new) result (list_bytes trace.now (map ends races.now)) }
+    ensures written { Writes (K.taken sink.old) (K.taken sink.new) result
+        (front_bytes trace.now (map ends races.now) ++ (blocks_of false trace.now (map ends races.now) ++ tail_bytes)) }
     ensures counted { IsCounted (K.failure_count sink.old) (K.failure_count sink.new) result }
 {
     write_front(sink, trace, races.len() as u64, places)?;

@@ -1,7 +1,6 @@
 use Rattle.std.proofs.lemmas.Grind.{common_steps}
 use Rattle.std.proofs.Common.{◌<◌, ℕ, arith, length}
-use Rattle.shb_pairs.specs.Pieces.{pieces_in}
-use Rattle.shb_pairs.specs.Races.{races_at}
+use Rattle.shb_pairs.specs.Races.{pieces_in, races_at}
 use Rattle.shb_counts.proofs.PieceLemmas.{joined_next, piece_all, piece_room}
 use Rattle.shb_counts.proofs.counted.count_pieces.Goals as goal
 

@@ -1,10 +1,8 @@
 use Rattle.std.proofs.Common.{◌≤◌, length}
 use Rattle.std.specs.Prelude.{IfSome}
 use Rattle.shb_fan.specs.Values.{values_of}
-use Rattle.shb_pairs.specs.Pieces.{pieces_in}
-use Rattle.shb_pairs.specs.Races.{joined, races_at}
-use Rattle.shb_counts.specs.Counted.{HasCounted}
-use Rattle.shb_counts.specs.Tables.{AreTables}
+use Rattle.shb_pairs.specs.Races.{joined, pieces_in, races_at}
+use Rattle.shb_counts.specs.Counted.{AreTables, HasCounted}
 use Rattle.shb_counts.proofs.counted.count_pieces.Given as goal
 
 abbrev pub invariant-loop-k : goal.invariant-loop-k

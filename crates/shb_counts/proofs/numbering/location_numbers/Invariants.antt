@@ -1,4 +1,4 @@
-use Rattle.shb_counts.specs.Numbering.{AreNumbered}
+use Rattle.shb_counts.specs.Counts.{AreNumbered}
 use Rattle.shb_counts.proofs.numbering.location_numbers.Given as goal
 
 abbrev pub invariant-loop-e : goal.invariant-loop-e

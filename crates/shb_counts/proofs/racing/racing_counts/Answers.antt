@@ -5,7 +5,8 @@ use Rattle.shb_pairs.proofs.Found.{accessed_within}
 use Rattle.shb_pairs.specs.declared.spans.Span.{Span}
 use Rattle.shb_pairs.specs.Spans.{IsSpanOf, in_spans}
 use Rattle.shb_counts.proofs.RacingLemmas.{racing_counted, racing_few, racing_within}
-use Rattle.shb_counts.specs.Counts.{AreCountsOf, AreRacingCounts}
+use Rattle.shb_counts.specs.Counts.{AreRacingCounts}
+use Rattle.shb_pairs.specs.Buckets.{HasCounts}
 use Rattle.shb_counts.proofs.racing.racing_counts.Goals as goal
 
 pub op-op-requires : goal.op-op-requires
@@ -38,4 +39,4 @@ returns g c = on_ok_weaker c.counts_in_spans.result (λ counted numbers classes 
     let compared = c.of-compared.ensures seen numbers classes c.args.search.now.variable tables in
     subst (λ (n : ℕ). AreRacingCounts seen numbers c.args.second n c.counts_in_spans.new.rows.counts.items) (ap (λ (t : ℕ × List ℕ). t.0) compared.counted)
     (racing_counted seen c.args.second c.of-compared.result.now.positions.now numbers c.of-compared.result.now.table.1 c.racing_spans.new.found.items (ap (λ (t : ℕ × List ℕ). t.1) compared.counted) c.in_ok-racing_spans.ensures.races c.of-compared.result.now.table.0 c.counts_in_spans.new.rows.counts.items
-    (subst (λ (spans : List Span). AreCountsOf c.of-compared.result.now.table.0 (in_spans c.of-compared.result.now.table.1 spans) c.counts_in_spans.new.rows.counts.items) c.as_slice.ensures.value counted))) c.counts_in_spans.ensures
+    (subst (λ (spans : List Span). HasCounts (λ n. n) c.of-compared.result.now.table.0 (in_spans c.of-compared.result.now.table.1 spans) c.counts_in_spans.new.rows.counts.items) c.as_slice.ensures.value counted))) c.counts_in_spans.ensures

@@ -4,6 +4,7 @@ use Rattle.std.proofs.lemmas.List.{length-map}
 use Rattle.std.proofs.lemmas.List.Elements.{All-map}
 use Rattle.shb_pairs.proofs.Found.{by_thread_few, range_by_thread}
 use Rattle.shb_counts.specs.Counts.{number_in}
+use Rattle.shb_counts.proofs.NumberLemmas.{number_below}
 use Rattle.shb_counts.proofs.tables.compared_of.Goals as goal
 
 pub numbers_at-requires : goal.numbers_at-requires
@@ -24,5 +25,5 @@ of-requires-clause-numbered g c =
     subst (All (λ m. m < c.len.result)) (sym (c.in_ok-of_positions.ensures ∙ ap (λ (l : List ℕ). map (number_in l) positions) c.as_slice.ensures.value))
     (All-map (λ m. m < c.len.result) (number_in numbers) positions (λ k d lt.
     let below = range_by_thread c.args.search.now.ordered.now.disciplined.now.events.now c.args.which c.args.search.now.variable positions c.by_thread-positions.ensures k d lt in
-    let number = c.args.located.now.numbered.numbered (get_or positions k d) (omega (arith, below, c.requires)) in
+    let number = number_below c.args.located.now.trace.now (get_or positions k d) _ numbers c.args.located.now.numbers.now.locations c.args.located.now.numbered (omega (arith, below, c.requires)) in
     omega (arith, number, c.len.ensures)))

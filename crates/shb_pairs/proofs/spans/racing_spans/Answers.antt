@@ -1,7 +1,6 @@
 use Rattle.std.proofs.Common.{ap, ◌∙◌}
 use Rattle.std.proofs.lemmas.List.{take_all}
-use Rattle.shb_pairs.specs.Search.{racing}
-use Rattle.shb_pairs.specs.Spans.{in_spans}
+use Rattle.shb_pairs.specs.Spans.{in_spans, racing}
 use Rattle.shb_pairs.proofs.Found.{accessed_within, compared_found}
 use Rattle.shb_pairs.proofs.SpanLemmas.{compared_range, compared_rivals, span_more}
 use Rattle.shb_pairs.proofs.Tails.{part_of_rivals, part_of_thread}

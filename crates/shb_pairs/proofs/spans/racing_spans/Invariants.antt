@@ -1,7 +1,6 @@
 use Rattle.std.proofs.Common.{◌≡◌, ◌-◌, ◌≤◌, length}
 use Rattle.std.specs.Prelude.{All, take}
-use Rattle.shb_pairs.specs.Search.{racing}
-use Rattle.shb_pairs.specs.Spans.{IsSpanOf, in_spans}
+use Rattle.shb_pairs.specs.Spans.{in_spans, IsSpanOf, racing}
 use Rattle.shb_pairs.proofs.spans.racing_spans.Given as goal
 
 abbrev pub invariant-loop-start : goal.invariant-loop-start

@@ -1,7 +1,7 @@
 use Rattle.std.proofs.lemmas.Grind.{common_steps}
 use Rattle.std.proofs.Common.{inl, inr, length, arith, refl, ap}
 use Rattle.std.proofs.lemmas.Option.{slice_get_read}
-use Rattle.shb_places.specs.Lists.{here, link_previous}
+use Rattle.shb_places.specs.Lists.{here}
 use Rattle.shb_places.proofs.Lists.{reaches_then}
 use Rattle.shb_places.proofs.NoteLemmas.{at_chain, chain_times, in_chain_end, in_chain_next, local_of, within_of}
 use Rattle.shb_places.proofs.notes.earliest_from.Goals as goal
@@ -57,8 +57,8 @@ loop-link-preserved g c =
     let at = slice_get_read links (length links) c.loop-link.at link refl c.in-Some.ensures.lookup.3.0 c.in-Some.ensures.lookup.1 in
     let low = c.if-link-at.false in
     record {
-      reached = reaches_then link_previous links c.loop-link.at c.args.newest link at low c.loop-link.invariant.reached;
-      falls = λ n before linked at_before. (let lt = linked.falls c.loop-link.at link before at low at_before in omega (arith, lt));
+      reached = reaches_then _ links c.loop-link.at c.args.newest link at low c.loop-link.invariant.reached;
+      falls = λ n before linked at_before. (let lt = (linked.rises c.loop-link.at link before at low at_before).0 in omega (arith, lt));
       least = λ n t e linked chain of_t above. elim (c.loop-link.invariant.least n t e linked chain of_t above) [
         | inl le ↦ inl (let f = c.loop-link.invariant.falls n link linked at in omega (arith, f, le))
         | inr rest ↦ elim (in_chain_next links c.loop-link.at e link at rest) [

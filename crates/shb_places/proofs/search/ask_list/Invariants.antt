@@ -1,6 +1,6 @@
 use Rattle.std.proofs.Common.{◌+◌, ◌≤◌, ℕ, List, length}
 use Rattle.std.specs.Prelude.{Contains}
-use Rattle.shb_places.specs.Firsts.{AreNumbered}
+use Rattle.shb_places.specs.Access.{AreNumbered}
 use Rattle.shb_places.specs.Found.{AreFound}
 use Rattle.shb_places.specs.Notes.{AreKept, tables_of}
 use Rattle.shb_places.specs.Searched.{AreToldFrom}

@@ -1,6 +1,7 @@
-use Rattle.std.proofs.Common.{◌+◌, ℕ, length, arith, ap, refl, subst}
+use Rattle.std.proofs.Common.{◌+◌, ℕ, length, arith, ap, subst}
+use Rattle.std.specs.Prelude.{⊤}
 use Rattle.shb_pairs.proofs.Found.{accessed_within}
-use Rattle.shb_places.specs.Notes.{IsEarliestAt, tables_of}
+use Rattle.shb_places.specs.Notes.{IsEarliest, tables_of}
 use Rattle.shb_places.proofs.FirstLemmas.{numbered_place}
 use Rattle.shb_places.proofs.Lists.{read_same}
 use Rattle.shb_places.proofs.SearchLemmas.{offered_race}
@@ -25,7 +26,7 @@ returns-then-earliest-clause-told g c kept found =
     let few = trace.few in
     let long = ap length trace.of_trace in
     told_none trace.trace.now sites (tables_of c.args.notes.now) c.args.access c.args.s c.args.found.now.races.entries (omega (arith, low, few, long)) found
-    (subst (λ (e : ℕ). IsEarliestAt trace.trace.now sites (tables_of c.args.notes.now) c.args.s c.args.access e) c.if-earliest.true (c.earliest_at-earliest.ensures sites kept))
+    (subst (λ (e : ℕ). IsEarliest trace.trace.now (tables_of c.args.notes.now) c.args.s (λ _ _. ⊤) c.args.access e) c.if-earliest.true (c.earliest_at-earliest.ensures sites kept))
 
 pub returns-clause-told : goal.returns-clause-told
 returns-clause-told g c kept found =
@@ -33,7 +34,7 @@ returns-clause-told g c kept found =
     let sites = c.args.sites.now.sites.items in
     let at = read_same sites c.deref.result.now c.args.s c.in-Some.site.now c.deref.ensures.value c.in-Some.ensures.lookup.3.0 c.in-Some.ensures.lookup.1 in
     let least = c.earliest_at-earliest.ensures sites kept in
-    let offered = c.in_ok-offer.ensures.offered trace (c.args.access.event + 1) found (offered_race trace sites (tables_of c.args.notes.now) c.args.access c.args.s c.earliest_at-earliest.result c.in-Some.site.now _ c.requires.access at c.if-site-access.false least c.if-earliest.false refl refl) in
+    let offered = c.in_ok-offer.ensures.offered trace (c.args.access.event + 1) found (offered_race trace sites (tables_of c.args.notes.now) c.args.access c.args.s c.earliest_at-earliest.result c.in-Some.site.now c.requires.access kept at c.if-site-access.false least c.if-earliest.false) in
     told_offered trace sites (tables_of c.args.notes.now) c.args.access c.args.s c.earliest_at-earliest.result c.in-Some.site.now c.args.found.now.races.entries c.offer.new.self.races.entries c.requires.access kept at least c.if-earliest.false offered
 
 pub returns-clause-numbered : goal.returns-clause-numbered

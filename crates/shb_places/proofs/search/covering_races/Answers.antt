@@ -8,8 +8,8 @@ use Rattle.shb_lines.specs.text.TraceData.{TraceData}
 use Rattle.shb_clocks.specs.SweepData.{SweepData}
 use Rattle.shb_links.proofs.Owners.{variable_sized}
 use Rattle.shb_pairs.specs.Open.{AreOpen}
-use Rattle.shb_places.specs.Covering.{Covers, FoundRace}
-use Rattle.shb_places.specs.Firsts.{AreFirsts}
+use Rattle.shb_places.specs.Found.{Covers, FoundRace}
+use Rattle.shb_places.specs.Access.{AreFirsts}
 use Rattle.shb_places.specs.Searched.{AreSearched}
 use Rattle.shb_places.proofs.FirstLemmas.{places_apart}
 use Rattle.shb_places.proofs.TakeLemmas.{searched_all}
@@ -63,4 +63,4 @@ returns g c =
     let all : c.loop-e.e ≡ length trace.events.now = omega arith in
     let same = ap length trace.of_trace in
     searched_all trace.trace.now c.args.flags.now kept.sites kept.notes kept.wanted.items kept.found c.loop-e.e (omega (arith, all, same)) c.loop-e.invariant.searched
-    (places_apart trace.trace.now c.loop-e.locations.known c.loop-e.locations.firsts.items c.loop-e.e kept.found.races.entries c.loop-e.invariant.firsts c.are_different.ensures c.loop-e.invariant.searched.found c.loop-e.invariant.numbered.of_places c.are_different-2.ensures)
+    (places_apart trace.trace.now c.loop-e.locations.known c.loop-e.locations.firsts.items c.loop-e.e kept.found.races.entries c.loop-e.invariant.firsts c.are_different.ensures c.loop-e.invariant.searched.asked.found c.loop-e.invariant.numbered.of_places c.are_different-2.ensures)

@@ -1,5 +1,5 @@
 use Rattle.std.proofs.Common.{◌≡◌}
-use Rattle.shb_places.specs.Firsts.{AreFirsts, AreNumbered}
+use Rattle.shb_places.specs.Access.{AreFirsts, AreNumbered}
 use Rattle.shb_places.specs.Searched.{AreSearched}
 use Rattle.shb_places.proofs.search.covering_races.Given as goal
 

@@ -2,8 +2,7 @@ use Rattle.std.proofs.Common.{ℕ}
 use Rattle.shb_lines.specs.text.TraceData.{TraceData}
 use Rattle.shb_places.specs.Access.{IsAccess}
 use Rattle.shb_places.specs.Found.{AreFound}
-use Rattle.shb_places.specs.Sites.{AreSites}
-use Rattle.shb_places.specs.Wanted.{AreHeld}
+use Rattle.shb_places.specs.Sites.{AreHeld, AreSites}
 use Rattle.shb_places.proofs.WantedLemmas.{AreLookedFrom}
 use Rattle.shb_places.proofs.wanted.look_from.Given as goal
 

@@ -1,7 +1,7 @@
 use Rattle.std.proofs.Common.{◌≡◌, ◌<◌, List, ℕ, length}
 use Rattle.shb_lines.specs.text.TraceData.{TraceData}
-use Rattle.shb_places.specs.Covering.{FoundRace}
-use Rattle.shb_places.specs.Wanted.{AreWanted}
+use Rattle.shb_places.specs.Found.{FoundRace}
+use Rattle.shb_places.specs.Sites.{AreWanted}
 use Rattle.shb_places.specs.declared.sites.Site.{Site}
 use Rattle.shb_places.proofs.wanted.make_room.Given as goal
 

@@ -1,6 +1,5 @@
 use Rattle.std.proofs.Common.{rules, ◌+◌, ◌++◌, ◌∷◌, [], arith, ap, false, flat_map, length, length-append, sym, Ok, Err}
-use Rattle.shb_pairs.specs.Pieces.{pieces_in}
-use Rattle.shb_pairs.specs.Races.{joined, races_at}
+use Rattle.shb_pairs.specs.Races.{joined, pieces_in, races_at}
 use Rattle.shb_write.specs.Blocks.{WritesBlocks}
 use Rattle.shb_write.specs.Listed.{IsRaceOf, races_found}
 use Rattle.shb_write.specs.declared.errors.WriteError.{WriteError}
@@ -13,11 +12,7 @@ pub stream-requires-after_bounds : goal.stream-requires-after_bounds
 stream-requires-after_bounds g c κs within k given out inside first next =
     let f = races_at c.args.search.now.job.now in
     let stands = given_stand f (k + 1) (given ++ out ∷ []) (values_next joined f k given out first next) (length (pieces_in c.args.search.now.job.now)) (omega (arith, inside)) in
-    record {
-      room = omega (arith, c.requires.room, ap length stands.1, length-append (flat_map joined (given ++ out ∷ [])) stands.0);
-      countable = c.requires.countable;
-      in_range = all_front (IsRaceOf c.args.trace.now) _ _ _ stands.1 c.requires.races;
-    }
+    (omega (arith, c.requires.room, ap length stands.1, length-append (flat_map joined (given ++ out ∷ [])) stands.0), c.requires.countable, all_front (IsRaceOf c.args.trace.now) _ _ _ stands.1 c.requires.races)
 
 pub returns-in-Ok-clause-blocks : goal.returns-in-Ok-clause-blocks
 returns-in-Ok-clause-blocks g c =

@@ -2,7 +2,7 @@ use Rattle.std.proofs.Common.{All, ◌∙◌, ap, map, subst, sym}
 use Rattle.shb_lines.specs.events.Race.{ends}
 use Rattle.shb_write.specs.Listed.{IsRaceOf, races_found}
 use Rattle.shb_write.proofs.Counting.{kept_there}
-use Rattle.shb_write.proofs.Pieces.{pairs_of_trace}
+use Rattle.shb_counts.proofs.PieceLemmas.{pairs_of_trace}
 use Rattle.shb_write.proofs.searched.list_blocks.Goals as goal
 
 pub write_listed-requires-clause-in_range : goal.write_listed-requires-clause-in_range

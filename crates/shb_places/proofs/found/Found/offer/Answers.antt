@@ -1,7 +1,6 @@
 use Rattle.std.proofs.Common.{List, subst, sym}
-use Rattle.shb_places.specs.Covering.{FoundRace}
-use Rattle.shb_places.specs.Firsts.{HaveFirsts}
-use Rattle.shb_places.specs.Found.{IsOffered}
+use Rattle.shb_places.specs.Found.{FoundRace, IsOffered}
+use Rattle.shb_places.specs.Access.{HaveFirsts}
 use Rattle.shb_places.proofs.FoundLemmas.{have_put, offered_kept, offered_put}
 use Rattle.shb_places.proofs.found.Found.offer.Goals as goal
 

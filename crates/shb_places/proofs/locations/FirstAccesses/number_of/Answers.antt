@@ -1,7 +1,6 @@
 use Rattle.std.proofs.Common.{◌≡◌, ℕ, List, Some, arith, length, slice_get, refl, subst, sym}
 use Rattle.std.proofs.lemmas.Option.{slice_get_read}
-use Rattle.shb_places.specs.Access.{IsLocatedAt}
-use Rattle.shb_places.specs.Firsts.{AreFirsts}
+use Rattle.shb_places.specs.Access.{AreFirsts, IsLocatedAt}
 use Rattle.shb_places.proofs.FirstLemmas.{first_known, first_more, located_at}
 use Rattle.shb_places.proofs.Lists.{get_contains}
 use Rattle.shb_places.proofs.locations.FirstAccesses.number_of.Goals as goal

@@ -2,15 +2,14 @@ use Rattle.std.proofs.Common.{◌+◌, subst, sym}
 use Rattle.std.proofs.lemmas.Result.{on_ok_weaker}
 use Rattle.shb_places.specs.declared.notes.Notes.{Notes}
 use Rattle.shb_places.specs.declared.sites.Sites.{Sites}
-use Rattle.shb_places.specs.Firsts.{AreNumbered}
+use Rattle.shb_places.specs.Access.{AreNumbered}
 use Rattle.shb_places.specs.Notes.{AreKept, IsAdded, tables_of}
 use Rattle.shb_places.specs.Searched.{AreSearched}
 use Rattle.shb_places.proofs.FirstLemmas.{numbered_site}
 use Rattle.shb_places.proofs.Lists.{on_ok_always}
 use Rattle.shb_places.proofs.NoteLemmas.{local_of, within_of}
 use Rattle.shb_pairs.proofs.Found.{accessed_within}
-use Rattle.shb_places.proofs.SearchLemmas.{can_add}
-use Rattle.shb_places.proofs.TakeLemmas.{can_ask, links_within, taken_all}
+use Rattle.shb_places.proofs.TakeLemmas.{links_within, searched_more, taken_all}
 use Rattle.shb_places.proofs.search.Search.take.Goals as goal
 
 pub ask-requires-clause-in_range : goal.ask-requires-clause-in_range
@@ -26,12 +25,12 @@ returns-clause-searched g c flags is_so h =
     let trace = c.args.ordered.now.disciplined.now.trace.now in
     let own = c.args.self.now in
     let more = c.number_of.new.self in
-    let able = can_ask trace flags own.sites more own.notes own.wanted.items own.found c.args.access h c.in_ok-s.ensures.more in
-    let asked = c.in_ok-ask.ensures.asked c.in_ok-s.ensures.site able in
-    let kept = subst (λ (n : Notes). AreKept trace more.sites.items (tables_of n) c.args.access.event) (sym c.in_ok-ask.ensures.notes) able.kept in
+    let there = searched_more trace flags own.sites more own.notes own.wanted.items own.found c.args.access.event h c.in_ok-s.ensures.more in
+    let asked = c.in_ok-ask.ensures.asked flags is_so c.in_ok-s.ensures.site there in
+    let kept = subst (λ (n : Notes). AreKept trace more.sites.items (tables_of n) c.args.access.event) (sym c.in_ok-ask.ensures.notes) there.kept in
     let time = local_of trace.events _ _ _ c.args.access.event c.args.ordered.now.linked c.args.ordered.now.disciplined.now.of_trace c.local-local.ensures.time c.args.access.thread c.requires.access.thread in
-    on_ok_weaker c.add.result (λ added. subst (λ (t : Sites). AreSearched trace flags t c.add.new.self c.ask.new.self.wanted.items c.ask.new.self.found (c.args.access.event + 1)) (sym c.in_ok-ask.ensures.sites) (taken_all trace flags own.sites more own.notes c.add.new.self own.wanted.items c.ask.new.self.wanted.items own.found c.ask.new.self.found c.in_ok-s.s c.args.access c.requires.access is_so h c.in_ok-s.ensures.more c.in_ok-s.ensures.site asked (subst (λ (n : Notes). IsAdded trace more.sites.items (tables_of n) (tables_of c.add.new.self) c.in_ok-s.s c.args.access.event) c.in_ok-ask.ensures.notes added)))
-    (c.add.ensures trace more.sites.items (can_add trace more.sites.items (tables_of c.ask.new.self.notes) c.in_ok-s.s c.local-local.result c.args.access kept c.in_ok-s.ensures.site c.requires.access time))
+    on_ok_weaker c.add.result (λ added. subst (λ (t : Sites). AreSearched trace flags t c.add.new.self c.ask.new.self.wanted.items c.ask.new.self.found (c.args.access.event + 1)) (sym c.in_ok-ask.ensures.sites) (taken_all trace flags more own.notes c.add.new.self own.wanted.items c.ask.new.self.wanted.items own.found c.ask.new.self.found c.in_ok-s.s c.args.access.event there asked (subst (λ (n : Notes). IsAdded trace more.sites.items (tables_of n) (tables_of c.add.new.self) c.in_ok-s.s c.args.access.event) c.in_ok-ask.ensures.notes added)))
+    (c.add.ensures trace more.sites.items (record { kept = kept; site = c.in_ok-s.ensures.site; is_access = c.requires.access; time = time }))
 
 pub returns-clause-numbered : goal.returns-clause-numbered
 returns-clause-numbered g c firsts here h =
