@@ -90,36 +90,6 @@ fn stops_between(rt: HostRuntime) -> Result<(), Fail> {
 }
 
 #[test]
-fn draws_from_nothing(rt: HostRuntime) -> Result<(), Fail> {
-    let (tickets, mut passes) = Tickets::new(rt.alloc(), 0, 1)?;
-    let Some(mut a) = passes.pop() else {
-        unreachable!()
-    };
-    expect_draw(&rt, &tickets, &mut a, None);
-    expect_draw(&rt, &tickets, &mut a, None);
-    passes.push(a)?;
-    expect_end(&rt, tickets.close(passes), 0, false);
-    Ok(())
-}
-
-#[test]
-fn stops_after_each_draw(rt: HostRuntime) -> Result<(), Fail> {
-    for drawn in 0..4u64 {
-        let (tickets, mut a, mut b) = two(rt.alloc(), 3)?;
-        for k in 0..drawn {
-            expect_draw(&rt, &tickets, &mut a, Some(k));
-        }
-        tickets.stop(&mut b);
-        expect_draw(&rt, &tickets, &mut a, None);
-        expect_draw(&rt, &tickets, &mut b, None);
-        expect_draw(&rt, &tickets, &mut a, None);
-        let end = close_two(rt.alloc(), tickets, a, b)?;
-        expect_end(&rt, end, drawn, true);
-    }
-    Ok(())
-}
-
-#[test]
 fn passes_one_slot_on(rt: HostRuntime) -> Result<(), Fail> {
     let job = make_numbers(65, &[], None);
     let (ring, mut seats) = Ring::new(rt.alloc(), &job)?;
@@ -200,13 +170,6 @@ impl Taker<u64> for Counter {
         self.taken = self.taken.saturating_add(1);
         Ok(())
     }
-}
-
-#[test]
-fn numbers_of_workers(rt: HostRuntime) {
-    holds(&rt, Workers::new(0).is_none(), "no workers");
-    holds(&rt, Workers::new(65).is_none(), "65 workers");
-    same(&rt, &so_many(&rt, 64).get(), &64, "64 workers");
 }
 
 /// Streams a job of so many pieces, and asserts that all are drawn and taken in order.

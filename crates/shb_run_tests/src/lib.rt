@@ -7,8 +7,6 @@
 #[cfg(test)]
 mod asserting;
 #[cfg(test)]
-mod check;
-#[cfg(test)]
 mod counters;
 #[cfg(test)]
 mod fan;

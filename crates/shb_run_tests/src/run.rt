@@ -19,14 +19,12 @@ pub fn settings<R: Abort>(rt: &R, workers: u32, schedules: bool) -> Settings {
     }
 }
 
-/// A source and a sink in memory: how many bytes they move at once, the call that fails, and how
-/// many bytes the sink takes.
+/// A source and a sink in memory: how many bytes they move at once, and the call that fails.
 #[derive(Clone, Copy)]
 struct Devices {
     step: usize,
     read_fails: Option<u64>,
     write_fails: Option<u64>,
-    room: usize,
 }
 
 /// Devices that move so many bytes at once, and never fail.
@@ -35,7 +33,6 @@ fn ample(step: usize) -> Devices {
         step,
         read_fails: None,
         write_fails: None,
-        room: 2000,
     }
 }
 
@@ -59,7 +56,7 @@ fn ran<R: Threads + Wait + Sync + RandomSource + AllocGlobal>(
 ) -> Result<(String, u8, Page), NoMemory> {
     let step = devices.step.max(1);
     let mut source = Text::new(trace.as_bytes(), step, devices.read_fails);
-    let mut sink = Page::new(rt.alloc(), devices.room, step, devices.write_fails)?;
+    let mut sink = Page::new(rt.alloc(), 2000, step, devices.write_fails)?;
     let answer = run(rt, rt.alloc(), &mut source, &mut sink, settings);
     let (said, status) = said_of(rt, answer)?;
     Ok((said, status, sink))
@@ -153,45 +150,16 @@ fn writes_reports(rt: HostRuntime) -> Result<(), Fail> {
     Ok(())
 }
 
-/// Runs with a sink that is written byte by byte and fails after so many.
-fn expect_cut<R: Threads + Wait + Sync + RandomSource + AllocGlobal + Abort>(
-    rt: &R,
-    trace: &str,
-    report: &[u8],
-    settings: Settings,
-    written: usize,
-) -> Result<(), NoMemory> {
-    let written = written.min(report.len());
-    let devices = Devices {
-        write_fails: Some(written as u64 + 1),
-        ..ample(1)
-    };
-    let wanted = failed("cannot write", report.split_at(written).0);
-    expect_run(rt, trace, devices, settings, wanted)
-}
-
 #[test]
 fn says_that_the_sink_failed(rt: HostRuntime) -> Result<(), Fail> {
     for written in 0..REPORT.len() {
-        expect_cut(&rt, TRACE, REPORT, settings(&rt, 4, true), written)?;
+        let devices = Devices {
+            write_fails: Some(written as u64 + 1),
+            ..ample(1)
+        };
+        let wanted = failed("cannot write", REPORT.split_at(written).0);
+        expect_run(&rt, TRACE, devices, settings(&rt, 4, true), wanted)?;
     }
-    Ok(())
-}
-
-#[test]
-fn fills_the_sink(rt: HostRuntime) -> Result<(), Fail> {
-    let room = REPORT.len() - 1;
-    let devices = Devices {
-        room,
-        ..ample(4096)
-    };
-    let wanted = failed("cannot write", REPORT.split_at(room).0);
-    expect_run(&rt, TRACE, devices, settings(&rt, 4, true), wanted)?;
-    let devices = Devices {
-        room: room + 1,
-        ..ample(4096)
-    };
-    expect_run(&rt, TRACE, devices, settings(&rt, 4, true), done(REPORT))?;
     Ok(())
 }
 
@@ -238,60 +206,6 @@ fn reads_before_it_judges(rt: HostRuntime) -> Result<(), Fail> {
             }
         };
         expect_run(&rt, TWO_FAULTS, devices, settings(&rt, 4, true), wanted)?;
-    }
-    Ok(())
-}
-
-/// Three races of one variable.
-const THREE_RACES: &str = "T1|w(x)\nT2|w(x)\nT3|r(x)\n";
-
-const THREE_RACES_REPORT: &[u8] = b"shb-report 2\n\
-     events 3 threads 3 locks 0 variables 1\n\
-     races 3\n\
-     places 1\n\
-     place 1: 3\n\
-     at \n\
-     and \n\
-     race 1: 1 2\n\
-     first T1|w(x)\n\
-     second T2|w(x)\n\
-     schedule 0:\n\
-     race 2: 1 3\n\
-     first T1|w(x)\n\
-     second T3|r(x)\n\
-     schedule 0:\n\
-     race 3: 2 3\n\
-     first T2|w(x)\n\
-     second T3|r(x)\n\
-     schedule 0:\n\
-     end\n";
-
-#[test]
-fn workers_change_nothing(rt: HostRuntime) -> Result<(), Fail> {
-    for workers in [1, 2, 64] {
-        let settings = settings(&rt, workers, true);
-        expect_run(
-            &rt,
-            THREE_RACES,
-            ample(1),
-            settings,
-            done(THREE_RACES_REPORT),
-        )?;
-        let reads = Devices {
-            read_fails: Some(3),
-            ..ample(1)
-        };
-        expect_run(
-            &rt,
-            THREE_RACES,
-            reads,
-            settings,
-            failed("cannot read", b""),
-        )?;
-        // The sink fails in the head, and in each block, while workers make schedules.
-        for written in [19, 88, 130, 180, 230, 251] {
-            expect_cut(&rt, THREE_RACES, THREE_RACES_REPORT, settings, written)?;
-        }
     }
     Ok(())
 }

@@ -2,7 +2,7 @@
 ghost use Rattle.std.specs.Prelude.{◌≡◌, ℕ, true};
 
 use crate::asserting::{same, same_in_row};
-use crate::fixtures::{Question, asked, line_of_each};
+use crate::fixtures::{Question, asked};
 use shb_clocks::Order;
 use shb_discipline::Disciplined;
 use shb_io::NoMemory;
@@ -170,41 +170,6 @@ fn learned_times(rt: HostRuntime) -> Result<(), Fail> {
     Ok(())
 }
 
-const SMALL_TRACES: [&[u8]; 24] = [
-    PASSED_ON,
-    FORKED,
-    THREE,
-    READ,
-    BLOCKED,
-    NESTED,
-    b"",
-    b"\n\n\n",
-    b"T1|w(y)|1\nT2|r(y)|2\n",
-    b"T1|w(x)\nT2|r(x)\nT2|r(x)\n",
-    b"T1|w(x)\nT2|w(x)\nT3|r(x)\n",
-    b"T1|acq(l)\nT1|w(x)\nT1|rel(l)\nT2|w(x)\n",
-    b"T1|w(x)\nT1|fork(T2)\nT2|w(x)\n",
-    b"T1|fork(T2)\nT1|w(x)\nT2|w(x)\n",
-    b"T1|fork(T2)\nT2|w(x)\nT1|join(T2)\nT1|r(x)\n",
-    b"T1|w(x)\nT1|acq(l)\nT1|rel(l)\nT2|acq(l)\nT2|rel(l)\nT2|w(x)\n",
-    b"T1|w(y)|a|b\r\n\r\nT2|r(y)",
-    b"T1|r(f(a))\n",
-    b"T1|acq(l)\nT1|acq(l)\n",
-    b"T1|w(x)\nT1|w(y)\nT2|w(y)\nT2|w(x)\n",
-    b"T1|w(x)\nT2|r(x)\nT2|w(y)\nT3|w(y)\n",
-    b"T1|acq(l)\nT1|acq(l)\nT1|w(x)\nT1|rel(l)\nT1|rel(l)\nT2|acq(l)\nT2|rel(l)\nT3|w(x)\n",
-    b"T1|begin\nT1|w(x)\nT1|end\nT2|begin(m)\nT2|w(x)\nT2|end()\n",
-    b"T1|w(x)|a\nT2|w(x)|a\nT3|w(x)|b\nT4|w(x)|b\n",
-];
-
-#[test]
-fn small_traces(rt: HostRuntime) -> Result<(), Fail> {
-    for (row, text) in SMALL_TRACES.iter().enumerate() {
-        same_in_row(&rt, &asked(&rt, text, &Difference)?, &None, row);
-    }
-    Ok(())
-}
-
 /// Five lines each: a locked section of a thread in which another one writes, and a read after it.
 const SECTIONS: [&str; 16] = [
     "T0|acq(l0)\nT5|w(x0)\nT0|r(x1)\nT0|rel(l0)\nT5|r(x1)\n",
@@ -243,14 +208,6 @@ fn long_text(alloc: Global) -> Result<String, NoMemory> {
 #[test]
 fn long_trace(rt: HostRuntime) -> Result<(), Fail> {
     let text = long_text(rt.alloc())?;
-    let found = asked(&rt, text.as_bytes(), &Difference)?;
-    same(&rt, &found, &None, "an answer that differs");
-    Ok(())
-}
-
-#[test]
-fn many_threads(rt: HostRuntime) -> Result<(), Fail> {
-    let text = line_of_each(rt.alloc(), 1024, "r(a)")?;
     let found = asked(&rt, text.as_bytes(), &Difference)?;
     same(&rt, &found, &None, "an answer that differs");
     Ok(())

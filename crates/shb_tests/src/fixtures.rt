@@ -9,7 +9,7 @@ use std::alloc::Global;
 use std::test::Fail;
 
 /// A text, read whole.
-pub fn parsed(rt: &HostRuntime, text: &[u8]) -> Result<Parsed, ReadError> {
+fn parsed(rt: &HostRuntime, text: &[u8]) -> Result<Parsed, ReadError> {
     let mut source = Text::new(text, 4096, None);
     parse(rt, rt.alloc(), &mut source, &Limits::standard())
 }

@@ -1,9 +1,9 @@
-//! The tests of the crates that read and judge traces, find races and schedules and write reports, on top
-//! of them, so that no crate is proved a second time for its tests. Those of threads, devices, whole runs
-//! and the reading of reports are in `shb_run_tests`.
+//! The tests of the crates that read and judge traces and find races and schedules, on top of them, so that
+//! no crate is proved a second time for its tests. Those of threads, devices, whole runs and the reading of
+//! reports are in `shb_run_tests`.
 //!
-//! Each module has the tests of one crate, and has its name: `links` those of `shb_links`. They use
-//! public items alone.
+//! A module has the tests of one crate, and has its name: `pairs` those of `shb_pairs`. They use public
+//! items alone.
 //!
 //! A test is proved like any function, and an assertion written in it costs some 9 seconds of
 //! proof. So a test calls the functions of `asserting`: `same(&rt, &found, &wanted, "what it is")`,
@@ -20,18 +20,12 @@ mod checkpoints;
 #[cfg(test)]
 mod clocks;
 #[cfg(test)]
-mod endless;
-#[cfg(test)]
 mod fixtures;
 #[cfg(test)]
 mod lines;
 #[cfg(test)]
-mod links;
-#[cfg(test)]
 mod pairs;
 #[cfg(test)]
 mod replay;
-#[cfg(test)]
-mod report;
 #[cfg(test)]
 mod witness;

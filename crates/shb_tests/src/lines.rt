@@ -4,7 +4,6 @@ ghost use Rattle.std.specs.Prelude.{◌≡◌, ◌<◌};
 ghost use Rattle.shb_lines.specs.text.Limits.{AreStandard};
 
 use crate::asserting::{has_length, holds, same, same_bytes, same_in_row};
-use crate::endless::Endless;
 use shb_io::Text;
 use shb_lines::Fault::{
     LineTooLong, MissingField, TextTooLong, TooManyEvents, TooManyThreads, UnknownOperation,
@@ -26,8 +25,6 @@ const TWO_THREADS: Numbers = (MOST_BYTES, 4096, 4_194_304, 2);
 const ONE_EVENT: Numbers = (MOST_BYTES, 4096, 1, 1024);
 
 const EIGHT_BYTES: Numbers = (8, 4096, 4_194_304, 1024);
-
-const THOUSAND_BYTES: Numbers = (1000, 4096, 4_194_304, 1024);
 
 const LINES_OF_EIGHT_BYTES: Numbers = (MOST_BYTES, 8, 4_194_304, 1024);
 
@@ -182,17 +179,5 @@ fn events_and_names(rt: HostRuntime) -> Result<(), Fail> {
     same_bytes(&rt, trace.variable_name(0), b"f(a)", "a variable's name");
     holds(&rt, conflicts(&trace, 1, 3), "a write and a read");
     holds(&rt, !conflicts(&trace, 0, 1), "a fork and a write");
-    Ok(())
-}
-
-#[test]
-fn sources_without_end(rt: HostRuntime) -> Result<(), Fail> {
-    for (byte, line) in [(b'a', 1), (b'\n', 1001)] {
-        let mut source = Endless { byte, given: 0 };
-        let found = parse(&rt, rt.alloc(), &mut source, &limits_of(THOUSAND_BYTES))?;
-        let stop = found.stop.map(|stop| (stop.line, stop.fault));
-        same(&rt, &stop, &Some((line, TextTooLong)), "the stop");
-        same(&rt, &source.given, &1001, "bytes given");
-    }
     Ok(())
 }

@@ -1,8 +1,12 @@
 //! Which variables are open, which no clause says, and the pieces of traces with many accesses.
+ghost use Rattle.std.specs.Prelude.{◌≡◌, ℕ, true};
+
 use crate::asserting::{same, same_in_row};
 use crate::fixtures::{Question, asked, line_of_each, lines_of_one_thread};
+use shb_clocks::Order;
 use shb_discipline::Disciplined;
 use shb_fan::Job;
+use shb_io::NoMemory;
 use shb_lines::Pair;
 use shb_links::Links;
 use shb_orders::versions;
@@ -34,6 +38,31 @@ fn lines_of(race: Option<&Pair>) -> [u32; 2] {
     }
 }
 
+/// What an order finds in a piece of the search, as [`Found`] answers it.
+fn found_by<O: Order>(
+    alloc: Global,
+    order: &O,
+    trace: &Disciplined<'_>,
+    links: &Links<'_>,
+    number: u64,
+) -> Result<([u32; 7], usize), NoMemory>
+    requires of_trace { O.trace order.now ≡ trace.now.events.now }
+    requires linked { links.now ≡ trace.now.events.now }
+    requires asked { (e : ℕ) → O.asks order.now e ≡ true }
+{
+    let accesses = accesses_of(alloc, trace)?;
+    let pieces = pieces(alloc, &accesses)?;
+    let job = PairJob::new(order, trace, links, &accesses, pieces.as_slice());
+    let Some(piece) = pieces.get(number as usize) else {
+        return Ok(([0; 7], 0));
+    };
+    let races = job.run(alloc, number)?;
+    let [a, b] = lines_of(races.first());
+    let [c, d] = lines_of(races.last());
+    let found = [piece.variable, piece.from, piece.to, a, b, c, d];
+    Ok((found, races.len()))
+}
+
 /// A piece of the search among all accesses.
 #[derive(Clone, Copy)]
 struct Found {
@@ -52,17 +81,7 @@ impl Question for Found {
         links: &Links<'_>,
     ) -> Result<([u32; 7], usize), Fail> {
         let order = versions(alloc, trace, links)?;
-        let accesses = accesses_of(alloc, trace)?;
-        let pieces = pieces(alloc, &accesses)?;
-        let job = PairJob::new(&order, trace, links, &accesses, pieces.as_slice());
-        let Some(piece) = pieces.get(self.number as usize) else {
-            return Ok(([0; 7], 0));
-        };
-        let races = job.run(alloc, self.number)?;
-        let [a, b] = lines_of(races.first());
-        let [c, d] = lines_of(races.last());
-        let found = [piece.variable, piece.from, piece.to, a, b, c, d];
-        Ok((found, races.len()))
+        Ok(found_by(alloc, &order, trace, links, self.number)?)
     }
 }
 

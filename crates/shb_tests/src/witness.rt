@@ -1,8 +1,12 @@
 //! The schedules of worked traces.
+ghost use Rattle.std.specs.Prelude.{◌≡◌, ℕ, true};
+
 use crate::asserting::same_in_row;
 use crate::fixtures::{Question, asked, pair};
+use shb_clocks::Order;
 use shb_discipline::Disciplined;
 use shb_fan::Job;
+use shb_io::NoMemory;
 use shb_links::Links;
 use shb_orders::full;
 use shb_pairs::is_race;
@@ -17,6 +21,29 @@ struct Scheduled {
     second: u32,
 }
 
+/// The schedule of a race by an order.
+fn schedule_by<O: Order>(
+    alloc: Global,
+    order: &O,
+    trace: &Disciplined<'_>,
+    links: &Links<'_>,
+    race: Scheduled,
+) -> Result<Option<Vec<u32>>, NoMemory>
+    requires of_trace { O.trace order.now ≡ trace.now.events.now }
+    requires linked { links.now ≡ trace.now.events.now }
+    requires asked { (e : ℕ) → O.asks order.now e ≡ true }
+{
+    if race.first >= race.second || race.second as usize >= trace.events.len() {
+        return Ok(None);
+    }
+    if !is_race(order, trace, links, race.first, race.second) {
+        return Ok(None);
+    }
+    let pairs = [pair(race.first, race.second)];
+    let job = WitnessJob::new(order, trace, links, &pairs);
+    Ok(Some(job.run(alloc, 0)?.to_vec(alloc)?))
+}
+
 impl Question for Scheduled {
     type Answer = Option<Vec<u32>>;
 
@@ -27,15 +54,7 @@ impl Question for Scheduled {
         links: &Links<'_>,
     ) -> Result<Option<Vec<u32>>, Fail> {
         let order = full(alloc, trace, links)?;
-        if self.first >= self.second || self.second as usize >= trace.events.len() {
-            return Ok(None);
-        }
-        if !is_race(&order, trace, links, self.first, self.second) {
-            return Ok(None);
-        }
-        let pairs = [pair(self.first, self.second)];
-        let job = WitnessJob::new(&order, trace, links, &pairs);
-        Ok(Some(job.run(alloc, 0)?.to_vec(alloc)?))
+        Ok(schedule_by(alloc, &order, trace, links, *self)?)
     }
 }
 
