@@ -1,4 +1,5 @@
 -- Lemmas on texts.
+pub mod Bars
 pub mod Bytes
 pub mod Meanings
 pub mod NameLemmas

@@ -8,18 +8,18 @@ ghost use Rattle.shb_lines.specs.text.Limits.{AreStandard, most_threads};
 ghost use Rattle.shb_lines.specs.text.Spans.{StandsAt, spans_in};
 ghost use Rattle.shb_lines.specs.text.Parsed.{HasRead, lines_read, part};
 ghost use Rattle.shb_lines.specs.text.Numbers.{IsOperation, events_of, op_for};
-ghost use Rattle.shb_lines.specs.text.Reader.{AddsEvent, AllStand, HasNames, HasRoom, tables_of, with_names, with_operand};
-ghost use Rattle.shb_lines.specs.text.Reading.{named};
+ghost use Rattle.shb_lines.specs.text.Reader.{AddsEvent, AllStand, HasLast, HasNames, HasRoom, tables_of, with_names, with_operand};
+ghost use Rattle.shb_lines.specs.text.Reading.{HasNoBar, HasNumberIn, named};
 ghost use Rattle.shb_lines.specs.text.Text.{threads_among};
 ghost use Rattle.shb_lines.specs.text.TraceData.{IsReading};
 ghost use Rattle.shb_lines.specs.Lowest.{IsLowest};
 
 use crate::event::Kind;
 use crate::fault::{Fault, LineFault};
-use crate::grammar::{LineEvent, read_line};
+use crate::grammar::{KnownThread, LineEvent, read_line};
 use crate::limits::Limits;
 use crate::line::without_carriage_return;
-use crate::names::{Names, Span};
+use crate::names::Names;
 use crate::stored::Events;
 use crate::trace::Parts;
 use memchr::memchr;
@@ -55,6 +55,8 @@ pub struct Reader<'t> {
     threads: Names<'t>,
     locks: Names<'t>,
     variables: Names<'t>,
+    /// The thread of the last event.
+    last: Option<KnownThread<'t>>,
 }
 
 impl<'t> Drop for Reader<'t> {
@@ -65,6 +67,7 @@ impl<'t> Drop for Reader<'t> {
             threads: _,
             locks: _,
             variables: _,
+            last: _,
         } = self;
     }
 }
@@ -74,6 +77,7 @@ impl<'t> Reader<'t> {
     pub fn new<R: RandomSource>(rt: &R, alloc: Global) -> Result<Reader<'t>, NoMemory>
         ensures room { IfOk result HasRoom }
         ensures empty { IfOk result (λ reader. reader.events ≡ []) }
+        ensures last { IfOk result HasLast }
         ensures begun { (text : List ℕ) → IfOk result (λ reader. HasRead text reader []) }
     {
         Ok(Reader {
@@ -82,6 +86,7 @@ impl<'t> Reader<'t> {
             variables: Names::new(rt, alloc)?,
             events: Events::new(alloc),
             starts: Vec::new(alloc),
+            last: None,
         })
     }
 
@@ -127,8 +132,9 @@ impl<'t> Reader<'t> {
     }
 
     /// The number of an operand, and 0 for a mark, which has none.
-    fn operand_number(&mut self, kind: Kind, name: &'t [u8], span: Span) -> Result<u32, NoMemory>
+    fn operand_number(&mut self, kind: Kind, name: &'t [u8], start: u32) -> Result<u32, NoMemory>
         requires room { HasNames self.old (2 ^ 24) }
+        requires end { start + length name.now < 2 ^ 31 }
         ensures room { (n : ℕ) → HasNames self.old n → HasNames self.new (n + 1) }
         ensures events { self.new.events ≡ self.old.events }
         ensures starts { self.new.starts ≡ self.old.starts }
@@ -136,13 +142,14 @@ impl<'t> Reader<'t> {
             (tables_of self.new ≡ with_operand (tables_of self.old) kind name.now) }
         ensures operation { IfOk result
             (λ number. IsOperation (tables_of self.new) (op_for kind number) kind name.now) }
-        ensures stand { (text : List ℕ) → AllStand text self.old → StandsAt text name.now span
+        ensures stand { (text : List ℕ) → AllStand text self.old
+            → StandsAt text name.now (record { start = start; len = length name.now })
             → OnOk result (AllStand text self.new) }
     {
         match kind {
-            Kind::Read | Kind::Write => self.variables.number_of(name, span),
-            Kind::Acquire | Kind::Release => self.locks.number_of(name, span),
-            Kind::Fork | Kind::Join => self.threads.number_of(name, span),
+            Kind::Read | Kind::Write => self.variables.number_of(name, start),
+            Kind::Acquire | Kind::Release => self.locks.number_of(name, start),
+            Kind::Fork | Kind::Join => self.threads.number_of(name, start),
             Kind::BeginMark | Kind::EndMark => Ok(0),
         }
     }
@@ -152,28 +159,30 @@ impl<'t> Reader<'t> {
         requires room { HasNames self.old (2 ^ 23) }
         requires few { length (with_names (tables_of self.old).threads (found.now.thread.now ∷ threads_among found.now.kind found.now.operand.now)) ≤ most_threads }
         requires line { length self.old.events < line }
+        requires no_bar { HasNoBar found.now.thread.now }
+        requires number { HasNumberIn (tables_of self.old).threads found.now }
         requires thread { start + length found.now.thread.now < 2 ^ 31 }
         requires operand { start + found.now.operand_at + length found.now.operand.now < 2 ^ 31 }
         ensures room { (n : ℕ) → HasNames self.old n → OnOk result (HasNames self.new (n + 2)) }
         ensures len { OnOk result (length self.new.events ≡ length self.old.events + 1) }
+        ensures last { OnOk result (HasLast self.new) }
         ensures added { OnOk result (AddsEvent self.old self.new line (named found.now) start) }
         ensures stand { (bytes : List ℕ) → AllStand bytes self.old
             → StandsAt bytes found.now.thread.now (record { start = start; len = length found.now.thread.now })
             → StandsAt bytes found.now.operand.now (record { start = start + found.now.operand_at; len = length found.now.operand.now })
             → OnOk result (AllStand bytes self.new) }
     {
-        let thread_span = Span {
-            start,
-            len: found.thread.len() as u32,
-        };
-        let operand_span = Span {
-            start: start + found.operand_at as u32,
-            len: found.operand.len() as u32,
-        };
-        let thread = self.threads.number_of(found.thread, thread_span)?;
-        let number = self.operand_number(found.kind, found.operand, operand_span)?;
+        let thread = self
+            .threads
+            .known_or_number_of(found.number, found.thread, start)?;
+        let operand_start = start + found.operand_at as u32;
+        let number = self.operand_number(found.kind, found.operand, operand_start)?;
         self.events.push(thread, found.kind, number, line)?;
         self.starts.push(start)?;
+        self.last = Some(KnownThread {
+            name: found.thread,
+            number: thread,
+        });
         Ok(())
     }
 
@@ -193,7 +202,9 @@ impl<'t> Reader<'t> {
         requires short { length text.now < 2 ^ 31 }
         requires room { HasRoom self.old }
         requires line { length self.old.events < line }
+        requires last { HasLast self.old }
         ensures room { OnOk result (HasRoom self.new) }
+        ensures last { OnOk result (HasLast self.new) }
         ensures few { length self.old.events ≤ limits.now.events → OnOk result (length self.new.events ≤ limits.now.events) }
         ensures each { OnOk result (length self.new.events ≤ line) }
         // After the events of some lines, the fault is the lowest that the line has.
@@ -214,7 +225,7 @@ impl<'t> Reader<'t> {
             return Ok(Some(Fault::LineTooLong));
         }
         let bytes = without_carriage_return(raw);
-        let found = match read_line(bytes) {
+        let found = match read_line(bytes, self.last) {
             Ok(None) => return Ok(None),
             Ok(Some(found)) => found,
             Err(fault) => return Ok(Some(fault)),
@@ -239,6 +250,7 @@ impl<'t> Reader<'t> {
         requires short { length text.now ≤ limits.now.text + 1 }
         requires empty { self.old.events ≡ [] }
         requires room { HasRoom self.old }
+        requires last { HasLast self.old }
         requires begun { HasRead text.now self.old [] }
         ensures room { OnOk result (HasRoom self.new) }
         ensures few { OnOk result (length self.new.events ≤ limits.now.events) }
@@ -274,6 +286,7 @@ impl<'t> Reader<'t> {
             threads: _,
             locks: _,
             variables: _,
+            last: _,
         } = self;
         Ok(Parts {
             events,

@@ -1,5 +1,5 @@
 //! Reads the bytes of a source.
-ghost use Rattle.std.specs.Prelude.{◌≡◌, ◌+◌, ◌-◌, ◌^◌, ◌<◌, ◌≤◌, ◌++◌, ℕ, List, length, vec_len, IfOk};
+ghost use Rattle.std.specs.Prelude.{◌+◌, ◌-◌, ◌^◌, ◌<◌, ◌≤◌, vec_len, IfOk};
 ghost use Rattle.std.specs.Io.KnownBytes.{Consumes, IsAtEnd};
 ghost use Rattle.shb_io.specs.Devices.{CountsFailure};
 ghost use Rattle.shb_lines.specs.text.Limits.{most_bytes};
@@ -11,42 +11,6 @@ use std::alloc::Global;
 
 /// How many bytes are read at once: few reads, and no more memory than the text soon takes itself.
 const READ_SIZE: usize = 1 << 20;
-
-/// Room for the bytes of one read.
-fn new_buffer(alloc: Global) -> Result<Vec<u8>, NoMemory>
-    ensures { IfOk result (λ buffer. vec_len buffer ≡ 2 ^ 20) }
-{
-    Ok(vec![in alloc; 0; READ_SIZE]?)
-}
-
-/// Reads once, at most `room` bytes, puts them after the text, and says how many there were.
-fn read_onto<S: Source>(
-    source: &mut S,
-    text: &mut Vec<u8>,
-    buffer: &mut [u8],
-    room: usize,
-) -> Result<usize, ReadError>
-    requires countable { S.failure_count source.old < 2 ^ 64 - 1 }
-    requires some { 0 < room }
-    requires within { room ≤ length buffer.old }
-    ensures bound { IfOk result (λ count. count ≤ room) }
-    ensures grown { IfOk result (λ count. vec_len text.new ≡ vec_len text.old + count) }
-    ensures bytes { IfOk result (λ count. (bytes : List ℕ) × (text.new.items ≡ text.old.items ++ bytes)
-        × Consumes (S.remaining source.old) (S.remaining source.new) bytes) }
-    ensures end { IfOk result (λ count. count ≡ 0 → IsAtEnd (S.remaining source.new)) }
-    ensures taken { TakesAtMost room (S.remaining source.old) (S.remaining source.new) }
-    ensures given { S.given_count source.new ≤ S.given_count source.old + room }
-    ensures given_ok { IfOk result (HasGiven (S.given_count source.old) (S.given_count source.new)) }
-    ensures counted { CountsFailure read_failed (S.failure_count source.old) (S.failure_count source.new) result }
-{
-    let Ok(count) = source.read(&mut buffer[..room]) else {
-        return Err(ReadError::Source);
-    };
-    match text.extend_from_slice(&buffer[..count]) {
-        Ok(()) => Ok(count),
-        Err(refused) => Err(ReadError::Memory(NoMemory::from(refused))),
-    }
-}
 
 /// Reads the source to its end, or to one byte more than the limit.
 pub fn read_whole<S: Source>(
@@ -66,12 +30,19 @@ pub fn read_whole<S: Source>(
 {
     let most = limit as usize + 1;
     let mut text = Vec::new(alloc);
-    let mut buffer = new_buffer(alloc)?;
-    while text.len() < most {
-        let room = READ_SIZE.min(most - text.len());
-        if read_onto(source, &mut text, &mut buffer, room)? == 0 {
+    let mut filled = 0;
+    while filled < most {
+        if let Err(refused) = text.resize(most.min(filled + READ_SIZE), 0) {
+            return Err(ReadError::Memory(NoMemory::from(refused)));
+        }
+        let Ok(count) = source.read(&mut text[filled..]) else {
+            return Err(ReadError::Source);
+        };
+        if count == 0 {
             break;
         }
+        filled += count;
     }
+    text.truncate(filled);
     Ok(text)
 }

@@ -1,5 +1,5 @@
 -- What a reader holds.
-use Rattle.std.specs.Prelude.{◌≡◌, ◌*◌, ◌≤◌, ℕ, List, [], ◌∷◌, ◌++◌, fold, length}
+use Rattle.std.specs.Prelude.{◌≡◌, ◌*◌, ◌≤◌, ℕ, List, [], ◌∷◌, ◌++◌, fold, length, IfSome}
 use Rattle.indexmap.specs.IndexMap.{index_map_len}
 use Rattle.shb_lines.specs.declared.event.Event.{Event}
 use Rattle.shb_lines.specs.declared.event.Kind.{Kind}
@@ -8,6 +8,7 @@ use Rattle.shb_lines.specs.text.Grammar.{NamedEvent}
 use Rattle.shb_lines.specs.text.Spans.{StandIn, names_in}
 use Rattle.shb_lines.specs.text.Names.{with_name}
 use Rattle.shb_lines.specs.text.Numbers.{IsNumbered, Tables}
+use Rattle.shb_lines.specs.text.Reading.{HasNoBar, IsNumberedIn}
 use Rattle.shb_lines.specs.text.Text.{locks_among, threads_among, variables_among}
 
 -- at most n names in each name space
@@ -35,6 +36,10 @@ with_operand tables kind name = record {
   locks = with_names tables.locks (locks_among kind name);
   variables = with_names tables.variables (variables_among kind name);
 }
+
+-- the last thread, if there is one, has no bar in its name and its number among the threads
+abbrev pub HasLast : Reader → Type 0
+HasLast reader = IfSome reader.last (λ last. HasNoBar last.name.now × IsNumberedIn (tables_of reader).threads last)
 
 -- the reader has one event more, that of a line with these names that begins at this offset
 pub record AddsEvent (old new : Reader) (line : ℕ) (named : NamedEvent) (start : ℕ) : Type 0 where

@@ -1,8 +1,11 @@
 -- What a line's reading says, without where its bytes lie in memory.
-use Rattle.std.specs.Prelude.{◌≡◌, ◌+◌, ◌≤◌, List, ℕ, length, take, drop, Option, None, Some, Result, Ok, Err}
+use Rattle.std.specs.Prelude.{◌≡◌, ◌+◌, ◌≤◌, List, ℕ, length, take, drop, slice_get, Option, None, Some, Result, Ok, Err, IfSome}
+use Rattle.std.specs.List.{before_first}
 use Rattle.shb_lines.specs.declared.fault.Fault.{Fault}
+use Rattle.shb_lines.specs.declared.grammar.KnownThread.{KnownThread}
 use Rattle.shb_lines.specs.declared.grammar.LineEvent.{LineEvent}
 use Rattle.shb_lines.specs.text.Grammar.{NamedEvent, Meaning}
+use Rattle.shb_lines.specs.text.Meaning.{is_bar}
 
 abbrev pub named : LineEvent → NamedEvent
 named e = record { thread = e.thread.now; kind = e.kind; operand = e.operand.now }
@@ -18,3 +21,14 @@ pub record IsInLine (line : List ℕ) (e : LineEvent) : Type 0 where
   pub thread : e.thread.now ≡ take (length e.thread.now) line
   pub operand_within : e.operand_at + length e.operand.now ≤ length line
   pub operand : e.operand.now ≡ take (length e.operand.now) (drop e.operand_at line)
+
+abbrev pub HasNoBar : List ℕ → Type 0
+HasNoBar name = before_first is_bar name ≡ name
+
+-- the thread has its number among these names
+abbrev pub IsNumberedIn : List (List ℕ) → KnownThread → Type 0
+IsNumberedIn names known = slice_get names known.number ≡ Some known.name.now
+
+-- the thread of an event has its number among these names, where it is given
+abbrev pub HasNumberIn : List (List ℕ) → LineEvent → Type 0
+HasNumberIn names e = IfSome e.number (λ number. slice_get names number ≡ Some e.thread.now)

@@ -5,5 +5,5 @@ use Rattle.std.proofs.lemmas.Option.{slice_get-map}
 use Rattle.std.proofs.lemmas.Slice.Eq.{bytes_eq-Decides}
 use Rattle.shb_lines.proofs.names.Names.is_named.Goals as goal
 
-pub returns-in-Some-clause-number : goal.returns-in-Some-clause-number
-returns-in-Some-clause-number c = grind (arith, common_steps, slice_get-map, option_map, c.get_index.ensures.entry, c.in-Some.is, bytes_eq-Decides, c.eq.ensures)
+pub returns-in-Some : goal.returns-in-Some
+returns-in-Some c = grind (arith, common_steps, slice_get-map, option_map, c.get_index.ensures.entry, c.in-Some.is, bytes_eq-Decides, c.eq.ensures)

@@ -1,17 +1,18 @@
 -- Each return answers the lowest fault of the line, and keeps or lengthens the trace.
 use Rattle.std.proofs.lemmas.Grind.{common_steps}
-use Rattle.std.proofs.Common.{◌≡◌, ◌==◌, ◌-◌, ◌<◌, ◌≤◌, Bool, IfSome, List, Ok, Some, ap, arith, drop, false, length, nat_lt, refl, subst, sym, take, true, ℕ, ◌∙◌}
+use Rattle.std.proofs.Common.{◌≡◌, ◌==◌, ◌-◌, ◌<◌, ◌≤◌, Bool, IfSome, List, None, Ok, Option, Some, ap, arith, drop, false, length, nat_lt, refl, subst, sym, take, true, ℕ, ◌∙◌}
 use Rattle.std.proofs.lemmas.Bool.Decides.{nat_tests}
 use Rattle.std.specs.List.{position_or_len}
 use Rattle.std.specs.Str.Lines.{strip_carriage_return}
+use Rattle.shb_lines.specs.declared.grammar.KnownThread.{KnownThread}
 use Rattle.shb_lines.specs.declared.names.Span.{Span}
 use Rattle.shb_lines.specs.text.Grammar.{Meaning}
 use Rattle.shb_lines.specs.text.Meaning.{meaning}
 use Rattle.shb_lines.specs.text.Spans.{IsLineFrom, StandsAt}
 use Rattle.shb_lines.specs.text.Numbers.{events_of}
 use Rattle.shb_lines.specs.text.Parsed.{part}
-use Rattle.shb_lines.specs.text.Reader.{AddsEvent}
-use Rattle.shb_lines.specs.text.Reading.{IsInLine, meaning_of, named}
+use Rattle.shb_lines.specs.text.Reader.{AddsEvent, tables_of}
+use Rattle.shb_lines.specs.text.Reading.{HasNoBar, HasNumberIn, IsInLine, IsNumberedIn, meaning_of, named}
 use Rattle.shb_lines.proofs.text.FaultLemmas.{accepted, refused, too_many_events, too_many_threads}
 use Rattle.shb_lines.proofs.text.LineLemmas.{StandsAt-front, StandsAt-inner, StandsAt-part, length-events_of, length-threads_of}
 use Rattle.shb_lines.proofs.text.TraceLemmas.{HasRead-none, HasRead-some}
@@ -31,6 +32,17 @@ denied b P to fails p = let passes = to p in cc
 -- what the bytes of the line mean
 gives : (line bytes : List ℕ) (m n : Meaning) → bytes ≡ strip_carriage_return line → m ≡ meaning bytes → m ≡ n → meaning (strip_carriage_return line) ≡ n
 gives line bytes m n bytes_are is same = ap meaning (sym bytes_are) ∙ sym is ∙ same
+
+-- the last thread has its number
+numbered : (names : List (List ℕ)) (last : Option KnownThread) → IfSome last (λ last. HasNoBar last.name.now × IsNumberedIn names last) → IfSome last (IsNumberedIn names)
+numbered names None h = tt
+numbered names (Some last) h = h.1
+
+pub add_event-requires-clause-number : goal.add_event-requires-clause-number
+add_event-requires-clause-number c =
+    let self = c.args.self.now in
+    let names = (tables_of self).threads in
+    subst (λ o. IfSome o (HasNumberIn names)) c.in-Ok-Some.field-0-is (c.in-Ok-Some.ensures.number names (numbered names self.last c.requires.last))
 
 pub returns-in-Ok-None-clause-read : goal.returns-in-Ok-None-clause-read
 returns-in-Ok-None-clause-read c = λ lines h line_is.

@@ -43,6 +43,7 @@ loop-start-preserved c =
       counted = omega (arith, line.order, loop.invariant.counted);
       within = omega (arith, end_within);
       room = c.in_ok-fault.ensures.room;
+      last = c.in_ok-fault.ensures.last;
       each = c.in_ok-fault.ensures.each;
       few = c.in_ok-fault.ensures.few loop.invariant.few;
       begins = line.next;

@@ -2,7 +2,7 @@
 use Rattle.std.proofs.Common.{◌+◌, ◌-◌, ◌<◌, ◌≤◌, length, take}
 use Rattle.shb_lines.specs.text.Faults.{HasNoLineFaultBefore}
 use Rattle.shb_lines.specs.text.Parsed.{HasRead}
-use Rattle.shb_lines.specs.text.Reader.{HasRoom}
+use Rattle.shb_lines.specs.text.Reader.{HasLast, HasRoom}
 use Rattle.shb_lines.specs.text.Text.{lines_of}
 use Rattle.shb_lines.proofs.text.Scanning.{IsStart}
 use Rattle.shb_lines.proofs.reader.Reader.take_lines.Given as goal
@@ -12,6 +12,7 @@ invariant-loop-start l = record {
   counted : l.line ≤ l.start;
   within : l.start ≤ length l.text + 1;
   room : HasRoom l.self;
+  last : HasLast l.self;
   each : length l.self.events ≤ l.line;
   few : length l.self.events ≤ l.limits.events;
   begins : IsStart l.text l.line l.start;
