@@ -303,6 +303,7 @@ impl Stamps {
 
     /// Takes the event e. Where there are many rows then, those that nothing names are freed. Says
     /// whether the rows were moved for that, and so have other numbers.
+    #[inline(always)]
     pub fn pass(&mut self, alloc: Global, linked: &Linked<'_>, e: u32) -> Result<bool, NoMemory>
         requires in_range { e < length linked.now.events.now }
         requires swept { IsSwept linked.now.events.now e linked.now.sizes self.old }

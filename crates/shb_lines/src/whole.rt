@@ -10,7 +10,7 @@ use shb_io::{NoMemory, Source};
 use std::alloc::Global;
 
 /// How many bytes are read at once: few reads, and no more memory than the text soon takes itself.
-const READ_SIZE: usize = 1 << 20;
+const READ_SIZE: usize = 1 << 16;
 
 /// Reads the source to its end, or to one byte more than the limit.
 pub fn read_whole<S: Source>(
