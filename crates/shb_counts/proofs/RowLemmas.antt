@@ -23,9 +23,13 @@ row_stays classes k rows counts many j less = grind (arith, common_steps, row_wi
 row_last : (classes k : ℕ) (rows counts : List ℕ) → length rows ≡ k * classes → length counts ≡ classes → row_at classes (rows ++ counts) k ≡ counts
 row_last classes k rows counts many long = grind (arith, common_steps, drop-append_seam, take_all)
 
+-- one stride more
+pub counts_next : (classes stride k : ℕ) (numbers old new : List ℕ) → HasCounts (λ n. n) classes (take (k * stride) numbers) old → HasCounts (λ n. n) (length old) (take (k * stride + stride) numbers) new → HasCounts (λ n. n) classes (take ((k + 1) * stride) numbers) new
+counts_next classes stride k numbers old new has more = subst (λ (m : ℕ). HasCounts (λ n. n) m (take ((k + 1) * stride) numbers) new) has.as_many (subst (λ (m : ℕ). HasCounts (λ n. n) (length old) (take m numbers) new) (sym (next_product k stride)) more)
+
 -- one row more
-pub rows_more : (classes stride k : ℕ) (numbers rows counts all : List ℕ) → all ≡ rows ++ counts → HasCounts (λ n. n) classes (take (k * stride) numbers) counts → HasRows classes stride numbers k rows → HasRows classes stride numbers (k + 1) all
-rows_more classes stride k numbers rows counts all grown has h = subst (λ (l : List ℕ). HasRows classes stride numbers (k + 1) l) (sym grown) (record {
+pub rows_more : (classes stride k : ℕ) (numbers rows counts seen all : List ℕ) → all ≡ rows ++ seen → seen ≡ counts → HasCounts (λ n. n) classes (take (k * stride) numbers) counts → HasRows classes stride numbers k rows → HasRows classes stride numbers (k + 1) all
+rows_more classes stride k numbers rows counts seen all grown same has h = subst (λ (l : List ℕ). HasRows classes stride numbers (k + 1) l) (sym (grown ∙ ap (λ (l : List ℕ). rows ++ l) same)) (record {
   as_many = (let long = length-append rows counts in omega (arith, long, has.as_many, h.as_many, next_product k classes));
   each = λ j lt. elim (cases_lt j k) [
     | inl less ↦ subst (λ (row : List ℕ). HasCounts (λ n. n) classes (take (j * stride) numbers) row) (sym (row_stays classes k rows counts h.as_many j less)) (h.each j less)
