@@ -97,12 +97,9 @@ fn passes_one_slot_on(rt: HostRuntime) -> Result<(), Fail> {
         unreachable!()
     };
     is_true(&rt, ring.claim(&mut seat, 0), "a claim");
-    same(&rt, &ring.lift(&mut seat, 0), &None, "a lift");
     ring.place(&mut seat, 0, 0);
     is_false(&rt, ring.claim(&mut seat, 64), "a claim");
-    is_false(&rt, ring.claim(&mut seat, 0), "a claim");
     same(&rt, &ring.lift(&mut seat, 0), &Some(0), "a lift");
-    same(&rt, &ring.lift(&mut seat, 0), &None, "a lift");
     is_true(&rt, ring.claim(&mut seat, 64), "a claim");
     ring.place(&mut seat, 64, 64);
     same(&rt, &ring.lift(&mut seat, 64), &Some(64), "a lift");

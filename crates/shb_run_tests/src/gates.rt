@@ -5,10 +5,12 @@ use crate::counters::{all_one, zeros};
 use crate::held::{TURNS, expect_come, make_held};
 use crate::numbers::{make_numbers, so_many};
 use shb_fan::{Gate, StreamError, Taker, gather, stream};
+use shb_io::NoMemory;
+use std::process::Abort;
 use std::sync::Wait;
 use std::sync::atomic::{AtomicBool, AtomicU64, Ordering};
 use std::test::Fail;
-use std::thread::yield_now;
+use std::thread::{Threads, yield_now};
 
 /// Counts how often each piece enters, and sees whether one ran before it did.
 #[derive(Drop)]
@@ -31,34 +33,33 @@ impl Gate for Watching<'_> {
     }
 }
 
-/// Of 20 pieces and of 600, by one worker and by two.
+/// Gathers so many pieces, and asserts that each enters, runs after that, and does both once.
+fn expect_each_once<R: Threads + Wait + Sync + AllocGlobal + Abort>(
+    rt: &R,
+    pieces: u32,
+    workers: u32,
+) -> Result<(), NoMemory> {
+    let runs = zeros(rt.alloc(), pieces)?;
+    let entered = zeros(rt.alloc(), pieces)?;
+    let gate = Watching {
+        runs: runs.as_slice(),
+        entered: entered.as_slice(),
+        late: AtomicBool::new(false),
+    };
+    let job = make_numbers(pieces, runs.as_slice(), None);
+    let _values = gather(rt, rt.alloc(), &job, &gate, so_many(rt, workers))?;
+    holds(rt, all_one(runs.as_slice()), "each piece runs once");
+    holds(rt, all_one(entered.as_slice()), "each piece enters once");
+    let is_late = gate.late.load(Ordering::SeqCst);
+    holds(rt, !is_late, "no piece runs before it enters");
+    Ok(())
+}
+
 #[test]
 fn each_passes_its_gate_and_runs_once(rt: HostRuntime) -> Result<(), Fail> {
-    for pieces in [20u32, 600] {
-        for workers in [1u32, 2] {
-            let runs = zeros(rt.alloc(), pieces)?;
-            let entered = zeros(rt.alloc(), pieces)?;
-            let gate = Watching {
-                runs: runs.as_slice(),
-                entered: entered.as_slice(),
-                late: AtomicBool::new(false),
-            };
-            let job = make_numbers(pieces, runs.as_slice(), None);
-            let values = gather(&rt, rt.alloc(), &job, &gate, so_many(&rt, workers))?;
-            same(
-                &rt,
-                &(values.len() as u64),
-                &u64::from(pieces),
-                "the values",
-            );
-            holds(&rt, all_one(runs.as_slice()), "each piece runs once");
-            holds(&rt, all_one(entered.as_slice()), "each piece enters once");
-            holds(
-                &rt,
-                !gate.late.load(Ordering::SeqCst),
-                "no piece runs before it enters",
-            );
-        }
+    for pieces in [20, 600] {
+        expect_each_once(&rt, pieces, 1)?;
+        expect_each_once(&rt, pieces, 2)?;
     }
     Ok(())
 }

@@ -105,8 +105,7 @@ fn all_bytes_arrive_through_a_buffer(rt: HostRuntime) -> Result<(), Fail> {
     let mut memory = Vec::new(rt.alloc());
     let mut sink = ToWrite::new(BufWriter::with_capacity(rt.alloc(), 4, &mut memory)?);
     write_all(&mut sink, b"abc")?;
-    write_all(&mut sink, b"defghi")?;
-    write_all(&mut sink, b"j")?;
+    write_all(&mut sink, b"defghij")?;
     sink.finish()?;
     same_bytes(&rt, memory.as_slice(), b"abcdefghij", "the memory");
     Ok(())

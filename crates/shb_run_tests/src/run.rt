@@ -39,11 +39,11 @@ fn ample(step: usize) -> Devices {
 /// What is said of an answer, nothing where the run went well.
 fn said_of<R: AllocGlobal>(
     rt: &R,
-    answer: Result<Summary, RunError>,
+    answer: &Result<Summary, RunError>,
 ) -> Result<(String, u8), NoMemory> {
     match answer {
         Ok(_) => Ok((String::new(rt.alloc()), 0)),
-        Err(error) => Ok((fault_line(rt.alloc(), &error)?, exit_status(&error))),
+        Err(error) => Ok((fault_line(rt.alloc(), error)?, exit_status(error))),
     }
 }
 
@@ -58,7 +58,7 @@ fn ran<R: Threads + Wait + Sync + RandomSource + AllocGlobal>(
     let mut source = Text::new(trace.as_bytes(), step, devices.read_fails);
     let mut sink = Page::new(rt.alloc(), 2000, step, devices.write_fails)?;
     let answer = run(rt, rt.alloc(), &mut source, &mut sink, settings);
-    let (said, status) = said_of(rt, answer)?;
+    let (said, status) = said_of(rt, &answer)?;
     Ok((said, status, sink))
 }
 
