@@ -1,12 +1,7 @@
 """How the gate tries must-fail edits and what its record answers for, with a checker that is made up."""
 
-import concurrent.futures
-import contextlib
-import importlib.util
-import io
 import pathlib
 import sys
-import threading
 import types
 import unittest
 from unittest import mock
@@ -113,25 +108,6 @@ class Edits(side_by_side.Case):
         self.tried(edits, (1, "fn low::first: not proved; it calls low::f\n"), (1, "fn low::first: not proved\n"))
         self.assertEqual([functions for _, functions in self.checks], [{"first"}, {"first"}])
         self.assertEqual(self.alone, [])
-
-    def test_joint_checks_of_a_crate_run_side_by_side(self):
-        spec = importlib.util.spec_from_file_location("gate_main", pathlib.Path(joint.__file__).with_name("__main__.py"))
-        spec.loader.exec_module(main := importlib.util.module_from_spec(spec))
-        edits = main.Edits.__new__(main.Edits)
-        edits.crates, edits.layers, edits.running = {"low": self.crate}, mock.Mock(edits=lambda _: []), []
-        edits.at_work, edits.guard, both = 0, threading.Lock(), threading.Barrier(2, timeout=20)
-        edits.chosen = lambda _: [self.edit("first.left", LEFT), self.edit("first.same", FIRST)]
-
-        def tried_together(_crate, batch):
-            both.wait()  # until the other one runs too
-            return [(True, it.name) for it in batch]
-
-        fakes = {"functions_of": lambda _: {"first"}, "free_memory": lambda: 10 * main.MEMORY}
-        with concurrent.futures.ThreadPoolExecutor(2) as edits.pool, mock.patch.multiple(kit, **fakes):
-            with mock.patch.object(joint, "tried_together", tried_together), contextlib.redirect_stdout(io.StringIO()):
-                edits.begin("low")
-                told = [it.result() for it in edits.running]
-        self.assertEqual(told, [[(True, "first.left.edit")], [(True, "first.same.edit")]])
 
     def test_an_edit_outside_of_functions_is_a_check_of_its_own(self):
         edits = [self.edit("first.outside", "file: src/lib.rt\nold: /// One more.\nnew: /// One less.\n"), self.edit("second.other", SECOND)]

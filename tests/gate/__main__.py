@@ -72,7 +72,7 @@ class Count:
 
 
 class Edits:
-    """The edits that are tried, as many joint checks side by side as there are processors and memory for."""
+    """The edits that are tried, each crate's in turn, as many crates side by side as there are processors and memory for."""
 
     def __init__(self, room, tries_all):
         self.crates, self.tries_all = kit.crates_of(room), tries_all
@@ -92,18 +92,18 @@ class Edits:
     def begin(self, name):
         chosen = self.chosen(name)
         print(f"{name}: {len(chosen)} of {len(self.layers.edits(name))} must-fail edits", flush=True)
-        for batch in joint.batches(self.crates[name], chosen):
-            self.running.append(self.pool.submit(self.try_batch, self.crates[name], batch))
+        self.running.append(self.pool.submit(self.try_edits, self.crates[name], chosen))
 
-    def try_batch(self, crate, batch):
-        self.wait_for_memory()
+    def try_edits(self, crate, edits):
         began = time.monotonic()
+        self.wait_for_memory()
         try:
-            told = [*joint.tried_together(crate, batch)]
+            told = [*joint.tried(crate, edits)]
         finally:
             with self.guard:
                 self.at_work -= 1
-        print(f"{crate.name}: {len(batch)} edits took {time.monotonic() - began:.0f} s", flush=True)
+        if edits:
+            print(f"{crate.name}: its edits took {time.monotonic() - began:.0f} s", flush=True)
         return told
 
     def wait_for_memory(self):

@@ -116,19 +116,14 @@ def refused(crate, batch):
         return refused_in(*kit.check(crate, texts, names, kept), batch, crate.name, texts)
 
 
-def tried_together(crate, batch):
-    """Of each edit of a batch whether it is refused, and what to say of it."""
-    well = refused(crate, batch)
-    if len(batch) > 1:
-        well |= {edit for edit in batch if edit not in well and refused(crate, {edit: batch[edit]})}
-    for edit in batch:
-        if edit in well:
-            yield True, f"must-fail {crate.name}/{edit.name}: refused, as it must be"
-        else:
-            yield kit.try_alone(crate, edit)
-
-
 def tried(crate, edits):
-    """The same of each edit of a crate, a batch after the other."""
+    """Of each edit of a crate whether it is refused, and what to say of it."""
     for batch in batches(crate, edits):
-        yield from tried_together(crate, batch)
+        well = refused(crate, batch)
+        if len(batch) > 1:
+            well |= {edit for edit in batch if edit not in well and refused(crate, {edit: batch[edit]})}
+        for edit in batch:
+            if edit in well:
+                yield True, f"must-fail {crate.name}/{edit.name}: refused, as it must be"
+            else:
+                yield kit.try_alone(crate, edit)
