@@ -57,12 +57,7 @@ class Edits(side_by_side.Case):
         """What the gate says of some edits, where the checks of the crate answer so, one after the other."""
         left = iter(answers)
 
-        def begin_with(_crate, kept):
-            self.assertEqual([*pathlib.Path(kept).iterdir()], [])
-            pathlib.Path(kept, "begun").touch()
-
-        def check(_crate, texts, functions, kept):
-            self.assertTrue(pathlib.Path(kept, "begun").exists())
+        def check(_crate, texts, functions, _kept):
             self.checks.append((texts["src/lib.rt"], {*functions}))
             return next(left)
 
@@ -70,29 +65,9 @@ class Edits(side_by_side.Case):
             self.alone.append(edit.name)
             return False, f"must-fail low/{edit.name}: NOT REFUSED"
 
-        fakes = {"begin_with": begin_with, "check": check, "try_alone": try_alone}
-        fakes["functions_of"] = lambda _: {"first", "Pair::second"}
+        fakes = {"check": check, "try_alone": try_alone, "functions_of": lambda _: {"first", "Pair::second"}}
         with mock.patch.multiple(kit, **fakes):
             return {said.split("/")[1].split(":")[0]: is_refused for is_refused, said in joint.tried(self.crate, edits)}
-
-    def library(self, files):
-        """A crate whose built library has an archive of these files."""
-        names = [f"{name}/\n".encode() for name in files]
-        parts = [("//", b"".join(names)), *((f"/{len(b''.join(names[:at]))}", it) for at, it in enumerate(files.values()))]
-        archive = self.folder / "low.rlib/toolchain/checked.a"
-        archive.parent.mkdir(parents=True)
-        archive.write_bytes(b"!<arch>\n" + b"".join(f"{name:48}{len(it):<10}`\n".encode() + it + b"\n" * (len(it) % 2) for name, it in parts))
-        return types.SimpleNamespace(rlib=str(archive.parent.parent))
-
-    def test_a_check_begins_with_the_checked_modules_of_the_library(self):
-        code, links = b"--@ antt-checked 1\n--@ kernel antt/1/src-2.bid-3\nodd", b"--@ kernel antt/1/src-2.bid-3\n"
-        files = {"low-proofs.ring.Ring.new.Code.oantt": code, "low-proofs.TheLinks.oantt": links, "sum/all.oantt": b"0123"}
-        crate, kept = self.library(files), self.folder / "kept"
-        kept.mkdir()
-        kit.begin_with(crate, kept)
-        found = {str(it.relative_to(kept)): it.read_bytes() for it in kept.rglob("*.oantt")}
-        self.assertEqual(found, {f"antt_1_src-2.bid-3/{name}": files[name] for name in [*files][:2]})
-        self.assertEqual(kit.functions_of.__wrapped__(crate), {"ring::Ring::new"})
 
     def test_two_functions_are_one_check(self):
         edits = [self.edit("first.same", FIRST), self.edit("second.other", SECOND)]

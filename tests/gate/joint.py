@@ -3,8 +3,7 @@
 A function's proof reads the contracts of what it calls, and no body. So edits of different functions can stand in one copy
 of the crate, and one check of these functions tells which of them are refused: the checker says of a function whether its
 own proof fails, or whether it only calls one that has no proof. What a joint check doesn't refuse is tried in a check of
-its own, and then as the kit tries it: the whole crate from nothing. A check begins with the checked modules of the crate's
-built library, so it proves what the edits changed and no more.
+its own, and then as the kit tries it: the whole crate from nothing.
 """
 
 import pathlib
@@ -106,24 +105,23 @@ def refused_in(status, said, batch, name, texts):
     return {edit for edit, functions in batch.items() if functions & {*failed}}
 
 
-def refused(crate, batch):
+def refused(crate, batch, kept):
     """The edits of a batch that one check refuses, each by the proof of a function of its own."""
     texts, names = kit.change(batch, crate), set().union(*batch.values())
     if not texts or not names:
         return set()
-    with tempfile.TemporaryDirectory(prefix="edits-") as kept:
-        kit.begin_with(crate, kept)
-        return refused_in(*kit.check(crate, texts, names, kept), batch, crate.name, texts)
+    return refused_in(*kit.check(crate, texts, names, kept), batch, crate.name, texts)
 
 
 def tried(crate, edits):
     """Of each edit of a crate whether it is refused, and what to say of it."""
-    for batch in batches(crate, edits):
-        well = refused(crate, batch)
-        if len(batch) > 1:
-            well |= {edit for edit in batch if edit not in well and refused(crate, {edit: batch[edit]})}
-        for edit in batch:
-            if edit in well:
-                yield True, f"must-fail {crate.name}/{edit.name}: refused, as it must be"
-            else:
-                yield kit.try_alone(crate, edit)
+    with tempfile.TemporaryDirectory(prefix="edits-") as kept:
+        for batch in batches(crate, edits):
+            well = refused(crate, batch, kept)
+            if len(batch) > 1:
+                well |= {edit for edit in batch if edit not in well and refused(crate, {edit: batch[edit]}, kept)}
+            for edit in batch:
+                if edit in well:
+                    yield True, f"must-fail {crate.name}/{edit.name}: refused, as it must be"
+                else:
+                    yield kit.try_alone(crate, edit)

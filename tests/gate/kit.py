@@ -2,8 +2,7 @@
 
 - the kit's command `rt` as a module: it reads an edit, and checks a copy of a crate over the libraries that `rt ci` left;
 - the lines of `rt ci` that tell when a crate's library is there;
-- the checked modules of a built library, which lie in an archive of ar: their names tell how the checker names functions,
-  and a check that begins with them proves only what an edit changed.
+- the checked modules of a built library, which lie in an archive of ar: their names tell how the checker names functions.
 """
 
 import functools
@@ -54,8 +53,8 @@ def built_in(line):
     return found and found[1]
 
 
-def files_in(archive):
-    """The name and the content of each file in an archive of ar."""
+def names_in(archive):
+    """The names of the files in an archive of ar."""
     data, at, long_names = archive.read_bytes(), 8, b""
     while at < len(data):  # a head of 60 bytes, and the content to an even number of bytes
         name, size = data[at : at + 16].decode().strip(), int(data[at + 48 : at + 58])
@@ -63,30 +62,15 @@ def files_in(archive):
         if name == "//":
             long_names = content
         elif re.fullmatch(r"/\d+", name):
-            yield long_names[int(name[1:]) :].partition(b"\n")[0].decode().rstrip("/"), content
-
-
-def checked_in(crate):
-    """The checked modules of a proved crate, as files_in gives them."""
-    return files_in(pathlib.Path(crate.rlib, "toolchain", "checked.a"))
+            yield long_names[int(name[1:]) :].partition(b"\n")[0].decode()
 
 
 @functools.lru_cache(maxsize=None)
 def functions_of(crate):
     """The functions of a proved crate as the checker names them below the crate, as 'ring::Ring::new'."""
-    codes = (re.fullmatch(r".*?-proofs\.(.*)\.Code\.oantt", name) for name, _ in checked_in(crate))
+    modules = names_in(pathlib.Path(crate.rlib, "toolchain", "checked.a"))
+    codes = (re.fullmatch(r".*?-proofs\.(.*)\.Code\.oantt/?", name) for name in modules)
     return {found[1].replace(".", "::") for found in codes if found}
-
-
-def begin_with(crate, kept):
-    """Puts the checked modules of a proved crate into an empty folder, as its check would have kept them there. They lie in a
-    folder that is named after the build of the checker that wrote them, which the first lines of each module say."""
-    for name, content in checked_in(crate):
-        build = re.search(rb"(?m)^--@ kernel (\S+)$", content[:1000])
-        if build:
-            folder = pathlib.Path(kept, build[1].decode().replace("/", "_"))
-            folder.mkdir(exist_ok=True)
-            (folder / name).write_bytes(content)
 
 
 def change(edits, crate):
