@@ -23,15 +23,19 @@ pub struct Ordered<'a, O: Order> {
 
 impl<'a, O: Order> Ordered<'a, O> {
     /// A trace, its links and an order of it.
-    pub fn new(order: &'a O, trace: &'a Disciplined<'a>, links: &'a Links<'a>) -> Ordered<'a, O>
-        requires of_trace { O.trace order.now ≡ trace.now.events.now }
-        requires linked { links.now ≡ trace.now.events.now }
-        ensures disciplined { result.disciplined.now ≡ trace.now }
+    pub fn new(
+        order: &'a O,
+        disciplined: &'a Disciplined<'a>,
+        links: &'a Links<'a>,
+    ) -> Ordered<'a, O>
+        requires of_trace { O.trace order.now ≡ disciplined.now.events.now }
+        requires linked { links.now ≡ disciplined.now.events.now }
+        ensures disciplined { result.disciplined.now ≡ disciplined.now }
         ensures order { result.order.now ≡ order.now }
     {
         Ordered {
             order,
-            disciplined: trace,
+            disciplined,
             links,
         }
     }

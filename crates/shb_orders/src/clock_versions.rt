@@ -73,13 +73,13 @@ fn times_of(alloc: Global, linked: &Linked<'_>) -> Result<Vec<Row<u32>>, NoMemor
 /// `NoMemory` where memory is refused; nothing is kept then.
 pub fn versions<'a>(
     alloc: Global,
-    trace: &'a Disciplined<'a>,
+    disciplined: &'a Disciplined<'a>,
     links: &'a Links<'a>,
 ) -> Result<ClockVersions<'a>, NoMemory>
-    requires of_trace { links.now ≡ trace.now.events.now }
-    ensures { IfOk result (λ order. order ≡ trace.now.events.now) }
+    requires of_trace { links.now ≡ disciplined.now.events.now }
+    ensures { IfOk result (λ order. order ≡ disciplined.now.events.now) }
 {
-    let linked = Linked::new(trace, links);
+    let linked = Linked::new(disciplined, links);
     let times = times_of(alloc, &linked)?;
     let events = all_events(alloc, linked.events.len() as u32)?;
     let rows = at_events(alloc, linked, events.as_slice())?;

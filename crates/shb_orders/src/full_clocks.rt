@@ -67,13 +67,13 @@ fn clock_before(
 /// `NoMemory` where memory is refused; nothing is kept then.
 pub fn full<'a>(
     alloc: Global,
-    trace: &'a Disciplined<'a>,
+    disciplined: &'a Disciplined<'a>,
     links: &'a Links<'a>,
 ) -> Result<FullClocks<'a>, NoMemory>
-    requires of_trace { links.now ≡ trace.now.events.now }
-    ensures { IfOk result (λ order. order ≡ trace.now.events.now) }
+    requires of_trace { links.now ≡ disciplined.now.events.now }
+    ensures { IfOk result (λ order. order ≡ disciplined.now.events.now) }
 {
-    let linked = Linked::new(trace, links);
+    let linked = Linked::new(disciplined, links);
     let mut sweep = Sweep::new(alloc, linked)?;
     let mut clocks = Vec::new(alloc);
     for e in 0..linked.events.len() as u32 {

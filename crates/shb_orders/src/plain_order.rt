@@ -92,13 +92,13 @@ fn row_of(alloc: Global, linked: &Linked<'_>, e: u32) -> Result<Row<bool>, NoMem
 /// `NoMemory` where memory is refused; nothing is kept then.
 pub fn plain<'a>(
     alloc: Global,
-    trace: &'a Disciplined<'a>,
+    disciplined: &'a Disciplined<'a>,
     links: &'a Links<'a>,
 ) -> Result<PlainOrder<'a>, NoMemory>
-    requires { links.now ≡ trace.now.events.now }
-    ensures { IfOk result (λ order. order ≡ trace.now.events.now) }
+    requires { links.now ≡ disciplined.now.events.now }
+    ensures { IfOk result (λ order. order ≡ disciplined.now.events.now) }
 {
-    let linked = Linked::new(trace, links);
+    let linked = Linked::new(disciplined, links);
     let mut rows = Vec::new(alloc);
     for e in 0..linked.events.len() as u32 {
         rows.push(row_of(alloc, &linked, e)?)?;

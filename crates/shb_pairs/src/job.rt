@@ -53,21 +53,21 @@ impl<'a, O: Order> RangeJob<'a, O> {
     /// all of its pieces.
     pub fn new(
         order: &'a O,
-        trace: &'a Disciplined<'a>,
+        disciplined: &'a Disciplined<'a>,
         links: &'a Links<'a>,
         accesses: &'a Accesses<'a>,
         pieces: &'a [Piece],
     ) -> Self
-        requires of_trace { O.trace order.now ≡ trace.now.events.now }
-        requires linked { links.now ≡ trace.now.events.now }
-        requires accesses { accesses.now.trace ≡ trace.now.events.now }
-        requires asked { AsksOpen (O.asks order.now) accesses.now.flags trace.now.events.now }
+        requires of_trace { O.trace order.now ≡ disciplined.now.events.now }
+        requires linked { links.now ≡ disciplined.now.events.now }
+        requires accesses { accesses.now.trace ≡ disciplined.now.events.now }
+        requires asked { AsksOpen (O.asks order.now) accesses.now.flags disciplined.now.events.now }
         requires pieces { pieces.now ≡ pieces_in accesses.now }
         ensures { result ≡ accesses.now }
     {
         let ordered = Ordered {
             order,
-            disciplined: trace,
+            disciplined,
             links,
         };
         RangeJob {
@@ -157,20 +157,20 @@ impl<'a, O: Order> PairJob<'a, O> {
     /// The search on these pieces of these accesses, as [`RangeJob::new`] makes it.
     pub fn new(
         order: &'a O,
-        trace: &'a Disciplined<'a>,
+        disciplined: &'a Disciplined<'a>,
         links: &'a Links<'a>,
         accesses: &'a Accesses<'a>,
         pieces: &'a [Piece],
     ) -> Self
-        requires of_trace { O.trace order.now ≡ trace.now.events.now }
-        requires linked { links.now ≡ trace.now.events.now }
-        requires accesses { accesses.now.trace ≡ trace.now.events.now }
-        requires asked { AsksOpen (O.asks order.now) accesses.now.flags trace.now.events.now }
+        requires of_trace { O.trace order.now ≡ disciplined.now.events.now }
+        requires linked { links.now ≡ disciplined.now.events.now }
+        requires accesses { accesses.now.trace ≡ disciplined.now.events.now }
+        requires asked { AsksOpen (O.asks order.now) accesses.now.flags disciplined.now.events.now }
         requires pieces { pieces.now ≡ pieces_in accesses.now }
         ensures { result ≡ accesses.now }
     {
         PairJob {
-            ranges: RangeJob::new(order, trace, links, accesses, pieces),
+            ranges: RangeJob::new(order, disciplined, links, accesses, pieces),
         }
     }
 }

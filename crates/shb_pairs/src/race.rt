@@ -33,27 +33,27 @@ fn is_below_pred<O: Order>(ordered: &Ordered<'_, O>, first: u32, second: u32) ->
 /// trace.
 pub fn is_race<O: Order>(
     order: &O,
-    trace: &Disciplined<'_>,
+    disciplined: &Disciplined<'_>,
     links: &Links<'_>,
     first: u32,
     second: u32,
 ) -> bool
-    requires of_trace { O.trace order.now ≡ trace.now.events.now }
-    requires linked { links.now ≡ trace.now.events.now }
+    requires of_trace { O.trace order.now ≡ disciplined.now.events.now }
+    requires linked { links.now ≡ disciplined.now.events.now }
     requires earlier { first < second }
-    requires in_range { second < length trace.now.events.now }
+    requires in_range { second < length disciplined.now.events.now }
     requires asked { O.asks order.now second ≡ true }
-    ensures race { IsTrue result ↔ Race trace.now.events.now first second }
+    ensures race { IsTrue result ↔ Race disciplined.now.events.now first second }
     ensures schedulable { IsTrue result
-        ↔ (Conflict trace.now.events.now first second
-        × ((s : List ℕ) × IsSchedule trace.now.events.now s first second)) }
-    ensures below { ¬ IsTrue result → Conflict trace.now.events.now first second → BelowPred trace.now.events.now first second }
+        ↔ (Conflict disciplined.now.events.now first second
+        × ((s : List ℕ) × IsSchedule disciplined.now.events.now s first second)) }
+    ensures below { ¬ IsTrue result → Conflict disciplined.now.events.now first second → BelowPred disciplined.now.events.now first second }
 {
     let ordered = Ordered {
         order: &*order,
-        disciplined: &*trace,
+        disciplined: &*disciplined,
         links: &*links,
     };
-    let conflicting = events_conflict_at(trace.events, first, second);
+    let conflicting = events_conflict_at(disciplined.events, first, second);
     conflicting && !is_below_pred(&ordered, first, second)
 }

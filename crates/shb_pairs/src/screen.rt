@@ -152,20 +152,20 @@ fn flags_of(alloc: Global, table: &[Latest]) -> Result<Vec<bool>, NoMemory>
 /// `NoMemory` where memory was refused.
 pub fn open_variables(
     alloc: Global,
-    trace: &Disciplined<'_>,
+    disciplined: &Disciplined<'_>,
     links: &Links<'_>,
 ) -> Result<Vec<bool>, NoMemory>
-    requires of_trace { links.now ≡ trace.now.events.now }
-    ensures { IfOk result (λ flags. AreOpen trace.now.events.now flags.items) }
+    requires of_trace { links.now ≡ disciplined.now.events.now }
+    ensures { IfOk result (λ flags. AreOpen disciplined.now.events.now flags.items) }
 {
     let none = Latest {
         write: nothing(),
         read: nothing(),
     };
-    let mut table = vec![in alloc; none; trace.sizes.variables as usize]?;
-    let mut sweep = Sweep::new(alloc, Linked::new(&*trace, &*links))?;
-    for e in 0..trace.events.len() as u32 {
-        let ordered = Ordered::new(&sweep, &*trace, &*links);
+    let mut table = vec![in alloc; none; disciplined.sizes.variables as usize]?;
+    let mut sweep = Sweep::new(alloc, Linked::new(&*disciplined, &*links))?;
+    for e in 0..disciplined.events.len() as u32 {
+        let ordered = Ordered::new(&sweep, &*disciplined, &*links);
         screen(&ordered, &mut table, e);
         sweep.pass(alloc)?;
     }

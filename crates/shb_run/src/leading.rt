@@ -28,16 +28,16 @@ use std::thread::Threads;
 fn list_leading<K: Sink>(
     alloc: Global,
     sink: &mut K,
-    trace: &Disciplined<'_>,
+    disciplined: &Disciplined<'_>,
     races: &[Pair],
 ) -> Result<Summary, WriteError>
     requires countable { K.failure_count sink.old < 2 ^ 64 - 1 }
-    requires listed { LeadingRaces trace.now.trace.now (map ends races.now) }
-    ensures { HasSummed Leading false trace.now.trace.now K.taken K.failure_count sink.old sink.new result }
+    requires listed { LeadingRaces disciplined.now.trace.now (map ends races.now) }
+    ensures { HasSummed Leading false disciplined.now.trace.now K.taken K.failure_count sink.old sink.new result }
 {
     let places = Places::of_leading(alloc, races)?;
-    write_list(sink, trace.trace, races, &places)?;
-    Ok(summary_of(trace.trace, races.len() as u64))
+    write_list(sink, disciplined.trace, races, &places)?;
+    Ok(summary_of(disciplined.trace, races.len() as u64))
 }
 
 /// Writes the report with schedules of the leading races of a trace, which are known.
@@ -64,24 +64,24 @@ pub(crate) fn report_leading<R: Threads + Wait + Sync + RandomSource, K: Sink, W
     rt: &R,
     alloc: Global,
     sink: &mut K,
-    trace: &Disciplined<'_>,
+    disciplined: &Disciplined<'_>,
     settings: Settings,
     gate: &W,
 ) -> Result<Summary, WriteError>
     requires countable { K.failure_count sink.old < 2 ^ 64 - 1 }
-    ensures { HasSummed Leading settings.schedules trace.now.trace.now K.taken K.failure_count sink.old sink.new result }
+    ensures { HasSummed Leading settings.schedules disciplined.now.trace.now K.taken K.failure_count sink.old sink.new result }
 {
-    let links = links_of(alloc, &*trace)?;
-    let flags = open_variables(alloc, &*trace, &links)?;
-    let races = leading_races(rt, alloc, &*trace, &links, &flags)?;
+    let links = links_of(alloc, &*disciplined)?;
+    let flags = open_variables(alloc, &*disciplined, &links)?;
+    let races = leading_races(rt, alloc, &*disciplined, &links, &flags)?;
     if settings.schedules {
-        let order = order_of_races(alloc, Linked::new(&*trace, &links), &races)?;
-        let ordered = Ordered::new(&order, &*trace, &links);
+        let order = order_of_races(alloc, Linked::new(&*disciplined, &links), &races)?;
+        let ordered = Ordered::new(&order, &*disciplined, &links);
         let plan = BlockPlan {
             workers: settings.workers,
             gate,
         };
         return write_leading(rt, alloc, sink, &ordered, &races, &plan);
     }
-    list_leading(alloc, sink, trace, &races)
+    list_leading(alloc, sink, disciplined, &races)
 }

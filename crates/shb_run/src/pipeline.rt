@@ -43,17 +43,17 @@ fn report_all<R: Threads + Wait + Sync + RandomSource, K: Sink, P: Gate + Sync, 
     rt: &R,
     alloc: Global,
     sink: &mut K,
-    trace: &Disciplined<'_>,
+    disciplined: &Disciplined<'_>,
     settings: Settings,
     gates: &Gates<'_, '_, P, W>,
 ) -> Result<Summary, WriteError>
     requires countable { K.failure_count sink.old < 2 ^ 64 - 1 }
-    ensures { HasSummed All settings.schedules trace.now.trace.now K.taken K.failure_count sink.old sink.new result }
+    ensures { HasSummed All settings.schedules disciplined.now.trace.now K.taken K.failure_count sink.old sink.new result }
 {
-    let links = links_of(alloc, &*trace)?;
-    let flags = open_variables(alloc, &*trace, &links)?;
-    let order = by_event(alloc, Linked::new(&*trace, &links), &flags)?;
-    let ordered = Ordered::new(&order, &*trace, &links);
+    let links = links_of(alloc, &*disciplined)?;
+    let flags = open_variables(alloc, &*disciplined, &links)?;
+    let order = by_event(alloc, Linked::new(&*disciplined, &links), &flags)?;
+    let ordered = Ordered::new(&order, &*disciplined, &links);
     let screened = Screened::new(&ordered, &flags);
     report_found(rt, alloc, sink, &screened, settings, gates)
 }
@@ -63,16 +63,23 @@ fn report_asked<R: Threads + Wait + Sync + RandomSource, K: Sink, P: Gate + Sync
     rt: &R,
     alloc: Global,
     sink: &mut K,
-    trace: &Disciplined<'_>,
+    disciplined: &Disciplined<'_>,
     task: Task,
     gates: &Gates<'_, '_, P, W>,
 ) -> Result<Summary, WriteError>
     requires countable { K.failure_count sink.old < 2 ^ 64 - 1 }
-    ensures { HasSummed task.choice task.settings.schedules trace.now.trace.now K.taken K.failure_count sink.old sink.new result }
+    ensures { HasSummed task.choice task.settings.schedules disciplined.now.trace.now K.taken K.failure_count sink.old sink.new result }
 {
     match task.choice {
-        Choice::All => report_all(rt, alloc, sink, trace, task.settings, gates),
-        Choice::Leading => report_leading(rt, alloc, sink, trace, task.settings, gates.witness),
+        Choice::All => report_all(rt, alloc, sink, disciplined, task.settings, gates),
+        Choice::Leading => report_leading(
+            rt,
+            alloc,
+            sink,
+            disciplined,
+            task.settings,
+            gates.witness,
+        ),
     }
 }
 

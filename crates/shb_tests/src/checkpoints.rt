@@ -18,10 +18,10 @@ impl Question for Fronts {
     fn ask(
         &self,
         alloc: Global,
-        trace: &Disciplined<'_>,
+        disciplined: &Disciplined<'_>,
         links: &Links<'_>,
     ) -> Result<Vec<u32>, Fail> {
-        let points = checkpoints_of(alloc, &Linked::new(trace, links))?;
+        let points = checkpoints_of(alloc, &Linked::new(disciplined, links))?;
         let mut fronts = Vec::new(alloc);
         for cut in [63, 64, 127, 128, 191, 192, 200] {
             fronts.push(front_of(Some(points.as_slice()), &[cut]))?;

@@ -12,11 +12,11 @@ use std::alloc::Global;
 use std::test::Fail;
 
 /// What an order answers, 0 for an event that isn't there.
-fn answer<O: Order>(order: &O, trace: &Disciplined<'_>, e: u32, t: u32) -> u32
-    requires of_trace { O.trace order.now ≡ trace.now.events.now }
+fn answer<O: Order>(order: &O, disciplined: &Disciplined<'_>, e: u32, t: u32) -> u32
+    requires of_trace { O.trace order.now ≡ disciplined.now.events.now }
     requires asked { O.asks order.now e ≡ true }
 {
-    if (e as usize) < trace.events.len() {
+    if (e as usize) < disciplined.events.len() {
         order.below_pred(e, t)
     } else {
         0
@@ -36,27 +36,31 @@ impl Question for At {
     fn ask(
         &self,
         alloc: Global,
-        trace: &Disciplined<'_>,
+        disciplined: &Disciplined<'_>,
         links: &Links<'_>,
     ) -> Result<[u32; 3], Fail> {
-        let order = plain(alloc, trace, links)?;
-        let first = answer(&order, trace, self.e, 0);
-        let second = answer(&order, trace, self.e, 1);
-        let third = answer(&order, trace, self.e, 2);
+        let order = plain(alloc, disciplined, links)?;
+        let first = answer(&order, disciplined, self.e, 0);
+        let second = answer(&order, disciplined, self.e, 1);
+        let third = answer(&order, disciplined, self.e, 2);
         Ok([first, second, third])
     }
 }
 
 /// An event and a thread for which an order doesn't answer as another one.
-fn differs<P: Order, O: Order>(plain: &P, order: &O, trace: &Disciplined<'_>) -> Option<(u32, u32)>
-    requires plain { P.trace plain.now ≡ trace.now.events.now }
-    requires order { O.trace order.now ≡ trace.now.events.now }
+fn differs<P: Order, O: Order>(
+    plain: &P,
+    order: &O,
+    disciplined: &Disciplined<'_>,
+) -> Option<(u32, u32)>
+    requires plain { P.trace plain.now ≡ disciplined.now.events.now }
+    requires order { O.trace order.now ≡ disciplined.now.events.now }
     requires plain_asked { (e : ℕ) → P.asks plain.now e ≡ true }
     requires asked { (e : ℕ) → O.asks order.now e ≡ true }
 {
-    for e in 0..trace.events.len() as u32 {
-        for t in 0..trace.sizes.threads {
-            if answer(order, trace, e, t) != answer(plain, trace, e, t) {
+    for e in 0..disciplined.events.len() as u32 {
+        for t in 0..disciplined.sizes.threads {
+            if answer(order, disciplined, e, t) != answer(plain, disciplined, e, t) {
                 return Some((e, t));
             }
         }
@@ -73,12 +77,12 @@ impl Question for Difference {
     fn ask(
         &self,
         alloc: Global,
-        trace: &Disciplined<'_>,
+        disciplined: &Disciplined<'_>,
         links: &Links<'_>,
     ) -> Result<Option<(u32, u32)>, Fail> {
-        let plain = plain(alloc, trace, links)?;
-        let in_full = differs(&plain, &full(alloc, trace, links)?, trace);
-        let in_versions = differs(&plain, &versions(alloc, trace, links)?, trace);
+        let plain = plain(alloc, disciplined, links)?;
+        let in_full = differs(&plain, &full(alloc, disciplined, links)?, disciplined);
+        let in_versions = differs(&plain, &versions(alloc, disciplined, links)?, disciplined);
         Ok(in_full.or(in_versions))
     }
 }
@@ -153,10 +157,10 @@ impl Question for LearnedBy {
     fn ask(
         &self,
         alloc: Global,
-        trace: &Disciplined<'_>,
+        disciplined: &Disciplined<'_>,
         links: &Links<'_>,
     ) -> Result<Vec<u32>, Fail> {
-        let order = versions(alloc, trace, links)?;
+        let order = versions(alloc, disciplined, links)?;
         Ok(Vec::from_slice(alloc, order.learned(self.thread))?)
     }
 }

@@ -27,10 +27,10 @@ pub trait Question {
     fn ask(
         &self,
         alloc: Global,
-        trace: &Disciplined<'_>,
+        disciplined: &Disciplined<'_>,
         links: &Links<'_>,
     ) -> Result<Self::Answer, Fail>
-        requires { links.now ≡ trace.now.events.now };
+        requires { links.now ≡ disciplined.now.events.now };
 }
 
 /// The answer for the trace of a text. The steps from a text to its links are proved here once.

@@ -23,10 +23,10 @@ impl Question for OpenFlags {
     fn ask(
         &self,
         alloc: Global,
-        trace: &Disciplined<'_>,
+        disciplined: &Disciplined<'_>,
         links: &Links<'_>,
     ) -> Result<Vec<bool>, Fail> {
-        Ok(open_variables(alloc, trace, links)?)
+        Ok(open_variables(alloc, disciplined, links)?)
     }
 }
 
@@ -42,17 +42,17 @@ fn lines_of(race: Option<&Pair>) -> [u32; 2] {
 fn found_by<O: Order>(
     alloc: Global,
     order: &O,
-    trace: &Disciplined<'_>,
+    disciplined: &Disciplined<'_>,
     links: &Links<'_>,
     number: u64,
 ) -> Result<([u32; 7], usize), NoMemory>
-    requires of_trace { O.trace order.now ≡ trace.now.events.now }
-    requires linked { links.now ≡ trace.now.events.now }
+    requires of_trace { O.trace order.now ≡ disciplined.now.events.now }
+    requires linked { links.now ≡ disciplined.now.events.now }
     requires asked { (e : ℕ) → O.asks order.now e ≡ true }
 {
-    let accesses = accesses_of(alloc, trace)?;
+    let accesses = accesses_of(alloc, disciplined)?;
     let pieces = pieces(alloc, &accesses)?;
-    let job = PairJob::new(order, trace, links, &accesses, pieces.as_slice());
+    let job = PairJob::new(order, disciplined, links, &accesses, pieces.as_slice());
     let Some(piece) = pieces.get(number as usize) else {
         return Ok(([0; 7], 0));
     };
@@ -77,11 +77,11 @@ impl Question for Found {
     fn ask(
         &self,
         alloc: Global,
-        trace: &Disciplined<'_>,
+        disciplined: &Disciplined<'_>,
         links: &Links<'_>,
     ) -> Result<([u32; 7], usize), Fail> {
-        let order = versions(alloc, trace, links)?;
-        Ok(found_by(alloc, &order, trace, links, self.number)?)
+        let order = versions(alloc, disciplined, links)?;
+        Ok(found_by(alloc, &order, disciplined, links, self.number)?)
     }
 }
 

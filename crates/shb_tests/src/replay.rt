@@ -22,14 +22,14 @@ impl Question for Replay<'_> {
     fn ask(
         &self,
         alloc: Global,
-        trace: &Disciplined<'_>,
+        disciplined: &Disciplined<'_>,
         links: &Links<'_>,
     ) -> Result<Self::Answer, Fail> {
-        let events = trace.events.len();
+        let events = disciplined.events.len();
         if self.pair.first as usize >= events || self.pair.second as usize >= events {
             return Ok(None);
         }
-        let answer = replay(alloc, trace, links, self.list, self.pair)?;
+        let answer = replay(alloc, disciplined, links, self.list, self.pair)?;
         Ok(Some(answer.map(|broken| (broken.at, broken.why))))
     }
 }

@@ -25,22 +25,22 @@ struct Scheduled {
 fn schedule_by<O: Order>(
     alloc: Global,
     order: &O,
-    trace: &Disciplined<'_>,
+    disciplined: &Disciplined<'_>,
     links: &Links<'_>,
     race: Scheduled,
 ) -> Result<Option<Vec<u32>>, NoMemory>
-    requires of_trace { O.trace order.now ≡ trace.now.events.now }
-    requires linked { links.now ≡ trace.now.events.now }
+    requires of_trace { O.trace order.now ≡ disciplined.now.events.now }
+    requires linked { links.now ≡ disciplined.now.events.now }
     requires asked { (e : ℕ) → O.asks order.now e ≡ true }
 {
-    if race.first >= race.second || race.second as usize >= trace.events.len() {
+    if race.first >= race.second || race.second as usize >= disciplined.events.len() {
         return Ok(None);
     }
-    if !is_race(order, trace, links, race.first, race.second) {
+    if !is_race(order, disciplined, links, race.first, race.second) {
         return Ok(None);
     }
     let pairs = [pair(race.first, race.second)];
-    let job = WitnessJob::new(order, trace, links, &pairs);
+    let job = WitnessJob::new(order, disciplined, links, &pairs);
     Ok(Some(job.run(alloc, 0)?.to_vec(alloc)?))
 }
 
@@ -50,11 +50,11 @@ impl Question for Scheduled {
     fn ask(
         &self,
         alloc: Global,
-        trace: &Disciplined<'_>,
+        disciplined: &Disciplined<'_>,
         links: &Links<'_>,
     ) -> Result<Option<Vec<u32>>, Fail> {
-        let order = full(alloc, trace, links)?;
-        Ok(schedule_by(alloc, &order, trace, links, *self)?)
+        let order = full(alloc, disciplined, links)?;
+        Ok(schedule_by(alloc, &order, disciplined, links, *self)?)
     }
 }
 

@@ -43,19 +43,19 @@ impl<'a, O: Order> WitnessJob<'a, O> {
     /// The work of making a schedule for each of these races. The order can be asked about their events.
     pub fn new(
         order: &'a O,
-        trace: &'a Disciplined<'a>,
+        disciplined: &'a Disciplined<'a>,
         links: &'a Links<'a>,
         pairs: &'a [Pair],
     ) -> Self
-        requires of_trace { O.trace order.now ≡ trace.now.events.now }
-        requires linked { links.now ≡ trace.now.events.now }
-        requires races { AreRaces trace.now.events.now pairs.now }
+        requires of_trace { O.trace order.now ≡ disciplined.now.events.now }
+        requires linked { links.now ≡ disciplined.now.events.now }
+        requires races { AreRaces disciplined.now.events.now pairs.now }
         requires asked { AsksEach (O.asks order.now) pairs.now }
-        ensures { result ≡ record { trace = trace.now.events.now; races = pairs.now } }
+        ensures { result ≡ record { trace = disciplined.now.events.now; races = pairs.now } }
     {
         let ordered = Ordered {
             order,
-            disciplined: trace,
+            disciplined,
             links,
         };
         WitnessJob {

@@ -15,4 +15,4 @@ through : {A B C : Type 0} → A ↔ B → B ↔ C → A ↔ C
 through ab bc = ((λ a. bc.0 (ab.0 a)), (λ c. ab.1 (bc.1 c)))
 
 pub returns-then-conflicting-clause-schedulable : goal.returns-then-conflicting-clause-schedulable
-returns-then-conflicting-clause-schedulable g c = through (unordered_is_race c.args.trace.now.events.now c.args.first c.args.second c.is_below_pred.result c.requires.earlier (c.events_conflict_at-conflicting.ensures.0 c.if-conflicting.true) c.is_below_pred.ensures) (race_iff_schedulable c.args.trace.now.events.now c.args.trace.now.meets c.args.first c.args.second c.requires.earlier)
+returns-then-conflicting-clause-schedulable g c = through (unordered_is_race c.args.disciplined.now.events.now c.args.first c.args.second c.is_below_pred.result c.requires.earlier (c.events_conflict_at-conflicting.ensures.0 c.if-conflicting.true) c.is_below_pred.ensures) (race_iff_schedulable c.args.disciplined.now.events.now c.args.disciplined.now.meets c.args.first c.args.second c.requires.earlier)

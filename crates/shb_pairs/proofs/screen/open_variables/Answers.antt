@@ -8,7 +8,7 @@ use Rattle.shb_pairs.proofs.screen.open_variables.Goals as goal
 
 pub returns : goal.returns
 returns c =
-    let trace = c.args.trace.now in
+    let trace = c.args.disciplined.now in
     let all : c.loop-e.e ≡ length trace.events.now = omega arith in
     let last = subst (λ (n : ℕ). AreScreened trace.events.now n trace.sizes.variables c.loop-e.table.items) all c.loop-e.invariant.screened in
     IfOk-weaker c.flags_of.result _ _

@@ -4,7 +4,7 @@ use Rattle.shb_pairs.proofs.screen.open_variables.Given as goal
 
 abbrev pub invariant-loop-e : goal.invariant-loop-e
 invariant-loop-e l = record {
-  of_trace : l.sweep.trace ≡ l.trace.events.now;
+  of_trace : l.sweep.trace ≡ l.disciplined.events.now;
   next : l.sweep.next ≡ l.e;
-  screened : AreScreened l.trace.events.now l.e l.trace.sizes.variables l.table.items;
+  screened : AreScreened l.disciplined.events.now l.e l.disciplined.sizes.variables l.table.items;
 }

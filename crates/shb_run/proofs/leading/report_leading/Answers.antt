@@ -12,7 +12,7 @@ leading_races-requires-clause-settled g c = rw c.deref.ensures.value c.in_ok-fla
 
 pub order_of_races-requires : goal.order_of_races-requires
 order_of_races-requires g c =
-    let trace = c.args.trace.now in
+    let trace = c.args.disciplined.now in
     let lists = subst (λ (races : List Pair). LeadingRaces trace.trace.now (map ends races)) (sym c.deref-then-settings.ensures.value) c.in_ok-races.ensures in
     record {
       races = subst (λ (events : List Event). All (λ (p : Pair). Race events p.first p.second) c.deref-then-settings.result.now) (sym c.new.ensures.events)
