@@ -12,7 +12,7 @@ use Rattle.shb_discipline.specs.FirstFault.{HasNoFault, IsFirstFault}
 use Rattle.shb_judging.specs.declared.verdict.Verdict.{Verdict}
 use Rattle.shb_judging.specs.Verdicts.{IsVerdictFor}
 use Rattle.shb_reading.specs.Reading.{IsReportText}
-use Rattle.shb_report.specs.Value.{ReportValue}
+use Rattle.shb_format.specs.Value.{ReportValue}
 use Rattle.shb_judging.specs.Verdicts.{IsGoodReport, verdict_bytes}
 use Rattle.shb_check.specs.declared.errors.RunError.{RunError}
 use Rattle.shb_check.specs.Outcomes.{Grows, OnJudged, OnMemory, OnNoTrace, OnSink, OnTrace, OnWriting, sink_failed, source_failed}

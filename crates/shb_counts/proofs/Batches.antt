@@ -8,11 +8,11 @@ use Rattle.std.proofs.lemmas.List.{map-append, take_more}
 use Rattle.std.proofs.lemmas.List.Sums.{fold-append}
 use Rattle.indexmap.specs.IndexMap.{insert_entry}
 use Rattle.shb_lines.specs.declared.event.Pair.{Pair}
-use Rattle.shb_report.specs.Keyed.{Key, Keyed, counted_of, counting, same_key, with_keyed, with_more, with_new}
-use Rattle.shb_report.specs.Places.{with_one_more}
-use Rattle.shb_report.specs.declared.places.PlaceCount.{PlaceCount}
-use Rattle.shb_report.proofs.EachLemmas.{each-weaker}
-use Rattle.shb_report.proofs.KeyedLemmas.{put_last}
+use Rattle.shb_format.specs.Keyed.{Key, Keyed, counted_of, counting, same_key, with_keyed, with_more, with_new}
+use Rattle.shb_format.specs.Places.{with_one_more}
+use Rattle.shb_format.specs.declared.places.PlaceCount.{PlaceCount}
+use Rattle.shb_format.proofs.EachLemmas.{each-weaker}
+use Rattle.shb_format.proofs.KeyedLemmas.{put_last}
 use Rattle.shb_counts.specs.Counted.{Differ, by_number, grown, key_in, keyed_after, only, times, with_places}
 
 abbrev pub key_of : ℕ → ℕ → Key

@@ -18,13 +18,13 @@ use Rattle.shb_pairs.specs.Buckets.{with_key}
 use Rattle.shb_pairs.specs.Races.{races_with}
 use Rattle.shb_pairs.proofs.ByThread.{numbers_all}
 use Rattle.shb_pairs.proofs.Sorting.{sum_whole}
-use Rattle.shb_report.specs.Keyed.{AreKeyed, Key, Keyed, counted_of, same_key, with_keyed}
-use Rattle.shb_report.specs.Places.{IsPairOf, PlaceOf, counts_in, location_at, places_after, places_of_pairs, with_pair}
-use Rattle.shb_report.specs.Report.{pair_of}
-use Rattle.shb_report.proofs.EachLemmas.{each-weaker}
-use Rattle.shb_report.specs.declared.places.PlaceCount.{PlaceCount}
-use Rattle.shb_report.proofs.KeyedLemmas.{keyed_counts, keyed_pair}
-use Rattle.shb_report.proofs.LeadingLemmas.{pairs_back}
+use Rattle.shb_format.specs.Keyed.{AreKeyed, Key, Keyed, counted_of, same_key, with_keyed}
+use Rattle.shb_format.specs.Places.{IsPairOf, PlaceOf, counts_in, location_at, places_after, places_of_pairs, with_pair}
+use Rattle.shb_format.specs.Report.{pair_of}
+use Rattle.shb_format.proofs.EachLemmas.{each-weaker}
+use Rattle.shb_format.specs.declared.places.PlaceCount.{PlaceCount}
+use Rattle.shb_format.proofs.KeyedLemmas.{keyed_counts, keyed_pair}
+use Rattle.shb_format.proofs.LeadingLemmas.{pairs_back}
 use Rattle.shb_counts.specs.Counted.{Differ, HasCounted, HasCountedKnown, by_number, grown, key_in, keyed_after, times, with_places}
 use Rattle.shb_counts.specs.Counts.{AreNumbered, AreRacingCounts, number_in}
 use Rattle.shb_counts.specs.declared.counter.RaceCounter.{RaceCounter}

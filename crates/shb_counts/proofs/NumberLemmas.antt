@@ -7,8 +7,8 @@ use Rattle.std.proofs.lemmas.List.{get_or_append_left, get_or_push, length_push}
 use Rattle.std.proofs.lemmas.Option.{slice_get_within}
 use Rattle.indexmap.specs.IndexSet.{insert_key}
 use Rattle.shb_lines.specs.text.TraceData.{TraceData}
-use Rattle.shb_report.specs.Places.{location_at}
-use Rattle.shb_report.proofs.KeyedLemmas.{number_stays}
+use Rattle.shb_format.specs.Places.{location_at}
+use Rattle.shb_format.proofs.KeyedLemmas.{number_stays}
 use Rattle.shb_counts.specs.Counts.{AreNumbered}
 
 -- the number of an event is that of a location

@@ -10,7 +10,7 @@ use Rattle.shb_lines.specs.declared.event.Pair.{Pair}
 use Rattle.shb_lines.specs.events.Race.{ends}
 use Rattle.shb_lines.specs.text.TraceData.{TraceData}
 use Rattle.shb_pairs.specs.Races.{joined}
-use Rattle.shb_report.specs.Places.{IsPairOf}
+use Rattle.shb_format.specs.Places.{IsPairOf}
 
 module _ {A : Type 0} (P : A → Type 0) where
   pub all_left : (xs ys : List A) → All P (xs ++ ys) → All P xs

@@ -5,8 +5,8 @@ use Rattle.shb_lines.specs.declared.event.Pair.{Pair}
 use Rattle.shb_pairs.specs.Accesses.{IsByThread}
 use Rattle.shb_pairs.specs.declared.accesses.Which.{Which}
 use Rattle.shb_pairs.specs.declared.accesses.Which.TheVariants.{Both, Writes}
-use Rattle.shb_report.specs.Keyed.{Key, Keyed, counted_of, counting, same_key, with_keyed, with_new}
-use Rattle.shb_report.specs.Report.{pair_of}
+use Rattle.shb_format.specs.Keyed.{Key, Keyed, counted_of, counting, same_key, with_keyed, with_new}
+use Rattle.shb_format.specs.Report.{pair_of}
 use Rattle.shb_counts.specs.Counts.{number_in}
 use Rattle.shb_counts.specs.declared.counter.RaceCounter.{RaceCounter}
 use Rattle.shb_counts.specs.declared.tables.Compared.{Compared}

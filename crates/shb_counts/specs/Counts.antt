@@ -4,7 +4,7 @@ use Rattle.shb_lines.specs.declared.event.Event.{Event}
 use Rattle.shb_lines.specs.events.Reach.{is_race, numbers_where}
 use Rattle.shb_lines.specs.text.TraceData.{TraceData}
 use Rattle.shb_pairs.specs.Buckets.{HasCounts}
-use Rattle.shb_report.specs.Places.{location_at}
+use Rattle.shb_format.specs.Places.{location_at}
 
 -- each of the first `count` events has the number of its location
 pub record AreNumbered (trace : TraceData) (count : ℕ) (numbers : List ℕ) (locations : List (List ℕ)) : Type 0 where

@@ -4,8 +4,8 @@ ghost use Rattle.std.specs.Prelude.{◌≡◌, ◌++◌, ◌+◌, ◌<◌, ◌�
 ghost use Rattle.std.specs.Bool.{IsTrue};
 ghost use Rattle.shb_fan.specs.Values.{values_of};
 ghost use Rattle.shb_pairs.specs.Races.{joined, pieces_in, races_at};
-ghost use Rattle.shb_report.specs.Places.{counts_in, places_of_pairs};
-ghost use Rattle.shb_report.specs.Report.{pair_of};
+ghost use Rattle.shb_format.specs.Places.{counts_in, places_of_pairs};
+ghost use Rattle.shb_format.specs.Report.{pair_of};
 ghost use Rattle.shb_counts.specs.Counted.{AreTables, HasCounted};
 
 use crate::accesses::count_accesses;
@@ -13,12 +13,12 @@ use crate::counter::{Located, RaceCounter};
 use crate::numbering::location_numbers;
 use crate::racing::Room;
 use crate::tables::{Tables, tables_of};
-use shb_clocks::Order;
 use shb_fan::Job;
+use shb_format::{PlaceTable, Places};
 use shb_io::NoMemory;
 use shb_lines::Trace;
 use shb_pairs::{RangeJob, Search};
-use shb_report::{PlaceTable, Places};
+use shb_stamps::Order;
 use std::alloc::Global;
 use std::random::RandomSource;
 

@@ -7,15 +7,15 @@ ghost use Rattle.std.specs.Option.{is_some};
 ghost use Rattle.shb_lines.specs.declared.event.Event.{Event};
 ghost use Rattle.shb_lines.specs.events.Race.{ends};
 ghost use Rattle.shb_pairs.specs.Races.{races_with};
-ghost use Rattle.shb_report.specs.Keyed.{Keyed, counted_of};
-ghost use Rattle.shb_report.specs.Places.{IsPairOf};
+ghost use Rattle.shb_format.specs.Keyed.{Keyed, counted_of};
+ghost use Rattle.shb_format.specs.Places.{IsPairOf};
 ghost use Rattle.shb_counts.specs.Counted.{Differ, HasCounted, HasCountedKnown, by_number, grown, key_in, keyed_after, only, times, with_places};
 ghost use Rattle.shb_counts.specs.Counts.{AreNumbered, AreRacingCounts, number_in};
 
 use crate::numbering::LocationNumbers;
+use shb_format::{PlaceCount, PlaceTable};
 use shb_io::NoMemory;
 use shb_lines::{Pair, Trace};
-use shb_report::{PlaceCount, PlaceTable};
 
 /// A trace, and the numbers of its locations. That they are those of this trace is part of the type.
 #[derive(Drop)]

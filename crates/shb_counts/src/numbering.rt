@@ -3,9 +3,9 @@
 ghost use Rattle.std.specs.Prelude.{IfOk, length};
 ghost use Rattle.shb_counts.specs.Counts.{AreNumbered};
 
+use shb_format::Locations;
 use shb_io::NoMemory;
 use shb_lines::Trace;
-use shb_report::Locations;
 use std::alloc::Global;
 use std::random::RandomSource;
 

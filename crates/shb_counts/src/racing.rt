@@ -7,9 +7,9 @@ ghost use Rattle.shb_counts.specs.Counted.{AreTables};
 
 use crate::span_counts::{Rows, counts_in_spans};
 use crate::tables::Tables;
-use shb_clocks::Order;
 use shb_io::NoMemory;
 use shb_pairs::{Search, Span, racing_spans};
+use shb_stamps::Order;
 use std::alloc::Global;
 
 /// What the races of one later access after another are counted with: room for their spans and counts.

@@ -8,10 +8,10 @@ ghost use Rattle.shb_counts.specs.Counted.{AreTables, IsCompared};
 
 use crate::counter::Located;
 use crate::prefix_counts::PrefixCounts;
-use shb_clocks::Order;
 use shb_io::NoMemory;
 use shb_lines::Op;
 use shb_pairs::{Search, Which};
+use shb_stamps::Order;
 use std::alloc::Global;
 
 /// Accesses by thread, and a table of the numbers of their locations.

@@ -17,9 +17,9 @@ use Rattle.shb_replay.specs.Reasons.{IsBroken}
 use Rattle.shb_judging.specs.declared.verdict.RaceFault.{RaceFault}
 use Rattle.shb_judging.specs.declared.verdict.RaceFault.TheVariants.{Absent, NoConflict, FirstLine, SecondLine, Schedule}
 use Rattle.shb_judging.specs.Judging.{first_positions}
-use Rattle.shb_report.specs.Value.{Block}
+use Rattle.shb_format.specs.Value.{Block}
 use Rattle.shb_judging.specs.Verdicts.{HasGoodPair, HasRaceFault, IsGoodBlock, IsLowestFault, IsNoEvent, fault_number, pair_in, position_of, positions_of}
-use Rattle.shb_report.proofs.EachLemmas.{each_of}
+use Rattle.shb_format.proofs.EachLemmas.{each_of}
 use Rattle.shb_judging.proofs.LongSchedules.{broken_by_front, schedule_by_front}
 
 -- lists

@@ -4,7 +4,7 @@ use Rattle.std.specs.List.{AllByRecursion}
 use Rattle.shb_lines.specs.events.Race.{Race}
 use Rattle.shb_lines.specs.text.TraceData.{TraceData}
 use Rattle.shb_lines.proofs.events.Unschedulable.{race_of_schedule}
-use Rattle.shb_report.specs.Value.{Block, ReportValue}
+use Rattle.shb_format.specs.Value.{Block, ReportValue}
 use Rattle.shb_judging.specs.Verdicts.{IsGoodBlock, IsGoodReport}
 
 -- the block has a schedule of its pair, and a conflicting pair with a schedule is a race

@@ -10,8 +10,8 @@ use Rattle.shb_lines.specs.text.TraceData.{TraceData}
 use Rattle.shb_judging.specs.declared.judged.JudgedBlocks.{JudgedBlocks}
 use Rattle.shb_judging.specs.declared.verdict.RaceFault.{RaceFault}
 use Rattle.shb_judging.specs.Judging.{AreFound, AreJudged}
-use Rattle.shb_report.specs.Places.{IsPairOf}
-use Rattle.shb_report.specs.Value.{Block}
+use Rattle.shb_format.specs.Places.{IsPairOf}
+use Rattle.shb_format.specs.Value.{Block}
 use Rattle.shb_judging.specs.Verdicts.{IsFirstBadBlock, IsGoodBlock, IsLowestFault, pair_in}
 
 -- a list of one element more

@@ -14,7 +14,7 @@ use Rattle.shb_replay.specs.declared.broken.Why.TheVariants as whys
 use Rattle.shb_replay.specs.Reasons.{HasReason, IsBroken, IsFirstReason, IsLatestWrite, IsUnbroken, StandsEarlier}
 use Rattle.shb_replay.proofs.Closed.{once}
 use Rattle.shb_replay.proofs.Cuts.{members_in_trace}
-use Rattle.shb_report.proofs.EachLemmas.{each_of}
+use Rattle.shb_format.proofs.EachLemmas.{each_of}
 
 -- the lists have the same at each index before n
 AgreeBelow : List ℕ → List ℕ → ℕ → Type 0

@@ -7,8 +7,8 @@ use Rattle.shb_judging.specs.declared.verdict.Verdict.{Verdict}
 use Rattle.shb_judging.specs.declared.verdict.Verdict.TheVariants.{Good, BadLine, BadCounts, BadRace, BadPlaces}
 use Rattle.shb_reading.specs.declared.parts.PlaceEntry.{PlaceEntry}
 use Rattle.shb_reading.specs.Parts.{place_in_text, section_at}
-use Rattle.shb_report.specs.Places.{counts_in, places_of_pairs, shown_places}
-use Rattle.shb_report.specs.Value.{Block, ReportValue}
+use Rattle.shb_format.specs.Places.{counts_in, places_of_pairs, shown_places}
+use Rattle.shb_format.specs.Value.{Block, ReportValue}
 use Rattle.shb_judging.specs.Verdicts.{HasPlacesOf, IsVerdict, pair_in}
 use Rattle.shb_judging.proofs.WrittenGood.{length-shown, places_few}
 

@@ -5,10 +5,10 @@ use Rattle.std.proofs.lemmas.List.{map_push, take_more, take-map}
 use Rattle.std.proofs.lemmas.Option.{slice_get-get_or, slice_get-map}
 use Rattle.shb_lines.specs.text.TraceData.{TraceData}
 use Rattle.shb_reading.specs.declared.parts.PlaceEntry.{PlaceEntry}
-use Rattle.shb_report.specs.declared.places.PlaceCount.{PlaceCount}
+use Rattle.shb_format.specs.declared.places.PlaceCount.{PlaceCount}
 use Rattle.shb_reading.specs.Parts.{place_in_text, places_at}
-use Rattle.shb_report.specs.Places.{shown_place, shown_places}
-use Rattle.shb_report.specs.Value.{Place}
+use Rattle.shb_format.specs.Places.{shown_place, shown_places}
+use Rattle.shb_format.specs.Value.{Place}
 
 -- a list of values of a list
 module _ {A B : Type 0} (f : A → B) (xs : List A) (q : ℕ) (d : A) (within : q < length xs) where

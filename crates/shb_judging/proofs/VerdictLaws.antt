@@ -11,9 +11,9 @@ use Rattle.shb_judging.specs.declared.verdict.RaceFault.{RaceFault}
 use Rattle.shb_judging.specs.declared.verdict.RaceFault.TheVariants.{Absent, NoConflict, FirstLine, SecondLine, Schedule}
 use Rattle.shb_judging.specs.declared.verdict.Verdict.{Verdict}
 use Rattle.shb_judging.specs.declared.verdict.Verdict.TheVariants.{Good, BadLine, BadCounts, BadRace, BadPlaces}
-use Rattle.shb_report.specs.Value.{Block, ReportValue}
+use Rattle.shb_format.specs.Value.{Block, ReportValue}
 use Rattle.shb_judging.specs.Verdicts.{HasRaceFault, IsFirstBadBlock, IsGoodReport, IsLowestFault, IsVerdict, fault_number, positions_of}
-use Rattle.shb_report.proofs.EachLemmas.{each_at}
+use Rattle.shb_format.proofs.EachLemmas.{each_at}
 use Rattle.shb_judging.proofs.GoodBlocks.{good_has_none}
 
 module _ (trace : TraceData) (disciplined : IsDisciplined trace.events) (report : ReportValue) where

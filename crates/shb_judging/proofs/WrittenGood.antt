@@ -16,16 +16,16 @@ use Rattle.shb_lines.proofs.events.Reach.{event_at_access}
 use Rattle.shb_lines.proofs.events.Schedulable.{printed_is_schedule}
 use Rattle.shb_lines.proofs.text.LineTexts.{location_short}
 use Rattle.shb_judging.specs.declared.verdict.Verdict.TheVariants.{Good}
-use Rattle.shb_report.specs.Places.{PlaceOf, counts_in, location_at, places_of_pairs, shown_place, shown_places, with_one_more, with_pair}
-use Rattle.shb_report.specs.Report.{AllRaces, HasSchedule, IsReportOn, ShownRace, line_of_event, pair_of}
-use Rattle.shb_report.specs.Value.{IsBlock, IsPlace, IsReportValue, IsRest, IsShown, ReportValue, report_text}
+use Rattle.shb_format.specs.Places.{PlaceOf, counts_in, location_at, places_of_pairs, shown_place, shown_places, with_one_more, with_pair}
+use Rattle.shb_format.specs.Report.{AllRaces, HasSchedule, IsReportOn, ShownRace, line_of_event, pair_of}
+use Rattle.shb_format.specs.Value.{IsBlock, IsPlace, IsReportValue, IsRest, IsShown, ReportValue, report_text}
 use Rattle.shb_judging.specs.Verdicts.{IsGoodBlock, IsGoodReport, IsVerdict, pair_in}
-use Rattle.shb_report.specs.Writing.{IsShowable, block_of, written_report}
-use Rattle.shb_report.proofs.EachLemmas.{each_at}
+use Rattle.shb_format.specs.Writing.{IsShowable, block_of, written_report}
+use Rattle.shb_format.proofs.EachLemmas.{each_at}
 use Rattle.shb_judging.proofs.GoodBlocks.{in_range}
 use Rattle.shb_judging.proofs.LongSchedules.{few_different}
-use Rattle.shb_report.proofs.PlaceLemmas.{with_pair_few}
-use Rattle.shb_report.proofs.WrittenText.{written_is}
+use Rattle.shb_format.proofs.PlaceLemmas.{with_pair_few}
+use Rattle.shb_format.proofs.WrittenText.{written_is}
 
 abbrev pairs_of : List ShownRace → List (ℕ × ℕ)
 pairs_of shown = map (λ race. race.pair) shown

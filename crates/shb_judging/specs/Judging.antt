@@ -7,10 +7,10 @@ use Rattle.shb_judging.specs.declared.judged.JudgedBlocks.{JudgedBlocks}
 use Rattle.shb_reading.specs.declared.position.Position.{Position}
 use Rattle.shb_judging.specs.declared.verdict.RaceFault.{RaceFault}
 use Rattle.shb_judging.specs.declared.verdict.Verdict.{Verdict}
-use Rattle.shb_report.specs.declared.counts.Counts.{Counts}
+use Rattle.shb_format.specs.declared.counts.Counts.{Counts}
 use Rattle.shb_reading.specs.Parts.{IsTextOf, TakesBlocks}
-use Rattle.shb_report.specs.Places.{IsPairOf}
-use Rattle.shb_report.specs.Value.{Block, Place, ReportValue}
+use Rattle.shb_format.specs.Places.{IsPairOf}
+use Rattle.shb_format.specs.Value.{Block, Place, ReportValue}
 use Rattle.shb_judging.specs.Verdicts.{HasGoodPair, IsFirstBadBlock, IsGoodBlock, IsLowestFault, IsVerdict, pair_in, positions_of}
 
 -- the positions that are kept of a schedule: the first ones, at most one more than the trace has events

@@ -12,9 +12,9 @@ use Rattle.shb_judging.specs.declared.verdict.RaceFault.TheVariants.{Absent, NoC
 use Rattle.shb_judging.specs.declared.verdict.Verdict.{Verdict}
 use Rattle.shb_judging.specs.declared.verdict.Verdict.TheVariants.{Good, BadLine, BadCounts, BadRace, BadPlaces}
 use Rattle.shb_reading.specs.Reading.{IsBadLine, IsReportText}
-use Rattle.shb_report.specs.Places.{counts_in, places_of_pairs, shown_places}
-use Rattle.shb_report.specs.Report.{counts_of, line_of_event}
-use Rattle.shb_report.specs.Value.{Block, Place, ReportValue}
+use Rattle.shb_format.specs.Places.{counts_in, places_of_pairs, shown_places}
+use Rattle.shb_format.specs.Report.{counts_of, line_of_event}
+use Rattle.shb_format.specs.Value.{Block, Place, ReportValue}
 use Rattle.shb_lines.specs.Lowest.{IsLowest}
 
 -- the block is about two events that conflict, the earlier one first, and has their lines; its numbers count from 1

@@ -2,20 +2,20 @@
 ghost use Rattle.std.specs.Prelude.{◌≡◌, ◌↔◌, ℕ, All, IfOk, IsTrue, length};
 ghost use Rattle.shb_judging.specs.Judging.{AreJudged, IsVerdictOnJudged};
 ghost use Rattle.shb_reading.specs.Parts.{IsPlaceIn, place_in_text};
-ghost use Rattle.shb_report.specs.Places.{IsPairOf, IsPlaceOf, shown_place, shown_places};
-ghost use Rattle.shb_report.specs.Report.{counts_of};
+ghost use Rattle.shb_format.specs.Places.{IsPairOf, IsPlaceOf, shown_place, shown_places};
+ghost use Rattle.shb_format.specs.Report.{counts_of};
 ghost use Rattle.shb_judging.specs.declared.verdict.Verdict.TheVariants.{Good};
 ghost use Rattle.shb_judging.specs.Verdicts.{HasPlacesOf, IsGoodReport, IsVerdict};
 
 use crate::judged::{JudgedBlocks, judge_block, same_bytes, set_positions};
 use crate::verdict::Verdict;
 use shb_discipline::Disciplined;
+use shb_format::{Counts, PlaceCount, places_of};
 use shb_io::NoMemory;
 use shb_lines::{Pair, Trace};
 use shb_links::{Linked, Links};
 use shb_reading::{PlaceEntry, Report, Section, bytes_in};
 use shb_replay::Judge;
-use shb_report::{Counts, PlaceCount, places_of};
 use std::alloc::Global;
 use std::random::RandomSource;
 

@@ -2,7 +2,7 @@
 ghost use Rattle.std.specs.Prelude.{◌≡◌, ◌+◌, ◌-◌, ◌<◌, ◌≤◌, ◌↔◌, ◌^◌, ◌++◌, ◌∷◌, [], ℕ, List, None, IfErr, IfOk, IsTrue, MatchResult, OnOk, map, take};
 ghost use Rattle.shb_judging.specs.Judging.{AreJudged, first_positions};
 ghost use Rattle.shb_reading.specs.Parts.{block_with};
-ghost use Rattle.shb_report.specs.Value.{Block};
+ghost use Rattle.shb_format.specs.Value.{Block};
 ghost use Rattle.shb_judging.specs.Verdicts.{HasGoodPair, IsGoodBlock, IsLowestFault, pair_in, position_of};
 
 use crate::positions::position_of;

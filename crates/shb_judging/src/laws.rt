@@ -7,9 +7,9 @@ ghost use Rattle.shb_judging.specs.declared.verdict.Verdict.TheVariants.{Good};
 ghost use Rattle.shb_lines.specs.events.Discipline.{IsDisciplined};
 ghost use Rattle.shb_lines.specs.events.Race.{Race};
 ghost use Rattle.shb_lines.specs.text.TraceData.{TraceData};
-ghost use Rattle.shb_report.specs.Report.{AllRaces, IsReportOn};
-ghost use Rattle.shb_report.specs.Value.{IsReportValue, IsShown, ReportValue, report_text};
-ghost use Rattle.shb_report.specs.Writing.{IsShowable};
+ghost use Rattle.shb_format.specs.Report.{AllRaces, IsReportOn};
+ghost use Rattle.shb_format.specs.Value.{IsReportValue, IsShown, ReportValue, report_text};
+ghost use Rattle.shb_format.specs.Writing.{IsShowable};
 
 /// The report of a disciplined trace that the writer's parts are, with schedules, is the text of a report
 /// in the grammar, and its verdict is `Good` with the number of its races. Asked of the trace: its

@@ -4,8 +4,8 @@ ghost use Rattle.shb_io.specs.Devices.{IsCounted, Writes};
 ghost use Rattle.shb_judging.specs.Verdicts.{verdict_bytes};
 
 use crate::verdict::Verdict;
+use shb_format::numbered_line;
 use shb_io::{Failed, Sink, write_all};
-use shb_report::numbered_line;
 
 /// Writes the line of a verdict: `ok R`, `bad line N`, `bad counts`, `bad race K` or `bad places`.
 ///

@@ -13,8 +13,8 @@ use Rattle.shb_lines.proofs.events.Events.{event_of_thread}
 use Rattle.shb_lines.proofs.events.Items.{thread_within}
 use Rattle.shb_lines.proofs.events.Listed.{IsListed, listed_more_yes, listed_more_no, listed_none}
 use Rattle.shb_lines.proofs.events.Prefix.{is_of_thread}
-use Rattle.shb_clocks.proofs.Fronts.{thread_in_range}
-use Rattle.shb_clocks.proofs.Locals.{time_at, time_order, time_within}
+use Rattle.shb_stamps.proofs.Fronts.{thread_in_range}
+use Rattle.shb_stamps.proofs.Locals.{time_at, time_order, time_within}
 use Rattle.shb_orders.specs.Learned.{IsLearning, LearnsAt, AreLearnedTimes}
 use Rattle.shb_orders.specs.Rows.{AreEach}
 

@@ -10,7 +10,7 @@ use Rattle.shb_lines.specs.events.Discipline.{local_time}
 use Rattle.shb_lines.specs.events.Order.{LastWrite}
 use Rattle.shb_links.specs.Links.{Exactly}
 use Rattle.shb_orders.specs.Learned.{IsLearning, first, acquires, joins, reads}
-use Rattle.shb_clocks.proofs.Locals.{time_at, time_rises}
+use Rattle.shb_stamps.proofs.Locals.{time_at, time_rises}
 use Rattle.shb_orders.proofs.Times.{time_first}
 
 module _ (trace : List Event) (e u : ℕ) (of_e : thread_at trace e ≡ Some u) where

@@ -8,7 +8,7 @@ use Rattle.shb_lines.specs.events.Discipline.{is_of, local_time}
 use Rattle.shb_lines.proofs.events.Counts.{count_gap}
 use Rattle.shb_lines.proofs.events.Events.{thread_is}
 use Rattle.shb_lines.proofs.events.Prefix.{is_of_thread}
-use Rattle.shb_clocks.proofs.Locals.{time_at}
+use Rattle.shb_stamps.proofs.Locals.{time_at}
 
 module _ (trace : List Event) (t : ℕ) where
   -- no event of the thread stands between

@@ -2,17 +2,17 @@
 
 ghost use Rattle.std.specs.Prelude.{◌≡◌, ℕ, ◌<◌, true, All, Contains, List, IfOk, length, slice_index_or, []};
 ghost use Rattle.shb_lines.specs.declared.event.Event.{Event};
-ghost use Rattle.shb_clocks.specs.Listed.{is_listed};
+ghost use Rattle.shb_stamps.specs.Listed.{is_listed};
 ghost use Rattle.shb_orders.specs.Learned.{AreLearnedTimes};
 ghost use Rattle.shb_orders.specs.Rows.{AreEach};
 
 use crate::learning::learned_times;
 use crate::row::Row;
-use shb_clocks::{ListedRows, Order, at_events};
 use shb_discipline::Disciplined;
 use shb_io::NoMemory;
 use shb_lines::Event;
 use shb_links::{Linked, Links};
+use shb_stamps::{ListedRows, Order, at_events};
 use std::alloc::Global;
 use std::marker::Model;
 
@@ -29,7 +29,7 @@ pub struct ClockVersions<'a> {
 impl<'a> Model for ClockVersions<'a> {
     ghost use Rattle.std.specs.Prelude.{ℕ, ◌≡◌, ◌<◌, true, List, [], length, slice_index_or};
     ghost use Rattle.shb_lines.specs.declared.event.Event.{Event};
-    ghost use Rattle.shb_clocks.specs.Listed.{is_listed};
+    ghost use Rattle.shb_stamps.specs.Listed.{is_listed};
     ghost use Rattle.shb_orders.specs.Learned.{AreLearnedTimes};
 
     ghost Value = { List Event };

@@ -5,11 +5,11 @@ ghost use Rattle.shb_lines.specs.declared.event.Event.{Event};
 ghost use Rattle.shb_orders.specs.Rows.{AreEach, IsClockBefore};
 
 use crate::row::Row;
-use shb_clocks::{Order, Sweep};
 use shb_discipline::Disciplined;
 use shb_io::NoMemory;
 use shb_lines::Event;
 use shb_links::{Linked, Links};
+use shb_stamps::{Order, Sweep};
 use std::alloc::Global;
 use std::marker::Model;
 

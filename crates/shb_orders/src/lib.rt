@@ -1,8 +1,8 @@
 //! Orders that can be asked about each event of a trace. No run uses them: tests compare what they answer
-//! with one another and with the orders of `shb_clocks`, and search races with them.
+//! with one another and with the orders of `shb_stamps`, and search races with them.
 //!
 //! [`PlainOrder`] has marks by a backward sweep over the edges, for small traces. [`FullClocks`] has a
-//! vector clock for each event, made of what `Sweep` of `shb_clocks` answers. [`ClockVersions`] has the rows of
+//! vector clock for each event, made of what `Sweep` of `shb_stamps` answers. [`ClockVersions`] has the rows of
 //! `at_events`, which are kept only where a thread learns of others, for all events; and it gives the local
 //! times at which a thread may learn (its first event, an acquire, a join, a read that has a last write).
 #![tactic(auto)]

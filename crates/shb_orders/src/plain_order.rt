@@ -9,11 +9,11 @@ ghost use Rattle.shb_orders.specs.Rows.{AreEach};
 
 use crate::edges::is_edge;
 use crate::row::Row;
-use shb_clocks::Order;
 use shb_discipline::Disciplined;
 use shb_io::NoMemory;
 use shb_lines::Events;
 use shb_links::{Linked, Links};
+use shb_stamps::Order;
 use std::alloc::Global;
 use std::marker::Model;
 

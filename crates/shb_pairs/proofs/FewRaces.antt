@@ -8,7 +8,7 @@ use Rattle.shb_fan.specs.Values.{values_of}
 use Rattle.shb_lines.specs.declared.event.Event.{Event}
 use Rattle.shb_lines.specs.events.Race.{variable_at}
 use Rattle.shb_lines.specs.events.Reach.{numbers_where}
-use Rattle.shb_clocks.specs.Open.{OpenTrace, is_open}
+use Rattle.shb_stamps.specs.Open.{OpenTrace, is_open}
 use Rattle.shb_pairs.specs.declared.piece.Piece.{Piece}
 use Rattle.shb_pairs.specs.Accesses.{accesses_at, accesses_in, listed_accesses, variables_in}
 use Rattle.shb_pairs.specs.Races.{joined, pieces_below, pieces_in, races_at, races_of}

@@ -14,7 +14,7 @@ use Rattle.shb_lines.specs.events.Reach.{numbers_where}
 use Rattle.shb_lines.specs.events.Sizes.{IsNumberedByAccess}
 use Rattle.shb_pairs.specs.declared.piece.Piece.{Piece}
 use Rattle.shb_pairs.specs.Accesses.{accesses_in, listed_accesses, variables_in}
-use Rattle.shb_clocks.specs.Open.{OpenTrace, is_open}
+use Rattle.shb_stamps.specs.Open.{OpenTrace, is_open}
 use Rattle.shb_pairs.specs.Open.{AreOpen}
 use Rattle.shb_pairs.specs.Races.{first_pieces, joined, numbered_piece, pieces_below, pieces_in, races_at, races_of, races_with}
 use Rattle.shb_pairs.proofs.Listing.{numbers_below, races_on, races_on_parts, all_races, all_is_race_list}

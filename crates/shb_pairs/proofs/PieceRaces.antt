@@ -12,7 +12,7 @@ use Rattle.shb_lines.specs.events.Reach.{numbers_where, is_race}
 use Rattle.shb_lines.proofs.events.Reach.{numbers_listed, reflect_race}
 use Rattle.shb_pairs.specs.declared.piece.Piece.{Piece}
 use Rattle.shb_pairs.specs.Accesses.{accesses_at, accesses_in, listed_accesses, variables_in}
-use Rattle.shb_clocks.specs.Open.{OpenTrace, is_open}
+use Rattle.shb_stamps.specs.Open.{OpenTrace, is_open}
 use Rattle.shb_pairs.specs.Races.{first_pieces, numbered_piece, piece_at, pieces_below, pieces_in, races_at, races_of, races_with}
 use Rattle.shb_pairs.proofs.ByThread.{listed_closed, listed_open}
 use Rattle.shb_pairs.proofs.Counting.{access_from_test, test_from_access}

@@ -8,7 +8,7 @@ use Rattle.shb_lines.specs.events.Race.{Race}
 use Rattle.shb_lines.proofs.events.Reach.{numbers_listed}
 use Rattle.shb_pairs.specs.declared.piece.Piece.{Piece}
 use Rattle.shb_pairs.specs.Accesses.{accesses_at, accesses_in, listed_accesses}
-use Rattle.shb_clocks.specs.Open.{OpenTrace}
+use Rattle.shb_stamps.specs.Open.{OpenTrace}
 use Rattle.shb_pairs.specs.Races.{AreRacesOfPiece, piece_at, pieces_in, races_at, races_of, races_with}
 use Rattle.shb_pairs.proofs.ByThread.{listed_open}
 use Rattle.shb_pairs.proofs.Listing.{piece_rises, race_contained, race_parts}

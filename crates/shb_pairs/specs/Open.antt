@@ -2,7 +2,7 @@
 use Rattle.std.specs.Prelude.{◌≡◌, ℕ, Bool, true, false, List, Some}
 use Rattle.shb_lines.specs.declared.event.Event.{Event}
 use Rattle.shb_lines.specs.events.Race.{Race, variable_at}
-use Rattle.shb_clocks.specs.Open.{is_open}
+use Rattle.shb_stamps.specs.Open.{is_open}
 
 -- a variable that isn't open has no race: no pair of its accesses is one
 abbrev pub AreOpen : List Event → List Bool → Type 0

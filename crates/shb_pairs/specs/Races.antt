@@ -4,7 +4,7 @@ use Rattle.std.specs.Int.{div_ceil}
 use Rattle.shb_lines.specs.declared.event.Event.{Event}
 use Rattle.shb_lines.specs.events.Race.{Race}
 use Rattle.shb_lines.specs.events.Reach.{numbers_where, is_race}
-use Rattle.shb_clocks.specs.Open.{OpenTrace}
+use Rattle.shb_stamps.specs.Open.{OpenTrace}
 use Rattle.shb_pairs.specs.declared.piece.Piece.{Piece}
 use Rattle.shb_pairs.specs.Accesses.{accesses_in, listed_accesses, variables_in}
 

@@ -1,7 +1,7 @@
 //! The races of a trace as work in pieces.
 
 ghost use Rattle.std.specs.Prelude.{◌≡◌, ◌<◌, ◌≤◌, ◌^◌, flat_map, length, map, slice_range};
-ghost use Rattle.shb_clocks.specs.Open.{OpenTrace};
+ghost use Rattle.shb_stamps.specs.Open.{OpenTrace};
 ghost use Rattle.shb_fan.specs.Values.{values_of};
 ghost use Rattle.shb_pairs.specs.Accesses.{accesses_in};
 ghost use Rattle.shb_pairs.specs.Open.{AsksOpen};
@@ -13,12 +13,12 @@ use crate::piece::Piece;
 use crate::races::races_in;
 use crate::ranges::RaceRanges;
 use crate::search::Search;
-use shb_clocks::{Order, Ordered};
 use shb_discipline::Disciplined;
 use shb_fan::Job;
 use shb_io::NoMemory;
 use shb_lines::Pair;
 use shb_links::Links;
+use shb_stamps::{Order, Ordered};
 use std::alloc::Global;
 use std::collections::LinkedList;
 use std::marker::Model;

@@ -9,7 +9,7 @@ ghost use Rattle.shb_lines.specs.events.Order.{BelowPred};
 ghost use Rattle.shb_lines.specs.events.Race.{Conflict, IsRaceList, Race};
 ghost use Rattle.shb_lines.specs.events.Schedule.{IsPrintedSchedule, IsSchedule};
 ghost use Rattle.shb_lines.specs.events.Sizes.{IsNumberedByAccess};
-ghost use Rattle.shb_clocks.specs.Open.{OpenTrace};
+ghost use Rattle.shb_stamps.specs.Open.{OpenTrace};
 ghost use Rattle.shb_pairs.specs.Open.{AreOpen};
 ghost use Rattle.shb_pairs.specs.Races.{AreRacesOfPiece, joined, piece_at, pieces_in, races_at};
 

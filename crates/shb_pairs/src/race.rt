@@ -5,10 +5,10 @@ ghost use Rattle.shb_lines.specs.events.Order.{BelowPred};
 ghost use Rattle.shb_lines.specs.events.Race.{Conflict, Race};
 ghost use Rattle.shb_lines.specs.events.Schedule.{IsSchedule};
 
-use shb_clocks::{Order, Ordered};
 use shb_discipline::Disciplined;
 use shb_lines::events_conflict_at;
 use shb_links::Links;
+use shb_stamps::{Order, Ordered};
 
 /// Whether an event is SHB-below the predecessor of a later one, or is it: whether its local time in its
 /// thread is at most the number of events of that thread that the order answers.

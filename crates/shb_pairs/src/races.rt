@@ -8,8 +8,8 @@ ghost use Rattle.shb_pairs.specs.Races.{joined, races_with};
 use crate::ranges::RaceRanges;
 use crate::search::Search;
 use crate::spans::{compared_with, parts_of, racing_spans};
-use shb_clocks::Order;
 use shb_io::NoMemory;
+use shb_stamps::Order;
 use std::alloc::Global;
 
 /// Adds the races of a later access with all accesses before it, found thread by thread.

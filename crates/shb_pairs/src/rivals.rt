@@ -9,9 +9,9 @@ ghost use Rattle.shb_pairs.specs.Spans.{AreRivals, IsOfOneThread, racing};
 ghost use Rattle.shb_pairs.specs.declared.buckets.Key.TheVariants.{Thread};
 
 use crate::spans::Span;
-use shb_clocks::{Order, Ordered};
 use shb_lines::Events;
 use shb_links::Links;
+use shb_stamps::{Order, Ordered};
 
 /// Where positions of one thread end that start at an index, among positions by thread. By halving.
 pub(crate) fn thread_end(events: &Events, positions: &[u32], start: usize) -> usize

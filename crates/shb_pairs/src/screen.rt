@@ -7,10 +7,10 @@ ghost use Rattle.shb_lines.specs.events.Race.{variable_at};
 ghost use Rattle.shb_pairs.specs.Open.{AreOpen};
 ghost use Rattle.shb_pairs.specs.Screen.{AreScreened, IsPast, IsScreened, no_time};
 
-use shb_clocks::{Order, Ordered, Sweep};
 use shb_discipline::Disciplined;
 use shb_io::NoMemory;
 use shb_links::{Linked, Links};
+use shb_stamps::{Order, Ordered, Sweep};
 use std::alloc::Global;
 
 /// The local time of an event that isn't known any more, above that of each event.

@@ -3,16 +3,16 @@
 ghost use Rattle.std.specs.Prelude.{◌≡◌, ◌<◌, true, Some, IfOk, map};
 ghost use Rattle.shb_lines.specs.events.Race.{ends, variable_at};
 ghost use Rattle.shb_pairs.specs.Accesses.{IsByThread, accesses_in, variables_in};
-ghost use Rattle.shb_clocks.specs.Open.{is_open};
+ghost use Rattle.shb_stamps.specs.Open.{is_open};
 ghost use Rattle.shb_pairs.specs.Open.{AsksOpen};
 ghost use Rattle.shb_pairs.specs.Races.{races_with};
 
 use crate::accesses::{Accesses, Which};
 use crate::races::add_races;
 use crate::ranges::RaceRanges;
-use shb_clocks::{Order, Ordered};
 use shb_io::NoMemory;
 use shb_lines::Pair;
+use shb_stamps::{Order, Ordered};
 use std::alloc::Global;
 
 /// What the search for the races of one variable goes by: an ordered trace, the accesses of its open

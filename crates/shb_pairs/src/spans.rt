@@ -11,8 +11,8 @@ use crate::buckets::part;
 use crate::ranges::Range;
 use crate::rivals::{tail_of, thread_end};
 use crate::search::Search;
-use shb_clocks::{Order, Ordered};
 use shb_io::NoMemory;
+use shb_stamps::{Order, Ordered};
 use std::alloc::Global;
 
 /// Neighbouring elements of a list.

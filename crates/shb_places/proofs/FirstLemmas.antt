@@ -15,8 +15,8 @@ use Rattle.std.specs.Map.{keys_of}
 use Rattle.std.proofs.lemmas.Bool.{cases_order}
 use Rattle.std.proofs.lemmas.Map.Keys.{apart_from_distinct}
 use Rattle.shb_lines.proofs.text.Numbers.{one_number}
-use Rattle.shb_report.specs.Leading.{place_at}
-use Rattle.shb_report.specs.Places.{location_at}
+use Rattle.shb_format.specs.Leading.{place_at}
+use Rattle.shb_format.specs.Places.{location_at}
 use Rattle.shb_places.specs.declared.sites.Site.{Site}
 use Rattle.shb_places.specs.Found.{AreFound, FoundRace, same_key}
 use Rattle.shb_places.proofs.FoundLemmas.{key_same}

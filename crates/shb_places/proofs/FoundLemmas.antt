@@ -8,8 +8,8 @@ use Rattle.std.proofs.lemmas.Map.Views.{Contains-from_lookup}
 use Rattle.indexmap.specs.IndexMap.{insert_entry}
 use Rattle.shb_lines.specs.text.TraceData.{TraceData}
 use Rattle.shb_lines.proofs.events.Increasing.{contains_cases, contains_head, contains_none, contains_tail}
-use Rattle.shb_report.specs.Leading.{place_at}
-use Rattle.shb_report.specs.Places.{location_at}
+use Rattle.shb_format.specs.Leading.{place_at}
+use Rattle.shb_format.specs.Places.{location_at}
 use Rattle.shb_places.specs.declared.found.ListedRace.{ListedRace}
 use Rattle.shb_places.specs.declared.notes.Access.{Access}
 use Rattle.shb_places.specs.Access.{HasFirsts, HaveFirsts, IsAccess}

@@ -9,7 +9,7 @@ use Rattle.shb_lines.specs.declared.event.Pair.{Pair}
 use Rattle.shb_lines.specs.events.Race.{KeyBefore, Race, variable_at}
 use Rattle.shb_lines.specs.events.Reach.{is_race, numbers_where}
 use Rattle.shb_lines.proofs.events.Reach.{numbers_listed}
-use Rattle.shb_report.specs.Report.{pair_of}
+use Rattle.shb_format.specs.Report.{pair_of}
 use Rattle.shb_pairs.specs.Accesses.{accesses_at, accesses_in, variables_in}
 use Rattle.shb_pairs.specs.Races.{races_with}
 use Rattle.shb_pairs.proofs.FlatMaps.{flat_map_ordered, map_contains, map_ordered, map_parts}

@@ -1,7 +1,7 @@
 -- What an event is to the search.
 use Rattle.std.proofs.lemmas.Grind.{common_steps}
 use Rattle.std.proofs.Common.{◌≡◌, ℕ, Bool, false, List, Some, None, subst, sym, ◌∙◌, arith}
-use Rattle.shb_clocks.specs.Open.{is_open}
+use Rattle.shb_stamps.specs.Open.{is_open}
 use Rattle.shb_lines.specs.declared.event.Event.{Event}
 use Rattle.shb_lines.specs.declared.event.Op.{Op}
 use Rattle.shb_lines.specs.events.Events.{op_at, variable_of}

@@ -4,7 +4,7 @@ use Rattle.std.proofs.Common.{◌≡◌, ℕ, ◌+◌, ◌≤◌, inl, inr, Bool
 use Rattle.std.proofs.Math.ListN.{set}
 use Rattle.std.proofs.lemmas.Bool.{cases_eq}
 use Rattle.std.proofs.lemmas.Option.{slice_get_within}
-use Rattle.shb_clocks.specs.Open.{is_open}
+use Rattle.shb_stamps.specs.Open.{is_open}
 use Rattle.shb_lines.specs.events.Race.{variable_at, Race}
 use Rattle.shb_lines.specs.text.TraceData.{TraceData}
 use Rattle.shb_pairs.specs.Open.{AreOpen}
@@ -24,7 +24,7 @@ use Rattle.shb_places.proofs.Lists.{get_set, get_set_other, same_entry}
 use Rattle.shb_places.proofs.SearchLemmas.{kept_later, kept_sites, race_variable}
 use Rattle.shb_places.proofs.WantedLemmas.{told_held, wanted_grown, wanted_none, wanted_then}
 use Rattle.shb_lines.proofs.events.Increasing.{contains_none}
-use Rattle.shb_report.specs.Leading.{place_at}
+use Rattle.shb_format.specs.Leading.{place_at}
 use Rattle.shb_pairs.proofs.Found.{accessed_within}
 use Rattle.shb_places.specs.declared.notes.Link.{Link}
 

@@ -6,7 +6,7 @@ use Rattle.std.proofs.lemmas.Bool.{cases_eq}
 use Rattle.std.proofs.lemmas.Option.{slice_get_within, slice_get-get_or}
 use Rattle.shb_lines.specs.events.Race.{Race}
 use Rattle.shb_lines.specs.text.TraceData.{TraceData}
-use Rattle.shb_report.specs.Places.{location_at}
+use Rattle.shb_format.specs.Places.{location_at}
 use Rattle.shb_places.specs.declared.notes.Access.{Access}
 use Rattle.shb_places.specs.declared.sites.Site.{Site}
 use Rattle.shb_places.specs.declared.wanted.Wanted.{Wanted}

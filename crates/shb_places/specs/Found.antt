@@ -5,8 +5,8 @@ use Rattle.shb_lines.specs.declared.event.Event.{Event}
 use Rattle.shb_lines.specs.declared.event.Pair.{Pair}
 use Rattle.shb_lines.specs.events.Race.{Race, variable_at}
 use Rattle.shb_lines.specs.text.TraceData.{TraceData}
-use Rattle.shb_report.specs.Leading.{place_at}
-use Rattle.shb_report.specs.Places.{location_at}
+use Rattle.shb_format.specs.Leading.{place_at}
+use Rattle.shb_format.specs.Places.{location_at}
 use Rattle.shb_places.specs.declared.found.ListedRace.{ListedRace}
 
 -- a race of x by its two events

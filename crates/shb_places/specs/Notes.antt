@@ -4,7 +4,7 @@ use Rattle.shb_lines.specs.events.Discipline.{local_time}
 use Rattle.shb_lines.specs.events.Events.{thread_at, op_at}
 use Rattle.shb_lines.specs.events.Race.{Race, variable_at}
 use Rattle.shb_lines.specs.text.TraceData.{TraceData}
-use Rattle.shb_report.specs.Places.{location_at}
+use Rattle.shb_format.specs.Places.{location_at}
 use Rattle.shb_places.specs.declared.notes.Access.{Access}
 use Rattle.shb_places.specs.declared.notes.Class.{Class}
 use Rattle.shb_places.specs.declared.notes.Link.{Link}

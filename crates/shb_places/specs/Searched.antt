@@ -1,6 +1,6 @@
 -- What the search has found so far.
 use Rattle.std.specs.Prelude.{◌≡◌, ℕ, ◌+◌, ◌<◌, ◌≤◌, ◌⊎◌, Bool, true, List, Some, Contains, length, slice_get}
-use Rattle.shb_clocks.specs.Open.{is_open}
+use Rattle.shb_stamps.specs.Open.{is_open}
 use Rattle.shb_lines.specs.events.Race.{Race, variable_at}
 use Rattle.shb_lines.specs.text.TraceData.{TraceData}
 use Rattle.shb_places.specs.declared.found.Found.{Found}

@@ -4,7 +4,7 @@ ghost use Rattle.shb_lines.specs.declared.event.Event.{Event};
 ghost use Rattle.shb_lines.specs.events.Race.{ends};
 ghost use Rattle.shb_lines.specs.events.Sizes.{IsNumberedByAccess};
 ghost use Rattle.shb_lines.specs.text.TraceData.{TraceData};
-ghost use Rattle.shb_report.specs.Report.{LeadingRaces};
+ghost use Rattle.shb_format.specs.Report.{LeadingRaces};
 ghost use Rattle.shb_places.specs.Found.{Covers, HasVariable, IsInListOrder, race_in};
 
 use crate::found::{Found, ListedRace};

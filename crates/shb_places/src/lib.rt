@@ -13,7 +13,7 @@
 ghost use Rattle.std.specs.Prelude.{◌≡◌, IfOk, map};
 ghost use Rattle.shb_lines.specs.events.Race.{ends};
 ghost use Rattle.shb_pairs.specs.Open.{AreOpen};
-ghost use Rattle.shb_report.specs.Report.{LeadingRaces};
+ghost use Rattle.shb_format.specs.Report.{LeadingRaces};
 
 mod found;
 mod leading;

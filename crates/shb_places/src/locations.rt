@@ -2,11 +2,11 @@
 
 ghost use Rattle.std.specs.Prelude.{◌≡◌, ◌<◌, ℕ, Contains, IfOk, OnOk, length};
 ghost use Rattle.shb_places.specs.Access.{AreFirsts, IsLocatedAt};
-ghost use Rattle.shb_report.specs.Places.{location_at};
+ghost use Rattle.shb_format.specs.Places.{location_at};
 
 use shb_discipline::Disciplined;
+use shb_format::Locations;
 use shb_io::NoMemory;
-use shb_report::Locations;
 use std::alloc::Global;
 use std::random::RandomSource;
 

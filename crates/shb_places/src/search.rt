@@ -4,7 +4,7 @@
 //! ([`crate::wanted`]), and asks these.
 
 ghost use Rattle.std.specs.Prelude.{◌≡◌, ◌+◌, ◌<◌, ℕ, Bool, false, true, Contains, IfOk, List, OnOk, Some, length, slice_get};
-ghost use Rattle.shb_clocks.specs.Open.{is_open as open_flag};
+ghost use Rattle.shb_stamps.specs.Open.{is_open as open_flag};
 ghost use Rattle.shb_lines.specs.events.Race.{variable_at};
 ghost use Rattle.shb_lines.specs.text.TraceData.{TraceData};
 ghost use Rattle.shb_pairs.specs.Open.{AreOpen};
@@ -21,10 +21,10 @@ use crate::notes::{Access, Notes};
 use crate::numbers::NONE;
 use crate::sites::Sites;
 use crate::wanted::{Wanted, look, make_room, remove_if};
-use shb_clocks::{Order, Ordered, Sweep, is_open};
 use shb_discipline::Disciplined;
 use shb_io::NoMemory;
 use shb_links::{Linked, Links};
+use shb_stamps::{Order, Ordered, Sweep, is_open};
 use std::alloc::Global;
 use std::random::RandomSource;
 

@@ -5,7 +5,7 @@ use Rattle.std.proofs.lemmas.List.{take_all, take-append-le}
 use Rattle.std.proofs.lemmas.Bool.{cases_lt}
 use Rattle.std.specs.Io.KnownBytes.{Consumes, IsAtEnd}
 use Rattle.shb_reading.specs.Parts.{IsTextOf}
-use Rattle.shb_report.specs.Value.{IsReportValue, ReportValue, lines_text, report_lines, report_text}
+use Rattle.shb_format.specs.Value.{IsReportValue, ReportValue, lines_text, report_lines, report_text}
 use Rattle.shb_reading.specs.Reading.{BeginsReport, IsBadLine}
 use Rattle.shb_reading.specs.Forms.{Form, Version, End, Takes, IsBadFrom}
 use Rattle.shb_reading.proofs.Machine.{after}

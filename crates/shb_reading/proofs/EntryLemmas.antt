@@ -13,9 +13,9 @@ use Rattle.shb_reading.specs.Forms.{Form, block_forms, place_forms}
 use Rattle.shb_reading.specs.Lines.{IfBad, IfStop, TakesLine, bytes_from}
 use Rattle.shb_reading.specs.Parts.{IsPlaceIn, IsRaceIn, IsSpanIn, ReadsBlock, ReadsBlocks, ReadsPlace, ReadsPlaces, TakesBlocks, block_at, block_from, blocks_at, bytes_at, place_in_text, places_at}
 use Rattle.shb_reading.specs.Lines.{AddsShown}
-use Rattle.shb_report.proofs.EachLemmas.{each-push, each-weaker}
-use Rattle.shb_report.proofs.LineLemmas.{block_lines-append, joined, place_lines-append}
-use Rattle.shb_report.specs.Value.{Block, IsBlock, IsPlace, IsRest, IsShown, block_lines, lines_text, numbers_line, place_lines, race_numbers_line}
+use Rattle.shb_format.proofs.EachLemmas.{each-push, each-weaker}
+use Rattle.shb_format.proofs.LineLemmas.{block_lines-append, joined, place_lines-append}
+use Rattle.shb_format.specs.Value.{Block, IsBlock, IsPlace, IsRest, IsShown, block_lines, lines_text, numbers_line, place_lines, race_numbers_line}
 
 pub stop_weaker : (stop : ReadStop) (P Q : ℕ → Type 0) → ((n : ℕ) → P n → Q n) → IfStop stop P → IfStop stop Q
 stop_weaker (BadLine n) P Q weaker h = weaker n h

@@ -8,7 +8,7 @@ use Rattle.std.proofs.lemmas.List.{append_cancel_left}
 use Rattle.std.proofs.lemmas.List.Folds.{list_all-append}
 use Rattle.std.proofs.lemmas.Fmt.{decimal_injective}
 use Rattle.shb_reading.specs.Lines.{Stops, IsLabelled}
-use Rattle.shb_report.specs.Value.{HasNoLineFeed}
+use Rattle.shb_format.specs.Value.{HasNoLineFeed}
 
 first_true : (a b : Bool) → (a && b) ≡ true → a ≡ true
 first_true true b h = refl

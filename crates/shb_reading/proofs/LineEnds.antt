@@ -8,7 +8,7 @@ use Rattle.shb_reading.specs.declared.position.Position.{Position}
 use Rattle.shb_reading.specs.declared.parts.Span.{Span}
 use Rattle.shb_reading.specs.Parts.{IsSpanIn, bytes_at}
 use Rattle.shb_reading.specs.Lines.{BeginsWithLine, Lacks, TakesLine, bytes_from}
-use Rattle.shb_report.specs.Value.{HasNoLineFeed, IsRest}
+use Rattle.shb_format.specs.Value.{HasNoLineFeed, IsRest}
 use Rattle.std.proofs.lemmas.Bool.Decides.{nat_tests}
 use Rattle.shb_reading.proofs.Fronts.{both_true, second_true, same_line}
 

@@ -6,7 +6,7 @@ use Rattle.std.proofs.lemmas.List.{append_cancel_left}
 use Rattle.std.specs.List.{AllByRecursion}
 use Rattle.std.specs.Char.{is_ascii_digit}
 use Rattle.shb_reading.specs.Lines.{AddsShown, Stops, IsLabelled}
-use Rattle.shb_report.specs.Value.{IsShown, listed, numbers_line}
+use Rattle.shb_format.specs.Value.{IsShown, listed, numbers_line}
 use Rattle.shb_reading.proofs.Peeling.{peel}
 
 pub ends-listed : (ns : List ℕ) → Stops is_ascii_digit (listed ns)

@@ -2,7 +2,7 @@
 use Rattle.std.proofs.Common.{◌≡◌, Bool, true, false, ℕ, zero, suc, ◌+◌, ◌<◌, List, [], ◌∷◌, ◌++◌, length, codes, get_or, refl, sym, ap, subst, ◌∙◌, arith}
 use Rattle.shb_reading.specs.Forms.{Form, Version, CountsForm, Races, Places, PlaceForm, Race, Named, Schedule, End, HasForm, TakesForm, Takes, IsBadFrom, block_forms, place_forms, places_form}
 use Rattle.shb_reading.proofs.Fronts.{same_line, same_ending}
-use Rattle.shb_report.specs.Value.{version_line}
+use Rattle.shb_format.specs.Value.{version_line}
 
 pub versions_differ : codes "shb-report 1" ≡ codes "shb-report 2" → ⊥
 versions_differ e = let digits : ◌≡◌ {A = ℕ} 49 50 = ap (λ (l : List ℕ). get_or l 11 0) e in omega arith

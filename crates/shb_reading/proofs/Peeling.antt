@@ -3,9 +3,9 @@ use Rattle.std.proofs.Common.{◌≡◌, ◌≢◌, ℕ, ◌<◌, ◌==◌, Bool
 use Rattle.std.specs.Fmt.{decimal}
 use Rattle.std.proofs.lemmas.Bool.Decides.{nat_tests}
 use Rattle.std.specs.Char.{is_ascii_digit}
-use Rattle.shb_report.specs.declared.counts.Counts.{Counts}
+use Rattle.shb_format.specs.declared.counts.Counts.{Counts}
 use Rattle.shb_reading.specs.Lines.{Stops, IsLabelled}
-use Rattle.shb_report.specs.Value.{AreShown, IsShown, counts_line, place_line, race_numbers_line}
+use Rattle.shb_format.specs.Value.{AreShown, IsShown, counts_line, place_line, race_numbers_line}
 use Rattle.shb_reading.proofs.Fronts.{same_labelled}
 
 -- what stands after a number that was read

@@ -7,15 +7,15 @@ use Rattle.shb_lines.specs.text.Limits.{most_bytes}
 use Rattle.shb_reading.specs.declared.position.Position.{Position}
 use Rattle.shb_reading.specs.declared.parts.PlaceEntry.{PlaceEntry}
 use Rattle.shb_reading.specs.declared.parts.Parts.{Parts}
-use Rattle.shb_report.specs.declared.counts.Counts.{Counts}
+use Rattle.shb_format.specs.declared.counts.Counts.{Counts}
 use Rattle.shb_reading.specs.Forms.{Form, Version, CountsForm, Races, Places, block_forms, places_form}
 use Rattle.shb_reading.specs.Lines.{IsBadAt, Passes, TakesLine, bytes_from}
 use Rattle.shb_reading.specs.Parts.{IsPlaceIn, IsScanned, IsTextOf, KeepsFirst, ReadsBlocks, ReadsPlaces, ReadsSection, TakesBlocks, blocks_at, places_at, section_at}
-use Rattle.shb_report.specs.Value.{AreShown, Block, IsShown, Place, block_lines, counts_line, lines_text, place_lines, places_line, places_section, races_line, version_line}
+use Rattle.shb_format.specs.Value.{AreShown, Block, IsShown, Place, block_lines, counts_line, lines_text, place_lines, places_line, places_section, races_line, version_line}
 use Rattle.shb_reading.proofs.Machine.{bad_after}
 use Rattle.shb_reading.proofs.Passing.{passes_by}
-use Rattle.shb_report.proofs.EachLemmas.{each-take}
-use Rattle.shb_report.proofs.LineLemmas.{joined}
+use Rattle.shb_format.proofs.EachLemmas.{each-take}
+use Rattle.shb_format.proofs.LineLemmas.{joined}
 
 -- the version decides which forms follow
 

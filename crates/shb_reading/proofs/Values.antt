@@ -2,7 +2,7 @@
 use Rattle.std.proofs.Common.{◌≡◌, true, false, ℕ, zero, suc, ◌+◌, List, [], ◌∷◌, ◌++◌, length, codes, refl, sym, ap, subst, ◌∙◌, Option, None, Some, IfSome}
 use Rattle.std.specs.List.{AllByRecursion}
 use Rattle.std.specs.Option.{is_some}
-use Rattle.shb_report.specs.Value.{ArePlaces, Block, IsBlock, IsPlace, IsReportValue, IsShown, Place, ReportValue, block_lines, counts_line, numbers_line, place_line, place_lines, places_line, places_section, race_numbers_line, races_line, report_lines, version_line}
+use Rattle.shb_format.specs.Value.{ArePlaces, Block, IsBlock, IsPlace, IsReportValue, IsShown, Place, ReportValue, block_lines, counts_line, numbers_line, place_line, place_lines, places_line, places_section, race_numbers_line, races_line, report_lines, version_line}
 use Rattle.shb_reading.specs.Forms.{Form, Version, CountsForm, Races, Places, PlaceForm, Race, Named, Schedule, End, First, Second, At, And, HasForm, block_forms, place_forms}
 use Rattle.shb_reading.proofs.Language.{AreLines, line_then, one_line-counts, one_line-races, one_line-places, one_line-place, one_line-race, one_line-named, one_line-numbers}
 

@@ -1,8 +1,8 @@
 -- The forms of the lines of a report, one after another: what the reader still expects.
 use Rattle.std.specs.Prelude.{◌≡◌, ℕ, zero, suc, ◌+◌, Bool, List, [], ◌∷◌, ◌++◌, length, codes, if◌then◌else◌}
 use Rattle.std.specs.List.{AllByRecursion}
-use Rattle.shb_report.specs.declared.counts.Counts.{Counts}
-use Rattle.shb_report.specs.Value.{AreShown, HasNoLineFeed, IsRest, IsShown, counts_line, numbers_line, place_line, places_line, race_numbers_line, races_line, version_line}
+use Rattle.shb_format.specs.declared.counts.Counts.{Counts}
+use Rattle.shb_format.specs.Value.{AreShown, HasNoLineFeed, IsRest, IsShown, counts_line, numbers_line, place_line, places_line, race_numbers_line, races_line, version_line}
 
 -- the labels before bytes that are taken as they stand
 pub data Label : Type 0 where

@@ -6,7 +6,7 @@ use Rattle.shb_reading.specs.declared.position.Position.{Position}
 use Rattle.shb_reading.specs.declared.position.ReadStop.{ReadStop}
 use Rattle.shb_reading.specs.declared.position.ReadStop.TheVariants.{BadLine, Memory}
 use Rattle.shb_reading.specs.Forms.{Form, IsBadFrom, TakesForm}
-use Rattle.shb_report.specs.Value.{HasNoLineFeed, IsShown}
+use Rattle.shb_format.specs.Value.{HasNoLineFeed, IsShown}
 
 -- the text is at its end, or its next byte fails the test
 abbrev pub Stops : (ℕ → Bool) → List ℕ → Type 0

@@ -11,7 +11,7 @@ use Rattle.shb_reading.specs.declared.parts.RaceEntry.{RaceEntry}
 use Rattle.shb_reading.specs.declared.parts.PlaceEntry.{PlaceEntry}
 use Rattle.shb_reading.specs.declared.position.Position.{Position}
 use Rattle.shb_reading.specs.Lines.{bytes_from}
-use Rattle.shb_report.specs.Value.{AreShown, ArePlaces, Block, Place, IsBlock, IsPlace, IsReportValue, IsShown, ReportValue, block_lines, counts_line, lines_text, place_lines, places_section, races_line, report_lines, report_text, version_line}
+use Rattle.shb_format.specs.Value.{AreShown, ArePlaces, Block, Place, IsBlock, IsPlace, IsReportValue, IsShown, ReportValue, block_lines, counts_line, lines_text, place_lines, places_section, races_line, report_lines, report_text, version_line}
 
 abbrev pub bytes_at : List ℕ → Span → List ℕ
 bytes_at text span = take span.len (drop span.start text)

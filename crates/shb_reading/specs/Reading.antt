@@ -2,7 +2,7 @@
 use Rattle.std.specs.Prelude.{◌≡◌, ℕ, ◌<◌, ◌≤◌, Bool, true, false, List, ◌++◌, length, take, Result, Err}
 use Rattle.shb_reading.specs.declared.report.ReportError.{ReportError}
 use Rattle.shb_reading.specs.declared.report.ReportError.TheVariants as errors
-use Rattle.shb_report.specs.Value.{IsReportValue, ReportValue, lines_text, report_lines, report_text}
+use Rattle.shb_format.specs.Value.{IsReportValue, ReportValue, lines_text, report_lines, report_text}
 
 -- the text of a report in the grammar, not longer than the limit
 pub record IsReportText (limit : ℕ) (text : List ℕ) (report : ReportValue) : Type 0 where

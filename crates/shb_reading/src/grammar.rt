@@ -2,11 +2,11 @@
 ghost use Rattle.std.specs.Prelude.{◌≡◌, ◌≢◌, ◌+◌, ◌<◌, ◌≤◌, ◌^◌, ◌++◌, Bool, ℕ, List, codes, decimal, length, IfOk, IsTrue, MatchBool, MatchOption, vec_len};
 ghost use Rattle.std.specs.List.{AllByRecursion};
 ghost use Rattle.shb_reading.specs.Lines.{IsLabelled};
-ghost use Rattle.shb_report.specs.Value.{AreShown, HasNoLineFeed, IsRest, IsShown, counts_line, listed, numbers_line, place_line, race_numbers_line, version_line};
-ghost use Rattle.shb_report.specs.declared.counts.Counts.{Counts};
+ghost use Rattle.shb_format.specs.Value.{AreShown, HasNoLineFeed, IsRest, IsShown, counts_line, listed, numbers_line, place_line, race_numbers_line, version_line};
+ghost use Rattle.shb_format.specs.declared.counts.Counts.{Counts};
 
 use crate::labels::{after_label, labelled};
-use shb_report::Counts;
+use shb_format::Counts;
 
 /// Whether the report that begins with this line has places, as those of version 2 have.
 pub(crate) fn version_in(line: &[u8]) -> Option<bool>

@@ -2,7 +2,7 @@
 //! is the law.
 ghost use Rattle.std.specs.Prelude.{◌≡◌, ℕ, List};
 ghost use Rattle.shb_reading.specs.Reading.{IsBadLine, IsReportText};
-ghost use Rattle.shb_report.specs.Value.{IsReportValue, ReportValue, report_text};
+ghost use Rattle.shb_format.specs.Value.{IsReportValue, ReportValue, report_text};
 
 /// A text is the text of at most one report in the grammar. So what is read of the text of a report is
 /// that report.

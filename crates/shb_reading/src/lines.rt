@@ -3,7 +3,7 @@ ghost use Rattle.std.specs.Prelude.{◌≡◌, ◌≢◌, ◌+◌, ◌<◌, ◌�
 ghost use Rattle.std.specs.List.{AllByRecursion};
 ghost use Rattle.shb_lines.specs.text.Limits.{most_bytes};
 ghost use Rattle.shb_reading.specs.Lines.{AddsShown};
-ghost use Rattle.shb_report.specs.Value.{AreShown, IsRest, IsShown, counts_line, numbers_line, place_line, places_line, race_numbers_line, races_line, version_line};
+ghost use Rattle.shb_format.specs.Value.{AreShown, IsRest, IsShown, counts_line, numbers_line, place_line, places_line, race_numbers_line, races_line, version_line};
 ghost use Rattle.shb_reading.specs.Forms.{Form, Label, label_bytes, least_after, Version, CountsForm, Races, Places, PlaceForm, Race, Named, Schedule, End};
 ghost use Rattle.shb_reading.specs.Parts.{IsPlaceIn, IsRaceIn, IsSpanIn, block_at, bytes_at, place_in_text};
 ghost use Rattle.shb_reading.specs.Lines.{BeginsWithLine, IfBad, IsAt, IsBadAt, Lacks, Passes, TakesLine, bytes_from};
@@ -13,8 +13,8 @@ use crate::keeping::Keeping;
 use crate::parts::{PlaceEntry, RaceEntry, Span};
 use crate::position::{Position, next_line};
 use crate::schedule::add_schedule;
+use shb_format::Counts;
 use shb_io::NoMemory;
-use shb_report::Counts;
 
 /// Reads the line of the version, and says whether the report has places.
 pub(crate) fn read_version(text: &[u8], at: &mut Position) -> Option<bool>

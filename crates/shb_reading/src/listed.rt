@@ -41,7 +41,7 @@ impl<'r> Model for Section<'r> {
     ghost use Rattle.std.specs.Prelude.{List};
     ghost use Rattle.std.specs.List.{AllByRecursion};
     ghost use Rattle.shb_reading.specs.Parts.{IsPlaceIn, places_at};
-    ghost use Rattle.shb_report.specs.Value.{Place};
+    ghost use Rattle.shb_format.specs.Value.{Place};
 
     ghost Value = { List Place };
 

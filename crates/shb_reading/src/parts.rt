@@ -1,5 +1,5 @@
 //! Where the parts of a report stand in its text.
-use shb_report::Counts;
+use shb_format::Counts;
 
 /// A part of a text.
 #[derive(Clone, Copy)]

@@ -2,7 +2,7 @@
 ghost use Rattle.std.specs.Prelude.{◌≡◌, ◌+◌, ◌<◌, ◌≤◌, ℕ, length, drop, MatchOption};
 ghost use Rattle.shb_lines.specs.text.Limits.{most_bytes};
 ghost use Rattle.shb_reading.specs.Lines.{BeginsWithLine, IsAt, TakesLine, bytes_from};
-ghost use Rattle.shb_report.specs.Value.{HasNoLineFeed};
+ghost use Rattle.shb_format.specs.Value.{HasNoLineFeed};
 
 use memchr::memchr;
 use shb_io::NoMemory;

@@ -12,9 +12,9 @@ use crate::listed::{Listed, Section, bytes_in, listed_at, numbers_in, section_of
 use crate::parts::Parts;
 use crate::position::ReadStop;
 use crate::whole::scan;
+use shb_format::Counts;
 use shb_io::{NoMemory, Source};
 use shb_lines::{MOST_BYTES, ReadError, read_whole};
-use shb_report::Counts;
 use std::alloc::Global;
 use std::marker::Model;
 
@@ -38,7 +38,7 @@ pub struct Report {
 
 impl Model for Report {
     ghost use Rattle.shb_reading.specs.Parts.{ArePartsIn, report_at};
-    ghost use Rattle.shb_report.specs.Value.{ReportValue};
+    ghost use Rattle.shb_format.specs.Value.{ReportValue};
 
     ghost Value = { ReportValue };
 

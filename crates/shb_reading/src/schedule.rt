@@ -2,7 +2,7 @@
 ghost use Rattle.std.specs.Prelude.{◌≡◌, ◌≢◌, ◌+◌, ◌<◌, ◌≤◌, ◌++◌, ◌∷◌, [], ℕ, List, length, IfOk, MatchBool, MatchOption, OnOk, map, take};
 ghost use Rattle.std.specs.List.{AllByRecursion};
 ghost use Rattle.shb_reading.specs.Lines.{AddsShown};
-ghost use Rattle.shb_report.specs.Value.{IsShown, listed, numbers_line};
+ghost use Rattle.shb_format.specs.Value.{IsShown, listed, numbers_line};
 
 use crate::keeping::Keeping;
 use crate::labels::{after_label, labelled};

@@ -4,13 +4,13 @@ ghost use Rattle.shb_lines.specs.text.Limits.{most_bytes};
 ghost use Rattle.shb_reading.specs.Forms.{Form, End, Version, IsBadFrom, block_forms, places_form};
 ghost use Rattle.shb_reading.specs.Lines.{IfBad, IsAt, IsBadAt, Passes, bytes_from};
 ghost use Rattle.shb_reading.specs.Parts.{IsScanned, KeepsFirst, ReadsHead, ReadsSection};
-ghost use Rattle.shb_report.specs.Value.{lines_text};
+ghost use Rattle.shb_format.specs.Value.{lines_text};
 
 use crate::entries::{read_blocks, read_place_entries};
 use crate::lines::{read_counts, read_end, read_place_count, read_race_count, read_version};
 use crate::parts::{Parts, PlaceEntry};
 use crate::position::{Position, ReadStop};
-use shb_report::Counts;
+use shb_format::Counts;
 use std::alloc::Global;
 
 /// What the first three lines of a report say.

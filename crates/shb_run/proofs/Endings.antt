@@ -11,9 +11,9 @@ use Rattle.shb_lines.proofs.events.Schedulable.{printed_is_schedule}
 use Rattle.shb_lines.proofs.events.Unschedulable.{race_of_schedule}
 use Rattle.shb_lines.specs.text.Limits.{standard_limits}
 use Rattle.shb_discipline.proofs.FirstFault.{accepted}
-use Rattle.shb_report.specs.Report.{LeadingRaces, counts_of}
-use Rattle.shb_report.specs.Value.{AreShown, IsShown}
-use Rattle.shb_report.proofs.LeadingReports.{leading_are_races, race_led_once}
+use Rattle.shb_format.specs.Report.{LeadingRaces, counts_of}
+use Rattle.shb_format.specs.Value.{AreShown, IsShown}
+use Rattle.shb_format.proofs.LeadingReports.{leading_are_races, race_led_once}
 use Rattle.shb_write.specs.declared.errors.WriteError.{WriteError}
 use Rattle.shb_write.specs.declared.errors.WriteError.TheVariants as writing
 use Rattle.shb_run.specs.declared.settings.Choice.{Choice}

@@ -5,10 +5,10 @@ use Rattle.shb_lines.specs.declared.event.Event.{Event}
 use Rattle.shb_lines.specs.declared.event.Pair.{Pair}
 use Rattle.shb_lines.specs.events.Race.{IsRaceList, Race}
 use Rattle.shb_lines.specs.events.Sizes.{IsNumberedByAccess}
-use Rattle.shb_clocks.specs.Open.{OpenTrace}
+use Rattle.shb_stamps.specs.Open.{OpenTrace}
 use Rattle.shb_pairs.specs.Open.{AreOpen, AsksOpen}
 use Rattle.shb_pairs.proofs.Joined.{values_are_race_list}
-use Rattle.shb_report.specs.Report.{pair_of}
+use Rattle.shb_format.specs.Report.{pair_of}
 use Rattle.shb_witness.specs.Schedules.{AreRaces, AsksBoth, AsksEach}
 use Rattle.shb_write.specs.Listed.{races_found}
 use Rattle.shb_run.proofs.Reports.{asks_race}

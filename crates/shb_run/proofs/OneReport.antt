@@ -2,9 +2,9 @@
 use Rattle.std.proofs.Common.{◌≡◌, ℕ, Bool, List, subst}
 use Rattle.shb_lines.specs.text.Text.{lines_of}
 use Rattle.shb_lines.specs.text.TraceData.{TraceData}
-use Rattle.shb_report.specs.Report.{IsReportOn, IsReportOnText}
+use Rattle.shb_format.specs.Report.{IsReportOn, IsReportOnText}
 use Rattle.shb_check.proofs.OneTrace.{one_whole_trace}
-use Rattle.shb_report.proofs.Blocks.{HasOneList, IsReportOn-unique, one_leading_list, one_race_list}
+use Rattle.shb_format.proofs.Blocks.{HasOneList, IsReportOn-unique, one_leading_list, one_race_list}
 use Rattle.shb_run.specs.declared.settings.Choice.{Choice}
 use Rattle.shb_run.specs.declared.settings.Choice.TheVariants.{All, Leading}
 use Rattle.shb_run.specs.Runs.{ListedBy}

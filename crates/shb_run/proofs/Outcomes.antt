@@ -13,8 +13,8 @@ use Rattle.shb_check.specs.declared.errors.RunError.{RunError}
 use Rattle.shb_check.specs.declared.errors.RunError.TheVariants.{Trace, Source, Sink, Memory}
 use Rattle.shb_check.specs.Errors.{IsAccepted, IsRefusalOf}
 use Rattle.shb_check.proofs.Endings.{Grows-same, none_found, of_any_fault}
-use Rattle.shb_report.specs.Report.{counts_of}
-use Rattle.shb_report.specs.Value.{AreShown, IsShown}
+use Rattle.shb_format.specs.Report.{counts_of}
+use Rattle.shb_format.specs.Value.{AreShown, IsShown}
 use Rattle.shb_write.specs.Written.{CutsBlocksOn, CutsReportOn}
 use Rattle.shb_run.specs.declared.settings.Choice.{Choice}
 use Rattle.shb_run.specs.declared.settings.Summary.{Summary}

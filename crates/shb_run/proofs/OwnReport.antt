@@ -15,10 +15,10 @@ use Rattle.shb_discipline.specs.FirstFault.{HasNoFault}
 use Rattle.shb_judging.specs.declared.verdict.Verdict.{Verdict}
 use Rattle.shb_judging.specs.declared.verdict.Verdict.TheVariants.{Good, BadLine, BadCounts, BadRace, BadPlaces}
 use Rattle.shb_reading.specs.Reading.{IsReportText}
-use Rattle.shb_report.specs.Report.{counts_of}
-use Rattle.shb_report.specs.Value.{AreShown, IsReportValue, IsShown, ReportValue, report_text}
+use Rattle.shb_format.specs.Report.{counts_of}
+use Rattle.shb_format.specs.Value.{AreShown, IsReportValue, IsShown, ReportValue, report_text}
 use Rattle.shb_judging.specs.Verdicts.{IsVerdict}
-use Rattle.shb_report.specs.Writing.{IsShowable}
+use Rattle.shb_format.specs.Writing.{IsShowable}
 use Rattle.shb_reading.proofs.Injective.{report_same}
 use Rattle.shb_judging.proofs.VerdictLaws.{one_verdict}
 use Rattle.shb_judging.proofs.WrittenGood.{written_good}

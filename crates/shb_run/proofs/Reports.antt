@@ -7,10 +7,10 @@ use Rattle.shb_lines.specs.declared.event.Event.{Event}
 use Rattle.shb_lines.specs.declared.event.Pair.{Pair}
 use Rattle.shb_lines.specs.events.Race.{Race, ends}
 use Rattle.shb_lines.specs.text.TraceData.{TraceData}
-use Rattle.shb_clocks.specs.Open.{is_open}
+use Rattle.shb_stamps.specs.Open.{is_open}
 use Rattle.shb_pairs.specs.Open.{AreOpen, AsksOpen}
-use Rattle.shb_report.specs.Report.{IsReportOn}
-use Rattle.shb_report.proofs.LeadingReports.{leading_are_races}
+use Rattle.shb_format.specs.Report.{IsReportOn}
+use Rattle.shb_format.proofs.LeadingReports.{leading_are_races}
 use Rattle.shb_judging.proofs.WrittenGood.{all_are_races}
 use Rattle.shb_run.specs.declared.settings.Choice.{Choice}
 use Rattle.shb_run.specs.declared.settings.Choice.TheVariants as choices

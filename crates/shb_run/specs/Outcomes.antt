@@ -8,8 +8,8 @@ use Rattle.shb_discipline.specs.FirstFault.{IsFirstFault}
 use Rattle.shb_check.specs.declared.errors.RunError.{RunError}
 use Rattle.shb_check.specs.Outcomes.{Grows, OnJudged, OnMemory, OnNoTrace, OnSink, OnTrace, sink_failed, source_failed}
 use Rattle.shb_lines.specs.text.TraceData.{TraceData}
-use Rattle.shb_report.specs.Report.{counts_of}
-use Rattle.shb_report.specs.Value.{AreShown, IsShown}
+use Rattle.shb_format.specs.Report.{counts_of}
+use Rattle.shb_format.specs.Value.{AreShown, IsShown}
 use Rattle.shb_write.specs.declared.errors.WriteError.{WriteError}
 use Rattle.shb_write.specs.Written.{CutsBlocksOn, CutsReportOn, OnFailedSink, OnNoMemory, write_failed}
 use Rattle.shb_run.specs.declared.settings.Choice.{Choice}

@@ -10,9 +10,9 @@ use Rattle.shb_lines.specs.events.Race.{Conflict, Race}
 use Rattle.shb_lines.specs.events.Schedule.{IsPrintedSchedule, IsSchedule}
 use Rattle.shb_lines.specs.text.Limits.{standard_limits}
 use Rattle.shb_discipline.specs.FirstFault.{HasNoFault}
-use Rattle.shb_report.specs.Leading.{HasOnce, place_at}
-use Rattle.shb_report.specs.Report.{AllRaces, IsReportOn, IsReportOnText, LeadingRaces, counts_of, pair_of}
-use Rattle.shb_report.specs.Value.{AreShown, IsShown}
+use Rattle.shb_format.specs.Leading.{HasOnce, place_at}
+use Rattle.shb_format.specs.Report.{AllRaces, IsReportOn, IsReportOnText, LeadingRaces, counts_of, pair_of}
+use Rattle.shb_format.specs.Value.{AreShown, IsShown}
 use Rattle.shb_run.specs.declared.settings.Choice.{Choice}
 use Rattle.shb_run.specs.declared.settings.Choice.TheVariants.{All, Leading}
 use Rattle.shb_run.specs.declared.settings.Summary.{Summary}

@@ -2,8 +2,8 @@
 //! is the law.
 ghost use Rattle.std.specs.Prelude.{◌≡◌, ◌≤◌, ℕ, Bool, List, Option, length, true};
 ghost use Rattle.shb_lines.specs.text.Limits.{most_bytes};
-ghost use Rattle.shb_report.specs.Report.{IsReportOnText};
-ghost use Rattle.shb_report.specs.Value.{IsReportValue, ReportValue, report_text};
+ghost use Rattle.shb_format.specs.Report.{IsReportOnText};
+ghost use Rattle.shb_format.specs.Value.{IsReportValue, ReportValue, report_text};
 ghost use Rattle.shb_judging.specs.Verdicts.{IsVerdict};
 ghost use Rattle.shb_judging.specs.declared.verdict.Verdict.{Verdict};
 ghost use Rattle.shb_judging.specs.declared.verdict.Verdict.TheVariants.{Good};

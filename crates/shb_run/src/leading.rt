@@ -1,22 +1,22 @@
 //! The report of the leading races of a trace: of each place the first race.
 ghost use Rattle.std.specs.Prelude.{◌-◌, ◌^◌, ◌<◌, false, map, true};
 ghost use Rattle.shb_lines.specs.events.Race.{ends};
-ghost use Rattle.shb_report.specs.Report.{LeadingRaces};
+ghost use Rattle.shb_format.specs.Report.{LeadingRaces};
 ghost use Rattle.shb_run.specs.declared.settings.Choice.TheVariants.{Leading};
 ghost use Rattle.shb_run.specs.Outcomes.{HasSummed};
 ghost use Rattle.shb_witness.specs.Schedules.{AsksEach};
 
 use crate::pipeline::summary_of;
 use crate::settings::{Settings, Summary};
-use shb_clocks::{Order, Ordered};
 use shb_discipline::Disciplined;
 use shb_fan::Gate;
+use shb_format::Places;
 use shb_io::Sink;
 use shb_lines::Pair;
 use shb_links::{Linked, links_of};
 use shb_pairs::open_variables;
 use shb_places::leading_races;
-use shb_report::Places;
+use shb_stamps::{Order, Ordered};
 use shb_witness::order_of_races;
 use shb_write::{BlockPlan, WriteError, write_list, write_report};
 use std::alloc::Global;

@@ -2,8 +2,8 @@
 ghost use Rattle.std.specs.Prelude.{◌≡◌, ◌-◌, ◌^◌, ◌<◌};
 ghost use Rattle.shb_run.specs.declared.settings.Choice.TheVariants.{All};
 ghost use Rattle.shb_run.specs.Outcomes.{HasSummed, IsOutcome};
-ghost use Rattle.shb_report.specs.Report.{counts_of};
-ghost use Rattle.shb_report.specs.Value.{AreShown, IsShown};
+ghost use Rattle.shb_format.specs.Report.{counts_of};
+ghost use Rattle.shb_format.specs.Value.{AreShown, IsShown};
 ghost use Rattle.shb_run.specs.Runs.{summary_of};
 
 use crate::all::report_found;
@@ -11,13 +11,13 @@ use crate::leading::report_leading;
 use crate::screened::Screened;
 use crate::settings::{Choice, Gates, Settings, Summary, Task};
 use shb_check::{RunError, judge, read_trace};
-use shb_clocks::{Ordered, by_event};
 use shb_discipline::Disciplined;
 use shb_fan::{FreeGate, Gate};
 use shb_io::{Sink, Source};
 use shb_lines::Trace;
 use shb_links::{Linked, links_of};
 use shb_pairs::open_variables;
+use shb_stamps::{Ordered, by_event};
 use shb_write::WriteError;
 use std::alloc::Global;
 use std::random::RandomSource;

@@ -2,7 +2,7 @@
 ghost use Rattle.std.specs.Prelude.{◌≡◌};
 ghost use Rattle.shb_pairs.specs.Open.{AreOpen, AsksOpen};
 
-use shb_clocks::{Order, Ordered};
+use shb_stamps::{Order, Ordered};
 
 /// An ordered trace, with a flag for each of its variables. That a variable whose flag is false has no
 /// race, and that the order can be asked about each access of any other, is part of the type.

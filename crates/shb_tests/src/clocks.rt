@@ -3,11 +3,11 @@ ghost use Rattle.std.specs.Prelude.{◌≡◌, ℕ, true};
 
 use crate::asserting::{same, same_in_row};
 use crate::fixtures::{Question, asked};
-use shb_clocks::Order;
 use shb_discipline::Disciplined;
 use shb_io::NoMemory;
 use shb_links::Links;
 use shb_orders::{full, plain, versions};
+use shb_stamps::Order;
 use std::alloc::Global;
 use std::test::Fail;
 

@@ -3,7 +3,6 @@ ghost use Rattle.std.specs.Prelude.{◌≡◌, ℕ, true};
 
 use crate::asserting::{same, same_in_row};
 use crate::fixtures::{Question, asked, line_of_each, lines_of_one_thread};
-use shb_clocks::Order;
 use shb_discipline::Disciplined;
 use shb_fan::Job;
 use shb_io::NoMemory;
@@ -11,6 +10,7 @@ use shb_lines::Pair;
 use shb_links::Links;
 use shb_orders::versions;
 use shb_pairs::{PairJob, accesses_of, open_variables, pieces};
+use shb_stamps::Order;
 use std::alloc::Global;
 use std::test::Fail;
 

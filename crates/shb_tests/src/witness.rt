@@ -3,13 +3,13 @@ ghost use Rattle.std.specs.Prelude.{◌≡◌, ℕ, true};
 
 use crate::asserting::same_in_row;
 use crate::fixtures::{Question, asked, pair};
-use shb_clocks::Order;
 use shb_discipline::Disciplined;
 use shb_fan::Job;
 use shb_io::NoMemory;
 use shb_links::Links;
 use shb_orders::full;
 use shb_pairs::is_race;
+use shb_stamps::Order;
 use shb_witness::WitnessJob;
 use std::alloc::Global;
 use std::test::Fail;

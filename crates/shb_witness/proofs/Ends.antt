@@ -7,8 +7,8 @@ use Rattle.shb_lines.specs.declared.event.Event.{Event}
 use Rattle.shb_lines.specs.declared.event.Pair.{Pair}
 use Rattle.shb_lines.specs.events.Race.{Race}
 use Rattle.shb_lines.proofs.events.Increasing.{contains_cases, contains_head, contains_none, contains_tail}
-use Rattle.shb_clocks.specs.Listed.{is_listed}
-use Rattle.shb_clocks.proofs.ListedLemmas.{contains_listed}
+use Rattle.shb_stamps.specs.Listed.{is_listed}
+use Rattle.shb_stamps.proofs.ListedLemmas.{contains_listed}
 use Rattle.shb_witness.specs.Schedules.{AreRaces, AsksEach, ends_of}
 use Rattle.shb_witness.proofs.Printed.{race_ends}
 

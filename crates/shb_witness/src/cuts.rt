@@ -5,9 +5,9 @@ ghost use Rattle.shb_lines.specs.events.Order.{BelowPred};
 ghost use Rattle.shb_witness.specs.Cuts.{BelowEither, HasCuts};
 ghost use Rattle.shb_witness.specs.Schedules.{AsksBoth};
 
-use shb_clocks::{Order, Ordered};
 use shb_io::NoMemory;
 use shb_lines::Pair;
+use shb_stamps::{Order, Ordered};
 use std::alloc::Global;
 
 /// For each thread, the greatest local time of an event that is below a predecessor of the pair,

@@ -9,13 +9,13 @@ ghost use Rattle.shb_witness.specs.Schedules.{Asked, AreRaces, AsksEach, schedul
 
 use crate::checkpoints::Checkpoint;
 use crate::schedules::schedule_runs;
-use shb_clocks::{Order, Ordered};
 use shb_discipline::Disciplined;
 use shb_fan::Job;
 use shb_io::NoMemory;
 use shb_lines::Pair;
 use shb_links::Links;
 use shb_positions::Positions;
+use shb_stamps::{Order, Ordered};
 use std::alloc::Global;
 use std::collections::LinkedList;
 use std::marker::Model;

@@ -1,13 +1,13 @@
 //! An order that can be asked about the events of some races.
 
 ghost use Rattle.std.specs.Prelude.{◌≡◌, ◌↔◌, ℕ, Contains, IfOk};
-ghost use Rattle.shb_clocks.specs.Listed.{is_listed};
+ghost use Rattle.shb_stamps.specs.Listed.{is_listed};
 ghost use Rattle.shb_witness.specs.Schedules.{AreRaces, AsksEach, ends_of};
 
-use shb_clocks::{ListedRows, at_events};
 use shb_io::NoMemory;
 use shb_lines::Pair;
 use shb_links::Linked;
+use shb_stamps::{ListedRows, at_events};
 use std::alloc::Global;
 
 /// The events of some pairs.
@@ -25,7 +25,7 @@ fn events_of(alloc: Global, pairs: &[Pair]) -> Result<Vec<u32>, NoMemory>
 
 /// The order of a trace at the events of these races, which is what their schedules are made with.
 /// Memory: at most 16 bytes and eight bytes a thread for each race, and while it is made the events
-/// once more and what a [`Sweep`](shb_clocks::Sweep) takes.
+/// once more and what a [`Sweep`](shb_stamps::Sweep) takes.
 ///
 /// # Errors
 ///

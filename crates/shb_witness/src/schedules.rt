@@ -8,12 +8,12 @@ ghost use Rattle.shb_witness.specs.Schedules.{AsksBoth};
 
 use crate::checkpoints::{Checkpoint, front_of};
 use crate::cuts::{cuts_of, end_of};
-use shb_clocks::{Order, Ordered};
 use shb_discipline::Disciplined;
 use shb_io::NoMemory;
 use shb_lines::Pair;
 use shb_links::Links;
 use shb_positions::Positions;
+use shb_stamps::{Order, Ordered};
 use std::alloc::Global;
 
 /// The printed schedule of a race: the positions, rising, of all events that are SHB-below the

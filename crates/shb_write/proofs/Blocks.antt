@@ -12,7 +12,7 @@ use Rattle.shb_io.proofs.Growth.{Appends-trans, AppendsPrefix-front, AppendsPref
 use Rattle.shb_lines.specs.declared.event.Pair.{Pair}
 use Rattle.shb_lines.specs.events.Race.{ends}
 use Rattle.shb_lines.specs.text.TraceData.{TraceData}
-use Rattle.shb_report.specs.Report.{AreBlocks, HasSchedule, ShownRace, block_bytes, blocks_from, pair_of}
+use Rattle.shb_format.specs.Report.{AreBlocks, HasSchedule, ShownRace, block_bytes, blocks_from, pair_of}
 use Rattle.shb_witness.proofs.Printed.{computed_is_printed}
 use Rattle.shb_write.specs.declared.block_writer.BlockWriter.{BlockWriter}
 use Rattle.shb_write.specs.declared.errors.WriteError.{WriteError}

@@ -8,9 +8,9 @@ use Rattle.shb_lines.specs.text.TraceData.{TraceData}
 use Rattle.shb_lines.proofs.events.Reach.{event_at_access}
 use Rattle.std.proofs.lemmas.Option.{slice_get_within}
 use Rattle.std.proofs.lemmas.List.Elements.{All-nil}
-use Rattle.shb_report.specs.Places.{IsPairOf, IsPlaceOf, counts_in, places_of_pairs}
-use Rattle.shb_report.specs.Report.{pair_of}
-use Rattle.shb_report.proofs.PlaceLemmas.{places_in_range}
+use Rattle.shb_format.specs.Places.{IsPairOf, IsPlaceOf, counts_in, places_of_pairs}
+use Rattle.shb_format.specs.Report.{pair_of}
+use Rattle.shb_format.proofs.PlaceLemmas.{places_in_range}
 use Rattle.shb_witness.specs.Schedules.{AreRaces}
 use Rattle.shb_write.specs.declared.counted.Counted.{Counted}
 use Rattle.shb_write.specs.Listed.{IsCountOf, IsRaceOf}

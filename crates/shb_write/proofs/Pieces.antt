@@ -9,7 +9,7 @@ use Rattle.shb_lines.specs.declared.event.Pair.{Pair}
 use Rattle.shb_lines.specs.events.Race.{ends}
 use Rattle.shb_lines.specs.text.TraceData.{TraceData}
 use Rattle.shb_pairs.specs.Races.{joined}
-use Rattle.shb_report.specs.Places.{IsPairOf}
+use Rattle.shb_format.specs.Places.{IsPairOf}
 use Rattle.shb_write.specs.Blocks.{alone}
 use Rattle.shb_write.specs.Listed.{IsRaceOf}
 

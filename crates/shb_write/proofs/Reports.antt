@@ -8,15 +8,15 @@ use Rattle.shb_io.proofs.Growth.{Appends-trans, AppendsPrefix-after}
 use Rattle.shb_lines.specs.declared.event.Pair.{Pair}
 use Rattle.shb_lines.specs.events.Race.{ends}
 use Rattle.shb_lines.specs.text.TraceData.{TraceData}
-use Rattle.shb_report.specs.declared.places.PlaceCount.{PlaceCount}
-use Rattle.shb_report.specs.Places.{counts_in, places_of_pairs, section_bytes}
-use Rattle.shb_report.specs.Report.{IsReportOn, counts_of, front_bytes, head_bytes, pair_of, tail_bytes}
+use Rattle.shb_format.specs.declared.places.PlaceCount.{PlaceCount}
+use Rattle.shb_format.specs.Places.{counts_in, places_of_pairs, section_bytes}
+use Rattle.shb_format.specs.Report.{IsReportOn, counts_of, front_bytes, head_bytes, pair_of, tail_bytes}
 use Rattle.shb_write.specs.declared.errors.WriteError.{WriteError}
 use Rattle.shb_write.specs.declared.errors.WriteError.TheVariants.{Sink, Memory}
 use Rattle.shb_write.specs.Blocks.{blocks_of}
 use Rattle.shb_write.specs.Written.{AppendsFront, CutsBlocksOn, CutsReportOn, HasReported, These, WritesReport, write_failed}
 use Rattle.shb_write.proofs.Blocks.{are_blocks, front_lacks}
-use Rattle.shb_report.proofs.LeadingLemmas.{pairs_back}
+use Rattle.shb_format.proofs.LeadingLemmas.{pairs_back}
 
 -- the head and the places
 pub front_is : (trace : TraceData) (races : List (ℕ × ℕ)) (count : ℕ) (places : List PlaceCount) → count ≡ length races → places ≡ counts_in (places_of_pairs trace (map pair_of races))

@@ -9,10 +9,10 @@ use Rattle.shb_lines.specs.declared.event.Pair.{Pair}
 use Rattle.shb_lines.specs.events.Race.{ends}
 use Rattle.shb_lines.specs.text.TraceData.{TraceData}
 use Rattle.shb_witness.specs.Schedules.{Asked, schedule_at}
-use Rattle.shb_report.specs.Places.{IsPairOf}
+use Rattle.shb_format.specs.Places.{IsPairOf}
 use Rattle.shb_write.specs.declared.schedule_writer.ScheduleWriter.{ScheduleWriter}
 use Rattle.shb_write.specs.Blocks.{blocks_of, HasScheduled, MaySchedule, scheduled, shown_from, with_schedule}
-use Rattle.shb_report.specs.Report.{blocks_from}
+use Rattle.shb_format.specs.Report.{blocks_from}
 use Rattle.shb_write.specs.Written.{AppendsFront}
 use Rattle.shb_write.proofs.Blocks.{blocks_front}
 

@@ -4,8 +4,8 @@ use Rattle.std.specs.Io.KnownBytes.{Appends}
 use Rattle.shb_lines.specs.declared.event.Pair.{Pair}
 use Rattle.shb_lines.specs.events.Race.{ends}
 use Rattle.shb_lines.specs.text.TraceData.{TraceData}
-use Rattle.shb_report.specs.Places.{IsPairOf}
-use Rattle.shb_report.specs.Report.{ShownRace, blocks_from, pair_of}
+use Rattle.shb_format.specs.Places.{IsPairOf}
+use Rattle.shb_format.specs.Report.{ShownRace, blocks_from, pair_of}
 use Rattle.shb_witness.specs.Schedules.{printed_schedule}
 use Rattle.shb_write.specs.declared.block_writer.BlockWriter.{BlockWriter}
 use Rattle.shb_write.specs.declared.errors.WriteError.{WriteError}

@@ -3,10 +3,10 @@ use Rattle.std.specs.Prelude.{◌≡◌, ℕ, ◌^◌, ◌<◌, List, All, lengt
 use Rattle.shb_fan.specs.Values.{values_of}
 use Rattle.shb_lines.specs.events.Race.{ends}
 use Rattle.shb_lines.specs.text.TraceData.{TraceData}
-use Rattle.shb_clocks.specs.Open.{OpenTrace}
+use Rattle.shb_stamps.specs.Open.{OpenTrace}
 use Rattle.shb_pairs.specs.Races.{joined, pieces_in, races_at}
-use Rattle.shb_report.specs.Places.{IsPlaceOf, counts_in, places_of_pairs}
-use Rattle.shb_report.specs.Report.{pair_of}
+use Rattle.shb_format.specs.Places.{IsPlaceOf, counts_in, places_of_pairs}
+use Rattle.shb_format.specs.Report.{pair_of}
 use Rattle.shb_write.specs.declared.counted.Counted.{Counted}
 
 -- the races that a search finds: those of all its pieces, in order

@@ -1,14 +1,14 @@
 //! Writes the blocks of races, one after the other.
 ghost use Rattle.std.specs.Prelude.{◌≡◌, ◌+◌, ◌-◌, ◌^◌, ◌<◌, ◌∷◌, [], All, OnErr, OnOk, length, map};
 ghost use Rattle.shb_lines.specs.events.Race.{ends};
-ghost use Rattle.shb_report.specs.Places.{IsPairOf};
+ghost use Rattle.shb_format.specs.Places.{IsPairOf};
 ghost use Rattle.shb_write.specs.Blocks.{HasStopped, HasWritten, alone, with_schedule};
 ghost use Rattle.shb_write.specs.declared.errors.WriteError.TheVariants.{Sink as SinkFailed};
 
+use shb_format::{NumberTexts, block, scheduled_block};
 use shb_io::{Failed, Sink};
 use shb_lines::{Pair, Trace};
 use shb_positions::Positions;
-use shb_report::{NumberTexts, block, scheduled_block};
 
 /// Writes the blocks of races, numbered from 1.
 #[derive(Drop)]

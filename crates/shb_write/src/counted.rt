@@ -1,6 +1,6 @@
 //! What the first search for the races of a list report gives.
+use shb_format::Places;
 use shb_lines::Pair;
-use shb_report::Places;
 
 /// How many races there are, and their places.
 #[derive(Drop)]

@@ -2,10 +2,10 @@
 ghost use Rattle.std.specs.Prelude.{All, IfOk};
 ghost use Rattle.shb_witness.specs.Checkpoints.{IsReached};
 
-use shb_clocks::{Order, Ordered};
+use shb_format::NumberTexts;
 use shb_io::NoMemory;
 use shb_links::Linked;
-use shb_report::NumberTexts;
+use shb_stamps::{Order, Ordered};
 use shb_witness::{Checkpoint, checkpoints_of};
 use std::alloc::Global;
 

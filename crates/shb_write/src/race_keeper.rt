@@ -6,11 +6,11 @@ ghost use Rattle.shb_write.specs.Listed.{races_found};
 ghost use Rattle.shb_write.specs.declared.race_keeper.KeepError.TheVariants.{Many};
 
 use crate::race_search::RaceSearch;
-use shb_clocks::Order;
 use shb_fan::{Gate, StreamError, Taker, stream};
 use shb_io::NoMemory;
 use shb_lines::Pair;
 use shb_pairs::RaceRanges;
+use shb_stamps::Order;
 use std::alloc::Global;
 use std::sync::Wait;
 use std::thread::Threads;

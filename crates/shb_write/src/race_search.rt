@@ -1,9 +1,9 @@
 //! A search for the races of a trace, which can be made again.
 ghost use Rattle.std.specs.Prelude.{◌≡◌};
 
-use shb_clocks::{Order, Ordered};
 use shb_fan::Workers;
 use shb_pairs::RangeJob;
+use shb_stamps::{Order, Ordered};
 
 /// A search for the races of a trace in pieces, and who makes it. It can be made more than once, and finds
 /// the same races each time.

@@ -4,10 +4,10 @@ ghost use Rattle.std.specs.Prelude.{◌≡◌};
 use crate::block_writer::BlockWriter;
 use crate::errors::WriteError;
 use shb_fan::Taker;
+use shb_format::NumberTexts;
 use shb_io::Sink;
 use shb_lines::Pair;
 use shb_positions::Positions;
-use shb_report::NumberTexts;
 
 /// Writes the blocks of races, each when its schedule comes.
 #[derive(Drop)]

@@ -1,6 +1,6 @@
 //! The report of a trace that lists the races which a search finds.
 ghost use Rattle.std.specs.Prelude.{◌≡◌, ◌-◌, ◌^◌, ◌<◌, All, IfOk, false, length, map};
-ghost use Rattle.shb_report.specs.Report.{pair_of};
+ghost use Rattle.shb_format.specs.Report.{pair_of};
 ghost use Rattle.shb_io.specs.Devices.{CountsFailure};
 ghost use Rattle.shb_witness.specs.Schedules.{AreRaces, AsksEach};
 ghost use Rattle.shb_write.specs.Blocks.{WritesBlocks};
@@ -14,11 +14,11 @@ use crate::plan::BlockPlan;
 use crate::race_keeper::keep_all;
 use crate::race_search::RaceSearch;
 use crate::write::{write_front, write_listed, write_report};
-use shb_clocks::Order;
 use shb_fan::Gate;
+use shb_format::tail;
 use shb_io::Sink;
 use shb_lines::Trace;
-use shb_report::tail;
+use shb_stamps::Order;
 use std::alloc::Global;
 use std::random::RandomSource;
 use std::sync::Wait;

@@ -1,8 +1,8 @@
 //! The report of a trace that lists races which are known.
 ghost use Rattle.std.specs.Prelude.{◌≡◌, ◌-◌, ◌^◌, ◌<◌, ℕ, ◌++◌, All, List, false, length, map, true};
 ghost use Rattle.shb_io.specs.Devices.{CountsFailure, IsCounted, Writes};
-ghost use Rattle.shb_report.specs.Places.{IsPairOf, IsPlaceOf, counts_in, places_of_pairs};
-ghost use Rattle.shb_report.specs.Report.{counts_of, front_bytes, pair_of, tail_bytes};
+ghost use Rattle.shb_format.specs.Places.{IsPairOf, IsPlaceOf, counts_in, places_of_pairs};
+ghost use Rattle.shb_format.specs.Report.{counts_of, front_bytes, pair_of, tail_bytes};
 ghost use Rattle.shb_witness.specs.Schedules.{AreRaces, AsksEach};
 ghost use Rattle.shb_write.specs.Blocks.{WritesBlocks, blocks_of};
 ghost use Rattle.shb_write.specs.Written.{HasReported, These, write_failed};
@@ -13,11 +13,11 @@ use crate::errors::WriteError;
 use crate::plan::BlockPlan;
 use crate::prepared::prepared_for;
 use crate::schedule_writer::ScheduleWriter;
-use shb_clocks::{Order, Ordered};
 use shb_fan::{Gate, StreamError, stream};
+use shb_format::{Counts, Places, head, place_lines, places_of, tail};
 use shb_io::{Failed, Sink};
 use shb_lines::{Pair, Trace};
-use shb_report::{Counts, Places, head, place_lines, places_of, tail};
+use shb_stamps::{Order, Ordered};
 use shb_witness::WitnessJob;
 use std::alloc::Global;
 use std::random::RandomSource;

@@ -1,6 +1,6 @@
 -- Each number in its turn.
 use Rattle.std.proofs.Common.{◌≡◌, ◌∙◌, ◌^◌, ℕ, List, arith, get_or, sym}
-use Rattle.shb_report.specs.Keyed.{Keyed}
+use Rattle.shb_format.specs.Keyed.{Keyed}
 use Rattle.shb_counts.proofs.Batches.{grown_zero, known_next, known_skip, next_known, next_none, room_known}
 use Rattle.shb_counts.proofs.counter.add_known.Goals.{then-more-gt0, else-more-gt0}
 use Rattle.shb_counts.proofs.counter.add_known.Goals as goal

@@ -2,7 +2,7 @@
 use Rattle.std.proofs.Common.{◌≡◌, ◌<◌, ℕ, true, is_some}
 use Rattle.std.specs.Prelude.{slice_index_or}
 use Rattle.std.specs.Bool.{IsTrue}
-use Rattle.shb_report.specs.Keyed.{counted_of}
+use Rattle.shb_format.specs.Keyed.{counted_of}
 use Rattle.shb_counts.specs.Counted.{by_number, grown}
 use Rattle.shb_counts.proofs.counter.add_known.Given as goal
 

@@ -1,7 +1,7 @@
 -- The next place, if it is new.
 use Rattle.std.proofs.Common.{◌∙◌, ap, get_or, List, ℕ}
 use Rattle.shb_lines.specs.declared.event.Pair.{Pair}
-use Rattle.shb_report.specs.Keyed.{Key}
+use Rattle.shb_format.specs.Keyed.{Key}
 use Rattle.shb_counts.specs.Counted.{times}
 use Rattle.shb_counts.proofs.Batches.{next_new}
 use Rattle.shb_counts.proofs.counter.add_new.Goals as goal

@@ -1,6 +1,6 @@
 -- The places of the pairs so far are there.
 use Rattle.std.proofs.Common.{◌≡◌, List, take}
-use Rattle.shb_report.specs.Keyed.{Keyed}
+use Rattle.shb_format.specs.Keyed.{Keyed}
 use Rattle.shb_counts.specs.Counted.{grown, times, with_places}
 use Rattle.shb_counts.proofs.counter.add_new.Given as goal
 

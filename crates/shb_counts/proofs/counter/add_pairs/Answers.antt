@@ -3,8 +3,8 @@ use Rattle.std.proofs.lemmas.Grind.{common_steps}
 use Rattle.std.proofs.Common.{◌≡◌, ◌+◌, ◌-◌, ◌<◌, ◌≤◌, ◌^◌, arith, get_or, length, subst, sym, List}
 use Rattle.std.specs.List.{AllByRecursion}
 use Rattle.shb_lines.specs.declared.event.Pair.{Pair}
-use Rattle.shb_report.specs.Keyed.{Keyed, with_keyed}
-use Rattle.shb_report.proofs.EachLemmas.{each-weaker}
+use Rattle.shb_format.specs.Keyed.{Keyed, with_keyed}
+use Rattle.shb_format.proofs.EachLemmas.{each-weaker}
 use Rattle.shb_counts.proofs.Batches.{each_keyed, few_at, next_after}
 use Rattle.shb_counts.proofs.counter.add_pairs.Goals as goal
 

@@ -2,7 +2,7 @@
 use Rattle.std.proofs.lemmas.Grind.{common_steps}
 use Rattle.std.proofs.Common.{arith}
 use Rattle.std.proofs.lemmas.Option.{slice_get_within}
-use Rattle.shb_report.proofs.PlaceLemmas.{located}
+use Rattle.shb_format.proofs.PlaceLemmas.{located}
 use Rattle.shb_counts.proofs.NumberLemmas.{next_numbered, one_more_location}
 use Rattle.shb_counts.proofs.numbering.location_numbers.Goals as goal
 

@@ -1,7 +1,7 @@
 use Rattle.std.proofs.Common.{◌≡◌, ℕ, ◌+◌, List, ap, map, take, subst, sym, ◌∙◌}
 use Rattle.shb_judging.specs.Judging.{AreJudged, first_positions}
 use Rattle.shb_reading.specs.Parts.{block_in}
-use Rattle.shb_report.specs.Value.{Block}
+use Rattle.shb_format.specs.Value.{Block}
 use Rattle.shb_judging.specs.Verdicts.{position_of}
 use Rattle.shb_judging.proofs.GoodBlocks.{take_push}
 use Rattle.shb_judging.proofs.checking.judge_listed.Goals as goal

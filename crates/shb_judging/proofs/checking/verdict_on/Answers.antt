@@ -5,10 +5,10 @@ use Rattle.shb_lines.specs.declared.event.Pair.{Pair}
 use Rattle.shb_lines.specs.text.TraceData.{TraceData}
 use Rattle.shb_judging.specs.declared.judged.JudgedBlocks.{JudgedBlocks}
 use Rattle.shb_judging.specs.declared.verdict.Verdict.TheVariants.{Good}
-use Rattle.shb_report.specs.declared.counts.Counts.{Counts}
+use Rattle.shb_format.specs.declared.counts.Counts.{Counts}
 use Rattle.shb_judging.specs.Judging.{AreFound, IsVerdictOnJudged}
-use Rattle.shb_report.specs.Report.{counts_of}
-use Rattle.shb_report.specs.Value.{Place}
+use Rattle.shb_format.specs.Report.{counts_of}
+use Rattle.shb_format.specs.Value.{Place}
 use Rattle.shb_judging.specs.Verdicts.{HasPlacesOf, pair_in}
 use Rattle.shb_judging.proofs.checking.verdict_on.Goals as goal
 

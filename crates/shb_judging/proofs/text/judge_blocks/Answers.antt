@@ -4,7 +4,7 @@ use Rattle.shb_reading.specs.Forms.{Form, IsBadFrom, block_forms}
 use Rattle.shb_judging.specs.Judging.{AreJudged, first_positions}
 use Rattle.shb_reading.specs.Parts.{block_with}
 use Rattle.shb_reading.specs.Lines.{bytes_from}
-use Rattle.shb_report.specs.Value.{Block}
+use Rattle.shb_format.specs.Value.{Block}
 use Rattle.shb_judging.specs.Verdicts.{position_of}
 use Rattle.shb_reading.proofs.EntryLemmas.{blocks_left, bad_weaker, taken_more}
 use Rattle.shb_judging.proofs.text.judge_blocks.Goals as goal

@@ -3,7 +3,7 @@ use Rattle.std.proofs.Common.{ℕ, ◌<◌, List, ap, arith, length, refl, subst
 use Rattle.std.specs.List.{AllByRecursion}
 use Rattle.shb_reading.specs.declared.parts.PlaceEntry.{PlaceEntry}
 use Rattle.shb_reading.specs.Parts.{IsPlaceIn, section_at}
-use Rattle.shb_report.specs.Value.{ReportValue}
+use Rattle.shb_format.specs.Value.{ReportValue}
 use Rattle.shb_judging.proofs.MorePlaces.{section_front, verdict_by_front, with_first_places}
 use Rattle.shb_reading.proofs.ScanLemmas.{kept_in, whole_text}
 use Rattle.shb_judging.proofs.text.judge_text.Goals as goal

@@ -5,7 +5,7 @@ use Rattle.shb_lines.specs.declared.event.Event.{Event}
 use Rattle.shb_lines.proofs.events.Increasing.{contains_none}
 use Rattle.shb_lines.specs.events.Race.{Race, variable_at}
 use Rattle.shb_lines.specs.text.TraceData.{TraceData}
-use Rattle.shb_clocks.specs.SweepData.{SweepData}
+use Rattle.shb_stamps.specs.SweepData.{SweepData}
 use Rattle.shb_links.proofs.Owners.{variable_sized}
 use Rattle.shb_pairs.specs.Open.{AreOpen}
 use Rattle.shb_places.specs.Found.{Covers, FoundRace}

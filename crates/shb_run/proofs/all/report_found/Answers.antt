@@ -1,7 +1,7 @@
 use Rattle.std.proofs.Common.{ℕ, ap, subst, sym, ◌∙◌}
 use Rattle.shb_lines.specs.events.Race.{IsRaceList}
 use Rattle.shb_lines.specs.events.Sizes.{IsNumberedByAccess}
-use Rattle.shb_clocks.specs.Open.{OpenTrace}
+use Rattle.shb_stamps.specs.Open.{OpenTrace}
 use Rattle.shb_pairs.specs.Open.{AreOpen}
 use Rattle.shb_write.specs.Listed.{races_found}
 use Rattle.shb_run.specs.declared.settings.Choice.TheVariants as choices

@@ -2,7 +2,7 @@ use Rattle.std.proofs.Common.{List, All, map, subst, sym}
 use Rattle.shb_lines.specs.declared.event.Event.{Event}
 use Rattle.shb_lines.specs.declared.event.Pair.{Pair}
 use Rattle.shb_lines.specs.events.Race.{Race, ends}
-use Rattle.shb_report.specs.Report.{LeadingRaces}
+use Rattle.shb_format.specs.Report.{LeadingRaces}
 use Rattle.shb_run.specs.declared.settings.Choice.TheVariants as choices
 use Rattle.shb_run.proofs.Reports.{races_listed}
 use Rattle.shb_run.proofs.leading.report_leading.Goals as goal

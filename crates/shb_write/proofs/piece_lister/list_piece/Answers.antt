@@ -1,7 +1,7 @@
 use Rattle.std.proofs.Common.{[], ◌++◌, ◌<◌, ◌∙◌, All, ap, arith, get_or, length, map, subst, sym}
 use Rattle.shb_lines.specs.events.Race.{ends}
 use Rattle.shb_lines.specs.text.TraceData.{TraceData}
-use Rattle.shb_report.specs.Places.{IsPairOf}
+use Rattle.shb_format.specs.Places.{IsPairOf}
 use Rattle.shb_write.proofs.Blocks.{stopped_after, stopped_then, written_then}
 use Rattle.shb_write.proofs.Pieces.{here_has_room, here_more, here_of_trace, here_split, part_split}
 use Rattle.shb_write.proofs.piece_lister.list_piece.Goals as goal

@@ -1,8 +1,8 @@
 use Rattle.std.proofs.Common.{◌∙◌, ap, map, subst, sym}
 use Rattle.shb_lines.specs.events.Race.{ends}
-use Rattle.shb_report.specs.Report.{pair_of}
+use Rattle.shb_format.specs.Report.{pair_of}
 use Rattle.shb_witness.specs.Schedules.{AreRaces, AsksEach}
-use Rattle.shb_report.proofs.LeadingLemmas.{pairs_back}
+use Rattle.shb_format.proofs.LeadingLemmas.{pairs_back}
 use Rattle.shb_write.proofs.searched.write_search.Goals as goal
 
 pub write_report-requires-clause-races : goal.write_report-requires-clause-races

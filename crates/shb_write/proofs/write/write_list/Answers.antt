@@ -2,9 +2,9 @@ use Rattle.std.proofs.Common.{All, arith, map, subst, sym}
 use Rattle.std.proofs.lemmas.List.{length-map}
 use Rattle.shb_io.proofs.Growth.{AppendsPrefix-after, AppendsPrefix-front, Writes-err, Writes-then}
 use Rattle.shb_lines.specs.events.Race.{ends}
-use Rattle.shb_report.specs.Places.{IsPlaceOf}
-use Rattle.shb_report.proofs.PlaceLemmas.{places_in_range}
-use Rattle.shb_report.specs.Report.{tail_bytes}
+use Rattle.shb_format.specs.Places.{IsPlaceOf}
+use Rattle.shb_format.proofs.PlaceLemmas.{places_in_range}
+use Rattle.shb_format.specs.Report.{tail_bytes}
 use Rattle.shb_write.proofs.Blocks.{front_lacks}
 use Rattle.shb_write.proofs.Reports.{places_of_ends}
 use Rattle.shb_write.proofs.write.write_list.Goals as goal

@@ -1,5 +1,5 @@
 use Rattle.std.proofs.Common.{◌≡◌, List, ℕ, refl, subst}
-use Rattle.shb_report.specs.Keyed.{Keyed}
+use Rattle.shb_format.specs.Keyed.{Keyed}
 use Rattle.shb_counts.specs.Counted.{grown, times, with_places}
 use Rattle.shb_counts.proofs.CountedLemmas.{counted_new}
 use Rattle.shb_counts.proofs.counter.RaceCounter.count_new.Goals as goal

@@ -1,5 +1,5 @@
 use Rattle.std.proofs.Common.{◌≡◌, ◌+◌, ◌<◌, ◌∙◌, ℕ, List, ap, get_or, is_some, length, subst, true}
-use Rattle.shb_report.specs.Keyed.{counted_of}
+use Rattle.shb_format.specs.Keyed.{counted_of}
 use Rattle.shb_counts.specs.Counted.{by_number, grown}
 use Rattle.shb_counts.specs.Counts.{number_in}
 use Rattle.shb_counts.proofs.Batches.{key_of}

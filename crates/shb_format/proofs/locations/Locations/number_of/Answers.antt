@@ -1,0 +1,16 @@
+-- A set puts a new location last and keeps a known one.
+use Rattle.std.proofs.lemmas.Grind.{common_steps}
+use Rattle.std.proofs.Common.{option_map, arith}
+use Rattle.std.proofs.lemmas.Option.{slice_get-map}
+use Rattle.std.proofs.lemmas.Slice.Eq.{bytes_eq-Decides}
+use Rattle.shb_format.proofs.Numbered.{inserted, still_different}
+use Rattle.shb_format.proofs.locations.Locations.number_of.Goals as goal
+
+pub invariant_of-self-2 : goal.invariant_of-self-2
+invariant_of-self-2 c = grind (arith, common_steps, c.in_ok-number.ensures.keys, inserted, still_different, c.self.invariant)
+
+pub returns-clause-known : goal.returns-clause-known
+returns-clause-known c = grind (arith, common_steps, c.in_ok-number.ensures.keys, inserted, c.self.view_is)
+
+pub returns-clause-number : goal.returns-clause-number
+returns-clause-number c = grind (arith, common_steps, c.in_ok-number.ensures.stored, slice_get-map, option_map, bytes_eq-Decides)

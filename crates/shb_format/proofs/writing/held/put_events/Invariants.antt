@@ -1,0 +1,10 @@
+use Rattle.std.proofs.Common.{◌≡◌, ◌++◌, take}
+use Rattle.shb_io.specs.Devices.{HoldsBack}
+use Rattle.shb_format.specs.Writing.{event_numbers}
+use Rattle.shb_format.proofs.writing.held.put_events.Given as goal
+
+abbrev pub invariant-loop-event : goal.invariant-loop-event
+invariant-loop-event g l = record {
+  held : HoldsBack (g.S.Sink.taken l.initial.sink) (g.S.Sink.taken l.sink) l.held (l.initial.held ++ event_numbers (take l.event-index l.events));
+  counted : g.S.Sink.failure_count l.sink ≡ g.S.Sink.failure_count l.initial.sink;
+}

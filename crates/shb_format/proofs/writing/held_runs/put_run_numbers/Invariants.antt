@@ -1,0 +1,11 @@
+use Rattle.std.proofs.Common.{◌≡◌, ◌++◌}
+use Rattle.std.specs.List.{range_with_len}
+use Rattle.shb_io.specs.Devices.{HoldsBack}
+use Rattle.shb_format.specs.Writing.{event_numbers}
+use Rattle.shb_format.proofs.writing.held_runs.put_run_numbers.Given as goal
+
+abbrev pub invariant-loop-k : goal.invariant-loop-k
+invariant-loop-k g l = record {
+  held : HoldsBack (g.S.Sink.taken l.initial.sink) (g.S.Sink.taken l.sink) l.held (l.initial.held ++ event_numbers (range_with_len l.run.first l.k));
+  counted : g.S.Sink.failure_count l.sink ≡ g.S.Sink.failure_count l.initial.sink;
+}

@@ -1,0 +1,31 @@
+-- The leading races of a list: of each place the first race that has it.
+use Rattle.std.specs.Prelude.{◌≡◌, ◌≢◌, ℕ, ◌<◌, ◌↔◌, List, Some, Contains, map, slice_get}
+use Rattle.std.specs.List.Sorted.{IsStrictlyIncreasing}
+use Rattle.shb_lines.specs.declared.event.Pair.{Pair}
+use Rattle.shb_lines.specs.text.TraceData.{TraceData}
+use Rattle.shb_format.specs.Places.{location_at}
+
+-- the place of two events: their locations, the first one's first
+abbrev pub place_at : TraceData → ℕ → ℕ → List ℕ × List ℕ
+place_at trace first second = (location_at trace first, location_at trace second)
+
+-- race k of the list leads: no earlier race of the list has its place
+pub record Leads (trace : TraceData) (races : List Pair) (k : ℕ) : Type 0 where
+  pub race : Pair
+  pub there : slice_get races k ≡ Some race
+  pub alone : (i : ℕ) (earlier : Pair) → i < k → slice_get races i ≡ Some earlier → place_at trace earlier.first earlier.second ≢ place_at trace race.first race.second
+
+-- the races of a list that lead, in the order of the list
+pub record AreLeading (trace : TraceData) (races leading : List Pair) : Type 0 where
+  pub numbers : List ℕ
+  pub in_order : IsStrictlyIncreasing numbers
+  pub members : (k : ℕ) → Contains numbers k ↔ Leads trace races k
+  pub races_are : map (slice_get races) numbers ≡ map Some leading
+
+-- exactly one race of the list has the place
+pub record HasOnce (trace : TraceData) (races : List Pair) (place : List ℕ × List ℕ) : Type 0 where
+  pub number : ℕ
+  pub race : Pair
+  pub there : slice_get races number ≡ Some race
+  pub place_is : place_at trace race.first race.second ≡ place
+  pub only : (k : ℕ) (other : Pair) → slice_get races k ≡ Some other → place_at trace other.first other.second ≡ place → k ≡ number

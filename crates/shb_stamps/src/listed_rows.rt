@@ -1,0 +1,121 @@
+//! An order by the number of a row for each of some listed events.
+
+ghost use Rattle.std.specs.Prelude.{◌≡◌, ℕ, ◌+◌, ◌<◌, ◌≤◌, ◌↔◌, true, All, Contains, Some, IfOk, OnOk, length, slice_index_or};
+ghost use Rattle.std.specs.List.Sorted.{IsStrictlyIncreasing};
+ghost use Rattle.shb_stamps.specs.KeptRows.{AreListedRows};
+ghost use Rattle.shb_stamps.specs.Listed.{HasListedRows, ListedTrace, is_listed};
+ghost use Rattle.shb_stamps.specs.Stamps.{IsSwept};
+
+use crate::answer::count_below;
+use crate::kept_rows::KeptRows;
+use crate::order::Order;
+use crate::rows::Rows;
+use crate::stamps::Stamps;
+use shb_io::NoMemory;
+use shb_links::Linked;
+use std::alloc::Global;
+use std::marker::Model;
+
+/// An order by rows of clocks that events share, with the number of a row for each of some events, which
+/// it finds by binary search. It can be asked about these events alone. Contracts see it as the list of
+/// events of the trace that it orders, with the positions of the events that it can be asked about. It
+/// may be shared between threads.
+#[derive(Drop)]
+pub struct ListedRows<'a> {
+    linked: Linked<'a>,
+    /// The events that it can be asked about, each once and rising.
+    events: Vec<u32>,
+    rows: Rows,
+    /// For each of these events the number of the row of what its thread knew before it.
+    before: Vec<u32>,
+}
+
+impl<'a> Model for ListedRows<'a> {
+    ghost Value = { ListedTrace };
+
+    ghost view = { λ o. record { trace = o.linked.events.now; events = o.events.items } };
+
+    ghost invariant = { λ o. IsStrictlyIncreasing o.events.items
+        × HasListedRows o.linked.events.now o.rows.rows o.events.items (length o.events.items) o.before.items };
+}
+
+/// These numbers, each once and rising.
+fn each_once(alloc: Global, numbers: &[u32]) -> Result<Vec<u32>, NoMemory>
+    ensures rising { IfOk result (λ found. IsStrictlyIncreasing found.items) }
+    ensures same { (e : ℕ) → IfOk result (λ found. Contains found.items e ↔ Contains numbers.now e) }
+{
+    let mut found = Vec::from_slice(alloc, numbers)?;
+    found.sort_unstable();
+    found.dedup();
+    Ok(found)
+}
+
+/// Where a number stands among numbers that rise.
+fn position_of(numbers: &[u32], e: u32) -> usize
+    requires rising { IsStrictlyIncreasing numbers.now }
+    requires listed { is_listed numbers.now e ≡ true }
+    ensures in_range { result < length numbers.now }
+    ensures item { slice_index_or numbers.now result 0 ≡ e }
+{
+    match numbers.binary_search(&e) {
+        Ok(at) => at,
+        Err(_) => 0,
+    }
+}
+
+/// What is kept of the listed events, found by one forward pass up to the last of them.
+fn listed_rows(alloc: Global, linked: &Linked<'_>, events: &[u32]) -> Result<KeptRows, NoMemory>
+    requires rising { IsStrictlyIncreasing events.now }
+    requires of_trace { All (λ e. e < length linked.now.events.now) events.now }
+    ensures { IfOk result (AreListedRows linked.now.events.now events.now (length events.now) linked.now.sizes) }
+{
+    let mut stamps = Stamps::new(alloc, linked)?;
+    let mut kept = KeptRows::new(alloc, linked)?;
+    let mut next = 0;
+    for at in 0..events.len() {
+        let e = events[at];
+        stamps.pass_up_to(alloc, linked, next, e, &mut kept.copies)?;
+        kept.note_listed(linked, &stamps, events, at)?;
+        next = e;
+    }
+    Ok(kept)
+}
+
+/// The order of a trace at these events, in any order, found by one forward pass up to the last of
+/// them. Memory: eight bytes for each of them, and four bytes a thread for each row that is kept. Events
+/// share rows as in [`by_event`](crate::by_event). While it runs, also four bytes for each row in use, and
+/// what a [`Sweep`](crate::Sweep) takes.
+///
+/// # Errors
+///
+/// `NoMemory` where memory is refused; nothing is kept then.
+pub fn at_events<'a>(
+    alloc: Global,
+    linked: Linked<'a>,
+    events: &[u32],
+) -> Result<ListedRows<'a>, NoMemory>
+    requires { All (λ e. e < length linked.events.now) events.now }
+    ensures trace { IfOk result (λ order. order.trace ≡ linked.entry.events.now) }
+    ensures events { (e : ℕ) → IfOk result (λ order. Contains order.events e ↔ Contains events.now e) }
+{
+    let events = each_once(alloc, events)?;
+    let kept = listed_rows(alloc, &linked, events.as_slice())?;
+    let KeptRows { rows, before, .. } = kept;
+    Ok(ListedRows {
+        linked,
+        events,
+        rows,
+        before,
+    })
+}
+
+impl<'a> Order for ListedRows<'a> {
+    ghost trace = { λ o. o.trace };
+
+    ghost asks = { λ o e. is_listed o.events e };
+
+    fn below_pred(&self, e: u32, t: u32) -> u32 {
+        let at = position_of(self.events.as_slice(), e);
+        count_below(&self.linked, &self.rows, self.before[at], e, t)
+    }
+}
