@@ -10,7 +10,7 @@ from shb_install import completions, helptext, manual
 from shb_install.faults import Refused
 from shb_install.sources import TOP
 
-FOLDERS = ("recorder", "view", "farm", "common")      # where commands (shb-NAME) and packages (shb_NAME) are, beside the program
+FOLDERS = ("recorder", "view", "farm", "fix", "common")      # where commands (shb-NAME) and packages (shb_NAME) are, beside the program
 HOME = "lib/shb"                            # commands stand there beside their packages, as in the checkout; links lead to them
 DOCUMENTS = ("README.md", "CHANGELOG.md", "CONTRIBUTING.md", "recorder/README.md", "farm/README.md", "install/README.md")
 DOCUMENT_FOLDERS = ("docs/", "examples/")

@@ -31,7 +31,7 @@ SUITES = {
     "tests": ("tests/", "view/", "common/", "plain/", "examples/", "crates/"),
     "recorder/tests": ("recorder/", "view/", "common/", "tests/side_by_side.py"),
     "farm/tests": ("farm/", "common/", "tests/side_by_side.py"),
-    "install/tests": ("install/", "Makefile", "recorder/", "farm/", "view/", "common/", "tests/side_by_side.py"),
+    "install/tests": ("install/", "Makefile", "recorder/", "farm/", "fix/", "view/", "common/", "tests/side_by_side.py"),
 }
 
 

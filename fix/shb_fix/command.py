@@ -1,0 +1,67 @@
+"""The words of the command, its files and its statuses."""
+
+import argparse
+import os
+import sys
+
+from shb_common.shown import shown
+from shb_common.standard import leave_standard_output, open_standard_files, words_of
+from shb_common.version import with_version
+from shb_fix import lines, locks, threads
+from shb_fix.events import Repairs
+
+ABOUT = """\
+Repairs a trace of another tool so that `shb` reads it, writes it to standard output, and
+lists each repair on standard error. A repair is a guess about the program: read the list.
+Some add order (a lock that is given up, a fork that is moved), which can hide a race."""
+STATUS = """\
+Exit status: 0 nothing had to be repaired; 1 the trace was repaired; 3 wrong command line;
+4 a file can't be read or written."""
+
+
+class Parser(argparse.ArgumentParser):
+    def error(self, message):
+        self.print_usage(sys.stderr)
+        self.exit(3, f"{self.prog}: {shown(os.fsencode(message))}\n")
+
+
+def arguments(words):
+    parser = Parser(prog="shb-fix", description=ABOUT, epilog=with_version(STATUS), formatter_class=argparse.RawDescriptionHelpFormatter)
+    parser.add_argument("--quiet", action="store_true", help="don't list the repairs, only how many there are")
+    parser.add_argument("trace", metavar="TRACE", nargs="?", help="a trace; standard input where none is named")
+    return parser.parse_args(words)
+
+
+def repaired(file, repairs):
+    """The events of a file, repaired."""
+    events = threads.repaired(lines.events_of(file, repairs), repairs)
+    return locks.repaired(events, repairs)
+
+
+def say(repairs, quiet):
+    count = sum(repairs.counts.values())
+    if not quiet:
+        for line in repairs.lines():
+            print(line, file=sys.stderr)
+    print(f"shb-fix: {count} {'repair' if count == 1 else 'repairs'}", file=sys.stderr)
+
+
+def main(words):
+    open_standard_files()
+    options = arguments(words)
+    repairs = Repairs()
+    try:
+        with open(options.trace, "rb") if options.trace else open(0, "rb", closefd=False) as file:
+            events = repaired(file, repairs)
+    except OSError as fault:
+        print(f"shb-fix: {words_of(fault)}", file=sys.stderr)
+        return 4
+    try:
+        sys.stdout.buffer.writelines(event.text() for event in events)
+        sys.stdout.buffer.flush()
+    except OSError as fault:
+        leave_standard_output()
+        print(f"shb-fix: cannot write: {words_of(fault)}", file=sys.stderr)
+        return 4
+    say(repairs, options.quiet)
+    return 1 if repairs.counts else 0

@@ -1,0 +1,74 @@
+"""Threads: numbers that are used again, joins after which the thread goes on, forks that are logged late."""
+
+import collections
+
+from shb_fix.events import OWN
+
+
+def named_apart(events, repairs):
+    """A thread that is forked again after it was joined is another thread: it gets a name of its own."""
+    turn, joined = collections.Counter(), set()
+
+    def own(name):
+        return name if not turn[name] else b"%s%s%d" % (name, OWN.encode(), turn[name] + 1)
+
+    for event in events:
+        if event.word == b"fork" and event.name in joined:
+            joined.discard(event.name)
+            turn[event.name] += 1
+            repairs.note(event.line, "forks a thread whose name was used before", f"the thread is another one, and is called {own(event.name).decode(errors='replace')}")
+        if event.word == b"join":
+            joined.add(event.name)
+        name = own(event.name) if event.word in (b"fork", b"join") else event.name
+        yield event._replace(thread=own(event.thread), name=name)
+
+
+def without_timed_joins(events, repairs):
+    """A join after which the thread goes on did not wait for its end, and orders nothing: it is dropped. So is what a thread
+    says of itself, and a second fork."""
+    events = list(events)
+    last = {event.thread: k for k, event in enumerate(events)}
+    forked = set()
+    for k, event in enumerate(events):
+        if event.word in (b"fork", b"join") and event.name == event.thread:
+            repairs.note(event.line, "names its own thread", f"a thread can't {event.word.decode()} itself: dropped")
+        elif event.word == b"join" and last.get(event.name, -1) > k:
+            repairs.note(event.line, "joins a thread that goes on", "the thread goes on after this join, which may have timed out: dropped")
+        elif event.word == b"fork" and event.name in forked:
+            repairs.note(event.line, "forks a thread again", "the thread was forked before, and not joined: dropped")
+        else:
+            forked.update([event.name] if event.word == b"fork" else [])
+            yield event
+
+
+def late_forks(events):
+    """The forks that stand behind an event or a join of their thread, with the place of the first of these."""
+    first = {}
+    for k, event in enumerate(events):
+        first.setdefault(event.thread, k)
+        if event.word == b"join":
+            first.setdefault(event.name, k)
+    return {event: first[event.name] for k, event in enumerate(events) if event.word == b"fork" and first.get(event.name, k) < k}
+
+
+def with_early_forks(events, repairs):
+    """A fork that stands behind an event of its thread was logged late: it is moved before the first one. That may bring the
+    forking thread's own fork to be late. A fork that would be moved twice is dropped: two threads can't fork each other."""
+    events, moved = list(events), set()
+    late = late_forks(events)
+    while late:
+        before = collections.defaultdict(list)
+        for fork, place in late.items():
+            if fork in moved:
+                repairs.note(fork.line, "forks a thread that began before", "no place before the first event of its thread is right for this fork: dropped")
+            else:
+                moved.add(fork)
+                before[place].append(fork)
+                repairs.note(fork.line, "was logged late", "the fork stood behind the first event of its thread, and was moved before it")
+        events = [it for k, event in enumerate(events) for it in [*before.get(k, ()), *([] if event in late else [event])]]
+        late = late_forks(events)
+    return events
+
+
+def repaired(events, repairs):
+    return with_early_forks(without_timed_joins(named_apart(events, repairs), repairs), repairs)
